@@ -1,0 +1,103 @@
+//! Why a command is refused, with the line and the exit status that it gets.
+use crate::fault::Fault;
+use crate::reason::{OplReason, Reason};
+use clap::error::ErrorKind;
+use std::alloc::{AllocError, AllocFailed};
+use std::io::Write;
+use thiserror::Error;
+
+/// Why a command is refused. Its text is the line for standard error, without its end.
+#[derive(Debug, Drop, Error)]
+pub(crate) enum Refusal<'a> {
+    /// A mistake in the words, with the text of `clap`, which ends its lines itself.
+    #[error("{0}")]
+    Words(clap::Error),
+    /// The words aren't UTF-8.
+    #[error("the words are not UTF-8")]
+    WordsNotUtf8,
+    /// A file to be read is the one that is written before it is renamed.
+    #[error("{name}: input is the output")]
+    InputIsOutput {
+        name: &'a str,
+    },
+    /// A file can't be opened.
+    #[error("{name}: cannot read")]
+    CannotRead {
+        name: &'a str,
+    },
+    /// The file that is written before it is renamed can't be made.
+    #[error("{output}.part: cannot create")]
+    CannotCreate {
+        output: &'a str,
+    },
+    /// The file that was written can't be renamed.
+    #[error("{output}: cannot rename")]
+    CannotRename {
+        output: &'a str,
+    },
+    /// A file is refused, at this byte of it.
+    #[error("{name}: {place}: {}", .reason.name())]
+    File {
+        name: &'a str,
+        place: u64,
+        reason: Reason,
+    },
+    /// Memory was refused.
+    #[error("out of memory")]
+    Memory,
+    /// Standard output doesn't take what is printed.
+    #[error("standard output: cannot write")]
+    StandardOutput,
+}
+
+impl<'a> Refusal<'a> {
+    /// The refusal of words by `clap`.
+    pub(crate) fn of_words(error: clap::Error) -> Refusal<'a> {
+        match error.kind() {
+            ErrorKind::OutOfMemory => Refusal::Memory,
+            _ => Refusal::Words(error),
+        }
+    }
+
+    /// The refusal of a file, by the names of the inputs and of the output.
+    pub(crate) fn of_fault(fault: Fault, inputs: &[&'a str], output: &'a str) -> Refusal<'a> {
+        match fault.reason {
+            Reason::Memory | Reason::Opl(OplReason::Memory) => Refusal::Memory,
+            reason => Refusal::File {
+                name: inputs.get(fault.input).copied().unwrap_or(output),
+                place: fault.place,
+                reason,
+            },
+        }
+    }
+
+    /// Writes the line, and answers the exit status.
+    pub(crate) fn report<E: Write + Drop>(&self, mut err: E) -> u8 {
+        // Where standard error fails, nobody can be told.
+        let _ = match self {
+            Refusal::Words(error) => write!(err, "{error}"),
+            refusal => writeln!(err, "{refusal}"),
+        };
+        let _ = err.flush();
+        self.status()
+    }
+
+    fn status(&self) -> u8 {
+        match self {
+            Refusal::Words(_) | Refusal::WordsNotUtf8 | Refusal::InputIsOutput { .. } => 2,
+            _ => 1,
+        }
+    }
+}
+
+impl<'a> From<AllocError> for Refusal<'a> {
+    fn from(_error: AllocError) -> Refusal<'a> {
+        Refusal::Memory
+    }
+}
+
+impl<'a, T: Drop> From<AllocFailed<T>> for Refusal<'a> {
+    fn from(_error: AllocFailed<T>) -> Refusal<'a> {
+        Refusal::Memory
+    }
+}

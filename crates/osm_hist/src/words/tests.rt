@@ -1,0 +1,224 @@
+//! Commands in a folder of their own: the exit status, what is printed, and which files there are.
+use super::run_words;
+use std::io::{Read, Write};
+use std::process::Abort;
+use std::rt::Files;
+use std::test::Fail;
+use std::{env, fs, io};
+
+/// A line of a node as a merge writes it.
+const FIRST: &str = "n1 v1 dV c0 t i0 u T x1 y1\n";
+
+/// A line of a node that stands after the first.
+const SECOND: &str = "n2 v1 dV c0 t i0 u T x2 y2\n";
+
+/// What a merge of both writes.
+const MERGED: &str = "n1 v1 dV c0 t i0 u T x1 y1\nn2 v1 dV c0 t i0 u T x2 y2\n";
+
+/// A device that answers an error to every call.
+#[derive(Drop)]
+struct Broken;
+
+impl Read for Broken {
+    fn read(&mut self, _buffer: &mut [u8]) -> io::Result<usize> {
+        Err(io::Error::from(io::ErrorKind::Other))
+    }
+}
+
+impl Write for Broken {
+    fn write(&mut self, _bytes: &[u8]) -> io::Result<usize> {
+        Err(io::Error::from(io::ErrorKind::Other))
+    }
+
+    fn flush(&mut self) -> io::Result<()> {
+        Err(io::Error::from(io::ErrorKind::Other))
+    }
+}
+
+/// A reader that gives what it has, and then answers an error.
+#[derive(Drop)]
+struct Breaking<'a> {
+    rest: &'a [u8],
+}
+
+impl Read for Breaking<'_> {
+    fn read(&mut self, buffer: &mut [u8]) -> io::Result<usize> {
+        if self.rest.is_empty() {
+            return Err(io::Error::from(io::ErrorKind::Other));
+        }
+        self.rest.read(buffer)
+    }
+}
+
+/// What a command answered.
+#[derive(Drop)]
+struct Answer {
+    status: u8,
+    out: Vec<u8>,
+    err: Vec<u8>,
+}
+
+/// Runs a command without standard input.
+fn run<R: Files + AllocGlobal>(rt: &R, words: &[&str]) -> Answer {
+    let mut out = Vec::new(rt.alloc());
+    let mut err = Vec::new(rt.alloc());
+    let status = run_words(rt, words, b"".as_slice(), &mut out, &mut err);
+    Answer { status, out, err }
+}
+
+/// Sees that a command is refused with this status and line.
+fn assert_refused<R: Files + AllocGlobal + Abort>(rt: &R, words: &[&str], status: u8, line: &str) {
+    let answer = run(rt, words);
+    assert_eq!(rt; answer.status, status);
+    assert_eq!(rt; answer.err.as_slice(), line.as_bytes());
+    assert!(rt; answer.out.is_empty());
+}
+
+/// Makes a folder of this name and works in it.
+fn enter(rt: &HostRuntime, folder: &str) -> io::Result<()> {
+    let _ = fs::remove_dir_all(rt, folder);
+    fs::create_dir(rt, folder)?;
+    env::set_current_dir(rt, folder)
+}
+
+/// Leaves the folder and removes it.
+fn leave(rt: &HostRuntime, folder: &str) -> io::Result<()> {
+    env::set_current_dir(rt, "..")?;
+    fs::remove_dir_all(rt, folder)
+}
+
+#[test]
+fn files_are_merged(rt: HostRuntime) -> Result<(), Fail> {
+    enter(&rt, "files_are_merged")?;
+    fs::write(&rt, "a.opl", FIRST)?;
+    fs::write(&rt, "b.opl", SECOND)?;
+    let words = [
+        "merge", "--output", "o.opl", "--format", "opl", "a.opl", "b.opl",
+    ];
+    let answer = run(&rt, &words);
+    assert_eq!(rt; answer.status, 0);
+    assert!(rt; answer.out.is_empty());
+    assert!(rt; answer.err.is_empty());
+    assert_eq!(rt; fs::read_to_string(&rt, "o.opl")?.as_str(), MERGED);
+    assert!(rt; !fs::exists(&rt, "o.opl.part")?);
+    leave(&rt, "files_are_merged")?;
+    Ok(())
+}
+
+#[test]
+fn refused_files_leave_the_output_as_it_was(rt: HostRuntime) -> Result<(), Fail> {
+    enter(&rt, "refused_files")?;
+    fs::write(&rt, "a.opl", FIRST)?;
+    fs::write(&rt, "o.opl", SECOND)?;
+    fs::create_dir(&rt, "folder")?;
+    let merge = ["merge", "--output", "o.opl", "a.opl", "gone.opl"];
+    assert_refused(&rt, &merge, 1, "gone.opl: cannot read\n");
+    let merge = ["merge", "--output", "o.opl", "a.opl", "folder"];
+    assert_refused(&rt, &merge, 1, "folder: 0: ReadFault\n");
+    let merge = ["merge", "--output", "o.opl", "gone.opl", "o.opl.part"];
+    assert_refused(&rt, &merge, 2, "o.opl.part: input is the output\n");
+    assert_eq!(rt; fs::read_to_string(&rt, "o.opl")?.as_str(), SECOND);
+    assert!(rt; !fs::exists(&rt, "o.opl.part")?);
+    leave(&rt, "refused_files")?;
+    Ok(())
+}
+
+#[test]
+fn outputs_that_cannot_be_made_are_refused(rt: HostRuntime) -> Result<(), Fail> {
+    enter(&rt, "refused_outputs")?;
+    fs::write(&rt, "a.opl", FIRST)?;
+    fs::create_dir(&rt, "folder")?;
+    let merge = ["merge", "--output", "gone/o.opl", "a.opl"];
+    assert_refused(&rt, &merge, 1, "gone/o.opl.part: cannot create\n");
+    let merge = ["merge", "--output", "folder", "a.opl"];
+    assert_refused(&rt, &merge, 1, "folder: cannot rename\n");
+    assert!(rt; !fs::exists(&rt, "folder.part")?);
+    leave(&rt, "refused_outputs")?;
+    Ok(())
+}
+
+#[test]
+fn mistaken_words_are_refused(rt: HostRuntime) {
+    let missing = ["merge", "a.opl"];
+    let unknown = ["merge", "--output", "o.opl", "--format", "xml", "a.opl"];
+    for words in [missing.as_slice(), unknown.as_slice()] {
+        let answer = run(&rt, words);
+        assert_eq!(rt; answer.status, 2);
+        assert!(rt; answer.out.is_empty());
+        assert!(rt; !answer.err.is_empty());
+    }
+}
+
+#[test]
+fn help_is_printed(rt: HostRuntime) {
+    for words in [["--help"].as_slice(), ["merge", "--help"].as_slice()] {
+        let answer = run(&rt, words);
+        assert_eq!(rt; answer.status, 0);
+        assert!(rt; answer.err.is_empty());
+        assert!(rt; !answer.out.is_empty());
+    }
+    let mut err = Vec::new(rt.alloc());
+    let status = run_words(&rt, &["--help"], b"".as_slice(), Broken, &mut err);
+    assert_eq!(rt; status, 1);
+    assert_eq!(rt;
+        err.as_slice(),
+        b"standard output: cannot write\n".as_slice()
+    );
+}
+
+#[test]
+fn standard_input_is_merged(rt: HostRuntime) {
+    let words: [&str; 0] = [];
+    let mut out = Vec::new(rt.alloc());
+    let mut err = Vec::new(rt.alloc());
+    let status = run_words(&rt, &words, MERGED.as_bytes(), &mut out, &mut err);
+    assert_eq!(rt; status, 0);
+    assert_eq!(rt; out.as_slice(), MERGED.as_bytes());
+    assert!(rt; err.is_empty());
+    let status = run_words(&rt, &words, Broken, &mut out, &mut err);
+    assert_eq!(rt; status, 1);
+    assert_eq!(rt;
+        err.as_slice(),
+        b"standard input: 0: ReadFault\n".as_slice()
+    );
+    err.clear();
+    let status = run_words(&rt, &words, MERGED.as_bytes(), Broken, &mut err);
+    assert_eq!(rt; status, 1);
+    assert_eq!(rt;
+        err.as_slice(),
+        b"standard output: 54: WriteFault\n".as_slice()
+    );
+}
+
+#[test]
+fn a_reader_that_fails_in_mid_stream_is_named(rt: HostRuntime) {
+    let words: [&str; 0] = [];
+    let mut out = Vec::new(rt.alloc());
+    let mut err = Vec::new(rt.alloc());
+    let input = Breaking {
+        rest: MERGED.as_bytes(),
+    };
+    let status = run_words(&rt, &words, input, &mut out, &mut err);
+    assert_eq!(rt; status, 1);
+    assert_eq!(rt;
+        err.as_slice(),
+        b"standard input: 54: ReadFault\n".as_slice()
+    );
+    // all inputs are read before anything is written
+    assert!(rt; out.is_empty());
+}
+
+#[test]
+fn a_faulty_line_of_standard_input_is_named(rt: HostRuntime) -> Result<(), Fail> {
+    let mut out = Vec::new(rt.alloc());
+    let mut err = Vec::new(rt.alloc());
+    let words: [&str; 0] = [];
+    let status = run_words(&rt, &words, b"n1 v1 x1 y1 q".as_slice(), &mut out, &mut err);
+    assert_eq!(rt; status, 1);
+    assert_eq!(rt;
+        err.as_slice(),
+        b"standard input: 0: UnknownField\n".as_slice()
+    );
+    assert!(rt; out.is_empty());
+    Ok(())
+}

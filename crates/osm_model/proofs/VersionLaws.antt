@@ -1,0 +1,29 @@
+-- Only equal versions tie, and what that says of histories.
+use Rattle.std.proofs.Common.{◌≡◌, List, ◌++◌}
+use Rattle.std.specs.declared.cmp.Ordering.{Ordering}
+use Rattle.std.specs.declared.cmp.Ordering.TheVariants.{Less, Equal, Greater}
+use Rattle.std.specs.Ordering.{ordering_then}
+use Rattle.std.specs.FinMap.{IsAntisymmetric, slice_cmp-IsAntisymmetric, nat_cmp-IsAntisymmetric}
+use Rattle.std.specs.List.Sorted.{IsStrictlySortedBy}
+use Rattle.osm_model.specs.Data.{VersionData}
+use Rattle.osm_model.specs.Order.{version_cmp, version_cmp_total}
+use Rattle.osm_model.specs.Sets.{listed, from_list, union}
+use Rattle.osm_model.specs.Merged.{merged}
+use Rattle.osm_model.proofs.LineLaws.{line_injective}
+use Rattle.osm_model.proofs.SetLaws.{listed-from_list}
+use Rattle.osm_model.proofs.MergedLaws.{from_list-merged}
+
+second_equal : (a b : Ordering) → ordering_then a b ≡ Equal → b ≡ Equal
+second_equal Less b e = cc
+second_equal Equal b e = e
+second_equal Greater b e = cc
+
+pub version_cmp-IsAntisymmetric : IsAntisymmetric version_cmp
+version_cmp-IsAntisymmetric v w e = line_injective v w (slice_cmp-IsAntisymmetric nat_cmp-IsAntisymmetric _ _ (second_equal _ _ e))
+
+pub listed-view : (vs : List VersionData) → IsStrictlySortedBy version_cmp vs → listed (from_list {R = version_cmp} vs) ≡ vs
+listed-view vs h = listed-from_list version_cmp_total version_cmp-IsAntisymmetric vs h
+
+pub union-view : (vs ws : List VersionData) → IsStrictlySortedBy version_cmp vs → IsStrictlySortedBy version_cmp ws → union (from_list {R = version_cmp} vs) (from_list ws) ≡ from_list (merged version_cmp vs ws)
+union-view vs ws h k =
+    rw (listed-view vs h, listed-view ws k, ← from_list-merged version_cmp_total version_cmp-IsAntisymmetric vs ws)

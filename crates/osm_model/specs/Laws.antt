@@ -1,0 +1,15 @@
+-- Laws of the definitions.
+use Rattle.std.specs.Prelude.{◌≡◌}
+use Rattle.std.specs.declared.cmp.Ordering.TheVariants.{Equal}
+use Rattle.std.specs.Cmp.{IsTotalOrder}
+use Rattle.osm_model.specs.Data.{VersionData}
+use Rattle.osm_model.specs.Line.{line}
+use Rattle.osm_model.specs.Order.{version_cmp}
+
+-- two versions with one line are equal (no premise on their ranges is needed)
+abbrev pub LineTellsAllData : Type 0
+LineTellsAllData = (v w : VersionData) → line v ≡ line w → v ≡ w
+
+-- the order is total, and equal on equal versions alone
+abbrev pub OrderIsTotal : Type 0
+OrderIsTotal = IsTotalOrder version_cmp × ((v w : VersionData) → version_cmp v w ≡ Equal → v ≡ w)

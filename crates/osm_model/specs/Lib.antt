@@ -1,0 +1,13 @@
+pub mod Kind
+pub mod Data
+pub mod Decimal
+pub mod Coordinate
+pub mod Joined
+pub mod Line
+pub mod Order
+pub mod New
+pub mod Stored
+pub mod Sets
+pub mod Merged
+pub mod VersionSet
+pub mod Laws

@@ -1,0 +1,143 @@
+//! Histories.
+ghost use Rattle.std.specs.Prelude.{◌≡◌, ◌<◌, ◌++◌, ◌↔◌, IfOk, IsTrue, OnOk, slice_index_or};
+ghost use Rattle.osm_model.specs.Order.{version_cmp};
+ghost use Rattle.osm_model.specs.Sets as set;
+ghost use Rattle.osm_model.specs.Merged.{merged};
+
+use crate::{Memory, Version};
+use std::alloc::Global;
+use std::cmp::Ordering;
+use std::marker::Model;
+
+/// A finite set of versions.
+#[derive(Drop)]
+pub struct History {
+    versions: Vec<Version>,
+}
+
+impl Model for History {
+    ghost use Rattle.std.specs.List.Sorted.{IsStrictlySortedBy};
+    ghost use Rattle.osm_model.specs.Order.{version_cmp};
+    ghost use Rattle.osm_model.specs.VersionSet.{VersionSet, version_set_code};
+    ghost use Rattle.osm_model.specs.Sets.{from_list};
+
+    ghost Value = { VersionSet };
+
+    ghost coded = { version_set_code };
+
+    ghost view = { λ h. from_list h.versions.items };
+
+    ghost invariant = { λ h. IsStrictlySortedBy version_cmp h.versions.items };
+}
+
+impl History {
+    /// Holds nothing.
+    pub fn new(alloc: Global) -> History
+        ensures { result ≡ set.empty }
+    {
+        History {
+            versions: Vec::new(alloc),
+        }
+    }
+
+    /// The set of the versions of a list, which may stand in any order and be repeated.
+    pub fn from_versions(mut versions: Vec<Version>) -> Result<History, Memory>
+        ensures { IfOk result (λ h. h ≡ set.from_list versions.items) }
+    {
+        versions.sort_unstable();
+        versions.dedup();
+        Ok(History { versions })
+    }
+
+    /// The union. Both histories stay as they were.
+    pub fn join(&self, other: &History) -> Result<History, Memory>
+        ensures { IfOk result (λ h. h ≡ set.union self.now other.now) }
+    {
+        let mut versions = Vec::new(*self.versions.allocator());
+        append_merged(&mut versions, &self.versions, &other.versions)?;
+        Ok(History { versions })
+    }
+
+    /// Whether the history holds the version.
+    pub fn contains(&self, version: &Version) -> bool
+        ensures { result ≡ set.contains self.now version.now }
+    {
+        self.versions.binary_search(version).is_ok()
+    }
+
+    /// The number of versions.
+    pub fn len(&self) -> usize
+        ensures { result ≡ set.size self.now }
+    {
+        self.versions.len()
+    }
+
+    /// Whether the history holds nothing.
+    pub fn is_empty(&self) -> bool
+        ensures { IsTrue result ↔ (set.size self.now ≡ 0) }
+    {
+        self.versions.is_empty()
+    }
+
+    /// The version that has `place` lesser ones in the history. The place is below the length.
+    pub fn get(&self, place: usize) -> &Version
+        requires { place < set.size self.now }
+        ensures { result.now ≡ slice_index_or (set.listed self.now) place result.now }
+    {
+        &self.versions[place]
+    }
+
+    /// An equal history.
+    pub fn copy(&self) -> Result<History, Memory>
+        ensures { IfOk result (λ h. h ≡ self.now) }
+    {
+        let mut versions = Vec::new(*self.versions.allocator());
+        append_copies(&mut versions, &self.versions)?;
+        Ok(History { versions })
+    }
+}
+
+/// Copies of all these versions behind those that are there.
+fn append_copies(versions: &mut Vec<Version>, more: &[Version]) -> Result<(), Memory>
+    ensures { OnOk result (versions.new.items ≡ versions.old.items ++ more.now) }
+{
+    for version in more {
+        versions.push(version.copy()?)?;
+    }
+    Ok(())
+}
+
+/// Copies of the versions of two ascending lists, ascending, behind those that are there. Of two equal ones one is taken.
+fn append_merged(
+    versions: &mut Vec<Version>,
+    left: &[Version],
+    right: &[Version],
+) -> Result<(), Memory>
+    ensures { OnOk result (versions.new.items ≡ versions.old.items ++ merged version_cmp left.now right.now) }
+{
+    let mut i = 0;
+    let mut j = 0;
+    'merge: loop {
+        if i == left.len() {
+            return append_copies(versions, &right[j..]);
+        }
+        if j == right.len() {
+            return append_copies(versions, &left[i..]);
+        }
+        match left[i].cmp(&right[j]) {
+            Ordering::Less => {
+                versions.push(left[i].copy()?)?;
+                i += 1;
+            }
+            Ordering::Equal => {
+                versions.push(left[i].copy()?)?;
+                i += 1;
+                j += 1;
+            }
+            Ordering::Greater => {
+                versions.push(right[j].copy()?)?;
+                j += 1;
+            }
+        }
+    }
+}

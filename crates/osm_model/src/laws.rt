@@ -1,0 +1,12 @@
+//! Laws over the definitions, each the contract of a function with an empty body. Nothing is run to use them.
+ghost use Rattle.osm_model.specs.Laws.{LineTellsAllData, OrderIsTotal};
+
+/// The canonical line tells all data of a version.
+pub fn line_tells_all_data()
+    ensures { LineTellsAllData }
+{}
+
+/// The order of versions is total, and equal on equal versions alone.
+pub fn order_is_total()
+    ensures { OrderIsTotal }
+{}
