@@ -1,10 +1,10 @@
 -- The first piece of a text that is cut, and the pieces behind it.
-use Rattle.std.proofs.Common.{◌≡◌, ℕ, zero, suc, ◌+◌, ◌<◌, ◌≤◌, Bool, true, false, not, cond, List, [], ◌∷◌, ◌++◌, length, take, drop, get_or, filter, refl, sym, ap, ◌∙◌, arith, add-one, Option, Some, None, position, unwrap_or, ltb, drop-cons, subst, append_assoc}
+use Rattle.std.proofs.Common.{◌≡◌, ℕ, suc, ◌+◌, ◌<◌, ◌≤◌, Bool, true, false, not, cond, List, [], ◌∷◌, ◌++◌, length, take, drop, get_or, filter, refl, sym, ap, ◌∙◌, arith, add-one, Some, None, position, unwrap_or, ltb, drop-cons, subst, append_assoc}
 use Rattle.std.proofs.lemmas.Bool.{ltb-true, ltb-false}
 use Rattle.std.proofs.lemmas.List.Sums.{passes_at_first}
 use Rattle.std.proofs.lemmas.List.{take-append-drop, append-nil}
 use Rattle.std.specs.List.{position_or_len}
-use Rattle.osm_hist.specs.Cut.{cut, lengthened, Pairwise}
+use Rattle.osm_hist.specs.Cut.{cut, Pairwise}
 
 pub record FirstPiece (is_end : ℕ → Bool) (keep : List ℕ → Bool) (bytes : List ℕ) : Type 0 where
   pub more : List (List ℕ)

@@ -1,5 +1,5 @@
 -- What several inputs hold, and what is written of it.
-use Rattle.std.proofs.Common.{◌≡◌, ℕ, ◌+◌, ◌-◌, ◌<◌, ◌≤◌, ◌^◌, min, List, [], ◌∷◌, ◌++◌, take, drop, set, drop-cons, add-one, length, get_or, map, refl, sym, ap, ◌∙◌, subst, arith, Option, fold, sum_by}
+use Rattle.std.proofs.Common.{◌≡◌, ℕ, ◌+◌, ◌<◌, List, [], ◌∷◌, ◌++◌, take, drop, set, drop-cons, add-one, length, get_or, map, sym, ap, ◌∙◌, arith, Option, sum_by}
 use Rattle.std.specs.List.{flat_map}
 use Rattle.std.proofs.lemmas.List.{take_more}
 use Rattle.std.proofs.lemmas.List.Sums.{fold-append, sum_by_push}
@@ -12,7 +12,7 @@ use Rattle.osm_hist.specs.declared.format.Format.{Format}
 use Rattle.osm_hist.specs.declared.merge.Joined.{Joined}
 use Rattle.osm_hist.specs.Cut.{Pairwise}
 use Rattle.osm_hist.specs.Input.{Coming}
-use Rattle.osm_hist.specs.Merge.{GivesSorted, IsJoined, JoinsOne, union_of, capped}
+use Rattle.osm_hist.specs.Merge.{GivesSorted, IsJoined, JoinsOne, capped}
 use Rattle.osm_hist.specs.Spell.{spelled}
 
 module _ {X Y : Type 0} (R : X → Y → Type 0) where

@@ -1,5 +1,5 @@
 -- What a merge writes.
-use Rattle.std.specs.Prelude.{◌≡◌, ℕ, ◌-◌, ◌^◌, min, List, [], ◌∷◌, fold, sum_by, ◌+◌, Option, IfSome}
+use Rattle.std.specs.Prelude.{◌≡◌, ℕ, ◌-◌, ◌^◌, min, List, fold, sum_by, ◌+◌, Option, IfSome}
 use Rattle.osm_model.specs.VersionSet.{VersionSet}
 use Rattle.osm_model.specs.Sets.{size, empty, union}
 use Rattle.osm_hist.specs.declared.format.Format.{Format}

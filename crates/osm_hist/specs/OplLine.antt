@@ -1,13 +1,13 @@
 -- OPL lines of nodes, and the versions that they spell (Osmium OPL file format manual). So far of a field c or i the
 -- contents that are empty or 0, and of a field t, u or T the empty content, are all that is read.
-use Rattle.std.specs.Prelude.{◌≡◌, ◌≢◌, ◌⊎◌, ℕ, ℤ, Bool, true, false, ◌==◌, ◌||◌, nat_eq, List, [], ◌∷◌, map, filter, fold, codes, Option, Some, None, if◌then◌else◌, ◌<◌, ◌^◌, MatchBool}
+use Rattle.std.specs.Prelude.{◌≡◌, ◌⊎◌, ℕ, ℤ, Bool, true, false, ◌==◌, ◌||◌, nat_eq, List, [], ◌∷◌, map, filter, fold, codes, Option, Some, None, if◌then◌else◌, MatchBool}
 use Rattle.std.specs.List.{IsDistinct}
 use Rattle.std.specs.Str.{IsUtf8}
 use Rattle.osm_model.specs.declared.kind.Kind.TheVariants as kind
-use Rattle.osm_model.specs.declared.version.Body.{Body}
-use Rattle.osm_model.specs.declared.version.Body.TheVariants as body
+use Rattle.osm_model.specs.declared.body.Body.{Body}
+use Rattle.osm_model.specs.declared.body.Body.TheVariants as body
 use Rattle.osm_model.specs.Data.{VersionData}
-use Rattle.osm_model.specs.New.{IsVersion}
+use Rattle.osm_model.specs.Valid.{IsVersion}
 use Rattle.osm_hist.specs.declared.cut.Cut.{Cut}
 use Rattle.osm_hist.specs.declared.cut.Cut.TheVariants.{LineEnds, Blanks}
 use Rattle.osm_hist.specs.declared.part.Part.{Part}
@@ -84,7 +84,7 @@ parts_of = fold with_part missing
 abbrev pub location_of : Option ℤ → Option ℤ → Option Body
 location_of None lat = None
 location_of (Some lon) None = None
-location_of (Some lon) (Some lat) = Some (body.Node lon lat)
+location_of (Some lon) (Some lat) = Some (body.Node lon lat [])
 
 -- a deletion keeps no location; a visible node has one
 abbrev pub body_of : Parts → Option Body
@@ -98,6 +98,10 @@ SpellsNode field id = (text : List ℕ) × (field ≡ 110 ∷ text) × SpellsInt
 pub record IsVersionOf (id : ℤ) (parts : Parts) (v : VersionData) : Type 0 where
   pub same_id : v.id ≡ id
   pub number : v.number ≡ parts.number
+  pub time : v.time ≡ None
+  pub changeset : v.changeset ≡ 0
+  pub uid : v.uid ≡ 0
+  pub user : v.user ≡ []
   pub body : body_of parts ≡ Some v.body
   pub valid : IsVersion v
 

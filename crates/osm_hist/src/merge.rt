@@ -120,7 +120,7 @@ fn spell_version(text: &mut Vec<u8>, format: Format, version: &Version) -> Resul
 {
     match format {
         Format::Opl => {
-            text.extend_from_slice(version.line())?;
+            version.append_line(text)?;
             text.push(b'\n')?;
         }
     }

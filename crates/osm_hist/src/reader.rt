@@ -9,7 +9,7 @@ use crate::cut::Cut;
 use crate::number::{read_coordinate, read_id, read_number};
 use crate::part::{Part, Parts};
 use crate::reason::OplReason;
-use osm_model::{Body, Kind, Meta, ValueFault, Version};
+use osm_model::{Body, Kind, Meta, Tags, Text, ValueFault, Version};
 use std::alloc::Global;
 use std::str;
 
@@ -142,30 +142,44 @@ fn read_version(alloc: Global, id: i64, parts: &Parts) -> Result<Version, OplRea
     if parts.number == 0 {
         return Err(OplReason::NoVersion);
     }
-    let body = read_body(parts)?;
+    let body = read_body(alloc, parts)?;
     let meta = Meta {
         version: parts.number,
+        time: None,
+        changeset: 0,
+        uid: 0,
+        user: Text::new(alloc),
     };
-    Version::new(alloc, id, meta, body).map_err(reason_of)
+    match Version::new(id, meta, body) {
+        Ok(version) => Ok(version),
+        Err(fault) => Err(reason_of(fault)),
+    }
 }
 
 /// Why no version was made. Only want of memory is met, since the line's numbers were found in range.
 fn reason_of(fault: ValueFault) -> OplReason {
     match fault {
         ValueFault::NoVersion => OplReason::NoVersion,
-        ValueFault::IdRange | ValueFault::NumberRange => OplReason::OutOfRange,
+        ValueFault::IdRange | ValueFault::NumberRange | ValueFault::TimeRange =>
+            OplReason::OutOfRange,
+        ValueFault::NoTime => OplReason::NoTime,
+        ValueFault::ZeroInText => OplReason::BadText,
         ValueFault::Memory => OplReason::Memory,
     }
 }
 
-fn read_body(parts: &Parts) -> Result<Body, OplReason>
+fn read_body(alloc: Global, parts: &Parts) -> Result<Body, OplReason>
     ensures { IfOk result (λ body. body_of parts.now ≡ Some body) }
 {
     if parts.deleted {
         return Ok(Body::Deleted(Kind::Node));
     }
     match (parts.longitude, parts.latitude) {
-        (Some(lon), Some(lat)) => Ok(Body::Node { lon, lat }),
+        (Some(lon), Some(lat)) => Ok(Body::Node {
+            lon,
+            lat,
+            tags: Tags::from_vec(Vec::new(alloc)),
+        }),
         _ => Err(OplReason::NoLocation),
     }
 }

@@ -1,131 +1,162 @@
--- The text of a coordinate tells it, and holds no separator.
-use Rattle.std.proofs.Common.{◌≡◌, ℕ, suc, zero, ◌+◌, ◌-◌, ◌*◌, ◌/◌, ◌%◌, ◌<◌, ◌^◌, cond, eqb, true, false, List, [], ◌∷◌, ◌++◌, refl, sym, ap, ◌∙◌, arith, ℤ, pos, negsuc, unsigned_abs}
-use Rattle.std.proofs.lemmas.Nat.{div-add-mod'}
-use Rattle.std.proofs.Math.Nat.{one-le-pow, pow-suc, mul_comm, div-lt_iff_lt-mul}
+-- A coordinate's text tells it, and holds no separator.
+use Rattle.std.proofs.Common.{◌≡◌, ◌≢◌, ℕ, zero, suc, ◌+◌, ◌-◌, ◌/◌, ◌%◌, ◌^◌, ◌<◌, cond, eqb, true, false, List, [], ◌∷◌, ◌++◌, length, replicate, refl, sym, ap, ◌∙◌, arith, ℤ, pos, negsuc, inl}
+use Rattle.std.specs.Char.{digit_char}
 use Rattle.std.proofs.lemmas.Bool.{eqb-true}
 use Rattle.std.proofs.lemmas.Bool.Decides.{nat_tests}
-use lib.Signed.{lt_z}
-use Rattle.std.proofs.lemmas.List.{append-nil}
+use Rattle.std.proofs.lemmas.List.{append-nil, length-append, length-replicate}
+use Rattle.osm_model.specs.Numeral.{numeral, padded}
 use Rattle.osm_model.specs.Decimal.{number_text}
-use Rattle.osm_model.specs.Coordinate.{decimals, rest_text, units_text, coordinate_text}
-use Rattle.osm_model.proofs.Separators.{Lacks, split_same, lacks_append, lacks_no_part}
-use Rattle.osm_model.proofs.DecimalLaws.{number_lacks, number_injective}
+use Rattle.osm_model.specs.Coordinate.{digit_before, without_last_zeros, fraction_text, degrees_text, coordinate_text}
+use Rattle.osm_model.proofs.Separators.{Lacks, NoDigit, IsSeparator, no_digit-separator, mark-separator, split_same, lacks_append, lacks_clash}
+use Rattle.osm_model.proofs.NumeralLaws.{padded_injective, padded_lacks, padded-step, padded-digit, length-padded}
+use Rattle.osm_model.proofs.DecimalLaws.{number_injective, number_lacks_mark, length-number-le}
 
-pub power_above : (k : ℕ) → 0 < 10 ^ k
-power_above k = one-le-pow k 10 (omega arith)
+without_last_zeros-zero : (xs : List ℕ) → without_last_zeros (xs ++ 48 ∷ []) ≡ without_last_zeros xs
+unfolding without_last_zeros
+without_last_zeros-zero [] = refl
+without_last_zeros-zero (x ∷ xs) = ap (digit_before x) (without_last_zeros-zero xs)
 
--- the rest that decimals spell
-value : ℕ → List ℕ → ℕ
-value zero ds = 0
-value (suc k) [] = 0
-value (suc k) (d ∷ ds) = (d - 48) * 10 ^ k + value k ds
+digit_before-some : (x d : ℕ) (xs : List ℕ) → digit_before x (xs ++ d ∷ []) ≡ x ∷ (xs ++ d ∷ [])
+digit_before-some x d [] = refl
+digit_before-some x d (y ∷ xs) = refl
 
-pub remainder_below : (r s : ℕ) → 0 < s → r % s < s
-remainder_below r s h = omega arith
+without_last_zeros-digit : (xs : List ℕ) (d : ℕ) → d ≢ 48 → without_last_zeros (xs ++ d ∷ []) ≡ xs ++ d ∷ []
+unfolding without_last_zeros
+without_last_zeros-digit [] d h = grind (arith, nat_tests)
+without_last_zeros-digit (x ∷ xs) d h = ap (digit_before x) (without_last_zeros-digit xs d h) ∙ digit_before-some x d xs
 
-digit_back : (a : ℕ) → 48 + a - 48 ≡ a
-digit_back a = omega arith
+-- as many zeros as were left out
+abbrev HasZeros : List ℕ → List ℕ → Type 0
+HasZeros xs trimmed = (k : ℕ) × (xs ≡ trimmed ++ replicate k 48)
 
-value_decimals : (k r : ℕ) → r < 10 ^ k → value k (decimals k r) ≡ r
-unfolding value
-value_decimals zero r h = omega arith
-value_decimals (suc k) r h =
-    elim (eqb r 0) as (λ b. eqb r 0 ≡ b → value (suc k) (cond b [] ((48 + r / 10 ^ k) ∷ decimals k (r % 10 ^ k))) ≡ r) [
-      | true ↦ λ e. sym (eqb-true r 0 e)
-      | false ↦ λ e.
-          ap (λ a. a * 10 ^ k + value k (decimals k (r % 10 ^ k))) (digit_back (r / 10 ^ k))
-          ∙ ap (λ v. (r / 10 ^ k) * 10 ^ k + v) (value_decimals k (r % 10 ^ k) (remainder_below r (10 ^ k) (power_above k)))
-          ∙ div-add-mod' r (10 ^ k)
+zeros_before : (x : ℕ) (xs trimmed : List ℕ) → HasZeros xs trimmed → HasZeros (x ∷ xs) (digit_before x trimmed)
+zeros_before x xs [] h =
+    elim (eqb x 48) as (λ b. eqb x 48 ≡ b → HasZeros (x ∷ xs) (cond b [] (x ∷ []))) [
+      | true ↦ λ e. (suc h.0, (let zero_digit = eqb-true x 48 e in let rest = h.1 in cc))
+      | false ↦ λ e. (h.0, ap (λ t. x ∷ t) h.1)
     ] refl
+zeros_before x xs (t ∷ ts) h = (h.0, ap (λ t. x ∷ t) h.1)
 
-decimals_injective : (r q : ℕ) → r < 10 ^ 7 → q < 10 ^ 7 → decimals 7 r ≡ decimals 7 q → r ≡ q
-decimals_injective r q h k e = sym (value_decimals 7 r h) ∙ ap (value 7) e ∙ value_decimals 7 q k
+zeros_left_out : (xs : List ℕ) → HasZeros xs (without_last_zeros xs)
+unfolding without_last_zeros
+zeros_left_out [] = (0, refl)
+zeros_left_out (x ∷ xs) = zeros_before x xs (without_last_zeros xs) (zeros_left_out xs)
+
+without_last_zeros_injective : (xs ys : List ℕ) → length xs ≡ length ys → without_last_zeros xs ≡ without_last_zeros ys → xs ≡ ys
+without_last_zeros_injective xs ys same e =
+    let h = zeros_left_out xs in
+    let k = zeros_left_out ys in
+    let lx : length xs ≡ length (without_last_zeros xs) + h.0 = ap length h.1 ∙ length-append _ _ ∙ ap (λ n. length (without_last_zeros xs) + n) (length-replicate h.0 48) in
+    let ly : length ys ≡ length (without_last_zeros ys) + k.0 = ap length k.1 ∙ length-append _ _ ∙ ap (λ n. length (without_last_zeros ys) + n) (length-replicate k.0 48) in
+    let le : length (without_last_zeros xs) ≡ length (without_last_zeros ys) = ap length e in
+    let count : h.0 ≡ k.0 = omega arith in
+    h.1 ∙ (λ i. e i ++ replicate (count i) 48) ∙ sym k.1
+
+length-decimals : (units : ℕ) → units < 10_000_000 → length (padded 7 (number_text units)) ≡ 7
+length-decimals units small = length-padded 7 (number_text units) (length-number-le 7 units (omega arith) small)
+
+decimals_injective : (m n : ℕ) → m < 10_000_000 → n < 10_000_000 → without_last_zeros (padded 7 (number_text m)) ≡ without_last_zeros (padded 7 (number_text n)) → m ≡ n
+unfolding number_text
+decimals_injective m n hm hn e =
+    padded_injective 10 7 7 m n (omega arith) (omega arith)
+    (without_last_zeros_injective _ _ (length-decimals m hm ∙ sym (length-decimals n hn)) e)
 
 -- the whole degrees and the rest
-parts_injective : (a b r q : ℕ) → r < 10 ^ 7 → q < 10 ^ 7 → number_text a ++ rest_text r ≡ number_text b ++ rest_text q → (a ≡ b) × (r ≡ q)
-parts_injective a b r q h k =
-    elim (eqb r 0) as (λ c. eqb r 0 ≡ c → number_text a ++ cond c [] (46 ∷ decimals 7 r) ≡ number_text b ++ rest_text q → (a ≡ b) × (r ≡ q)) [
-      | true ↦ λ c. elim (eqb q 0) as (λ d. eqb q 0 ≡ d → number_text a ++ [] ≡ number_text b ++ cond d [] (46 ∷ decimals 7 q) → (a ≡ b) × (r ≡ q)) [
-        | true ↦ λ d e. (number_injective a b (sym (append-nil (number_text a)) ∙ e ∙ append-nil (number_text b)), eqb-true r 0 c ∙ sym (eqb-true q 0 d))
-        | false ↦ λ d e. absurd (lacks_no_part 46 (number_text a) (number_text b) (decimals 7 q) (sym (append-nil (number_text a)) ∙ e) (number_lacks 46 a (omega arith)))
+parts_injective : (a b m n : ℕ) → m < 10_000_000 → n < 10_000_000 → number_text a ++ fraction_text m ≡ number_text b ++ fraction_text n → (a ≡ b) × (m ≡ n)
+unfolding fraction_text
+parts_injective a b m n hm hn =
+    elim (eqb m 0) as (λ x. eqb m 0 ≡ x → number_text a ++ cond x [] (46 ∷ without_last_zeros (padded 7 (number_text m))) ≡ number_text b ++ fraction_text n → (a ≡ b) × (m ≡ n)) [
+      | true ↦ λ x. elim (eqb n 0) as (λ y. eqb n 0 ≡ y → number_text a ++ [] ≡ number_text b ++ cond y [] (46 ∷ without_last_zeros (padded 7 (number_text n))) → (a ≡ b) × (m ≡ n)) [
+        | true ↦ λ y e. (number_injective a b (sym (append-nil (number_text a)) ∙ e ∙ append-nil (number_text b)), eqb-true m 0 x ∙ sym (eqb-true n 0 y))
+        | false ↦ λ y e. absurd (lacks_clash 46 (number_text a) (number_text b) _ (sym (append-nil (number_text a)) ∙ e) (number_lacks_mark 46 a (inl (omega arith))))
       ] refl
-      | false ↦ λ c. elim (eqb q 0) as (λ d. eqb q 0 ≡ d → number_text a ++ 46 ∷ decimals 7 r ≡ number_text b ++ cond d [] (46 ∷ decimals 7 q) → (a ≡ b) × (r ≡ q)) [
-        | true ↦ λ d e. absurd (lacks_no_part 46 (number_text b) (number_text a) (decimals 7 r) (sym (append-nil (number_text b)) ∙ sym e) (number_lacks 46 b (omega arith)))
-        | false ↦ λ d e.
-            let both = split_same 46 (number_text a) (number_text b) _ _ (number_lacks 46 a (omega arith)) (number_lacks 46 b (omega arith)) e in
-            (number_injective a b both.0, decimals_injective r q h k both.1)
+      | false ↦ λ x. elim (eqb n 0) as (λ y. eqb n 0 ≡ y → number_text a ++ 46 ∷ without_last_zeros (padded 7 (number_text m)) ≡ number_text b ++ cond y [] (46 ∷ without_last_zeros (padded 7 (number_text n))) → (a ≡ b) × (m ≡ n)) [
+        | true ↦ λ y e. absurd (lacks_clash 46 (number_text b) (number_text a) _ (sym (append-nil (number_text b)) ∙ sym e) (number_lacks_mark 46 b (inl (omega arith))))
+        | false ↦ λ y e.
+            let both = split_same 46 (number_text a) (number_text b) _ _ (number_lacks_mark 46 a (inl (omega arith))) (number_lacks_mark 46 b (inl (omega arith))) e in
+            (number_injective a b both.0, decimals_injective m n hm hn both.1)
       ] refl
     ] refl
 
-units_injective : (m n : ℕ) → units_text m ≡ units_text n → m ≡ n
-unfolding units_text
-units_injective m n e =
+degrees_injective : (m n : ℕ) → degrees_text m ≡ degrees_text n → m ≡ n
+unfolding degrees_text
+degrees_injective m n e =
     let both = parts_injective (m / 10_000_000) (n / 10_000_000) (m % 10_000_000) (n % 10_000_000) (omega arith) (omega arith) e in
-    sym (div-add-mod' m 10_000_000) ∙ (λ i. both.0 i * 10_000_000 + both.1 i) ∙ div-add-mod' n 10_000_000
+    omega (arith, both.0, both.1)
 
-decimals_lack : (c : ℕ) → c < 46 → (k r : ℕ) → Lacks c (decimals k r)
-decimals_lack c h zero r = tt
-decimals_lack c h (suc k) r =
-    elim (eqb r 0) as (λ b. Lacks c (cond b [] ((48 + r / 10 ^ k) ∷ decimals k (r % 10 ^ k)))) [
+last_zeros_lack : (c : ℕ) (xs : List ℕ) → Lacks c xs → Lacks c (without_last_zeros xs)
+unfolding without_last_zeros
+last_zeros_lack c [] lacks = tt
+last_zeros_lack c (x ∷ xs) lacks = before (without_last_zeros xs) (last_zeros_lack c xs lacks.1)
+  where
+    before : (ts : List ℕ) → Lacks c ts → Lacks c (digit_before x ts)
+    before [] h = elim (eqb x 48) as (λ b. Lacks c (cond b [] (x ∷ []))) [ true ↦ tt | false ↦ (lacks.0, tt) ]
+    before (t ∷ ts) h = (lacks.0, h)
+
+fraction_lacks : (c units : ℕ) → NoDigit c → 46 ≢ c → Lacks c (fraction_text units)
+unfolding fraction_text number_text
+fraction_lacks c units apart point =
+    elim (eqb units 0) as (λ b. Lacks c (cond b [] (46 ∷ without_last_zeros (padded 7 (number_text units))))) [
       | true ↦ tt
-      | false ↦ (λ e. absurd (omega (arith, e)), decimals_lack c h k (r % 10 ^ k))
+      | false ↦ (point, last_zeros_lack c _ (padded_lacks c 10 7 units apart (omega arith) (omega arith)))
     ]
 
-rest_lacks : (c : ℕ) → c < 46 → (r : ℕ) → Lacks c (rest_text r)
-rest_lacks c h r = elim (eqb r 0) as (λ b. Lacks c (cond b [] (46 ∷ decimals 7 r))) [ true ↦ tt | false ↦ (λ e. absurd (omega (arith, e)), decimals_lack c h 7 r) ]
+degrees_lack : (c units : ℕ) → NoDigit c → 46 ≢ c → Lacks c (degrees_text units)
+unfolding degrees_text
+degrees_lack c units apart point = lacks_append c _ _ (number_lacks_mark c _ apart) (fraction_lacks c _ apart point)
 
-units_lack : (c n : ℕ) → c < 46 → Lacks c (units_text n)
-unfolding units_text
-units_lack c n h = lacks_append c (number_text (n / 10_000_000)) (rest_text (n % 10_000_000)) (number_lacks c (n / 10_000_000) (omega arith)) (rest_lacks c h (n % 10_000_000))
-
-no_sign : (m n : ℕ) → units_text m ≡ 45 ∷ units_text n → ⊥
-no_sign m n e = lacks_no_part 45 (units_text m) [] (units_text n) e (units_lack 45 m (omega arith))
+no_sign : (m n : ℕ) → degrees_text m ≡ 45 ∷ degrees_text n → ⊥
+no_sign m n e = lacks_clash 45 (degrees_text m) [] (degrees_text n) e (degrees_lack 45 m (inl (omega arith)) (λ e. absurd (omega (arith, e))))
 
 pub coordinate_injective : (y z : ℤ) → coordinate_text y ≡ coordinate_text z → y ≡ z
 unfolding coordinate_text
-coordinate_injective (pos m) (pos n) e = ap pos (units_injective m n e)
+coordinate_injective (pos m) (pos n) e = ap pos (degrees_injective m n e)
 coordinate_injective (pos m) (negsuc n) e = absurd (no_sign m (suc n) e)
 coordinate_injective (negsuc m) (pos n) e = absurd (no_sign n (suc m) (sym e))
 coordinate_injective (negsuc m) (negsuc n) e =
-    let rest : units_text (suc m) ≡ units_text (suc n) = cc in
-    let same : suc m ≡ suc n = units_injective (suc m) (suc n) rest in
+    let rest : degrees_text (suc m) ≡ degrees_text (suc n) = cc in
+    let same : suc m ≡ suc n = degrees_injective (suc m) (suc n) rest in
     let less : m ≡ n = omega arith in
     ap negsuc less
 
-pub coordinate_lacks : (c : ℕ) (z : ℤ) → c < 45 → Lacks c (coordinate_text z)
+pub coordinate_lacks : {c : ℕ} (z : ℤ) → IsSeparator c → Lacks c (coordinate_text z)
 unfolding coordinate_text
-coordinate_lacks c (pos n) h = units_lack c n (omega arith)
-coordinate_lacks c (negsuc n) h = (λ e. absurd (omega (arith, e)), units_lack c (suc n) (omega arith))
+coordinate_lacks (pos n) s = degrees_lack _ n (no_digit-separator s) (mark-separator 46 (inl (omega arith, omega arith)) s)
+coordinate_lacks (negsuc n) s = (mark-separator 45 (inl (omega arith, omega arith)) s, degrees_lack _ (suc n) (no_digit-separator s) (mark-separator 46 (inl (omega arith, omega arith)) s))
 
--- the first of several decimals, as it is computed
-pub decimal_below : (places rest scale : ℕ) → 0 < places → scale ≡ 10 ^ (places - 1) → rest < 10 ^ places → rest / scale < 10
-decimal_below zero rest scale p e h = absurd (omega arith)
-decimal_below (suc k) rest scale p e h =
-    let less : suc k - 1 ≡ k = omega arith in
-    let is : scale ≡ 10 ^ k = rw less at e in
-    rw is ((div-lt_iff_lt-mul (power_above k)).1 (rw (pow-suc 10 k, mul_comm) at h))
+-- one zero less at the end
+pub fraction_next : (places digits : ℕ) → 0 < digits → digits < 10 ^ places → digits % 10 ≡ 0 →
+    (0 < digits / 10) × (digits / 10 < 10 ^ (places - 1)) × (without_last_zeros (padded places (number_text digits)) ≡ without_last_zeros (padded (places - 1) (number_text (digits / 10))))
+unfolding number_text
+fraction_next zero digits some fits last = absurd (omega arith)
+fraction_next (suc zero) digits some fits last = absurd (omega arith)
+fraction_next (suc (suc places)) digits some fits last =
+    let less : suc (suc places) - 1 ≡ suc places = omega arith in
+    let step = padded-step 10 places digits (omega arith) ∙ ap (λ d. padded (suc places) (numeral 10 (digits / 10)) ++ digit_char d ∷ []) last in (
+      omega arith,
+      rw less (omega arith),
+      rw less (ap without_last_zeros step ∙ without_last_zeros-zero (padded (suc places) (numeral 10 (digits / 10)))),
+    )
 
-pub scale_above : (places scale : ℕ) → scale ≡ 10 ^ (places - 1) → 0 < scale
-scale_above places scale e = rw e (power_above (places - 1))
+digit_char-some : (d : ℕ) → d < 10 → 0 < d → digit_char d ≢ 48
+digit_char-some d small some e = grind (arith, nat_tests)
 
-pub decimals-first : (places rest scale : ℕ) → 0 < places → 0 < rest → scale ≡ 10 ^ (places - 1) → decimals places rest ≡ (48 + rest / scale) ∷ decimals (places - 1) (rest % scale)
-decimals-first zero rest scale p q e = absurd (omega arith)
-decimals-first (suc k) rest scale p q e =
-    let less : suc k - 1 ≡ k = omega arith in
-    let is : scale ≡ 10 ^ k = rw less at e in
-    let some : eqb rest 0 ≡ false = grind (arith, nat_tests) in
-    rw (less, is) (ap (λ b. cond b [] ((48 + rest / 10 ^ k) ∷ decimals k (rest % 10 ^ k))) some)
+-- no zero at the end
+fraction_end : (places digits : ℕ) → digits < 10 ^ places → 0 < digits % 10 → without_last_zeros (padded places (number_text digits)) ≡ padded places (number_text digits)
+unfolding number_text
+fraction_end zero digits fits some = absurd (omega arith)
+fraction_end (suc zero) digits fits some =
+    let only : padded 1 (numeral 10 digits) ≡ digit_char digits ∷ [] = padded-digit 10 digits (omega arith) (omega arith) in
+    ap without_last_zeros only ∙ without_last_zeros-digit [] (digit_char digits) (digit_char-some digits (omega arith) (omega arith)) ∙ sym only
+fraction_end (suc (suc places)) digits fits some =
+    let last = padded-step 10 places digits (omega arith) in
+    ap without_last_zeros last
+    ∙ without_last_zeros-digit (padded (suc places) (numeral 10 (digits / 10))) (digit_char (digits % 10)) (digit_char-some (digits % 10) (omega arith) some) ∙ sym last
 
-pub decimals-none : (places : ℕ) → decimals places 0 ≡ []
-decimals-none zero = refl
-decimals-none (suc k) = refl
-
-pub coordinate_text-below : (z : ℤ) → lt_z z (pos 0) ≡ true → coordinate_text z ≡ 45 ∷ units_text (unsigned_abs z)
-unfolding coordinate_text
-coordinate_text-below (pos n) h = absurd (grind (arith, nat_tests))
-coordinate_text-below (negsuc n) h = refl
-
-pub coordinate_text-above : (z : ℤ) → lt_z z (pos 0) ≡ false → coordinate_text z ≡ units_text (unsigned_abs z)
-unfolding coordinate_text
-coordinate_text-above (pos n) h = refl
-coordinate_text-above (negsuc n) h = cc
+-- a fraction, from the digits that are left of it
+pub fraction_is : (places digits units : ℕ) → 0 < units → digits < 10 ^ places → (digits % 10 ≡ 0 → ⊥)
+    → without_last_zeros (padded places (number_text digits)) ≡ without_last_zeros (padded 7 (number_text units)) → fraction_text units ≡ 46 ∷ padded places (number_text digits)
+unfolding fraction_text
+fraction_is places digits units some fits last same =
+    let no : eqb units 0 ≡ false = grind (arith, nat_tests) in
+    rw no (ap (λ t. 46 ∷ t) (sym same ∙ fraction_end places digits fits (omega arith)))

@@ -1,71 +1,29 @@
--- The decimal text of a number tells it, and holds digits and a sign alone.
-use Rattle.std.proofs.Common.{◌≡◌, ℕ, suc, zero, ◌+◌, ◌<◌, ◌^◌, List, [], ◌∷◌, map, refl, sym, ap, ◌∙◌, arith, ℤ, pos, negsuc}
-use Rattle.std.specs.Int.Digits.{digits_of, number_from_digits}
-use Rattle.std.specs.Fmt.{decimal, signed_decimal}
-use Rattle.std.proofs.lemmas.Int.Digits.{number_digits_of}
+-- A decimal number's text tells it, and holds no separator.
+use Rattle.std.proofs.Common.{◌≡◌, ℕ, zero, suc, ◌+◌, ◌/◌, ◌%◌, ◌^◌, ◌<◌, ◌≤◌, List, [], ◌∷◌, ◌++◌, map, length, refl, sym, ap, ◌∙◌, arith, append_assoc, ℤ, pos, negsuc, inl}
+use Rattle.std.specs.Fmt.{decimal}
+use Rattle.std.specs.Char.{digit_char}
+use Rattle.std.specs.Int.Digits.{AllBelowBase}
+use Rattle.std.proofs.lemmas.Int.Digits.{all_below_base_digits_of}
 use Rattle.std.proofs.lemmas.Fmt.{decimal-digits_of, decimal_digit}
-use lib.Signed.{mag}
+use Rattle.std.proofs.lemmas.Bool.Decides.{nat_tests}
+use Rattle.osm_model.specs.Numeral.{numeral, padded}
 use Rattle.osm_model.specs.Decimal.{number_text, integer_text}
-use Rattle.osm_model.proofs.Separators.{Lacks, lacks_no_part}
-
--- what is printed
-pub number_text-decimal : (n : ℕ) → n < 2 ^ 64 → number_text n ≡ decimal n
-unfolding number_text
-number_text-decimal zero h = sym (decimal_digit 0 (omega arith))
-number_text-decimal (suc n) h = sym (decimal-digits_of (suc n) (omega arith) h)
-
-pub integer_text-signed_decimal : (z : ℤ) → mag z < 2 ^ 63 → integer_text z ≡ signed_decimal z
-unfolding integer_text
-integer_text-signed_decimal (pos n) h = number_text-decimal n (omega arith)
-integer_text-signed_decimal (negsuc n) h = ap (λ t. 45 ∷ t) (number_text-decimal (suc n) (omega arith))
-
-digits_lack : (c : ℕ) → c < 48 → (ds : List ℕ) → Lacks c (map (λ d. 48 + d) ds)
-digits_lack c h [] = tt
-digits_lack c h (d ∷ ds) = (λ e. absurd (omega (arith, e)), digits_lack c h ds)
-
--- a byte below the digits stands in no number
-pub number_lacks : (c n : ℕ) → c < 48 → Lacks c (number_text n)
-unfolding number_text
-number_lacks c zero h = (λ e. absurd (omega (arith, e)), tt)
-number_lacks c (suc n) h = digits_lack c h (digits_of 10 (suc n))
-
-pub integer_lacks : (c : ℕ) (z : ℤ) → c < 45 → Lacks c (integer_text z)
-unfolding integer_text
-integer_lacks c (pos n) h = number_lacks c n (omega arith)
-integer_lacks c (negsuc n) h = (λ e. absurd (omega (arith, e)), number_lacks c (suc n) (omega arith))
-
-shifted_same : (xs ys : List ℕ) → map (λ d. 48 + d) xs ≡ map (λ d. 48 + d) ys → xs ≡ ys
-shifted_same [] [] e = refl
-shifted_same [] (y ∷ ys) e = cc
-shifted_same (x ∷ xs) [] e = cc
-shifted_same (x ∷ xs) (y ∷ ys) e =
-    let first : 48 + x ≡ 48 + y = cc in
-    let rest : map (λ d. 48 + d) xs ≡ map (λ d. 48 + d) ys = cc in
-    let same : x ≡ y = omega (arith, first) in
-    cc (same, shifted_same xs ys rest)
-
--- the digits of a number, of which 0 has one
-digits : ℕ → List ℕ
-digits zero = 0 ∷ []
-digits (suc n) = digits_of 10 (suc n)
-
-number_text-digits : (n : ℕ) → number_text n ≡ map (λ d. 48 + d) (digits n)
-unfolding number_text digits
-number_text-digits zero = refl
-number_text-digits (suc n) = refl
-
-value_digits : (n : ℕ) → number_from_digits 10 (digits n) ≡ n
-unfolding digits
-value_digits zero = refl
-value_digits (suc n) = number_digits_of 10 (suc n) (omega arith)
+use Rattle.osm_model.proofs.NumeralLaws.{numeral_injective, numeral_lacks, length-numeral-le, padded-step, padded-digit}
+use Rattle.osm_model.proofs.Separators.{Lacks, lacks_clash, NoDigit, IsSeparator, no_digit-separator, mark-separator}
 
 pub number_injective : (m n : ℕ) → number_text m ≡ number_text n → m ≡ n
-number_injective m n e =
-    let same : digits m ≡ digits n = shifted_same _ _ (sym (number_text-digits m) ∙ e ∙ number_text-digits n) in
-    sym (value_digits m) ∙ ap (number_from_digits 10) same ∙ value_digits n
+unfolding number_text
+number_injective m n e = numeral_injective 10 m n (omega arith) (omega arith) e
+
+pub number_lacks_mark : (c n : ℕ) → NoDigit c → Lacks c (number_text n)
+unfolding number_text
+number_lacks_mark c n apart = numeral_lacks c 10 n apart (omega arith) (omega arith)
+
+pub number_lacks : {c : ℕ} (n : ℕ) → IsSeparator c → Lacks c (number_text n)
+number_lacks n s = number_lacks_mark _ n (no_digit-separator s)
 
 no_sign : (m n : ℕ) → number_text m ≡ 45 ∷ number_text n → ⊥
-no_sign m n e = lacks_no_part 45 (number_text m) [] (number_text n) e (number_lacks 45 m (omega arith))
+no_sign m n e = lacks_clash 45 (number_text m) [] (number_text n) e (number_lacks_mark 45 m (inl (omega arith)))
 
 pub integer_injective : (y z : ℤ) → integer_text y ≡ integer_text z → y ≡ z
 unfolding integer_text
@@ -77,3 +35,51 @@ integer_injective (negsuc m) (negsuc n) e =
     let same : suc m ≡ suc n = number_injective (suc m) (suc n) rest in
     let less : m ≡ n = omega arith in
     ap negsuc less
+
+pub integer_lacks : {c : ℕ} (z : ℤ) → IsSeparator c → Lacks c (integer_text z)
+unfolding integer_text
+integer_lacks (pos n) s = number_lacks n s
+integer_lacks (negsuc n) s = (mark-separator 45 (inl (omega arith, omega arith)) s, number_lacks (suc n) s)
+
+digits_same : (ds : List ℕ) → AllBelowBase 10 ds → map (λ d. 48 + d) ds ≡ map digit_char ds
+digits_same [] below = refl
+digits_same (d ∷ ds) below =
+    let same : 48 + d ≡ digit_char d = (let small = below.0 in grind (arith, nat_tests)) in
+    cc (same, digits_same ds below.1)
+
+-- the text that std writes of a number
+pub number_decimal : (n : ℕ) → n < 2 ^ 64 → number_text n ≡ decimal n
+unfolding number_text numeral
+number_decimal zero h = sym (decimal_digit 0 (omega arith))
+number_decimal (suc n) h = sym (decimal-digits_of (suc n) (omega arith) h ∙ digits_same _ (all_below_base_digits_of 10 (suc n) (omega arith)))
+
+pub length-number-le : (k n : ℕ) → 0 < k → n < 10 ^ k → length (number_text n) ≤ k
+unfolding number_text
+length-number-le k n some small = length-numeral-le 10 k n (omega arith) some small
+
+digit_char-decimal : (d : ℕ) → d < 10 → digit_char d ≡ 48 + d
+digit_char-decimal d small = grind (arith, nat_tests)
+
+-- a number below 100 in two digits
+pub padded_pair : (n : ℕ) → n < 100 → padded 2 (number_text n) ≡ (48 + n / 10) ∷ (48 + n % 10) ∷ []
+unfolding number_text
+padded_pair n small =
+    padded-step 10 0 n (omega arith)
+    ∙ ap (λ t. t ++ digit_char (n % 10) ∷ []) (padded-digit 10 (n / 10) (omega arith) (omega arith))
+    ∙ (λ i. digit_char-decimal (n / 10) (omega arith) i ∷ digit_char-decimal (n % 10) (omega arith) i ∷ [])
+
+-- a number below 10000 in four
+pub padded_pairs : (n : ℕ) → n < 10_000 → padded 4 (number_text n) ≡ padded 2 (number_text (n / 100)) ++ padded 2 (number_text (n % 100))
+unfolding number_text
+padded_pairs n small =
+    let first : n / 10 / 10 ≡ n / 100 = omega arith in
+    let third : n / 10 % 10 ≡ n % 100 / 10 = omega arith in
+    let last : n % 10 ≡ n % 100 % 10 = omega arith in
+    let tens : padded 3 (numeral 10 (n / 10)) ≡ padded 2 (numeral 10 (n / 100)) ++ digit_char (n % 100 / 10) ∷ [] =
+    padded-step 10 1 (n / 10) (omega arith) ∙ (λ i. padded 2 (numeral 10 (first i)) ++ digit_char (third i) ∷ []) in
+    let ones : padded 2 (numeral 10 (n % 100)) ≡ digit_char (n % 100 / 10) ∷ digit_char (n % 100 % 10) ∷ [] =
+    padded-step 10 0 (n % 100) (omega arith) ∙ ap (λ t. t ++ digit_char (n % 100 % 10) ∷ []) (padded-digit 10 (n % 100 / 10) (omega arith) (omega arith)) in
+    padded-step 10 2 n (omega arith)
+    ∙ (λ i. tens i ++ digit_char (last i) ∷ [])
+    ∙ append_assoc (padded 2 (numeral 10 (n / 100))) (digit_char (n % 100 / 10) ∷ []) (digit_char (n % 100 % 10) ∷ [])
+    ∙ ap (λ t. padded 2 (numeral 10 (n / 100)) ++ t) (sym ones)

@@ -1,44 +1,60 @@
--- Texts that lack a separator can be told apart when they are joined by it.
-use Rattle.std.proofs.Common.{◌≡◌, ◌≢◌, ℕ, ◌<◌, List, [], ◌∷◌, ◌++◌, refl, sym, subst, arith}
+-- Texts that lack a byte, and what they tell where that byte parts them.
+use Rattle.std.proofs.Common.{◌≡◌, ◌≢◌, ℕ, ◌<◌, List, [], ◌∷◌, ◌++◌, refl, subst, arith, ◌⊎◌, inl, inr}
 use Rattle.std.specs.List.{AllByRecursion}
-use Rattle.osm_model.specs.Joined.{joined}
 
 -- c is no element of xs
 abbrev pub Lacks : ℕ → List ℕ → Type 0
 Lacks c xs = AllByRecursion (λ x. x ≢ c) xs
 
+-- c is an element of none of the texts
 abbrev pub AllLack : ℕ → List (List ℕ) → Type 0
-AllLack c fields = AllByRecursion (Lacks c) fields
+AllLack c texts = AllByRecursion (Lacks c) texts
 
-pub differs_above : (b c : ℕ) → c < b → b ≢ c
-differs_above b c h e = absurd (omega (arith, e))
+-- the bytes that part the pieces of a line: space, comma, equals sign, at sign
+pub data IsSeparator : ℕ → Type 0 where
+  space : IsSeparator 32
+  comma : IsSeparator 44
+  equals : IsSeparator 61
+  at : IsSeparator 64
 
-pub lacks_append : (c : ℕ) (xs ys : List ℕ) → Lacks c xs → Lacks c ys → Lacks c (xs ++ ys)
-lacks_append c [] ys h k = k
-lacks_append c (x ∷ xs) ys h k = (h.0, lacks_append c xs ys h.1 k)
+-- a byte that writes no digit below 16
+abbrev pub NoDigit : ℕ → Type 0
+NoDigit c = (c < 48) ⊎ ((57 < c) × (c < 97))
 
-lacks_not : (c : ℕ) (xs us : List ℕ) → Lacks c (xs ++ c ∷ us) → ⊥
-lacks_not c [] us h = h.0 refl
-lacks_not c (x ∷ xs) us h = lacks_not c xs us h.1
+pub no_digit-separator : {c : ℕ} → IsSeparator c → NoDigit c
+no_digit-separator space = inl (omega arith)
+no_digit-separator comma = inl (omega arith)
+no_digit-separator equals = inr (omega arith, omega arith)
+no_digit-separator at = inr (omega arith, omega arith)
 
-pub lacks_no_part : (c : ℕ) (field xs us : List ℕ) → field ≡ xs ++ c ∷ us → Lacks c field → ⊥
-lacks_no_part c field xs us e h = lacks_not c xs us (subst (Lacks c) e h)
+-- the bytes of numbers and times that are no digits lie here: minus sign, point, colon, `T`, `Z`
+abbrev pub IsMark : ℕ → Type 0
+IsMark b = ((44 < b) × (b < 59)) ⊎ (83 < b)
 
--- the first separator is at one place
+pub mark-separator : {c : ℕ} (b : ℕ) → IsMark b → IsSeparator c → b ≢ c
+mark-separator b mark space e = grind arith
+mark-separator b mark comma e = grind arith
+mark-separator b mark equals e = grind arith
+mark-separator b mark at e = grind arith
+
+-- what stands before the first c, and what behind it
 pub split_same : (c : ℕ) (xs ys us vs : List ℕ) → Lacks c xs → Lacks c ys → xs ++ c ∷ us ≡ ys ++ c ∷ vs → (xs ≡ ys) × (us ≡ vs)
-split_same c [] [] us vs h k e = (refl, cc)
-split_same c [] (y ∷ ys) us vs h k e = let same : y ≡ c = cc in absurd (k.0 same)
-split_same c (x ∷ xs) [] us vs h k e = let same : x ≡ c = cc in absurd (h.0 same)
-split_same c (x ∷ xs) (y ∷ ys) us vs h k e =
+split_same c [] [] us vs lx ly e = (refl, cc)
+split_same c [] (y ∷ ys) us vs lx ly e = let same : y ≡ c = cc in absurd (ly.0 same)
+split_same c (x ∷ xs) [] us vs lx ly e = let same : x ≡ c = cc in absurd (lx.0 same)
+split_same c (x ∷ xs) (y ∷ ys) us vs lx ly e =
     let rest : xs ++ c ∷ us ≡ ys ++ c ∷ vs = cc in
-    let both = split_same c xs ys us vs h.1 k.1 rest in
+    let both = split_same c xs ys us vs lx.1 ly.1 rest in
     (cc (both.0), both.1)
 
-pub joined_injective : (c : ℕ) (f g : List ℕ) (fs gs : List (List ℕ)) → AllLack c (f ∷ fs) → AllLack c (g ∷ gs) → joined c (f ∷ fs) ≡ joined c (g ∷ gs) → f ∷ fs ≡ g ∷ gs
-joined_injective c f g [] [] h k e = cc
-joined_injective c f g [] (g' ∷ gs) h k e = absurd (lacks_no_part c f g (joined c (g' ∷ gs)) e h.0)
-joined_injective c f g (f' ∷ fs) [] h k e = absurd (lacks_no_part c g f (joined c (f' ∷ fs)) (sym e) k.0)
-joined_injective c f g (f' ∷ fs) (g' ∷ gs) h k e =
-    let both = split_same c f g _ _ h.0 k.0 e in
-    let rest = joined_injective c f' g' fs gs h.1 k.1 both.1 in
-    cc (both.0, rest)
+lacks_not : (c : ℕ) (xs us : List ℕ) → Lacks c (xs ++ c ∷ us) → ⊥
+lacks_not c [] us lacks = lacks.0 refl
+lacks_not c (x ∷ xs) us lacks = lacks_not c xs us lacks.1
+
+-- a text that lacks c has no c in it
+pub lacks_clash : (c : ℕ) (text xs us : List ℕ) → text ≡ xs ++ c ∷ us → Lacks c text → ⊥
+lacks_clash c text xs us e lacks = lacks_not c xs us (subst (Lacks c) e lacks)
+
+pub lacks_append : (c : ℕ) (xs ys : List ℕ) → Lacks c xs → Lacks c ys → Lacks c (xs ++ ys)
+lacks_append c [] ys lx ly = ly
+lacks_append c (x ∷ xs) ys lx ly = (lx.0, lacks_append c xs ys lx.1 ly)

@@ -1,9 +1,9 @@
 -- Members decide a set, and a strictly ascending list is the list of its set.
-use Rattle.std.proofs.Common.{◌≡◌, ℕ, ◌+◌, ◌<◌, Bool, true, false, ◌||◌, ◌&&◌, List, [], ◌∷◌, ◌++◌, map, length, refl, sym, ap, ◌∙◌, subst, arith, Option, Some, None, is_some, T, Result, Ok, Err, is_ok, inl, inr}
+use Rattle.std.proofs.Common.{◌≡◌, ℕ, ◌+◌, Bool, true, false, ◌||◌, ◌&&◌, List, [], ◌∷◌, ◌++◌, map, length, refl, sym, ap, ◌∙◌, subst, arith, Option, Some, None, is_some, T, Result, Ok, Err, is_ok, inl, inr}
 use Rattle.std.proofs.lemmas.Bool.{false≢true, cases_lt}
 use Rattle.std.specs.declared.cmp.Ordering.{Ordering}
 use Rattle.std.specs.declared.cmp.Ordering.TheVariants.{Less, Equal, Greater}
-use Rattle.std.specs.Cmp.{IsTotalOrder, Equal-is, both_ways, eq_by_cmp_equiv, tied_back}
+use Rattle.std.specs.Cmp.{IsTotalOrder, Equal-is, both_ways, eq_by_cmp_equiv, tied_back, tied_itself, first_so, second_so}
 use Rattle.std.specs.Ordering.{eq_by_cmp, is_eq, is_lt, ordering_reverse}
 use Rattle.std.specs.List.{list_any, All, Any, Contains, AllByRecursion, dedup}
 use Rattle.std.specs.List.Sorted.{IsStrictlySortedBy, IsSorted, IsPermutation, IsBinarySearchResult, IsSearchInRange}
@@ -11,7 +11,7 @@ use Rattle.std.specs.FinMap as fin
 use Rattle.std.specs.FinMap.Entries as entries
 use Rattle.std.specs.FinMap.{IsAntisymmetric}
 use Rattle.std.proofs.lemmas.List.Folds.{list_any-append, Any-from_list_any, list_any-from_Any, list_any_at, list_any_none}
-use Rattle.std.proofs.lemmas.List.Kept.{Contains-dedup, Contains-from_dedup}
+use Rattle.std.proofs.lemmas.List.Kept.{Contains-dedup, Contains-from_dedup, IsStrictlySortedBy-dedup}
 use Rattle.std.proofs.lemmas.List.Sorted.{list_any-IsPermutation, searchable_from_sorted}
 use Rattle.std.proofs.lemmas.Map.Keys.{Less-from_sorted}
 use Rattle.osm_model.specs.Sets.{Set, marked, listed, contains, from_list, union}
@@ -100,3 +100,49 @@ module _ {K : Type 0} {R : K → K → Ordering} (o : IsTotalOrder R) where
         | inr more ↦ not_tied x _ Greater (parts.1 k d more below) refl
       ] in
       sym (list_any_none (eq_by_cmp R x) xs none)
+
+is_less : (r : Ordering) → is_lt r ≡ true → r ≡ Less
+is_less Less h = refl
+is_less Equal h = absurd (false≢true h)
+is_less Greater h = absurd (false≢true h)
+
+is_true : (b : Bool) → T b → b ≡ true
+is_true true h = refl
+is_true false h = absurd h
+
+below_strict : {K : Type 0} (R : K → K → Ordering) (x : K) (es : List (K × Unit {0})) → entries.below_all {X = Unit {0}} R x es ≡ true → AllByRecursion (λ y. R x y ≡ Less) (map (λ e. e.0) es)
+below_strict R x [] h = tt
+below_strict R x (e ∷ es) h = (is_less (R x e.0) (first_so _ _ h), below_strict R x es (second_so _ _ h))
+
+strict_from : {K : Type 0} (R : K → K → Ordering) (es : List (K × Unit {0})) → entries.is_sorted {X = Unit {0}} R es ≡ true → IsStrictlySortedBy R (map (λ e. e.0) es)
+unfolding IsStrictlySortedBy
+strict_from R [] h = tt
+strict_from R (e ∷ es) h = (below_strict R e.0 es (first_so _ _ h), strict_from R es (second_so _ _ h))
+
+-- the list of a set ascends
+pub strict-listed : {K : Type 0} {R : K → K → Ordering} (s : Set R) → IsStrictlySortedBy R (listed s)
+strict-listed {R = R} s = strict_from R (fin.entries s) (is_true _ (fin.entries_sorted s))
+
+module _ {K : Type 0} {R : K → K → Ordering} (o : IsTotalOrder R) where
+  -- a sort and a `dedup` give the list of the set
+  pub listed-of_sorted : IsAntisymmetric R → (xs ys : List K) → IsPermutation xs ys → IsSorted R ys → dedup (eq_by_cmp R) ys ≡ listed (from_list {R = R} xs)
+  listed-of_sorted same xs ys moved up =
+      sym (listed-from_list o same (dedup (eq_by_cmp R) ys) (IsStrictlySortedBy-dedup o (λ x y. refl) ys up)) ∙ ap listed (from_list-dedup o same xs ys moved)
+
+  tied_in : IsAntisymmetric R → (p : K → Bool) (q : K) (xs : List K) → p q ≡ true → list_any (eq_by_cmp R q) xs ≡ true → list_any p xs ≡ true
+  tied_in same p q xs pq h =
+      let a : Any (λ x. eq_by_cmp R q x ≡ true) xs = Any-from_list_any (eq_by_cmp R q) xs h in
+      let is : q ≡ a.1 = same q (a.1) ((Equal-is (R q (a.1))).0 a.4) in
+      list_any-from_Any p xs (a.0, a.1, a.2, a.3, sym (ap p is) ∙ pq)
+
+  in_itself : (xs : List K) (p : K → Bool) → (a : Any (λ x. p x ≡ true) xs) → list_any (eq_by_cmp R (a.1)) xs ≡ true
+  in_itself xs p a = list_any-from_Any (eq_by_cmp R (a.1)) xs (a.0, a.1, a.2, a.3, ap is_eq (tied_itself o (a.1)))
+
+  -- a test applies to a member of the set where it applies to a member of the list
+  pub list_any-listed : IsAntisymmetric R → (p : K → Bool) (xs : List K) → list_any p (listed (from_list {R = R} xs)) ≡ list_any p xs
+  list_any-listed same p xs =
+      both_ways _ _
+      (λ h. let a : Any (λ x. p x ≡ true) (listed (from_list {R = R} xs)) = Any-from_list_any p _ h in
+      tied_in same p (a.1) xs a.4 (sym (contains-from_list o xs (a.1)) ∙ contains-listed _ (a.1) ∙ in_itself _ p a))
+      (λ h. let a : Any (λ x. p x ≡ true) xs = Any-from_list_any p xs h in
+      tied_in same p (a.1) _ a.4 (sym (contains-listed _ (a.1)) ∙ contains-from_list o xs (a.1) ∙ in_itself xs p a))

@@ -1,8 +1,11 @@
 -- Only equal versions tie, and what that says of histories.
-use Rattle.std.proofs.Common.{◌≡◌, List, ◌++◌}
+use Rattle.std.proofs.Common.{◌≡◌, ◌↔◌, Bool, true, false, List, refl, sym, ap, subst}
+use Rattle.std.specs.Bool.{IsTrue}
+use Rattle.std.proofs.lemmas.Bool.{false≢true}
+use Rattle.std.specs.Cmp.{tied_itself}
 use Rattle.std.specs.declared.cmp.Ordering.{Ordering}
 use Rattle.std.specs.declared.cmp.Ordering.TheVariants.{Less, Equal, Greater}
-use Rattle.std.specs.Ordering.{ordering_then}
+use Rattle.std.specs.Ordering.{ordering_then, eq_by_cmp, is_eq}
 use Rattle.std.specs.FinMap.{IsAntisymmetric, slice_cmp-IsAntisymmetric, nat_cmp-IsAntisymmetric}
 use Rattle.std.specs.List.Sorted.{IsStrictlySortedBy}
 use Rattle.osm_model.specs.Data.{VersionData}
@@ -20,6 +23,18 @@ second_equal Greater b e = cc
 
 pub version_cmp-IsAntisymmetric : IsAntisymmetric version_cmp
 version_cmp-IsAntisymmetric v w e = line_injective v w (slice_cmp-IsAntisymmetric nat_cmp-IsAntisymmetric _ _ (second_equal _ _ e))
+
+pub equal_of_same : (v w : VersionData) → v ≡ w → version_cmp v w ≡ Equal
+equal_of_same v w e = subst (λ u. version_cmp v u ≡ Equal) e (tied_itself version_cmp_total v)
+
+-- a test of equal data is one of the order
+pub same_test : (r : Bool) (v w : VersionData) → (IsTrue r ↔ (v ≡ w)) → r ≡ eq_by_cmp version_cmp v w
+same_test true v w h = sym (ap is_eq (equal_of_same v w (h.0 refl)))
+same_test false v w h = elim (version_cmp v w) as (λ o. version_cmp v w ≡ o → false ≡ is_eq o) [
+  | Less ↦ λ e. refl
+  | Equal ↦ λ e. absurd (false≢true (h.1 (version_cmp-IsAntisymmetric v w e)))
+  | Greater ↦ λ e. refl
+] refl
 
 pub listed-view : (vs : List VersionData) → IsStrictlySortedBy version_cmp vs → listed (from_list {R = version_cmp} vs) ≡ vs
 listed-view vs h = listed-from_list version_cmp_total version_cmp-IsAntisymmetric vs h

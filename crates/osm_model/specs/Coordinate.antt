@@ -1,20 +1,26 @@
--- A coordinate, in units of 10^-7 degree, as a line has it: a minus sign below 0, the whole degrees, and, if the rest
--- isn't 0, a point and 7 decimals without the trailing zeros (own rule; the OPL manual leaves the form open).
-use Rattle.std.specs.Prelude.{ℕ, zero, suc, ℤ, pos, negsuc, ◌+◌, ◌/◌, ◌%◌, ◌^◌, ◌==◌, List, [], ◌∷◌, ◌++◌, if◌then◌else◌}
-use Rattle.osm_model.specs.Decimal.{number_text}
+-- Coordinates in degrees, as the OPL manual has them; that a text has as few decimals as it can is an own rule of this project.
+use Rattle.std.specs.Prelude.{ℕ, ℤ, unsigned_abs, ◌/◌, ◌%◌, ◌==◌, List, [], ◌∷◌, ◌++◌, if◌then◌else◌}
+use Rattle.osm_model.specs.Numeral.{padded}
+use Rattle.osm_model.specs.Decimal.{number_text, sign_text}
 
--- a rest in so many decimals, without the zeros at the end
-abbrev pub decimals : ℕ → ℕ → List ℕ
-decimals zero rest = []
-decimals (suc places) rest = if rest == 0 then [] else ((48 + rest / 10 ^ places) ∷ decimals places (rest % 10 ^ places))
+-- a digit before others, which is left out where it is a zero with none behind it
+abbrev pub digit_before : ℕ → List ℕ → List ℕ
+digit_before d [] = if d == 48 then [] else (d ∷ [])
+digit_before d (e ∷ es) = d ∷ e ∷ es
 
-abbrev pub rest_text : ℕ → List ℕ
-rest_text rest = if rest == 0 then [] else (46 ∷ decimals 7 rest)
+-- digits without the zeros at their end
+unfoldable pub without_last_zeros : List ℕ → List ℕ
+without_last_zeros [] = []
+without_last_zeros (d ∷ ds) = digit_before d (without_last_zeros ds)
 
--- 10^7 units are a degree
-unfoldable pub units_text : ℕ → List ℕ
-units_text units = number_text (units / 10_000_000) ++ rest_text (units % 10_000_000)
+-- a part of a degree, in units of 10^-7 degree: a point and decimals, or nothing where it is 0
+unfoldable pub fraction_text : ℕ → List ℕ
+fraction_text units = if units == 0 then [] else (46 ∷ without_last_zeros (padded 7 (number_text units)))
 
+-- degrees, in units of 10^-7 degree
+unfoldable pub degrees_text : ℕ → List ℕ
+degrees_text units = number_text (units / 10_000_000) ++ fraction_text (units % 10_000_000)
+
+-- a coordinate, in units of 10^-7 degree
 unfoldable pub coordinate_text : ℤ → List ℕ
-coordinate_text (pos n) = units_text n
-coordinate_text (negsuc n) = 45 ∷ units_text (suc n)
+coordinate_text z = sign_text z ++ degrees_text (unsigned_abs z)

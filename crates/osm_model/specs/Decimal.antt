@@ -1,13 +1,16 @@
--- Numbers as a line has them.
-use Rattle.std.specs.Prelude.{ℕ, zero, suc, ℤ, pos, negsuc, ◌+◌, List, ◌∷◌, map, codes}
-use Rattle.std.specs.Int.Digits.{digits_of}
+-- Decimal numbers, as the OPL manual has them.
+use Rattle.std.specs.Prelude.{ℕ, ℤ, pos, negsuc, unsigned_abs, List, [], ◌++◌, codes}
+use Rattle.osm_model.specs.Numeral.{numeral}
 
--- a number in decimal, without leading zeros; 0 is "0"
+-- a number in decimal, with no leading zero
 unfoldable pub number_text : ℕ → List ℕ
-number_text zero = codes "0"
-number_text (suc n) = map (λ d. 48 + d) (digits_of 10 (suc n))
+number_text n = numeral 10 n
 
--- a number below 0 has a minus sign in front
+-- a minus sign where the integer is below 0
+abbrev pub sign_text : ℤ → List ℕ
+sign_text (pos n) = []
+sign_text (negsuc n) = codes "-"
+
+-- an integer in decimal
 unfoldable pub integer_text : ℤ → List ℕ
-integer_text (pos n) = number_text n
-integer_text (negsuc n) = 45 ∷ number_text (suc n)
+integer_text z = sign_text z ++ number_text (unsigned_abs z)

@@ -1,12 +1,15 @@
--- Kinds of objects: their place in the order of versions, and the letter of their OPL lines
--- (Osmium OPL file format manual; osmium orders nodes before ways before relations).
+-- The kinds of objects, in the order by type of osmium, with their letters of the OPL manual.
 use Rattle.std.specs.Prelude.{ℕ}
 use Rattle.osm_model.specs.declared.kind.Kind.{Kind}
-use Rattle.osm_model.specs.declared.kind.Kind.TheVariants.{Node}
+use Rattle.osm_model.specs.declared.kind.Kind.TheVariants.{Node, Way, Relation}
 
 abbrev pub kind_rank : Kind → ℕ
 kind_rank Node = 0
+kind_rank Way = 1
+kind_rank Relation = 2
 
--- n
+-- `n`, `w`, `r`
 abbrev pub kind_letter : Kind → ℕ
 kind_letter Node = 110
+kind_letter Way = 119
+kind_letter Relation = 114

@@ -1,30 +1,64 @@
--- The canonical OPL line of a version (fields as in the Osmium OPL file format manual; that all of them are written,
--- also when empty, and in this order is an own rule).
-use Rattle.std.specs.Prelude.{ℕ, List, [], ◌∷◌, codes}
-use Rattle.osm_model.specs.declared.version.Body.{Body}
-use Rattle.osm_model.specs.declared.version.Body.TheVariants.{Deleted, Node}
+-- The canonical OPL line: fields and lists of the OPL manual, in the one form that this project writes.
+use Rattle.std.specs.Prelude.{ℕ, ℤ, List, [], ◌∷◌, ◌++◌, map, codes, if◌then◌else◌}
+use Rattle.osm_model.specs.declared.kind.Kind.{Kind}
+use Rattle.osm_model.specs.declared.kind.Kind.TheVariants as kind
+use Rattle.osm_model.specs.declared.tags.Tag.{Tag}
+use Rattle.osm_model.specs.declared.members.Member.{Member}
+use Rattle.osm_model.specs.declared.body.Body.{Body}
+use Rattle.osm_model.specs.declared.body.Body.TheVariants.{Deleted, Node, Way, Relation}
 use Rattle.osm_model.specs.Kind.{kind_letter}
-use Rattle.osm_model.specs.Data.{VersionData, kind_of}
 use Rattle.osm_model.specs.Decimal.{number_text, integer_text}
 use Rattle.osm_model.specs.Coordinate.{coordinate_text}
+use Rattle.osm_model.specs.Time.{time_text}
+use Rattle.osm_model.specs.Escape.{escape}
 use Rattle.osm_model.specs.Joined.{joined}
+use Rattle.osm_model.specs.Data.{VersionData, kind_of, is_deleted, tags_of}
+
+-- `key=value`
+abbrev pub tag_text : Tag → List ℕ
+tag_text t = escape t.key ++ (codes "=" ++ escape t.value)
+
+-- `n1`
+abbrev pub reference_text : ℤ → List ℕ
+reference_text r = codes "n" ++ integer_text r
+
+-- `w1@role`
+abbrev pub member_text : Member → List ℕ
+member_text m = (kind_letter m.kind ∷ integer_text m.id) ++ (codes "@" ++ escape m.role)
+
+-- the items with a comma between each two
+abbrev pub list_text : {X : Type 0} → (X → List ℕ) → List X → List ℕ
+list_text text xs = joined 44 (map text xs)
 
 -- V for visible, D for deleted
 abbrev pub visible_text : Body → List ℕ
-visible_text (Deleted k) = codes "D"
-visible_text (Node lon lat) = codes "V"
+visible_text b = if is_deleted b then codes "D" else codes "V"
 
--- x and y, which are empty for a deleted version
-abbrev pub location_fields : Body → List (List ℕ)
-location_fields (Deleted k) = codes "x" ∷ codes "y" ∷ []
-location_fields (Node lon lat) = (120 ∷ coordinate_text lon) ∷ (121 ∷ coordinate_text lat) ∷ []
+-- the fields of a kind, without a value
+abbrev pub empty_fields : Kind → List (List ℕ)
+empty_fields kind.Node = codes "x" ∷ codes "y" ∷ []
+empty_fields kind.Way = codes "N" ∷ []
+empty_fields kind.Relation = codes "M" ∷ []
 
--- the object, v, d, c, t, i, u, T, x and y, of which c, t, i, u and T have one content yet
+-- the fields behind the tags
+abbrev pub kind_fields : Body → List (List ℕ)
+kind_fields (Deleted k) = empty_fields k
+kind_fields (Node lon lat tags) = (codes "x" ++ coordinate_text lon) ∷ (codes "y" ++ coordinate_text lat) ∷ []
+kind_fields (Way refs tags) = (codes "N" ++ list_text reference_text refs) ∷ []
+kind_fields (Relation members tags) = (codes "M" ++ list_text member_text members) ∷ []
+
 abbrev pub fields : VersionData → List (List ℕ)
 fields v =
-    (kind_letter (kind_of v.body) ∷ integer_text v.id) ∷ (118 ∷ number_text v.number) ∷ (100 ∷ visible_text v.body)
-    ∷ codes "c0" ∷ codes "t" ∷ codes "i0" ∷ codes "u" ∷ codes "T" ∷ location_fields v.body
+    (kind_letter (kind_of v.body) ∷ integer_text v.id)
+    ∷ (codes "v" ++ number_text v.number)
+    ∷ (codes "d" ++ visible_text v.body)
+    ∷ (codes "c" ++ number_text v.changeset)
+    ∷ (codes "t" ++ time_text v.time)
+    ∷ (codes "i" ++ number_text v.uid)
+    ∷ (codes "u" ++ escape v.user)
+    ∷ (codes "T" ++ list_text tag_text (tags_of v.body))
+    ∷ kind_fields v.body
 
--- the fields with one space between each two
+-- the fields with a space between each two
 unfoldable pub line : VersionData → List ℕ
 line v = joined 32 (fields v)

@@ -1,36 +1,37 @@
--- Which data is a version, and what is answered where it is none.
-use Rattle.std.specs.Prelude.{◌≡◌, ◌⊎◌, ℕ, ℤ, ◌<◌, ◌≤◌, ◌^◌, Bool, not, nat_lt, List, [], ◌∷◌, Option, Some, None, Result, MatchResult, if◌then◌else◌, unsigned_abs, ◌==◌, FitsSigned}
-use mir.Syntax.{w32}
-use Rattle.osm_model.specs.declared.version.Body.{Body}
-use Rattle.osm_model.specs.declared.version.Body.TheVariants.{Deleted, Node}
-use Rattle.osm_model.specs.declared.version.Meta.{Meta}
+-- Which data makes a version, and why other data doesn't (own rules of this project).
+use Rattle.std.specs.Prelude.{ℕ, ℤ, ◌^◌, Bool, true, not, ◌&&◌, ◌||◌, nat_lt, List, [], ◌∷◌, Option, Some, None, is_some, Result, Ok, Err, ◌==◌, if◌then◌else◌}
+use Rattle.std.specs.List.{list_all}
+use Rattle.osm_model.specs.declared.body.Body.{Body}
+use Rattle.osm_model.specs.declared.meta.Meta.{Meta}
 use Rattle.osm_model.specs.declared.fault.ValueFault.{ValueFault}
-use Rattle.osm_model.specs.declared.fault.ValueFault.TheVariants.{IdRange, NoVersion, NumberRange, Memory}
-use Rattle.osm_model.specs.Data.{VersionData}
+use Rattle.osm_model.specs.declared.fault.ValueFault.TheVariants.{IdRange, NoVersion, NumberRange, TimeRange, ZeroInText, NoTime}
+use Rattle.osm_model.specs.Data.{VersionData, version_of, ids_of, texts_of}
+use Rattle.osm_model.specs.Id.{is_id}
+use Rattle.osm_model.specs.Text.{is_empty, is_text}
 
--- from -(2^62 - 1) to 2^62 - 1
-abbrev pub is_id : ℤ → Bool
-is_id n = nat_lt (unsigned_abs n) (2 ^ 62)
-
--- at most 4294967295
+-- version numbers, changesets and user ids lie below 2^32
 abbrev pub is_number : ℕ → Bool
 is_number n = nat_lt n (2 ^ 32)
 
--- a location in 32 bits
-abbrev pub IsLocated : Body → Type 0
-IsLocated (Deleted k) = Unit {0}
-IsLocated (Node lon lat) = FitsSigned w32 lon × FitsSigned w32 lat
+-- no time, or one from 1 to 2^32 - 1
+abbrev pub is_time : Option ℕ → Bool
+is_time None = true
+is_time (Some t) = nat_lt 0 t && is_number t
 
--- the ranges of a version's data
-pub record IsVersion (v : VersionData) : Type 0 where
-  pub id : unsigned_abs v.id < 2 ^ 62
-  pub number_above : 1 ≤ v.number
-  pub number_below : v.number < 2 ^ 32
-  pub located : IsLocated v.body
+-- without a time there is no author
+abbrev pub is_dated : Meta → Bool
+is_dated meta = is_some meta.time || (meta.changeset == 0 && (meta.uid == 0 && is_empty meta.user))
 
 -- the faults in their order, each with its test
 abbrev pub tests : ℤ → Meta → Body → List (Bool × ValueFault)
-tests id meta body = (not (is_id id), IdRange) ∷ (meta.version == 0, NoVersion) ∷ (not (is_number meta.version), NumberRange) ∷ []
+tests id meta body =
+    (not (list_all is_id (id ∷ ids_of body)), IdRange)
+    ∷ (meta.version == 0, NoVersion)
+    ∷ (not (list_all is_number (meta.version ∷ meta.changeset ∷ meta.uid ∷ [])), NumberRange)
+    ∷ (not (is_time meta.time), TimeRange)
+    ∷ (not (is_dated meta), NoTime)
+    ∷ (not (list_all is_text (meta.user ∷ texts_of body)), ZeroInText)
+    ∷ []
 
 -- the first whose test applies
 abbrev pub first_of_tests : List (Bool × ValueFault) → Option ValueFault
@@ -40,13 +41,10 @@ first_of_tests (t ∷ ts) = if t.0 then Some t.1 else first_of_tests ts
 abbrev pub first_fault : ℤ → Meta → Body → Option ValueFault
 first_fault id meta body = first_of_tests (tests id meta body)
 
--- the version of the data handed in
-abbrev pub version_of : ℤ → Meta → Body → VersionData
-version_of id meta body = record { id = id; number = meta.version; body = body }
+abbrev pub unless_faulty : Option ValueFault → VersionData → Result VersionData ValueFault
+unless_faulty None v = Ok v
+unless_faulty (Some fault) v = Err fault
 
--- What `Version::new` answers: the version where there is no fault; else the first fault. Besides, want of memory.
-abbrev pub NewGives : ℤ → Meta → Body → Result VersionData ValueFault → Type 0
-NewGives id meta body result =
-    MatchResult result
-    (λ v. (first_fault id meta body ≡ None) × (v ≡ version_of id meta body) × IsVersion v)
-    (λ fault. (fault ≡ Memory) ⊎ (first_fault id meta body ≡ Some fault))
+-- What `Version::new` answers: the version of the data, or the first fault.
+abbrev pub version_or_fault : ℤ → Meta → Body → Result VersionData ValueFault
+version_or_fault id meta body = unless_faulty (first_fault id meta body) (version_of id meta body)

@@ -1,33 +1,28 @@
 //! Refusals of data.
-ghost use Rattle.std.specs.Prelude.{◌≡◌};
-
-use crate::Memory;
-use std::alloc::AllocError;
 use thiserror::Error;
 
-/// Why data is no version.
+/// Why data makes no version.
 #[derive(Clone, Copy, Debug, PartialEq, Eq, Error)]
 pub enum ValueFault {
-    /// The id is outside -4611686018427387903 to 4611686018427387903.
+    /// An id, a reference or the id of a member is outside -4611686018427387903 to 4611686018427387903.
     #[error("id out of range")]
     IdRange,
     /// The version number is 0.
     #[error("no version number")]
     NoVersion,
-    /// The version number is above 4294967295.
+    /// The version number, the changeset or the user id is above 4294967295.
     #[error("number out of range")]
     NumberRange,
-    /// A growth was refused.
+    /// The time is 0 or above 4294967295.
+    #[error("time out of range")]
+    TimeRange,
+    /// A text holds the character U+0000.
+    #[error("U+0000 in a text")]
+    ZeroInText,
+    /// A growth of memory was refused.
     #[error("out of memory")]
     Memory,
-}
-
-impl From<Memory> for ValueFault {
-    ghost use Rattle.osm_model.specs.declared.fault.ValueFault.TheVariants as fault;
-
-    ghost from_gives = { λ _ e. e ≡ fault.Memory };
-
-    fn from(_error: Memory) -> ValueFault {
-        ValueFault::Memory
-    }
+    /// There is a changeset, a user id or a user name, and no time.
+    #[error("author without a time")]
+    NoTime,
 }

@@ -1,5 +1,6 @@
 //! Laws over the definitions, each the contract of a function with an empty body. Nothing is run to use them.
 ghost use Rattle.osm_model.specs.Laws.{LineTellsAllData, OrderIsTotal};
+ghost use Rattle.osm_model.specs.TimeLaw.{TimeLaw};
 
 /// The canonical line tells all data of a version.
 pub fn line_tells_all_data()
@@ -9,4 +10,9 @@ pub fn line_tells_all_data()
 /// The order of versions is total, and equal on equal versions alone.
 pub fn order_is_total()
     ensures { OrderIsTotal }
+{}
+
+/// The text of a time spells its date and time of day.
+pub fn time_text_spells_the_moment()
+    ensures { TimeLaw }
 {}

@@ -1,21 +1,38 @@
-//! Versions of OpenStreetMap objects, their order, and histories, which are finite sets of versions.
-//!
-//! So far nodes alone, without times, authors and tags.
+//! OpenStreetMap versions: their data, their canonical OPL line, their order, and finite sets of them.
 #![tactic(auto)]
 
+mod body;
+mod calendar;
+mod escape;
 mod fault;
 mod history;
+mod id;
 mod kind;
 pub mod laws;
-mod line;
+mod line_bytes;
+mod members;
 mod memory;
+mod meta;
+mod piece;
+mod references;
+mod same;
+mod tags;
+mod text;
 mod version;
 
+pub use body::Body;
 pub use fault::ValueFault;
 pub use history::History;
+pub use id::is_id;
 pub use kind::Kind;
+pub use line_bytes::LineBytes;
+pub use members::{Member, Members};
 pub use memory::Memory;
-pub use version::{Body, Meta, Version};
+pub use meta::Meta;
+pub use references::References;
+pub use tags::{Tag, Tags};
+pub use text::Text;
+pub use version::Version;
 
 #[cfg(test)]
 mod tests;

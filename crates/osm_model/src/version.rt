@@ -1,127 +1,91 @@
 //! Versions of objects.
-ghost use Rattle.std.specs.Prelude.{◌≡◌, Some, refl, IfOk};
-ghost use Rattle.std.specs.Ordering.{eq_by_cmp, as_partial_cmp};
+ghost use Rattle.std.specs.Prelude.{◌≡◌, ◌++◌, ◌<◌, ◌^◌, Some, refl, IfOk, OnOk};
+ghost use Rattle.std.specs.Ordering.{eq_by_cmp, as_partial_cmp, nat_cmp};
 ghost use Rattle.std.specs.Cmp.{eq_by_cmp_equiv, partial_equiv_from_equiv, partial_order_from_agreeing_total};
+ghost use Rattle.std.specs.Cmp.Lexicographic.{slice_cmp};
+ghost use Rattle.std.specs.Option.{ForSome};
+ghost use Rattle.osm_model.specs.Data.{kind_of};
+ghost use Rattle.osm_model.specs.Order.{object_cmp, key_cmp, data_cmp, version_cmp, version_cmp_total};
 ghost use Rattle.osm_model.specs.Line.{line};
-ghost use Rattle.osm_model.specs.Data.{kind_of, is_deleted};
-ghost use Rattle.osm_model.specs.Order.{object_cmp, key_cmp, version_cmp, version_cmp_total};
-ghost use Rattle.osm_model.specs.New.{is_id, is_number, first_fault, NewGives, IsVersion};
+ghost use Rattle.osm_model.specs.New.{first_fault, version_or_fault};
+ghost use Rattle.osm_model.specs.Valid.{IsVersion};
 
-use crate::line::canonical_line;
-use crate::{Kind, Memory, ValueFault};
-use std::alloc::Global;
+use crate::id::is_id;
+use crate::same::Same;
+use crate::{Body, Kind, Memory, Meta, Text, ValueFault};
 use std::cmp::Ordering;
 use std::marker::Model;
 
-/// What a version says besides its id and its body.
-#[derive(Clone, Copy, Debug)]
-pub struct Meta {
-    /// The version number, from 1 to 4294967295.
-    pub version: u64,
-}
-
-/// What an object is in a version.
-#[derive(Clone, Copy, Debug)]
-pub enum Body {
-    /// The object of this kind was deleted.
-    Deleted(Kind),
-    /// A visible node, with longitude and latitude in units of 10^-7 degree.
-    Node { lon: i32, lat: i32 },
-}
-
-impl Body {
-    /// The kind of the object.
-    pub fn kind(&self) -> Kind
-        ensures { result ≡ kind_of self.now }
-    {
-        match self {
-            Body::Deleted(kind) => *kind,
-            Body::Node { lon: _, lat: _ } => Kind::Node,
-        }
-    }
-
-    /// Whether the object was deleted.
-    pub fn is_deleted(&self) -> bool
-        ensures { result ≡ is_deleted self.now }
-    {
-        match self {
-            Body::Deleted(_) => true,
-            Body::Node { lon: _, lat: _ } => false,
-        }
-    }
-}
-
-fn is_id(id: i64) -> bool
-    ensures { result ≡ is_id id }
-{
-    id.unsigned_abs() < 1 << 62
-}
-
-fn is_number(number: u64) -> bool
-    ensures { result ≡ is_number number }
-{
-    number < 1 << 32
-}
-
-fn first_fault(id: i64, meta: &Meta, body: &Body) -> Option<ValueFault>
-    ensures { result ≡ first_fault id meta.now body.now }
-{
-    let _body = body;
-    if !is_id(id) {
-        return Some(ValueFault::IdRange);
-    }
-    if meta.version == 0 {
-        return Some(ValueFault::NoVersion);
-    }
-    if !is_number(meta.version) {
-        return Some(ValueFault::NumberRange);
-    }
-    None
-}
-
-/// A version of an object.
+/// A version of an object, within the ranges of all its parts.
 ///
-/// Versions are ordered by their objects (nodes; ids not above 0 before ids above 0; the absolute value of the id), by
-/// their numbers, a visible version before a deleted one, and by the bytes of their canonical lines.
+/// Versions are ordered by their objects (nodes, ways, relations; ids not above 0 before the others; the absolute value
+/// of the id), their numbers, their times with none as 0, visible ones before deleted ones, and the bytes of their
+/// canonical lines. Only equal versions tie. Comparisons take no memory.
 #[derive(Debug, Drop)]
 pub struct Version {
     id: i64,
     meta: Meta,
     body: Body,
-    line: Vec<u8>,
 }
 
 impl Model for Version {
     ghost use Rattle.osm_model.specs.Data.{VersionData};
+    ghost use Rattle.osm_model.specs.Inside.{data_of, HoldsVersion};
 
     ghost Value = { VersionData };
 
-    ghost use Rattle.osm_model.specs.Stored.{data_of, IsStored};
-
     ghost view = { data_of };
 
-    ghost invariant = { IsStored };
+    ghost invariant = { HoldsVersion };
+}
+
+/// The first fault of data, if it has one.
+fn first_fault(id: i64, meta: &Meta, body: &Body) -> Option<ValueFault>
+    ensures { result ≡ first_fault id meta.now body.now }
+{
+    if !(is_id(id) && body.are_ids()) {
+        return Some(ValueFault::IdRange);
+    }
+    if meta.version == 0 {
+        return Some(ValueFault::NoVersion);
+    }
+    if !meta.are_numbers() {
+        return Some(ValueFault::NumberRange);
+    }
+    if !meta.is_time() {
+        return Some(ValueFault::TimeRange);
+    }
+    if !meta.is_dated() {
+        return Some(ValueFault::NoTime);
+    }
+    if !(meta.user.is_text() && body.are_texts()) {
+        return Some(ValueFault::ZeroInText);
+    }
+    None
 }
 
 impl Version {
-    /// The version of this data, or the first of these faults that applies: an id outside its range, version number 0,
-    /// a version number above its range. Memory where a growth was refused.
-    pub fn new(alloc: Global, id: i64, meta: Meta, body: Body) -> Result<Version, ValueFault>
-        ensures { NewGives id meta body result }
+    /// The version of this data, its tags ascending by the bytes of key and value, exact repeats dropped.
+    ///
+    /// # Errors
+    ///
+    /// The first fault in the order of `IdRange`, `NoVersion`, `NumberRange`, `TimeRange`, `NoTime`, `ZeroInText`.
+    /// It takes no memory.
+    pub fn new(id: i64, meta: Meta, body: Body) -> Result<Version, ValueFault>
+        ensures value { result ≡ version_or_fault id meta body }
+        ensures valid { IfOk result IsVersion }
     {
         if let Some(fault) = first_fault(id, &meta, &body) {
             return Err(fault);
         }
-        let line = canonical_line(alloc, id, &meta, &body)?;
         Ok(Version {
             id,
             meta,
-            body,
-            line,
+            body: body.normal(),
         })
     }
 
-    /// The id, from -4611686018427387903 to 4611686018427387903.
+    /// The id of the object, and that the version is within its ranges.
     pub fn id(&self) -> i64
         ensures value { result ≡ self.now.id }
         ensures valid { IsVersion self.now }
@@ -136,42 +100,64 @@ impl Version {
         self.body.kind()
     }
 
-    /// The version number, from 1 to 4294967295.
+    /// The version number, 1 to 4294967295.
     pub fn number(&self) -> u64
         ensures { result ≡ self.now.number }
     {
         self.meta.version
     }
 
-    /// What the object is in this version.
+    /// Seconds since 1970-01-01T00:00:00Z, 1 to 4294967295.
+    pub fn time(&self) -> Option<u64>
+        ensures value { result ≡ self.now.time }
+        ensures range { ForSome result (λ t. (0 < t) × (t < 2 ^ 32)) }
+    {
+        self.meta.time
+    }
+
+    /// The changeset, up to 4294967295; 0 without a time.
+    pub fn changeset(&self) -> u64
+        ensures { result ≡ self.now.changeset }
+    {
+        self.meta.changeset
+    }
+
+    /// The user id, up to 4294967295; 0 without a time.
+    pub fn uid(&self) -> u64
+        ensures { result ≡ self.now.uid }
+    {
+        self.meta.uid
+    }
+
+    /// The user name; empty without a time.
+    pub fn user(&self) -> &Text
+        ensures { result.now ≡ self.now.user }
+    {
+        &self.meta.user
+    }
+
+    /// The location, references or members, and the tags; or that the version is deleted.
     pub fn body(&self) -> &Body
         ensures { result.now ≡ self.now.body }
     {
         &self.body
     }
 
-    /// The canonical OPL line, without a line end.
-    pub fn line(&self) -> &[u8]
-        ensures { result.now ≡ line self.now }
-    {
-        &self.line
-    }
-
-    /// The order of the objects.
+    /// The order of the objects: the kind, ids above 0 behind the others, the absolute value of the id.
     pub fn object_cmp(&self, other: &Version) -> Ordering
         ensures { result ≡ object_cmp self.now other.now }
     {
         let kind = self.kind().rank().cmp(&other.kind().rank());
-        let sign = (self.id > 0).cmp(&(other.id > 0));
-        let absolute = self.id.unsigned_abs().cmp(&other.id.unsigned_abs());
-        kind.then(sign).then(absolute)
+        let positive = (self.id > 0).cmp(&(other.id > 0));
+        let size = self.id.unsigned_abs().cmp(&other.id.unsigned_abs());
+        kind.then(positive).then(size)
     }
 
-    /// The order of the keys: of the objects, and then of the version numbers.
+    /// The order of the keys: the object, then the version number.
     pub fn key_cmp(&self, other: &Version) -> Ordering
         ensures { result ≡ key_cmp self.now other.now }
     {
-        let number = self.meta.version.cmp(&other.meta.version);
+        let number = self.number().cmp(&other.number());
         self.object_cmp(other).then(number)
     }
 
@@ -181,10 +167,58 @@ impl Version {
     {
         Ok(Version {
             id: self.id,
-            meta: self.meta,
-            body: self.body,
-            line: Vec::from_slice(*self.line.allocator(), &self.line)?,
+            meta: self.meta.copy()?,
+            body: self.body.copy()?,
         })
+    }
+
+    /// What the order compares before it comes to the bytes of the lines.
+    fn data_cmp(&self, other: &Version) -> Ordering
+        ensures { result ≡ data_cmp self.now other.now }
+    {
+        let time = self.time().unwrap_or(0).cmp(&other.time().unwrap_or(0));
+        let deleted = self.body.is_deleted().cmp(&other.body.is_deleted());
+        self.key_cmp(other).then(time).then(deleted)
+    }
+
+    /// The order of the bytes of the lines.
+    fn line_cmp(&self, other: &Version) -> Ordering
+        ensures { result ≡ slice_cmp nat_cmp (line self.now) (line other.now) }
+    {
+        let mut others = other.line_bytes();
+        for byte in self.line_bytes() {
+            let Some(other_byte) = others.next() else {
+                return Ordering::Greater;
+            };
+            if byte < other_byte {
+                return Ordering::Less;
+            }
+            if other_byte < byte {
+                return Ordering::Greater;
+            }
+        }
+        if others.next().is_some() {
+            Ordering::Less
+        } else {
+            Ordering::Equal
+        }
+    }
+
+    /// Appends the canonical OPL line, without a line end. After an error a part of it may stand there.
+    pub fn append_line(&self, out: &mut Vec<u8>) -> Result<(), Memory>
+        ensures { OnOk result (out.new.items ≡ out.old.items ++ line self.now) }
+    {
+        let mut bytes = self.line_bytes();
+        while bytes.advance() {
+            out.extend_from_slice(bytes.run())?;
+        }
+        Ok(())
+    }
+}
+
+impl Same for Version {
+    fn is_same(&self, other: &Version) -> bool {
+        self.id == other.id && self.meta.is_same(&other.meta) && self.body.is_same(&other.body)
     }
 }
 
@@ -194,7 +228,7 @@ impl PartialEq for Version {
     ghost laws = { partial_equiv_from_equiv (eq_by_cmp_equiv version_cmp_total) };
 
     fn eq(&self, other: &Version) -> bool {
-        self.cmp(other) == Ordering::Equal
+        self.is_same(other)
     }
 }
 
@@ -222,8 +256,13 @@ impl Ord for Version {
     ghost matches_eq = { λ x y. refl };
 
     fn cmp(&self, other: &Version) -> Ordering {
-        let deleted = self.body.is_deleted().cmp(&other.body.is_deleted());
-        let line = self.line().cmp(other.line());
-        self.key_cmp(other).then(deleted).then(line)
+        let data = self.data_cmp(other);
+        if data != Ordering::Equal {
+            return data;
+        }
+        if self.is_same(other) {
+            return Ordering::Equal;
+        }
+        self.line_cmp(other)
     }
 }

@@ -1,4 +1,4 @@
-use Rattle.std.proofs.Common.{refl, sym, arith, ap, length, length-drop, ◌+◌, ◌∙◌}
+use Rattle.std.proofs.Common.{refl, sym, arith, ap, length, length-drop, ◌+◌}
 use Rattle.std.specs.List.{position_or_len}
 use Rattle.std.proofs.lemmas.Bool.{eqb-true}
 use Rattle.osm_hist.specs.OplLine.{is_line_end, Spells}

@@ -1,4 +1,4 @@
-use Rattle.std.proofs.Common.{◌≡◌, ◌<◌, ◌∙◌, length, subst, sym, arith, List, Option, length-set}
+use Rattle.std.proofs.Common.{◌<◌, ◌∙◌, length, subst, sym, arith, List, Option, length-set}
 use Rattle.osm_hist.specs.Input.{Coming}
 use Rattle.osm_hist.specs.Merge.{IsJoined}
 use Rattle.osm_hist.proofs.MergeLaws.{joins_more, left_behind, inputs_next}

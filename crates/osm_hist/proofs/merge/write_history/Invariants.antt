@@ -1,4 +1,4 @@
-use Rattle.std.proofs.Common.{◌≡◌, ◌<◌, ◌^◌, take, length}
+use Rattle.std.proofs.Common.{◌<◌, ◌^◌, take}
 use Rattle.std.specs.List.{flat_map}
 use Rattle.osm_model.specs.Sets.{listed}
 use Rattle.osm_hist.specs.Output.{Appended}

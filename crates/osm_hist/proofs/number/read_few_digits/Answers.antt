@@ -1,4 +1,4 @@
-use Rattle.std.proofs.Common.{ℕ, ◌<◌, ◌^◌, rules}
+use Rattle.std.proofs.Common.{rules}
 use Rattle.osm_hist.proofs.NumberLaws.{number_below}
 use Rattle.osm_hist.proofs.number.read_few_digits.Goals as goal
 

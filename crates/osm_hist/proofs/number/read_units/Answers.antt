@@ -1,7 +1,7 @@
-use Rattle.std.proofs.Common.{◌≡◌, ◌+◌, ◌-◌, ◌*◌, ◌<◌, ◌≤◌, ◌^◌, arith, sym, length, length-drop, take, drop}
+use Rattle.std.proofs.Common.{◌≡◌, ◌+◌, ◌-◌, ◌*◌, ◌≤◌, ◌^◌, arith, sym, length, length-drop, take, drop}
 use Rattle.std.proofs.lemmas.List.{take_all}
 use Rattle.std.proofs.Math.Nat.{mul-le-mul}
-use Rattle.osm_hist.proofs.NumberLaws.{decimal_spelled, point_splits}
+use Rattle.osm_hist.proofs.NumberLaws.{decimal_spelled}
 use Rattle.osm_hist.proofs.number.read_units.Goals as goal
 
 pub returns-clause-spelled : goal.returns-clause-spelled

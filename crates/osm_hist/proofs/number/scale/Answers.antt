@@ -1,4 +1,3 @@
-use Rattle.std.proofs.Common.{rules}
 use Rattle.osm_hist.proofs.NumberLaws.{scale_below}
 use Rattle.osm_hist.proofs.number.scale.Goals as goal
 

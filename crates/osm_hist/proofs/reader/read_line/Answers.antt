@@ -1,7 +1,6 @@
 use Rattle.std.proofs.lemmas.Int.{ints}
-use Rattle.std.proofs.Common.{FitsSigned, w64, to_z-of_z, arith, unsigned_abs, ◌<◌, ◌^◌, refl, sym, ap, ◌∙◌, ◌≡◌, filter, List, ◌∷◌}
-use Rattle.osm_hist.specs.Cut.{cut, is_full, Pairwise}
-use Rattle.osm_hist.specs.OplLine.{is_blank, Spells, SpellsPart, SpellsNode, IsVersionOf, parts_of}
+use Rattle.std.proofs.Common.{FitsSigned, w64, to_z-of_z, arith, unsigned_abs, ◌<◌, ◌^◌, sym, ap, ◌∙◌}
+use Rattle.osm_hist.specs.OplLine.{parts_of}
 use Rattle.osm_hist.proofs.LineLaws.{spelled_line}
 use Rattle.osm_hist.proofs.reader.read_line.Goals as goal
 

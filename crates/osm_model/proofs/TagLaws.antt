@@ -1,0 +1,52 @@
+-- Tags that tie are equal, and the texts of tags.
+use Rattle.std.proofs.Common.{◌≡◌, ℕ, Bool, true, false, not, ◌||◌, ◌&&◌, List, [], ◌∷◌, refl, sym, ap, ◌∙◌}
+use Rattle.std.specs.declared.cmp.Ordering.{Ordering}
+use Rattle.std.specs.declared.cmp.Ordering.TheVariants.{Less, Equal, Greater}
+use Rattle.std.specs.Ordering.{ordering_then}
+use Rattle.std.specs.List.{list_any, list_all}
+use Rattle.std.specs.FinMap.{IsAntisymmetric}
+use Rattle.osm_model.specs.declared.tags.Tag.{Tag}
+use Rattle.osm_model.specs.Tags.{tag_cmp, tag_cmp_total, normal, texts_of_tags}
+use Rattle.osm_model.proofs.SetLaws.{list_any-listed}
+use Rattle.osm_model.proofs.TextLaws.{text_cmp-IsAntisymmetric}
+
+pub first_equal : (a b : Ordering) → ordering_then a b ≡ Equal → a ≡ Equal
+first_equal Less b e = cc
+first_equal Equal b e = refl
+first_equal Greater b e = cc
+
+pub second_equal : (a b : Ordering) → ordering_then a b ≡ Equal → b ≡ Equal
+second_equal Less b e = cc
+second_equal Equal b e = e
+second_equal Greater b e = cc
+
+pub tag_cmp-IsAntisymmetric : IsAntisymmetric tag_cmp
+tag_cmp-IsAntisymmetric x y e =
+    let key = text_cmp-IsAntisymmetric _ _ (first_equal _ _ e) in
+    let value = text_cmp-IsAntisymmetric _ _ (second_equal _ _ e) in
+    λ i. record { key = key i; value = value i }
+
+and_grouped : (a b c : Bool) → (a && (b && c)) ≡ ((a && b) && c)
+and_grouped true b c = refl
+and_grouped false b c = refl
+
+-- a test of all texts of tags, tag by tag
+pub list_all-texts_of_tags : (p : List ℕ → Bool) (ts : List Tag) → list_all p (texts_of_tags ts) ≡ list_all (λ t. p t.key && p t.value) ts
+list_all-texts_of_tags p [] = refl
+list_all-texts_of_tags p (t ∷ ts) = ap (λ b. p t.key && (p t.value && b)) (list_all-texts_of_tags p ts) ∙ and_grouped (p t.key) (p t.value) _
+
+not_both : (a b : Bool) → (a && not b) ≡ not (not a || b)
+not_both true b = refl
+not_both false b = refl
+
+-- all pass where none fails
+list_all-none : {X : Type 0} (p : X → Bool) (xs : List X) → list_all p xs ≡ not (list_any (λ x. not (p x)) xs)
+list_all-none p [] = refl
+list_all-none p (x ∷ xs) = ap (λ b. p x && b) (list_all-none p xs) ∙ not_both (p x) _
+
+-- the texts of tags are those of the tags once each
+pub list_all-normal : (p : List ℕ → Bool) (ts : List Tag) → list_all p (texts_of_tags (normal ts)) ≡ list_all p (texts_of_tags ts)
+list_all-normal p ts =
+    list_all-texts_of_tags p (normal ts) ∙ list_all-none _ (normal ts)
+    ∙ ap not (list_any-listed tag_cmp_total tag_cmp-IsAntisymmetric (λ t. not (p t.key && p t.value)) ts)
+    ∙ sym (list_all-texts_of_tags p ts ∙ list_all-none _ ts)

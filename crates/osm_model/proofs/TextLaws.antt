@@ -1,0 +1,42 @@
+-- Texts as characters and as bytes.
+use Rattle.std.proofs.Common.{◌≡◌, ℕ, false, eqb, ◌||◌, List, [], ◌∷◌, ◌++◌, refl, ◌∙◌, arith, length}
+use lib.Utf8.{encode, encodes}
+use Rattle.std.specs.Str.{chars, IsUtf8}
+use Rattle.std.specs.String.{string_bytes}
+use Rattle.std.specs.declared.string.String.{String}
+use Rattle.std.specs.List.{list_any}
+use Rattle.std.specs.FinMap.{IsAntisymmetric, slice_cmp-IsAntisymmetric, nat_cmp-IsAntisymmetric}
+use Rattle.std.proofs.lemmas.Str.{encodes-chars, encodes_same, IsUtf8-string_bytes}
+use Rattle.std.proofs.lemmas.List.Folds.{list_any-append}
+use Rattle.std.proofs.lemmas.Bool.Decides.{nat_tests}
+use Rattle.osm_model.specs.Text.{text_cmp}
+use Rattle.osm_model.specs.Text.{is_empty}
+
+pub text_bytes : {Z : Type 0} (s : String Z) → encodes (chars (string_bytes s)) ≡ string_bytes s
+text_bytes s = encodes-chars _ (IsUtf8-string_bytes s)
+
+pub text_cmp-IsAntisymmetric : IsAntisymmetric text_cmp
+text_cmp-IsAntisymmetric x y e = encodes_same x y (slice_cmp-IsAntisymmetric nat_cmp-IsAntisymmetric _ _ e)
+
+zero_byte : (c : ℕ) → list_any (λ b. eqb b 0) (encode c) ≡ eqb c 0
+unfolding encode
+zero_byte c = grind (arith, nat_tests)
+
+pub zero_bytes : (cs : List ℕ) → list_any (λ b. eqb b 0) (encodes cs) ≡ list_any (λ c. eqb c 0) cs
+zero_bytes [] = refl
+zero_bytes (c ∷ cs) = list_any-append _ (encode c) (encodes cs) ∙ (λ i. zero_byte c i || zero_bytes cs i)
+
+nonempty_encode : (c : ℕ) (us : List ℕ) → is_empty (encode c ++ us) ≡ false
+unfolding encode
+nonempty_encode c us = grind (arith, nat_tests)
+
+pub empty_bytes : (cs : List ℕ) → is_empty (encodes cs) ≡ is_empty cs
+empty_bytes [] = refl
+empty_bytes (c ∷ cs) = nonempty_encode c (encodes cs)
+
+pub empty_by_length : (bs : List ℕ) → eqb (length bs) 0 ≡ is_empty bs
+empty_by_length [] = refl
+empty_by_length (b ∷ bs) = grind (arith, nat_tests)
+
+pub text_chars : (bs cs : List ℕ) → IsUtf8 bs → bs ≡ encodes cs → chars bs ≡ cs
+text_chars bs cs u e = encodes_same _ _ (encodes-chars bs u ∙ e)

@@ -1,0 +1,154 @@
+//! The bodies of versions.
+ghost use Rattle.std.specs.Prelude.{◌≡◌, IfOk};
+ghost use Rattle.std.specs.List.{list_all};
+ghost use Rattle.osm_model.specs.Id.{is_id};
+ghost use Rattle.osm_model.specs.Text.{is_text};
+ghost use Rattle.osm_model.specs.Valid.{IsInRange};
+ghost use Rattle.osm_model.specs.Data.{kind_of, is_deleted, tags_of, ids_of, texts_of, normal_body};
+
+use crate::same::Same;
+use crate::{Kind, Members, Memory, References, Tag, Tags};
+
+/// What a version holds besides its metadata.
+#[derive(Debug, Drop)]
+pub enum Body {
+    /// A deleted version has a kind and nothing else.
+    Deleted(Kind),
+    /// A location in units of 10^-7 degree, and tags.
+    Node { lon: i32, lat: i32, tags: Tags },
+    /// References to nodes, and tags.
+    Way { refs: References, tags: Tags },
+    /// Members, and tags.
+    Relation { members: Members, tags: Tags },
+}
+
+impl Body {
+    /// The kind of the object.
+    pub fn kind(&self) -> Kind
+        ensures { result ≡ kind_of self.now }
+    {
+        match self {
+            Body::Deleted(kind) => *kind,
+            Body::Node { .. } => Kind::Node,
+            Body::Way { .. } => Kind::Way,
+            Body::Relation { .. } => Kind::Relation,
+        }
+    }
+
+    /// Whether the object was deleted.
+    pub fn is_deleted(&self) -> bool
+        ensures { result ≡ is_deleted self.now }
+    {
+        matches!(self, Body::Deleted(_))
+    }
+
+    /// The tags; a deleted version has none.
+    pub fn tags(&self) -> &[Tag]
+        ensures { result.now ≡ tags_of self.now }
+    {
+        match self {
+            Body::Deleted(_) => &[],
+            Body::Node { tags, .. } | Body::Way { tags, .. } | Body::Relation { tags, .. } => {
+                tags.as_slice()
+            }
+        }
+    }
+
+    /// Whether all references and members have ids.
+    pub(crate) fn are_ids(&self) -> bool
+        ensures { result ≡ list_all is_id (ids_of self.now) }
+    {
+        match self {
+            Body::Deleted(_) | Body::Node { .. } => true,
+            Body::Way { refs, .. } => refs.are_ids(),
+            Body::Relation { members, .. } => members.are_ids(),
+        }
+    }
+
+    /// Whether no text of the body holds the character U+0000.
+    pub(crate) fn are_texts(&self) -> bool
+        ensures { result ≡ list_all is_text (texts_of self.now) }
+    {
+        match self {
+            Body::Deleted(_) => true,
+            Body::Node { tags, .. } | Body::Way { tags, .. } => tags.are_texts(),
+            Body::Relation { members, tags } => members.are_texts() && tags.are_texts(),
+        }
+    }
+
+    /// The body with its tags ascending, each once.
+    pub(crate) fn normal(self) -> Body
+        ensures value { result ≡ normal_body self }
+        ensures location { IsInRange result }
+    {
+        match self {
+            Body::Deleted(kind) => Body::Deleted(kind),
+            Body::Node { lon, lat, tags } => Body::Node {
+                lon,
+                lat,
+                tags: tags.normal(),
+            },
+            Body::Way { refs, tags } => Body::Way {
+                refs,
+                tags: tags.normal(),
+            },
+            Body::Relation { members, tags } => Body::Relation {
+                members,
+                tags: tags.normal(),
+            },
+        }
+    }
+
+    /// An equal body.
+    pub fn copy(&self) -> Result<Body, Memory>
+        ensures { IfOk result (λ b. b ≡ self.now) }
+    {
+        match self {
+            Body::Deleted(kind) => Ok(Body::Deleted(*kind)),
+            Body::Node { lon, lat, tags } => Ok(Body::Node {
+                lon: *lon,
+                lat: *lat,
+                tags: tags.copy()?,
+            }),
+            Body::Way { refs, tags } => Ok(Body::Way {
+                refs: refs.copy()?,
+                tags: tags.copy()?,
+            }),
+            Body::Relation { members, tags } => Ok(Body::Relation {
+                members: members.copy()?,
+                tags: tags.copy()?,
+            }),
+        }
+    }
+}
+
+impl Same for Body {
+    fn is_same(&self, other: &Body) -> bool {
+        match (self, other) {
+            (Body::Deleted(left), Body::Deleted(right)) => left == right,
+            (
+                Body::Node { lon, lat, tags },
+                Body::Node {
+                    lon: other_lon,
+                    lat: other_lat,
+                    tags: other_tags,
+                },
+            ) => lon == other_lon && lat == other_lat && tags.is_same(other_tags),
+            (
+                Body::Way { refs, tags },
+                Body::Way {
+                    refs: other_refs,
+                    tags: other_tags,
+                },
+            ) => refs.is_same(other_refs) && tags.is_same(other_tags),
+            (
+                Body::Relation { members, tags },
+                Body::Relation {
+                    members: other_members,
+                    tags: other_tags,
+                },
+            ) => members.is_same(other_members) && tags.is_same(other_tags),
+            _ => false,
+        }
+    }
+}

@@ -1,0 +1,101 @@
+//! The characters of a text in a line: raw ones, and escapes.
+ghost use Rattle.std.specs.Prelude.{◌≡◌, ◌++◌, ◌<◌, ◌≤◌, ◌&&◌, nat_lt, if◌then◌else◌, length, take, drop};
+ghost use Rattle.std.specs.Str.{chars, IsUtf8, IsCharBoundary};
+ghost use Rattle.std.specs.Char.{digit_char};
+ghost use Rattle.std.specs.Int.{is_in_range};
+ghost use Rattle.osm_model.specs.Escape as spec;
+
+/// Whether a character stands for itself in a line.
+pub fn is_raw(c: char) -> bool
+    ensures { result ≡ spec.is_raw c }
+{
+    matches!(
+        c,
+        '\x21'..='\x24'
+            | '\x26'..='\x2B'
+            | '\x2D'..='\x3C'
+            | '\x3E'..='\x3F'
+            | '\x41'..='\x7E'
+            | '\u{A1}'..='\u{AC}'
+            | '\u{AE}'..='\u{5FF}'
+    )
+}
+
+/// The hexadecimal digit of a number below 16, in lower case.
+pub fn hex_digit(number: u32) -> u8
+    requires { number < 16 }
+    ensures { result ≡ digit_char number }
+{
+    let digit = number as u8;
+    if digit < 10 {
+        b'0' + digit
+    } else {
+        b'a' - 10 + digit
+    }
+}
+
+/// The least number of digits in the escape of a code point.
+pub fn escape_width(code: u32) -> usize
+    ensures value { result ≡ spec.escape_width code }
+    ensures small { result ≤ 4 }
+{
+    if code < 0x100 { 2 } else { 4 }
+}
+
+/// How many bytes of a text stand before its first character that is not raw.
+pub fn plain_length(text: &str) -> usize
+    ensures length { result ≡ spec.raw_length (chars text.now) }
+    ensures boundary { IsCharBoundary text.now result }
+    ensures escape { spec.escape (chars text.now)
+        ≡ take result text.now ++ spec.escape (chars (drop result text.now)) }
+{
+    let bytes = text.as_bytes();
+    let mut length = 0;
+    while length < bytes.len() {
+        let width = raw_width(&bytes[length..]);
+        if width == 0 {
+            return length;
+        }
+        length += width;
+    }
+    length
+}
+
+/// How many bytes the first character of a text takes, where it is raw, and else 0.
+fn raw_width(text: &[u8]) -> usize
+    requires some { 0 < length text.now }
+    requires utf8 { IsUtf8 text.now }
+    ensures { result ≡ spec.raw_width (chars text.now) }
+{
+    match text[0] {
+        byte if is_raw_byte(byte) => 1,
+        lead if is_raw_lead(lead) => 2,
+        0xC2 => latin_width(text[1]),
+        _ => 0,
+    }
+}
+
+/// Whether a byte is a raw character by itself.
+fn is_raw_byte(byte: u8) -> bool
+    ensures { result ≡ (spec.is_raw byte && nat_lt byte 0x80) }
+{
+    matches!(byte, 0x21..=0x24 | 0x26..=0x2B | 0x2D..=0x3C | 0x3E..=0x3F | 0x41..=0x7E)
+}
+
+/// Whether a byte is the first of two of a character from U+00C0 to U+05FF, which all are raw.
+fn is_raw_lead(byte: u8) -> bool
+    ensures { result ≡ is_in_range 0xC3 0xD7 byte }
+{
+    matches!(byte, 0xC3..=0xD7)
+}
+
+/// How many bytes a character from U+0080 to U+00BF takes, where it is raw, and else 0.
+fn latin_width(code: u8) -> usize
+    requires { (0x80 ≤ code) × (code < 0xC0) }
+    ensures { result ≡ (if spec.is_raw code then 2 else 0) }
+{
+    if code > 0xA0 && code != 0xAD { 2 } else { 0 }
+}
+
+#[cfg(test)]
+mod tests;

@@ -1,0 +1,74 @@
+//! What is told of a version beside its object and body.
+ghost use Rattle.std.specs.Prelude.{◌≡◌, [], ◌∷◌, IfOk};
+ghost use Rattle.std.specs.List.{list_all};
+ghost use Rattle.osm_model.specs.New.{is_number, is_time, is_dated};
+
+use crate::same::Same;
+use crate::{Memory, Text};
+
+/// The version number of data and its author, in no range yet: `Version::new` tests the ranges.
+#[derive(Debug, Drop)]
+pub struct Meta {
+    /// The version number.
+    pub version: u64,
+    /// Seconds since 1970-01-01T00:00:00Z.
+    pub time: Option<u64>,
+    /// The changeset, or 0.
+    pub changeset: u64,
+    /// The user id, or 0.
+    pub uid: u64,
+    /// The user name, or the empty text.
+    pub user: Text,
+}
+
+/// Version numbers, changesets, user ids and times lie below it.
+const NUMBER_LIMIT: u64 = 1 << 32;
+
+impl Meta {
+    /// Whether the version number, the changeset and the user id are within their ranges, but for version number 0.
+    pub(crate) fn are_numbers(&self) -> bool
+        ensures { result ≡ list_all is_number (self.now.version ∷ self.now.changeset ∷ self.now.uid ∷ []) }
+    {
+        self.version < NUMBER_LIMIT && self.changeset < NUMBER_LIMIT && self.uid < NUMBER_LIMIT
+    }
+
+    /// Whether there is no time, or one within its range.
+    pub(crate) fn is_time(&self) -> bool
+        ensures { result ≡ is_time self.now.time }
+    {
+        match self.time {
+            None => true,
+            Some(seconds) => 0 < seconds && seconds < NUMBER_LIMIT,
+        }
+    }
+
+    /// Whether there is a time, or no author.
+    pub(crate) fn is_dated(&self) -> bool
+        ensures { result ≡ is_dated self.now }
+    {
+        self.time.is_some() || (self.changeset == 0 && self.uid == 0 && self.user.is_empty())
+    }
+
+    /// Equal metadata.
+    pub fn copy(&self) -> Result<Meta, Memory>
+        ensures { IfOk result (λ m. m ≡ self.now) }
+    {
+        Ok(Meta {
+            version: self.version,
+            time: self.time,
+            changeset: self.changeset,
+            uid: self.uid,
+            user: self.user.copy()?,
+        })
+    }
+}
+
+impl Same for Meta {
+    fn is_same(&self, other: &Meta) -> bool {
+        self.version == other.version
+            && self.time == other.time
+            && self.changeset == other.changeset
+            && self.uid == other.uid
+            && self.user.is_same(&other.user)
+    }
+}

@@ -1,0 +1,24 @@
+//! Equal data, found without a look at the order.
+ghost use Rattle.std.specs.Prelude.{◌≡◌, ◌↔◌, IsTrue};
+
+/// Values that can be tested for equality.
+pub(crate) trait Same {
+    /// Whether the two values are equal.
+    fn is_same(&self, other: &Self) -> bool
+        ensures { IsTrue result ↔ (self.now ≡ other.now) };
+}
+
+/// Whether two lists are equal.
+pub(crate) fn are_same<T: Same>(left: &[T], right: &[T]) -> bool
+    ensures { IsTrue result ↔ (left.now ≡ right.now) }
+{
+    if left.len() != right.len() {
+        return false;
+    }
+    for (i, item) in left.iter().enumerate() {
+        if !item.is_same(&right[i]) {
+            return false;
+        }
+    }
+    true
+}

@@ -1,0 +1,151 @@
+//! Tags.
+ghost use Rattle.std.specs.Prelude.{◌≡◌, Some, refl, IfOk};
+ghost use Rattle.std.specs.Ordering.{eq_by_cmp, as_partial_cmp};
+ghost use Rattle.std.specs.Cmp.{eq_by_cmp_equiv, partial_equiv_from_equiv, partial_order_from_agreeing_total};
+ghost use Rattle.std.specs.List.{list_all};
+ghost use Rattle.osm_model.specs.Text.{is_text};
+ghost use Rattle.osm_model.specs.Tags.{tag_cmp, tag_cmp_total, normal, texts_of_tags};
+
+use crate::same::{Same, are_same};
+use crate::{Memory, Text};
+use std::cmp::Ordering;
+use std::marker::Model;
+
+/// A key with its value; both may be empty.
+#[derive(Debug, Drop)]
+pub struct Tag {
+    pub key: Text,
+    pub value: Text,
+}
+
+impl Tag {
+    /// An equal tag.
+    pub fn copy(&self) -> Result<Tag, Memory>
+        ensures { IfOk result (λ t. t ≡ self.now) }
+    {
+        Ok(Tag {
+            key: self.key.copy()?,
+            value: self.value.copy()?,
+        })
+    }
+}
+
+impl PartialEq for Tag {
+    ghost eq = { eq_by_cmp tag_cmp };
+
+    ghost laws = { partial_equiv_from_equiv (eq_by_cmp_equiv tag_cmp_total) };
+
+    fn eq(&self, other: &Tag) -> bool {
+        self.cmp(other) == Ordering::Equal
+    }
+}
+
+impl Eq for Tag {
+    ghost laws = { eq_by_cmp_equiv tag_cmp_total };
+}
+
+impl PartialOrd for Tag {
+    ghost partial_cmp = { as_partial_cmp tag_cmp };
+
+    ghost laws = { partial_order_from_agreeing_total tag_cmp tag_cmp_total (λ x y. refl) (λ x y. refl) };
+
+    fn partial_cmp(&self, other: &Tag) -> Option<Ordering> {
+        Some(self.cmp(other))
+    }
+}
+
+impl Ord for Tag {
+    ghost cmp = { tag_cmp };
+
+    ghost total = { tag_cmp_total };
+
+    ghost matches_partial_cmp = { λ x y. refl };
+
+    ghost matches_eq = { λ x y. refl };
+
+    fn cmp(&self, other: &Tag) -> Ordering {
+        let key = self.key.as_str().cmp(other.key.as_str());
+        key.then(self.value.as_str().cmp(other.value.as_str()))
+    }
+}
+
+/// Tags in some order. Contracts see the list.
+#[derive(Debug, Drop)]
+pub struct Tags {
+    tags: Vec<Tag>,
+}
+
+impl Model for Tags {
+    ghost use Rattle.std.specs.Prelude.{List};
+    ghost use Rattle.osm_model.specs.declared.tags.Tag.{Tag};
+
+    ghost Value = { List Tag };
+
+    ghost view = { λ t. t.tags.items };
+}
+
+impl Tags {
+    /// The tags of a vector, which is taken as it is.
+    pub fn from_vec(tags: Vec<Tag>) -> Tags
+        ensures { result ≡ tags.items }
+    {
+        Tags { tags }
+    }
+
+    /// The vector of the tags.
+    pub fn into_vec(self) -> Vec<Tag>
+        ensures { result.items ≡ self }
+    {
+        let Tags { tags } = self;
+        tags
+    }
+
+    /// The tags as a slice.
+    pub fn as_slice(&self) -> &[Tag]
+        ensures { result.now ≡ self.now }
+    {
+        &self.tags
+    }
+
+    /// The tags ascending by the bytes of the key and then of the value, each once. It takes no memory.
+    pub(crate) fn normal(self) -> Tags
+        ensures { result ≡ normal self }
+    {
+        let mut tags = self.into_vec();
+        tags.sort_unstable();
+        tags.dedup();
+        Tags { tags }
+    }
+
+    /// Whether no key and no value holds the character U+0000.
+    pub(crate) fn are_texts(&self) -> bool
+        ensures { result ≡ list_all is_text (texts_of_tags self.now) }
+    {
+        self.tags
+            .iter()
+            .all(|tag| tag.key.is_text() && tag.value.is_text())
+    }
+
+    /// Equal tags.
+    pub fn copy(&self) -> Result<Tags, Memory>
+        ensures { IfOk result (λ t. t ≡ self.now) }
+    {
+        let mut tags = Vec::new(*self.tags.allocator());
+        for tag in &self.tags {
+            tags.push(tag.copy()?)?;
+        }
+        Ok(Tags { tags })
+    }
+}
+
+impl Same for Tag {
+    fn is_same(&self, other: &Tag) -> bool {
+        self.key.is_same(&other.key) && self.value.is_same(&other.value)
+    }
+}
+
+impl Same for Tags {
+    fn is_same(&self, other: &Tags) -> bool {
+        are_same(&self.tags, &other.tags)
+    }
+}
