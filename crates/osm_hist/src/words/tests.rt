@@ -6,14 +6,14 @@ use std::rt::Files;
 use std::test::Fail;
 use std::{env, fs, io};
 
-/// A line of a node as a merge writes it.
-const FIRST: &str = "n1 v1 dV c0 t i0 u T x1 y1\n";
+/// The line of a version.
+const FIRST: &str = "n1 v1 dV x1.5 y2\n";
 
-/// A line of a node that stands after the first.
-const SECOND: &str = "n2 v1 dV c0 t i0 u T x2 y2\n";
+/// The line of the version after it.
+const SECOND: &str = "n1 v2 dV x1.5 y3\n";
 
 /// What a merge of both writes.
-const MERGED: &str = "n1 v1 dV c0 t i0 u T x1 y1\nn2 v1 dV c0 t i0 u T x2 y2\n";
+const MERGED: &str = "n1 v1 dV c0 t i0 u T x1.5 y2\nn1 v2 dV c0 t i0 u T x1.5 y3\n";
 
 /// A device that answers an error to every call.
 #[derive(Drop)]
@@ -110,7 +110,10 @@ fn refused_files_leave_the_output_as_it_was(rt: HostRuntime) -> Result<(), Fail>
     enter(&rt, "refused_files")?;
     fs::write(&rt, "a.opl", FIRST)?;
     fs::write(&rt, "o.opl", SECOND)?;
+    fs::write(&rt, "bad.opl", "# a node without a location\nn1 v1 x1\n")?;
     fs::create_dir(&rt, "folder")?;
+    let merge = ["merge", "--output", "o.opl", "a.opl", "bad.opl"];
+    assert_refused(&rt, &merge, 1, "bad.opl: 28: NoLocation\n");
     let merge = ["merge", "--output", "o.opl", "a.opl", "gone.opl"];
     assert_refused(&rt, &merge, 1, "gone.opl: cannot read\n");
     let merge = ["merge", "--output", "o.opl", "a.opl", "folder"];
@@ -186,7 +189,7 @@ fn standard_input_is_merged(rt: HostRuntime) {
     assert_eq!(rt; status, 1);
     assert_eq!(rt;
         err.as_slice(),
-        b"standard output: 54: WriteFault\n".as_slice()
+        b"standard output: 58: WriteFault\n".as_slice()
     );
 }
 
@@ -202,7 +205,7 @@ fn a_reader_that_fails_in_mid_stream_is_named(rt: HostRuntime) {
     assert_eq!(rt; status, 1);
     assert_eq!(rt;
         err.as_slice(),
-        b"standard input: 54: ReadFault\n".as_slice()
+        b"standard input: 58: ReadFault\n".as_slice()
     );
     // all inputs are read before anything is written
     assert!(rt; out.is_empty());
