@@ -3,7 +3,6 @@ ghost use Rattle.std.specs.Prelude.{◌≡◌, ◌-◌, ◌<◌, ◌≤◌, ◌^
 ghost use Rattle.osm_hist.specs.OplNumber.{SpellsNumber, SpellsInteger, SpellsUnits, SpellsCoordinate, HasSign};
 
 use crate::reason::OplReason;
-use std::num::IntErrorKind;
 use std::str;
 
 /// Ids lie below it, on both sides of 0.
@@ -24,7 +23,9 @@ pub(crate) fn read_number(digits: &[u8]) -> Result<u64, OplReason>
     };
     match text.parse::<u64>() {
         Ok(number) => Ok(number),
-        Err(error) if *error.kind() == IntErrorKind::PosOverflow => Err(OplReason::OutOfRange),
+        Err(_) if digits.iter().all(|byte| byte.is_ascii_digit()) && !digits.is_empty() => {
+            Err(OplReason::OutOfRange)
+        }
         Err(_) => Err(OplReason::BadNumber),
     }
 }

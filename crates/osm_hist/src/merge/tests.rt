@@ -187,6 +187,14 @@ fn field_faults(rt: HostRuntime) -> Result<(), Fail> {
         at(0, OplReason::OutOfRange)
     );
     assert_eq!(rt;
+        refusal(alloc, b"n1 v99999999999999999999 x1 y1"),
+        at(0, OplReason::OutOfRange)
+    );
+    assert_eq!(rt;
+        refusal(alloc, b"n1 v99999999999999999999x x1 y1"),
+        at(0, OplReason::BadNumber)
+    );
+    assert_eq!(rt;
         refusal(alloc, b"n1 v4294967296 x1 y1"),
         at(0, OplReason::OutOfRange)
     );
