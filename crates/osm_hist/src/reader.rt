@@ -156,7 +156,7 @@ fn read_version(alloc: Global, id: i64, parts: &Parts) -> Result<Version, OplRea
     }
 }
 
-/// Why no version was made. Only want of memory is met, since the line's numbers were found in range.
+/// Why no version was made.
 fn reason_of(fault: ValueFault) -> OplReason {
     match fault {
         ValueFault::NoVersion => OplReason::NoVersion,
