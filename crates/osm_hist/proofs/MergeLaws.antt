@@ -1,19 +1,18 @@
 -- What several inputs hold, and what is written of it.
-use Rattle.std.proofs.Common.{◌≡◌, ℕ, ◌+◌, ◌<◌, List, [], ◌∷◌, ◌++◌, take, drop, set, drop-cons, add-one, length, get_or, map, sym, ap, ◌∙◌, arith, Option, sum_by}
-use Rattle.std.specs.List.{flat_map}
+use Rattle.std.proofs.Common.{◌≡◌, ℕ, ◌+◌, ◌<◌, List, [], ◌∷◌, ◌++◌, take, drop, set, drop-cons, add-one, length, get_or, map, sym, ap, ◌∙◌, arith, Option, None, IfSome, subst, sum_by}
 use Rattle.std.proofs.lemmas.List.{take_more}
 use Rattle.std.proofs.lemmas.List.Sums.{fold-append, sum_by_push}
-use Rattle.std.proofs.lemmas.Grind.{flat_map-append}
 use Rattle.std.proofs.lemmas.List.{append-nil, map-append, drop-set-lt}
 use Rattle.osm_model.specs.Data.{VersionData}
 use Rattle.osm_model.specs.VersionSet.{VersionSet}
-use Rattle.osm_model.specs.Sets.{size, empty, union}
-use Rattle.osm_hist.specs.declared.format.Format.{Format}
+use Rattle.osm_model.specs.Sets.{size, empty, union, from_list}
 use Rattle.osm_hist.specs.declared.merge.Joined.{Joined}
-use Rattle.osm_hist.specs.Cut.{Pairwise}
-use Rattle.osm_hist.specs.Input.{Coming}
+use Rattle.opl_line.specs.Content.{Pairwise}
+use Rattle.osm_files.specs.Input.{Coming, whole}
+use Rattle.osm_files.specs.Held.{HoldsSorted}
+use Rattle.osm_files.specs.Verdict.{file_units, versions_of, verdict_sorted}
+use Rattle.osm_files.proofs.WholeLaws.{sorted_file}
 use Rattle.osm_hist.specs.Merge.{GivesSorted, IsJoined, JoinsOne, capped}
-use Rattle.osm_hist.specs.Spell.{spelled}
 
 module _ {X Y : Type 0} (R : X → Y → Type 0) where
   pairwise_push : (xs : List X) (ys : List Y) (x : X) (y : Y) → Pairwise R xs ys → R x y → Pairwise R (xs ++ x ∷ []) (ys ++ y ∷ [])
@@ -21,6 +20,14 @@ module _ {X Y : Type 0} (R : X → Y → Type 0) where
   pairwise_push [] (b ∷ bs) x y h r = absurd h
   pairwise_push (a ∷ more) [] x y h r = absurd h
   pairwise_push (a ∷ more) (b ∷ bs) x y h r = (h.0, pairwise_push more bs x y h.1 r)
+
+-- what was read of an input is what it holds
+pub gives_sorted : (coming : Option Coming) (bytes : List ℕ) (versions : List VersionData) (held : VersionSet) → IfSome coming (λ c. c ≡ whole bytes) → verdict_sorted bytes ≡ None → versions ≡ versions_of (file_units bytes).list → held ≡ from_list versions → GivesSorted coming held
+gives_sorted coming bytes versions held told none read is = record {
+  bytes = bytes;
+  told = told;
+  file = subst (HoldsSorted bytes) (sym is) (sorted_file bytes versions none read);
+}
 
 cap_again : (a b : ℕ) → capped (capped a + b) ≡ capped (a + b)
 cap_again a b = omega arith
@@ -38,14 +45,6 @@ joins_more inputs coming before after s joined given one =
           one.read ∙ ap (λ n. capped (n + size s)) joined.read ∙ cap_again (sum_by size joined.held) (size s)
           ∙ ap capped (sym (sum_by_push size joined.held s));
     }
-
--- what a file has for one more version
-pub one_more : (format : Format) (versions : List VersionData) (place : ℕ) (v : VersionData) → place < length versions → v ≡ get_or versions place v →
-    flat_map (spelled format) (take (place + 1) versions) ≡ flat_map (spelled format) (take place versions) ++ spelled format v
-one_more format versions place v within is =
-    ap (flat_map (spelled format)) (take_more versions place v within ∙ ap (λ t. take place versions ++ t ∷ []) (sym is))
-    ∙ flat_map-append (spelled format) (take place versions) (v ∷ [])
-    ∙ ap (λ t. flat_map (spelled format) (take place versions) ++ t) (append-nil (spelled format v))
 
 -- of two lists that agree from a place on, the items there, and what stands behind them
 module _ {X : Type 0} where

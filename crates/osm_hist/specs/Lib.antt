@@ -1,11 +1,1 @@
-pub mod Format
-pub mod Reason
-pub mod Fault
-pub mod Input
-pub mod Output
-pub mod Cut
-pub mod OplNumber
-pub mod OplLine
-pub mod OplFile
-pub mod Spell
 pub mod Merge

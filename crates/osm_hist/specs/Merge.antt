@@ -2,14 +2,14 @@
 use Rattle.std.specs.Prelude.{◌≡◌, ℕ, ◌-◌, ◌^◌, min, List, fold, sum_by, ◌+◌, Option, IfSome}
 use Rattle.osm_model.specs.VersionSet.{VersionSet}
 use Rattle.osm_model.specs.Sets.{size, empty, union}
-use Rattle.osm_hist.specs.declared.format.Format.{Format}
+use Rattle.osm_files.specs.declared.format.Format.{Format}
 use Rattle.osm_hist.specs.declared.merge.Joined.{Joined}
 use Rattle.osm_hist.specs.declared.counts.Counts.{Counts}
-use Rattle.osm_hist.specs.Cut.{Pairwise}
-use Rattle.osm_hist.specs.Input.{Coming, whole}
-use Rattle.osm_hist.specs.Output.{Appended}
-use Rattle.osm_hist.specs.OplFile.{HoldsSorted}
-use Rattle.osm_hist.specs.Spell.{spell}
+use Rattle.opl_line.specs.Content.{Pairwise}
+use Rattle.osm_files.specs.Input.{Coming, whole}
+use Rattle.osm_files.specs.Output.{Appended}
+use Rattle.osm_files.specs.Held.{HoldsSorted}
+use Rattle.osm_files.specs.Spell.{spell}
 
 -- The input gave a sorted file that holds this set: these are the bytes that it tells, if it tells its bytes, and its end
 -- follows them, no error.

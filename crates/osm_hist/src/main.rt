@@ -7,17 +7,7 @@ use std::rt::Env;
 use std::{env, io};
 
 pub mod counts;
-mod cut;
-pub mod fault;
-mod file;
-pub mod format;
-pub mod input;
 pub mod merge;
-mod number;
-pub mod output;
-mod part;
-mod reader;
-pub mod reason;
 pub mod words;
 
 fn main(rt: HostRuntime) -> ExitCode {

@@ -1,17 +1,10 @@
 //! The merge of sorted files.
-ghost use Rattle.std.specs.Prelude.{◌≡◌, ◌++◌, map, IfOk, OnOk};
+ghost use Rattle.std.specs.Prelude.{map, IfOk};
 ghost use Rattle.osm_hist.specs.Merge.{GivesSorted, IsMerged, IsJoined, JoinsOne};
-ghost use Rattle.osm_hist.specs.Output.{Appended};
-ghost use Rattle.osm_hist.specs.Spell.{spell, spelled};
 
 use crate::counts::Counts;
-use crate::fault::Fault;
-use crate::file::read_sorted;
-use crate::format::Format;
-use crate::input::{Input, read_all};
-use crate::output::{Output, write_all};
-use crate::reason::Reason;
-use osm_model::{History, Memory, Version};
+use osm_files::{Fault, Format, Input, Output, read_all, read_sorted, write_history};
+use osm_model::{History, Memory};
 use std::alloc::Global;
 
 /// Merges sorted files: appends the one file of this format that holds the versions of all inputs, each once.
@@ -78,53 +71,13 @@ impl Joined {
 }
 
 /// What the input of this number holds, if it is a sorted file.
+#[tactic(auto, using(crate::proofs::MergeLaws::gives_sorted))]
 fn read_history<R: Input>(alloc: Global, number: usize, reader: &mut R) -> Result<History, Fault>
     ensures { IfOk result (GivesSorted (R.coming reader.old)) }
 {
     let bytes = read_all(alloc, number, reader)?;
     let versions = read_sorted(alloc, number, &bytes)?;
     Ok(History::from_versions(versions)?)
-}
-
-/// Appends the one file of this format that holds the history, and flushes the output, which has this number.
-fn write_history<W: Output>(
-    alloc: Global,
-    number: usize,
-    format: Format,
-    history: &History,
-    out: &mut W,
-) -> Result<(), Fault>
-    ensures { OnOk result (Appended (W.contents out.old) (W.contents out.new) (spell format history.now)) }
-{
-    let mut text: Vec<u8> = Vec::new(alloc);
-    let mut written = 0;
-    for place in 0..history.len() {
-        text.clear();
-        spell_version(&mut text, format, history.get(place))?;
-        write_all(out, number, written, &text)?;
-        written += text.len() as u64;
-    }
-    if out.flush().is_err() {
-        return Err(Fault {
-            input: number,
-            place: written,
-            reason: Reason::WriteFault,
-        });
-    }
-    Ok(())
-}
-
-/// What the file of this format has for a version.
-fn spell_version(text: &mut Vec<u8>, format: Format, version: &Version) -> Result<(), Memory>
-    ensures { OnOk result (text.new.items ≡ text.old.items ++ spelled format version.now) }
-{
-    match format {
-        Format::Opl => {
-            version.append_line(text)?;
-            text.push(b'\n')?;
-        }
-    }
-    Ok(())
 }
 
 #[cfg(test)]

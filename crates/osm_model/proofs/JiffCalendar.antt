@@ -12,22 +12,22 @@ use Rattle.osm_model.specs.Calendar.{days_of_years, days_of_months, day_number, 
 use Rattle.osm_model.specs.Time.{date_of}
 use Rattle.osm_model.proofs.CalendarLaws.{IsCivil, date_of-is, same_date, days_of_months-none}
 
-leap_years : (y : ℕ) → days_in_year y ≡ 365 + leap_day (pos y)
+pub leap_years : (y : ℕ) → days_in_year y ≡ 365 + leap_day (pos y)
 leap_years y = grind arith
 
-years : (y : ℕ) → jiff.days_of_years (y + 10000) ≡ 3_652_425 + days_of_years y
+pub years : (y : ℕ) → jiff.days_of_years (y + 10000) ≡ 3_652_425 + days_of_years y
 unfolding days_of_years
 years zero = omega (arith, days_of_years-march_days 10000)
 years (suc y) =
     let e : suc y + 10000 ≡ suc (y + 10000) = omega arith in
     rw e (omega (arith, years y, days_of_years-suc (y + 10000), leap_day-shift (pos y) (y + 10000) refl, leap_years y))
 
-months : (y m : ℕ) → jiff.days_of_months (pos y) m ≡ days_of_months y m
+pub months : (y m : ℕ) → jiff.days_of_months (pos y) m ≡ days_of_months y m
 unfolding days_of_months jiff.days_of_months
 months y zero = refl
 months y (suc m) = ap (λ n. n + days_in_month y (suc m)) (months y m)
 
-count : (y m d : ℕ) → 1 ≤ d → jiff.day_count (pos y) m d ≡ 3_652_425 + day_number y m d
+pub count : (y m d : ℕ) → 1 ≤ d → jiff.day_count (pos y) m d ≡ 3_652_425 + day_number y m d
 unfolding jiff.day_count
 count y m d some = omega (arith, years y, months y (m - 1))
 

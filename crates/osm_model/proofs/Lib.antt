@@ -1,18 +1,18 @@
 pub mod SetLaws
 pub mod MergedLaws
-mod TextLaws
+pub mod TextLaws
 pub mod TagLaws
-mod ValidLaws
+pub mod ValidLaws
 pub mod Separators
-mod NumeralLaws
-mod DecimalLaws
-mod CoordinateLaws
-mod CalendarLaws
-mod JiffCalendar
-mod TimeLaws
-mod EscapeLaws
-mod RawLaws
-mod JoinedLaws
+pub mod NumeralLaws
+pub mod DecimalLaws
+pub mod CoordinateLaws
+pub mod CalendarLaws
+pub mod JiffCalendar
+pub mod TimeLaws
+pub mod EscapeLaws
+pub mod RawLaws
+pub mod JoinedLaws
 pub mod LineLaws
 pub mod VersionLaws
-mod CursorLaws
+pub mod CursorLaws

@@ -20,7 +20,7 @@ use Rattle.osm_model.proofs.TimeLaws.{time_lacks, time_injective}
 use Rattle.osm_model.proofs.EscapeLaws.{escape_lacks, escape_injective}
 use Rattle.osm_model.proofs.JoinedLaws.{IsItemText, full_append, items_injective, items_lack, joined_injective}
 
-differs : (b c : ℕ) → c < b → b ≢ c
+pub differs : (b c : ℕ) → c < b → b ≢ c
 differs b c h e = absurd (omega (arith, e))
 
 letter_injective : (k l : Kind) → kind_letter k ≡ kind_letter l → k ≡ l
@@ -35,19 +35,19 @@ letter_injective Relation Way e = absurd (omega (arith, e))
 letter_injective Relation Relation e = refl
 
 -- no letter of a field is a separator
-letter_apart : {c : ℕ} (b : ℕ) → IsSeparator c → 64 < b → b ≢ c
+pub letter_apart : {c : ℕ} (b : ℕ) → IsSeparator c → 64 < b → b ≢ c
 letter_apart b space h = differs b 32 (omega arith)
 letter_apart b comma h = differs b 44 (omega arith)
 letter_apart b equals h = differs b 61 (omega arith)
 letter_apart b at h = differs b 64 h
 
-kind_apart : {c : ℕ} (k : Kind) → IsSeparator c → kind_letter k ≢ c
+pub kind_apart : {c : ℕ} (k : Kind) → IsSeparator c → kind_letter k ≢ c
 kind_apart Node s = letter_apart 110 s (omega arith)
 kind_apart Way s = letter_apart 119 s (omega arith)
 kind_apart Relation s = letter_apart 114 s (omega arith)
 
 -- ---- tags
-tag_lacks : {c : ℕ} → IsSeparator c → 61 ≢ c → (t : Tag) → Lacks c (tag_text t)
+pub tag_lacks : {c : ℕ} → IsSeparator c → 61 ≢ c → (t : Tag) → Lacks c (tag_text t)
 tag_lacks s n t = lacks_append _ (escape t.key) (61 ∷ escape t.value) (escape_lacks t.key s) (n, escape_lacks t.value s)
 
 tag_tells : (t u : Tag) → tag_text t ≡ tag_text u → t ≡ u
@@ -67,11 +67,11 @@ tag_text-IsItemText = record {
 comma_no_space : ◌≢◌ {A = ℕ} 44 32
 comma_no_space = differs 44 32 (omega arith)
 
-tags_lack : (ts : List Tag) → Lacks 32 (list_text tag_text ts)
+pub tags_lack : (ts : List Tag) → Lacks 32 (list_text tag_text ts)
 tags_lack ts = items_lack 44 32 tag_text comma_no_space (tag_lacks space (differs 61 32 (omega arith))) ts
 
 -- ---- references
-reference_lacks : {c : ℕ} → IsSeparator c → (r : ℤ) → Lacks c (reference_text r)
+pub reference_lacks : {c : ℕ} → IsSeparator c → (r : ℤ) → Lacks c (reference_text r)
 reference_lacks s r = (letter_apart 110 s (omega arith), integer_lacks r s)
 
 reference_tells : (x y : ℤ) → reference_text x ≡ reference_text y → x ≡ y
@@ -80,14 +80,14 @@ reference_tells x y e = let same : integer_text x ≡ integer_text y = cc in int
 reference_text-IsItemText : IsItemText 44 reference_text
 reference_text-IsItemText = record { lacks = reference_lacks comma; full = λ r. tt; tells = reference_tells }
 
-references_lack : (rs : List ℤ) → Lacks 32 (list_text reference_text rs)
+pub references_lack : (rs : List ℤ) → Lacks 32 (list_text reference_text rs)
 references_lack rs = items_lack 44 32 reference_text comma_no_space (reference_lacks space) rs
 
 -- ---- members
-object_lacks : {c : ℕ} → IsSeparator c → (k : Kind) (id : ℤ) → Lacks c (kind_letter k ∷ integer_text id)
+pub object_lacks : {c : ℕ} → IsSeparator c → (k : Kind) (id : ℤ) → Lacks c (kind_letter k ∷ integer_text id)
 object_lacks s k id = (kind_apart k s, integer_lacks id s)
 
-member_lacks : {c : ℕ} → IsSeparator c → 64 ≢ c → (m : Member) → Lacks c (member_text m)
+pub member_lacks : {c : ℕ} → IsSeparator c → 64 ≢ c → (m : Member) → Lacks c (member_text m)
 member_lacks s n m =
     lacks_append _ (kind_letter m.kind ∷ integer_text m.id) (64 ∷ escape m.role) (object_lacks s m.kind m.id) (n, escape_lacks m.role s)
 
@@ -110,19 +110,19 @@ member_text-IsItemText = record {
   tells = member_tells;
 }
 
-members_lack : (ms : List Member) → Lacks 32 (list_text member_text ms)
+pub members_lack : (ms : List Member) → Lacks 32 (list_text member_text ms)
 members_lack ms = items_lack 44 32 member_text comma_no_space (member_lacks space (differs 64 32 (omega arith))) ms
 
 -- ---- fields
-letter_lacks : (b : ℕ) (text : List ℕ) → 64 < b → Lacks 32 text → Lacks 32 (b ∷ text)
+pub letter_lacks : (b : ℕ) (text : List ℕ) → 64 < b → Lacks 32 text → Lacks 32 (b ∷ text)
 letter_lacks b text h lacks = (letter_apart b space h, lacks)
 
-empty_lack : (k : Kind) → AllLack 32 (empty_fields k)
+pub empty_lack : (k : Kind) → AllLack 32 (empty_fields k)
 empty_lack Node = (letter_lacks 120 [] (omega arith) tt, (letter_lacks 121 [] (omega arith) tt, tt))
 empty_lack Way = (letter_lacks 78 [] (omega arith) tt, tt)
 empty_lack Relation = (letter_lacks 77 [] (omega arith) tt, tt)
 
-kind_lack : (b : Body) → AllLack 32 (kind_fields b)
+pub kind_lack : (b : Body) → AllLack 32 (kind_fields b)
 kind_lack (body.Deleted k) = empty_lack k
 kind_lack (body.Node lon lat tags) = (
   letter_lacks 120 _ (omega arith) (coordinate_lacks lon space),
@@ -131,13 +131,13 @@ kind_lack (body.Node lon lat tags) = (
 kind_lack (body.Way refs tags) = (letter_lacks 78 _ (omega arith) (references_lack refs), tt)
 kind_lack (body.Relation members tags) = (letter_lacks 77 _ (omega arith) (members_lack members), tt)
 
-visible_lacks : (b : Body) → Lacks 32 (visible_text b)
+pub visible_lacks : (b : Body) → Lacks 32 (visible_text b)
 visible_lacks (body.Deleted k) = letter_lacks 68 [] (omega arith) tt
 visible_lacks (body.Node lon lat tags) = letter_lacks 86 [] (omega arith) tt
 visible_lacks (body.Way refs tags) = letter_lacks 86 [] (omega arith) tt
 visible_lacks (body.Relation members tags) = letter_lacks 86 [] (omega arith) tt
 
-fields_lack : (v : VersionData) → AllLack 32 (fields v)
+pub fields_lack : (v : VersionData) → AllLack 32 (fields v)
 fields_lack v = (
   object_lacks space (kind_of v.body) v.id,
   (

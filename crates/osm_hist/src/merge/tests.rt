@@ -1,12 +1,11 @@
 //! Whole files merged, with what is written and refused worked out by hand.
 use crate::counts::Counts;
-use crate::fault::Fault;
-use crate::format::Format;
-use crate::input::SliceIn;
 use crate::merge::run_merge;
-use crate::output::VecOut;
-use crate::reason::{OplReason, Reason};
+use o5_codec::O5Reason;
+use opl_line::OplReason;
+use osm_files::{Fault, Format, Reason, SliceIn, VecOut};
 use std::alloc::Global;
+use std::process::Abort;
 use std::test::Fail;
 
 const A: &str = "n1 v1 dV x1.5 y2\n";
@@ -139,10 +138,6 @@ fn a_faulty_line_is_refused_at_its_place(rt: HostRuntime) -> Result<(), Fail> {
         refusal(alloc, b"n1 v1 dV x y"),
         at(0, OplReason::NoLocation)
     );
-    assert_eq!(rt;
-        refusal(alloc, b"\xff\xe0\x04o5m2\xfe"),
-        at(0, OplReason::NotUtf8)
-    );
     assert_eq!(rt; refusal(alloc, b"\n\n \n"), at(2, OplReason::UnknownKind));
     assert_eq!(rt;
         refusal(alloc, b"n1 v1 x1 y1\nn1 vx x1 y1\n"),
@@ -158,53 +153,243 @@ fn a_faulty_line_is_refused_at_its_place(rt: HostRuntime) -> Result<(), Fail> {
     Ok(())
 }
 
+/// Sees that a merge of these files writes this text.
+fn assert_merged<R: AllocGlobal + Abort>(rt: &R, files: &[&[u8]], text: &str) {
+    match merged(rt.alloc(), files) {
+        Ok((written, _)) => assert_eq!(rt; written.as_slice(), text.as_bytes()),
+        Err(_) => panic!(rt; "the merge was refused"),
+    }
+}
+
 #[test]
-fn field_faults(rt: HostRuntime) -> Result<(), Fail> {
+fn real_line_is_written_as_it_is_read(rt: HostRuntime) {
+    let line = "n1 v3 dV c12 t2014-05-06T07:08:09Z i5 uanna Tnatural=tree x8.6868047 y49.0000001\n";
+    assert_merged(&rt, &[line.as_bytes()], line);
+}
+
+#[test]
+fn canonical_texts(rt: HostRuntime) {
+    let file = "r7 v1 dV c1 t1970-01-01T00:00:01Z i1 ua%20%b T%1F600%=%3d%,%e9%=1 Mn1@€\n";
+    let line = "r7 v1 dV c1 t1970-01-01T00:00:01Z i1 ua%20%b Té=1,%1f600%=%3d% Mn1@%20ac%\n";
+    assert_merged(&rt, &[file.as_bytes()], line);
+}
+
+#[test]
+fn ways_relations_and_deletions_of_both(rt: HostRuntime) {
+    let first = b"w5 v1 Nn1,n-2\nr6 v1 dV Mw5@outer,n1@\n";
+    let second = b"w5 v2 dD Nn1\r\nr6 v1 Tb=1,a=2 Mw5@outer,n1@";
+    let text =
+        "w5 v1 dV c0 t i0 u T Nn1,n-2\nw5 v2 dD c0 t i0 u T N\nr6 v1 dV c0 t i0 u T Mw5@outer,n1@\nr6 v1 dV c0 t i0 u Ta=2,b=1 Mw5@outer,n1@\n";
+    assert_merged(&rt, &[first, second], text);
+}
+
+#[test]
+fn byte_order_ties(rt: HostRuntime) {
+    assert_merged(
+        &rt,
+        &["n1 v1 x1 y1 Té=1\n".as_bytes(), b"n1 v1 x1 y1 T%1f600%=1\n"],
+        "n1 v1 dV c0 t i0 u T%1f600%=1 x1 y1\nn1 v1 dV c0 t i0 u Té=1 x1 y1\n",
+    );
+    assert_merged(
+        &rt,
+        &[b"w1 v1 Nn1\n", b"w1 v1\n"],
+        "w1 v1 dV c0 t i0 u T N\nw1 v1 dV c0 t i0 u T Nn1\n",
+    );
+    assert_merged(
+        &rt,
+        &[b"n1 v1 x1.5 y1\n", b"n1 v1 x1 y1\n"],
+        "n1 v1 dV c0 t i0 u T x1 y1\nn1 v1 dV c0 t i0 u T x1.5 y1\n",
+    );
+}
+
+#[test]
+fn line_ends_in_odd_places(rt: HostRuntime) {
+    let lines = "n1 v1 dD c0 t i0 u T x y\nn2 v1 dD c0 t i0 u T x y\n";
+    assert_merged(&rt, &[b"\r\n\nn1 v1 dD\r\r\n\n#\rn2 v1 dD"], lines);
+    assert_merged(&rt, &[b"n1 v1 dD\n\rn2 v1 dD\r"], lines);
+    assert_merged(
+        &rt,
+        &[b"# n1 v1 dD \xff\nn1 v1 dD \t \nn2\tv1  dD\n"],
+        lines,
+    );
+}
+
+#[test]
+fn faults_of_lines_in_a_file(rt: HostRuntime) {
     let alloc = rt.alloc();
     assert_eq!(rt;
-        refusal(alloc, b"n1 v1 v2 x1 y1"),
-        at(0, OplReason::RepeatedField)
+        refusal(alloc, b"n1 v1 dD\rn2 \x80"),
+        at(9, OplReason::NotUtf8)
+    );
+    assert_eq!(rt; refusal(alloc, b"n1 v1 c5 x1 y1"), at(0, OplReason::NoTime));
+    assert_eq!(rt; refusal(alloc, b"\n n1 v1"), at(1, OplReason::UnknownKind));
+    assert_eq!(rt;
+        refusal(alloc, b"n1 v1 Ta=b=c x1 y1"),
+        at(0, OplReason::BadList)
     );
     assert_eq!(rt;
-        refusal(alloc, b"n1 v1 q5 x1 y1"),
-        at(0, OplReason::UnknownField)
+        refusal(alloc, b"n1 v1 ua=b x1 y1"),
+        at(0, OplReason::BadText)
     );
-    assert_eq!(rt;
-        refusal(alloc, b"n1 v1 x1.12345678 y1"),
-        at(0, OplReason::BadCoordinate)
+}
+
+/// What a merge of these files writes in this format.
+fn merged_as(alloc: Global, files: &[&[u8]], format: Format) -> Result<Vec<u8>, Fault> {
+    let mut inputs = Vec::new(alloc);
+    for file in files {
+        inputs.push(SliceIn::new(*file))?;
+    }
+    let mut out = VecOut::new(alloc);
+    run_merge(alloc, inputs, format, &mut out)?;
+    Ok(out.into_vec())
+}
+
+/// Sees that a merge of these files in this format writes these bytes.
+fn assert_written<R: AllocGlobal + Abort>(rt: &R, files: &[&[u8]], format: Format, bytes: &[u8]) {
+    match merged_as(rt.alloc(), files, format) {
+        Ok(written) => assert_eq!(rt; written.as_slice(), bytes),
+        Err(_) => panic!(rt; "the merge was refused"),
+    }
+}
+
+/// Sees that an o5m file is refused for this reason at this place.
+fn assert_refused_at<R: AllocGlobal + Abort>(rt: &R, file: &[u8], place: u64, reason: Reason) {
+    let fault = Fault {
+        input: 0,
+        place,
+        reason,
+    };
+    assert_eq!(rt; refusal(rt.alloc(), file), Some(fault));
+}
+
+#[test]
+fn node_then_deletion_in_three_formats(rt: HostRuntime) {
+    let lines =
+        b"n1 v1 dV c1 t1970-01-01T00:00:01Z i1 ua T x0 y0\nn1 v2 dD c1 t1970-01-01T00:00:02Z i1 ua T x y\n";
+    let o5m =
+        b"\xff\xe0\x04o5m2\x10\x0b\x02\x01\x02\x02\x00\x01\x00a\x00\x00\x00\x10\x05\x00\x02\x02\x00\x01\xfe";
+    let o5c =
+        b"\xff\xe0\x04o5c2\x10\x0b\x02\x01\x02\x02\x00\x01\x00a\x00\x00\x00\x10\x05\x00\x02\x02\x00\x01\xfe";
+    for file in [lines.as_slice(), o5m.as_slice(), o5c.as_slice()] {
+        assert_written(&rt, &[file], Format::Opl, lines);
+        assert_written(&rt, &[file, lines], Format::O5m, o5m);
+        assert_written(&rt, &[o5m, file, o5c], Format::O5c, o5c);
+    }
+}
+
+#[test]
+fn empty_inputs_in_three_formats(rt: HostRuntime) {
+    assert_written(&rt, &[], Format::O5m, b"\xff\xe0\x04o5m2\xfe");
+    assert_written(
+        &rt,
+        &[b"\xff\xe0\x04o5m2\xfe", b""],
+        Format::O5c,
+        b"\xff\xe0\x04o5c2\xfe",
     );
-    assert_eq!(rt;
-        refusal(alloc, b"n1 v1 x214.7483648 y0"),
-        at(0, OplReason::OutOfRange)
+    assert_written(&rt, &[b"\xff\xe0\x04o5c2\xfe"], Format::Opl, b"");
+}
+
+#[test]
+fn way_without_references(rt: HostRuntime) {
+    let o5m = b"\xff\xe0\x04o5m2\xff\x11\x04\x0a\x01\x00\x00\x11\x03\x00\x02\x00\xfe";
+    assert_written(&rt, &[b"w5 v1 dV\n", b"w5 v2 dD\n"], Format::O5m, o5m);
+    assert_written(
+        &rt,
+        &[o5m],
+        Format::Opl,
+        b"w5 v1 dV c0 t i0 u T N\nw5 v2 dD c0 t i0 u T N\n",
     );
-    assert_eq!(rt; refusal(alloc, b"c5 k1"), at(0, OplReason::UnknownKind));
-    assert_eq!(rt;
-        refusal(alloc, b"n+1 v1 x1 y1"),
-        at(0, OplReason::BadNumber)
+}
+
+#[test]
+fn longitude_wrap(rt: HostRuntime) {
+    let plain =
+        b"\xff\xe0\x04o5m2\x10\x09\x02\x01\x00\xff\xc7\xce\xb4\x0d\x00\x10\x09\x02\x01\x00\x80\x90\x9d\xe9\x1a\x00\xfe";
+    let wrapped =
+        b"\xff\xe0\x04o5m2\x10\x09\x02\x01\x00\xff\xc7\xce\xb4\x0d\x00\x10\x09\x02\x01\x00\xff\xef\xe2\x96\x05\x00\xfe";
+    assert_written(&rt, &[plain], Format::O5m, plain);
+    assert_written(&rt, &[wrapped], Format::O5m, plain);
+}
+
+#[test]
+fn old_order_files(rt: HostRuntime) {
+    let deletion_first =
+        b"\xff\xe0\x04o5m2\x10\x03\x02\x01\x00\x10\x0b\x00\x01\x00\x80\xda\xc4\x09\x80\xda\xc4\x09\xfe";
+    let written =
+        b"\xff\xe0\x04o5m2\x10\x0b\x02\x01\x00\x80\xda\xc4\x09\x80\xda\xc4\x09\x10\x03\x00\x01\x00\xfe";
+    assert_written(&rt, &[deletion_first], Format::O5m, written);
+    assert_written(&rt, &[written], Format::O5m, written);
+}
+
+#[test]
+fn cut_file(rt: HostRuntime) {
+    let file =
+        b"\xff\xe0\x04o5m2\x10\x0b\x02\x01\x02\x02\x00\x01\x00a\x00\x00\x00\x10\x05\x00\x02\x02\x00\x01\xfe";
+    for length in 1..28usize {
+        let (place, reason) = match length {
+            1..=6 => (0, Reason::BadHeader),
+            7 => (7, Reason::NoEnd),
+            8..=19 => (7, Reason::O5(O5Reason::Truncated)),
+            20 => (20, Reason::NoEnd),
+            21..=26 => (20, Reason::O5(O5Reason::Truncated)),
+            _ => (27, Reason::NoEnd),
+        };
+        assert_refused_at(&rt, &file[..length], place, reason);
+    }
+    let longer = b"\xff\xe0\x04o5m2\xfe\x00";
+    assert_refused_at(&rt, longer, 8, Reason::AfterEnd);
+}
+
+#[test]
+fn hostile_numbers(rt: HostRuntime) {
+    let bad = Reason::O5(O5Reason::BadNumber);
+    let cut = Reason::O5(O5Reason::Truncated);
+    assert_refused_at(
+        &rt,
+        b"\xff\xe0\x04o5m2\x10\xff\xff\xff\xff\xff\xff\xff\xff\xff\x01\xfe",
+        7,
+        cut,
     );
-    assert_eq!(rt;
-        refusal(alloc, b"n4611686018427387904 v1 x1 y1"),
-        at(0, OplReason::OutOfRange)
+    assert_refused_at(
+        &rt,
+        b"\xff\xe0\x04o5m2\x10\xff\xff\xff\xff\xff\xff\xff\xff\xff\x02\xfe",
+        7,
+        bad,
     );
-    assert_eq!(rt;
-        refusal(alloc, b"n1 v99999999999999999999 x1 y1"),
-        at(0, OplReason::OutOfRange)
+    assert_refused_at(
+        &rt,
+        b"\xff\xe0\x04o5m2\x10\x80\x80\x80\x80\x80\x80\x80\x80\x80\x80\x00\xfe",
+        7,
+        bad,
     );
-    assert_eq!(rt;
-        refusal(alloc, b"n1 v99999999999999999999x x1 y1"),
-        at(0, OplReason::BadNumber)
+    assert_refused_at(
+        &rt,
+        b"\xff\xe0\x04o5m2\x10\x80\x80\x80\x80\x80\x80\x80\x80\x80\x80",
+        7,
+        cut,
     );
-    assert_eq!(rt;
-        refusal(alloc, b"n1 v4294967296 x1 y1"),
-        at(0, OplReason::OutOfRange)
+    assert_refused_at(&rt, b"\xff\xe0\x04o5m2\x10\x01\x80\xfe", 7, bad);
+}
+
+#[test]
+fn skipped_sets_and_mixed_segments(rt: HostRuntime) {
+    let skipped =
+        b"\xff\xe0\x04o5m2\xdc\x01\x02\xf3\xff\x10\x0b\x02\x01\x02\x02\x00\x01\x00a\x00\x00\x00\xfe";
+    assert_written(
+        &rt,
+        &[skipped],
+        Format::Opl,
+        b"n1 v1 dV c1 t1970-01-01T00:00:01Z i1 ua T x0 y0\n",
     );
-    assert_eq!(rt;
-        refusal(alloc, b"n1 v1 x-.5 y1"),
-        at(0, OplReason::BadCoordinate)
+    let mixed =
+        b"\xff\xe0\x04o5m2\x11\x05\x02\x01\x00\x01\x02\x12\x08\x00\x01\x00\x04\x02\x000\x00\xfe";
+    assert_refused_at(&rt, mixed, 14, Reason::O5(O5Reason::MixedSegment));
+    let apart =
+        b"\xff\xe0\x04o5m2\x11\x05\x02\x01\x00\x01\x02\xff\x12\x08\x00\x01\x00\x04\x02\x000\x00\xfe";
+    assert_written(
+        &rt,
+        &[apart],
+        Format::Opl,
+        b"w1 v1 dV c0 t i0 u T Nn1\nr0 v1 dV c0 t i0 u T Mn1@\n",
     );
-    assert_eq!(rt;
-        refusal(alloc, b"n1 v1 x1. y1"),
-        at(0, OplReason::BadCoordinate)
-    );
-    Ok(())
 }

@@ -1,7 +1,6 @@
 //! Why a command is refused, with the line and the exit status that it gets.
-use crate::fault::Fault;
-use crate::reason::{OplReason, Reason};
 use clap::error::ErrorKind;
+use osm_files::{Fault, Reason};
 use std::alloc::{AllocError, AllocFailed};
 use std::io::Write;
 use thiserror::Error;
@@ -62,7 +61,7 @@ impl<'a> Refusal<'a> {
     /// The refusal of a file, by the names of the inputs and of the output.
     pub(crate) fn of_fault(fault: Fault, inputs: &[&'a str], output: &'a str) -> Refusal<'a> {
         match fault.reason {
-            Reason::Memory | Reason::Opl(OplReason::Memory) => Refusal::Memory,
+            Reason::Memory => Refusal::Memory,
             reason => Refusal::File {
                 name: inputs.get(fault.input).copied().unwrap_or(output),
                 place: fault.place,

@@ -1,12 +1,12 @@
 //! What the words of a command ask for.
-use crate::format::Format;
 use clap::error::ErrorKind;
 use clap::{Arg, ArgAction, ArgMatches, Command, Error};
+use osm_files::Format;
 use std::alloc::{AllocError, Global};
 use std::convert::AsStr;
 
 /// The names of the formats in which a file can be written.
-static FORMATS: [&str; 1] = ["opl"];
+static FORMATS: [&str; 3] = ["opl", "o5m", "o5c"];
 
 /// What the words ask for.
 #[derive(Drop)]
@@ -86,6 +86,8 @@ impl<'a> FileMerge<'a> {
 fn format_named(name: &str) -> Option<Format> {
     match name {
         "opl" => Some(Format::Opl),
+        "o5m" => Some(Format::O5m),
+        "o5c" => Some(Format::O5c),
         _ => None,
     }
 }
@@ -120,7 +122,7 @@ fn merge_command<'a>(alloc: Global) -> Result<Command<'a>, AllocError> {
         .required(true)
         .num_args(1..)
         .action(ArgAction::Append)
-        .help("The files to be merged, each sorted");
+        .help("The files to be merged, each sorted, in OPL, o5m or o5c");
     Command::new(alloc, "merge")
         .about("Merges sorted files into one")
         .arg(output)?

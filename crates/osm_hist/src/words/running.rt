@@ -2,11 +2,8 @@
 use super::refusal::Refusal;
 use super::request::FileMerge;
 use crate::counts::Counts;
-use crate::fault::Fault;
-use crate::format::Format;
-use crate::input::FromRead;
 use crate::merge::run_merge;
-use crate::output::ToWrite;
+use osm_files::{Fault, Format, FromRead, ToWrite};
 use std::alloc::{AllocError, Global};
 use std::fs;
 use std::fs::File;

@@ -1,5 +1,5 @@
 use Rattle.std.proofs.Common.{◌<◌, ◌∙◌, length, subst, sym, arith, List, Option, length-set}
-use Rattle.osm_hist.specs.Input.{Coming}
+use Rattle.osm_files.specs.Input.{Coming}
 use Rattle.osm_hist.specs.Merge.{IsJoined}
 use Rattle.osm_hist.proofs.MergeLaws.{joins_more, left_behind, inputs_next}
 use Rattle.osm_hist.proofs.merge.join_inputs.Goals as goal

@@ -1,0 +1,114 @@
+//! Measures data sets: how many nodes with users by reference are read a second.
+//!
+//! It is given the number of nodes to make, as in `o5_bench 1000000`. Without it, it makes a few and prints nothing.
+#![tactic(auto)]
+
+use anyhow::Result;
+use o5_codec::Decoder;
+use osm_model::Kind;
+use std::alloc::Global;
+use std::env;
+use std::rt::{Clock, Env};
+use std::time::{Duration, Instant};
+
+/// How often the measure goes over all nodes.
+const ROUNDS: u64 = 5;
+
+/// How many users there are.
+const USERS: u32 = 100;
+
+/// Appends an unsigned number in groups of seven bits, the lowest first.
+fn append_number(content: &mut Vec<u8>, number: u64) -> Result<()> {
+    let mut rest = number;
+    for _ in 0..9u32 {
+        if rest < 128 {
+            break;
+        }
+        content.push((rest % 128) as u8 | 128)?;
+        rest /= 128;
+    }
+    content.push((rest % 128) as u8)?;
+    Ok(())
+}
+
+/// Appends a signed number: 0, -1, 1, -2 and so on are 0, 1, 2, 3 and so on.
+fn append_signed(content: &mut Vec<u8>, number: i32) -> Result<()> {
+    let size = u64::from(number.unsigned_abs());
+    if number < 0 {
+        append_number(content, 2 * size - 1)
+    } else {
+        append_number(content, 2 * size)
+    }
+}
+
+/// Appends the user: inline for the first node of each, and by reference for the others.
+fn append_user(content: &mut Vec<u8>, number: u32) -> Result<()> {
+    if number >= USERS {
+        return append_number(content, u64::from(number % USERS) + 1);
+    }
+    content.push(0)?;
+    append_number(content, 300 + u64::from(number))?;
+    content.push(0)?;
+    content.extend_from_slice(b"mapper_of_trees")?;
+    content.push(0)?;
+    Ok(())
+}
+
+/// The content of a node's data set.
+fn node(alloc: Global, number: u32) -> Result<Vec<u8>> {
+    let step = (number % 2000) as i32 - 999;
+    let mut content = Vec::new(alloc);
+    append_signed(&mut content, 1)?;
+    append_number(&mut content, 1 + u64::from(number % 5))?;
+    append_signed(&mut content, if number == 0 { 1_400_000_000 } else { step })?;
+    append_signed(&mut content, if number == 0 { 12_345_678 } else { step })?;
+    append_user(&mut content, number)?;
+    append_signed(&mut content, step * 10)?;
+    append_signed(&mut content, 10 - step * 10)?;
+    Ok(content)
+}
+
+fn nodes(alloc: Global, count: u32) -> Result<Vec<Vec<u8>>> {
+    let mut nodes = Vec::new(alloc);
+    for number in 0..count {
+        nodes.push(node(alloc, number)?)?;
+    }
+    Ok(nodes)
+}
+
+/// Reads all nodes, and answers how many have a user.
+fn read_all(alloc: Global, nodes: &[Vec<u8>]) -> Result<u64> {
+    let mut decoder = Decoder::new(alloc)?;
+    let mut count: u64 = 0;
+    for content in nodes {
+        let version = decoder.read_set(Kind::Node, content)?;
+        if version.uid() > 0 {
+            count = count.saturating_add(1);
+        }
+    }
+    Ok(count)
+}
+
+/// What `amount` in this time is in a second.
+fn rate(amount: u64, time: Duration) -> u128 {
+    u128::from(amount) * 1_000_000_000 / time.as_nanos().max(1)
+}
+
+fn main(rt: HostRuntime) -> Result<()> {
+    let given = env::args(&rt)?.nth(1);
+    let count = match &given {
+        Some(word) => word.as_str().parse::<u32>()?,
+        None => 200,
+    };
+    let nodes = nodes(rt.alloc(), count)?;
+    let start = Instant::now(&rt)?;
+    let mut read: u64 = 0;
+    for _ in 0..ROUNDS {
+        read = read.saturating_add(read_all(rt.alloc(), &nodes)?);
+    }
+    let reading = start.elapsed(&rt)?;
+    if given.is_some() {
+        println!(rt; "{} nodes read a second", rate(read, reading))?;
+    }
+    Ok(())
+}

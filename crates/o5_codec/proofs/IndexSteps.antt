@@ -1,0 +1,217 @@
+-- What storing an entry and letting the oldest go do to the numbers.
+use Rattle.std.proofs.Common.{◌≡◌, ℕ, zero, suc, ◌+◌, ◌-◌, ◌<◌, ◌≤◌, ◌^◌, Bool, true, false, cond, List, [], ◌∷◌, ◌++◌, length, take, length-append, refl, sym, ap, ◌∙◌, subst, arith, Option, Some, None, inl, inr}
+use Rattle.std.specs.Option.{option_map}
+use Rattle.std.specs.HashMap as hash
+use Rattle.std.specs.HashMap.{HashMap}
+use Rattle.std.proofs.lemmas.List.{length-take, take_all}
+use Rattle.std.specs.Map.{lookup, KeepsOthers}
+use Rattle.std.specs.Map.Iter.{TakesLast}
+use Rattle.std.specs.Cmp.{decided, IsEquivalence}
+use Rattle.std.proofs.lemmas.Bool.{cases_Bool, cond-true, cond-false}
+use Rattle.circular_buffer.specs.Buffer.{last_item}
+use Rattle.circular_buffer.proofs.Items.{pops_last}
+use Rattle.o5_codec.specs.Table.{limit}
+use Rattle.o5_codec.specs.Formed.{FormedEntry, same_entry, reference_to}
+use Rattle.o5_codec.specs.SameEntry.{same_entry_decides}
+use Rattle.o5_codec.specs.Indexed.{AreDistinct, Numbered, IsIndexed, IsNext}
+
+same : IsEquivalence same_entry
+same = decided same_entry same_entry_decides
+
+apart : (e f k : FormedEntry) → same_entry e f ≡ false → same_entry e k ≡ true → same_entry f k ≡ false
+apart e f k n y = same.symm f k ∙ sym (same.congr e k f y) ∙ n
+
+-- what another entry finds after a change at e
+others_stay : {X : Type 0} (e f : FormedEntry) (old new : List (FormedEntry × X)) → KeepsOthers same_entry (λ k. same_entry e k) old new → same_entry e f ≡ false → lookup (λ k. same_entry f k) new ≡ lookup (λ k. same_entry f k) old
+unfolding KeepsOthers
+others_stay e f old new h n = h (λ k. same_entry f k) (λ x y. same.congr f x y) (λ k. apart e f k n)
+
+abbrev pub Within : ℕ → Option ℕ → Type 0
+Within k None = Unit {0}
+Within k (Some i) = (0 < i) × (i ≤ k)
+
+within_more : (k : ℕ) (r : Option ℕ) → Within k r → Within (suc k) (option_map (λ n. n + 1) r)
+within_more k None h = tt
+within_more k (Some i) h = (omega arith, omega arith)
+
+-- a reference is within the table
+pub within : (e : FormedEntry) (table : List FormedEntry) → Within (length table) (reference_to e table)
+within e [] = tt
+within e (x ∷ table) =
+    elim (same_entry e x) as (λ b. Within (suc (length table)) (cond b (Some 1) (option_map (λ n. n + 1) (reference_to e table)))) [
+      | true ↦ (omega arith, omega arith)
+      | false ↦ within_more (length table) (reference_to e table) (within e table)
+    ]
+
+-- an entry that isn't the last one has its reference without the last one too
+without_last : (e : FormedEntry) (table : List FormedEntry) (last : FormedEntry) → same_entry e last ≡ false → reference_to e (table ++ last ∷ []) ≡ reference_to e table
+without_last e [] last n = cond-false (same_entry e last) (Some 1) None n
+without_last e (x ∷ table) last n = ap (λ r. cond (same_entry e x) (Some 1) (option_map (λ n. n + 1) r)) (without_last e table last n)
+
+none_before : (b : Bool) (r : Option ℕ) → cond b (Some 1) (option_map (λ n. n + 1) r) ≡ None → (b ≡ false) × (r ≡ None)
+none_before true r e = cc
+none_before false None e = (refl, refl)
+none_before false (Some i) e = cc
+
+none_at_all : (e : FormedEntry) (table : List FormedEntry) (last : FormedEntry) → reference_to e (table ++ last ∷ []) ≡ None → (reference_to e table ≡ None) × (same_entry e last ≡ false)
+none_at_all e [] last h = (refl, (none_before (same_entry e last) None h).0)
+none_at_all e (x ∷ table) last h =
+    let first : (same_entry e x ≡ false) × (reference_to e (table ++ last ∷ []) ≡ None) = none_before _ _ h in
+    let rest : (reference_to e table ≡ None) × (same_entry e last ≡ false) = none_at_all e table last first.1 in
+    (cond-false (same_entry e x) _ _ first.0 ∙ ap (option_map (λ n. n + 1)) rest.0, rest.1)
+
+distinct_last : (table : List FormedEntry) (last : FormedEntry) → AreDistinct (table ++ last ∷ []) → AreDistinct table × (reference_to last table ≡ None)
+distinct_last [] last h = (tt, refl)
+distinct_last (x ∷ table) last h =
+    let first : (reference_to x table ≡ None) × (same_entry x last ≡ false) = none_at_all x table last h.0 in
+    let rest : AreDistinct table × (reference_to last table ≡ None) = distinct_last table last h.1 in
+    ((first.0, rest.0), cond-false (same_entry last x) _ _ (same.symm last x ∙ first.1) ∙ ap (option_map (λ n. n + 1)) rest.1)
+
+-- the number at e is now this one, and at other entries it stays
+pub record IsChanged (e : FormedEntry) (now : Option ℕ) (number number' : FormedEntry → Option ℕ) : Type 0 where
+  pub here : number' e ≡ now
+  pub others : (f : FormedEntry) → same_entry e f ≡ false → number' f ≡ number f
+
+are_none : (m next : ℕ) (r n : Option ℕ) → r ≡ None → n ≡ None → Numbered m next r n
+are_none m next None None e f = tt
+are_none m next None (Some n) e f = absurd (cc)
+are_none m next (Some i) None e f = absurd (cc)
+are_none m next (Some i) (Some n) e f = absurd (cc)
+
+evicted : (m most next : ℕ) (table : List FormedEntry) (last : FormedEntry) (number number' : FormedEntry → Option ℕ) →
+    IsIndexed m most next (table ++ last ∷ []) number → IsChanged last None number number' → IsIndexed m most next table number'
+evicted m most next table last number number' h changed =
+    let rest : AreDistinct table × (reference_to last table ≡ None) = distinct_last table last h.distinct in
+    record {
+      few = omega (arith, h.few, length-append table (last ∷ []));
+      below = h.below;
+      distinct = rest.0;
+      each = λ e. elim (cases_Bool (same_entry last e)) [
+        | inl is ↦ subst (λ e. Numbered m next (reference_to e table) (number' e)) ((same_entry_decides last e).0 is)
+            (are_none m next (reference_to last table) (number' last) rest.1 changed.here)
+        | inr other ↦ subst (λ r. Numbered m next r (number' e)) (without_last e table last (same.symm e last ∙ other))
+            (subst (λ n. Numbered m next (reference_to e (table ++ last ∷ [])) n) (sym (changed.others e other)) (h.each e))
+      ];
+    }
+
+numbered_more : (m next after k : ℕ) (r n : Option ℕ) → IsNext m next after → k < m → Within k r → Numbered m next r n → Numbered m after (option_map (λ n. n + 1) r) n
+numbered_more m next after k None None up few w h = tt
+numbered_more m next after k None (Some n) up few w h = h
+numbered_more m next after k (Some i) None up few w h = h
+numbered_more m next after k (Some i) (Some n) up few w h = (
+  h.0,
+  elim up [
+    | inl round ↦ elim h.1 [ inl low ↦ inr (omega arith) | inr high ↦ absurd (omega arith) ]
+    | inr on ↦ elim h.1 [ inl low ↦ inl (omega arith) | inr high ↦ inr (omega arith) ]
+  ],
+)
+
+first_number : (m next after : ℕ) → next < m → IsNext m next after → Numbered m after (Some 1) (Some next)
+first_number m next after h up = (h, elim up [ inl round ↦ inr (omega arith) | inr on ↦ inl (omega arith) ])
+
+stored_one : (m most next after : ℕ) (table : List FormedEntry) (e : FormedEntry) (number number' : FormedEntry → Option ℕ) →
+    IsIndexed m most next table number → length table < most → length table < m → reference_to e table ≡ None → IsNext m next after → IsChanged e (Some next) number number' →
+    IsIndexed m most after (e ∷ table) number'
+stored_one m most next after table e number number' h room small absent up changed = record {
+  few = omega arith;
+  below = elim up [ inl round ↦ omega arith | inr on ↦ omega arith ];
+  distinct = (absent, h.distinct);
+  each = λ f. elim (cases_Bool (same_entry e f)) [
+    | inl is ↦ subst (λ f. Numbered m after (reference_to f (e ∷ table)) (number' f)) ((same_entry_decides e f).0 is)
+        (subst (λ r. Numbered m after r (number' e)) (sym (cond-true (same_entry e e) (Some 1) _ ((same_entry_decides e e).1 refl)))
+        (subst (λ n. Numbered m after (Some 1) n) (sym changed.here) (first_number m next after h.below up)))
+    | inr other ↦ subst (λ r. Numbered m after r (number' f)) (sym (cond-false (same_entry f e) (Some 1) _ (same.symm f e ∙ other)))
+        (subst (λ n. Numbered m after (option_map (λ n. n + 1) (reference_to f table)) n) (sym (changed.others f other))
+        (numbered_more m next after (length table) _ _ up small (within f table) (h.each f)))
+  ];
+}
+
+popped : {X : Type 0} (xs : List X) (last : X) → last_item xs ≡ Some last → xs ≡ take (length xs - 1) xs ++ last ∷ []
+popped xs last e = subst (λ r. TakesLast (λ x. x) xs r (take (length xs - 1) xs)) e (pops_last xs)
+
+pub popped_none : {X : Type 0} (xs : List X) → last_item xs ≡ None → length xs ≡ 0
+popped_none xs e = ap length (let t : (xs ≡ []) × (take (length xs - 1) xs ≡ []) = subst (λ r. TakesLast (λ x. x) xs r (take (length xs - 1) xs)) e (pops_last xs) in t.0)
+
+-- the reference at a number, below next and not
+pub found_low : (m most next n : ℕ) (r : Option ℕ) → Numbered m next r (Some n) → Within most r → most ≤ m → n < next → r ≡ Some (next - n)
+found_low m most next n None h w small lt = absurd h
+found_low m most next n (Some i) h w small lt = ap (λ k. Some k) (elim h.1 [ inl a ↦ omega arith | inr b ↦ absurd (omega arith) ])
+
+pub found_high : (m most next n : ℕ) (r : Option ℕ) → Numbered m next r (Some n) → Within most r → next ≤ n → r ≡ Some (next + m - n)
+found_high m most next n None h w le = absurd h
+found_high m most next n (Some i) h w le = ap (λ k. Some k) (elim h.1 [ inl a ↦ absurd (omega arith) | inr b ↦ omega arith ])
+
+pub number_below : (m next n : ℕ) (r : Option ℕ) → Numbered m next r (Some n) → n < m
+number_below m next n None h = absurd h
+number_below m next n (Some i) h = h.0
+
+-- where the number isn't below next, there are so many more numbers up to m
+pub room_above : (m most next n : ℕ) (r : Option ℕ) → Numbered m next r (Some n) → Within most r → next ≤ n → next + m ≤ n + most
+room_above m most next n None h w le = absurd h
+room_above m most next n (Some i) h w le = elim h.1 [ inl a ↦ absurd (omega arith) | inr b ↦ omega arith ]
+
+within_up : (k m : ℕ) (r : Option ℕ) → k ≤ m → Within k r → Within m r
+within_up k m None le w = tt
+within_up k m (Some i) le w = (w.0, omega arith)
+
+pub found_in : (m most next : ℕ) (table : List FormedEntry) (number : FormedEntry → Option ℕ) (e : FormedEntry) (n : ℕ) →
+    IsIndexed m most next table number → Some n ≡ number e → Numbered m next (reference_to e table) (Some n) × Within most (reference_to e table)
+found_in m most next table number e n h is =
+    (subst (λ o. Numbered m next (reference_to e table) o) (sym is) (h.each e), within_up (length table) most _ h.few (within e table))
+
+pub not_found : (m most next : ℕ) (table : List FormedEntry) (number : FormedEntry → Option ℕ) (e : FormedEntry) →
+    IsIndexed m most next table number → None ≡ number e → None ≡ reference_to e table
+not_found m most next table number e h is = none (reference_to e table) (subst (λ o. Numbered m next (reference_to e table) o) (sym is) (h.each e))
+  where
+    none : (r : Option ℕ) → Numbered m next r None → None ≡ r
+    none None k = refl
+    none (Some i) k = absurd k
+
+pub nothing_indexed : (m most next : ℕ) → next < m → (number : FormedEntry → Option ℕ) → ((e : FormedEntry) → number e ≡ None) → IsIndexed m most next [] number
+nothing_indexed m most next below number none = record {
+  few = omega arith;
+  below = below;
+  distinct = tt;
+  each = λ e. are_none m next None (number e) refl (none e);
+}
+
+pub changed_by : {S : Type 0} (e : FormedEntry) (w : Option ℕ) (old new : HashMap FormedEntry ℕ S) → hash.UpdatesBy same_entry (λ k. same_entry e k) old new w →
+    IsChanged e w (λ f. hash.get_by (same_entry f) old) (λ f. hash.get_by (same_entry f) new)
+changed_by e w old new h = record { here = h.1; others = λ f n. others_stay e f _ _ h.3 n }
+
+pub put_in : (m most next after capacity : ℕ) (table : List FormedEntry) (e : FormedEntry) (number number' : FormedEntry → Option ℕ) →
+    IsIndexed m most next table number → length table < most → capacity ≡ most → most ≤ m → reference_to e table ≡ None → IsNext m next after → IsChanged e (Some next) number number' →
+    IsIndexed m most after (take capacity (e ∷ table)) number'
+put_in m most next after capacity table e number number' h room same small absent up changed =
+    subst (λ t. IsIndexed m most after t number') (sym (take_all capacity (e ∷ table) (omega arith)))
+    (stored_one m most next after table e number number' h room (omega arith) absent up changed)
+
+pub made_room : (m most next : ℕ) (table : List FormedEntry) (last : FormedEntry) (number number' : FormedEntry → Option ℕ) →
+    IsIndexed m most next table number → last_item table ≡ Some last → IsChanged last None number number' → IsIndexed m most next (take (length table - 1) table) number'
+made_room m most next table last number number' h is changed =
+    evicted m most next _ last number number' (subst (λ t. IsIndexed m most next t number) (popped table last is) h) changed
+
+pub none_in_front : (e : FormedEntry) (n : ℕ) (table : List FormedEntry) → reference_to e table ≡ None → reference_to e (take n table) ≡ None
+none_in_front e zero table h = refl
+none_in_front e (suc n) [] h = refl
+none_in_front e (suc n) (x ∷ table) h =
+    let parts : (same_entry e x ≡ false) × (reference_to e table ≡ None) = none_before _ _ h in
+    cond-false (same_entry e x) _ _ parts.0 ∙ ap (option_map (λ n. n + 1)) (none_in_front e n table parts.1)
+
+take_cons : {X : Type 0} (m : ℕ) (x : X) (t : List X) → 0 < m → take m (x ∷ t) ≡ x ∷ take (m - 1) t
+take_cons zero x t h = absurd (omega arith)
+take_cons (suc m) x t h = let e : suc m - 1 ≡ m = omega arith in sym (ap (λ n. x ∷ take n t) e)
+
+pub some_room : 0 < limit
+unfolding limit
+some_room = omega arith
+
+pub limit_is_small : limit ≤ 2 ^ 64
+unfolding limit
+limit_is_small = omega arith
+
+pub room_made : (t : List FormedEntry) → length (take (limit - 1) t) < limit
+room_made t = let h : 0 < limit = some_room in omega (arith, length-take (limit - 1) t)
+
+pub stored_is : (e : FormedEntry) (t : List FormedEntry) → e ∷ take (limit - 1) t ≡ take limit (e ∷ t)
+stored_is e t = sym (take_cons limit e t some_room)

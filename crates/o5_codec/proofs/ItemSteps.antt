@@ -1,0 +1,82 @@
+-- The loops over lists that go to the end of some bytes.
+use Rattle.std.proofs.Common.{◌≡◌, ℕ, suc, ◌+◌, ◌-◌, ◌<◌, ◌≤◌, ◌⊎◌, inl, inr, List, [], ◌∷◌, ◌++◌, length, refl, ap, sym, ◌∙◌, arith, append_assoc, length-append, false, true, eqb, Result, Ok, Err}
+use Rattle.std.proofs.lemmas.Bool.Decides.{nat_tests}
+use Rattle.std.proofs.lemmas.List.{append-nil}
+use Rattle.o5_codec.specs.declared.reason.O5Reason.{O5Reason}
+use Rattle.o5_codec.specs.declared.reason.O5Reason.TheVariants.{Memory}
+use Rattle.o5_codec.specs.declared.segment.Segment.{Segment}
+use Rattle.o5_codec.specs.Answer.{and_then}
+use Rattle.o5_codec.specs.Segment.{Step}
+use Rattle.o5_codec.specs.Items.{items_up_to, items_at}
+
+module _ {X : Type 0} where
+  -- items behind those that were read
+  abbrev pub behind : List X → Result (List X × Segment) O5Reason → Result (List X × Segment) O5Reason
+  behind done (Ok x) = Ok (done ++ x.0, x.1)
+  behind done (Err reason) = Err reason
+
+  -- these items were read, and these bytes are left
+  pub record HasItems (item_at : Segment → List ℕ → Step X) (start : Segment) (bytes : List ℕ) (done : List X) (s : Segment) (rest : List ℕ) : Type 0 where
+    pub room : length rest + length done ≤ length bytes
+    pub left : (most : ℕ) → most + length done ≡ length bytes → items_at item_at start bytes ≡ behind done (items_up_to item_at most s rest)
+
+  behind_none : (r : Result (List X × Segment) O5Reason) → behind [] r ≡ r
+  behind_none (Ok x) = refl
+  behind_none (Err reason) = refl
+
+  behind_one : (done : List X) (x : X) (r : Result (List X × Segment) O5Reason) →
+      behind done (and_then r (λ more. Ok (x ∷ more.0, more.1))) ≡ behind (done ++ x ∷ []) r
+  behind_one done x (Ok more) = ap (λ xs. Ok (xs, more.1)) (sym (append_assoc done (x ∷ []) more.0))
+  behind_one done x (Err reason) = refl
+
+module _ {X : Type 0} (item_at : Segment → List ℕ → Step X) where
+  pub items_begin : (s : Segment) (bytes : List ℕ) → HasItems item_at s bytes [] s bytes
+  unfolding items_at
+  items_begin s bytes = record {
+    room = omega arith;
+    left = λ most e. (let same : length bytes ≡ most = omega arith in ap (λ n. items_up_to item_at n s bytes) same ∙ sym (behind_none (items_up_to item_at most s bytes)));
+  }
+
+  pub items_end : (start : Segment) (bytes : List ℕ) (done : List X) (s : Segment) (rest : List ℕ) →
+      HasItems item_at start bytes done s rest → rest ≡ [] → items_at item_at start bytes ≡ Ok (done, s)
+  unfolding items_up_to
+  items_end start bytes done s [] h e =
+      h.left (length bytes - length done) (omega (arith, h.room)) ∙ ap (λ xs. Ok (xs, s)) (append-nil done)
+  items_end start bytes done s (b ∷ rest) h e = cc
+
+  pub items_more : (start : Segment) (bytes : List ℕ) (done : List X) (s : Segment) (rest : List ℕ) (x : X) (next : Segment) (after : List ℕ) →
+      HasItems item_at start bytes done s rest → item_at s rest ≡ Ok (x, next, after) → length after < length rest →
+      HasItems item_at start bytes (done ++ x ∷ []) next after
+  unfolding items_up_to
+  items_more start bytes done s [] x next after h is short = absurd (omega arith)
+  items_more start bytes done s (b ∷ rest) x next after h is short = record {
+    room = omega (arith, h.room, length-append done (x ∷ []));
+    left = λ most e. (let lengths : length (done ++ x ∷ []) ≡ length done + 1 = length-append done (x ∷ []) in
+        h.left (suc most) (omega arith)
+        ∙ ap (λ r. behind done (and_then r (λ y. and_then (items_up_to item_at most y.1 y.2) (λ more. Ok (y.0 ∷ more.0, more.1))))) is
+        ∙ behind_one done x (items_up_to item_at most next after));
+  }
+
+  items_refused : (start : Segment) (bytes : List ℕ) (done : List X) (s : Segment) (rest : List ℕ) (reason : O5Reason) →
+      HasItems item_at start bytes done s rest → (rest ≡ [] → ⊥) → item_at s rest ≡ Err reason → items_at item_at start bytes ≡ Err reason
+  unfolding items_up_to
+  items_refused start bytes done s [] reason h some is = absurd (some refl)
+  items_refused start bytes done s (b ∷ rest) reason h some is =
+      let most : ℕ = length bytes - length done - 1 in
+      h.left (suc most) (omega (arith, h.room))
+      ∙ ap (λ r. behind done (and_then r (λ y. and_then (items_up_to item_at most y.1 y.2) (λ more. Ok (y.0 ∷ more.0, more.1))))) is
+
+  pub items_wanting : (start : Segment) (bytes : List ℕ) (done : List X) (s : Segment) (rest : List ℕ) (reason : O5Reason) →
+      HasItems item_at start bytes done s rest → (rest ≡ [] → ⊥) → (reason ≡ Memory) ⊎ (item_at s rest ≡ Err reason) →
+      (reason ≡ Memory) ⊎ (items_at item_at start bytes ≡ Err reason)
+  items_wanting start bytes done s rest reason h some (inl memory) = inl memory
+  items_wanting start bytes done s rest reason h some (inr is) = inr (items_refused start bytes done s rest reason h some is)
+
+-- what the test of the loop says
+pub filled_by_test : {X : Type 0} (xs : List X) → false ≡ eqb (length xs) 0 → xs ≡ [] → ⊥
+filled_by_test [] test e = cc
+filled_by_test (x ∷ xs) test e = cc
+
+pub empty_by_test : {X : Type 0} (xs : List X) → true ≡ eqb (length xs) 0 → xs ≡ []
+empty_by_test [] test = refl
+empty_by_test (x ∷ xs) test = grind (arith, nat_tests)

@@ -1,0 +1,193 @@
+-- What is written for a version is read back as this version.
+use Rattle.std.proofs.Common.{◌≡◌, ℕ, ◌<◌, ◌^◌, true, false, eqb, ◌&&◌, List, [], ◌∷◌, ◌++◌, length, refl, ap, sym, ◌∙◌, arith, Option, Some, None, inl, inr, subst, length-append, unwrap_or}
+use Rattle.std.specs.Option.{ForSome}
+use Rattle.std.specs.List.{list_all}
+use Rattle.std.specs.List.Sorted.{IsStrictlySortedBy}
+use Rattle.std.proofs.lemmas.Bool.{cond-false}
+use Rattle.std.proofs.lemmas.Bool.Decides.{nat_tests}
+use Rattle.std.proofs.lemmas.List.{append-nil}
+use Rattle.std.proofs.lemmas.List.Folds.{list_all-append}
+use Rattle.osm_model.specs.declared.tags.Tag.{Tag}
+use Rattle.osm_model.specs.declared.members.Member.{Member}
+use Rattle.osm_model.specs.declared.body.Body.{Body}
+use Rattle.osm_model.specs.declared.body.Body.TheVariants.{Deleted, Node, Way, Relation}
+use Rattle.osm_model.specs.Data.{VersionData, kind_of, ids_of, tags_of, texts_of, normal_body, version_of}
+use Rattle.osm_model.specs.Id.{is_id}
+use Rattle.osm_model.specs.Text.{is_text}
+use Rattle.osm_model.specs.Tags.{tag_cmp, normal, texts_of_tags}
+use Rattle.osm_model.specs.Members.{ids_of_members, roles_of}
+use Rattle.osm_model.specs.Valid.{IsInRange, IsVersion}
+use Rattle.osm_model.proofs.SetLaws.{listed-from_list}
+use Rattle.osm_model.proofs.TagLaws.{tag_cmp-IsAntisymmetric, list_all-texts_of_tags}
+use Rattle.osm_model.specs.Tags.{tag_cmp_total}
+use Rattle.o5_codec.specs.declared.segment.Segment.{Segment}
+use Rattle.o5_codec.specs.declared.segment.Author.{Author}
+use Rattle.o5_codec.specs.declared.segment.ListsSeen.{ListsSeen}
+use Rattle.o5_codec.specs.declared.strings.Form.TheVariants.{Pair}
+use Rattle.o5_codec.specs.Segment.{author, time_of, meta_of}
+use Rattle.o5_codec.specs.Spelling.{UserStands, AuthorBehind, AuthorStands, BodyStands, SpellsSet}
+use Rattle.o5_codec.specs.Shortest.{shortest_number}
+use Rattle.o5_codec.specs.Writing.{Context, Step, in_turn, plain, id_written, time_written, changeset_written, strings_written, user_entry, author_steps, author_written, body_written, content_written}
+use Rattle.o5_codec.specs.Agreement.{segment_behind, IsContext, MayHaveSeen}
+use Rattle.o5_codec.proofs.SoundStrings.{both_true}
+use Rattle.o5_codec.proofs.StringLaws.{strings_shorter}
+use Rattle.o5_codec.proofs.WrittenSteps.{id_back, id_keeps, time_back, time_keeps, changeset_back, changeset_keeps, version_back, strings_keep, user_stands, are_texts}
+use Rattle.o5_codec.proofs.WrittenBodies.{IsWritable, body_back, is_member, two_bytes}
+
+-- ---- the author
+user_behind : (changeset : ℕ) (s : Segment) (bytes : List ℕ) (user : ℕ × List ℕ) (end : Segment) (rest : List ℕ) → UserStands s bytes (user, end, rest) →
+    AuthorBehind changeset s bytes (author changeset user.0 user.1, end, rest)
+user_behind changeset s [] user end rest stands = absurd (let short = strings_shorter Pair s.table [] (stands.0, stands.1, rest) stands.2 in omega arith)
+user_behind changeset s (b ∷ bytes) user end rest stands = (user, stands, refl)
+
+-- who made a version
+abbrev author_of : VersionData → Author
+author_of v = author v.changeset v.uid v.user
+
+-- the author is read back
+abbrev AuthorBack : Context → ListsSeen → VersionData → Step → List ℕ → Type 0
+AuthorBack c seen v step rest = AuthorStands (unwrap_or v.time 0) (segment_behind c seen) ((step c).0 ++ rest) (author_of v, segment_behind (step c).1 seen, rest)
+
+no_author : (c : Context) (seen : ListsSeen) (v : VersionData) (rest : List ℕ) → v.time ≡ None → (v.changeset ≡ 0) × (v.uid ≡ 0) × (v.user ≡ []) →
+    AuthorStands (unwrap_or v.time 0) (segment_behind c seen) rest (author_of v, segment_behind c seen, rest)
+no_author c seen v rest none nobody = inl (
+  ap (λ t. eqb (unwrap_or t 0) 0) none,
+  λ i. (author (nobody.0 i) (nobody.1 i) (nobody.2 i), segment_behind c seen, rest),
+)
+
+some_author : (c : Context) (seen : ListsSeen) (v : VersionData) (t : ℕ) (rest : List ℕ) → IsContext c → v.time ≡ Some t → 0 < t → v.changeset < 2 ^ 32 → v.uid < 2 ^ 32 → is_text v.user ≡ true →
+    AuthorBack c seen v (in_turn (changeset_written v.changeset ∷ strings_written (user_entry v.uid v.user) ∷ [])) rest
+unfolding in_turn
+some_author c seen v t rest ok is some changeset uid user =
+    let c1 : Context = (changeset_written v.changeset c).1 in
+    let user_bytes : List ℕ = (strings_written (user_entry v.uid v.user) c1).0 in
+    let c2 : Context = (strings_written (user_entry v.uid v.user) c1).1 in
+    let ok1 : IsContext c1 = changeset_keeps c v.changeset ok changeset in
+    subst (λ bytes. AuthorStands (unwrap_or v.time 0) (segment_behind c seen) bytes (author_of v, segment_behind c2 seen, rest))
+    (sym (two_bytes (changeset_written v.changeset c).0 user_bytes rest)) (inr (
+      (let not_none : eqb t 0 ≡ false = grind (arith, nat_tests) in ap (λ o. eqb (unwrap_or o 0) 0) is ∙ not_none),
+      (
+        (v.changeset, segment_behind c1 seen, user_bytes ++ rest),
+        changeset_back c seen v.changeset (user_bytes ++ rest) ok changeset,
+        user_behind v.changeset (segment_behind c1 seen) (user_bytes ++ rest) (v.uid, v.user) (segment_behind c2 seen) rest (user_stands c1 seen v.uid v.user rest ok1 uid user),
+      ),
+    ))
+
+author_by : (o : Option ℕ) (c : Context) (seen : ListsSeen) (v : VersionData) (rest : List ℕ) → v.time ≡ o → IsContext c → IsVersion v → ForSome o (λ t. (0 < t) × (t < 2 ^ 32)) →
+    AuthorBack c seen v (in_turn (author_steps o v)) rest × IsContext (in_turn (author_steps o v) c).1
+unfolding in_turn
+author_by None c seen v rest is ok valid dated = (no_author c seen v rest is (valid.author is), ok)
+author_by (Some t) c seen v rest is ok valid dated = (
+  some_author c seen v t rest ok is (dated t refl).0 valid.changeset valid.uid (both_true _ _ valid.texts).0,
+  strings_keep (user_entry v.uid v.user) (changeset_written v.changeset c).1 (changeset_keeps c v.changeset ok valid.changeset),
+)
+
+pub author_back : (c : Context) (seen : ListsSeen) (v : VersionData) (rest : List ℕ) → IsContext c → IsVersion v → AuthorBack c seen v (author_written v) rest × IsContext (author_written v c).1
+unfolding author_written
+author_back c seen v rest ok valid = author_by v.time c seen v rest refl ok valid valid.time
+
+-- ---- the version that is read
+times_are_small : (o : Option ℕ) → ForSome o (λ t. (0 < t) × (t < 2 ^ 32)) → unwrap_or o 0 < 2 ^ 32
+times_are_small None h = omega arith
+times_are_small (Some t) h = (h t refl).1
+
+time_again : (o : Option ℕ) → ForSome o (λ t. (0 < t) × (t < 2 ^ 32)) → time_of (unwrap_or o 0) ≡ o
+time_again None h = refl
+time_again (Some t) h = cond-false (eqb t 0) None (Some t) (let some : 0 < t = (h t refl).0 in grind (arith, nat_tests))
+
+tags_again : (tags : List Tag) → IsStrictlySortedBy tag_cmp tags → normal tags ≡ tags
+tags_again tags sorted = listed-from_list tag_cmp_total tag_cmp-IsAntisymmetric tags sorted
+
+body_again : (body : Body) → IsStrictlySortedBy tag_cmp (tags_of body) → normal_body body ≡ body
+body_again (Deleted k) sorted = refl
+body_again (Node lon lat tags) sorted = ap (Node lon lat) (tags_again tags sorted)
+body_again (Way refs tags) sorted = ap (Way refs) (tags_again tags sorted)
+body_again (Relation members tags) sorted = ap (Relation members) (tags_again tags sorted)
+
+version_again : (v : VersionData) → IsVersion v → v ≡ version_of v.id (meta_of v.number (unwrap_or v.time 0) (author_of v)) v.body
+version_again v valid = λ i. record {
+  id = v.id;
+  number = v.number;
+  time = sym (time_again v.time valid.time) i;
+  changeset = v.changeset;
+  uid = v.uid;
+  user = v.user;
+  body = sym (body_again v.body valid.tags) i;
+}
+
+-- ---- what a version's body needs
+texts_there : (tags : List Tag) → list_all is_text (texts_of_tags tags) ≡ true → list_all are_texts tags ≡ true
+texts_there tags h = sym (list_all-texts_of_tags is_text tags) ∙ h
+
+members_there : (members : List Member) → list_all is_id (ids_of_members members) ≡ true → list_all is_text (roles_of members) ≡ true → list_all is_member members ≡ true
+members_there [] ids roles = refl
+members_there (m ∷ members) ids roles =
+    let id = both_true (is_id m.id) (list_all is_id (ids_of_members members)) ids in
+    let role = both_true (is_text m.role) (list_all is_text (roles_of members)) roles in
+    λ i. (id.0 i && role.0 i) && members_there members id.1 role.1 i
+
+writable : (body : Body) → list_all is_id (ids_of body) ≡ true → list_all is_text (texts_of body) ≡ true → IsInRange body → IsWritable body
+writable (Deleted k) ids texts location = record { ids = refl; texts = refl; location = location; roles = refl }
+writable (Node lon lat tags) ids texts location = record { ids = refl; texts = texts_there tags texts; location = location; roles = refl }
+writable (Way refs tags) ids texts location = record { ids = ids; texts = texts_there tags texts; location = location; roles = refl }
+writable (Relation members tags) ids texts location =
+    let both = both_true (list_all is_text (roles_of members)) (list_all is_text (texts_of_tags tags)) (sym (list_all-append is_text (roles_of members) (texts_of_tags tags)) ∙ texts) in
+    record { ids = ids; texts = texts_there tags both.1; location = location; roles = members_there members ids both.0 }
+
+-- ---- a whole content
+-- the content spells the version for a reader who has the same in mind, and both go on alike
+pub record IsReadBack (v : VersionData) (c : Context) (seen : ListsSeen) : Type 0 where
+  pub after : ListsSeen
+  pub may : MayHaveSeen (kind_of v.body) after
+  pub spells : SpellsSet (kind_of v.body) (segment_behind c seen) (content_written v c).0 (v, segment_behind (content_written v c).1 after)
+  pub context : IsContext (content_written v c).1
+
+pub set_back : (v : VersionData) (c : Context) (seen : ListsSeen) → IsVersion v → IsContext c → MayHaveSeen (kind_of v.body) seen → length (content_written v c).0 < 2 ^ 64 → IsReadBack v c seen
+unfolding content_written in_turn plain
+set_back v c seen valid ok may small =
+    let ids = both_true (is_id v.id) (list_all is_id (ids_of v.body)) valid.ids in
+    let texts = both_true (is_text v.user) (list_all is_text (texts_of v.body)) valid.texts in
+    let time : ℕ = unwrap_or v.time 0 in
+    let time_small : time < 2 ^ 32 = times_are_small v.time valid.time in
+    let c1 : Context = (id_written v.id c).1 in
+    let c2 : Context = (time_written time c1).1 in
+    let c3 : Context = (author_written v c2).1 in
+    let c4 : Context = (body_written v.body c3).1 in
+    let ok1 : IsContext c1 = id_keeps c v.id ok ids.0 in
+    let ok2 : IsContext c2 = time_keeps c1 time ok1 time_small in
+    let bytes : List ℕ = (body_written v.body c3).0 in
+    let author_bytes : List ℕ = (author_written v c2).0 ++ (bytes ++ []) in
+    let time_bytes : List ℕ = (time_written time c1).0 ++ author_bytes in
+    let meta_bytes : List ℕ = shortest_number v.number ++ time_bytes in
+    let made = author_back c2 seen v (bytes ++ []) ok2 valid in
+    let room : length bytes < 2 ^ 64 = omega (
+      arith,
+      length-append (id_written v.id c).0 meta_bytes,
+      length-append (shortest_number v.number) time_bytes,
+      length-append (time_written time c1).0 author_bytes,
+      length-append (author_written v c2).0 (bytes ++ []),
+      length-append bytes [],
+    ) in
+    let body = body_back v.body c3 seen made.1 may (writable v.body ids.1 texts.1 valid.location) room in
+    record {
+      after = body.0;
+      may = body.1;
+      spells = record {
+        id = (v.id, segment_behind c1 seen, meta_bytes);
+        meta = (meta_of v.number time (author_of v), segment_behind c3 seen, bytes ++ []);
+        body = (v.body, segment_behind c4 body.0);
+        id_stands = id_back c seen v.id meta_bytes ok ids.0;
+        meta_stands = (
+          (v.number, time_bytes),
+          (time, segment_behind c2 seen, author_bytes),
+          (author_of v, segment_behind c3 seen, bytes ++ []),
+          version_back v.number time_bytes valid.number_above valid.number_below,
+          time_back c1 seen time author_bytes ok1 time_small,
+          made.0,
+          refl,
+        );
+        body_stands = subst (λ b. BodyStands (kind_of v.body) (segment_behind c3 seen) b (v.body, segment_behind c4 body.0)) (sym (append-nil bytes)) body.2;
+        made = ap (λ x. (x, segment_behind c4 body.0)) (version_again v valid);
+      };
+      context = body.3;
+    }

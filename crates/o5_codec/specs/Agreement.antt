@@ -1,0 +1,36 @@
+-- What a reader knows of a segment behind what was written in it.
+use Rattle.std.specs.Prelude.{◌≡◌, ◌⊎◌, ◌<◌, ◌≤◌, ◌^◌, List, map, length, FitsSigned}
+use Rattle.std.specs.Int.{w32}
+use Rattle.osm_model.specs.declared.kind.Kind.{Kind}
+use Rattle.osm_model.specs.declared.kind.Kind.TheVariants as kind
+use Rattle.o5_codec.specs.declared.segment.Segment.{Segment}
+use Rattle.o5_codec.specs.declared.segment.ListsSeen.{ListsSeen}
+use Rattle.o5_codec.specs.declared.segment.ListsSeen.TheVariants.{Neither, References, NodeMembers}
+use Rattle.o5_codec.specs.Entry.{Entry}
+use Rattle.o5_codec.specs.Table.{limit}
+use Rattle.o5_codec.specs.Formed.{FormedEntry}
+use Rattle.o5_codec.specs.IdBases.{AreIds}
+use Rattle.o5_codec.specs.Writing.{Context}
+
+-- the strings of a table, without their forms
+abbrev pub strings_in : List FormedEntry → List Entry
+strings_in table = map (λ e. e.strings) table
+
+-- the segment of a reader: the same bases, the strings of the table, and which lists the segment had
+abbrev pub segment_behind : Context → ListsSeen → Segment
+segment_behind c seen = record { bases = c.bases; table = strings_in c.table; seen = seen }
+
+-- the lists that a segment of objects of this kind may have had
+abbrev pub MayHaveSeen : Kind → ListsSeen → Type 0
+MayHaveSeen kind.Node seen = seen ≡ Neither
+MayHaveSeen kind.Way seen = (seen ≡ Neither) ⊎ (seen ≡ References)
+MayHaveSeen kind.Relation seen = (seen ≡ Neither) ⊎ (seen ≡ NodeMembers)
+
+-- the bases are within the ranges of their fields, and the table isn't too long
+pub record IsContext (c : Context) : Type 0 where
+  pub few : length c.table ≤ limit
+  pub ids : AreIds c.bases
+  pub time : c.bases.time < 2 ^ 32
+  pub changeset : c.bases.changeset < 2 ^ 32
+  pub lon : FitsSigned w32 c.bases.lon
+  pub lat : FitsSigned w32 c.bases.lat

@@ -1,0 +1,201 @@
+-- What a segment had, told by the list of its objects and the list of the entries that stood inline (delta coding and the string table of the OSM wiki's page on o5m).
+use Rattle.std.specs.Prelude.{◌≡◌, ℕ, ℤ, pos, Bool, true, false, List, [], ◌∷◌, ◌++◌, is_some, unwrap_or, Result, Ok, if◌then◌else◌}
+use Rattle.std.specs.List.{flat_map, list_any}
+use Rattle.std.proofs.Common.{inl, inr}
+use Rattle.osm_model.specs.declared.kind.Kind.{Kind}
+use Rattle.osm_model.specs.declared.kind.Kind.TheVariants as kind
+use Rattle.osm_model.specs.declared.tags.Tag.{Tag}
+use Rattle.osm_model.specs.declared.members.Member.{Member}
+use Rattle.osm_model.specs.declared.body.Body.{Body}
+use Rattle.osm_model.specs.declared.body.Body.TheVariants.{Deleted, Node, Way, Relation}
+use Rattle.osm_model.specs.Data.{VersionData}
+use Rattle.o5_codec.specs.declared.reason.O5Reason.{O5Reason}
+use Rattle.o5_codec.specs.declared.base.Bases.{Bases}
+use Rattle.o5_codec.specs.declared.segment.Segment.{Segment}
+use Rattle.o5_codec.specs.declared.segment.Author.{Author}
+use Rattle.o5_codec.specs.declared.segment.ListsSeen.{ListsSeen}
+use Rattle.o5_codec.specs.declared.segment.ListsSeen.TheVariants.{Neither, References, NodeMembers}
+use Rattle.o5_codec.specs.declared.strings.Form.{Form}
+use Rattle.o5_codec.specs.declared.strings.Form.TheVariants.{Pair, Single}
+use Rattle.o5_codec.specs.Entry.{Entry}
+use Rattle.o5_codec.specs.Table.{table_of}
+use Rattle.o5_codec.specs.Answer.{and_then}
+use Rattle.o5_codec.specs.Body.{set_at}
+use Rattle.o5_codec.specs.Spelling.{StringsStand, AuthorBehind, AuthorStands, TagStands, MemberStands, ItemsStand, NodeStands, WayStands, RelationStands, BodyStands, SpellsSet}
+
+-- ---- the values that a version spells for a field, in their order
+
+-- no time spells 0
+abbrev pub times : VersionData → List ℕ
+times v = unwrap_or v.time 0 ∷ []
+
+-- without a time there is no changeset
+abbrev pub changesets : VersionData → List ℕ
+changesets v = if is_some v.time then v.changeset ∷ [] else []
+
+-- a deleted node has no location
+abbrev pub longitudes : Body → List ℤ
+longitudes (Deleted k) = []
+longitudes (Node lon lat tags) = lon ∷ []
+longitudes (Way refs tags) = []
+longitudes (Relation members tags) = []
+
+abbrev pub latitudes : Body → List ℤ
+latitudes (Deleted k) = []
+latitudes (Node lon lat tags) = lat ∷ []
+latitudes (Way refs tags) = []
+latitudes (Relation members tags) = []
+
+abbrev pub references : Body → List ℤ
+references (Deleted k) = []
+references (Node lon lat tags) = []
+references (Way refs tags) = refs
+references (Relation members tags) = []
+
+abbrev pub members_of : Body → List Member
+members_of (Deleted k) = []
+members_of (Node lon lat tags) = []
+members_of (Way refs tags) = []
+members_of (Relation members tags) = members
+
+-- ids of members; each kind is a field of its own
+abbrev pub node_id : Kind → ℤ → List ℤ
+node_id kind.Node id = id ∷ []
+node_id kind.Way id = []
+node_id kind.Relation id = []
+
+abbrev pub way_id : Kind → ℤ → List ℤ
+way_id kind.Node id = []
+way_id kind.Way id = id ∷ []
+way_id kind.Relation id = []
+
+abbrev pub relation_id : Kind → ℤ → List ℤ
+relation_id kind.Node id = []
+relation_id kind.Way id = []
+relation_id kind.Relation id = id ∷ []
+
+abbrev pub node_ids : List Member → List ℤ
+node_ids members = flat_map (λ m. node_id m.kind m.id) members
+
+abbrev pub way_ids : List Member → List ℤ
+way_ids members = flat_map (λ m. way_id m.kind m.id) members
+
+abbrev pub relation_ids : List Member → List ℤ
+relation_ids members = flat_map (λ m. relation_id m.kind m.id) members
+
+-- ---- the segment after these objects and entries
+
+-- the last value of a list, or this one where there is none
+abbrev pub last_from : {X : Type 0} → X → List X → X
+last_from x [] = x
+last_from x (y ∷ ys) = last_from y ys
+
+-- the value last spelled for a field, or this one where none was
+abbrev pub last_spelled : {X : Type 0} → X → (VersionData → List X) → List VersionData → X
+last_spelled x spelled objects = last_from x (flat_map spelled objects)
+
+-- the base of each field: the value last spelled for it, else 0
+abbrev pub bases_of : List VersionData → Bases
+bases_of objects = record {
+  id = last_spelled (pos 0) (λ v. v.id ∷ []) objects;
+  time = last_spelled 0 times objects;
+  changeset = last_spelled 0 changesets objects;
+  lon = last_spelled (pos 0) (λ v. longitudes v.body) objects;
+  lat = last_spelled (pos 0) (λ v. latitudes v.body) objects;
+  reference = last_spelled (pos 0) (λ v. references v.body) objects;
+  node_member = last_spelled (pos 0) (λ v. node_ids (members_of v.body)) objects;
+  way_member = last_spelled (pos 0) (λ v. way_ids (members_of v.body)) objects;
+  relation_member = last_spelled (pos 0) (λ v. relation_ids (members_of v.body)) objects;
+}
+
+abbrev pub is_some_of : {X : Type 0} → List X → Bool
+is_some_of [] = false
+is_some_of (x ∷ xs) = true
+
+-- a way with references
+abbrev pub has_references : VersionData → Bool
+has_references v = is_some_of (references v.body)
+
+-- a relation with a node member
+abbrev pub has_node_members : VersionData → Bool
+has_node_members v = is_some_of (node_ids (members_of v.body))
+
+-- which of the two was among these objects; no segment has both
+abbrev pub lists_of : List VersionData → ListsSeen
+lists_of objects = if list_any has_references objects then References else (if list_any has_node_members objects then NodeMembers else Neither)
+
+-- the segment that had these objects, and these entries inline
+abbrev pub segment_of : List VersionData → List Entry → Segment
+segment_of objects entries = record { bases = bases_of objects; table = table_of entries; seen = lists_of objects }
+
+-- ---- the entries that stand inline in what spells a version, in their order
+
+abbrev pub inline_strings : (form : Form) (table : List Entry) (bytes : List ℕ) (x : Entry × List Entry × List ℕ) → StringsStand form table bytes x → List Entry
+inline_strings form table bytes x (inl inline) = x.0 ∷ []
+inline_strings form table bytes x (inr reference) = []
+
+abbrev pub inline_user : (changeset : ℕ) (s : Segment) (bytes : List ℕ) (x : Author × Segment × List ℕ) → AuthorBehind changeset s bytes x → List Entry
+inline_user changeset s [] x stands = []
+inline_user changeset s (b ∷ bytes) x stands = let user = stands.1 in inline_strings Pair s.table (b ∷ bytes) (user.0, user.1, x.2) user.2
+
+abbrev pub inline_author : (time : ℕ) (s : Segment) (bytes : List ℕ) (x : Author × Segment × List ℕ) → AuthorStands time s bytes x → List Entry
+inline_author time s bytes x (inl none) = []
+inline_author time s bytes x (inr author) = inline_user author.1.0.0 author.1.0.1 author.1.0.2 x author.1.2
+
+-- of a list, by those of its items
+abbrev pub inline_items : {X : Type 0} (Stands : Segment → List ℕ → X × Segment × List ℕ → Type 0) →
+    ((s : Segment) (bytes : List ℕ) (x : X × Segment × List ℕ) → Stands s bytes x → List Entry) →
+    (s : Segment) (bytes : List ℕ) (xs : List X) (end : Segment) → ItemsStand Stands s bytes xs end → List Entry
+inline_items Stands of_item s bytes [] end stands = []
+inline_items Stands of_item s bytes (x ∷ xs) end stands =
+    of_item s bytes (x, stands.0, stands.1) stands.2 ++ inline_items Stands of_item stands.0 stands.1 xs end stands.3
+
+abbrev pub inline_tag : (s : Segment) (bytes : List ℕ) (x : Tag × Segment × List ℕ) → TagStands s bytes x → List Entry
+inline_tag s bytes x stands = inline_strings Pair s.table bytes (stands.0, stands.1, x.2) stands.2
+
+abbrev pub inline_tags : (s : Segment) (bytes : List ℕ) (tags : List Tag) (end : Segment) → ItemsStand TagStands s bytes tags end → List Entry
+inline_tags = inline_items TagStands inline_tag
+
+abbrev pub inline_member : (s : Segment) (bytes : List ℕ) (x : Member × Segment × List ℕ) → MemberStands s bytes x → List Entry
+inline_member s bytes x stands = inline_strings Single s.table stands.0.1 (stands.1.0, stands.1.1, x.2) stands.6
+
+abbrev pub inline_members : (s : Segment) (bytes : List ℕ) (members : List Member) (end : Segment) → ItemsStand MemberStands s bytes members end → List Entry
+inline_members = inline_items MemberStands inline_member
+
+abbrev pub inline_node : (s : Segment) (bytes : List ℕ) (x : Body × Segment) → NodeStands s bytes x → List Entry
+inline_node s bytes x stands = inline_tags stands.1.1 stands.1.2 stands.2 x.1 stands.5
+
+abbrev pub inline_way : (s : Segment) (bytes : List ℕ) (x : Body × Segment) → WayStands s bytes x → List Entry
+inline_way s bytes x stands = inline_tags stands.2.1 stands.0.1 stands.3 x.1 stands.7
+
+abbrev pub inline_relation : (s : Segment) (bytes : List ℕ) (x : Body × Segment) → RelationStands s bytes x → List Entry
+inline_relation s bytes x stands =
+    inline_members s stands.0.0 stands.1.0 stands.1.1 stands.4 ++ inline_tags stands.1.1 stands.0.1 stands.2 x.1 stands.5
+
+abbrev pub inline_body : (k : Kind) (s : Segment) (bytes : List ℕ) (x : Body × Segment) → BodyStands k s bytes x → List Entry
+inline_body k s [] x stands = []
+inline_body kind.Node s (b ∷ bytes) x stands = inline_node s (b ∷ bytes) x stands
+inline_body kind.Way s (b ∷ bytes) x stands = inline_way s (b ∷ bytes) x stands
+inline_body kind.Relation s (b ∷ bytes) x stands = inline_relation s (b ∷ bytes) x stands
+
+-- of a data set: the user, the members, the tags
+abbrev pub inline_entries : (k : Kind) (s : Segment) (content : List ℕ) (x : VersionData × Segment) → SpellsSet k s content x → List Entry
+inline_entries k s content x spells =
+    let meta = spells.meta_stands in
+    inline_author meta.1.0 meta.1.1 meta.1.2 meta.2 meta.5 ++ inline_body k spells.meta.1 spells.meta.2 spells.body spells.body_stands
+
+-- ---- data sets one after the other
+
+-- contents, each with its kind, spell these versions one after the other, with these entries inline, from a segment to the segment behind them
+abbrev pub SpellSets : Segment → List (Kind × List ℕ) → List VersionData → List Entry → Segment → Type 0
+SpellSets s [] [] inline end = (inline ≡ []) × (s ≡ end)
+SpellSets s [] (v ∷ versions) inline end = ⊥
+SpellSets s (set ∷ sets) [] inline end = ⊥
+SpellSets s (set ∷ sets) (v ∷ versions) inline end =
+    (middle : Segment) × (later : List Entry) × (spells : SpellsSet set.0 s set.1 (v, middle)) ×
+    (inline ≡ inline_entries set.0 s set.1 (v, middle) spells ++ later) × SpellSets middle sets versions later end
+
+-- the versions of data sets that are read one after the other, and the segment behind them
+abbrev pub sets_at : Segment → List (Kind × List ℕ) → Result (List VersionData × Segment) O5Reason
+sets_at s [] = Ok ([], s)
+sets_at s (set ∷ sets) = and_then (set_at set.0 s set.1) (λ x. and_then (sets_at x.1 sets) (λ more. Ok (x.0 ∷ more.0, more.1)))

@@ -1,0 +1,52 @@
+-- The string table of a segment that is written (the OSM wiki's page on o5m). That each entry keeps its form, and that a reference names an entry of the same form alone, are own rules of this project.
+use Rattle.std.specs.Prelude.{ℕ, ◌+◌, Bool, true, false, ◌&&◌, List, [], ◌∷◌, ◌++◌, take, Option, Some, None, if◌then◌else◌}
+use Rattle.std.specs.Option.{option_map}
+use Rattle.std.specs.Str.{bytes_eq}
+use Rattle.o5_codec.specs.declared.strings.Form.{Form}
+use Rattle.o5_codec.specs.declared.strings.Form.TheVariants.{Pair, Single}
+use Rattle.o5_codec.specs.Entry.{Entry}
+use Rattle.o5_codec.specs.Strings.{entry_of}
+use Rattle.o5_codec.specs.Table.{limit, is_short}
+use Rattle.o5_codec.specs.Shortest.{shortest_number}
+
+-- a pair, or a single string, whose second string is empty
+pub record FormedEntry : Type 0 where
+  pub form : Form
+  pub strings : Entry
+
+abbrev pub formed : Form → List ℕ → List ℕ → FormedEntry
+formed form first second = record { form = form; strings = entry_of first second }
+
+abbrev pub same_form : Form → Form → Bool
+same_form Pair Pair = true
+same_form Pair Single = false
+same_form Single Pair = false
+same_form Single Single = true
+
+-- the form and both strings are equal
+abbrev pub same_entry : FormedEntry → FormedEntry → Bool
+same_entry x y = same_form x.form y.form && (bytes_eq x.strings.first y.strings.first && bytes_eq x.strings.second y.strings.second)
+
+-- how strings stand inline
+abbrev pub inline_bytes : Form → Entry → List ℕ
+inline_bytes Pair e = 0 ∷ e.first ++ 0 ∷ e.second ++ 0 ∷ []
+inline_bytes Single e = 0 ∷ e.first ++ 0 ∷ []
+
+-- the reference that names the entry, where it stands in the table; 1 is the one stored last
+abbrev pub reference_to : FormedEntry → List FormedEntry → Option ℕ
+reference_to e [] = None
+reference_to e (x ∷ table) = if same_entry e x then Some 1 else option_map (λ n. n + 1) (reference_to e table)
+
+-- the table after an inline entry
+abbrev pub kept : FormedEntry → List FormedEntry → List FormedEntry
+kept e table = if is_short e.strings then take limit (e ∷ table) else table
+
+-- an entry with this reference, and without one
+abbrev pub spelled_by : FormedEntry → Option ℕ → List ℕ
+spelled_by e None = inline_bytes e.form e.strings
+spelled_by e (Some n) = shortest_number n
+
+-- a reference stores nothing
+abbrev pub kept_by : FormedEntry → Option ℕ → List FormedEntry → List FormedEntry
+kept_by e None table = kept e table
+kept_by e (Some n) table = table

@@ -1,0 +1,237 @@
+//! The bodies of data sets.
+ghost use Rattle.std.specs.Prelude.{◌≡◌, ◌<◌, length, IfOk};
+ghost use Rattle.o5_codec.specs.Answer.{Gives, Answers};
+ghost use Rattle.o5_codec.specs.Items.{items_at};
+ghost use Rattle.o5_codec.specs.Body as spec;
+
+use crate::O5Reason;
+use crate::base::{Bases, moved_coordinate, moved_id};
+use crate::number::{read_number, read_signed};
+use crate::segment::{ListsSeen, Segment};
+use crate::strings::{Form, read_spelled};
+use crate::text::{to_tag, to_text};
+use osm_model::{Body, Kind, Member, Members, References, Tag, Tags};
+
+impl ListsSeen {
+    /// What the segment had behind a way with this section of references.
+    fn with_section(self, section: &[u8]) -> Result<ListsSeen, O5Reason>
+        ensures { result ≡ spec.with_section self section.now }
+    {
+        if section.is_empty() {
+            return Ok(self);
+        }
+        match self {
+            ListsSeen::Neither | ListsSeen::References => Ok(ListsSeen::References),
+            ListsSeen::NodeMembers => Err(O5Reason::MixedSegment),
+        }
+    }
+
+    /// What the segment had behind a member of this kind.
+    fn with_member(self, kind: Kind) -> Result<ListsSeen, O5Reason>
+        ensures { result ≡ spec.with_member self kind }
+    {
+        match (kind, self) {
+            (Kind::Node, ListsSeen::References) => Err(O5Reason::MixedSegment),
+            (Kind::Node, _) => Ok(ListsSeen::NodeMembers),
+            (Kind::Way | Kind::Relation, _) => Ok(self),
+        }
+    }
+}
+
+impl Bases {
+    /// The id of a member of this kind, by its difference.
+    fn move_member(&mut self, kind: Kind, difference: i64) -> Result<i64, O5Reason>
+        ensures { Gives (λ id. (id, self.new)) (spec.moved_member self.old kind difference) result }
+    {
+        match kind {
+            Kind::Node => {
+                let id = moved_id(self.node_member, difference)?;
+                self.node_member = id;
+                Ok(id)
+            }
+            Kind::Way => {
+                let id = moved_id(self.way_member, difference)?;
+                self.way_member = id;
+                Ok(id)
+            }
+            Kind::Relation => {
+                let id = moved_id(self.relation_member, difference)?;
+                self.relation_member = id;
+                Ok(id)
+            }
+        }
+    }
+}
+
+impl Segment {
+    /// The body of an object of this kind, to the end of the bytes. Where none is left, the object was deleted.
+    #[tactic(auto, unfolding(crate::specs::Body::body_at))]
+    pub(crate) fn read_body(&mut self, kind: Kind, bytes: &[u8]) -> Result<Body, O5Reason>
+        ensures { Answers (λ body. (body, self.new)) (spec.body_at kind self.old bytes.now) result }
+    {
+        if bytes.is_empty() {
+            return Ok(Body::Deleted(kind));
+        }
+        match kind {
+            Kind::Node => self.read_node(bytes),
+            Kind::Way => self.read_way(bytes),
+            Kind::Relation => self.read_relation(bytes),
+        }
+    }
+
+    #[tactic(auto, unfolding(crate::specs::Body::node_at))]
+    fn read_node(&mut self, bytes: &[u8]) -> Result<Body, O5Reason>
+        ensures { Answers (λ body. (body, self.new)) (spec.node_at self.old bytes.now) result }
+    {
+        let (lon, rest) = self.read_longitude(bytes)?;
+        let (lat, rest) = self.read_latitude(rest)?;
+        let tags = self.read_tags(rest)?;
+        Ok(Body::Node { lon, lat, tags })
+    }
+
+    #[tactic(auto, unfolding(crate::specs::Body::longitude_at))]
+    fn read_longitude<'a>(&mut self, bytes: &'a [u8]) -> Result<(i32, &'a [u8]), O5Reason>
+        ensures { Gives (λ x. (x.0, self.new, x.1.now)) (spec.longitude_at self.old bytes.now) result }
+    {
+        let (difference, rest) = read_signed(bytes)?;
+        let lon = moved_coordinate(self.bases.lon, difference)?;
+        self.bases.lon = lon;
+        Ok((lon, rest))
+    }
+
+    #[tactic(auto, unfolding(crate::specs::Body::latitude_at))]
+    fn read_latitude<'a>(&mut self, bytes: &'a [u8]) -> Result<(i32, &'a [u8]), O5Reason>
+        ensures { Gives (λ x. (x.0, self.new, x.1.now)) (spec.latitude_at self.old bytes.now) result }
+    {
+        let (difference, rest) = read_signed(bytes)?;
+        let lat = moved_coordinate(self.bases.lat, difference)?;
+        self.bases.lat = lat;
+        Ok((lat, rest))
+    }
+
+    #[tactic(auto, unfolding(crate::specs::Body::way_at))]
+    fn read_way(&mut self, bytes: &[u8]) -> Result<Body, O5Reason>
+        ensures { Answers (λ body. (body, self.new)) (spec.way_at self.old bytes.now) result }
+    {
+        let (section, rest) = read_section(bytes)?;
+        self.seen = self.seen.with_section(section)?;
+        let refs = self.read_references(section)?;
+        let tags = self.read_tags(rest)?;
+        Ok(Body::Way { refs, tags })
+    }
+
+    #[tactic(auto, unfolding(crate::specs::Body::relation_at))]
+    fn read_relation(&mut self, bytes: &[u8]) -> Result<Body, O5Reason>
+        ensures { Answers (λ body. (body, self.new)) (spec.relation_at self.old bytes.now) result }
+    {
+        let (section, rest) = read_section(bytes)?;
+        let members = self.read_members(section)?;
+        let tags = self.read_tags(rest)?;
+        Ok(Body::Relation { members, tags })
+    }
+
+    /// References to the end of the bytes.
+    fn read_references(&mut self, bytes: &[u8]) -> Result<References, O5Reason>
+        ensures { Answers (λ ids. (ids, self.new)) (items_at spec.reference_at self.old bytes.now) result }
+    {
+        let mut ids = Vec::new(self.table.allocator());
+        let mut rest = bytes;
+        while !rest.is_empty() {
+            let (id, behind) = self.read_reference(rest)?;
+            ids.push(id)?;
+            rest = behind;
+        }
+        Ok(References::from_vec(ids))
+    }
+
+    #[tactic(auto, unfolding(crate::specs::Body::reference_at))]
+    fn read_reference<'a>(&mut self, bytes: &'a [u8]) -> Result<(i64, &'a [u8]), O5Reason>
+        ensures value { Gives (λ x. (x.0, self.new, x.1.now)) (spec.reference_at self.old bytes.now) result }
+        ensures shorter { IfOk result (λ x. length x.1.now < length bytes.now) }
+    {
+        let (difference, rest) = read_signed(bytes)?;
+        let id = moved_id(self.bases.reference, difference)?;
+        self.bases.reference = id;
+        Ok((id, rest))
+    }
+
+    /// Members to the end of the bytes.
+    fn read_members(&mut self, bytes: &[u8]) -> Result<Members, O5Reason>
+        ensures { Answers (λ members. (members, self.new)) (items_at spec.member_at self.old bytes.now) result }
+    {
+        let mut members = Vec::new(self.table.allocator());
+        let mut rest = bytes;
+        while !rest.is_empty() {
+            let (member, behind) = self.read_member(rest)?;
+            members.push(member)?;
+            rest = behind;
+        }
+        Ok(Members::from_vec(members))
+    }
+
+    #[tactic(auto, unfolding(crate::specs::Body::member_at, crate::specs::Strings::strings_at))]
+    fn read_member<'a>(&mut self, bytes: &'a [u8]) -> Result<(Member, &'a [u8]), O5Reason>
+        ensures value { Answers (λ x. (x.0, self.new, x.1.now)) (spec.member_at self.old bytes.now) result }
+        ensures shorter { IfOk result (λ x. length x.1.now < length bytes.now) }
+    {
+        let (difference, rest) = read_signed(bytes)?;
+        let (spelled, rest) = read_spelled(Form::Single, rest)?;
+        self.table.store(&spelled)?;
+        let strings = self.table.strings(&spelled)?;
+        let (kind, role) = split_kind(strings.first)?;
+        self.seen = self.seen.with_member(kind)?;
+        let id = self.bases.move_member(kind, difference)?;
+        let role = to_text(self.table.allocator(), role)?;
+        Ok((Member { kind, id, role }, rest))
+    }
+
+    /// Tags to the end of the bytes.
+    fn read_tags(&mut self, bytes: &[u8]) -> Result<Tags, O5Reason>
+        ensures { Answers (λ tags. (tags, self.new)) (items_at spec.tag_at self.old bytes.now) result }
+    {
+        let mut tags = Vec::new(self.table.allocator());
+        let mut rest = bytes;
+        while !rest.is_empty() {
+            let (tag, behind) = self.read_tag(rest)?;
+            tags.push(tag)?;
+            rest = behind;
+        }
+        Ok(Tags::from_vec(tags))
+    }
+
+    #[tactic(auto, unfolding(crate::specs::Body::tag_at, crate::specs::Strings::strings_at))]
+    fn read_tag<'a>(&mut self, bytes: &'a [u8]) -> Result<(Tag, &'a [u8]), O5Reason>
+        ensures value { Answers (λ x. (x.0, self.new, x.1.now)) (spec.tag_at self.old bytes.now) result }
+        ensures shorter { IfOk result (λ x. length x.1.now < length bytes.now) }
+    {
+        let (spelled, rest) = read_spelled(Form::Pair, bytes)?;
+        self.table.store(&spelled)?;
+        let strings = self.table.strings(&spelled)?;
+        let tag = to_tag(self.table.allocator(), &strings)?;
+        Ok((tag, rest))
+    }
+}
+
+/// The section whose length stands in front of it, and the bytes behind it.
+#[tactic(auto, unfolding(crate::specs::Body::section_at))]
+fn read_section(bytes: &[u8]) -> Result<(&[u8], &[u8]), O5Reason>
+    ensures { Gives (λ x. (x.0.now, x.1.now)) (spec.section_at bytes.now) result }
+{
+    let (length, rest) = read_number(bytes)?;
+    if length > rest.len() as u64 {
+        return Err(O5Reason::BadSection);
+    }
+    Ok(rest.split_at(length as usize))
+}
+
+/// The kind of a member by its first byte, and the role behind it.
+fn split_kind(text: &[u8]) -> Result<(Kind, &[u8]), O5Reason>
+    ensures { Gives (λ x. (x.0, x.1.now)) (spec.kind_and_role text.now) result }
+{
+    match text.split_first() {
+        Some((b'0', role)) => Ok((Kind::Node, role)),
+        Some((b'1', role)) => Ok((Kind::Way, role)),
+        Some((b'2', role)) => Ok((Kind::Relation, role)),
+        _ => Err(O5Reason::BadMemberType),
+    }
+}

@@ -1,0 +1,118 @@
+//! Reading data sets.
+ghost use Rattle.std.specs.Prelude.{◌≡◌, ◌⊎◌, Ok, true, false, IfOk, IfErr, OnOk};
+ghost use Rattle.o5_codec.specs.Answer.{Answers};
+ghost use Rattle.o5_codec.specs.Body.{set_at};
+ghost use Rattle.o5_codec.specs.Sound.{is_sound};
+ghost use Rattle.o5_codec.specs.Decoder.{new_segment, reading_in, Reads};
+ghost use Rattle.o5_codec.specs.Spelling.{SpellsSet};
+ghost use Rattle.o5_codec.specs.Refusal.{SetReason};
+
+use crate::O5Reason;
+use crate::base::Bases;
+use crate::segment::{ListsSeen, Segment};
+use crate::table::Table;
+use osm_model::{Kind, Memory, Version};
+use std::alloc::Global;
+use std::marker::Model;
+
+/// Reads the data sets of o5m and o5c files one after the other, each relative to those before it in its segment.
+#[derive(Drop)]
+pub struct Decoder {
+    segment: Segment,
+    failed: bool,
+}
+
+impl Model for Decoder {
+    ghost use Rattle.std.specs.Prelude.{◌≡◌, true, false};
+    ghost use Rattle.o5_codec.specs.Decoder.{State};
+    ghost use Rattle.o5_codec.specs.Sound.{is_sound};
+
+    ghost Value = { State };
+
+    ghost view = { λ d. record { segment = d.segment; failed = d.failed } };
+
+    ghost invariant = { λ d. d.failed ≡ false → is_sound d.segment ≡ true };
+}
+
+impl Decoder {
+    /// A decoder at the begin of a segment, with room for all entries of its string table.
+    ///
+    /// # Errors
+    ///
+    /// For want of memory alone.
+    pub fn new(alloc: Global) -> Result<Decoder, Memory>
+        ensures { IfOk result (λ d. d ≡ reading_in new_segment) }
+    {
+        Ok(Decoder {
+            segment: Segment::new(alloc)?,
+            failed: false,
+        })
+    }
+
+    /// The version that the content of a data set has, for an object of this kind.
+    ///
+    /// # Errors
+    ///
+    /// The reason of the first step that can't be done, or `Memory`. After any of them the answer is `Failed` from then on.
+    pub fn read_set(&mut self, kind: Kind, content: &[u8]) -> Result<Version, O5Reason>
+        ensures state { Reads kind content.now self.old self.new result }
+        ensures spelled { IfOk result (λ v. SpellsSet kind self.old.segment content.now (v, self.new.segment)) }
+        ensures refused { IfErr result (λ reason. self.old.failed ≡ false → (reason ≡ O5Reason.Memory) ⊎ SetReason kind self.old.segment content.now reason) }
+    {
+        if self.failed {
+            return Err(O5Reason::Failed);
+        }
+        match self.segment.read_set(kind, content) {
+            Ok(version) => Ok(version),
+            Err(reason) => {
+                self.failed = true;
+                Err(reason)
+            }
+        }
+    }
+
+    /// Begins a segment: all bases are 0, and the string table is empty. A decoder that has failed stays so.
+    pub fn reset(&mut self)
+        ensures { self.new ≡ record { segment = new_segment; failed = self.old.failed } }
+    {
+        self.segment.clear();
+    }
+}
+
+impl Segment {
+    /// A segment that had nothing.
+    fn new(alloc: Global) -> Result<Segment, Memory>
+        ensures { IfOk result (λ s. s ≡ new_segment) }
+    {
+        Ok(Segment {
+            bases: Bases::ZERO,
+            table: Table::new(alloc)?,
+            seen: ListsSeen::Neither,
+        })
+    }
+
+    /// Forgets what the segment had.
+    fn clear(&mut self)
+        ensures { self.new ≡ new_segment }
+    {
+        self.bases = Bases::ZERO;
+        self.table.clear();
+        self.seen = ListsSeen::Neither;
+    }
+
+    /// The version of a data set.
+    #[tactic(auto, unfolding(crate::specs::Body::set_at))]
+    fn read_set(&mut self, kind: Kind, content: &[u8]) -> Result<Version, O5Reason>
+        requires { is_sound self.old ≡ true }
+        ensures value { Answers (λ v. (v, self.new)) (set_at kind self.old content.now) result }
+        ensures sound { OnOk result (is_sound self.new ≡ true) }
+    {
+        let (id, rest) = self.read_id(content)?;
+        let (meta, rest) = self.read_meta(rest)?;
+        let body = self.read_body(kind, rest)?;
+        match Version::new(id, meta, body) {
+            Ok(version) => Ok(version),
+            Err(_) => unreachable!(),
+        }
+    }
+}

@@ -1,0 +1,150 @@
+//! Writing data sets.
+ghost use Rattle.std.specs.Prelude.{◌≡◌, ◌++◌, IfOk, IfErr, OnOk, OnErr};
+ghost use Rattle.osm_model.specs.Data.{kind_of};
+ghost use Rattle.o5_codec.specs.Encoder as spec;
+
+use crate::EncodeFault;
+use crate::write::body::append_section;
+use crate::write::context::Context;
+use osm_model::{Kind, Memory, Version};
+use std::alloc::Global;
+use std::marker::Model;
+
+/// Writes the data sets of o5m and o5c files one after the other, each relative to those before it in its segment, in the one form that stands for a version.
+#[derive(Drop)]
+pub struct Encoder {
+    last: Kind,
+    context: Context,
+    failed: bool,
+    alloc: Global,
+    /// Buffers that are used again: a data set, its content, and a section within it.
+    set: Vec<u8>,
+    content: Vec<u8>,
+    section: Vec<u8>,
+}
+
+impl Model for Encoder {
+    ghost use Rattle.o5_codec.specs.Encoder.{State};
+
+    ghost Value = { State };
+
+    ghost view = { λ e. record { written = record { last = e.last; context = e.context }; failed = e.failed } };
+}
+
+impl Encoder {
+    /// An encoder behind the header of a file, with room for all entries of its string table.
+    ///
+    /// # Errors
+    ///
+    /// For want of memory alone.
+    pub fn new(alloc: Global) -> Result<Encoder, Memory>
+        ensures { IfOk result (λ e. e ≡ spec.writing_on spec.nothing_written) }
+    {
+        Ok(Encoder {
+            last: Kind::Node,
+            context: Context::new(alloc)?,
+            failed: false,
+            alloc,
+            set: Vec::new(alloc),
+            content: Vec::new(alloc),
+            section: Vec::new(alloc),
+        })
+    }
+
+    /// The data set of a version, with a reset before it where it begins a segment. The kind may not be below the kind of the version written last.
+    ///
+    /// # Errors
+    ///
+    /// `Memory`, and from then on `Failed`.
+    pub fn write_set(&mut self, v: &Version) -> Result<Vec<u8>, EncodeFault>
+        requires { spec.IsNotBelow (kind_of v.now.body) self.old }
+        ensures bytes { IfOk result (λ set. set.items ≡ spec.spelled_set self.old.written v.now) }
+        ensures written { OnOk result (spec.Continues v.now self.old self.new) }
+        ensures refused { IfErr result (λ fault. spec.Stops self.old self.new fault) }
+    {
+        let mut set = Vec::new(self.alloc);
+        self.append_set(&mut set, v)?;
+        Ok(set)
+    }
+
+    /// Appends the data set of a version, as [`Encoder::write_set`] gives it. After an error the bytes are those that stood there before.
+    ///
+    /// # Errors
+    ///
+    /// `Memory`, and from then on `Failed`.
+    pub fn append_set(&mut self, out: &mut Vec<u8>, v: &Version) -> Result<(), EncodeFault>
+        requires { spec.IsNotBelow (kind_of v.now.body) self.old }
+        ensures bytes { OnOk result (out.new.items ≡ out.old.items ++ spec.spelled_set self.old.written v.now) }
+        ensures written { OnOk result (spec.Continues v.now self.old self.new) }
+        ensures refused { IfErr result (λ fault. spec.Stops self.old self.new fault) }
+        ensures unchanged { OnErr result (out.new.items ≡ out.old.items) }
+    {
+        if self.failed {
+            return Err(EncodeFault::Failed);
+        }
+        match self.append_version(out, v) {
+            Ok(()) => Ok(()),
+            Err(_) => {
+                self.failed = true;
+                Err(EncodeFault::Memory)
+            }
+        }
+    }
+
+    /// Appends the data set of a version, where the encoder hasn't failed.
+    #[tactic(auto, unfolding(crate::specs::Encoder::context_of, crate::specs::Encoder::spelled_set, crate::specs::Encoder::written_after))]
+    fn append_version(&mut self, out: &mut Vec<u8>, v: &Version) -> Result<(), Memory>
+        ensures bytes { OnOk result (out.new.items ≡ out.old.items ++ spec.spelled_set self.old.written v.now) }
+        ensures written { OnOk result (self.new ≡ record { written = spec.written_after self.old.written v.now; failed = self.old.failed }) }
+        ensures unchanged { OnErr result (out.new.items ≡ out.old.items) }
+    {
+        let kind = v.kind();
+        let begins = begins_segment(self.last, kind);
+        begin_if(begins, &mut self.context);
+        self.last = kind;
+        self.content.clear();
+        self.context
+            .append_content(&mut self.content, &mut self.section, v)?;
+        fill_set(&mut self.set, begins, kind, &self.content)?;
+        out.extend_from_slice(&self.set)?;
+        Ok(())
+    }
+}
+
+/// Whether a version of a kind begins a segment, behind one of the kind `last`.
+fn begins_segment(last: Kind, kind: Kind) -> bool
+    ensures { result ≡ spec.begins_segment last kind }
+{
+    last.rank() != kind.rank()
+}
+
+/// Begins a segment, if one begins.
+fn begin_if(begins: bool, context: &mut Context)
+    ensures { context.new ≡ spec.context_for begins context.old }
+{
+    if begins {
+        context.clear();
+    }
+}
+
+/// Makes a data set with this content, behind a reset where it begins a segment.
+fn fill_set(set: &mut Vec<u8>, begins: bool, kind: Kind, content: &[u8]) -> Result<(), Memory>
+    ensures { OnOk result (set.new.items ≡ spec.reset_before begins ++ spec.data_set kind content.now) }
+{
+    set.clear();
+    if begins {
+        set.push(0xff)?;
+    }
+    set.push(type_byte(kind))?;
+    append_section(set, content)
+}
+
+fn type_byte(kind: Kind) -> u8
+    ensures { result ≡ spec.type_byte kind }
+{
+    match kind {
+        Kind::Node => 0x10,
+        Kind::Way => 0x11,
+        Kind::Relation => 0x12,
+    }
+}

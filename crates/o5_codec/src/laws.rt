@@ -1,0 +1,100 @@
+//! Laws of the definitions, over all data. Nothing is run to use them: each is the clause of a function without a body.
+ghost use Rattle.o5_codec.specs.Laws as law;
+ghost use Rattle.o5_codec.specs.WritingLaws as writing;
+
+/// An unsigned number is read exactly where it is spelled.
+pub fn numbers_are_read()
+    ensures { law.NumbersAreRead }
+{}
+
+/// A signed number is read exactly where it is spelled.
+pub fn signed_numbers_are_read()
+    ensures { law.SignedNumbersAreRead }
+{}
+
+/// Strings are read exactly where they are spelled, inline or by a reference.
+pub fn strings_are_read()
+    ensures { law.StringsAreRead }
+{}
+
+/// A user is read exactly where the first string of a pair spells its id and the second its name.
+pub fn users_are_read()
+    ensures { law.UsersAreRead }
+{}
+
+/// A version is read exactly where the content of a data set spells it, relative to the segment so far: so a content that is refused spells none.
+pub fn sets_are_read()
+    ensures { law.SetsAreRead }
+{}
+
+/// The content of a data set spells at most one version.
+pub fn one_version()
+    ensures { law.OneVersion }
+{}
+
+/// The content of a data set is refused exactly for the reason of its first step that can't be done.
+pub fn sets_are_refused()
+    ensures { law.SetsAreRefused }
+{}
+
+/// The string table is that of the inline entries of the segment so far.
+pub fn table_holds_the_last_entries()
+    ensures { law.TableOfEntries }
+{}
+
+/// The content of a data set spells a version, or there is a reason why it spells none.
+pub fn spelled_or_refused()
+    ensures { law.SpelledOrRefused }
+{}
+
+/// A content with such a reason spells no version and has no other reason. It is never want of memory, an earlier
+/// refusal, or the end of a file.
+pub fn one_reason()
+    ensures { law.OneReason }
+{}
+
+/// Data sets one after the other are read exactly where they spell versions one after the other.
+pub fn lists_are_read()
+    ensures { law.ListsAreRead }
+{}
+
+/// One more data set behind others spells one more version, and its inline entries stand behind theirs.
+pub fn sets_go_on()
+    ensures { law.SetsGoOn }
+{}
+
+/// What a segment keeps is told by the lists of what it had: each base is the value last spelled for its field, else 0;
+/// the string table is that of all inline entries; and the objects tell which lists it had.
+pub fn segments_are_told_by_lists()
+    ensures { law.SegmentsAreToldByLists }
+{}
+
+/// No segment has both a way with references and a relation with a node member.
+pub fn lists_are_not_mixed()
+    ensures { law.ListsAreNotMixed }
+{}
+
+/// What is read from a new segment on is within the ranges of versions.
+pub fn sets_make_versions()
+    ensures { law.SetsMakeVersions }
+{}
+
+/// What one data set spells, in a segment whose string table has no zero bytes, is within the ranges of versions, and leaves such a segment.
+pub fn sound_sets_make_versions()
+    ensures { law.SoundSetsMakeVersions }
+{}
+
+/// A number that is written is spelled, and by no fewer bytes.
+pub fn written_numbers_are_shortest()
+    ensures { writing.WrittenNumbersAreShortest }
+{}
+
+/// What is written for a version is read as this version and no other, and encoder and reader go on alike.
+pub fn written_sets_are_read()
+    ensures { writing.WrittenSetsAreRead }
+{}
+
+/// What is written for a list of versions, from the header on, spells that list and no other.
+pub fn written_lists_are_read()
+    ensures { writing.WrittenListsAreRead }
+{}

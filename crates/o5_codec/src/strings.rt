@@ -1,0 +1,97 @@
+//! Pairs of strings and single strings.
+ghost use Rattle.std.specs.Prelude.{◌≡◌, ◌<◌, length, IfOk, position};
+ghost use Rattle.o5_codec.specs.Answer.{Gives};
+ghost use Rattle.o5_codec.specs.Strings.{is_zero, string_at, inline_at, spelled_at};
+
+use crate::O5Reason;
+use crate::number::read_number;
+use std::marker::Model;
+
+/// How many strings stand in one place.
+#[derive(Clone, Copy, Debug, PartialEq, Eq)]
+pub(crate) enum Form {
+    /// Two strings.
+    Pair,
+    /// One string; it counts as a pair with an empty second string.
+    Single,
+}
+
+/// Two strings in the bytes of a data set or in the table. Contracts see them as an entry of the table.
+#[derive(Drop)]
+pub(crate) struct Strings<'a> {
+    pub(crate) first: &'a [u8],
+    pub(crate) second: &'a [u8],
+}
+
+impl<'a> Model for Strings<'a> {
+    ghost use Rattle.o5_codec.specs.Entry.{Entry};
+
+    ghost Value = { Entry };
+
+    ghost view = { λ s. record { first = s.first.now; second = s.second.now } };
+}
+
+/// A pair or a single string as it stands in a data set.
+#[derive(Drop)]
+pub(crate) enum Spelled<'a> {
+    /// Its strings stand there.
+    Inline(Strings<'a>),
+    /// An entry of the table stands for it; 1 is the entry stored last.
+    Reference(u64),
+}
+
+/// The pair or single string at the front, and the bytes behind it.
+///
+/// # Errors
+///
+/// `BadText` where no byte is left or a string isn't ended, `BadNumber` where a reference is no number.
+#[tactic(auto, unfolding(crate::specs::Strings::spelled_at))]
+pub(crate) fn read_spelled(form: Form, bytes: &[u8]) -> Result<(Spelled<'_>, &[u8]), O5Reason>
+    ensures value { Gives (λ x. (x.0, x.1.now)) (spelled_at form bytes.now) result }
+    ensures shorter { IfOk result (λ x. length x.1.now < length bytes.now) }
+{
+    let Some((first, behind)) = bytes.split_first() else {
+        return Err(O5Reason::BadText);
+    };
+    if *first == 0 {
+        let (strings, rest) = read_inline(form, behind)?;
+        return Ok((Spelled::Inline(strings), rest));
+    }
+    let (reference, rest) = read_number(bytes)?;
+    Ok((Spelled::Reference(reference), rest))
+}
+
+/// The strings behind the zero byte that begins them inline, and the bytes behind them.
+#[tactic(auto, unfolding(crate::specs::Strings::inline_at))]
+fn read_inline(form: Form, bytes: &[u8]) -> Result<(Strings<'_>, &[u8]), O5Reason>
+    ensures value { Gives (λ x. (x.0, x.1.now)) (inline_at form bytes.now) result }
+    ensures shorter { IfOk result (λ x. length x.1.now < length bytes.now) }
+{
+    let (first, rest) = read_string(bytes)?;
+    match form {
+        Form::Pair => {
+            let (second, rest) = read_string(rest)?;
+            Ok((Strings { first, second }, rest))
+        }
+        Form::Single => Ok((Strings { first, second: &[] }, rest)),
+    }
+}
+
+/// The string at the front, which ends at the first zero byte, and the bytes behind it.
+#[tactic(auto, unfolding(crate::specs::Strings::string_at))]
+fn read_string(bytes: &[u8]) -> Result<(&[u8], &[u8]), O5Reason>
+    ensures value { Gives (λ x. (x.0.now, x.1.now)) (string_at bytes.now) result }
+    ensures shorter { IfOk result (λ x. length x.1.now < length bytes.now) }
+{
+    match find_zero(bytes) {
+        Some(end) => Ok((&bytes[..end], &bytes[end + 1..])),
+        None => Err(O5Reason::BadText),
+    }
+}
+
+/// The place of the first zero byte.
+fn find_zero(bytes: &[u8]) -> Option<usize>
+    ensures { result ≡ position is_zero bytes.now }
+{
+    bytes.iter().position(|byte| *byte == 0)
+}

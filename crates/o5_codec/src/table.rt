@@ -1,0 +1,161 @@
+//! The string table of a segment.
+ghost use Rattle.std.specs.Prelude.{◌≡◌, [], ◌∷◌, take, IfOk, OnOk, IsTrue, option_copied};
+ghost use Rattle.o5_codec.specs.Answer.{Gives};
+ghost use Rattle.o5_codec.specs.Table.{limit, is_short, stored, entry_at};
+ghost use Rattle.o5_codec.specs.Strings.{strings_of, table_after};
+
+use crate::O5Reason;
+use crate::strings::{Spelled, Strings};
+use circular_buffer::HeapCircularBuffer;
+use osm_model::Memory;
+use std::alloc::Global;
+use std::marker::Model;
+
+/// How many entries the table holds at most.
+pub(crate) const LIMIT: usize = 15_000;
+
+/// How many bytes the two strings of an entry have together at most.
+pub(crate) const LONGEST: usize = 250;
+
+/// An entry: the bytes of its first string, behind them those of its second. Contracts see the two strings.
+#[derive(Drop)]
+struct Stored {
+    bytes: Vec<u8>,
+    split: usize,
+}
+
+impl Model for Stored {
+    ghost use Rattle.std.specs.Prelude.{take, drop, length, ◌≤◌};
+    ghost use Rattle.o5_codec.specs.Entry.{Entry};
+
+    ghost Value = { Entry };
+
+    ghost view = { λ e. record { first = take e.split e.bytes.items; second = drop e.split e.bytes.items } };
+
+    ghost invariant = { λ e. e.split ≤ length e.bytes.items };
+}
+
+impl Stored {
+    /// A copy of two short strings, by one growth.
+    fn new(alloc: Global, strings: &Strings<'_>) -> Result<Stored, Memory>
+        requires { IsTrue (is_short strings.now) }
+        ensures { IfOk result (λ e. e ≡ strings.now) }
+    {
+        let mut bytes = Vec::with_capacity(alloc, strings.first.len() + strings.second.len())?;
+        bytes.extend_from_slice(strings.first)?;
+        bytes.extend_from_slice(strings.second)?;
+        Ok(Stored {
+            bytes,
+            split: strings.first.len(),
+        })
+    }
+
+    fn strings(&self) -> Strings<'_>
+        ensures { result ≡ self.now }
+    {
+        let (first, second) = self.bytes.split_at(self.split);
+        Strings { first, second }
+    }
+}
+
+/// The entries that references can name. Contracts see them as a list, the one stored last first.
+#[derive(Drop)]
+pub(crate) struct Table {
+    ring: HeapCircularBuffer<Stored>,
+}
+
+impl Model for Table {
+    ghost use Rattle.std.specs.Prelude.{◌≡◌, List, reverse};
+    ghost use Rattle.o5_codec.specs.Entry.{Entry};
+    ghost use Rattle.o5_codec.specs.Table.{limit};
+
+    ghost Value = { List Entry };
+
+    ghost view = { λ t. reverse t.ring.items };
+
+    ghost invariant = { λ t. t.ring.capacity ≡ limit };
+}
+
+impl Table {
+    /// The empty table, with room for all its entries.
+    pub(crate) fn new(alloc: Global) -> Result<Table, Memory>
+        ensures { IfOk result (λ t. t ≡ []) }
+    {
+        Ok(Table {
+            ring: HeapCircularBuffer::with_capacity(alloc, LIMIT)?,
+        })
+    }
+
+    pub(crate) fn allocator(&self) -> Global {
+        *self.ring.allocator()
+    }
+
+    /// Forgets all entries.
+    pub(crate) fn clear(&mut self)
+        ensures { self.new ≡ [] }
+    {
+        self.ring.clear();
+    }
+
+    /// Stores strings that stand inline, unless they are too long.
+    pub(crate) fn store(&mut self, spelled: &Spelled<'_>) -> Result<(), Memory>
+        ensures { OnOk result (self.new ≡ table_after spelled.now self.old) }
+    {
+        match spelled {
+            Spelled::Inline(strings) => self.store_strings(strings),
+            Spelled::Reference(_) => Ok(()),
+        }
+    }
+
+    fn store_strings(&mut self, strings: &Strings<'_>) -> Result<(), Memory>
+        ensures { OnOk result (self.new ≡ stored strings.now self.old) }
+    {
+        if is_short(strings) {
+            let entry = Stored::new(self.allocator(), strings)?;
+            self.push(entry);
+        }
+        Ok(())
+    }
+
+    fn push(&mut self, entry: Stored)
+        ensures { self.new ≡ take limit (entry ∷ self.old) }
+    {
+        self.ring.push_back(entry);
+    }
+
+    /// The strings that stand inline or that a reference names.
+    ///
+    /// # Errors
+    ///
+    /// `BadReference` where the table has no such entry.
+    pub(crate) fn strings<'a>(&'a self, spelled: &Spelled<'a>) -> Result<Strings<'a>, O5Reason>
+        ensures { Gives (λ s. s) (strings_of self.now spelled.now) result }
+    {
+        match spelled {
+            Spelled::Inline(strings) => Ok(Strings {
+                first: strings.first,
+                second: strings.second,
+            }),
+            Spelled::Reference(reference) => match self.get(*reference) {
+                Some(entry) => Ok(entry.strings()),
+                None => Err(O5Reason::BadReference),
+            },
+        }
+    }
+
+    fn get(&self, reference: u64) -> Option<&Stored>
+        ensures { option_copied result ≡ entry_at self.now reference }
+    {
+        if reference == 0 {
+            return None;
+        }
+        self.ring.nth_back((reference - 1) as usize)
+    }
+}
+
+/// Whether two strings are few enough bytes to be stored.
+pub(crate) fn is_short(strings: &Strings<'_>) -> bool
+    ensures { result ≡ is_short strings.now }
+{
+    strings.first.len() <= LONGEST && strings.second.len() <= LONGEST - strings.first.len()
+}

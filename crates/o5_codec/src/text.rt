@@ -1,0 +1,68 @@
+//! Texts in the strings of data sets.
+ghost use Rattle.std.specs.Prelude.{◌≡◌};
+ghost use Rattle.o5_codec.specs.Answer.{Gives, Answers};
+ghost use Rattle.o5_codec.specs.Text.{text_of, tag_of, uid_of, user_of};
+
+use crate::O5Reason;
+use crate::base::within_range;
+use crate::number::read_number;
+use crate::strings::Strings;
+use osm_model::{Tag, Text};
+use std::alloc::Global;
+
+/// A string as a text.
+///
+/// # Errors
+///
+/// `NotUtf8` where it isn't UTF-8.
+pub(crate) fn to_text(alloc: Global, bytes: &[u8]) -> Result<Text, O5Reason>
+    ensures { Answers (λ text. text) (text_of bytes.now) result }
+{
+    match simdutf8::basic::from_utf8(bytes) {
+        Ok(text) => Ok(Text::from_string(String::from_str(alloc, text)?)),
+        Err(_) => Err(O5Reason::NotUtf8),
+    }
+}
+
+/// The tag of a pair: its key and its value.
+///
+/// # Errors
+///
+/// As for [`to_text`].
+#[tactic(auto, unfolding(crate::specs::Text::tag_of))]
+pub(crate) fn to_tag(alloc: Global, strings: &Strings<'_>) -> Result<Tag, O5Reason>
+    ensures { Answers (λ tag. tag) (tag_of strings.now) result }
+{
+    let key = to_text(alloc, strings.first)?;
+    let value = to_text(alloc, strings.second)?;
+    Ok(Tag { key, value })
+}
+
+/// The user id and the user name of a pair.
+///
+/// # Errors
+///
+/// `BadNumber` and `OutOfRange` for the user id, `NotUtf8` for the name.
+#[tactic(auto, unfolding(crate::specs::Text::user_of))]
+pub(crate) fn to_user(alloc: Global, strings: &Strings<'_>) -> Result<(u32, Text), O5Reason>
+    ensures { Answers (λ user. user) (user_of strings.now) result }
+{
+    let uid = to_uid(strings.first)?;
+    let name = to_text(alloc, strings.second)?;
+    Ok((uid, name))
+}
+
+/// A user id; an empty string means 0.
+#[tactic(auto, unfolding(crate::specs::Text::uid_of))]
+fn to_uid(bytes: &[u8]) -> Result<u32, O5Reason>
+    ensures { Gives (λ uid. uid) (uid_of bytes.now) result }
+{
+    if bytes.is_empty() {
+        return Ok(0);
+    }
+    let (number, rest) = read_number(bytes)?;
+    if !rest.is_empty() {
+        return Err(O5Reason::BadNumber);
+    }
+    within_range(number)
+}

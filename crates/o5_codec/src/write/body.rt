@@ -1,0 +1,130 @@
+//! The bodies of data sets, as they are written.
+ghost use Rattle.std.specs.Prelude.{◌≡◌, ◌++◌, ◌∷◌, true, length, OnOk};
+ghost use Rattle.std.specs.List.{list_all};
+ghost use Rattle.osm_model.specs.Id.{is_id};
+ghost use Rattle.osm_model.specs.Data.{ids_of};
+ghost use Rattle.osm_model.specs.Members.{ids_of_members};
+ghost use Rattle.o5_codec.specs.Shortest.{shortest_number};
+ghost use Rattle.o5_codec.specs.Appended.{Appended};
+ghost use Rattle.o5_codec.specs.Writing as spec;
+
+use crate::write::context::Context;
+use crate::write::number::append_number;
+use osm_model::{Body, Member, Memory, Tag};
+
+impl Context {
+    /// Appends a body. The section of references or members is made in a buffer of the caller.
+    #[tactic(auto, unfolding(crate::specs::Writing::body_written))]
+    pub(crate) fn append_body(
+        &mut self,
+        out: &mut Vec<u8>,
+        section: &mut Vec<u8>,
+        body: &Body,
+    ) -> Result<(), Memory>
+        requires { list_all is_id (ids_of body.now) ≡ true }
+        ensures { OnOk result (Appended out.old.items out.new.items self.new (spec.body_written body.now self.old)) }
+    {
+        match body {
+            Body::Deleted(_) => Ok(()),
+            Body::Node { lon, lat, tags } => {
+                self.append_longitude(out, *lon)?;
+                self.append_latitude(out, *lat)?;
+                self.append_tags(out, tags.as_slice())?;
+                Ok(())
+            }
+            Body::Way { refs, tags } => {
+                self.append_references(out, section, refs.as_slice())?;
+                self.append_tags(out, tags.as_slice())?;
+                Ok(())
+            }
+            Body::Relation { members, tags } => {
+                self.append_members(out, section, members.as_slice())?;
+                self.append_tags(out, tags.as_slice())?;
+                Ok(())
+            }
+        }
+    }
+
+    #[tactic(auto, unfolding(crate::specs::Writing::tags_written))]
+    fn append_tags(&mut self, out: &mut Vec<u8>, tags: &[Tag]) -> Result<(), Memory>
+        ensures { OnOk result (Appended out.old.items out.new.items self.new (spec.tags_written tags.now self.old)) }
+    {
+        for tag in tags {
+            self.append_tag(out, tag)?;
+        }
+        Ok(())
+    }
+
+    /// Appends the section of a way's references.
+    #[tactic(auto, unfolding(crate::specs::Writing::section_written))]
+    fn append_references(
+        &mut self,
+        out: &mut Vec<u8>,
+        section: &mut Vec<u8>,
+        ids: &[i64],
+    ) -> Result<(), Memory>
+        requires { list_all is_id ids.now ≡ true }
+        ensures { OnOk result (Appended out.old.items out.new.items self.new (spec.section_written (spec.references_written ids.now) self.old)) }
+    {
+        section.clear();
+        self.append_each_reference(section, ids)?;
+        append_section(out, section)
+    }
+
+    #[tactic(auto, unfolding(crate::specs::Writing::references_written))]
+    fn append_each_reference(&mut self, out: &mut Vec<u8>, ids: &[i64]) -> Result<(), Memory>
+        requires { list_all is_id ids.now ≡ true }
+        ensures { OnOk result (Appended out.old.items out.new.items self.new (spec.references_written ids.now self.old)) }
+    {
+        for id in ids {
+            self.append_reference(out, *id)?;
+        }
+        Ok(())
+    }
+
+    /// Appends the section of a relation's members.
+    #[tactic(auto, unfolding(crate::specs::Writing::section_written))]
+    fn append_members(
+        &mut self,
+        out: &mut Vec<u8>,
+        section: &mut Vec<u8>,
+        members: &[Member],
+    ) -> Result<(), Memory>
+        requires { list_all is_id (ids_of_members members.now) ≡ true }
+        ensures { OnOk result (Appended out.old.items out.new.items self.new (spec.section_written (spec.members_written members.now) self.old)) }
+    {
+        section.clear();
+        self.append_each_member(section, members)?;
+        append_section(out, section)
+    }
+
+    #[tactic(auto, unfolding(crate::specs::Writing::members_written))]
+    fn append_each_member(&mut self, out: &mut Vec<u8>, members: &[Member]) -> Result<(), Memory>
+        requires { list_all is_id (ids_of_members members.now) ≡ true }
+        ensures { OnOk result (Appended out.old.items out.new.items self.new (spec.members_written members.now self.old)) }
+    {
+        for member in members {
+            self.append_member(out, member)?;
+        }
+        Ok(())
+    }
+
+    #[tactic(auto, unfolding(crate::specs::Writing::member_written))]
+    fn append_member(&mut self, out: &mut Vec<u8>, member: &Member) -> Result<(), Memory>
+        requires { is_id member.now.id ≡ true }
+        ensures { OnOk result (Appended out.old.items out.new.items self.new (spec.member_written member.now self.old)) }
+    {
+        self.append_member_id(out, member.kind, member.id)?;
+        self.append_role(out, member.kind, &member.role)?;
+        Ok(())
+    }
+}
+
+/// Appends a section with its length in front.
+pub(crate) fn append_section(out: &mut Vec<u8>, section: &[u8]) -> Result<(), Memory>
+    ensures { OnOk result (out.new.items ≡ out.old.items ++ (shortest_number (length section.now) ++ section.now)) }
+{
+    append_number(out, section.len() as u64)?;
+    out.extend_from_slice(section)?;
+    Ok(())
+}

@@ -1,0 +1,212 @@
+//! What data sets are written relative to, and the steps of a data set before its body.
+ghost use Rattle.std.specs.Prelude.{◌≡◌, ◌<◌, ◌^◌, true, IfOk, OnOk, unwrap_or};
+ghost use Rattle.osm_model.specs.Id.{is_id};
+ghost use Rattle.o5_codec.specs.Encoder.{new_context};
+ghost use Rattle.o5_codec.specs.Formed.{reference_to};
+ghost use Rattle.o5_codec.specs.Appended.{Appended};
+ghost use Rattle.o5_codec.specs.Writing as spec;
+
+use crate::base::Bases;
+use crate::write::entry::Entry;
+use crate::write::number::{
+    append_coordinate_difference, append_id_difference, append_number, append_number_difference,
+};
+use crate::write::table::Table;
+use osm_model::{Kind, Memory, Tag, Text, Version};
+use std::alloc::Global;
+use std::marker::Model;
+
+/// What stands before in a segment, as far as later data sets are written relative to it. Contracts see the bases and the table.
+#[derive(Drop)]
+pub(crate) struct Context {
+    bases: Bases,
+    table: Table,
+    /// The entry at hand, whose buffer is used again.
+    entry: Entry,
+}
+
+impl Model for Context {
+    ghost use Rattle.o5_codec.specs.Writing.{Context};
+    ghost use Rattle.o5_codec.specs.IdBases.{AreIds};
+
+    ghost Value = { Context };
+
+    ghost view = { λ c. record { bases = c.bases; table = c.table } };
+
+    ghost invariant = { λ c. AreIds c.bases };
+}
+
+impl Context {
+    /// The context where a segment begins.
+    pub(crate) fn new(alloc: Global) -> Result<Context, Memory>
+        ensures { IfOk result (λ c. c ≡ new_context) }
+    {
+        Ok(Context {
+            bases: Bases::ZERO,
+            table: Table::new(alloc)?,
+            entry: Entry::with_room(alloc)?,
+        })
+    }
+
+    /// Begins a segment.
+    pub(crate) fn clear(&mut self)
+        ensures { self.new ≡ new_context }
+    {
+        self.bases = Bases::ZERO;
+        self.table.clear();
+    }
+
+    /// Appends the content of a version's data set.
+    #[tactic(auto, unfolding(crate::specs::Writing::content_written))]
+    pub(crate) fn append_content(
+        &mut self,
+        out: &mut Vec<u8>,
+        section: &mut Vec<u8>,
+        v: &Version,
+    ) -> Result<(), Memory>
+        ensures { OnOk result (Appended out.old.items out.new.items self.new (spec.content_written v.now self.old)) }
+    {
+        self.append_id(out, v.id())?;
+        append_number(out, v.number())?;
+        self.append_time(out, v.time().unwrap_or(0) as u32)?;
+        self.append_author(out, v)?;
+        self.append_body(out, section, v.body())?;
+        Ok(())
+    }
+
+    /// Appends the id of an object.
+    #[tactic(auto, unfolding(crate::specs::Writing::id_written))]
+    fn append_id(&mut self, out: &mut Vec<u8>, id: i64) -> Result<(), Memory>
+        requires { is_id id ≡ true }
+        ensures { OnOk result (Appended out.old.items out.new.items self.new (spec.id_written id self.old)) }
+    {
+        append_id_difference(out, self.bases.id, id)?;
+        self.bases.id = id;
+        Ok(())
+    }
+
+    /// Appends a time, 0 being none.
+    #[tactic(auto, unfolding(crate::specs::Writing::time_written))]
+    fn append_time(&mut self, out: &mut Vec<u8>, time: u32) -> Result<(), Memory>
+        ensures { OnOk result (Appended out.old.items out.new.items self.new (spec.time_written time self.old)) }
+    {
+        append_number_difference(out, self.bases.time, time)?;
+        self.bases.time = time;
+        Ok(())
+    }
+
+    /// Appends changeset and user, where there is a time.
+    #[tactic(auto, unfolding(crate::specs::Writing::author_written))]
+    fn append_author(&mut self, out: &mut Vec<u8>, v: &Version) -> Result<(), Memory>
+        requires { v.now.changeset < 2 ^ 32 }
+        ensures { OnOk result (Appended out.old.items out.new.items self.new (spec.author_written v.now self.old)) }
+    {
+        match v.time() {
+            None => Ok(()),
+            Some(_) => {
+                self.append_changeset(out, v.changeset() as u32)?;
+                self.append_user(out, v.uid(), v.user())?;
+                Ok(())
+            }
+        }
+    }
+
+    #[tactic(auto, unfolding(crate::specs::Writing::changeset_written))]
+    fn append_changeset(&mut self, out: &mut Vec<u8>, changeset: u32) -> Result<(), Memory>
+        ensures { OnOk result (Appended out.old.items out.new.items self.new (spec.changeset_written changeset self.old)) }
+    {
+        append_number_difference(out, self.bases.changeset, changeset)?;
+        self.bases.changeset = changeset;
+        Ok(())
+    }
+
+    #[tactic(auto, unfolding(crate::specs::Writing::strings_written))]
+    fn append_user(&mut self, out: &mut Vec<u8>, uid: u64, user: &Text) -> Result<(), Memory>
+        ensures { OnOk result (Appended out.old.items out.new.items self.new (spec.strings_written (spec.user_entry uid user.now) self.old)) }
+    {
+        self.entry.fill_user(uid, user)?;
+        self.table.append(out, &self.entry)
+    }
+
+    /// Appends a tag.
+    #[tactic(auto, unfolding(crate::specs::Writing::strings_written))]
+    pub(crate) fn append_tag(&mut self, out: &mut Vec<u8>, tag: &Tag) -> Result<(), Memory>
+        ensures { OnOk result (Appended out.old.items out.new.items self.new (spec.tag_written tag.now self.old)) }
+    {
+        self.entry.fill_tag(tag)?;
+        self.table.append(out, &self.entry)
+    }
+
+    /// Appends the string of a member: its kind and its role.
+    #[tactic(auto, unfolding(crate::specs::Writing::strings_written))]
+    pub(crate) fn append_role(
+        &mut self,
+        out: &mut Vec<u8>,
+        kind: Kind,
+        role: &Text,
+    ) -> Result<(), Memory>
+        ensures { OnOk result (Appended out.old.items out.new.items self.new (spec.strings_written (spec.member_entry kind role.now) self.old)) }
+    {
+        self.entry.fill_member(kind, role)?;
+        self.table.append(out, &self.entry)
+    }
+
+    /// Appends the id of a member.
+    #[tactic(auto, unfolding(crate::specs::Writing::member_id_written))]
+    pub(crate) fn append_member_id(
+        &mut self,
+        out: &mut Vec<u8>,
+        kind: Kind,
+        id: i64,
+    ) -> Result<(), Memory>
+        requires { is_id id ≡ true }
+        ensures { OnOk result (Appended out.old.items out.new.items self.new (spec.member_id_written kind id self.old)) }
+    {
+        match kind {
+            Kind::Node => {
+                append_id_difference(out, self.bases.node_member, id)?;
+                self.bases.node_member = id;
+            }
+            Kind::Way => {
+                append_id_difference(out, self.bases.way_member, id)?;
+                self.bases.way_member = id;
+            }
+            Kind::Relation => {
+                append_id_difference(out, self.bases.relation_member, id)?;
+                self.bases.relation_member = id;
+            }
+        }
+        Ok(())
+    }
+
+    /// Appends the reference of a way.
+    #[tactic(auto, unfolding(crate::specs::Writing::reference_written))]
+    pub(crate) fn append_reference(&mut self, out: &mut Vec<u8>, id: i64) -> Result<(), Memory>
+        requires { is_id id ≡ true }
+        ensures { OnOk result (Appended out.old.items out.new.items self.new (spec.reference_written id self.old)) }
+    {
+        append_id_difference(out, self.bases.reference, id)?;
+        self.bases.reference = id;
+        Ok(())
+    }
+
+    /// Appends a longitude.
+    #[tactic(auto, unfolding(crate::specs::Writing::longitude_written))]
+    pub(crate) fn append_longitude(&mut self, out: &mut Vec<u8>, lon: i32) -> Result<(), Memory>
+        ensures { OnOk result (Appended out.old.items out.new.items self.new (spec.longitude_written lon self.old)) }
+    {
+        append_coordinate_difference(out, self.bases.lon, lon)?;
+        self.bases.lon = lon;
+        Ok(())
+    }
+
+    /// Appends a latitude.
+    #[tactic(auto, unfolding(crate::specs::Writing::latitude_written))]
+    pub(crate) fn append_latitude(&mut self, out: &mut Vec<u8>, lat: i32) -> Result<(), Memory>
+        ensures { OnOk result (Appended out.old.items out.new.items self.new (spec.latitude_written lat self.old)) }
+    {
+        append_coordinate_difference(out, self.bases.lat, lat)?;
+        self.bases.lat = lat;
+        Ok(())
+    }
+}

@@ -1,0 +1,202 @@
+//! Entries of the string table.
+ghost use Rattle.std.specs.Prelude.{◌≡◌, ◌++◌, ◌∷◌, [], IfOk, OnOk};
+ghost use Rattle.std.specs.Cmp.{decided, partial_equiv_from_equiv};
+ghost use Rattle.std.proofs.Common.{ap};
+ghost use Rattle.o5_codec.specs.Table.{is_short};
+ghost use Rattle.o5_codec.specs.Shortest.{shortest_number};
+ghost use Rattle.o5_codec.specs.Formed.{formed, same_form, same_entry, inline_bytes};
+ghost use Rattle.o5_codec.specs.Writing.{user_entry, tag_entry, member_entry};
+ghost use Rattle.o5_codec.specs.SameEntry.{same_entry_decides};
+
+use crate::strings::{Form, Strings};
+use crate::table::{LONGEST, is_short};
+use crate::write::number::append_number;
+use osm_model::{Kind, Memory, Tag, Text};
+use std::alloc::Global;
+use std::hash::{Hash, Hasher};
+use std::marker::Model;
+
+/// A pair or a single string, as bytes: the first string, behind it the second. Contracts see the form and the strings.
+#[derive(Drop)]
+pub(crate) struct Entry {
+    form: Form,
+    bytes: Vec<u8>,
+    split: usize,
+}
+
+impl Model for Entry {
+    ghost use Rattle.std.specs.Prelude.{take, drop, length, ◌≤◌};
+    ghost use Rattle.o5_codec.specs.Formed.{FormedEntry, formed};
+
+    ghost Value = { FormedEntry };
+
+    ghost view = { λ e. formed e.form (take e.split e.bytes.items) (drop e.split e.bytes.items) };
+
+    ghost invariant = { λ e. e.split ≤ length e.bytes.items };
+}
+
+impl Form {
+    fn is_same(self, other: Form) -> bool
+        ensures { result ≡ same_form self other }
+    {
+        match (self, other) {
+            (Form::Pair, Form::Pair) | (Form::Single, Form::Single) => true,
+            (Form::Pair, Form::Single) | (Form::Single, Form::Pair) => false,
+        }
+    }
+}
+
+impl PartialEq for Entry {
+    ghost eq = { same_entry };
+
+    ghost laws = { partial_equiv_from_equiv (decided same_entry same_entry_decides) };
+
+    fn eq(&self, other: &Entry) -> bool {
+        let (strings, others) = (self.strings(), other.strings());
+        self.form.is_same(other.form)
+            && strings.first == others.first
+            && strings.second == others.second
+    }
+}
+
+impl Eq for Entry {
+    ghost laws = { decided same_entry same_entry_decides };
+}
+
+impl Hash for Entry {
+    ghost hash_input = { λ e. (e.strings.first ++ e.strings.second) ∷ [] };
+
+    ghost respects_eq = { λ x y same. ap (λ e. (e.strings.first ++ e.strings.second) ∷ []) ((same_entry_decides x y).0 same) };
+
+    fn hash<H: Hasher>(&self, state: &mut H) {
+        state.write(self.bytes.as_slice());
+    }
+}
+
+impl Entry {
+    /// An entry to be filled.
+    pub(crate) fn new(alloc: Global) -> Entry {
+        Entry {
+            form: Form::Pair,
+            bytes: Vec::new(alloc),
+            split: 0,
+        }
+    }
+
+    /// An entry to be filled, with room for the strings of any entry of the table.
+    pub(crate) fn with_room(alloc: Global) -> Result<Entry, Memory> {
+        Ok(Entry {
+            form: Form::Pair,
+            bytes: Vec::with_capacity(alloc, LONGEST)?,
+            split: 0,
+        })
+    }
+
+    fn strings(&self) -> Strings<'_>
+        ensures { result ≡ self.now.strings }
+    {
+        let (first, second) = self.bytes.split_at(self.split);
+        Strings { first, second }
+    }
+
+    /// Whether the strings are few enough bytes to be stored.
+    pub(crate) fn is_short(&self) -> bool
+        ensures { result ≡ is_short self.now.strings }
+    {
+        is_short(&self.strings())
+    }
+
+    /// Appends the strings inline.
+    pub(crate) fn append_inline(&self, out: &mut Vec<u8>) -> Result<(), Memory>
+        ensures { OnOk result (out.new.items ≡ out.old.items ++ inline_bytes self.now.form self.now.strings) }
+    {
+        let strings = self.strings();
+        out.push(0)?;
+        out.extend_from_slice(strings.first)?;
+        out.push(0)?;
+        match self.form {
+            Form::Pair => {
+                out.extend_from_slice(strings.second)?;
+                out.push(0)?;
+            }
+            Form::Single => {}
+        }
+        Ok(())
+    }
+
+    /// The same entry as another, in the buffer of this one.
+    pub(crate) fn refilled(mut self, other: &Entry) -> Result<Entry, Memory>
+        ensures { IfOk result (λ e. e ≡ other.now) }
+    {
+        let strings = other.strings();
+        self.clear(other.form);
+        self.extend_first(strings.first)?;
+        self.extend_second(strings.second)?;
+        Ok(self)
+    }
+
+    /// Takes the pair of a user's id and name.
+    pub(crate) fn fill_user(&mut self, uid: u64, user: &Text) -> Result<(), Memory>
+        ensures { OnOk result (self.new ≡ user_entry uid user.now) }
+    {
+        self.clear(Form::Pair);
+        if uid != 0 {
+            self.extend_number(uid)?;
+        }
+        self.extend_second(user.as_str().as_bytes())
+    }
+
+    /// Takes the pair of a tag.
+    pub(crate) fn fill_tag(&mut self, tag: &Tag) -> Result<(), Memory>
+        ensures { OnOk result (self.new ≡ tag_entry tag.now) }
+    {
+        self.clear(Form::Pair);
+        self.extend_first(tag.key.as_str().as_bytes())?;
+        self.extend_second(tag.value.as_str().as_bytes())
+    }
+
+    /// Takes the single string of a member: the digit of its kind, and its role.
+    pub(crate) fn fill_member(&mut self, kind: Kind, role: &Text) -> Result<(), Memory>
+        ensures { OnOk result (self.new ≡ member_entry kind role.now) }
+    {
+        self.clear(Form::Single);
+        self.extend_first(&[b'0' + kind.rank()])?;
+        self.extend_first(role.as_str().as_bytes())
+    }
+
+    fn clear(&mut self, form: Form)
+        ensures { self.new ≡ formed form [] [] }
+    {
+        self.form = form;
+        self.bytes.clear();
+        self.split = 0;
+    }
+
+    /// Appends bytes to the first string, the second one being empty.
+    fn extend_first(&mut self, more: &[u8]) -> Result<(), Memory>
+        requires { self.old.strings.second ≡ [] }
+        ensures { OnOk result (self.new ≡ formed self.old.form (self.old.strings.first ++ more.now) []) }
+    {
+        self.bytes.extend_from_slice(more)?;
+        self.split = self.bytes.len();
+        Ok(())
+    }
+
+    /// Appends a number to the first string, the second one being empty.
+    fn extend_number(&mut self, number: u64) -> Result<(), Memory>
+        requires { self.old.strings.second ≡ [] }
+        ensures { OnOk result (self.new ≡ formed self.old.form (self.old.strings.first ++ shortest_number number) []) }
+    {
+        let appended = append_number(&mut self.bytes, number);
+        self.split = self.bytes.len();
+        appended
+    }
+
+    /// Appends bytes to the second string.
+    fn extend_second(&mut self, more: &[u8]) -> Result<(), Memory>
+        ensures { OnOk result (self.new ≡ formed self.old.form self.old.strings.first (self.old.strings.second ++ more.now)) }
+    {
+        self.bytes.extend_from_slice(more)?;
+        Ok(())
+    }
+}

@@ -1,0 +1,145 @@
+//! The string table of a segment that is written.
+ghost use Rattle.std.specs.Prelude.{◌≡◌, ◌-◌, ◌<◌, ◌∷◌, ◌^◌, ◌++◌, [], length, take, IfOk, OnOk, None};
+ghost use Rattle.o5_codec.specs.Table.{limit};
+ghost use Rattle.o5_codec.specs.Formed.{reference_to, kept, spelled_by, kept_by};
+ghost use Rattle.o5_codec.specs.Indexed.{IsNext};
+
+use crate::table::LIMIT;
+use crate::write::entry::Entry;
+use crate::write::number::append_number;
+use circular_buffer::HeapCircularBuffer;
+use osm_model::Memory;
+use std::alloc::Global;
+use std::collections::HashMap;
+use std::marker::Model;
+
+/// The entries that references can name, each with the number of its storing. Contracts see the list of the entries, the one stored last first.
+#[derive(Drop)]
+pub(crate) struct Table {
+    ring: HeapCircularBuffer<Entry>,
+    numbers: HashMap<Entry, u64>,
+    next: u64,
+    alloc: Global,
+}
+
+impl Model for Table {
+    ghost use Rattle.std.specs.Prelude.{List};
+    ghost use Rattle.o5_codec.specs.Formed.{FormedEntry};
+
+    ghost Value = { List FormedEntry };
+
+    ghost use Rattle.o5_codec.specs.TableInside.{IsTable};
+
+    ghost view = { λ t. t.ring.items };
+
+    ghost invariant = { IsTable };
+}
+
+impl Table {
+    /// The empty table, with room for all its entries.
+    pub(crate) fn new(alloc: Global) -> Result<Table, Memory>
+        ensures { IfOk result (λ t. t ≡ []) }
+    {
+        Ok(Table {
+            ring: HeapCircularBuffer::with_capacity(alloc, LIMIT)?,
+            numbers: HashMap::new(alloc),
+            next: 0,
+            alloc,
+        })
+    }
+
+    /// Forgets all entries.
+    pub(crate) fn clear(&mut self)
+        ensures { self.new ≡ [] }
+    {
+        self.ring.clear();
+        self.numbers.clear();
+        self.next = 0;
+    }
+
+    /// Appends an entry: its reference where it stands in the table, else its strings inline, which are stored unless they are too long.
+    ///
+    /// # Errors
+    ///
+    /// For want of memory alone.
+    pub(crate) fn append(&mut self, out: &mut Vec<u8>, entry: &Entry) -> Result<(), Memory>
+        ensures bytes { OnOk result (out.new.items ≡ out.old.items ++ spelled_by entry.now (reference_to entry.now self.old)) }
+        ensures table { OnOk result (self.new ≡ kept_by entry.now (reference_to entry.now self.old) self.old) }
+    {
+        match self.reference_to(entry) {
+            Some(reference) => append_number(out, reference),
+            None => {
+                entry.append_inline(out)?;
+                self.store(entry)
+            }
+        }
+    }
+
+    /// The reference that names the entry, where it stands in the table: 1 is the entry stored last.
+    fn reference_to(&self, entry: &Entry) -> Option<u64>
+        ensures { result ≡ reference_to entry.now self.now }
+    {
+        let number = *self.numbers.get(entry)?;
+        if number < self.next {
+            return Some(self.next - number);
+        }
+        Some(self.next + (u64::MAX - number) + 1)
+    }
+
+    /// Stores an entry that doesn't stand in the table, unless it is too long.
+    fn store(&mut self, entry: &Entry) -> Result<(), Memory>
+        requires { reference_to entry.now self.old ≡ None }
+        ensures { OnOk result (self.new ≡ kept entry.now self.old) }
+    {
+        if !entry.is_short() {
+            return Ok(());
+        }
+        let (key, stored) = self.make_room();
+        let key = key.refilled(entry)?;
+        let stored = stored.refilled(entry)?;
+        self.put(key, stored)
+    }
+
+    /// Lets the oldest entry go where the table is full. Answers two buffers to use again.
+    fn make_room(&mut self) -> (Entry, Entry)
+        ensures { self.new ≡ take (limit - 1) self.old }
+    {
+        if !self.ring.is_full() {
+            return (Entry::new(self.alloc), Entry::new(self.alloc));
+        }
+        let Some(oldest) = self.ring.pop_back() else {
+            return (Entry::new(self.alloc), Entry::new(self.alloc));
+        };
+        let removed = self.numbers.remove_entry(&oldest);
+        (key_of(self.alloc, removed), oldest)
+    }
+
+    /// Stores an entry that doesn't stand in the table, where there is room: as a key, and in the ring.
+    fn put(&mut self, key: Entry, stored: Entry) -> Result<(), Memory>
+        requires room { length self.old < limit }
+        requires same { key ≡ stored }
+        requires absent { reference_to key self.old ≡ None }
+        ensures { OnOk result (self.new ≡ stored ∷ self.old) }
+    {
+        self.numbers.insert(key, self.next)?;
+        self.ring.push_front(stored);
+        let after = number_after(self.next);
+        self.next = after;
+        Ok(())
+    }
+}
+
+/// The number of the storing after this one, modulo 2^64.
+fn number_after(number: u64) -> u64
+    ensures { IsNext (2 ^ 64) number result }
+{
+    if number == u64::MAX { 0 } else { number + 1 }
+}
+
+/// The buffer of a key that was taken out, if one was.
+fn key_of(alloc: Global, removed: Option<(Entry, u64)>) -> Entry {
+    match removed {
+        Some((key, _)) => key,
+        None => Entry::new(alloc),
+    }
+}

@@ -1,0 +1,312 @@
+//! Versions, each with its line and the data set that is written for it.
+ghost use Rattle.std.specs.Prelude.{◌≡◌, false};
+
+use crate::number::read_number;
+use crate::write::entry::Entry;
+use crate::write::number::append_number;
+use crate::write::table::Table;
+use crate::{Decoder, Encoder};
+use osm_model::{Body, Kind, Meta, Tag, Tags, Text, Version};
+use std::alloc::Global;
+use std::process::Abort;
+use std::test::Fail;
+
+/// An encoder, and the kind of the version written last.
+#[derive(Drop)]
+struct Writer {
+    encoder: Encoder,
+    last: Kind,
+    ghost follows: { encoder.failed ≡ false → encoder.written.last ≡ last },
+}
+
+impl Writer {
+    fn new(alloc: Global) -> Result<Writer, Fail> {
+        Ok(Writer {
+            encoder: Encoder::new(alloc)?,
+            last: Kind::Node,
+        })
+    }
+
+    fn write(&mut self, v: &Version) -> Result<Vec<u8>, Fail> {
+        if v.kind().rank() < self.last.rank() {
+            return Err(Fail::from("the kinds fall"));
+        }
+        let set = self.encoder.write_set(v)?;
+        self.last = v.kind();
+        Ok(set)
+    }
+}
+
+/// The bytes that stand in hexadecimal.
+fn bytes_of(alloc: Global, digits: &str) -> Result<Vec<u8>, Fail> {
+    let mut bytes = Vec::new(alloc);
+    for byte in digits.split_whitespace() {
+        bytes.push(u8::from_str_radix(byte, 16)?)?;
+    }
+    Ok(bytes)
+}
+
+/// The kind of a type byte.
+fn kind_of(type_byte: u8) -> Result<Kind, Fail> {
+    match type_byte {
+        0x10 => Ok(Kind::Node),
+        0x11 => Ok(Kind::Way),
+        0x12 => Ok(Kind::Relation),
+        _ => Err(Fail::from("no type byte")),
+    }
+}
+
+/// The version of a data set, behind a reset if one stands there.
+fn read_back(reader: &mut Decoder, set: &[u8]) -> Result<Version, Fail> {
+    let set = match set {
+        [0xff, behind @ ..] => {
+            reader.reset();
+            behind
+        }
+        _ => set,
+    };
+    let (type_byte, behind) = set.split_first().ok_or("an empty set")?;
+    let (length, content) = read_number(behind)?;
+    if length != content.len() as u64 {
+        return Err(Fail::from("another length"));
+    }
+    Ok(reader.read_set(kind_of(*type_byte)?, content)?)
+}
+
+/// Writes a version, compares its data set, and reads it back.
+fn check(
+    rt: &impl Abort,
+    writer: &mut Writer,
+    reader: &mut Decoder,
+    version: &Version,
+    expected: &[u8],
+) -> Result<(), Fail> {
+    let set = writer.write(version)?;
+    assert_eq!(rt; set.as_slice(), expected);
+    let read = read_back(reader, &set)?;
+    assert_eq!(rt; &read, version);
+    Ok(())
+}
+
+/// A version by a data set that spells it in a segment of its own, its line, and the data set that is written.
+fn check_row(
+    rt: &impl Abort,
+    alloc: Global,
+    writer: &mut Writer,
+    reader: &mut Decoder,
+    row: &str,
+) -> Result<(), Fail> {
+    let (alone, rest) = row.split_once(" = ").ok_or("no line")?;
+    let (line, written) = rest.split_once(" = ").ok_or("no data set")?;
+    let version = read_back(&mut Decoder::new(alloc)?, &bytes_of(alloc, alone)?)?;
+    let mut text = Vec::new(alloc);
+    version.append_line(&mut text)?;
+    assert_eq!(rt; text.as_slice(), line.as_bytes());
+    check(rt, writer, reader, &version, &bytes_of(alloc, written)?)
+}
+
+/// Checks rows. At an empty row another encoder begins.
+fn check_rows(rt: &impl Abort, alloc: Global, rows: &str) -> Result<(), Fail> {
+    let mut writer = Writer::new(alloc)?;
+    let mut reader = Decoder::new(alloc)?;
+    for row in rows.lines() {
+        if row.is_empty() {
+            writer = Writer::new(alloc)?;
+            reader = Decoder::new(alloc)?;
+        } else {
+            check_row(rt, alloc, &mut writer, &mut reader, row)?;
+        }
+    }
+    Ok(())
+}
+
+#[test]
+fn writes_nodes_and_deletions(rt: HostRuntime) -> Result<(), Fail> {
+    let rows = "\
+10 0b 02 01 02 02 00 01 00 61 00 00 00 = n1 v1 dV c1 t1970-01-01T00:00:01Z i1 ua T x0 y0 = 10 0b 02 01 02 02 00 01 00 61 00 00 00
+10 09 02 02 04 02 00 01 00 61 00 = n1 v2 dD c1 t1970-01-01T00:00:02Z i1 ua T x y = 10 05 00 02 02 00 01
+
+10 07 02 01 02 02 00 00 00 = n1 v1 dD c1 t1970-01-01T00:00:01Z i0 u T x y = 10 07 02 01 02 02 00 00 00
+10 03 02 02 00 = n1 v2 dD c0 t i0 u T x y = 10 03 00 02 01
+10 07 02 03 02 02 00 00 00 = n1 v3 dD c1 t1970-01-01T00:00:01Z i0 u T x y = 10 05 00 03 02 00 01
+
+10 05 00 01 00 00 00 = n0 v1 dV c0 t i0 u T x0 y0 = 10 05 00 01 00 00 00
+10 05 01 01 00 00 00 = n-1 v1 dV c0 t i0 u T x0 y0 = 10 05 01 01 00 00 00
+10 05 03 01 00 00 00 = n-2 v1 dV c0 t i0 u T x0 y0 = 10 05 01 01 00 00 00
+10 05 06 01 00 00 00 = n3 v1 dV c0 t i0 u T x0 y0 = 10 05 0a 01 00 00 00";
+    check_rows(&rt, rt.alloc(), rows)
+}
+
+#[test]
+fn writes_numbers_at_their_limits(rt: HostRuntime) -> Result<(), Fail> {
+    let rows = "\
+10 0d fd ff ff ff ff ff ff ff 7f 01 00 00 00 = n-4611686018427387903 v1 dV c0 t i0 u T x0 y0 = 10 0d fd ff ff ff ff ff ff ff 7f 01 00 00 00
+10 0d fe ff ff ff ff ff ff ff 7f 01 00 00 00 = n4611686018427387903 v1 dV c0 t i0 u T x0 y0 = 10 0e fc ff ff ff ff ff ff ff ff 01 01 00 00 00
+
+10 09 02 01 00 ff c7 ce b4 0d 00 = n1 v1 dV c0 t i0 u T x-180 y0 = 10 09 02 01 00 ff c7 ce b4 0d 00
+10 09 04 01 00 80 c8 ce b4 0d 00 = n2 v1 dV c0 t i0 u T x180 y0 = 10 09 02 01 00 80 90 9d e9 1a 00
+
+10 0d 02 01 00 ff ff ff ff 0f fe ff ff ff 0f = n1 v1 dV c0 t i0 u T x-214.7483648 y214.7483647 = 10 0d 02 01 00 ff ff ff ff 0f fe ff ff ff 0f
+10 0d 02 01 00 fe ff ff ff 0f ff ff ff ff 0f = n1 v1 dV c0 t i0 u T x214.7483647 y-214.7483648 = 10 0d 00 01 00 fe ff ff ff 1f fd ff ff ff 1f
+
+10 18 02 ff ff ff ff 0f fe ff ff ff 1f fe ff ff ff 1f 00 ff ff ff ff 0f 00 00 = n1 v4294967295 dD c4294967295 t2106-02-07T06:28:15Z i4294967295 u T x y = 10 18 02 ff ff ff ff 0f fe ff ff ff 1f fe ff ff ff 1f 00 ff ff ff ff 0f 00 00";
+    check_rows(&rt, rt.alloc(), rows)
+}
+
+#[test]
+fn writes_ways_and_relations(rt: HostRuntime) -> Result<(), Fail> {
+    let rows = "\
+11 04 0a 01 00 00 = w5 v1 dV c0 t i0 u T N = ff 11 04 0a 01 00 00
+11 03 0a 02 00 = w5 v2 dD c0 t i0 u T N = 11 03 00 02 00
+
+12 0c 02 01 00 04 02 00 30 00 00 30 00 00 = r1 v1 dV c0 t i0 u T0= Mn1@ = ff 12 0c 02 01 00 04 02 00 30 00 00 30 00 00
+
+12 12 02 01 00 0e 02 00 30 61 00 04 00 31 61 00 02 02 02 01 = r1 v1 dV c0 t i0 u T Mn1@a,w2@a,n2@a,w3@a = ff 12 12 02 01 00 0e 02 00 30 61 00 04 00 31 61 00 02 02 02 01
+
+10 0a 02 01 00 00 00 00 6b 00 76 00 = n1 v1 dV c0 t i0 u Tk=v x0 y0 = 10 0a 02 01 00 00 00 00 6b 00 76 00
+11 0b 02 01 00 02 02 04 00 6b 00 76 00 = w1 v1 dV c0 t i0 u Tk=v Nn1,n3 = ff 11 0b 02 01 00 02 02 04 00 6b 00 76 00
+11 06 04 01 00 02 02 01 = w2 v1 dV c0 t i0 u T Nn1,n0 = 11 06 02 01 00 02 03 01
+12 04 02 01 00 00 = r1 v1 dV c0 t i0 u T M = ff 12 04 02 01 00 00";
+    check_rows(&rt, rt.alloc(), rows)
+}
+
+fn tag(alloc: Global, key: &str, value: &str) -> Result<Tag, Fail> {
+    Ok(Tag {
+        key: Text::from_string(String::from_str(alloc, key)?),
+        value: Text::from_string(String::from_str(alloc, value)?),
+    })
+}
+
+/// A node at 0, 0 without a time.
+fn node(alloc: Global, id: i64, tags: Vec<Tag>) -> Result<Version, Fail> {
+    let meta = Meta {
+        version: 1,
+        time: None,
+        changeset: 0,
+        uid: 0,
+        user: Text::new(alloc),
+    };
+    let body = Body::Node {
+        lon: 0,
+        lat: 0,
+        tags: Tags::from_vec(tags),
+    };
+    Ok(Version::new(id, meta, body)?)
+}
+
+/// Node 1, whose tags have the numbers from 1 on as keys, in five digits, and empty values.
+fn with_many_tags(alloc: Global, count: u32) -> Result<Version, Fail> {
+    let mut tags = Vec::new(alloc);
+    for number in 0..count {
+        let key = format!(in alloc; "{:05}", number.wrapping_add(1))?;
+        tags.push(tag(alloc, key.as_str(), "")?)?;
+    }
+    node(alloc, 1, tags)
+}
+
+/// Writes node 1 with so many tags, and node 2 with one tag, whose data set is compared.
+fn check_second(
+    rt: &impl Abort,
+    alloc: Global,
+    count: u32,
+    key: &str,
+    expected: &str,
+) -> Result<(), Fail> {
+    let mut writer = Writer::new(alloc)?;
+    let mut reader = Decoder::new(alloc)?;
+    let set = writer.write(&with_many_tags(alloc, count)?)?;
+    let _ = read_back(&mut reader, &set)?;
+    let version = node(alloc, 2, vec![in alloc; tag(alloc, key, "")?]?)?;
+    let expected = bytes_of(alloc, expected)?;
+    check(rt, &mut writer, &mut reader, &version, &expected)
+}
+
+#[test]
+fn refers_to_the_last_15000_pairs(rt: HostRuntime) -> Result<(), Fail> {
+    let alloc = rt.alloc();
+    check_second(&rt, alloc, 15_000, "00001", "10 07 02 01 00 00 00 98 75")?;
+    check_second(
+        &rt,
+        alloc,
+        15_001,
+        "00001",
+        "10 0d 02 01 00 00 00 00 30 30 30 30 31 00 00",
+    )?;
+    check_second(&rt, alloc, 15_001, "00002", "10 07 02 01 00 00 00 98 75")
+}
+
+/// The table as the format has it, for entries that numbers stand for: the numbers stored last, the latest at the end, and a search of them.
+#[derive(Drop)]
+struct Plain {
+    stored: Vec<u32>,
+}
+
+impl Plain {
+    fn append(&mut self, out: &mut Vec<u8>, number: u32, entry: &Entry) -> Result<(), Fail> {
+        for (place, other) in self.stored.iter().enumerate() {
+            if *other == number {
+                return Ok(append_number(out, (self.stored.len() - place) as u64)?);
+            }
+        }
+        entry.append_inline(out)?;
+        if entry.is_short() {
+            self.stored.push(number)?;
+        }
+        if self.stored.len() > 15_000 {
+            let _ = self.stored.remove(0);
+        }
+        Ok(())
+    }
+}
+
+/// As many letters as an entry may have, but two.
+fn long_text(alloc: Global) -> Result<String, Fail> {
+    let mut text = String::new(alloc);
+    for _ in 0..248u32 {
+        text.push('a')?;
+    }
+    Ok(text)
+}
+
+/// Fills the entry that a number stands for: a member, or a tag, now and then a long one.
+fn fill(alloc: Global, entry: &mut Entry, number: u32) -> Result<(), Fail> {
+    let text = format!(in alloc; "{number}")?;
+    match number % 16 {
+        0..=4 => entry.fill_tag(&tag(alloc, text.as_str(), "")?)?,
+        5..=9 => entry.fill_tag(&tag(alloc, "", text.as_str())?)?,
+        10..=14 => {
+            let role = Text::from_string(String::from_str(alloc, text.as_str())?);
+            entry.fill_member(Kind::Way, &role)?;
+        }
+        _ => {
+            let value = long_text(alloc)?;
+            entry.fill_tag(&tag(alloc, text.as_str(), value.as_str())?)?;
+        }
+    }
+    Ok(())
+}
+
+#[test]
+fn refers_as_a_plain_search_does(rt: HostRuntime) -> Result<(), Fail> {
+    let alloc = rt.alloc();
+    let mut table = Table::new(alloc)?;
+    let mut plain = Plain {
+        stored: Vec::new(alloc),
+    };
+    let mut entry = Entry::new(alloc);
+    let mut random: u64 = 1;
+    for _ in 0..20_000u32 {
+        random = random
+            .wrapping_mul(6_364_136_223_846_793_005)
+            .wrapping_add(1);
+        let number = (random >> 33) as u32 % 60_000;
+        fill(alloc, &mut entry, number)?;
+        let mut written = Vec::new(alloc);
+        table.append(&mut written, &entry)?;
+        let mut expected = Vec::new(alloc);
+        plain.append(&mut expected, number, &entry)?;
+        assert_eq!(rt; written.as_slice(), expected.as_slice());
+    }
+    assert_eq!(rt; plain.stored.len(), 15_000);
+    Ok(())
+}

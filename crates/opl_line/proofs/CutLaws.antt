@@ -1,0 +1,108 @@
+-- Where a text is cut first, and into which pieces.
+use Rattle.std.proofs.Common.{◌≡◌, ℕ, suc, ◌+◌, ◌<◌, ◌≤◌, Bool, true, false, not, cond, List, [], ◌∷◌, ◌++◌, length, take, drop, get_or, refl, ap, ◌∙◌, arith, Option, Some, None, position, ltb}
+use Rattle.std.proofs.lemmas.Bool.{and_parts, ltb-true, ltb-false}
+use Rattle.std.proofs.lemmas.Bool.Decides.{nat_tests}
+use Rattle.std.proofs.lemmas.List.Sums.{passes_at_first}
+use Rattle.std.proofs.lemmas.Str.{IsCharBoundary-before_ascii, IsCharBoundary-after_ascii}
+use Rattle.std.specs.List.{list_all, position_or_len}
+use Rattle.std.specs.Str.{IsUtf8, IsCharBoundary}
+use Rattle.opl_line.specs.declared.cut.Cut.{Cut}
+use Rattle.opl_line.specs.declared.cut.Cut.TheVariants.{Blanks, Commas, Equals, Ats, Percents, Points}
+use Rattle.opl_line.specs.Cut.{is_end, lengthened, split_first, begun_with, cut, pieces_of}
+use Rattle.opl_line.proofs.BoolLaws.{not_true}
+
+module _ (p : ℕ → Bool) where
+  -- what was split off is the first piece
+  pub cut_split : (bytes : List ℕ) → cut p bytes ≡ (split_first p bytes).0 ∷ pieces_of p (split_first p bytes).1
+  cut_split [] = refl
+  cut_split (b ∷ bs) =
+      elim (p b) as (λ t. cond t ([] ∷ cut p bs) (begun_with b (cut p bs)) ≡ (cond t ([], Some bs) (lengthened b (split_first p bs))).0 ∷ pieces_of p (cond t ([], Some bs) (lengthened b (split_first p bs))).1) [
+        | true ↦ refl
+        | false ↦ ap (begun_with b) (cut_split bs)
+      ]
+
+  split_found : (bytes : List ℕ) → let n = position_or_len p bytes in n < length bytes → split_first p bytes ≡ (take n bytes, Some (drop (n + 1) bytes))
+  split_found [] h = absurd (omega (arith, h))
+  split_found (b ∷ bs) h =
+      let n = position_or_len p bs in
+      elim (p b) as (λ t. cond (not t) (1 + n) 0 < suc (length bs) → cond t ([], Some bs) (lengthened b (split_first p bs)) ≡ (take (cond (not t) (1 + n) 0) (b ∷ bs), Some (drop (cond (not t) (1 + n) 0 + 1) (b ∷ bs)))) [
+        | true ↦ λ _. refl
+        | false ↦ λ k.
+            let one : 1 + n ≡ suc n = omega arith in
+            let two : suc n + 1 ≡ suc (n + 1) = omega arith in
+            rw (one, two) (ap (lengthened b) (split_found bs (omega (arith, k))))
+      ] h
+
+  split_none : (bytes : List ℕ) → length bytes ≤ position_or_len p bytes → split_first p bytes ≡ (bytes, None)
+  split_none [] h = refl
+  split_none (b ∷ bs) h =
+      let n = position_or_len p bs in
+      elim (p b) as (λ t. suc (length bs) ≤ cond (not t) (1 + n) 0 → cond t ([], Some bs) (lengthened b (split_first p bs)) ≡ (b ∷ bs, None)) [
+        | true ↦ λ k. absurd (omega (arith, k))
+        | false ↦ λ k. ap (lengthened b) (split_none bs (omega (arith, k)))
+      ] h
+
+  -- where the first end was found, the text is split there
+  pub record SplitAt (bytes : List ℕ) (n : ℕ) : Type 0 where
+    pub within : n < length bytes
+    pub passes : p (get_or bytes n 0) ≡ true
+    pub split : split_first p bytes ≡ (take n bytes, Some (drop (n + 1) bytes))
+
+  pub split_at : (bytes : List ℕ) (n : ℕ) → position p bytes ≡ Some n → SplitAt bytes n
+  split_at bytes n found =
+      let at = position_or_len p bytes in
+      elim (ltb at (length bytes)) as (λ t. ltb at (length bytes) ≡ t → cond t (Some at) None ≡ Some n → SplitAt bytes n) [
+        | true ↦ λ e f.
+            let same : at ≡ n = cc in
+            let less = ltb-true _ _ e in
+            record {
+              within = rw same at less;
+              passes = rw same at (passes_at_first p bytes 0 less);
+              split = rw same at (split_found bytes less);
+            }
+        | false ↦ λ e f. cc
+      ] refl found
+
+  pub split_nowhere : (bytes : List ℕ) → position p bytes ≡ None → split_first p bytes ≡ (bytes, None)
+  split_nowhere bytes found =
+      let at = position_or_len p bytes in
+      elim (ltb at (length bytes)) as (λ t. ltb at (length bytes) ≡ t → cond t (Some at) None ≡ None → split_first p bytes ≡ (bytes, None)) [
+        | true ↦ λ e f. cc
+        | false ↦ λ e f. split_none bytes (ltb-false _ _ e)
+      ] refl found
+
+-- all bytes that are cut at are ASCII
+pub ends_ascii : (at : Cut) (b : ℕ) → is_end at b ≡ true → b < 128
+ends_ascii Blanks b e = grind (arith, nat_tests)
+ends_ascii Commas b e = grind (arith, nat_tests)
+ends_ascii Equals b e = grind (arith, nat_tests)
+ends_ascii Ats b e = grind (arith, nat_tests)
+ends_ascii Percents b e = grind (arith, nat_tests)
+ends_ascii Points b e = grind (arith, nat_tests)
+
+-- so a text may be cut before and behind them
+pub cut_before : (at : Cut) (text : List ℕ) (n : ℕ) → position (is_end at) text ≡ Some n → IsCharBoundary text n
+cut_before at text n found = let s = split_at (is_end at) text n found in IsCharBoundary-before_ascii text n s.within (ends_ascii at _ s.passes)
+
+pub cut_behind : (at : Cut) (text : List ℕ) (n : ℕ) → IsUtf8 text → position (is_end at) text ≡ Some n → IsCharBoundary text (n + 1)
+cut_behind at text n utf8 found = let s = split_at (is_end at) text n found in IsCharBoundary-after_ascii text n utf8 s.within (ends_ascii at _ s.passes)
+
+-- how much is left of what stands behind a first piece
+abbrev pub left_of : Option (List ℕ) → ℕ
+left_of None = 0
+left_of (Some bytes) = length bytes + 1
+
+module _ (p : ℕ → Bool) where
+  -- where a text is split that has no earlier end
+  pub split_front : (front rest : List ℕ) (b : ℕ) → list_all (λ x. not (p x)) front ≡ true → p b ≡ true → split_first p (front ++ b ∷ rest) ≡ (front, Some rest)
+  split_front [] rest b none is = rw is refl
+  split_front (x ∷ xs) rest b none is =
+      let parts = and_parts (not (p x)) (list_all (λ y. not (p y)) xs) none in
+      ap (λ t. cond t ([], Some (xs ++ b ∷ rest)) (lengthened x (split_first p (xs ++ b ∷ rest)))) (not_true (p x) parts.0)
+      ∙ ap (lengthened x) (split_front xs rest b parts.1 is)
+
+  pub split_never : (bytes : List ℕ) → list_all (λ x. not (p x)) bytes ≡ true → split_first p bytes ≡ (bytes, None)
+  split_never [] none = refl
+  split_never (x ∷ xs) none =
+      let parts = and_parts (not (p x)) (list_all (λ y. not (p y)) xs) none in
+      ap (λ t. cond t ([], Some xs) (lengthened x (split_first p xs))) (not_true (p x) parts.0) ∙ ap (lengthened x) (split_never xs parts.1)

@@ -1,0 +1,71 @@
+-- Where the raw characters of a text end.
+use Rattle.std.proofs.Common.{◌≡◌, ℕ, ◌+◌, ◌<◌, Bool, true, false, not, cond, eqb, ◌&&◌, List, [], ◌∷◌, ◌++◌, length, take, drop, get_or, Some, None, position, refl, sym, ap, ◌∙◌, add-one}
+use Rattle.std.proofs.lemmas.Bool.{and_parts}
+use Rattle.std.proofs.lemmas.List.{take-append-drop}
+use Rattle.std.proofs.Math.Seq.{drop-cons}
+use Rattle.std.specs.List.{list_all}
+use Rattle.opl_line.specs.declared.cut.Cut.TheVariants.{Percents}
+use Rattle.opl_line.specs.Cut.{is_end, lengthened, split_first}
+use Rattle.opl_line.specs.Text.{is_raw}
+use Rattle.opl_line.proofs.BoolLaws.{not_true}
+use Rattle.opl_line.proofs.CutLaws.{split_at, split_nowhere, split_front, split_never}
+use Rattle.opl_line.proofs.ContentLaws.{all_weaker, raw_no_percent}
+
+abbrev pub is_other : ℕ → Bool
+is_other b = not (is_raw b)
+
+twice : (b : Bool) → not (not b) ≡ true → b ≡ true
+twice true e = refl
+twice false e = cc
+
+-- what stands before the first other character is raw
+front_raw : (bytes : List ℕ) → list_all is_raw (split_first is_other bytes).0 ≡ true
+front_raw [] = refl
+front_raw (b ∷ bs) =
+    elim (is_raw b) as (λ t. is_raw b ≡ t → list_all is_raw (cond (not t) ([], Some bs) (lengthened b (split_first is_other bs))).0 ≡ true) [
+      | true ↦ λ is. λ i. is i && front_raw bs i
+      | false ↦ λ is. refl
+    ] refl
+
+-- the first character that isn't raw
+pub record RawEnd (bytes : List ℕ) (n : ℕ) : Type 0 where
+  pub within : n < length bytes
+  pub raw : list_all is_raw (take n bytes) ≡ true
+  pub other : is_raw (get_or bytes n 0) ≡ false
+  pub whole : bytes ≡ take n bytes ++ get_or bytes n 0 ∷ drop (n + 1) bytes
+
+pub raw_end : (bytes : List ℕ) (n : ℕ) → position is_other bytes ≡ Some n → RawEnd bytes n
+raw_end bytes n found =
+    let s = split_at is_other bytes n found in
+    let within = s.within in
+    record {
+      within = within;
+      raw = sym (ap (λ parts. list_all is_raw parts.0) s.split) ∙ front_raw bytes;
+      other = not_true (is_raw (get_or bytes n 0)) s.passes;
+      whole = sym (take-append-drop n bytes) ∙ ap (λ t. take n bytes ++ t) (rw (add-one, drop-cons bytes n 0 within) refl);
+    }
+
+-- a percent sign ends them
+pub percent_ends : (bytes : List ℕ) (n : ℕ) → RawEnd bytes n → get_or bytes n 0 ≡ 37 → split_first (is_end Percents) bytes ≡ (take n bytes, Some (drop (n + 1) bytes))
+percent_ends bytes n end is =
+    ap (split_first (is_end Percents)) (end.whole ∙ ap (λ b. take n bytes ++ b ∷ drop (n + 1) bytes) is)
+    ∙ split_front (is_end Percents) (take n bytes) (drop (n + 1) bytes) 37 (all_weaker is_raw (λ b. not (eqb b 37)) raw_no_percent (take n bytes) end.raw) refl
+
+-- another character is in the piece before the first percent sign
+unraw : (front rest : List ℕ) (b : ℕ) → list_all is_raw front ≡ true → is_raw b ≡ false → eqb b 37 ≡ false → list_all is_raw (split_first (is_end Percents) (front ++ b ∷ rest)).0 ≡ false
+unraw [] rest b all other apart =
+    ap (λ t. list_all is_raw (cond t ([], Some rest) (lengthened b (split_first (is_end Percents) rest))).0) apart
+    ∙ ap (λ t. t && list_all is_raw (split_first (is_end Percents) rest).0) other
+unraw (x ∷ xs) rest b all other apart =
+    let parts = and_parts (is_raw x) (list_all is_raw xs) all in
+    ap (λ t. list_all is_raw (cond t ([], Some (xs ++ b ∷ rest)) (lengthened x (split_first (is_end Percents) (xs ++ b ∷ rest)))).0) (not_true (eqb x 37) (raw_no_percent x parts.0))
+    ∙ (λ i. parts.0 i && unraw xs rest b parts.1 other apart i)
+
+pub other_ends : (bytes : List ℕ) (n : ℕ) → RawEnd bytes n → eqb (get_or bytes n 0) 37 ≡ false → list_all is_raw (split_first (is_end Percents) bytes).0 ≡ false
+other_ends bytes n end apart = ap (λ t. list_all is_raw (split_first (is_end Percents) t).0) end.whole ∙ unraw (take n bytes) (drop (n + 1) bytes) (get_or bytes n 0) end.raw end.other apart
+
+-- nothing ends them
+pub all_raw : (bytes : List ℕ) → position is_other bytes ≡ None → (list_all is_raw bytes ≡ true) × (split_first (is_end Percents) bytes ≡ (bytes, None))
+all_raw bytes none =
+    let raw = sym (ap (λ parts. list_all is_raw parts.0) (split_nowhere is_other bytes none)) ∙ front_raw bytes in
+    (raw, split_never (is_end Percents) bytes (all_weaker is_raw (λ b. not (eqb b 37)) raw_no_percent bytes raw))

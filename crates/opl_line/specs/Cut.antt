@@ -1,0 +1,41 @@
+-- Texts cut at some of their bytes.
+use Rattle.std.specs.Prelude.{ℕ, Bool, ◌==◌, ◌||◌, List, [], ◌∷◌, Option, Some, None, if◌then◌else◌}
+use Rattle.opl_line.specs.declared.cut.Cut.{Cut}
+use Rattle.opl_line.specs.declared.cut.Cut.TheVariants.{Blanks, Commas, Equals, Ats, Percents, Points}
+
+-- a space or a tab
+abbrev pub is_blank : ℕ → Bool
+is_blank b = (b == 32) || (b == 9)
+
+-- the bytes that a text is cut at
+abbrev pub is_end : Cut → ℕ → Bool
+is_end Blanks = is_blank
+is_end Commas = λ b. b == 44
+is_end Equals = λ b. b == 61
+is_end Ats = λ b. b == 64
+is_end Percents = λ b. b == 37
+is_end Points = λ b. b == 46
+
+-- one more byte at the front of the first piece
+abbrev pub lengthened : {X : Type 0} → ℕ → List ℕ × X → List ℕ × X
+lengthened b pieces = (b ∷ pieces.0, pieces.1)
+
+-- what stands before the first byte that is cut at, and what stands behind it, if there is one
+abbrev pub split_first : (ℕ → Bool) → List ℕ → List ℕ × Option (List ℕ)
+split_first is_end [] = ([], None)
+split_first is_end (b ∷ bs) = if is_end b then ([], Some bs) else lengthened b (split_first is_end bs)
+
+-- one more byte at the front of the first of several pieces
+abbrev pub begun_with : ℕ → List (List ℕ) → List (List ℕ)
+begun_with b [] = (b ∷ []) ∷ []
+begun_with b (piece ∷ pieces) = (b ∷ piece) ∷ pieces
+
+-- the pieces between the bytes that are cut at; there is one more of them than of those bytes
+abbrev pub cut : (ℕ → Bool) → List ℕ → List (List ℕ)
+cut is_end [] = [] ∷ []
+cut is_end (b ∷ bs) = if is_end b then [] ∷ cut is_end bs else begun_with b (cut is_end bs)
+
+-- the pieces of what stands behind a first piece
+abbrev pub pieces_of : (ℕ → Bool) → Option (List ℕ) → List (List ℕ)
+pieces_of is_end None = []
+pieces_of is_end (Some bytes) = cut is_end bytes

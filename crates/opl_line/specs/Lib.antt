@@ -1,0 +1,14 @@
+pub mod Reason
+pub mod Answer
+pub mod Cut
+pub mod Number
+pub mod Text
+pub mod Time
+pub mod Item
+pub mod Field
+pub mod Reading
+pub mod Content
+pub mod Part
+pub mod Spells
+pub mod Canonical
+pub mod LineReason

@@ -1,0 +1,82 @@
+-- What the fields of an OPL line spell (the OPL manual; which contents are accepted is told by the readings).
+use Rattle.std.specs.Prelude.{◌≡◌, ℕ, ℤ, Bool, List, ◌∷◌, Option, Some, Ok}
+use Rattle.osm_model.specs.declared.kind.Kind.{Kind}
+use Rattle.osm_model.specs.declared.kind.Kind.TheVariants as kind
+use Rattle.osm_model.specs.declared.tags.Tag.{Tag}
+use Rattle.osm_model.specs.declared.members.Member.{Member}
+use Rattle.opl_line.specs.declared.field.Fields.{Fields}
+use Rattle.opl_line.specs.Number.{reading_coordinate}
+use Rattle.opl_line.specs.Time.{reading_time}
+use Rattle.opl_line.specs.Content.{SpellsCharacters, SpellsTag, SpellsReference, SpellsMember, SpellsList}
+use Rattle.opl_line.specs.Field.{reading_number_32, reading_count, reading_deleted, reading_optional}
+
+-- what one field says
+pub data Part : Type 0 where
+  Number : ℕ → Part
+  Deleted : Bool → Part
+  Changeset : ℕ → Part
+  Time : Option ℕ → Part
+  UserId : ℕ → Part
+  User : List ℕ → Part
+  Tags : List Tag → Part
+  Longitude : Option ℤ → Part
+  Latitude : Option ℤ → Part
+  References : List ℤ → Part
+  Members : List Member → Part
+
+-- the letter of its field
+abbrev pub letter_of : Part → ℕ
+letter_of (Number n) = 118
+letter_of (Deleted d) = 100
+letter_of (Changeset n) = 99
+letter_of (Time t) = 116
+letter_of (UserId n) = 105
+letter_of (User t) = 117
+letter_of (Tags ts) = 84
+letter_of (Longitude x) = 120
+letter_of (Latitude y) = 121
+letter_of (References ids) = 78
+letter_of (Members ms) = 77
+
+-- the content of a field spells the part
+abbrev pub SpellsContent : List ℕ → Part → Type 0
+SpellsContent content (Number n) = reading_number_32 content ≡ Ok n
+SpellsContent content (Deleted d) = reading_deleted content ≡ Ok d
+SpellsContent content (Changeset n) = reading_count content ≡ Ok n
+SpellsContent content (Time t) = reading_optional reading_time content ≡ Ok t
+SpellsContent content (UserId n) = reading_count content ≡ Ok n
+SpellsContent content (User t) = SpellsCharacters content t
+SpellsContent content (Tags ts) = SpellsList SpellsTag content ts
+SpellsContent content (Longitude x) = reading_optional reading_coordinate content ≡ Ok x
+SpellsContent content (Latitude y) = reading_optional reading_coordinate content ≡ Ok y
+SpellsContent content (References ids) = SpellsList SpellsReference content ids
+SpellsContent content (Members ms) = SpellsList SpellsMember content ms
+
+-- the kind of object has such fields
+abbrev pub IsPartOf : Kind → Part → Type 0
+IsPartOf k (Longitude x) = k ≡ kind.Node
+IsPartOf k (Latitude y) = k ≡ kind.Node
+IsPartOf k (References ids) = k ≡ kind.Way
+IsPartOf k (Members ms) = k ≡ kind.Relation
+IsPartOf k _ = Unit {0}
+
+-- a field, which is a letter and a content, spells a part
+pub record SpellsPart (k : Kind) (field : List ℕ) (part : Part) : Type 0 where
+  pub content : List ℕ
+  pub lettered : field ≡ letter_of part ∷ content
+  pub of_kind : IsPartOf k part
+  pub spelled : SpellsContent content part
+
+-- what is said together with one more part
+abbrev pub with_part : Fields → Part → Fields
+with_part fields (Number n) = record fields { number = Some n }
+with_part fields (Deleted d) = record fields { deleted = Some d }
+with_part fields (Changeset n) = record fields { changeset = Some n }
+with_part fields (Time t) = record fields { time = Some t }
+with_part fields (UserId n) = record fields { uid = Some n }
+with_part fields (User t) = record fields { user = Some t }
+with_part fields (Tags ts) = record fields { tags = Some ts }
+with_part fields (Longitude x) = record fields { longitude = Some x }
+with_part fields (Latitude y) = record fields { latitude = Some y }
+with_part fields (References ids) = record fields { references = Some ids }
+with_part fields (Members ms) = record fields { members = Some ms }

@@ -1,0 +1,74 @@
+-- Which version an OPL line spells (the OPL manual; the order of fields, and what a missing one means, are own rules of this project).
+use Rattle.std.specs.Prelude.{◌≡◌, ℕ, ℤ, Bool, true, false, List, [], ◌∷◌, map, fold, filter, nat_eq, Some, None, Ok, Err}
+use Rattle.std.specs.List.{IsDistinct}
+use Rattle.std.specs.Str.{IsUtf8}
+use Rattle.osm_model.specs.declared.kind.Kind.{Kind}
+use Rattle.osm_model.specs.declared.body.Body.{Body}
+use Rattle.osm_model.specs.Data.{VersionData}
+use Rattle.osm_model.specs.New.{version_or_fault}
+use Rattle.opl_line.specs.declared.cut.Cut.TheVariants.{Blanks}
+use Rattle.opl_line.specs.declared.field.Fields.{Fields}
+use Rattle.opl_line.specs.declared.reason.OplReason.{OplReason}
+use Rattle.opl_line.specs.Cut.{is_end, cut}
+use Rattle.opl_line.specs.Field.{nothing_said}
+use Rattle.opl_line.specs.Content.{SpellsObject, Pairwise}
+use Rattle.opl_line.specs.Part.{Part, letter_of, SpellsPart, with_part}
+use Rattle.opl_line.specs.Reading.{is_skipped, meta_of, reading_body, reading_line}
+
+-- a field between two blanks may be empty, and says nothing then
+abbrev pub is_full : List ℕ → Bool
+is_full [] = false
+is_full (b ∷ bs) = true
+
+-- the version of the id, of what the parts say, and of what is so where a part is missing; a deletion keeps no body
+pub record IsVersionOf (kind : Kind) (id : ℤ) (fields : Fields) (v : VersionData) : Type 0 where
+  pub body : Body
+  pub has_body : reading_body kind fields ≡ Ok body
+  pub made : version_or_fault id (meta_of fields) body ≡ Ok v
+
+-- what all parts say
+abbrev pub said_by : List Part → Fields
+said_by = fold with_part nothing_said
+
+-- A line tells an object and parts: it is UTF-8, isn't skipped, and is a list of fields parted by blanks, blanks at its end being free. The first field spells the kind and the id. The others begin with different letters, all of the kind, and each spells a part.
+pub record Tells (line : List ℕ) (kind : Kind) (id : ℤ) (parts : List Part) : Type 0 where
+  pub utf8 : IsUtf8 line
+  pub not_skipped : is_skipped line ≡ false
+  pub object : List ℕ
+  pub others : List (List ℕ)
+  pub fields : cut (is_end Blanks) line ≡ object ∷ others
+  pub names : SpellsObject object kind id
+  pub spelled : Pairwise (SpellsPart kind) (filter is_full others) parts
+  pub different : IsDistinct nat_eq (map letter_of parts)
+
+-- A line spells the version of what it tells.
+pub record Spells (line : List ℕ) (v : VersionData) : Type 0 where
+  pub kind : Kind
+  pub id : ℤ
+  pub parts : List Part
+  pub tells : Tells line kind id parts
+  pub version : IsVersionOf kind id (said_by parts) v
+
+-- the line is none that is skipped, and spells no version
+pub record SpellsNothing (line : List ℕ) : Type 0 where
+  pub kept : is_skipped line ≡ false
+  pub none : (v : VersionData) → Spells line v → ⊥
+
+-- What is read is spelled so.
+abbrev pub ReadIsSpelled : Type 0
+ReadIsSpelled = (line : List ℕ) (v : VersionData) → reading_line line ≡ Ok (Some v) → Spells line v
+
+-- What is spelled so is read.
+abbrev pub SpelledIsRead : Type 0
+SpelledIsRead = (line : List ℕ) (v : VersionData) → Spells line v → reading_line line ≡ Ok (Some v)
+
+-- A line spells at most one version.
+abbrev pub OneReading : Type 0
+OneReading = (line : List ℕ) (v w : VersionData) → Spells line v → Spells line w → v ≡ w
+
+-- A line that is refused spells nothing, and neither does one that is skipped.
+abbrev pub RefusedSpellsNothing : Type 0
+RefusedSpellsNothing = (line : List ℕ) (reason : OplReason) (v : VersionData) → reading_line line ≡ Err reason → Spells line v → ⊥
+
+abbrev pub SkippedSpellsNothing : Type 0
+SkippedSpellsNothing = (line : List ℕ) (v : VersionData) → reading_line line ≡ Ok None → Spells line v → ⊥

@@ -1,0 +1,163 @@
+//! OPL lines, read and written.
+ghost use Rattle.std.specs.Prelude.{◌≡◌, ◌⊎◌, ◌++◌, true, IfOk, IfErr, OnOk, MatchOption};
+ghost use Rattle.osm_model.specs.Line.{line};
+ghost use Rattle.osm_model.specs.New.{is_dated};
+ghost use Rattle.opl_line.specs.Answer.{Answers};
+ghost use Rattle.opl_line.specs.Reading as spec;
+ghost use Rattle.opl_line.specs.Spells.{Spells, SpellsNothing};
+ghost use Rattle.opl_line.specs.LineReason.{LineReason};
+ghost use Rattle.opl_line.specs.declared.reason.OplReason.TheVariants as opl;
+
+use crate::OplReason;
+use crate::cut::Cut;
+use crate::field::Fields;
+use crate::item::kind_of_letter;
+use crate::number::read_id;
+use osm_model::{Body, Kind, Members, Memory, Meta, References, Tags, Text, ValueFault, Version};
+use std::alloc::Global;
+
+/// The version that a line spells, or `None` for a line that is skipped: an empty one, or one that begins with `#`.
+/// The line has no line end.
+///
+/// # Errors
+///
+/// `NotUtf8` where the line isn't UTF-8; then the reason of its leftmost faulty field; then `NoVersion`, `NoTime` and
+/// `NoLocation`, in this order; `Memory` where a growth was refused.
+pub fn read_line(alloc: Global, line: &[u8]) -> Result<Option<Version>, OplReason>
+    ensures reading { Answers (spec.reading_line line.now) result }
+    ensures spelled { IfOk result (λ read. MatchOption read (spec.is_skipped line.now ≡ true) (Spells line.now)) }
+    ensures refused { IfErr result (λ reason. (reason ≡ opl.Memory) ⊎ SpellsNothing line.now) }
+    ensures reason { IfErr result (λ reason. (reason ≡ opl.Memory) ⊎ LineReason line.now reason) }
+{
+    if is_skipped(line) {
+        return Ok(None);
+    }
+    let Ok(text) = simdutf8::compat::from_utf8(line) else {
+        return Err(OplReason::NotUtf8);
+    };
+    read_version(alloc, text).map(Some)
+}
+
+/// Whether a line is skipped.
+fn is_skipped(line: &[u8]) -> bool
+    ensures { result ≡ spec.is_skipped line.now }
+{
+    match line.first() {
+        None => true,
+        Some(byte) => *byte == b'#',
+    }
+}
+
+/// The version of a line that isn't skipped.
+fn read_version(alloc: Global, line: &str) -> Result<Version, OplReason>
+    ensures { Answers (spec.reading_version line.now) result }
+{
+    let (object, behind) = Cut::Blanks.split(line);
+    let (kind, id) = read_object(object.as_bytes())?;
+    let fields = Fields::read(alloc, kind, behind)?;
+    to_version(alloc, kind, id, fields)
+}
+
+/// The kind and the id of an object.
+fn read_object(field: &[u8]) -> Result<(Kind, i64), OplReason>
+    ensures { result ≡ spec.reading_object field.now }
+{
+    let Some((letter, digits)) = field.split_first() else {
+        return Err(OplReason::UnknownKind);
+    };
+    let Some(kind) = kind_of_letter(*letter) else {
+        return Err(OplReason::UnknownKind);
+    };
+    Ok((kind, read_id(digits)?))
+}
+
+/// The version of what the fields of a line say.
+fn to_version(alloc: Global, kind: Kind, id: i64, fields: Fields) -> Result<Version, OplReason>
+    ensures { result ≡ spec.reading_whole kind id fields }
+{
+    let mut fields = fields;
+    let user = fields.user.take();
+    let meta = Meta {
+        version: fields.number.unwrap_or(0),
+        time: fields.time.unwrap_or(None),
+        changeset: fields.changeset.unwrap_or(0),
+        uid: fields.uid.unwrap_or(0),
+        user: user.unwrap_or(Text::new(alloc)),
+    };
+    if meta.version == 0 {
+        return Err(OplReason::NoVersion);
+    }
+    if !is_dated(&meta) {
+        return Err(OplReason::NoTime);
+    }
+    let body = to_body(alloc, kind, fields)?;
+    Version::new(id, meta, body).map_err(reason_of)
+}
+
+/// The body of what the fields of a line say.
+fn to_body(alloc: Global, kind: Kind, fields: Fields) -> Result<Body, OplReason>
+    ensures { result ≡ spec.reading_body kind fields }
+{
+    if fields.deleted.unwrap_or(false) {
+        return Ok(Body::Deleted(kind));
+    }
+    let tags = fields.tags.unwrap_or(Tags::from_vec(Vec::new(alloc)));
+    match kind {
+        Kind::Node => {
+            let longitude = fields.longitude.unwrap_or(None);
+            let latitude = fields.latitude.unwrap_or(None);
+            let (Some(lon), Some(lat)) = (longitude, latitude) else {
+                return Err(OplReason::NoLocation);
+            };
+            Ok(Body::Node { lon, lat, tags })
+        }
+        Kind::Way => {
+            let no_references = References::from_vec(Vec::new(alloc));
+            let refs = fields.references.unwrap_or(no_references);
+            Ok(Body::Way { refs, tags })
+        }
+        Kind::Relation => {
+            let no_members = Members::from_vec(Vec::new(alloc));
+            let members = fields.members.unwrap_or(no_members);
+            Ok(Body::Relation { members, tags })
+        }
+    }
+}
+
+/// Whether there is a time, or else no author.
+fn is_dated(meta: &Meta) -> bool
+    ensures { result ≡ is_dated meta.now }
+{
+    meta.time.is_some() || (meta.changeset == 0 && meta.uid == 0 && meta.user.is_empty())
+}
+
+/// Why what was read makes no version.
+fn reason_of(fault: ValueFault) -> OplReason
+    ensures { result ≡ spec.reason_of fault }
+{
+    match fault {
+        ValueFault::IdRange | ValueFault::NumberRange | ValueFault::TimeRange => {
+            OplReason::OutOfRange
+        }
+        ValueFault::NoVersion => OplReason::NoVersion,
+        ValueFault::NoTime => OplReason::NoTime,
+        ValueFault::ZeroInText => OplReason::BadText,
+        ValueFault::Memory => OplReason::Memory,
+    }
+}
+
+/// Appends the canonical line of a version, without a line end.
+pub fn append_line(out: &mut Vec<u8>, version: &Version) -> Result<(), Memory>
+    ensures { OnOk result (out.new.items ≡ out.old.items ++ line version.now) }
+{
+    version.append_line(out)
+}
+
+/// The canonical line of a version, without a line end.
+pub fn write_line(alloc: Global, version: &Version) -> Result<Vec<u8>, Memory>
+    ensures { IfOk result (λ text. text.items ≡ line version.now) }
+{
+    let mut text = Vec::new(alloc);
+    append_line(&mut text, version)?;
+    Ok(text)
+}

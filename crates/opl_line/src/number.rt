@@ -1,0 +1,124 @@
+//! Numbers in OPL lines.
+ghost use Rattle.std.specs.Prelude.{◌≡◌, ◌-◌, ◌<◌, ◌≤◌, ◌^◌, length, IfOk, option_copied};
+ghost use Rattle.opl_line.specs.Number as spec;
+
+use crate::OplReason;
+use crate::cut::Cut;
+
+/// The greatest id; the least is as far below 0.
+const GREATEST_ID: u64 = (1 << 62) - 1;
+
+/// Units of a coordinate in a degree.
+const DEGREE: u64 = 10_000_000;
+
+/// A number: one decimal digit or more, and `most` at most.
+///
+/// # Errors
+///
+/// `BadNumber` where it is none, `OutOfRange` where it is above `most`.
+pub(crate) fn read_number(digits: &[u8], most: u64) -> Result<u64, OplReason>
+    requires { most < 2 ^ 64 - 1 }
+    ensures { result ≡ spec.reading_number most digits.now }
+{
+    if digits.is_empty() {
+        return Err(OplReason::BadNumber);
+    }
+    let mut number: u64 = 0;
+    for digit in digits {
+        if !digit.is_ascii_digit() {
+            return Err(OplReason::BadNumber);
+        }
+        number = number
+            .saturating_mul(10)
+            .saturating_add(u64::from(*digit - b'0'));
+    }
+    if number <= most {
+        Ok(number)
+    } else {
+        Err(OplReason::OutOfRange)
+    }
+}
+
+/// An id: a number, behind a minus sign or not, from -4611686018427387903 to 4611686018427387903.
+///
+/// # Errors
+///
+/// `BadNumber` where it is no integer, `OutOfRange` where it is no id.
+pub(crate) fn read_id(text: &[u8]) -> Result<i64, OplReason>
+    ensures { result ≡ spec.reading_id text.now }
+{
+    let (is_negative, digits) = split_sign(text);
+    let magnitude = read_number(digits, GREATEST_ID)?;
+    let id = magnitude as i64;
+    Ok(if is_negative { -id } else { id })
+}
+
+/// Whether there is a minus sign, and what stands behind it.
+fn split_sign(text: &[u8]) -> (bool, &[u8])
+    ensures sign { result.0 ≡ spec.is_negative text.now }
+    ensures behind { result.1.now ≡ spec.without_sign text.now }
+{
+    match text.split_first() {
+        Some((b'-', digits)) => (true, digits),
+        _ => (false, text),
+    }
+}
+
+/// A coordinate in units of 10^-7 degree, from -2147483648 to 2147483647.
+///
+/// # Errors
+///
+/// `BadCoordinate` where it is none, `OutOfRange` where it has more than 32 bits.
+pub(crate) fn read_coordinate(text: &[u8]) -> Result<i32, OplReason>
+    ensures { result ≡ spec.reading_coordinate text.now }
+{
+    let (is_negative, magnitude) = split_sign(text);
+    let (whole, decimals) = Cut::Points.split_bytes(magnitude);
+    let units = read_degrees(whole, decimals)?;
+    to_units(is_negative, units)
+}
+
+/// The units with their sign.
+fn to_units(is_negative: bool, magnitude: u64) -> Result<i32, OplReason>
+    requires { magnitude < 2 ^ 48 }
+    ensures { result ≡ spec.reading_units is_negative magnitude }
+{
+    let units = magnitude as i64;
+    let signed = if is_negative { -units } else { units };
+    i32::try_from(signed).map_err(|_| OplReason::OutOfRange)
+}
+
+/// The units that whole degrees and decimals have.
+fn read_degrees(whole: &[u8], decimals: Option<&[u8]>) -> Result<u64, OplReason>
+    ensures value { result ≡ spec.reading_degrees whole.now (option_copied decimals.entry) }
+    ensures bound { IfOk result (λ units. units < 2 ^ 48) }
+{
+    let degrees = read_short_numeral(whole, 3)? * DEGREE;
+    let Some(decimals) = decimals else {
+        return Ok(degrees);
+    };
+    let rest = read_short_numeral(decimals, 7)?;
+    Ok(degrees + rest * scale(decimals.len()))
+}
+
+/// The value of digits, of which there is one at least and `most` at most.
+fn read_short_numeral(digits: &[u8], most: usize) -> Result<u64, OplReason>
+    requires { most ≤ 7 }
+    ensures value { result ≡ spec.reading_short_numeral most digits.now }
+    ensures few { IfOk result (λ _. length digits.now ≤ most) }
+    ensures bound { IfOk result (λ number. number < 10 ^ most) }
+{
+    if digits.len() > most {
+        return Err(OplReason::BadCoordinate);
+    }
+    read_number(digits, u64::MAX >> 1).map_err(|_| OplReason::BadCoordinate)
+}
+
+/// What the last of so many decimals counts, in units of 10^-7 degree.
+fn scale(decimals: usize) -> u64
+    requires { decimals ≤ 7 }
+    ensures value { result ≡ 10 ^ (7 - decimals) }
+    ensures bound { result ≤ 10 ^ 7 }
+{
+    10u64.pow(7 - decimals as u32)
+}

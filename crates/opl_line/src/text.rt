@@ -1,0 +1,109 @@
+//! Texts in OPL lines, with their escapes.
+ghost use Rattle.std.specs.Prelude.{◌≡◌, ◌⊎◌, ◌<◌, true, false, not, None, length, position, string_bytes, option_copied, MatchOption, MatchResult, IfOk, IfSome};
+ghost use Rattle.std.specs.List.{list_all};
+ghost use Rattle.opl_line.specs.declared.cut.Cut.TheVariants.{Percents};
+ghost use Rattle.opl_line.specs.declared.reason.OplReason.TheVariants.{Memory, BadText};
+ghost use Rattle.opl_line.specs.Answer.{Answers};
+ghost use Rattle.opl_line.specs.Cut.{is_end, split_first, cut, pieces_of};
+ghost use Rattle.opl_line.specs.Text as spec;
+
+use crate::OplReason;
+use crate::cut::Cut;
+use osm_model::Text;
+use std::alloc::Global;
+
+/// The text that some bytes spell: raw characters and escapes.
+///
+/// # Errors
+///
+/// `BadText` where a character is raw that must be escaped, or where an escape is faulty; `Memory`.
+pub(crate) fn read_text(alloc: Global, text: &str) -> Result<Text, OplReason>
+    ensures { Answers (spec.reading_text text.now) result }
+{
+    let Some((raw, mut escapes)) = split_raw(text) else {
+        return Err(OplReason::BadText);
+    };
+    let mut out = String::from_str(alloc, raw)?;
+    'escapes: while let Some(behind) = escapes {
+        match append_escape(&mut out, behind) {
+            Ok(more) => escapes = more,
+            Err(reason) => return Err(reason),
+        }
+    }
+    Ok(Text::from_string(out))
+}
+
+/// Appends the character of an escape, which stands behind its percent sign, and the raw piece that follows it. What
+/// stands behind the next percent sign is answered.
+fn append_escape<'a>(out: &mut String, escape: &'a str) -> Result<Option<&'a str>, OplReason>
+    ensures text { MatchResult result
+        (λ more. spec.text_from (string_bytes out.old) (cut (is_end Percents) escape.now)
+        ≡ spec.text_from (string_bytes out.new) (pieces_of (is_end Percents) (option_copied more)))
+        (λ reason. (reason ≡ Memory) ⊎ ((reason ≡ BadText) × (spec.text_from (string_bytes out.old) (cut (is_end Percents) escape.now) ≡ None))) }
+    ensures shorter { IfOk result (λ more. IfSome more (λ behind. length behind.now < length escape.now)) }
+{
+    let (digits, Some(behind)) = Cut::Percents.split(escape) else {
+        return Err(OplReason::BadText);
+    };
+    let Some(character) = scalar_of(digits.as_bytes()) else {
+        return Err(OplReason::BadText);
+    };
+    let Some((raw, more)) = split_raw(behind) else {
+        return Err(OplReason::BadText);
+    };
+    out.push(character)?;
+    out.push_str(raw)?;
+    Ok(more)
+}
+
+/// The raw characters that a text begins with, and what stands behind the percent sign that ends them, if there is one;
+/// `None` where another character ends them, which must be escaped.
+fn split_raw(text: &str) -> Option<(&str, Option<&str>)>
+    ensures parts { MatchOption result
+        (list_all spec.is_raw (split_first (is_end Percents) text.now).0 ≡ false)
+        (λ parts. (list_all spec.is_raw parts.0.now ≡ true) × (split_first (is_end Percents) text.now ≡ (parts.0.now, option_copied parts.1))) }
+    ensures shorter { IfSome result (λ parts. IfSome parts.1 (λ behind. length behind.now < length text.now)) }
+{
+    let bytes = text.as_bytes();
+    let Some(end) = find_other(bytes) else {
+        return Some((text, None));
+    };
+    if bytes[end] != b'%' {
+        return None;
+    }
+    Some((&text[..end], Some(&text[end + 1..])))
+}
+
+/// The place of the first byte that doesn't stand for itself.
+fn find_other(bytes: &[u8]) -> Option<usize>
+    ensures { result ≡ position (λ byte. not (spec.is_raw byte)) bytes.now }
+{
+    bytes.iter().position(|byte| !is_raw_byte(*byte))
+}
+
+/// Whether a byte, alone or within a character, stands for itself.
+fn is_raw_byte(byte: u8) -> bool
+    ensures { result ≡ spec.is_raw byte }
+{
+    !matches!(byte, 0 | b'\t' | b'\n' | b'\r' | b' ' | b'%' | b',' | b'=')
+}
+
+/// The character that 1 to 8 hexadecimal digits name, which is not U+0000.
+fn scalar_of(digits: &[u8]) -> Option<char>
+    ensures { result ≡ spec.scalar_of digits.now }
+{
+    if digits.is_empty() || digits.len() > 8 {
+        return None;
+    }
+    let mut code: u32 = 0;
+    for digit in digits {
+        let Some(value) = char::from(*digit).to_digit(16) else {
+            return None;
+        };
+        code = 16 * code + value;
+    }
+    if code == 0 {
+        return None;
+    }
+    char::from_u32(code)
+}

@@ -1,0 +1,111 @@
+//! Times in OPL lines.
+ghost use Rattle.std.specs.Prelude.{◌≡◌, ◌+◌, ◌*◌, ◌<◌, ◌≤◌, ◌^◌, length, IfSome};
+ghost use Rattle.opl_line.specs.Time as spec;
+
+use crate::OplReason;
+use crate::number::read_number;
+use jiff::civil::Date;
+
+/// The days from 0000-01-01 to 1970-01-01.
+const DAYS_BEFORE_1970: i32 = 719_528;
+
+/// The seconds from 0000-01-01T00:00:00Z to 1970-01-01T00:00:00Z.
+const EPOCH: u64 = 62_167_219_200;
+
+/// The seconds of a day.
+const DAY: u64 = 86_400;
+
+/// A time in seconds since 1970-01-01T00:00:00Z, from 1 to 4294967295. It stands as `yyyy-mm-ddThh:mm:ssZ`.
+///
+/// # Errors
+///
+/// `BadTime` where it doesn't stand so, where the calendar lacks the day, or where the hour is above 23, or the minute
+/// or the second above 59; `OutOfRange` where it is before 1970-01-01T00:00:01Z or after 2106-02-07T06:28:15Z.
+pub fn read_time(text: &[u8]) -> Result<u32, OplReason>
+    ensures { result ≡ spec.reading_time text.now }
+{
+    if text.len() != 20 {
+        return Err(OplReason::BadTime);
+    }
+    let days = read_date(text).ok_or(OplReason::BadTime)?;
+    let second = read_clock(text).ok_or(OplReason::BadTime)?;
+    to_moment(DAY * u64::from(days) + u64::from(second))
+}
+
+/// A moment in seconds since 1970, where it is one from 1 to 4294967295.
+fn to_moment(seconds: u64) -> Result<u32, OplReason>
+    ensures { result ≡ spec.reading_moment seconds }
+{
+    if EPOCH < seconds && seconds < EPOCH + (1 << 32) {
+        Ok((seconds - EPOCH) as u32)
+    } else {
+        Err(OplReason::OutOfRange)
+    }
+}
+
+/// The days from 0000-01-01 to the date `yyyy-mm-dd` that a text begins with.
+fn read_date(text: &[u8]) -> Option<u32>
+    requires { length text.now ≡ 20 }
+    ensures { result ≡ spec.reading_date text.now }
+{
+    let year = digits_at(text, 0, 4)?;
+    let month = digits_at(text, 5, 2)?;
+    let day = digits_at(text, 8, 2)?;
+    if text[4] == b'-' && text[7] == b'-' {
+        day_of(year, month as u8, day as u8)
+    } else {
+        None
+    }
+}
+
+/// The second of the day, from the `Thh:mm:ssZ` that a text ends with.
+fn read_clock(text: &[u8]) -> Option<u32>
+    requires { length text.now ≡ 20 }
+    ensures { result ≡ spec.reading_clock text.now }
+{
+    let hour = digits_at(text, 11, 2)?;
+    let minute = digits_at(text, 14, 2)?;
+    let second = digits_at(text, 17, 2)?;
+    if text[10] == b'T' && text[13] == b':' && text[16] == b':' && text[19] == b'Z' {
+        second_of(hour, minute, second)
+    } else {
+        None
+    }
+}
+
+/// The second of the day, where there is such a time of day.
+fn second_of(hour: u16, minute: u16, second: u16) -> Option<u32>
+    ensures { result ≡ spec.second_of hour minute second }
+{
+    if hour < 24 && minute < 60 && second < 60 {
+        Some(3600 * u32::from(hour) + 60 * u32::from(minute) + u32::from(second))
+    } else {
+        None
+    }
+}
+
+/// The number that so many digits from a place on write.
+fn digits_at(text: &[u8], from: usize, count: usize) -> Option<u16>
+    requires within { from + count ≤ length text.now }
+    requires few { count ≤ 4 }
+    ensures value { result ≡ spec.digits_at from count text.now }
+    ensures bound { IfSome result (λ number. number < 10 ^ count) }
+{
+    match read_number(&text[from..from + count], 9_999) {
+        Ok(number) => Some(number as u16),
+        Err(_) => None,
+    }
+}
+
+/// The days from 0000-01-01 to a date, where the calendar has it.
+fn day_of(year: u16, month: u8, day: u8) -> Option<u32>
+    requires year_in { year < 10_000 }
+    requires month_in { month < 100 }
+    requires day_in { day < 100 }
+    ensures { result ≡ spec.day_of year month day }
+{
+    let Ok(date) = Date::new(year as i16, month as i8, day as i8) else {
+        return None;
+    };
+    Some((date.to_plain().to_unix_epoch_day() + DAYS_BEFORE_1970) as u32)
+}

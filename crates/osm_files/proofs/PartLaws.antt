@@ -1,0 +1,468 @@
+-- The data sets of o5 files as units.
+use Rattle.std.proofs.Common.{◌≡◌, ◌≢◌, ◌⊎◌, inl, inr, ℕ, zero, suc, ◌+◌, ◌-◌, ◌≤◌, ◌<◌, Bool, true, false, not, cond, List, [], ◌∷◌, ◌++◌, length, drop, take, refl, sym, ap, ◌∙◌, subst, arith, Option, Some, None, Result, Ok, Err, length-append, length-drop, append_assoc, ◌||◌, ◌==◌, nat_lt, nat_le, take-append-drop, length-take}
+use Rattle.std.specs.List.{flat_map, list_any}
+use Rattle.std.proofs.lemmas.Bool.{false≢true, lt-ltb, ltb-true, eqb-true, leb-true, leb-false}
+use Rattle.osm_model.specs.Data.{VersionData}
+use Rattle.osm_model.specs.declared.kind.Kind.{Kind}
+use Rattle.osm_model.specs.declared.kind.Kind.TheVariants as kind
+use Rattle.o5_codec.specs.declared.reason.O5Reason.{O5Reason}
+use Rattle.o5_codec.specs.declared.segment.Segment.{Segment}
+use Rattle.o5_codec.specs.Number.{AreGroups, SpellsNumber, number_at}
+use Rattle.o5_codec.specs.Spelling.{NumberStands, SpellsSet}
+use Rattle.o5_codec.specs.Decoder.{new_segment}
+use Rattle.o5_codec.specs.Body.{set_at}
+use Rattle.o5_codec.proofs.NumberLaws.{number_found, number_only}
+use Rattle.o5_codec.proofs.StepLaws.{set_found, set_only}
+use Rattle.osm_files.specs.Stream.{Verdict, Placed, placed, Still, whole, refused, front}
+use Rattle.osm_files.specs.O5.{end_byte, reset_byte, type_byte, kind_of_type, is_lone, IsOtherType, Part, Reset, Lone, Skipped, Object, part_bytes, PartsSpell}
+use Rattle.o5_codec.specs.declared.reason.O5Reason.TheVariants as o5
+use Rattle.osm_files.specs.declared.reason.Reason.TheVariants.{NoEnd, O5}
+use Rattle.osm_files.specs.Units.{Stand, InSegment, BehindEnd, Found, FileUnit, unit, passes, found_then, closed, unit_then, unit_at, last_at, units_within, segment_unit, behind_unit, sized_unit, content_found, set_found as found_of, is_last, is_ended, length_at}
+use Rattle.osm_files.specs.Verdict.{versions_of}
+use Rattle.std.proofs.lemmas.Bool.Decides.{nat_tests}
+use Rattle.osm_files.proofs.UnitLaws.{ReadsAs, some_is_not_none}
+
+-- bytes that are parts and the end byte
+abbrev pub PartsFile : Segment → List ℕ → List VersionData → Type 0
+PartsFile s bytes versions = (parts : List Part) × (bytes ≡ flat_map part_bytes parts ++ end_byte ∷ []) × PartsSpell s parts versions
+
+-- a size, so many bytes, and what is behind them
+pub record Sized (bytes : List ℕ) (content rest : List ℕ) : Type 0 where
+  pub size : List ℕ
+  pub spelled : SpellsNumber size (length content)
+  pub split : bytes ≡ size ++ (content ++ rest)
+
+-- what the first part may be
+abbrev pub EndFirst : ℕ → List ℕ → List VersionData → Type 0
+EndFirst b bytes versions = ((b == end_byte) ≡ true) × (bytes ≡ []) × ([] ≡ versions)
+
+abbrev pub ResetFirst : ℕ → List ℕ → List VersionData → Type 0
+ResetFirst b bytes versions = ((b == end_byte) ≡ false) × ((b == reset_byte) ≡ true) × PartsFile new_segment bytes versions
+
+abbrev pub LoneFirst : Segment → ℕ → List ℕ → List VersionData → Type 0
+LoneFirst s b bytes versions = ((b == end_byte) ≡ false) × ((b == reset_byte) ≡ false) × (is_lone b ≡ true) × PartsFile s bytes versions
+
+abbrev pub SkippedFirst : Segment → ℕ → List ℕ → List VersionData → Type 0
+SkippedFirst s b bytes versions = IsOtherType b × ((content rest : List ℕ) × Sized bytes content rest × PartsFile s rest versions)
+
+abbrev pub Behind : Kind → Segment → List ℕ → List ℕ → List VersionData → Type 0
+Behind k s content rest versions = (v : VersionData) × (next : Segment) × (others : List VersionData) × (versions ≡ v ∷ others) × SpellsSet k s content (v, next) × PartsFile next rest others
+
+abbrev pub ObjectFirst : Segment → ℕ → List ℕ → List VersionData → Type 0
+ObjectFirst s b bytes versions = (k : Kind) × (b ≡ type_byte k) × ((content rest : List ℕ) × Sized bytes content rest × Behind k s content rest versions)
+
+abbrev pub FirstPart : Segment → ℕ → List ℕ → List VersionData → Type 0
+FirstPart s b bytes versions = EndFirst b bytes versions ⊎ ResetFirst b bytes versions ⊎ LoneFirst s b bytes versions ⊎ SkippedFirst s b bytes versions ⊎ ObjectFirst s b bytes versions
+
+lone_is_no_end : (b : ℕ) → is_lone b ≡ true → ((b == end_byte) ≡ false) × ((b == reset_byte) ≡ false)
+lone_is_no_end b e = (grind (arith, nat_tests, e), grind (arith, nat_tests, e))
+
+-- the first part of what is parts and the end byte
+pub first_part : (s : Segment) (b : ℕ) (bytes : List ℕ) (parts : List Part) (versions : List VersionData) → b ∷ bytes ≡ flat_map part_bytes parts ++ end_byte ∷ [] → PartsSpell s parts versions → FirstPart s b bytes versions
+first_part s b bytes [] versions e spelled = inl (rw (let f : b ≡ end_byte = cc in f) refl, (let f : bytes ≡ [] = cc in f), sym spelled)
+first_part s b bytes (Reset ∷ parts) versions e spelled =
+    let f : b ≡ reset_byte = cc in
+    let g : bytes ≡ flat_map part_bytes parts ++ end_byte ∷ [] = cc in
+    inr (inl (rw f refl, rw f refl, (parts, g, spelled)))
+first_part s b bytes (Lone c ∷ parts) versions e spelled =
+    let f : c ≡ b = cc in
+    let g : bytes ≡ flat_map part_bytes parts ++ end_byte ∷ [] = cc in
+    let lone : is_lone b ≡ true = ap is_lone (sym f) ∙ spelled.0 in
+    let no_end = lone_is_no_end b lone in
+    inr (inr (inl (no_end.0, no_end.1, lone, (parts, g, spelled.1))))
+first_part s b bytes (Skipped c size content ∷ parts) versions e spelled =
+    let f : c ≡ b = cc in
+    let tail : List ℕ = flat_map part_bytes parts ++ end_byte ∷ [] in
+    let h : b ∷ bytes ≡ c ∷ size ++ (content ++ tail) = e ∙ ap (λ x. c ∷ x) (append_assoc (size ++ content) (flat_map part_bytes parts) (end_byte ∷ []) ∙ append_assoc size content tail) in
+    let g : bytes ≡ size ++ (content ++ tail) = cc in
+    inr (inr (inr (inl (subst IsOtherType f spelled.0, (content, tail, record { size = size; spelled = spelled.1; split = g }, (parts, refl, spelled.2))))))
+first_part s b bytes (Object k size content ∷ parts) versions e spelled =
+    let f : b ≡ type_byte k = cc in
+    let tail : List ℕ = flat_map part_bytes parts ++ end_byte ∷ [] in
+    let h : b ∷ bytes ≡ type_byte k ∷ size ++ (content ++ tail) = e ∙ ap (λ x. type_byte k ∷ x) (append_assoc (size ++ content) (flat_map part_bytes parts) (end_byte ∷ []) ∙ append_assoc size content tail) in
+    let g : bytes ≡ size ++ (content ++ tail) = cc in
+    let m = spelled.1 in
+    inr (inr (inr (inr (k, f, (content, tail, record { size = size; spelled = spelled.0; split = g }, (m.0, m.1, m.2, m.3, m.4, (parts, refl, m.5)))))))
+
+or_true : (x : Bool) → x || true ≡ true
+or_true true = refl
+or_true false = refl
+
+groups_ended : (size rest : List ℕ) (n : ℕ) → AreGroups size n → list_any is_last (size ++ rest) ≡ true
+groups_ended [] rest n groups = absurd groups
+groups_ended (b ∷ []) rest n groups = rw (lt-ltb b 128 groups.0) refl
+groups_ended (b ∷ c ∷ size) rest n groups = ap (λ t. nat_lt b 128 || t) (groups_ended (c ∷ size) rest groups.1.0 groups.1.2) ∙ or_true (nat_lt b 128)
+
+-- the size of a data set is read where it is spelled
+pub length_read : (bytes content rest : List ℕ) → Sized bytes content rest → length_at bytes ≡ Some (Ok (length content, content ++ rest))
+length_read bytes content rest h =
+    let behind : List ℕ = content ++ rest in
+    let ended : is_ended (h.size ++ behind) ≡ true = ap (λ t. nat_lt 10 (length (h.size ++ behind)) || t) (groups_ended h.size behind (length content) h.spelled.groups) ∙ or_true (nat_lt 10 (length (h.size ++ behind))) in
+    let number : number_at (h.size ++ behind) ≡ Ok (length content, behind) = number_only (h.size ++ behind) (length content, behind) (h.size, h.spelled, refl) in
+    ap length_at h.split ∙ rw (ended, number) refl
+
+by_ended : (ended : Bool) (number x : Result (ℕ × List ℕ) O5Reason) → cond ended (Some number) None ≡ Some x → number ≡ x
+by_ended true number x e = (let f : Some number ≡ Some x = e in cc)
+by_ended false number x e = absurd (let f : None ≡ Some x = e in cc)
+
+drop_front : (first rest : List ℕ) (n : ℕ) → drop (length first + n) (first ++ rest) ≡ drop n rest
+drop_front [] rest n = let e : 0 + n ≡ n = omega arith in rw e refl
+drop_front (a ∷ first) rest n = let e : length (a ∷ first) + n ≡ suc (length first + n) = omega arith in rw e (drop_front first rest n)
+
+-- and where it is read it is spelled
+pub record LengthFound (b : ℕ) (bytes : List ℕ) (n : ℕ) (behind : List ℕ) : Type 0 where
+  pub size : List ℕ
+  pub spelled : SpellsNumber size n
+  pub split : bytes ≡ size ++ behind
+  pub rest : drop (1 + (length bytes - length behind) + n) (b ∷ bytes) ≡ drop n behind
+
+pub length_found : (b : ℕ) (bytes : List ℕ) (n : ℕ) (behind : List ℕ) → length_at bytes ≡ Some (Ok (n, behind)) → LengthFound b bytes n behind
+length_found b bytes n behind e =
+    let found = number_found bytes (n, behind) (by_ended (is_ended bytes) (number_at bytes) (Ok (n, behind)) e) in
+    let far : 1 + (length bytes - length behind) + n ≡ suc (length found.0 + n) = omega (arith, ap length found.2, length-append found.0 behind) in
+    record {
+      size = found.0;
+      spelled = found.1;
+      split = found.2;
+      rest = rw far (ap (drop (length found.0 + n)) found.2 ∙ drop_front found.0 behind n);
+    }
+
+-- the content is what the size says
+pub content_sized : (bytes : List ℕ) (n : ℕ) (behind : List ℕ) (b : ℕ) → n ≤ length behind → LengthFound b bytes n behind → Sized bytes (take n behind) (drop n behind)
+content_sized bytes n behind b fits found =
+    let long : length (take n behind) ≡ n = omega (arith, length-take n behind, fits) in
+    record {
+      size = found.size;
+      spelled = subst (SpellsNumber found.size) (sym long) found.spelled;
+      split = found.split ∙ ap (λ x. found.size ++ x) (sym (take-append-drop n behind));
+    }
+
+-- what is sized in another way is the same
+pub record SameSize (n : ℕ) (behind content rest : List ℕ) : Type 0 where
+  pub within : n ≤ length behind
+  pub content_is : take n behind ≡ content
+  pub rest_is : drop n behind ≡ rest
+
+take_all_of : (content rest : List ℕ) → take (length content) (content ++ rest) ≡ content
+take_all_of [] rest = refl
+take_all_of (b ∷ content) rest = ap (λ x. b ∷ x) (take_all_of content rest)
+
+drop_all_of : (content rest : List ℕ) → drop (length content) (content ++ rest) ≡ rest
+drop_all_of [] rest = refl
+drop_all_of (b ∷ content) rest = drop_all_of content rest
+
+abbrev Length : Type 0
+Length = Option (Result (ℕ × List ℕ) O5Reason)
+
+abbrev some_length : ℕ → List ℕ → Length
+some_length n behind = Some (Ok (n, behind))
+
+same_length : (n m : ℕ) (behind other : List ℕ) → some_length n behind ≡ some_length m other → (n ≡ m) × (behind ≡ other)
+same_length n m behind other e =
+    let here : ℕ × List ℕ = (n, behind) in
+    let there : ℕ × List ℕ = (m, other) in
+    let f : here ≡ there = cc in
+    (ap (λ x. x.0) f, ap (λ x. x.1) f)
+
+pub same_size : (bytes : List ℕ) (n : ℕ) (behind content rest : List ℕ) → length_at bytes ≡ Some (Ok (n, behind)) → Sized bytes content rest → SameSize n behind content rest
+same_size bytes n behind content rest e sized =
+    let both = same_length n (length content) behind (content ++ rest) (sym e ∙ length_read bytes content rest sized) in
+    let m : n ≡ length content = both.0 in
+    let g : behind ≡ content ++ rest = both.1 in
+    record {
+      within = omega (arith, m, ap length g, length-append content rest);
+      content_is = (λ i. take (m i) (g i)) ∙ take_all_of content rest;
+      rest_is = (λ i. drop (m i) (g i)) ∙ drop_all_of content rest;
+    }
+
+-- a part in front
+with_part : (s : Segment) (bytes : List ℕ) (p : Part) (rest : List ℕ) (versions : List VersionData) (parts : List Part) → rest ≡ flat_map part_bytes parts ++ end_byte ∷ [] → bytes ≡ part_bytes p ++ rest → bytes ≡ flat_map part_bytes (p ∷ parts) ++ end_byte ∷ []
+with_part s bytes p rest versions parts e split = split ∙ ap (λ x. part_bytes p ++ x) e ∙ sym (append_assoc (part_bytes p) (flat_map part_bytes parts) (end_byte ∷ []))
+
+skipped_in_front : (s : Segment) (b : ℕ) (bytes content rest : List ℕ) (versions : List VersionData) → IsOtherType b → Sized bytes content rest → PartsFile s rest versions → PartsFile s (b ∷ bytes) versions
+skipped_in_front s b bytes content rest versions other sized h =
+    (Skipped b sized.size content ∷ h.0, with_part s (b ∷ bytes) (Skipped b sized.size content) rest versions h.0 h.1 (ap (λ x. b ∷ x) (sized.split ∙ sym (append_assoc sized.size content rest))), (other, sized.spelled, h.2))
+
+object_in_front : (s : Segment) (k : Kind) (b : ℕ) (bytes content rest : List ℕ) (versions : List VersionData) → b ≡ type_byte k → Sized bytes content rest → Behind k s content rest versions → PartsFile s (b ∷ bytes) versions
+object_in_front s k b bytes content rest versions is sized h =
+    let parts = h.5.0 in
+    let split : b ∷ bytes ≡ type_byte k ∷ (sized.size ++ content) ++ rest = (λ i. is i ∷ (sized.split ∙ sym (append_assoc sized.size content rest)) i) in
+    (Object k sized.size content ∷ parts, with_part s (b ∷ bytes) (Object k sized.size content) rest versions parts h.5.1 split, (sized.spelled, (h.0, h.1, h.2, h.3, h.4, h.5.2)))
+
+-- what is read as one thing is read as another that is the same
+pub through : (still : Still Placed Verdict) (S T : List VersionData → Type 0) → ((versions : List VersionData) → T versions → S versions) → ((versions : List VersionData) → S versions → T versions) → ReadsAs still S → ReadsAs still T
+through still S T f g h = record { read = λ versions t. h.read versions (f versions t); back = λ none. g _ (h.back none) }
+
+pub nothing_reads : (verdict : Verdict) (S : List VersionData → Type 0) → ((versions : List VersionData) → S versions → ⊥) → ReadsAs (refused verdict) S
+nothing_reads verdict S never = record { read = λ versions s. absurd (never versions s); back = λ none. absurd (some_is_not_none _ none) }
+
+version_reads : (place : ℕ) (v : VersionData) (still : Still Placed Verdict) (S : List VersionData → Type 0) → ReadsAs still S → ReadsAs (front (placed place v) still) (λ versions. (others : List VersionData) × (versions ≡ v ∷ others) × S others)
+version_reads place v still S h = record {
+  read = λ versions t. (let r = h.read t.0 t.2 in (r.0, ap (λ x. v ∷ x) r.1 ∙ sym t.1));
+  back = λ none. (versions_of still.list, refl, h.back none);
+}
+
+clash : (t : Bool) → t ≡ true → t ≡ false → ⊥
+clash t is not_so = false≢true (sym not_so ∙ is)
+
+-- the type byte of an object's data set
+abbrev IsObjectType : Kind → ℕ → Type 0
+IsObjectType k b = ((b == end_byte) ≡ false) × ((b == reset_byte) ≡ false) × (is_lone b ≡ false) × (kind_of_type b ≡ Some k)
+
+object_type : (k : Kind) → IsObjectType k (type_byte k)
+object_type kind.Node = (refl, refl, refl, refl)
+object_type kind.Way = (refl, refl, refl, refl)
+object_type kind.Relation = (refl, refl, refl, refl)
+
+type_at : (k : Kind) (b : ℕ) → b ≡ type_byte k → IsObjectType k b
+type_at k b is = subst (IsObjectType k) (sym is) (object_type k)
+
+module _ (s : Segment) (b : ℕ) (bytes : List ℕ) (versions : List VersionData) where
+  end_only : FirstPart s b bytes versions → (b == end_byte) ≡ true → (bytes ≡ []) × ([] ≡ versions)
+  end_only (inl h) e = (h.1, h.2)
+  end_only (inr (inl h)) e = absurd (clash _ e h.0)
+  end_only (inr (inr (inl h))) e = absurd (clash _ e h.0)
+  end_only (inr (inr (inr (inl h)))) e = absurd (clash _ e h.0.0)
+  end_only (inr (inr (inr (inr h)))) e = absurd (clash _ e (type_at h.0 b h.1).0)
+
+  reset_only : FirstPart s b bytes versions → (b == end_byte) ≡ false → (b == reset_byte) ≡ true → PartsFile new_segment bytes versions
+  reset_only (inl h) n e = absurd (clash _ h.0 n)
+  reset_only (inr (inl h)) n e = h.2
+  reset_only (inr (inr (inl h))) n e = absurd (clash _ e h.1)
+  reset_only (inr (inr (inr (inl h)))) n e = absurd (clash _ e h.0.1)
+  reset_only (inr (inr (inr (inr h)))) n e = absurd (clash _ e (type_at h.0 b h.1).1)
+
+  lone_only : FirstPart s b bytes versions → (b == end_byte) ≡ false → (b == reset_byte) ≡ false → is_lone b ≡ true → PartsFile s bytes versions
+  lone_only (inl h) n m e = absurd (clash _ h.0 n)
+  lone_only (inr (inl h)) n m e = absurd (clash _ h.1 m)
+  lone_only (inr (inr (inl h))) n m e = h.3
+  lone_only (inr (inr (inr (inl h)))) n m e = absurd (clash _ e h.0.2)
+  lone_only (inr (inr (inr (inr h)))) n m e = absurd (clash _ e (type_at h.0 b h.1).2)
+
+  sized_only : FirstPart s b bytes versions → (b == end_byte) ≡ false → (b == reset_byte) ≡ false → is_lone b ≡ false → SkippedFirst s b bytes versions ⊎ ObjectFirst s b bytes versions
+  sized_only (inl h) n m e = absurd (clash _ h.0 n)
+  sized_only (inr (inl h)) n m e = absurd (clash _ h.1 m)
+  sized_only (inr (inr (inl h))) n m e = absurd (clash _ h.2 e)
+  sized_only (inr (inr (inr (inl h)))) n m e = inl h
+  sized_only (inr (inr (inr (inr h)))) n m e = inr h
+
+  sized_by : SkippedFirst s b bytes versions ⊎ ObjectFirst s b bytes versions → (content rest : List ℕ) × Sized bytes content rest
+  sized_by (inl h) = (h.1.0, h.1.1, h.1.2)
+  sized_by (inr h) = (h.2.0, h.2.1, h.2.2)
+
+  skipped_only : SkippedFirst s b bytes versions ⊎ ObjectFirst s b bytes versions → kind_of_type b ≡ None → SkippedFirst s b bytes versions
+  skipped_only (inl h) e = h
+  skipped_only (inr h) e = absurd (some_is_not_none h.0 (sym (type_at h.0 b h.1).3 ∙ e))
+
+  object_only : (k : Kind) → SkippedFirst s b bytes versions ⊎ ObjectFirst s b bytes versions → kind_of_type b ≡ Some k → (content rest : List ℕ) × Sized bytes content rest × Behind k s content rest versions
+  object_only k (inl h) e = absurd (some_is_not_none k (sym e ∙ h.0.3))
+  object_only k (inr h) e =
+      let both : Some h.0 ≡ Some k = sym (type_at h.0 b h.1).3 ∙ e in
+      let same : h.0 ≡ k = cc in
+      (h.2.0, h.2.1, h.2.2, subst (λ (j : Kind). Behind j s h.2.0 h.2.1 versions) same h.2.3)
+
+same_read : (v w : VersionData) (s t : Segment) → (let x : Result (VersionData × Segment) O5Reason = Ok (v, s) in x) ≡ (let y : Result (VersionData × Segment) O5Reason = Ok (w, t) in y) → (v ≡ w) × (s ≡ t)
+same_read v w s t e =
+    let here : VersionData × Segment = (v, s) in
+    let there : VersionData × Segment = (w, t) in
+    let f : here ≡ there = cc in
+    (ap (λ x. x.0) f, ap (λ x. x.1) f)
+
+byte_of : (k : Kind) (b : ℕ) → kind_of_type b ≡ Some k → b ≡ type_byte k
+byte_of k b e =
+    elim (b == 16) as (λ t. (b == 16) ≡ t → cond t (Some kind.Node) (cond (b == 17) (Some kind.Way) (cond (b == 18) (Some kind.Relation) None)) ≡ Some k → b ≡ type_byte k) [
+      | true ↦ λ is f. let g : kind.Node ≡ k = cc in eqb-true b 16 is ∙ ap type_byte g
+      | false ↦ λ is. elim (b == 17) as (λ t. (b == 17) ≡ t → cond t (Some kind.Way) (cond (b == 18) (Some kind.Relation) None) ≡ Some k → b ≡ type_byte k) [
+        | true ↦ λ is f. let g : kind.Way ≡ k = cc in eqb-true b 17 is ∙ ap type_byte g
+        | false ↦ λ is. elim (b == 18) as (λ t. (b == 18) ≡ t → cond t (Some kind.Relation) None ≡ Some k → b ≡ type_byte k) [
+          | true ↦ λ is f. let g : kind.Relation ≡ k = cc in eqb-true b 18 is ∙ ap type_byte g
+          | false ↦ λ is f. absurd (some_is_not_none k (sym f))
+        ] refl
+      ] refl
+    ] refl e
+
+abbrev pub ReadsParts : ℕ → Type 0
+ReadsParts n = (s : Segment) (bytes : List ℕ) (place : ℕ) → length bytes ≤ n → ReadsAs (units_within n None (InSegment s) place bytes) (PartsFile s bytes)
+
+last_in_set : (s : Segment) (b : ℕ) (bytes : List ℕ) → last_at (InSegment s) (b ∷ bytes) ≡ Err (O5 o5.Truncated)
+unfolding last_at
+last_in_set s b bytes = refl
+
+last_in_segment : (s : Segment) → last_at (InSegment s) [] ≡ Err NoEnd
+unfolding last_at
+last_in_segment s = refl
+
+last_behind : (bytes : List ℕ) → last_at BehindEnd bytes ≡ Ok (None, BehindEnd)
+unfolding last_at
+last_behind bytes = refl
+
+unit_in_segment : (s : Segment) (bytes : List ℕ) → unit_at (InSegment s) bytes ≡ segment_unit s bytes
+unfolding unit_at
+unit_in_segment s bytes = refl
+
+unit_behind : (bytes : List ℕ) → unit_at BehindEnd bytes ≡ behind_unit bytes
+unfolding unit_at
+unit_behind bytes = refl
+
+-- behind the end byte nothing stands
+abbrev Nothing : List ℕ → List VersionData → Type 0
+Nothing bytes versions = (bytes ≡ []) × ([] ≡ versions)
+
+none_behind : (n place : ℕ) → ReadsAs (units_within n None BehindEnd place []) (Nothing [])
+none_behind zero place = rw (last_behind []) (record { read = λ versions h. (refl, h.1); back = λ none. (refl, refl) })
+none_behind (suc n) place = rw (unit_behind [], last_behind []) (record { read = λ versions h. (refl, h.1); back = λ none. (refl, refl) })
+
+end_reads : (n place : ℕ) (bytes : List ℕ) → length bytes ≤ n → ReadsAs (units_within n None BehindEnd place bytes) (Nothing bytes)
+end_reads n place [] fits = none_behind n place
+end_reads zero place (b ∷ bytes) fits = absurd (omega (arith, fits))
+end_reads (suc n) place (b ∷ bytes) fits = rw (unit_behind (b ∷ bytes)) (nothing_reads _ (Nothing (b ∷ bytes)) (λ versions h. let e : b ∷ bytes ≡ [] = h.0 in cc))
+
+no_parts : (s : Segment) (versions : List VersionData) → PartsFile s [] versions → ⊥
+no_parts s versions h =
+    let e : length (flat_map part_bytes h.0 ++ end_byte ∷ []) ≡ 0 = ap length (sym h.1) in
+    omega (arith, e, length-append (flat_map part_bytes h.0) (end_byte ∷ []))
+
+module _ (n : ℕ) (on : ReadsParts n) (s : Segment) (b : ℕ) (bytes : List ℕ) (place : ℕ) (fits : length bytes ≤ n) where
+  abbrev T : List VersionData → Type 0
+  T = PartsFile s (b ∷ bytes)
+
+  abbrev Step : Option FileUnit → Type 0
+  Step u = ReadsAs (unit_then None (InSegment s) place (b ∷ bytes) (units_within n None) u) T
+
+  first_of : (versions : List VersionData) → T versions → FirstPart s b bytes versions
+  first_of versions h = first_part s b bytes h.0 versions h.1 h.2
+
+  end_step : (b == end_byte) ≡ true → Step (Some (unit 1 (passes BehindEnd)))
+  end_step is =
+      let same : b ≡ end_byte = eqb-true b end_byte is in
+      through (units_within n None BehindEnd (place + 1) bytes) (Nothing bytes) T
+      (λ versions h. end_only s b bytes versions (first_of versions h) is)
+      (λ versions h. ([], (λ i. same i ∷ h.0 i), sym h.1))
+      (end_reads n (place + 1) bytes fits)
+
+  reset_step : (b == end_byte) ≡ false → (b == reset_byte) ≡ true → Step (Some (unit 1 (passes (InSegment new_segment))))
+  reset_step not_end is =
+      let same : b ≡ reset_byte = eqb-true b reset_byte is in
+      through (units_within n None (InSegment new_segment) (place + 1) bytes) (PartsFile new_segment bytes) T
+      (λ versions h. reset_only s b bytes versions (first_of versions h) not_end is)
+      (λ versions h. (Reset ∷ h.0, with_part s (b ∷ bytes) Reset bytes versions h.0 h.1 (ap (λ x. x ∷ bytes) same), h.2))
+      (on new_segment bytes (place + 1) fits)
+
+  lone_step : (b == end_byte) ≡ false → (b == reset_byte) ≡ false → is_lone b ≡ true → Step (Some (unit 1 (passes (InSegment s))))
+  lone_step not_end not_reset is =
+      through (units_within n None (InSegment s) (place + 1) bytes) (PartsFile s bytes) T
+      (λ versions h. lone_only s b bytes versions (first_of versions h) not_end not_reset is)
+      (λ versions h. (Lone b ∷ h.0, with_part s (b ∷ bytes) (Lone b) bytes versions h.0 h.1 refl, (is, h.2)))
+      (on s bytes (place + 1) fits)
+
+  sized_of : (b == end_byte) ≡ false → (b == reset_byte) ≡ false → is_lone b ≡ false → (versions : List VersionData) → T versions → SkippedFirst s b bytes versions ⊎ ObjectFirst s b bytes versions
+  sized_of not_end not_reset not_lone versions h = sized_only s b bytes versions (first_of versions h) not_end not_reset not_lone
+
+  -- a size that can't be read yet, or at all
+  no_size : (b == end_byte) ≡ false → (b == reset_byte) ≡ false → is_lone b ≡ false → (x : Length) → length_at bytes ≡ x → ((n : ℕ) (behind : List ℕ) → x ≡ some_length n behind → ⊥) → (versions : List VersionData) → T versions → ⊥
+  no_size not_end not_reset not_lone x e never versions h =
+      let k = sized_by s b bytes versions (sized_of not_end not_reset not_lone versions h) in
+      never (length k.0) (k.0 ++ k.1) (sym e ∙ length_read bytes k.0 k.1 k.2)
+
+  module _ (m : ℕ) (behind : List ℕ) (is_size : length_at bytes ≡ some_length m behind) (not_end : (b == end_byte) ≡ false) (not_reset : (b == reset_byte) ≡ false) (not_lone : is_lone b ≡ false) where
+    abbrev size : ℕ
+    size = 1 + (length bytes - length behind) + m
+
+    abbrev content : List ℕ
+    content = take m behind
+
+    abbrev rest : List ℕ
+    rest = drop m behind
+
+    found : LengthFound b bytes m behind
+    found = length_found b bytes m behind is_size
+
+    few : length rest ≤ n
+    few = omega (arith, fits, length-drop m behind, ap length found.split, length-append found.size behind)
+
+    rest_reads : (next : Segment) → ReadsAs (units_within n None (InSegment next) (place + size) (drop size (b ∷ bytes))) (PartsFile next rest)
+    rest_reads next =
+        let P : List ℕ → Type 0 = λ x. ReadsAs (units_within n None (InSegment next) (place + size) x) (PartsFile next rest) in
+        subst P (sym found.rest) (on next rest (place + size) few)
+
+    too_short : (length behind < m) → (versions : List VersionData) → T versions → ⊥
+    too_short short versions h =
+        let k = sized_by s b bytes versions (sized_of not_end not_reset not_lone versions h) in
+        let same = same_size bytes m behind k.0 k.1 is_size k.2 in
+        omega (arith, short, same.within)
+
+    skipped_step : m ≤ length behind → kind_of_type b ≡ None → Step (Some (unit size (passes (InSegment s))))
+    skipped_step within is =
+        let other : IsOtherType b = (not_end, not_reset, not_lone, is) in
+        through (units_within n None (InSegment s) (place + size) (drop size (b ∷ bytes))) (PartsFile s rest) T
+        (λ versions h. (
+        let k = skipped_only s b bytes versions (sized_of not_end not_reset not_lone versions h) is in
+        let same = same_size bytes m behind k.1.0 k.1.1 is_size k.1.2 in
+        subst (λ (x : List ℕ). PartsFile s x versions) (sym same.rest_is) k.1.3))
+        (λ versions h. skipped_in_front s b bytes content rest versions other (content_sized bytes m behind b within found) h)
+        (rest_reads s)
+
+    object_of : (k : Kind) → kind_of_type b ≡ Some k → (versions : List VersionData) → T versions → Behind k s content rest versions
+    object_of k is versions h =
+        let o = object_only s b bytes versions k (sized_of not_end not_reset not_lone versions h) is in
+        let same = same_size bytes m behind o.0 o.1 is_size o.2 in
+        let P : List ℕ → Type 0 = λ x. Behind k s x rest versions in
+        let Q : List ℕ → Type 0 = λ x. Behind k s o.0 x versions in
+        subst P (sym same.content_is) (subst Q (sym same.rest_is) o.3)
+
+    object_step : m ≤ length behind → (k : Kind) → kind_of_type b ≡ Some k → b ≡ type_byte k → (answer : Result (VersionData × Segment) O5Reason) → set_at k s content ≡ answer → Step (Some (unit size (found_of answer)))
+    object_step within k is is_byte (Err reason) e =
+        nothing_reads _ T (λ versions h. (
+        let o = object_of k is versions h in
+        let f : Ok (o.0, o.1) ≡ Err reason = sym (set_only k s content (o.0, o.1) o.4) ∙ e in cc))
+    object_step within k is is_byte (Ok (v, next)) e =
+        through (front (placed place v) (units_within n None (InSegment next) (place + size) (drop size (b ∷ bytes)))) (λ versions. (others : List VersionData) × (versions ≡ v ∷ others) × PartsFile next rest others) T
+        (λ versions h. (
+        let o = object_of k is versions h in
+        let here : Result (VersionData × Segment) O5Reason = Ok (o.0, o.1) in
+        let there : Result (VersionData × Segment) O5Reason = Ok (v, next) in
+        let f : here ≡ there = sym (set_only k s content (o.0, o.1) o.4) ∙ e in
+        let g = same_read o.0 v o.1 next f in
+        (o.2, o.3 ∙ ap (λ x. x ∷ o.2) g.0, subst (λ (t : Segment). PartsFile t rest o.2) g.1 o.5)))
+        (λ versions h. object_in_front s k b bytes content rest versions is_byte (content_sized bytes m behind b within found) (v, next, h.0, h.1, set_found k s content (v, next) e, h.2))
+        (version_reads place v _ (PartsFile next rest) (rest_reads next))
+
+    content_step : m ≤ length behind → (x : Option Kind) → kind_of_type b ≡ x → Step (Some (unit size (content_found s x content)))
+    content_step within None is = skipped_step within is
+    content_step within (Some k) is = object_step within k is (byte_of k b is) (set_at k s content) refl
+
+    fitting_step : Step (cond (nat_le m (length behind)) (Some (unit size (content_found s (kind_of_type b) content))) None)
+    fitting_step =
+        elim (nat_le m (length behind)) as (λ t. nat_le m (length behind) ≡ t → Step (cond t (Some (unit size (content_found s (kind_of_type b) content))) None)) [
+          | true ↦ λ is. content_step (leb-true m (length behind) is) (kind_of_type b) refl
+          | false ↦ λ is. rw (last_in_set s b bytes) (nothing_reads _ T (too_short (leb-false m (length behind) is)))
+        ] refl
+
+  length_step : (b == end_byte) ≡ false → (b == reset_byte) ≡ false → is_lone b ≡ false → (x : Length) → length_at bytes ≡ x → Step (sized_unit s b bytes x)
+  length_step not_end not_reset not_lone None e =
+      rw (last_in_set s b bytes) (nothing_reads _ T (no_size not_end not_reset not_lone None e (λ m behind f. cc)))
+  length_step not_end not_reset not_lone (Some (Err reason)) e =
+      nothing_reads _ T (no_size not_end not_reset not_lone (Some (Err reason)) e (λ m behind f. cc))
+  length_step not_end not_reset not_lone (Some (Ok (m, behind))) e = fitting_step m behind e not_end not_reset not_lone
+
+  pub first_step : Step (segment_unit s (b ∷ bytes))
+  first_step =
+      elim (b == end_byte) as (λ t. (b == end_byte) ≡ t → Step (cond t (Some (unit 1 (passes BehindEnd))) (cond (b == reset_byte) (Some (unit 1 (passes (InSegment new_segment)))) (cond (is_lone b) (Some (unit 1 (passes (InSegment s)))) (sized_unit s b bytes (length_at bytes)))))) [
+        | true ↦ λ is. end_step is
+        | false ↦ λ not_end. elim (b == reset_byte) as (λ t. (b == reset_byte) ≡ t → Step (cond t (Some (unit 1 (passes (InSegment new_segment)))) (cond (is_lone b) (Some (unit 1 (passes (InSegment s)))) (sized_unit s b bytes (length_at bytes))))) [
+          | true ↦ λ is. reset_step not_end is
+          | false ↦ λ not_reset. elim (is_lone b) as (λ t. is_lone b ≡ t → Step (cond t (Some (unit 1 (passes (InSegment s)))) (sized_unit s b bytes (length_at bytes)))) [
+            | true ↦ λ is. lone_step not_end not_reset is
+            | false ↦ λ not_lone. length_step not_end not_reset not_lone (length_at bytes) refl
+          ] refl
+        ] refl
+      ] refl
+
+none_in_segment : (s : Segment) (place : ℕ) → ReadsAs (closed None place (last_at (InSegment s) [])) (PartsFile s [])
+none_in_segment s place = rw (last_in_segment s) (nothing_reads _ (PartsFile s []) (no_parts s))
+
+pub reads_parts : (n : ℕ) → ReadsParts n
+reads_parts zero s [] place fits = none_in_segment s place
+reads_parts zero s (b ∷ bytes) place fits = absurd (omega (arith, fits))
+reads_parts (suc n) s [] place fits = rw (unit_in_segment s []) (none_in_segment s place)
+reads_parts (suc n) s (b ∷ bytes) place fits = rw (unit_in_segment s (b ∷ bytes)) (first_step n (reads_parts n) s b bytes place (omega (arith, fits)))

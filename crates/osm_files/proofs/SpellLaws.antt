@@ -1,0 +1,249 @@
+-- The file of a set is read as the set.
+use Rattle.std.proofs.Common.{◌≡◌, ℕ, zero, suc, ◌+◌, ◌<◌, ◌≤◌, ◌^◌, Bool, true, false, not, cond, ◌||◌, ◌==◌, ◌⊎◌, List, [], ◌∷◌, ◌++◌, length, take, filter, get_or, refl, sym, ap, subst, ◌∙◌, arith, append_assoc, length-append, inl, inr, Result, Ok, Err, Option, Some, is_some}
+use Rattle.std.proofs.lemmas.List.{append-nil}
+use Rattle.std.proofs.Math.Seq.{take-append_seam, get_or-append_seam}
+use Rattle.std.specs.List.{All, Any, flat_map, list_all, list_any}
+use Rattle.std.specs.FinMap.{get-empty}
+use Rattle.std.specs.Cmp.{Equal-is, tied_itself}
+use Rattle.std.proofs.lemmas.List.Folds.{Any-from_list_any, list_any_at}
+use Rattle.std.specs.List.Sorted.{IsSorted, IsStrictlySortedBy}
+use Rattle.std.specs.declared.cmp.Ordering.{Ordering}
+use Rattle.std.specs.declared.cmp.Ordering.TheVariants.{Less, Equal, Greater}
+use Rattle.std.specs.Ordering.{is_lt, is_eq, ordering_reverse, eq_by_cmp}
+use Rattle.std.proofs.lemmas.Map.Keys.{Less-from_sorted}
+use Rattle.osm_model.specs.declared.kind.Kind as kind_type
+use Rattle.osm_model.specs.declared.kind.Kind.TheVariants as kind
+use Rattle.osm_model.specs.Data.{VersionData, kind_of}
+use Rattle.osm_model.specs.Kind.{kind_letter}
+use Rattle.osm_model.specs.Line.{line, fields}
+use Rattle.osm_model.specs.Joined.{joined}
+use Rattle.osm_model.specs.Order.{version_cmp, version_cmp_total, key_cmp, key_cmp_total}
+use Rattle.osm_model.specs.Valid.{IsVersion}
+use Rattle.osm_model.specs.VersionSet.{VersionSet}
+use Rattle.osm_model.specs.Sets.{listed, from_list, union, empty, contains}
+use Rattle.osm_model.proofs.SetLaws.{contains-listed, contains-from_list, contains-union, same_set, strict-listed}
+use Rattle.osm_model.proofs.VersionLaws.{version_cmp-IsAntisymmetric, listed-view}
+use Rattle.opl_line.specs.Cut.{cut, split_first, pieces_of}
+use Rattle.opl_line.specs.Content.{Pairwise}
+use Rattle.opl_line.specs.Reading.{is_skipped}
+use Rattle.opl_line.specs.Spells.{Spells}
+use Rattle.opl_line.proofs.CutLaws.{cut_split, split_front}
+use Rattle.opl_line.proofs.WholeLineLaws.{line_stands_in_one, line_spells_its_version}
+use Rattle.o5_codec.specs.declared.segment.Segment.{Segment}
+use Rattle.o5_codec.specs.Number.{SpellsNumber}
+use Rattle.o5_codec.specs.Decoder.{new_segment}
+use Rattle.o5_codec.specs.Spelling.{SpellsSet}
+use Rattle.o5_codec.specs.Encoder.{Written, nothing_written, reset_before, type_byte as set_type, written_after, spelled_set}
+use Rattle.o5_codec.specs.WritingLaws.{segment_for, SetsStand, spelled_sets}
+use Rattle.o5_codec.proofs.WrittenLists.{lists_read}
+use Rattle.osm_files.specs.declared.format.Format.{Format}
+use Rattle.osm_files.specs.declared.format.Format.TheVariants.{Opl, O5m, O5c}
+use Rattle.osm_files.specs.Opl.{is_line_end, is_read, OplFile}
+use Rattle.osm_files.specs.O5.{o5m_header, o5c_header, end_byte, reset_byte, type_byte, Part, Reset, Object, part_bytes, PartsSpell, O5File}
+use Rattle.osm_files.specs.Units.{Stand, InOpl, BeforeHeader, start_of}
+use Rattle.osm_files.specs.Held.{IsFile, IsFileOf, Holds, HoldsSorted}
+use Rattle.osm_files.specs.Spell.{behind, behind_all, ended, spelled_in, spelled_versions, spelled_open, spell_list, spell}
+use Rattle.osm_files.specs.Sink.{MayFollow}
+use Rattle.osm_files.specs.SpellLaws.{AreVersions, SpellHoldsItsSet, HeldIsOneSet, joined_file, JoinInAnyOrder, JoinRepeated, JoinInAnyGrouping, KindsDontFall, ListIsSpelledAsItsSet, FirstVersionsStandInFront}
+use Rattle.osm_files.proofs.FileLaws.{one_list}
+use Rattle.osm_files.proofs.SpellSteps.{first_so, then_greater, may_follow, list_split}
+
+-- ---- lines
+cut_line : (front rest : List ℕ) → list_all (λ b. not (is_line_end b)) front ≡ true → cut is_line_end (front ++ 10 ∷ rest) ≡ front ∷ cut is_line_end rest
+cut_line front rest none =
+    let split : split_first is_line_end (front ++ 10 ∷ rest) ≡ (front, Some rest) = split_front is_line_end front rest 10 none refl in
+    cut_split is_line_end (front ++ 10 ∷ rest) ∙ ap (λ s. s.0 ∷ pieces_of is_line_end s.1) split
+
+lines_file : (w : Written) (versions : List VersionData) → All IsVersion versions → OplFile (spelled_versions Opl w versions) versions
+lines_file w [] valid = tt
+lines_file w (v ∷ versions) valid =
+    let rest : List ℕ = spelled_versions Opl (behind Opl w v) versions in
+    let alone = line_stands_in_one v in
+    let pieces : cut is_line_end ((line v ++ 10 ∷ []) ++ rest) ≡ line v ∷ cut is_line_end rest = ap (cut is_line_end) (append_assoc (line v) (10 ∷ []) rest) ∙ cut_line (line v) rest alone.0 in
+    let kept : filter is_read (line v ∷ cut is_line_end rest) ≡ line v ∷ filter is_read (cut is_line_end rest) = rw alone.1 refl in
+    let P : List (List ℕ) → Type 0 = λ ls. Pairwise Spells ls (v ∷ versions) in
+    subst P (sym (ap (filter is_read) pieces ∙ kept))
+    ((line_spells_its_version v (valid 0 v (omega arith))).spelled, lines_file (behind Opl w v) versions (λ k d inside. valid (suc k) d (omega (arith, inside))))
+
+-- ---- data sets
+same_type : (k : kind_type.Kind) → set_type k ≡ type_byte k
+same_type kind.Node = refl
+same_type kind.Way = refl
+same_type kind.Relation = refl
+
+abbrev PartsOf : Segment → List ℕ → List VersionData → Type 0
+PartsOf s bytes versions = (parts : List Part) × (bytes ≡ flat_map part_bytes parts) × PartsSpell s parts versions
+
+with_reset : (begins : Bool) (s : Segment) (bytes : List ℕ) (versions : List VersionData) → PartsOf (segment_for begins s) bytes versions → PartsOf s (reset_before begins ++ bytes) versions
+with_reset true s bytes versions h = (Reset ∷ h.0, ap (λ x. 255 ∷ x) h.1, h.2)
+with_reset false s bytes versions h = h
+
+parts_of : (versions : List VersionData) (s : Segment) (bytes : List ℕ) → SetsStand s bytes versions → PartsOf s bytes versions
+parts_of [] s bytes h = ([], h, refl)
+parts_of (v ∷ versions) s bytes (begins, set, x, after, is, section, spells, more) =
+    let later = parts_of versions after x.1 more in
+    let k = kind_of v.body in
+    let size : List ℕ = section.0 in
+    let whole : set_type k ∷ set ≡ flat_map part_bytes (Object k size x.0 ∷ later.0) =
+    (λ i. same_type k i ∷ section.2 i) ∙ ap (λ y. type_byte k ∷ (size ++ (x.0 ++ y))) later.1 ∙ ap (λ y. type_byte k ∷ y) (sym (append_assoc size x.0 (flat_map part_bytes later.0))) in
+    let here : PartsOf (segment_for begins s) (set_type k ∷ set) (v ∷ versions) = (Object k size x.0 ∷ later.0, whole, (section.1, (v, after, versions, refl, spells, later.2))) in
+    subst (λ (y : List ℕ). PartsOf s y (v ∷ versions)) (sym is) (with_reset begins s (set_type k ∷ set) (v ∷ versions) here)
+
+same_sets : (w : Written) (versions : List VersionData) → spelled_versions O5m w versions ≡ spelled_sets w versions
+same_sets w [] = refl
+same_sets w (v ∷ versions) = ap (λ x. spelled_set w v ++ x) (same_sets (written_after w v) versions)
+
+same_in_both : (w : Written) (versions : List VersionData) → spelled_versions O5c w versions ≡ spelled_versions O5m w versions
+same_in_both w [] = refl
+same_in_both w (v ∷ versions) = ap (λ x. spelled_set w v ++ x) (same_in_both (written_after w v) versions)
+
+-- ---- whole files
+sets_file : (header : List ℕ) (versions : List VersionData) → (header ≡ o5m_header) ⊎ (header ≡ o5c_header) → All IsVersion versions → length (spelled_sets nothing_written versions) < 2 ^ 64
+    → O5File ((header ++ spelled_sets nothing_written versions) ++ end_byte ∷ []) versions
+sets_file header versions begins valid small =
+    let h = parts_of versions new_segment (spelled_sets nothing_written versions) (lists_read versions valid small).0 in
+    record {
+      header = header;
+      parts = h.0;
+      begins = begins;
+      whole = append_assoc header (spelled_sets nothing_written versions) (end_byte ∷ []) ∙ ap (λ x. header ++ (x ++ end_byte ∷ [])) h.1;
+      spelled = h.2;
+    }
+
+letter_is_no_reset : (k : kind_type.Kind) → (kind_letter k == reset_byte) ≡ false
+letter_is_no_reset kind.Node = refl
+letter_is_no_reset kind.Way = refl
+letter_is_no_reset kind.Relation = refl
+
+lines_start : (w : Written) (versions : List VersionData) → start_of (spelled_versions Opl w versions) ≡ InOpl
+unfolding line
+lines_start w [] = refl
+lines_start w (v ∷ versions) = ap (λ t. cond t BeforeHeader InOpl) (letter_is_no_reset (kind_of v.body))
+
+small_sets : (header sets : List ℕ) → length ((header ++ sets) ++ end_byte ∷ []) < 2 ^ 62 → length sets < 2 ^ 64
+small_sets header sets short = omega (arith, short, length-append (header ++ sets) (end_byte ∷ []), length-append header sets)
+
+spelled_file : (f : Format) (versions : List VersionData) → All IsVersion versions → length (spell_list f versions) < 2 ^ 62 → IsFile (spell_list f versions) versions
+spelled_file Opl versions valid short =
+    let lines : List ℕ = spelled_versions Opl nothing_written versions in
+    let file : IsFile lines versions = subst (λ (stand : Stand). IsFileOf stand lines versions) (sym (lines_start nothing_written versions)) (lines_file nothing_written versions valid) in
+    subst (λ (bytes : List ℕ). IsFile bytes versions) (sym (append-nil lines)) file
+spelled_file O5m versions valid short =
+    let same = same_sets nothing_written versions in
+    let small = subst (λ (sets : List ℕ). length sets < 2 ^ 64) same (small_sets o5m_header (spelled_versions O5m nothing_written versions) short) in
+    subst (λ (sets : List ℕ). O5File ((o5m_header ++ sets) ++ end_byte ∷ []) versions) (sym same) (sets_file o5m_header versions (inl refl) valid small)
+spelled_file O5c versions valid short =
+    let same = same_in_both nothing_written versions ∙ same_sets nothing_written versions in
+    let small = subst (λ (sets : List ℕ). length sets < 2 ^ 64) same (small_sets o5c_header (spelled_versions O5c nothing_written versions) short) in
+    subst (λ (sets : List ℕ). O5File ((o5c_header ++ sets) ++ end_byte ∷ []) versions) (sym same) (sets_file o5c_header versions (inr refl) valid small)
+
+-- ---- the order of the members
+key_not_below : (v w : VersionData) → version_cmp v w ≡ Less → is_lt (key_cmp w v) ≡ false
+key_not_below v w less =
+    elim (key_cmp w v) as (λ r. key_cmp w v ≡ r → is_lt r ≡ false) [
+      | Less ↦ λ e. absurd (first_so _ _ less (then_greater _ _ (then_greater _ _ (key_cmp_total.antisymm v w ∙ ap ordering_reverse e))))
+      | Equal ↦ λ e. refl
+      | Greater ↦ λ e. refl
+    ] refl
+
+keys_rise : (xs : List VersionData) → IsStrictlySortedBy version_cmp xs → IsSorted key_cmp xs
+keys_rise xs h = λ k d low high. key_not_below (get_or xs k d) (get_or xs (k + 1) d) (Less-from_sorted version_cmp xs k (k + 1) d h (omega arith) high)
+
+listed_members : (s : VersionSet) → s ≡ from_list (listed s)
+listed_members s = same_set version_cmp_total version_cmp-IsAntisymmetric s (from_list (listed s)) (λ q. contains-listed s q ∙ sym (contains-from_list version_cmp_total (listed s) q))
+
+pub spell_holds : SpellHoldsItsSet
+spell_holds f s valid short = record {
+  short = short;
+  versions = listed s;
+  file = spelled_file f (listed s) valid short;
+  sorted = keys_rise (listed s) (strict-listed s);
+  members = listed_members s;
+}
+
+pub held_is_one_set : HeldIsOneSet
+held_is_one_set bytes one other h g = h.members ∙ ap (λ xs. from_list {R = version_cmp} xs) (one_list bytes h.versions g.versions h.file g.file) ∙ sym g.members
+
+-- ---- joins
+or_turned : (a b : Bool) → (a || b) ≡ (b || a)
+or_turned true true = refl
+or_turned true false = refl
+or_turned false true = refl
+or_turned false false = refl
+
+or_grouped : (a b c : Bool) → ((a || b) || c) ≡ (a || (b || c))
+or_grouped true b c = refl
+or_grouped false b c = refl
+
+or_repeated : (a : Bool) → (a || a) ≡ (a || false)
+or_repeated true = refl
+or_repeated false = refl
+
+abbrev holds_one : VersionSet → VersionData → Bool
+holds_one s q = contains s q
+
+in_both : (s t : VersionSet) (q : VersionData) → contains (union s t) q ≡ (holds_one s q || holds_one t q)
+in_both s t q = contains-union version_cmp_total s t q
+
+equal_sets : (s t : VersionSet) → ((q : VersionData) → contains s q ≡ contains t q) → s ≡ t
+equal_sets s t h = same_set version_cmp_total version_cmp-IsAntisymmetric s t h
+
+pub join_in_any_order : JoinInAnyOrder
+join_in_any_order f a b = ap (spell f) (equal_sets (union a b) (union b a) (λ q. in_both a b q ∙ or_turned (holds_one a q) (holds_one b q) ∙ sym (in_both b a q)))
+
+none_in_empty : (q : VersionData) → holds_one empty q ≡ false
+none_in_empty q = ap is_some (get-empty version_cmp q)
+
+pub join_repeated : JoinRepeated
+join_repeated f a = ap (spell f) (equal_sets (union a a) (union a empty) (λ q. in_both a a q ∙ or_repeated (holds_one a q) ∙ ap (λ (b : Bool). holds_one a q || b) (sym (none_in_empty q)) ∙ sym (in_both a empty q)))
+
+grouped : (a b c : VersionSet) → union (union a b) c ≡ union a (union b c)
+grouped a b c =
+    equal_sets (union (union a b) c) (union a (union b c)) (λ q.
+    in_both (union a b) c q ∙ ap (λ (x : Bool). x || holds_one c q) (in_both a b q) ∙ or_grouped (holds_one a q) (holds_one b q) (holds_one c q)
+    ∙ ap (λ (x : Bool). holds_one a q || x) (sym (in_both b c q)) ∙ sym (in_both a (union b c) q))
+
+member_is : (s : VersionSet) (q : VersionData) → AreVersions s → contains s q ≡ true → IsVersion q
+member_is s q valid h =
+    let a : Any (λ x. eq_by_cmp version_cmp q x ≡ true) (listed s) = Any-from_list_any (eq_by_cmp version_cmp q) (listed s) (sym (contains-listed s q) ∙ h) in
+    let is : q ≡ a.1 = version_cmp-IsAntisymmetric q (a.1) ((Equal-is (version_cmp q (a.1))).0 a.4) in
+    subst (λ (v : VersionData). IsVersion v) (a.3 ∙ sym is) (valid (a.0) (a.1) a.2)
+
+either : (a b : Bool) → (a || b) ≡ true → (a ≡ true) ⊎ (b ≡ true)
+either true b h = inl refl
+either false b h = inr h
+
+are_both : (a b : VersionSet) → AreVersions a → AreVersions b → AreVersions (union a b)
+are_both a b valid others = λ k d within.
+    let xs = listed (union a b) in
+    let x : VersionData = get_or xs k d in
+    let tied : eq_by_cmp version_cmp x x ≡ true = ap is_eq (tied_itself version_cmp_total x) in
+    let member : contains (union a b) x ≡ true = contains-listed (union a b) x ∙ list_any_at (eq_by_cmp version_cmp x) xs k d within tied in
+    elim (either (holds_one a x) (holds_one b x) (sym (in_both a b x) ∙ member)) [ inl left ↦ member_is a x valid left | inr right ↦ member_is b x others right ]
+
+is_union : (f : Format) (a b held : VersionSet) → AreVersions a → AreVersions b → Holds (joined_file f a b) held → held ≡ union a b
+is_union f a b held valid others h =
+    let own = spell_holds f (union a b) (are_both a b valid others) h.short in
+    held_is_one_set (joined_file f a b) held (union a b) h (record { short = own.short; versions = own.versions; file = own.file; members = own.members })
+
+pub join_in_any_grouping : JoinInAnyGrouping
+join_in_any_grouping f g h a b c ab bc valid_a valid_b valid_c left right =
+    ap (λ (s : VersionSet). spell f (union s c)) (is_union g a b ab valid_a valid_b left)
+    ∙ ap (spell f) (grouped a b c)
+    ∙ ap (λ (s : VersionSet). spell f (union a s)) (sym (is_union h b c bc valid_b valid_c right))
+
+-- ---- what is put one after the other
+pub kinds_dont_fall : KindsDontFall
+kinds_dont_fall f versions others v sorted =
+    let xs = versions ++ v ∷ others in
+    let within : length versions < length xs = omega (arith, length-append versions (v ∷ others)) in
+    let at : get_or xs (length versions) v ≡ v = get_or-append_seam versions v others v in
+    let front : take (length versions) xs ≡ versions = take-append_seam versions (v ∷ others) in
+    let P : VersionData → List VersionData → Type 0 = λ x ys. MayFollow x (behind_all f nothing_written ys) in
+    subst (λ (ys : List VersionData). P v ys) front (subst (λ (x : VersionData). P x (take (length versions) xs)) at (may_follow f xs (length versions) v sorted within))
+
+pub list_spelled : ListIsSpelledAsItsSet
+list_spelled f versions sorted = ap (spell_list f) (sym (listed-view versions sorted))
+
+pub first_in_front : FirstVersionsStandInFront
+first_in_front f versions others = (spelled_versions f (behind_all f nothing_written versions) others ++ ended f, list_split f versions others)

@@ -1,0 +1,140 @@
+-- What units read as, and the units of lines.
+use Rattle.std.proofs.Common.{◌≡◌, ℕ, zero, suc, ◌+◌, ◌≤◌, ◌<◌, Bool, true, false, not, cond, List, [], ◌∷◌, ◌++◌, length, drop, take, filter, refl, sym, ap, ◌∙◌, subst, arith, Option, Some, None, Result, Ok, Err, length-append}
+use Rattle.std.proofs.lemmas.Bool.{false≢true}
+use Rattle.osm_model.specs.Data.{VersionData}
+use Rattle.opl_line.specs.Cut.{cut, split_first, lengthened, pieces_of}
+use Rattle.opl_line.specs.Content.{Pairwise}
+use Rattle.opl_line.specs.Reading.{is_skipped, reading_line}
+use Rattle.opl_line.specs.Spells.{Spells}
+use Rattle.opl_line.specs.declared.reason.OplReason.{OplReason}
+use Rattle.opl_line.proofs.CutLaws.{cut_split}
+use Rattle.opl_line.proofs.SpellsLaws.{read_is_spelled, one_reading, refused_spells_nothing, answer_spelled}
+use Rattle.osm_files.specs.Stream.{Verdict, Placed, Still, whole}
+use Rattle.osm_files.specs.Opl.{is_line_end, is_read, OplFile}
+use Rattle.osm_files.specs.Units.{Stand, InOpl, line_found, line_unit, found_then, closed, unit_then, unit_at, last_at, units_within}
+use Rattle.osm_files.specs.Verdict.{versions_of}
+
+-- units have no verdict exactly where their bytes spell versions, and then are these
+pub record ReadsAs (still : Still Placed Verdict) (Spelled : List VersionData → Type 0) : Type 0 where
+  pub read : (versions : List VersionData) → Spelled versions → (still.refusal ≡ None) × (versions_of still.list ≡ versions)
+  pub back : still.refusal ≡ None → Spelled (versions_of still.list)
+
+pub some_is_not_none : {A : Type 0} (x : A) → Some x ≡ None → ⊥
+some_is_not_none x e = cc
+
+abbrev pub LineFile : List (List ℕ) → List VersionData → Type 0
+LineFile pieces = Pairwise Spells (filter is_read pieces)
+
+-- a line that isn't skipped, and others
+spelled_line : (line : List ℕ) (pieces : List (List ℕ)) (versions : List VersionData) → is_skipped line ≡ false → LineFile (line ∷ pieces) versions
+    → (v : VersionData) × (others : List VersionData) × (versions ≡ v ∷ others) × Spells line v × LineFile pieces others
+spelled_line line pieces [] kept h =
+    let P : Bool → Type 0 = λ b. Pairwise Spells (cond (not b) (line ∷ filter is_read pieces) (filter is_read pieces)) [] in
+    absurd (subst P kept h)
+spelled_line line pieces (v ∷ others) kept h =
+    let P : Bool → Type 0 = λ b. Pairwise Spells (cond (not b) (line ∷ filter is_read pieces) (filter is_read pieces)) (v ∷ others) in
+    let k = subst P kept h in
+    (v, others, refl, k.0, k.1)
+
+kept_by : (skipped : Bool) (other : Result (Option VersionData) OplReason) (reason : OplReason) → cond skipped (Ok None) other ≡ Err reason → skipped ≡ false
+kept_by true other reason e = absurd (let f : Ok None ≡ Err reason = e in cc)
+kept_by false other reason e = refl
+
+kept_some : (skipped : Bool) (other : Result (Option VersionData) OplReason) (v : VersionData) → cond skipped (Ok None) other ≡ Ok (Some v) → skipped ≡ false
+kept_some true other v e = absurd (let f : None ≡ Some v = cc in cc)
+kept_some false other v e = refl
+
+refused_line : (line : List ℕ) (pieces : List (List ℕ)) (reason : OplReason) (versions : List VersionData) → reading_line line ≡ Err reason → LineFile (line ∷ pieces) versions → ⊥
+refused_line line pieces reason versions e all =
+    let k = spelled_line line pieces versions (kept_by (is_skipped line) _ reason e) all in
+    refused_spells_nothing line reason k.0 e k.3
+
+pub line_then : (line : List ℕ) (pieces : List (List ℕ)) (place : ℕ) (more : Stand → Still Placed Verdict) → ReadsAs (more InOpl) (LineFile pieces) → (answer : Result (Option VersionData) OplReason) → reading_line line ≡ answer
+    → ReadsAs (found_then place (line_found answer) more) (LineFile (line ∷ pieces))
+line_then line pieces place more h (Ok None) e =
+    let skipped : is_skipped line ≡ true = answer_spelled line (Ok None) e in
+    let same : filter is_read (line ∷ pieces) ≡ filter is_read pieces = rw skipped refl in
+    let P : List (List ℕ) → Type 0 = λ ls. ReadsAs (more InOpl) (Pairwise Spells ls) in
+    subst P (sym same) h
+line_then line pieces place more h (Ok (Some v)) e =
+    let spelled = read_is_spelled line v e in
+    let kept : is_skipped line ≡ false = kept_some (is_skipped line) _ v e in
+    let same : filter is_read (line ∷ pieces) ≡ line ∷ filter is_read pieces = rw kept refl in
+    record {
+      read = λ versions all. (
+          let k = spelled_line line pieces versions kept all in
+          let r = h.read k.1 k.4 in
+          (r.0, (λ i. one_reading line v k.0 spelled k.3 i ∷ r.1 i) ∙ sym k.2));
+      back = λ none. (
+          let P : List (List ℕ) → Type 0 = λ ls. Pairwise Spells ls (v ∷ versions_of (more InOpl).list) in
+          subst P (sym same) (spelled, h.back none));
+    }
+line_then line pieces place more h (Err reason) e = record {
+  read = λ versions all. absurd (refused_line line pieces reason versions e all);
+  back = λ none. absurd (some_is_not_none _ none);
+}
+
+-- a text up to the first byte that it is cut at
+abbrev pub SplitsAs : List ℕ → List ℕ × Option (List ℕ) → Type 0
+SplitsAs bytes (line, None) = line ≡ bytes
+SplitsAs bytes (line, Some behind) = (b : ℕ) × (bytes ≡ line ++ b ∷ behind)
+
+longer : (b : ℕ) (bytes : List ℕ) (s : List ℕ × Option (List ℕ)) → SplitsAs bytes s → SplitsAs (b ∷ bytes) (lengthened b s)
+longer b bytes (line, None) h = ap (λ l. b ∷ l) h
+longer b bytes (line, Some behind) h = (h.0, ap (λ l. b ∷ l) h.1)
+
+pub splits : (p : ℕ → Bool) (bytes : List ℕ) → SplitsAs bytes (split_first p bytes)
+splits p [] = refl
+splits p (b ∷ bytes) =
+    elim (p b) as (λ t. SplitsAs (b ∷ bytes) (cond t ([], Some bytes) (lengthened b (split_first p bytes)))) [
+      | true ↦ (b, refl)
+      | false ↦ longer b bytes (split_first p bytes) (splits p bytes)
+    ]
+
+-- behind a piece and its end
+pub drop_behind : (front : List ℕ) (b : ℕ) (behind : List ℕ) → drop (length front + 1) (front ++ b ∷ behind) ≡ behind
+drop_behind [] b behind = refl
+drop_behind (a ∷ front) b behind = let e : length (a ∷ front) + 1 ≡ suc (length front + 1) = omega arith in rw e (drop_behind front b behind)
+
+abbrev pub Reads : ℕ → Type 0
+Reads n = (bytes : List ℕ) (place : ℕ) → length bytes ≤ n → ReadsAs (units_within n None InOpl place bytes) (OplFile bytes)
+
+nothing : (versions : List VersionData) → LineFile [] versions → [] ≡ versions
+nothing [] h = refl
+nothing (v ∷ versions) h = absurd h
+
+nothing_more : ReadsAs whole (LineFile [])
+nothing_more = record { read = λ versions h. (refl, nothing versions h); back = λ none. tt }
+
+unit_in_opl : (bytes : List ℕ) → unit_at InOpl bytes ≡ line_unit (split_first is_line_end bytes)
+unfolding unit_at
+unit_in_opl bytes = refl
+
+last_in_opl : (bytes : List ℕ) → last_at InOpl bytes ≡ line_found (reading_line bytes)
+unfolding last_at
+last_in_opl bytes = refl
+
+-- the last line, which may lack its end
+last_line : (place : ℕ) (bytes : List ℕ) → ReadsAs (closed None place (last_at InOpl bytes)) (LineFile (bytes ∷ []))
+last_line place bytes = rw (last_in_opl bytes) (line_then bytes [] place (λ next. whole) nothing_more (reading_line bytes) refl)
+
+-- the first line, and what is behind its end
+first_line : (n : ℕ) → Reads n → (bytes : List ℕ) (place : ℕ) → length bytes ≤ suc n → (s : List ℕ × Option (List ℕ)) → SplitsAs bytes s → cut is_line_end bytes ≡ s.0 ∷ pieces_of is_line_end s.1
+    → ReadsAs (unit_then None InOpl place bytes (units_within n None) (line_unit s)) (OplFile bytes)
+first_line n on bytes place fits (line, None) split pieces =
+    let P : List (List ℕ) → Type 0 = λ ls. ReadsAs (closed None place (last_at InOpl bytes)) (LineFile ls) in
+    subst P (sym pieces ∙ refl) (subst (λ (l : List ℕ). ReadsAs (closed None place (last_at InOpl bytes)) (LineFile (l ∷ []))) (sym split) (last_line place bytes))
+first_line n on bytes place fits (line, Some behind) split pieces =
+    let size : ℕ = length line + 1 in
+    let rest : drop size bytes ≡ behind = ap (drop size) split.1 ∙ drop_behind line split.0 behind in
+    let few : length behind ≤ n = omega (arith, fits, ap length split.1, length-append line (split.0 ∷ behind)) in
+    let more : Stand → Still Placed Verdict = λ next. units_within n None next (place + size) (drop size bytes) in
+    let reads : ReadsAs (more InOpl) (LineFile (cut is_line_end behind)) = rw rest (on behind (place + size) few) in
+    let P : List (List ℕ) → Type 0 = λ ls. ReadsAs (found_then place (line_found (reading_line line)) more) (LineFile ls) in
+    subst P (sym pieces) (line_then line (cut is_line_end behind) place more reads (reading_line line) refl)
+
+pub opl_reads : (n : ℕ) → Reads n
+opl_reads zero [] place fits = last_line place []
+opl_reads zero (b ∷ bytes) place fits = absurd (omega (arith, fits))
+opl_reads (suc n) bytes place fits =
+    rw (unit_in_opl bytes) (first_line n (opl_reads n) bytes place fits (split_first is_line_end bytes) (splits is_line_end bytes) (cut_split is_line_end bytes))

@@ -1,0 +1,88 @@
+use Rattle.std.proofs.Common.{◌≡◌, ◌+◌, ◌<◌, ◌≤◌, ◌∷◌, ◌++◌, ◌∙◌, [], ℕ, List, take, drop, length, get_or, sym, ap, subst, arith}
+use Rattle.std.proofs.lemmas.List.{take_all}
+use Rattle.osm_model.specs.Data.{VersionData}
+use Rattle.osm_model.specs.Sets.{listed}
+use Rattle.osm_model.proofs.SetLaws.{strict-listed}
+use Rattle.o5_codec.specs.Encoder.{Written, nothing_written}
+use Rattle.osm_files.specs.Spell.{behind_all, spell_list}
+use Rattle.osm_files.specs.Sink.{MayFollow, CutShort, WritesFile, HasPut}
+use Rattle.osm_files.proofs.SpellSteps.{may_follow}
+use Rattle.osm_files.proofs.SinkLaws.{begin_ok, begin_err, put_ok, put_err, end_written, cut_before_end, parts_at, front_at}
+use Rattle.osm_files.proofs.sink.write_history.Goals as goal
+
+pub returns-in-Err-begin-clause-written : goal.returns-in-Err-begin-clause-written
+returns-in-Err-begin-clause-written g c =
+    let f = c.args.format in
+    let n = c.args.number in
+    let before = g.W.Output.contents c.args.out.now in
+    let now = g.W.Output.contents c.begin.new.out in
+    let failed = g.W.Output.failed c.begin.new.out in
+    cut_before_end f n [] (listed c.args.history.now) before now failed c.in-Err-begin.fault
+    (begin_err f n c.in-Ok.sink c.in-Ok.ensures.ok c.begin.new.self before now failed c.in-Err-begin.fault c.in-Err-begin.ensures.calls)
+
+pub puts-init : goal.puts-init
+puts-init g c =
+    begin_ok c.args.format c.args.number c.in-Ok.sink c.in-Ok.ensures.ok c.begin.new.self (g.W.Output.contents c.args.out.now) (g.W.Output.contents c.begin.new.out) (g.W.Output.failed c.begin.new.out) c.in_default.ensures.calls
+
+pub put-requires-clause-open : goal.put-requires-clause-open
+put-requires-clause-open g c = (ap (λ s. s.begun) c.puts.invariant.state, ap (λ s. s.ended) c.puts.invariant.state)
+
+pub put-requires-clause-follows : goal.put-requires-clause-follows
+put-requires-clause-follows g c = λ going.
+    let f = c.args.format in
+    let xs = listed c.args.history.now in
+    let i = c.puts.place in
+    let v = c.get.result.now in
+    let within : i < length xs = omega (arith, c.puts-test.true, c.len-place-end.ensures) in
+    let follows : MayFollow v (behind_all f nothing_written (take i xs)) =
+    subst (λ (x : VersionData). MayFollow x (behind_all f nothing_written (take i xs))) (sym c.get.ensures) (may_follow f xs i v (strict-listed c.args.history.now) within) in
+    subst (λ (w : Written). MayFollow v w) (sym (ap (λ s. s.encoder) c.puts.invariant.state)) follows
+
+pub returns-in-Err-put-clause-written : goal.returns-in-Err-put-clause-written
+returns-in-Err-put-clause-written g c =
+    let f = c.args.format in
+    let n = c.args.number in
+    let xs = listed c.args.history.now in
+    let i = c.puts.place in
+    let v = c.get.result.now in
+    let before = g.W.Output.contents c.args.out.now in
+    let mid = g.W.Output.contents c.puts.out in
+    let now = g.W.Output.contents c.put.new.out in
+    let failed = g.W.Output.failed c.put.new.out in
+    let fault = c.in-Err-put.fault in
+    let within : i < length xs = omega (arith, c.puts-test.true, c.len-place-end.ensures) in
+    let cut = put_err f n (take i xs) before mid c.puts.sink c.puts.invariant v c.put.new.self now failed fault c.in-Err-put.ensures.calls in
+    subst (λ (x : List VersionData). CutShort n before now failed (spell_list f x) fault) (parts_at xs i v within c.get.ensures)
+    (cut_before_end f n (take i xs ++ v ∷ []) (drop (i + 1) xs) before now failed fault cut)
+
+pub puts-preserved : goal.puts-preserved
+puts-preserved g c =
+    let f = c.args.format in
+    let n = c.args.number in
+    let xs = listed c.args.history.now in
+    let i = c.puts.place in
+    let v = c.get.result.now in
+    let before = g.W.Output.contents c.args.out.now in
+    let mid = g.W.Output.contents c.puts.out in
+    let now = g.W.Output.contents c.put.new.out in
+    let failed = g.W.Output.failed c.put.new.out in
+    let within : i < length xs = omega (arith, c.puts-test.true, c.len-place-end.ensures) in
+    subst (λ (x : List VersionData). HasPut f n x before c.put.new.self now) (front_at xs i v within c.get.ensures)
+    (put_ok f n (take i xs) before mid c.puts.sink c.puts.invariant v c.put.new.self now failed c.in_default-put.ensures.calls)
+
+pub end-requires : goal.end-requires
+end-requires g c = (ap (λ s. s.begun) c.puts.invariant.state, ap (λ s. s.ended) c.puts.invariant.state)
+
+pub returns-clause-written : goal.returns-clause-written
+returns-clause-written g c =
+    let f = c.args.format in
+    let n = c.args.number in
+    let xs = listed c.args.history.now in
+    let i = c.puts.place in
+    let before = g.W.Output.contents c.args.out.now in
+    let mid = g.W.Output.contents c.puts.out in
+    let now = g.W.Output.contents c.end.new.out in
+    let failed = g.W.Output.failed c.end.new.out in
+    let all : take i xs ≡ xs = take_all i xs (omega (arith, c.puts-test.false, c.len-place-end.ensures)) in
+    subst (λ (x : List VersionData). WritesFile n before now failed (spell_list f x) c.end.result) all
+    (end_written f n (take i xs) before mid c.puts.sink c.puts.invariant c.end.new.self now failed c.end.result c.end.ensures.calls)

@@ -1,0 +1,7 @@
+use Rattle.std.proofs.Common.{take}
+use Rattle.osm_model.specs.Sets.{listed}
+use Rattle.osm_files.specs.Sink.{HasPut}
+use Rattle.osm_files.proofs.sink.write_history.Given as goal
+
+abbrev pub invariant-puts : goal.invariant-puts
+invariant-puts g l = HasPut l.fn.format l.number (take l.place (listed l.history)) (g.W.Output.contents l.fn.out) l.sink (g.W.Output.contents l.out)

@@ -1,0 +1,18 @@
+-- OPL files: lines and what they hold (Osmium OPL file format manual; that comments and empty lines are skipped is an own rule).
+use Rattle.std.specs.Prelude.{ℕ, Bool, not, ◌==◌, ◌||◌, List, filter}
+use Rattle.osm_model.specs.Data.{VersionData}
+use Rattle.opl_line.specs.Cut.{cut}
+use Rattle.opl_line.specs.Content.{Pairwise}
+use Rattle.opl_line.specs.Reading.{is_skipped}
+use Rattle.opl_line.specs.Spells.{Spells}
+
+-- LF and CR
+abbrev pub is_line_end : ℕ → Bool
+is_line_end b = (b == 10) || (b == 13)
+
+abbrev pub is_read : List ℕ → Bool
+is_read line = not (is_skipped line)
+
+-- the file's lines that aren't skipped spell these versions, one for one; a file is cut at each LF and each CR
+abbrev pub OplFile : List ℕ → List VersionData → Type 0
+OplFile bytes versions = Pairwise Spells (filter is_read (cut is_line_end bytes)) versions

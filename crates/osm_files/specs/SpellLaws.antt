@@ -1,0 +1,72 @@
+-- Laws of the one spelling of a set, and of what a sink writes.
+use Rattle.std.specs.Prelude.{◌≡◌, ℕ, ◌<◌, ◌^◌, Bool, List, [], ◌∷◌, ◌++◌, length, Option, Result, Ok, Err}
+use Rattle.std.specs.List.{All}
+use Rattle.std.specs.List.Sorted.{IsStrictlySortedBy}
+use Rattle.osm_model.specs.Data.{VersionData}
+use Rattle.osm_model.specs.Order.{version_cmp}
+use Rattle.osm_model.specs.Valid.{IsVersion}
+use Rattle.osm_model.specs.VersionSet.{VersionSet}
+use Rattle.osm_model.specs.Sets.{listed, from_list, union, empty}
+use Rattle.o5_codec.specs.Encoder.{nothing_written}
+use Rattle.osm_files.specs.declared.fault.Fault.{Fault}
+use Rattle.osm_files.specs.declared.format.Format.{Format}
+use Rattle.osm_files.specs.Held.{Holds, HoldsSorted}
+use Rattle.osm_files.specs.Spell.{begun, ended, spelled_in, behind_all, spelled_open, spell_list, spell}
+use Rattle.osm_files.specs.Sink.{SinkState, new_sink, MayFollow, Calls, CutShort, WritesFile, begins, puts, ends, stays, HasPut}
+
+-- each member is within the ranges of versions
+abbrev pub AreVersions : VersionSet → Type 0
+AreVersions set = All IsVersion (listed set)
+
+-- the file of a set of versions, if it is shorter than 2^62 bytes, is sorted and holds the set
+abbrev pub SpellHoldsItsSet : Type 0
+SpellHoldsItsSet = (format : Format) (set : VersionSet) → AreVersions set → length (spell format set) < 2 ^ 62 → HoldsSorted (spell format set) set
+
+-- a file holds at most one set
+abbrev pub HeldIsOneSet : Type 0
+HeldIsOneSet = (bytes : List ℕ) (one other : VersionSet) → Holds bytes one → Holds bytes other → one ≡ other
+
+-- the file of what two sets hold together
+abbrev pub joined_file : Format → VersionSet → VersionSet → List ℕ
+joined_file format a b = spell format (union a b)
+
+-- the order of two sets does not matter, and a set with itself makes the file that it makes with the empty one
+abbrev pub JoinInAnyOrder : Type 0
+JoinInAnyOrder = (format : Format) (a b : VersionSet) → joined_file format a b ≡ joined_file format b a
+
+abbrev pub JoinRepeated : Type 0
+JoinRepeated = (format : Format) (a : VersionSet) → joined_file format a a ≡ joined_file format a empty
+
+-- three sets make the same file whichever two were joined first and written, in any formats, to a file shorter than 2^62 bytes
+abbrev pub JoinInAnyGrouping : Type 0
+JoinInAnyGrouping = (format left right : Format) (a b c ab bc : VersionSet) → AreVersions a → AreVersions b → AreVersions c →
+    Holds (joined_file left a b) ab → Holds (joined_file right b c) bc →
+    joined_file format ab c ≡ joined_file format a bc
+
+-- in a list that ascends strictly each version may follow those before it: the kinds don't fall
+abbrev pub KindsDontFall : Type 0
+KindsDontFall = (format : Format) (versions others : List VersionData) (v : VersionData) → IsStrictlySortedBy version_cmp (versions ++ v ∷ others) → MayFollow v (behind_all format nothing_written versions)
+
+-- a list that ascends strictly is spelled as its set
+abbrev pub ListIsSpelledAsItsSet : Type 0
+ListIsSpelledAsItsSet = (format : Format) (versions : List VersionData) → IsStrictlySortedBy version_cmp versions → spell_list format versions ≡ spell format (from_list versions)
+
+-- the file of the first versions of a list, without the mark of its end, stands at the front of the file of all
+abbrev pub FirstVersionsStandInFront : Type 0
+FirstVersionsStandInFront = (format : Format) (versions others : List VersionData) → (rest : List ℕ) × (spell_list format (versions ++ others) ≡ spelled_open format versions ++ rest)
+
+-- what a call makes of the versions put so far: they are put, or a front of their file was appended
+abbrev pub Puts : {A : Type 0} → Format → ℕ → List VersionData → Option (List ℕ) → SinkState → Option (List ℕ) → Bool → Result A Fault → Type 0
+Puts format number versions before s now failed (Ok done) = HasPut format number versions before s now
+Puts format number versions before s now failed (Err fault) = CutShort number before now failed (spelled_open format versions) fault
+
+-- The calls of a sink, one after the other: what they append is the file of what was put, to its end after `end` and
+-- without it before; after a refusal it is a front of the file of what was put, with the version in hand, and after a
+-- failure of the output it has as many bytes as the place of the fault says.
+pub record CallsAreSpelled : Type 0 where
+  pub begin : (format : Format) (number : ℕ) (s : SinkState) (before now : Option (List ℕ)) (failed : Bool) (result : Result (Unit {0}) Fault) →
+      Calls (begins (new_sink format number)) s stays before now failed (begun format) result → Puts format number [] before s now failed result
+  pub put : (format : Format) (number : ℕ) (versions : List VersionData) (v : VersionData) (s t : SinkState) (before mid now : Option (List ℕ)) (failed : Bool) (result : Result (Unit {0}) Fault) →
+      HasPut format number versions before s mid → Calls s t (puts v) mid now failed (spelled_in s.format s.encoder v) result → Puts format number (versions ++ v ∷ []) before t now failed result
+  pub end : (format : Format) (number : ℕ) (versions : List VersionData) (s t : SinkState) (before mid now : Option (List ℕ)) (failed : Bool) (result : Result (Unit {0}) Fault) →
+      HasPut format number versions before s mid → Calls (ends s) t stays mid now failed (ended s.format) result → WritesFile number before now failed (spell_list format versions) result

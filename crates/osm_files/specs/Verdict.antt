@@ -1,0 +1,43 @@
+-- The first faulty unit of any bytes.
+use Rattle.std.specs.Prelude.{ℕ, ◌-◌, ◌^◌, nat_lt, Bool, false, List, [], ◌∷◌, length, take, map, Option, Some, None, if◌then◌else◌}
+use Rattle.std.specs.Ordering.{is_lt}
+use Rattle.osm_model.specs.Data.{VersionData}
+use Rattle.osm_model.specs.Order.{key_cmp}
+use Rattle.osm_files.specs.declared.reason.Reason.TheVariants.{TooLong, Unsorted}
+use Rattle.osm_files.specs.Stream.{Verdict, verdict_at, Placed, Still}
+use Rattle.osm_files.specs.Units.{units, start_of}
+
+unfoldable pub length_limit : ℕ
+length_limit = 2 ^ 62
+
+-- 2^62 bytes or more: only the units count that stand whole in those below the limit
+abbrev pub too_long : Verdict
+too_long = verdict_at length_limit TooLong
+
+-- the units of a file, up to the first that is faulty
+unfoldable pub file_units : List ℕ → Still Placed Verdict
+file_units bytes =
+    if nat_lt (length bytes) length_limit then units None (start_of bytes) 0 bytes
+    else units (Some too_long) (start_of bytes) 0 (take (length_limit - 1) bytes)
+
+abbrev pub versions_of : List Placed → List VersionData
+versions_of = map (λ unit. unit.version)
+
+-- the place and the reason of the first faulty unit
+abbrev pub verdict : List ℕ → Option Verdict
+verdict bytes = (file_units bytes).refusal
+
+-- a version's key is below that of the one before it
+abbrev pub is_below : VersionData → Option VersionData → Bool
+is_below v None = false
+is_below v (Some before) = is_lt (key_cmp v before)
+
+-- the same, where a unit is faulty too that can be read, but whose version has a key below that of the one before it
+abbrev pub sorted_verdict : Option Verdict → Option VersionData → List Placed → Option Verdict
+sorted_verdict close before [] = close
+sorted_verdict close before (unit ∷ units) =
+    if is_below unit.version before then Some (verdict_at unit.place Unsorted)
+    else sorted_verdict close (Some unit.version) units
+
+abbrev pub verdict_sorted : List ℕ → Option Verdict
+verdict_sorted bytes = let units = file_units bytes in sorted_verdict units.refusal None units.list

@@ -1,0 +1,41 @@
+//! The names of formats and reasons, and the text of a fault.
+use super::Fault;
+use crate::format::Format;
+use crate::reason::Reason;
+use o5_codec::O5Reason;
+use opl_line::OplReason;
+use std::alloc::AllocError;
+use std::test::Fail;
+
+#[test]
+fn names_and_text(rt: HostRuntime) -> Result<(), Fail> {
+    assert_eq!(rt; Format::Opl.name(), "opl");
+    assert_eq!(rt; Format::O5m.name(), "o5m");
+    assert_eq!(rt; Format::O5c.name(), "o5c");
+    assert_eq!(rt; Reason::Unsorted.name(), "Unsorted");
+    assert_eq!(rt; Reason::O5(O5Reason::MixedSegment).name(), "MixedSegment");
+    assert_eq!(rt; Fault::from(AllocError), Fault::memory());
+    let fault = Fault {
+        input: 1,
+        place: 4,
+        reason: Reason::Opl(OplReason::NoLocation),
+    };
+    let text = format!(in rt.alloc(); "{fault}")?;
+    assert_eq!(rt; text.as_str(), "file 1, byte 4: NoLocation");
+    Ok(())
+}
+
+#[test]
+fn inner_want_of_memory_is_said_outside(rt: HostRuntime) {
+    assert_eq!(rt; Reason::from(OplReason::Memory), Reason::Memory);
+    assert_eq!(rt;
+        Reason::from(OplReason::BadText),
+        Reason::Opl(OplReason::BadText)
+    );
+    assert_eq!(rt; Reason::from(O5Reason::Memory), Reason::Memory);
+    assert_eq!(rt; Reason::from(O5Reason::Failed), Reason::Failed);
+    assert_eq!(rt;
+        Reason::from(O5Reason::BadText),
+        Reason::O5(O5Reason::BadText)
+    );
+}

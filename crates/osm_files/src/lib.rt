@@ -1,0 +1,20 @@
+//! Whole files of OpenStreetMap histories in OPL, o5m and o5c: what they hold, and the devices that they go through.
+#![tactic(auto)]
+
+mod fault;
+mod format;
+mod input;
+pub mod laws;
+mod output;
+mod reason;
+mod sink;
+mod unit;
+mod whole;
+
+pub use fault::{Fault, LENGTH_LIMIT};
+pub use format::Format;
+pub use input::{Broken, FromRead, Input, SliceIn, read_all};
+pub use output::{Output, ToWrite, VecOut, write_all};
+pub use reason::Reason;
+pub use sink::{Sink, write_history};
+pub use whole::read_sorted;

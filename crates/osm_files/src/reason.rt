@@ -1,0 +1,109 @@
+//! Why a file is refused.
+ghost use Rattle.std.specs.Prelude.{◌≡◌};
+ghost use Rattle.osm_files.specs.Reason.{reason_name};
+
+use o5_codec::O5Reason;
+use opl_line::OplReason;
+use osm_model::Memory;
+use std::alloc::AllocFailed;
+
+/// Why a file, or a call that reads or writes one, is refused.
+#[derive(Clone, Copy, Debug, PartialEq, Eq)]
+pub enum Reason {
+    /// A line of an OPL file can't be read; never its want of memory.
+    Opl(OplReason),
+    /// A data set of an o5m or o5c file can't be read; never its want of memory, nor that a call failed before.
+    O5(O5Reason),
+    /// The file doesn't begin as its format does.
+    BadHeader,
+    /// An object doesn't stand after the one before it.
+    Unsorted,
+    /// The file ends without the mark of its end.
+    NoEnd,
+    /// Bytes follow the mark of the file's end.
+    AfterEnd,
+    /// The file has 2^62 bytes or more.
+    TooLong,
+    /// The reader answered an error.
+    ReadFault,
+    /// The writer answered an error, or took none of some bytes.
+    WriteFault,
+    /// Memory was refused.
+    Memory,
+    /// An earlier call was refused.
+    Failed,
+}
+
+impl Reason {
+    /// The reason's name, which is that of its variant, or of a line's or a data set's reason the inner one's.
+    pub fn name(&self) -> &'static str
+        ensures { result.now ≡ reason_name self.now }
+    {
+        match self {
+            Reason::Opl(reason) => reason.name(),
+            Reason::O5(reason) => reason.name(),
+            Reason::BadHeader => "BadHeader",
+            Reason::Unsorted => "Unsorted",
+            Reason::NoEnd => "NoEnd",
+            Reason::AfterEnd => "AfterEnd",
+            Reason::TooLong => "TooLong",
+            Reason::ReadFault => "ReadFault",
+            Reason::WriteFault => "WriteFault",
+            Reason::Memory => "Memory",
+            Reason::Failed => "Failed",
+        }
+    }
+}
+
+impl From<OplReason> for Reason {
+    ghost use Rattle.std.specs.Prelude.{◌≡◌};
+    ghost use Rattle.osm_files.specs.Reason.{of_line};
+
+    ghost from_gives = { λ inner outer. outer ≡ of_line inner };
+
+    /// Want of memory is said by the outer reason.
+    fn from(reason: OplReason) -> Reason {
+        match reason {
+            OplReason::Memory => Reason::Memory,
+            _ => Reason::Opl(reason),
+        }
+    }
+}
+
+impl From<O5Reason> for Reason {
+    ghost use Rattle.std.specs.Prelude.{◌≡◌};
+    ghost use Rattle.osm_files.specs.Reason.{of_data_set};
+
+    ghost from_gives = { λ inner outer. outer ≡ of_data_set inner };
+
+    /// Want of memory, and that a call failed before, are said by the outer reason.
+    fn from(reason: O5Reason) -> Reason {
+        match reason {
+            O5Reason::Memory => Reason::Memory,
+            O5Reason::Failed => Reason::Failed,
+            _ => Reason::O5(reason),
+        }
+    }
+}
+
+impl<T: Drop> From<AllocFailed<T>> for Reason {
+    ghost use Rattle.std.specs.Prelude.{◌≡◌};
+    ghost use Rattle.osm_files.specs.declared.reason.Reason.TheVariants.{Memory};
+
+    ghost from_gives = { λ _ reason. reason ≡ Memory };
+
+    fn from(_error: AllocFailed<T>) -> Reason {
+        Reason::Memory
+    }
+}
+
+impl From<Memory> for Reason {
+    ghost use Rattle.std.specs.Prelude.{◌≡◌};
+    ghost use Rattle.osm_files.specs.declared.reason.Reason.TheVariants.{Memory};
+
+    ghost from_gives = { λ _ reason. reason ≡ Memory };
+
+    fn from(_error: Memory) -> Reason {
+        Reason::Memory
+    }
+}

@@ -1,0 +1,305 @@
+//! Sinks: a file that is written version by version.
+ghost use Rattle.std.specs.Prelude.{◌≡◌, ◌≢◌, ◌+◌, ◌<◌, ◌^◌, ◌++◌, false, true, [], Ok, Err, length, IfOk, IfErr, OnOk, OnErr};
+ghost use Rattle.o5_codec.specs.Encoder.{nothing_written};
+ghost use Rattle.osm_files.specs.Fault.{memory_fault, too_long_fault, write_fault};
+ghost use Rattle.osm_files.specs.Output.{Appended};
+ghost use Rattle.osm_files.specs.declared.format.Format.{Format};
+ghost use Rattle.osm_files.specs.declared.format.Format.TheVariants as format;
+ghost use Rattle.osm_files.specs.Spell as spelling;
+ghost use Rattle.osm_files.specs.Sink as spec;
+
+use crate::fault::Fault;
+use crate::format::Format;
+use crate::output::{Output, write_all};
+use crate::reason::Reason;
+use crate::unit::{END, O5C_HEADER, O5M_HEADER};
+use o5_codec::Encoder;
+use opl_line::append_line;
+use osm_model::{History, Kind, Memory, Version};
+use std::alloc::Global;
+use std::marker::Model;
+
+/// How versions are written one after the other.
+#[derive(Drop)]
+enum Units {
+    /// As lines, the last one of a version of this kind; nodes come first.
+    Lines(Kind),
+    /// As data sets.
+    DataSets(Encoder),
+}
+
+impl Units {
+    /// The units of a format, of which none is written yet.
+    fn new(alloc: Global, format: Format) -> Result<Units, Memory>
+        ensures units { IfOk result (λ u. spec.AreOf format u) }
+        ensures nothing { IfOk result (λ u. spec.written_in u ≡ nothing_written) }
+    {
+        match format {
+            Format::Opl => Ok(Units::Lines(Kind::Node)),
+            Format::O5m | Format::O5c => Ok(Units::DataSets(Encoder::new(alloc)?)),
+        }
+    }
+
+    /// Appends a version behind those written before.
+    ///
+    /// # Errors
+    ///
+    /// For want of memory alone, in which case a part of it may stand there.
+    fn append(&mut self, bytes: &mut Vec<u8>, v: &Version) -> Result<(), Memory>
+        requires follows { spec.MayFollow v.now (spec.written_in self.old) }
+        requires good { spec.IsGood self.old }
+        ensures bytes { OnOk result ((f : Format) → spec.AreOf f self.old → bytes.new.items ≡ bytes.old.items ++ spelling.spelled_in f (spec.written_in self.old) v.now) }
+        ensures some { OnOk result (0 < length bytes.new.items) }
+        ensures units { OnOk result ((f : Format) → spec.AreOf f self.old → spec.AreOf f self.new) }
+        ensures behind { OnOk result ((f : Format) → spec.AreOf f self.old → spec.written_in self.new ≡ spelling.behind f (spec.written_in self.old) v.now) }
+    {
+        match self {
+            Units::Lines(last) => {
+                *last = v.kind();
+                append_line(bytes, v)?;
+                bytes.push(b'\n')?;
+                Ok(())
+            }
+            Units::DataSets(encoder) => match encoder.append_set(bytes, v) {
+                Ok(()) => Ok(()),
+                Err(_) => Err(Memory),
+            },
+        }
+    }
+}
+
+/// Writes one file, version by version, to an output that is handed to each call.
+///
+/// It keeps the state that the next version is written in, and no version. Each call writes at once.
+#[derive(Drop)]
+pub struct Sink {
+    format: Format,
+    number: usize,
+    units: Units,
+    /// The bytes written so far.
+    written: u64,
+    begun: bool,
+    ended: bool,
+    failed: bool,
+    /// The bytes of one version; used again for each.
+    buffer: Vec<u8>,
+}
+
+impl Model for Sink {
+    ghost use Rattle.osm_files.specs.Sink.{SinkState};
+    ghost use Rattle.osm_files.specs.InsideSink.{IsSound, state_of};
+
+    ghost Value = { SinkState };
+
+    ghost view = { state_of };
+
+    ghost invariant = { IsSound };
+}
+
+impl Sink {
+    /// A sink for a file of this format, to the output of this number. It writes nothing yet.
+    ///
+    /// # Errors
+    ///
+    /// For want of memory alone.
+    pub fn new(alloc: Global, format: Format, number: usize) -> Result<Sink, Fault>
+        ensures ok { IfOk result (λ sink. sink ≡ spec.new_sink format number) }
+        ensures err { IfErr result (λ fault. fault ≡ memory_fault) }
+    {
+        let Ok(units) = Units::new(alloc, format) else {
+            return Err(Fault::memory());
+        };
+        Ok(Sink {
+            format,
+            number,
+            units,
+            written: 0,
+            begun: false,
+            ended: false,
+            failed: false,
+            buffer: Vec::new(alloc),
+        })
+    }
+
+    /// Begins the file.
+    ///
+    /// # Errors
+    ///
+    /// `WriteFault` where the output fails, at the number of bytes that it took; `Failed` where an earlier call was
+    /// refused. A sink of lines has nothing to write here, and leaves the output as it is.
+    pub fn begin<W: Output>(&mut self, out: &mut W) -> Result<(), Fault>
+        requires { self.old.begun ≡ false }
+        ensures calls { spec.Calls (spec.begins self.old) self.new spec.stays (W.contents out.old) (W.contents out.new) (W.failed out.new) (spelling.begun self.old.format) result }
+        ensures memory { result ≢ Err memory_fault }
+        ensures lines { self.old.failed ≡ false → self.old.format ≡ format.Opl → (result ≡ Ok tt) × (out.new ≡ out.old) }
+        ensures good { OnOk result (self.old.format ≢ format.Opl → W.failed out.new ≡ false) }
+        ensures untouched { spec.IsBeforeWriting self.old.number result → out.new ≡ out.old }
+    {
+        self.begun = true;
+        if self.failed {
+            return Err(Fault::failed(self.number));
+        }
+        let header = match self.format {
+            Format::Opl => return Ok(()),
+            Format::O5m => O5M_HEADER,
+            Format::O5c => O5C_HEADER,
+        };
+        match send(out, self.number, &mut self.written, &header) {
+            Ok(()) => Ok(()),
+            Err(fault) => {
+                self.failed = true;
+                Err(fault)
+            }
+        }
+    }
+
+    /// Writes a version. Its kind isn't below the kind of the version put last.
+    ///
+    /// # Errors
+    ///
+    /// `Memory`, and `TooLong` where the file would come to have 2^62 bytes or more, in which cases nothing is written;
+    /// `WriteFault` where the output fails, at the number of bytes that it took in all; `Failed` where an earlier call
+    /// was refused.
+    pub fn put<W: Output>(&mut self, out: &mut W, v: &Version) -> Result<(), Fault>
+        requires open { spec.IsOpen self.old }
+        requires follows { spec.Takes v.now self.old }
+        ensures calls { spec.Calls self.old self.new (spec.puts v.now) (W.contents out.old) (W.contents out.new) (W.failed out.new) (spelling.spelled_in self.old.format self.old.encoder v.now) result }
+        ensures good { OnOk result (W.failed out.new ≡ false) }
+        ensures untouched { spec.IsBeforeWriting self.old.number result → out.new ≡ out.old }
+    {
+        if self.failed {
+            return Err(Fault::failed(self.number));
+        }
+        self.buffer.clear();
+        if self.units.append(&mut self.buffer, v).is_err() {
+            self.failed = true;
+            return Err(Fault::memory());
+        }
+        match send(out, self.number, &mut self.written, &self.buffer) {
+            Ok(()) => Ok(()),
+            Err(fault) => {
+                self.failed = true;
+                Err(fault)
+            }
+        }
+    }
+
+    /// Ends the file, and flushes the output.
+    ///
+    /// # Errors
+    ///
+    /// As for [`Sink::put`], but never `Memory`. A flush that fails is a `WriteFault` at the number of bytes written.
+    pub fn end<W: Output>(&mut self, out: &mut W) -> Result<(), Fault>
+        requires { spec.IsOpen self.old }
+        ensures calls { spec.Calls (spec.ends self.old) self.new spec.stays (W.contents out.old) (W.contents out.new) (W.failed out.new) (spelling.ended self.old.format) result }
+        ensures memory { result ≢ Err memory_fault }
+        ensures good { OnOk result (W.failed out.new ≡ false) }
+        ensures untouched { spec.IsBeforeWriting self.old.number result → out.new ≡ out.old }
+    {
+        self.ended = true;
+        if self.failed {
+            return Err(Fault::failed(self.number));
+        }
+        match finish(out, self.number, &mut self.written, self.format) {
+            Ok(()) => Ok(()),
+            Err(fault) => {
+                self.failed = true;
+                Err(fault)
+            }
+        }
+    }
+}
+
+/// Writes bytes behind those written before, and counts them.
+fn send<W: Output>(out: &mut W, number: usize, written: &mut u64, bytes: &[u8]) -> Result<(), Fault>
+    requires some { 0 < length bytes.now }
+    requires below { written.old < 2 ^ 62 }
+    ensures sent { spec.Sends number (W.contents out.old) (W.contents out.new) (W.failed out.new) written.old bytes.now result }
+    ensures counted { OnOk result (written.new ≡ written.old + length bytes.now) }
+    ensures uncounted { OnErr result (written.new ≡ written.old) }
+    ensures good { OnOk result (W.failed out.new ≡ false) }
+    ensures memory { result ≢ Err memory_fault }
+    ensures untouched { result ≡ Err (too_long_fault number) → out.new ≡ out.old }
+{
+    match write_all(out, number, *written, bytes) {
+        Ok(()) => {
+            *written += bytes.len() as u64;
+            Ok(())
+        }
+        Err(fault) => Err(fault),
+    }
+}
+
+/// Writes the mark of the end, if the format has one, and flushes the output.
+fn finish<W: Output>(
+    out: &mut W,
+    number: usize,
+    written: &mut u64,
+    format: Format,
+) -> Result<(), Fault>
+    requires { written.old < 2 ^ 62 }
+    ensures sent { spec.Sends number (W.contents out.old) (W.contents out.new) (W.failed out.new) written.old (spelling.ended format) result }
+    ensures counted { OnOk result (written.new ≡ written.old + length (spelling.ended format)) }
+    ensures below { written.new < 2 ^ 62 }
+    ensures good { OnOk result (W.failed out.new ≡ false) }
+    ensures memory { result ≢ Err memory_fault }
+    ensures untouched { result ≡ Err (too_long_fault number) → out.new ≡ out.old }
+{
+    match format {
+        Format::Opl => flush(out, number, *written),
+        Format::O5m | Format::O5c => match send(out, number, written, &[END]) {
+            Ok(()) => flush(out, number, *written),
+            Err(fault) => Err(fault),
+        },
+    }
+}
+
+/// Flushes the output, to which so many bytes were written.
+fn flush<W: Output>(out: &mut W, number: usize, written: u64) -> Result<(), Fault>
+    ensures same { Appended (W.contents out.old) (W.contents out.new) [] }
+    ensures good { OnOk result (W.failed out.new ≡ false) }
+    ensures failed { IfErr result (λ fault. (fault ≡ write_fault number written) × (W.failed out.new ≡ true)) }
+{
+    match out.flush() {
+        Ok(()) => Ok(()),
+        Err(_) => Err(Fault {
+            input: number,
+            place: written,
+            reason: Reason::WriteFault,
+        }),
+    }
+}
+
+/// Writes the file of a history to the output of this number, which is flushed at the end.
+///
+/// # Errors
+///
+/// As for [`Sink::put`]. What was appended then is a front of that file; after a `WriteFault` it has as many bytes as
+/// the place says.
+pub fn write_history<W: Output>(
+    alloc: Global,
+    number: usize,
+    format: Format,
+    history: &History,
+    out: &mut W,
+) -> Result<(), Fault>
+    ensures written { spec.WritesFile number (W.contents out.old) (W.contents out.new) (W.failed out.new) (spelling.spell format history.now) result }
+    ensures good { OnOk result (W.failed out.new ≡ false) }
+{
+    let mut sink = match Sink::new(alloc, format, number) {
+        Ok(sink) => sink,
+        Err(fault) => return Err(fault),
+    };
+    if let Err(fault) = sink.begin(out) {
+        return Err(fault);
+    }
+    'puts: for place in 0..history.len() {
+        if let Err(fault) = sink.put(out, history.get(place)) {
+            return Err(fault);
+        }
+    }
+    sink.end(out)
+}
+
+#[cfg(test)]
+mod tests;

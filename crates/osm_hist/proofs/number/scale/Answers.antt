@@ -1,5 +1,0 @@
-use Rattle.osm_hist.proofs.NumberLaws.{scale_below}
-use Rattle.osm_hist.proofs.number.scale.Goals as goal
-
-pub returns-clause-bound : goal.returns-clause-bound
-returns-clause-bound c = rw c.pow.ensures (scale_below c.args.decimals)
