@@ -16,3 +16,4 @@ pub mod JoinedLaws
 pub mod LineLaws
 pub mod VersionLaws
 pub mod CursorLaws
+pub mod KindLaws

@@ -23,3 +23,4 @@ pub mod VersionSet
 pub mod Laws
 pub mod Piece
 pub mod Cursor
+pub mod KindLaw

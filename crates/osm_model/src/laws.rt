@@ -1,5 +1,6 @@
 //! Laws over the definitions, each the contract of a function with an empty body. Nothing is run to use them.
 ghost use Rattle.osm_model.specs.Laws.{LineTellsAllData, OrderIsTotal};
+ghost use Rattle.osm_model.specs.KindLaw.{KindsDontFall};
 ghost use Rattle.osm_model.specs.TimeLaw.{TimeLaw};
 
 /// The canonical line tells all data of a version.
@@ -15,4 +16,9 @@ pub fn order_is_total()
 /// The text of a time spells its date and time of day.
 pub fn time_text_spells_the_moment()
     ensures { TimeLaw }
+{}
+
+/// The kinds of an ascending list of versions don't fall.
+pub fn kinds_dont_fall()
+    ensures { KindsDontFall }
 {}
