@@ -8,3 +8,4 @@ pub mod WholeLaws
 pub mod SpellSteps
 pub mod SinkLaws
 pub mod SpellLaws
+pub mod HeldLaws

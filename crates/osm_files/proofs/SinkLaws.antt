@@ -1,18 +1,20 @@
 -- What the calls of a sink append together.
-use Rattle.std.proofs.Common.{◌≡◌, ℕ, ◌+◌, ◌<◌, ◌≤◌, ◌^◌, ◌⊎◌, inl, inr, Bool, true, false, List, [], ◌∷◌, ◌++◌, length, take, drop, get_or, refl, ap, sym, ◌∙◌, subst, arith, Option, Result, Ok, Err, length-append, zero-add, drop-cons, add-one}
+use Rattle.std.proofs.Common.{◌≡◌, ℕ, ◌+◌, ◌<◌, ◌≤◌, ◌^◌, ◌⊎◌, inl, inr, Bool, true, false, List, [], ◌∷◌, ◌++◌, length, take, drop, get_or, refl, ap, sym, ◌∙◌, subst, arith, Option, Result, Ok, Err, length-append, zero-add}
 use Rattle.std.proofs.lemmas.List.{append-nil, take-append-le, take-append-drop, take_more}
 use Rattle.std.proofs.Math.Seq.{take-append-add}
+use Rattle.std.specs.List.Sorted.{IsStrictlySortedBy}
 use Rattle.osm_model.specs.Data.{VersionData}
-use Rattle.o5_codec.specs.Encoder.{nothing_written}
+use Rattle.osm_model.specs.Order.{version_cmp}
+use Rattle.o5_codec.specs.Encoder.{Written, nothing_written}
 use Rattle.osm_files.specs.declared.fault.Fault.{Fault}
 use Rattle.osm_files.specs.declared.format.Format.{Format}
 use Rattle.osm_files.specs.Fault.{memory_fault, write_fault, too_long_fault}
-use Rattle.osm_files.specs.Output.{Appended, StoppedWriting}
+use Rattle.osm_files.specs.Output.{Appended}
 use Rattle.osm_files.specs.Spell.{begun, ended, spelled_in, behind_all, spelled_versions, spelled_open, spell_list}
-use Rattle.osm_files.specs.Sink.{SinkState, new_sink, Sent, NotSent, Calls, CutShort, WritesFile, begins, puts, ends, stays, having_put, HasPut}
+use Rattle.osm_files.specs.Sink.{SinkState, MayFollow, new_sink, Sent, NotSent, Calls, CutShort, WritesFile, begins, puts, ends, stays, HasPut}
 use Rattle.osm_files.specs.SpellLaws.{Puts, CallsAreSpelled}
 use Rattle.osm_files.proofs.Appending.{appended_on}
-use Rattle.osm_files.proofs.SpellSteps.{open_more, behind_append, list_split}
+use Rattle.osm_files.proofs.SpellSteps.{open_more, behind_append, list_split, may_follow}
 
 -- what is sent in two parts is sent
 sent_on : (before mid after : Option (List ℕ)) (xs ys : List ℕ) → Sent before mid 0 xs → Sent mid after (length xs) ys → Sent before after 0 (xs ++ ys)
@@ -135,6 +137,15 @@ module _ (format : Format) (number : ℕ) where
     end_written t now failed (Ok done) h = end_ok t now failed h
     end_written t now failed (Err fault) h = end_err t now failed fault h
 
+-- in an ascending list a version may be put behind those before it
+pub may_put : (format : Format) (number : ℕ) (xs : List VersionData) (i : ℕ) (v : VersionData) (before now : Option (List ℕ)) (s : SinkState) → IsStrictlySortedBy version_cmp xs → i < length xs → v ≡ get_or xs i v →
+    HasPut format number (take i xs) before s now → MayFollow v s.encoder
+may_put format number xs i v before now s sorted within is has =
+    let front : Written = behind_all format nothing_written (take i xs) in
+    let follows : MayFollow v front = subst (λ (x : VersionData). MayFollow x front) (sym is) (may_follow format xs i v sorted within) in
+    subst (λ (w : Written). MayFollow v w) (sym (ap (λ x. x.encoder) has.state)) follows
+
+-- ---- the calls as a law
 put_spelled : (format : Format) (number : ℕ) (versions : List VersionData) (v : VersionData) (s t : SinkState) (before mid now : Option (List ℕ)) (failed : Bool) (r : Result (Unit {0}) Fault) →
     HasPut format number versions before s mid → Calls s t (puts v) mid now failed (spelled_in s.format s.encoder v) r → Puts format number (versions ++ v ∷ []) before t now failed r
 put_spelled format number versions v s t before mid now failed (Ok done) has h = put_ok format number versions before mid s has v t now failed h

@@ -1,5 +1,5 @@
 -- The file of a set is read as the set.
-use Rattle.std.proofs.Common.{◌≡◌, ℕ, zero, suc, ◌+◌, ◌<◌, ◌≤◌, ◌^◌, Bool, true, false, not, cond, ◌||◌, ◌==◌, ◌⊎◌, List, [], ◌∷◌, ◌++◌, length, take, filter, get_or, refl, sym, ap, subst, ◌∙◌, arith, append_assoc, length-append, inl, inr, Result, Ok, Err, Option, Some, is_some}
+use Rattle.std.proofs.Common.{◌≡◌, ℕ, suc, ◌+◌, ◌<◌, ◌^◌, Bool, true, false, not, cond, ◌||◌, ◌==◌, ◌⊎◌, List, [], ◌∷◌, ◌++◌, length, take, filter, get_or, refl, sym, ap, subst, ◌∙◌, arith, append_assoc, length-append, inl, inr, Some, is_some}
 use Rattle.std.proofs.lemmas.List.{append-nil}
 use Rattle.std.proofs.Math.Seq.{take-append_seam, get_or-append_seam}
 use Rattle.std.specs.List.{All, Any, flat_map, list_all, list_any}
@@ -7,7 +7,6 @@ use Rattle.std.specs.FinMap.{get-empty}
 use Rattle.std.specs.Cmp.{Equal-is, tied_itself}
 use Rattle.std.proofs.lemmas.List.Folds.{Any-from_list_any, list_any_at}
 use Rattle.std.specs.List.Sorted.{IsSorted, IsStrictlySortedBy}
-use Rattle.std.specs.declared.cmp.Ordering.{Ordering}
 use Rattle.std.specs.declared.cmp.Ordering.TheVariants.{Less, Equal, Greater}
 use Rattle.std.specs.Ordering.{is_lt, is_eq, ordering_reverse, eq_by_cmp}
 use Rattle.std.proofs.lemmas.Map.Keys.{Less-from_sorted}
@@ -15,8 +14,7 @@ use Rattle.osm_model.specs.declared.kind.Kind as kind_type
 use Rattle.osm_model.specs.declared.kind.Kind.TheVariants as kind
 use Rattle.osm_model.specs.Data.{VersionData, kind_of}
 use Rattle.osm_model.specs.Kind.{kind_letter}
-use Rattle.osm_model.specs.Line.{line, fields}
-use Rattle.osm_model.specs.Joined.{joined}
+use Rattle.osm_model.specs.Line.{line}
 use Rattle.osm_model.specs.Order.{version_cmp, version_cmp_total, key_cmp, key_cmp_total}
 use Rattle.osm_model.specs.Valid.{IsVersion}
 use Rattle.osm_model.specs.VersionSet.{VersionSet}
@@ -25,14 +23,11 @@ use Rattle.osm_model.proofs.SetLaws.{contains-listed, contains-from_list, contai
 use Rattle.osm_model.proofs.VersionLaws.{version_cmp-IsAntisymmetric, listed-view}
 use Rattle.opl_line.specs.Cut.{cut, split_first, pieces_of}
 use Rattle.opl_line.specs.Content.{Pairwise}
-use Rattle.opl_line.specs.Reading.{is_skipped}
 use Rattle.opl_line.specs.Spells.{Spells}
 use Rattle.opl_line.proofs.CutLaws.{cut_split, split_front}
 use Rattle.opl_line.proofs.WholeLineLaws.{line_stands_in_one, line_spells_its_version}
 use Rattle.o5_codec.specs.declared.segment.Segment.{Segment}
-use Rattle.o5_codec.specs.Number.{SpellsNumber}
 use Rattle.o5_codec.specs.Decoder.{new_segment}
-use Rattle.o5_codec.specs.Spelling.{SpellsSet}
 use Rattle.o5_codec.specs.Encoder.{Written, nothing_written, reset_before, type_byte as set_type, written_after, spelled_set}
 use Rattle.o5_codec.specs.WritingLaws.{segment_for, SetsStand, spelled_sets}
 use Rattle.o5_codec.proofs.WrittenLists.{lists_read}
@@ -41,11 +36,12 @@ use Rattle.osm_files.specs.declared.format.Format.TheVariants.{Opl, O5m, O5c}
 use Rattle.osm_files.specs.Opl.{is_line_end, is_read, OplFile}
 use Rattle.osm_files.specs.O5.{o5m_header, o5c_header, end_byte, reset_byte, type_byte, Part, Reset, Object, part_bytes, PartsSpell, O5File}
 use Rattle.osm_files.specs.Units.{Stand, InOpl, BeforeHeader, start_of}
-use Rattle.osm_files.specs.Held.{IsFile, IsFileOf, Holds, HoldsSorted}
-use Rattle.osm_files.specs.Spell.{behind, behind_all, ended, spelled_in, spelled_versions, spelled_open, spell_list, spell}
+use Rattle.osm_files.specs.Held.{IsFile, IsFileOf, Holds}
+use Rattle.osm_files.specs.Spell.{behind, behind_all, ended, spelled_versions, spell_list, spell}
 use Rattle.osm_files.specs.Sink.{MayFollow}
-use Rattle.osm_files.specs.SpellLaws.{AreVersions, SpellHoldsItsSet, HeldIsOneSet, joined_file, JoinInAnyOrder, JoinRepeated, JoinInAnyGrouping, KindsDontFall, ListIsSpelledAsItsSet, FirstVersionsStandInFront}
+use Rattle.osm_files.specs.SpellLaws.{AreVersions, SpellHoldsItsSet, HeldIsOneSet, joined_file, JoinInAnyOrder, JoinRepeated, JoinInAnyGrouping, FilesJoinInAnyGrouping, HeldAreVersions, KindsDontFall, ListIsSpelledAsItsSet, FirstVersionsStandInFront}
 use Rattle.osm_files.proofs.FileLaws.{one_list}
+use Rattle.osm_files.proofs.HeldLaws.{files_hold_versions}
 use Rattle.osm_files.proofs.SpellSteps.{first_so, then_greater, may_follow, list_split}
 
 -- ---- lines
@@ -203,11 +199,20 @@ grouped a b c =
     in_both (union a b) c q ∙ ap (λ (x : Bool). x || holds_one c q) (in_both a b q) ∙ or_grouped (holds_one a q) (holds_one b q) (holds_one c q)
     ∙ ap (λ (x : Bool). holds_one a q || x) (sym (in_both b c q)) ∙ sym (in_both a (union b c) q))
 
-member_is : (s : VersionSet) (q : VersionData) → AreVersions s → contains s q ≡ true → IsVersion q
-member_is s q valid h =
-    let a : Any (λ x. eq_by_cmp version_cmp q x ≡ true) (listed s) = Any-from_list_any (eq_by_cmp version_cmp q) (listed s) (sym (contains-listed s q) ∙ h) in
+member_of_list : (xs : List VersionData) (q : VersionData) → All IsVersion xs → list_any (eq_by_cmp version_cmp q) xs ≡ true → IsVersion q
+member_of_list xs q valid h =
+    let a : Any (λ x. eq_by_cmp version_cmp q x ≡ true) xs = Any-from_list_any (eq_by_cmp version_cmp q) xs h in
     let is : q ≡ a.1 = version_cmp-IsAntisymmetric q (a.1) ((Equal-is (version_cmp q (a.1))).0 a.4) in
     subst (λ (v : VersionData). IsVersion v) (a.3 ∙ sym is) (valid (a.0) (a.1) a.2)
+
+member_is : (s : VersionSet) (q : VersionData) → AreVersions s → contains s q ≡ true → IsVersion q
+member_is s q valid h = member_of_list (listed s) q valid (sym (contains-listed s q) ∙ h)
+
+contains_itself : (s : VersionSet) (k : ℕ) (d : VersionData) → k < length (listed s) → contains s (get_or (listed s) k d) ≡ true
+contains_itself s k d within =
+    let x : VersionData = get_or (listed s) k d in
+    let tied : eq_by_cmp version_cmp x x ≡ true = ap is_eq (tied_itself version_cmp_total x) in
+    contains-listed s x ∙ list_any_at (eq_by_cmp version_cmp x) (listed s) k d within tied
 
 either : (a b : Bool) → (a || b) ≡ true → (a ≡ true) ⊎ (b ≡ true)
 either true b h = inl refl
@@ -215,11 +220,14 @@ either false b h = inr h
 
 are_both : (a b : VersionSet) → AreVersions a → AreVersions b → AreVersions (union a b)
 are_both a b valid others = λ k d within.
-    let xs = listed (union a b) in
-    let x : VersionData = get_or xs k d in
-    let tied : eq_by_cmp version_cmp x x ≡ true = ap is_eq (tied_itself version_cmp_total x) in
-    let member : contains (union a b) x ≡ true = contains-listed (union a b) x ∙ list_any_at (eq_by_cmp version_cmp x) xs k d within tied in
-    elim (either (holds_one a x) (holds_one b x) (sym (in_both a b x) ∙ member)) [ inl left ↦ member_is a x valid left | inr right ↦ member_is b x others right ]
+    let x : VersionData = get_or (listed (union a b)) k d in
+    elim (either (holds_one a x) (holds_one b x) (sym (in_both a b x) ∙ contains_itself (union a b) k d within)) [ inl left ↦ member_is a x valid left | inr right ↦ member_is b x others right ]
+
+pub held_are_versions : HeldAreVersions
+held_are_versions bytes s h = λ k d within.
+    let x : VersionData = get_or (listed s) k d in
+    let among : list_any (eq_by_cmp version_cmp x) h.versions ≡ true = sym (contains-from_list version_cmp_total h.versions x) ∙ ap (λ t. contains t x) (sym h.members) ∙ contains_itself s k d within in
+    member_of_list h.versions x (files_hold_versions bytes h.versions h.file) among
 
 is_union : (f : Format) (a b held : VersionSet) → AreVersions a → AreVersions b → Holds (joined_file f a b) held → held ≡ union a b
 is_union f a b held valid others h =
@@ -247,3 +255,7 @@ list_spelled f versions sorted = ap (spell_list f) (sym (listed-view versions so
 
 pub first_in_front : FirstVersionsStandInFront
 first_in_front f versions others = (spelled_versions f (behind_all f nothing_written versions) others ++ ended f, list_split f versions others)
+
+pub files_join : FilesJoinInAnyGrouping
+files_join f g h first second third a b c ab bc one two three =
+    join_in_any_grouping f g h a b c ab bc (held_are_versions first a one) (held_are_versions second b two) (held_are_versions third c three)

@@ -10,7 +10,7 @@ use Rattle.osm_model.specs.Sets.{listed, from_list, union, empty}
 use Rattle.o5_codec.specs.Encoder.{nothing_written}
 use Rattle.osm_files.specs.declared.fault.Fault.{Fault}
 use Rattle.osm_files.specs.declared.format.Format.{Format}
-use Rattle.osm_files.specs.Held.{Holds, HoldsSorted}
+use Rattle.osm_files.specs.Held.{IsFile, Holds, HoldsSorted}
 use Rattle.osm_files.specs.Spell.{begun, ended, spelled_in, behind_all, spelled_open, spell_list, spell}
 use Rattle.osm_files.specs.Sink.{SinkState, new_sink, MayFollow, Calls, CutShort, WritesFile, begins, puts, ends, stays, HasPut}
 
@@ -70,3 +70,16 @@ pub record CallsAreSpelled : Type 0 where
       HasPut format number versions before s mid → Calls s t (puts v) mid now failed (spelled_in s.format s.encoder v) result → Puts format number (versions ++ v ∷ []) before t now failed result
   pub end : (format : Format) (number : ℕ) (versions : List VersionData) (s t : SinkState) (before mid now : Option (List ℕ)) (failed : Bool) (result : Result (Unit {0}) Fault) →
       HasPut format number versions before s mid → Calls (ends s) t stays mid now failed (ended s.format) result → WritesFile number before now failed (spell_list format versions) result
+
+-- what a file spells is within the ranges of versions, and so are the members of the set that it holds
+abbrev pub FilesHoldVersions : Type 0
+FilesHoldVersions = (bytes : List ℕ) (versions : List VersionData) → IsFile bytes versions → All IsVersion versions
+
+abbrev pub HeldAreVersions : Type 0
+HeldAreVersions = (bytes : List ℕ) (set : VersionSet) → Holds bytes set → AreVersions set
+
+-- the same of the sets that three files hold
+abbrev pub FilesJoinInAnyGrouping : Type 0
+FilesJoinInAnyGrouping = (format left right : Format) (first second third : List ℕ) (a b c ab bc : VersionSet) → Holds first a → Holds second b → Holds third c →
+    Holds (joined_file left a b) ab → Holds (joined_file right b c) bc →
+    joined_file format ab c ≡ joined_file format a bc

@@ -72,3 +72,18 @@ pub fn first_versions_stand_in_front()
 pub fn calls_are_spelled()
     ensures { spelling.CallsAreSpelled }
 {}
+
+/// What a file spells is within the ranges of versions.
+pub fn files_hold_versions()
+    ensures { spelling.FilesHoldVersions }
+{}
+
+/// The members of the set that a file holds are within the ranges of versions.
+pub fn held_are_versions()
+    ensures { spelling.HeldAreVersions }
+{}
+
+/// What three files hold makes the same file whichever two were joined first and written, in any formats.
+pub fn files_join_in_any_grouping()
+    ensures { spelling.FilesJoinInAnyGrouping }
+{}

@@ -1,13 +1,11 @@
-use Rattle.std.proofs.Common.{◌≡◌, ◌+◌, ◌<◌, ◌≤◌, ◌∷◌, ◌++◌, ◌∙◌, [], ℕ, List, take, drop, length, get_or, sym, ap, subst, arith}
+use Rattle.std.proofs.Common.{◌≡◌, ◌+◌, ◌<◌, ◌∷◌, ◌++◌, [], List, take, drop, length, ap, subst, arith}
 use Rattle.std.proofs.lemmas.List.{take_all}
 use Rattle.osm_model.specs.Data.{VersionData}
 use Rattle.osm_model.specs.Sets.{listed}
 use Rattle.osm_model.proofs.SetLaws.{strict-listed}
-use Rattle.o5_codec.specs.Encoder.{Written, nothing_written}
-use Rattle.osm_files.specs.Spell.{behind_all, spell_list}
-use Rattle.osm_files.specs.Sink.{MayFollow, CutShort, WritesFile, HasPut}
-use Rattle.osm_files.proofs.SpellSteps.{may_follow}
-use Rattle.osm_files.proofs.SinkLaws.{begin_ok, begin_err, put_ok, put_err, end_written, cut_before_end, parts_at, front_at}
+use Rattle.osm_files.specs.Spell.{spell_list}
+use Rattle.osm_files.specs.Sink.{CutShort, WritesFile, HasPut}
+use Rattle.osm_files.proofs.SinkLaws.{begin_ok, begin_err, put_ok, put_err, end_written, may_put, cut_before_end, parts_at, front_at}
 use Rattle.osm_files.proofs.sink.write_history.Goals as goal
 
 pub returns-in-Err-begin-clause-written : goal.returns-in-Err-begin-clause-written
@@ -29,14 +27,11 @@ put-requires-clause-open g c = (ap (λ s. s.begun) c.puts.invariant.state, ap (�
 
 pub put-requires-clause-follows : goal.put-requires-clause-follows
 put-requires-clause-follows g c = λ going.
-    let f = c.args.format in
     let xs = listed c.args.history.now in
     let i = c.puts.place in
     let v = c.get.result.now in
     let within : i < length xs = omega (arith, c.puts-test.true, c.len-place-end.ensures) in
-    let follows : MayFollow v (behind_all f nothing_written (take i xs)) =
-    subst (λ (x : VersionData). MayFollow x (behind_all f nothing_written (take i xs))) (sym c.get.ensures) (may_follow f xs i v (strict-listed c.args.history.now) within) in
-    subst (λ (w : Written). MayFollow v w) (sym (ap (λ s. s.encoder) c.puts.invariant.state)) follows
+    may_put c.args.format c.args.number xs i v (g.W.Output.contents c.args.out.now) (g.W.Output.contents c.puts.out) c.puts.sink (strict-listed c.args.history.now) within c.get.ensures c.puts.invariant
 
 pub returns-in-Err-put-clause-written : goal.returns-in-Err-put-clause-written
 returns-in-Err-put-clause-written g c =

@@ -1,4 +1,4 @@
-use Rattle.std.proofs.Common.{◌<◌, arith, length-append}
+use Rattle.std.proofs.Common.{arith, length-append}
 use Rattle.o5_codec.specs.Encoder.{spelled_set}
 use Rattle.osm_files.proofs.SpellSteps.{set_has_bytes}
 use Rattle.osm_files.proofs.sink.Units.append.Goals as goal
