@@ -1,4 +1,6 @@
 //! Whole files of the three formats, read from memory.
+ghost use Rattle.std.specs.Prelude.{◌<◌, ◌^◌, length};
+
 use super::read_sorted;
 use crate::fault::Fault;
 use crate::reason::Reason;
@@ -31,7 +33,9 @@ fn three_formats_hold_the_same(rt: HostRuntime) -> Result<(), Fail> {
 }
 
 /// Sees that a file is refused for this reason at this place.
-fn assert_refused<R: AllocGlobal + Abort>(rt: &R, file: &[u8], place: u64, reason: Reason) {
+fn assert_refused<R: AllocGlobal + Abort>(rt: &R, file: &[u8], place: u64, reason: Reason)
+    requires { length file.now < 2 ^ 62 }
+{
     let fault = Fault {
         input: 3,
         place,
