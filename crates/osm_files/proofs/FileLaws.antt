@@ -127,7 +127,7 @@ closed_units : (n : ℕ) (end : Verdict) (stand : Stand) (place : ℕ) (bytes : 
 closed_units zero end stand place bytes none = some_is_not_none _ none
 closed_units (suc n) end stand place bytes none = unit_closed n end stand place bytes (closed_units n end) (unit_at stand bytes) none
 
-units_closed : (end : Verdict) (stand : Stand) (place : ℕ) (bytes : List ℕ) → (units (Some end) stand place bytes).refusal ≡ None → ⊥
+pub units_closed : (end : Verdict) (stand : Stand) (place : ℕ) (bytes : List ℕ) → (units (Some end) stand place bytes).refusal ≡ None → ⊥
 unfolding units
 units_closed end stand place bytes = closed_units (length bytes) end stand place bytes
 

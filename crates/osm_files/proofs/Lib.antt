@@ -4,6 +4,17 @@ mod PartLaws
 mod FileLaws
 mod UnitSteps
 mod StepLaws
+mod MoreLaws
+mod FillLaws
+mod PositionLaws
+mod ReadingLaws
+mod GroupLaws
+mod LoadLaws
+mod LoadFaults
+mod LoadFormats
+pub mod RiseLaws
+pub mod HoldLaws
+pub mod FaultyLaws
 pub mod WholeLaws
 pub mod SpellSteps
 pub mod SinkLaws

@@ -145,7 +145,7 @@ key_not_below v w less =
 keys_rise : (xs : List VersionData) → IsStrictlySortedBy version_cmp xs → IsSorted key_cmp xs
 keys_rise xs h = λ k d low high. key_not_below (get_or xs k d) (get_or xs (k + 1) d) (Less-from_sorted version_cmp xs k (k + 1) d h (omega arith) high)
 
-listed_members : (s : VersionSet) → s ≡ from_list (listed s)
+pub listed_members : (s : VersionSet) → s ≡ from_list (listed s)
 listed_members s = same_set version_cmp_total version_cmp-IsAntisymmetric s (from_list (listed s)) (λ q. contains-listed s q ∙ sym (contains-from_list version_cmp_total (listed s) q))
 
 pub spell_holds : SpellHoldsItsSet

@@ -84,7 +84,7 @@ module _ (all : Still Placed Verdict) (versions : List VersionData) (place : ℕ
       unit_off read next (λ n. whole) after reason on (subst (λ (o : Option VersionData). Adds o versions after (let r : Result_unit = Err reason in r)) (sym same) (inr (h.2, h.3)))
 
 -- the fault of a reason at a place
-fault_is : (input place : ℕ) (reason : Reason) → (fault_at input place reason ≡ memory_fault) ⊎ (fault_at input place reason ≡ fault_of input (verdict_at place reason))
+pub fault_is : (input place : ℕ) (reason : Reason) → (fault_at input place reason ≡ memory_fault) ⊎ (fault_at input place reason ≡ fault_of input (verdict_at place reason))
 fault_is input place Memory = inl refl
 fault_is input place (Opl inner) = inr refl
 fault_is input place (O5 inner) = inr refl

@@ -4,6 +4,8 @@ pub mod Fault
 pub mod Input
 pub mod Output
 pub mod Stream
+pub mod Source
+pub mod Groups
 pub mod Opl
 pub mod O5
 pub mod Units
@@ -11,8 +13,12 @@ pub mod Held
 pub mod Verdict
 pub mod Laws
 pub mod Reading
+pub mod Position
 pub mod Whole
 pub mod Spell
 pub mod Sink
 pub mod InsideSink
 pub mod SpellLaws
+pub mod SourceLaws
+pub mod Load
+pub mod LoadLaws

@@ -2,6 +2,8 @@
 use Rattle.std.specs.Prelude.{ℕ, List, [], ◌∷◌, Option, Some, None}
 use Rattle.osm_model.specs.Data.{VersionData}
 use Rattle.osm_files.specs.declared.reason.Reason.{Reason}
+-- a version, and where its unit begins: its line's first byte, or the type byte of its data set
+pub use Rattle.osm_files.specs.declared.placed.Placed.{Placed}
 
 -- the place and the reason of the first faulty unit of a file; an accepted file has none
 pub record Verdict : Type 0 where
@@ -10,11 +12,6 @@ pub record Verdict : Type 0 where
 
 abbrev pub verdict_at : ℕ → Reason → Verdict
 verdict_at place reason = record { place = place; reason = reason }
-
--- a version, and where its unit begins: its line's first byte, or the type byte of its data set
-pub record Placed : Type 0 where
-  pub place : ℕ
-  pub version : VersionData
 
 abbrev pub placed : ℕ → VersionData → Placed
 placed place v = record { place = place; version = v }

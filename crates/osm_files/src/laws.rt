@@ -2,6 +2,8 @@
 //! without a body.
 ghost use Rattle.osm_files.specs.Laws as law;
 ghost use Rattle.osm_files.specs.SpellLaws as spelling;
+ghost use Rattle.osm_files.specs.LoadLaws as loading;
+ghost use Rattle.osm_files.specs.SourceLaws as source;
 
 /// A file spells at most one list of versions.
 pub fn one_list()
@@ -86,4 +88,70 @@ pub fn held_are_versions()
 /// What three files hold makes the same file whichever two were joined first and written, in any formats.
 pub fn files_join_in_any_grouping()
     ensures { spelling.FilesJoinInAnyGrouping }
+{}
+
+/// An input that ends has the units of its bytes, and is refused with their verdict.
+pub fn inputs_are_files()
+    ensures { loading.InputsAreFiles }
+{}
+
+/// An input that fails is refused with the verdict of the bytes before, if a unit that stands whole in them is faulty or if they
+/// are too many; else for the failure, at their number.
+pub fn broken_inputs_are_refused()
+    ensures { loading.BrokenInputsAreRefused }
+{}
+
+/// No bytes have a fault of a device as their verdict.
+pub fn verdicts_are_no_device_faults()
+    ensures { loading.VerdictsAreNoDeviceFaults }
+{}
+
+/// A file that is written in a format tells it.
+pub fn written_files_tell_their_format()
+    ensures { loading.WrittenFilesTellTheirFormat }
+{}
+
+/// What the source of a file gives ascends strictly.
+pub fn sources_ascend()
+    ensures { source.SourcesAscend }
+{}
+
+/// The source of a file ends as the file's verdict on its order says.
+pub fn source_ends_as_verdict()
+    ensures { source.SourceEndsAsVerdict }
+{}
+
+/// The source of a sorted file gives what the file holds.
+pub fn source_gives_held()
+    ensures { source.SourceGivesHeld }
+{}
+
+/// Where the source of a file is whole, the file is sorted and holds what was given.
+pub fn whole_source_is_held()
+    ensures { source.WholeSourceIsHeld }
+{}
+
+/// Where an error follows some bytes, their source ends with their first whole faulty unit, or with the error.
+pub fn broken_source_ends()
+    ensures { source.BrokenSourceEnds }
+{}
+
+/// Of 2^62 bytes or more it doesn't matter what follows them.
+pub fn long_source_ends()
+    ensures { source.LongSourceEnds }
+{}
+
+/// The whole units of some bytes are faulty whatever closes the file, or their verdict is what closes it.
+pub fn faulty_or_closed()
+    ensures { source.FaultyOrClosed }
+{}
+
+/// Bytes behind a whole faulty unit don't change the verdict on the order of a file.
+pub fn faulty_stays()
+    ensures { source.FaultyStays }
+{}
+
+/// Bytes behind a whole unit that can't be read don't change the verdict of a file.
+pub fn malformed_stays()
+    ensures { source.MalformedStays }
 {}

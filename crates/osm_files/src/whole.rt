@@ -75,7 +75,7 @@ fn add(versions: &mut Vec<Version>, version: Option<Version>) -> Result<(), Reas
 }
 
 /// Whether the version's key is below that of the last of these.
-fn is_below_last(version: &Version, versions: &[Version]) -> bool
+pub(crate) fn is_below_last(version: &Version, versions: &[Version]) -> bool
     ensures { result ≡ is_below_last version.now versions.now }
 {
     match versions.last() {

@@ -1,0 +1,251 @@
+-- Bytes behind a whole faulty unit change no verdict.
+use Rattle.std.proofs.Common.{◌≡◌, ◌⊎◌, inl, inr, ℕ, zero, suc, ◌+◌, ◌-◌, ◌≤◌, ◌<◌, ◌^◌, true, false, cond, List, [], ◌∷◌, ◌++◌, length, drop, take, refl, sym, ap, ◌∙◌, arith, Option, Some, None, Ok, Err, length-drop, nat_lt, option_map}
+use Rattle.std.proofs.lemmas.List.{append-nil, drop-append-le}
+use Rattle.std.proofs.Math.Seq.{take-append-add}
+use Rattle.std.proofs.lemmas.Bool.{cases_lt}
+use Rattle.osm_model.specs.Data.{VersionData}
+use Rattle.osm_files.specs.declared.reason.Reason.TheVariants.{Unsorted, ReadFault}
+use Rattle.osm_files.specs.Groups.{sorted_source}
+use Rattle.osm_files.specs.LoadLaws.{broken_behind}
+use Rattle.osm_files.specs.Position.{fault_of}
+use Rattle.osm_files.specs.SourceLaws.{verdict_within, IsFaultyWithin, FaultyOrClosed, FaultyStays, MalformedStays}
+use Rattle.osm_files.specs.Stream.{Verdict, verdict_at, Placed, placed, Still, refused, front}
+use Rattle.osm_files.specs.Units.{Stand, InOpl, Found, FileUnit, unit_at, found_then, units, start_of}
+use Rattle.osm_files.specs.Verdict.{length_limit, too_long, file_units, verdict, is_below, sorted_verdict, verdict_sorted}
+use Rattle.osm_files.proofs.HoldLaws.{whole_source_is_held, broken_source_ends, long_source_ends}
+use Rattle.osm_files.proofs.StepLaws.{unit_sized, units_step, units_stop}
+use Rattle.osm_files.proofs.MoreLaws.{unit_stays}
+
+abbrev Units : Type 0
+Units = Still Placed Verdict
+
+-- these versions, and then others
+abbrev behind : List Placed → Units → Units
+behind us still = record { list = us ++ still.list; refusal = still.refusal }
+
+-- none of the units that stand whole in these bytes is faulty
+record Closes (stand : Stand) (place : ℕ) (bytes : List ℕ) : Type 0 where
+  list : List Placed
+  closes : (close : Verdict) → units (Some close) stand place bytes ≡ record { list = list; refusal = Some close }
+  longer : (more : List ℕ) (close : Option Verdict) → (still : Units) × (units close stand place (bytes ++ more) ≡ behind list still)
+
+-- one of them is
+record Refuses (stand : Stand) (place : ℕ) (bytes : List ℕ) : Type 0 where
+  list : List Placed
+  fault : Verdict
+  faulty : (close : Verdict) → units (Some close) stand place bytes ≡ record { list = list; refusal = Some fault }
+  stays : (more : List ℕ) (close : Option Verdict) → units close stand place (bytes ++ more) ≡ record { list = list; refusal = Some fault }
+
+abbrev Splits : Stand → ℕ → List ℕ → Type 0
+Splits stand place bytes = Closes stand place bytes ⊎ Refuses stand place bytes
+
+none_whole : (stand : Stand) (place : ℕ) (bytes : List ℕ) → unit_at stand bytes ≡ None → Splits stand place bytes
+none_whole stand place bytes none = inl (record {
+  list = [];
+  closes = λ close. units_stop (Some close) stand place bytes none;
+  longer = λ more close. (units close stand place (bytes ++ more), refl);
+})
+
+-- the unit at the front is found to be faulty, or passed, or a version
+module _ (stand : Stand) (place : ℕ) (bytes : List ℕ) (u : FileUnit) (there : unit_at stand bytes ≡ Some u) where
+  abbrev rest : List ℕ
+  rest = drop u.size bytes
+
+  here : (close : Option Verdict) → units close stand place bytes ≡ found_then place u.found (λ next. units close next (place + u.size) rest)
+  here close = units_step close stand place bytes u there
+
+  further : (more : List ℕ) (close : Option Verdict) → units close stand place (bytes ++ more) ≡ found_then place u.found (λ next. units close next (place + u.size) (rest ++ more))
+  further more close =
+      let sized = unit_sized stand bytes u there in
+      units_step close stand place (bytes ++ more) u (unit_stays stand bytes more u there)
+      ∙ ap (λ bs. found_then place u.found (λ next. units close next (place + u.size) bs)) (drop-append-le u.size bytes more sized.within)
+
+  by_found : (found : Found) → u.found ≡ found → ((next : Stand) → Splits next (place + u.size) rest) → Splits stand place bytes
+  by_found (Err reason) e on = inr (record {
+    list = [];
+    fault = verdict_at place reason;
+    faulty = λ close. here (Some close) ∙ ap (λ f. found_then place f (λ next. units (Some close) next (place + u.size) rest)) e;
+    stays = λ more close. further more close ∙ ap (λ f. found_then place f (λ next. units close next (place + u.size) (rest ++ more))) e;
+  })
+  by_found (Ok (None, next)) e on = elim (on next) [
+    | inl h ↦ inl (record {
+      list = h.list;
+      closes = λ close. here (Some close) ∙ ap (λ f. found_then place f (λ n. units (Some close) n (place + u.size) rest)) e ∙ h.closes close;
+      longer = λ more close. (let k = h.longer more close in (k.0, further more close ∙ ap (λ f. found_then place f (λ n. units close n (place + u.size) (rest ++ more))) e ∙ k.1));
+    })
+    | inr h ↦ inr (record {
+      list = h.list;
+      fault = h.fault;
+      faulty = λ close. here (Some close) ∙ ap (λ f. found_then place f (λ n. units (Some close) n (place + u.size) rest)) e ∙ h.faulty close;
+      stays = λ more close. further more close ∙ ap (λ f. found_then place f (λ n. units close n (place + u.size) (rest ++ more))) e ∙ h.stays more close;
+    })
+  ]
+  by_found (Ok (Some v, next)) e on = elim (on next) [
+    | inl h ↦ inl (record {
+      list = placed place v ∷ h.list;
+      closes = λ close. here (Some close) ∙ ap (λ f. found_then place f (λ n. units (Some close) n (place + u.size) rest)) e ∙ ap (front (placed place v)) (h.closes close);
+      longer = λ more close. (let k = h.longer more close in (k.0, further more close ∙ ap (λ f. found_then place f (λ n. units close n (place + u.size) (rest ++ more))) e ∙ ap (front (placed place v)) k.1));
+    })
+    | inr h ↦ inr (record {
+      list = placed place v ∷ h.list;
+      fault = h.fault;
+      faulty = λ close. here (Some close) ∙ ap (λ f. found_then place f (λ n. units (Some close) n (place + u.size) rest)) e ∙ ap (front (placed place v)) (h.faulty close);
+      stays = λ more close. further more close ∙ ap (λ f. found_then place f (λ n. units close n (place + u.size) (rest ++ more))) e ∙ ap (front (placed place v)) (h.stays more close);
+    })
+  ]
+
+by_unit : (stand : Stand) (place : ℕ) (bytes : List ℕ) (found : Option FileUnit) → unit_at stand bytes ≡ found → ((u : FileUnit) → unit_at stand bytes ≡ Some u → (next : Stand) → Splits next (place + u.size) (drop u.size bytes)) → Splits stand place bytes
+by_unit stand place bytes None e on = none_whole stand place bytes e
+by_unit stand place bytes (Some u) e on = by_found stand place bytes u e u.found refl (on u e)
+
+splits : (n : ℕ) (stand : Stand) (place : ℕ) (bytes : List ℕ) → length bytes ≤ n → Splits stand place bytes
+splits zero stand place bytes few = by_unit stand place bytes (unit_at stand bytes) refl (λ u e. let sized = unit_sized stand bytes u e in absurd (omega (arith, sized.some, sized.within, few)))
+splits (suc n) stand place bytes few =
+    by_unit stand place bytes (unit_at stand bytes) refl (λ u e next. let sized = unit_sized stand bytes u e in splits n next (place + u.size) (drop u.size bytes) (omega (arith, length-drop u.size bytes, sized.some, sized.within, few)))
+
+-- ---- on their order
+-- some version of these is below the one before it, or none is
+abbrev Orders : Option VersionData → List Placed → Type 0
+Orders before us =
+    ((fault : Verdict) × ((close : Option Verdict) (others : List Placed) → sorted_verdict close before (us ++ others) ≡ Some fault))
+    ⊎ ((close : Option Verdict) → sorted_verdict close before us ≡ close)
+
+orders : (before : Option VersionData) (us : List Placed) → Orders before us
+orders before [] = inr (λ close. refl)
+orders before (u ∷ us) =
+    elim (is_below u.version before) as (λ t. is_below u.version before ≡ t → Orders before (u ∷ us)) [
+      | true ↦ λ e. inl (verdict_at u.place Unsorted, λ close others. ap (λ t. cond t (Some (verdict_at u.place Unsorted)) (sorted_verdict close (Some u.version) (us ++ others))) e)
+      | false ↦ λ e. elim (orders (Some u.version) us) [
+        | inl h ↦ inl (h.0, λ close others. ap (λ t. cond t (Some (verdict_at u.place Unsorted)) (sorted_verdict close (Some u.version) (us ++ others))) e ∙ h.1 close others)
+        | inr h ↦ inr (λ close. ap (λ t. cond t (Some (verdict_at u.place Unsorted)) (sorted_verdict close (Some u.version) us)) e ∙ h close)
+      ]
+    ] refl
+
+of_units : Units → Option Verdict
+of_units still = sorted_verdict still.refusal None still.list
+
+-- what the whole units of some bytes say, whatever is behind them
+abbrev Says : List ℕ → Type 0
+Says bytes =
+    ((fault : Verdict) × IsFaultyWithin bytes fault × ((more : List ℕ) (close : Option Verdict) → of_units (units close (start_of bytes) 0 (bytes ++ more)) ≡ Some fault))
+    ⊎ ((close : Verdict) → verdict_within close bytes ≡ Some close)
+
+no_others : (us : List Placed) → us ++ [] ≡ us
+no_others us = append-nil us
+
+says_closed : (bytes : List ℕ) (h : Closes (start_of bytes) 0 bytes) → Orders None h.list → Says bytes
+unfolding of_units
+says_closed bytes h (inl k) = inl (
+  k.0,
+  λ close. ap of_units (h.closes close) ∙ ap (λ us. sorted_verdict (Some close) None us) (sym (no_others h.list)) ∙ k.1 (Some close) [],
+  λ more close. (let l = h.longer more close in ap of_units l.1 ∙ k.1 l.0.refusal l.0.list),
+)
+says_closed bytes h (inr k) = inr (λ close. ap of_units (h.closes close) ∙ k (Some close))
+
+says_refused : (bytes : List ℕ) (h : Refuses (start_of bytes) 0 bytes) → Orders None h.list → Says bytes
+unfolding of_units
+says_refused bytes h (inl k) =
+    let same : sorted_verdict (Some h.fault) None h.list ≡ Some k.0 = ap (λ us. sorted_verdict (Some h.fault) None us) (sym (no_others h.list)) ∙ k.1 (Some h.fault) [] in
+    inl (k.0, λ close. ap of_units (h.faulty close) ∙ same, λ more close. ap of_units (h.stays more close) ∙ same)
+says_refused bytes h (inr k) = inl (h.fault, λ close. ap of_units (h.faulty close) ∙ k (Some h.fault), λ more close. ap of_units (h.stays more close) ∙ k (Some h.fault))
+
+says : (bytes : List ℕ) → Says bytes
+says bytes = elim (splits (length bytes) (start_of bytes) 0 bytes (omega arith)) [
+  | inl h ↦ says_closed bytes h (orders None h.list)
+  | inr h ↦ says_refused bytes h (orders None h.list)
+]
+
+pub faulty_or_closed : FaultyOrClosed
+faulty_or_closed bytes = elim (says bytes) [
+  | inl h ↦ inl (h.0, h.1)
+  | inr h ↦ inr h
+]
+
+none_of : (input : ℕ) (v : Option Verdict) → option_map (fault_of input) v ≡ None → v ≡ None
+none_of input None e = refl
+none_of input (Some v) e = cc
+
+never_none : (bytes : List ℕ) (close : Verdict) → verdict_within close bytes ≡ None → ⊥
+never_none bytes close e = elim (faulty_or_closed bytes) [
+  | inl h ↦ absurd (let f : None ≡ Some h.0 = sym e ∙ h.1 close in cc)
+  | inr h ↦ absurd (let f : None ≡ Some close = sym e ∙ h close in cc)
+]
+
+-- where an error follows the bytes, their source is refused
+pub broken_is_refused : (input : ℕ) (bytes : List ℕ) → (sorted_source input (broken_behind bytes)).refusal ≡ None → ⊥
+broken_is_refused input bytes e =
+    elim (cases_lt (length bytes) (2 ^ 62)) [
+      | inl short ↦ never_none bytes (verdict_at (length bytes) ReadFault) (none_of input (verdict_within (verdict_at (length bytes) ReadFault) bytes) (sym (broken_source_ends input bytes short) ∙ e))
+      | inr long ↦
+          let held = whole_source_is_held input bytes (ap (λ s. s.refusal) (sym (long_source_ends input bytes long)) ∙ e) in
+          absurd (let short = held.short in omega (arith, short, long))
+    ]
+
+-- ---- whole files
+-- the bytes of a file that begins with these, as far as they count
+record Begins (bytes more : List ℕ) : Type 0 where
+  close : Option Verdict
+  others : List ℕ
+  same : file_units (bytes ++ more) ≡ units close (start_of (bytes ++ more)) 0 (bytes ++ others)
+
+file_begins : (bytes more : List ℕ) → length bytes < 2 ^ 62 → Begins bytes more
+unfolding file_units length_limit
+file_begins bytes more short =
+    let all : List ℕ = bytes ++ more in
+    let few : ℕ = 2 ^ 62 - 1 - length bytes in
+    let room : 2 ^ 62 - 1 ≡ length bytes + few = omega (arith, short) in
+    let front : take (2 ^ 62 - 1) all ≡ bytes ++ take few more = ap (λ n. take n all) room ∙ take-append-add bytes more few in
+    elim (nat_lt (length all) (2 ^ 62)) as (λ t. nat_lt (length all) (2 ^ 62) ≡ t → Begins bytes more) [
+      | true ↦ λ e. record { close = None; others = more; same = ap (λ t. cond t (units None (start_of all) 0 all) (units (Some too_long) (start_of all) 0 (take (2 ^ 62 - 1) all))) e }
+      | false ↦ λ e. record {
+        close = Some too_long;
+        others = take few more;
+        same = ap (λ t. cond t (units None (start_of all) 0 all) (units (Some too_long) (start_of all) 0 (take (2 ^ 62 - 1) all))) e ∙ ap (units (Some too_long) (start_of all) 0) front;
+      }
+    ] refl
+
+-- a verdict isn't what closes it for two different closings
+not_both : (fault : Verdict) → Some fault ≡ Some (verdict_at 0 ReadFault) → Some fault ≡ Some (verdict_at 1 ReadFault) → ⊥
+not_both fault e f =
+    let place : verdict_at 0 ReadFault ≡ verdict_at 1 ReadFault = (let g : Some (verdict_at 0 ReadFault) ≡ Some (verdict_at 1 ReadFault) = sym e ∙ f in cc) in
+    let none : 0 ≡ 1 = ap (λ v. v.place) place in
+    omega (arith, none)
+
+nothing_in_nothing : unit_at InOpl [] ≡ None
+unfolding unit_at
+nothing_in_nothing = refl
+
+nothing_closes : (close : Verdict) → units (Some close) InOpl 0 [] ≡ refused close
+nothing_closes close = units_stop (Some close) InOpl 0 [] nothing_in_nothing
+
+module _ (fault : Verdict) where
+  sorted_stays : (bytes more : List ℕ) → length bytes < 2 ^ 62 → IsFaultyWithin bytes fault → Says bytes → start_of (bytes ++ more) ≡ start_of bytes → verdict_sorted (bytes ++ more) ≡ Some fault
+  unfolding of_units
+  sorted_stays bytes more short faulty (inr closes) same = absurd (not_both fault (sym (faulty (verdict_at 0 ReadFault)) ∙ closes (verdict_at 0 ReadFault)) (sym (faulty (verdict_at 1 ReadFault)) ∙ closes (verdict_at 1 ReadFault)))
+  sorted_stays bytes more short faulty (inl (v, within, stays)) same =
+      let b = file_begins bytes more short in
+      ap of_units (b.same ∙ ap (λ s. units b.close s 0 (bytes ++ b.others)) same) ∙ stays b.others b.close ∙ sym (within too_long) ∙ faulty too_long
+
+  stays_whatever : (bytes more : List ℕ) → length bytes < 2 ^ 62 → ((close : Verdict) → (units (Some close) (start_of bytes) 0 bytes).refusal ≡ Some fault) → Splits (start_of bytes) 0 bytes → start_of (bytes ++ more) ≡ start_of bytes
+      → verdict (bytes ++ more) ≡ Some fault
+  stays_whatever bytes more short faulty (inl h) same = absurd (not_both fault
+      (sym (faulty (verdict_at 0 ReadFault)) ∙ ap (λ s. s.refusal) (h.closes (verdict_at 0 ReadFault)))
+      (sym (faulty (verdict_at 1 ReadFault)) ∙ ap (λ s. s.refusal) (h.closes (verdict_at 1 ReadFault))))
+  stays_whatever bytes more short faulty (inr h) same =
+      let b = file_begins bytes more short in
+      ap (λ s. s.refusal) (b.same ∙ ap (λ s. units b.close s 0 (bytes ++ b.others)) same ∙ h.stays b.others b.close) ∙ sym (ap (λ s. s.refusal) (h.faulty too_long)) ∙ faulty too_long
+
+pub faulty_stays : FaultyStays
+faulty_stays [] more fault short faulty =
+    absurd (not_both fault
+    (sym (faulty (verdict_at 0 ReadFault)) ∙ ap (λ s. sorted_verdict s.refusal None s.list) (nothing_closes (verdict_at 0 ReadFault)))
+    (sym (faulty (verdict_at 1 ReadFault)) ∙ ap (λ s. sorted_verdict s.refusal None s.list) (nothing_closes (verdict_at 1 ReadFault))))
+faulty_stays (b ∷ bytes) more fault short faulty = sorted_stays fault (b ∷ bytes) more short faulty (says (b ∷ bytes)) refl
+
+pub malformed_stays : MalformedStays
+malformed_stays [] more fault short faulty =
+    absurd (not_both fault
+    (sym (faulty (verdict_at 0 ReadFault)) ∙ ap (λ s. s.refusal) (nothing_closes (verdict_at 0 ReadFault)))
+    (sym (faulty (verdict_at 1 ReadFault)) ∙ ap (λ s. s.refusal) (nothing_closes (verdict_at 1 ReadFault))))
+malformed_stays (b ∷ bytes) more fault short faulty =
+    stays_whatever fault (b ∷ bytes) more short faulty (splits (length (b ∷ bytes)) (start_of (b ∷ bytes)) 0 (b ∷ bytes) (omega arith)) refl

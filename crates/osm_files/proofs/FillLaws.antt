@@ -1,0 +1,77 @@
+-- Reading on.
+use Rattle.std.proofs.Common.{◌≡◌, ◌⊎◌, inl, inr, ℕ, zero, suc, ◌+◌, ◌-◌, ◌≤◌, ◌<◌, ◌^◌, Bool, true, false, cond, List, [], ◌∷◌, ◌++◌, length, drop, take, refl, sym, ap, ◌∙◌, subst, arith, Option, Some, None, option_map, IfSome}
+use Rattle.std.proofs.lemmas.List.{append-nil}
+use Rattle.osm_files.specs.declared.fault.Fault.{Fault}
+use Rattle.osm_files.specs.declared.reason.Reason.TheVariants.{ReadFault}
+use Rattle.osm_files.specs.Fault.{too_long_fault}
+use Rattle.osm_files.specs.Input.{Coming, whole, preceded_by, Gave, AtEnd, AtError}
+use Rattle.osm_files.specs.Stream.{verdict_at}
+use Rattle.osm_files.specs.Verdict.{too_long, length_limit}
+use Rattle.osm_files.specs.Position.{Position, ahead, fault_of, Keeps, ReadsOn, Halts, StopsFilling}
+
+pub weaker : {A : Type 0} (o : Option A) (P Q : A → Type 0) → ((x : A) → P x → Q x) → IfSome o P → IfSome o Q
+weaker None P Q f h = tt
+weaker (Some x) P Q f h = f x h
+
+pub mapped : {A B : Type 0} (o : Option A) (f : A → B) (P : B → Type 0) → IfSome o (λ x. P (f x)) → IfSome (option_map f o) P
+mapped None f P h = tt
+mapped (Some x) f P h = h
+
+pub kept : {A : Type 0} (o : Option A) → Keeps o o
+kept None = tt
+kept (Some x) = refl
+
+pub keeps_on : {A : Type 0} (a b c : Option A) → Keeps a b → Keeps b c → Keeps a c
+keeps_on None b c h k = tt
+keeps_on {A} (Some x) b c h k = let P : Option A → Type 0 = λ o. IfSome o (λ y. c ≡ Some y) in subst P h k
+
+ahead_open : (p : Position) → p.ended ≡ false → ahead p ≡ option_map (preceded_by p.held) p.coming
+ahead_open p unended = rw unended refl
+
+-- an error follows
+broken_there : (held : List ℕ) (c : Coming) → (c.bytes ≡ []) × (c.broken ≡ true) → preceded_by held c ≡ record { bytes = held; broken = true }
+broken_there held c h = (λ i. record { bytes = (ap (λ x. held ++ x) h.0 ∙ append-nil held) i; broken = h.1 i })
+
+pub fill_broken : (p : Position) (fault : Fault) → p.ended ≡ false → AtError p.coming → fault ≡ fault_of p.input (verdict_at (p.place + length p.held) ReadFault) → StopsFilling p fault
+fill_broken p fault unended at is =
+    inr (subst (λ (o : Option Coming). IfSome o (λ c. Halts p c fault)) (sym (ahead_open p unended))
+    (mapped p.coming (preceded_by p.held) (λ c. Halts p c fault) (weaker p.coming _ _ (λ c h. inl (broken_there p.held c h, is)) at)))
+
+-- the end of input
+ended_there : (held : List ℕ) (c : Coming) → (c.bytes ≡ []) × (c.broken ≡ false) → preceded_by held c ≡ whole held
+ended_there held c h = (λ i. record { bytes = (ap (λ x. held ++ x) h.0 ∙ append-nil held) i; broken = h.1 i })
+
+pub fill_ended : (p : Position) (coming : Option Coming) → p.ended ≡ false → AtEnd p.coming → ReadsOn p (record p { coming = coming; ended = true })
+fill_ended p coming unended at = record {
+  input = refl;
+  place = refl;
+  stand = refl;
+  failed = refl;
+  ahead =
+      subst (λ (o : Option Coming). IfSome o (λ c. Some (whole p.held) ≡ Some c)) (sym (ahead_open p unended))
+      (mapped p.coming (preceded_by p.held) (λ c. Some (whole p.held) ≡ Some c) (weaker p.coming _ _ (λ c h. ap Some (sym (ended_there p.held c h))) at));
+}
+
+too_long_is : (input : ℕ) → too_long_fault input ≡ fault_of input too_long
+unfolding length_limit
+too_long_is input = refl
+
+-- one byte too many
+more_there : (held front : List ℕ) (t : Coming) → 0 < length front → (b : ℕ) × (more : List ℕ) × ((preceded_by held (preceded_by front t)).bytes ≡ held ++ b ∷ more)
+more_there held [] t some = absurd (omega (arith, some))
+more_there held (b ∷ front) t some = (b, front ++ t.bytes, refl)
+
+from_mapped : (p : Position) (fault : Fault) (front : List ℕ) (coming : Option Coming) → 0 < length front → p.place + length p.held + 1 ≡ 2 ^ 62 → fault ≡ too_long_fault p.input
+    → IfSome (option_map (preceded_by p.held) (option_map (preceded_by front) coming)) (λ c. Halts p c fault)
+from_mapped p fault front None some full is = tt
+from_mapped p fault front (Some t) some full is = inr (full, more_there p.held front t some, is ∙ too_long_is p.input)
+
+pub fill_full : (p : Position) (coming : Option Coming) (front : List ℕ) (fault : Fault) → p.ended ≡ false → Gave p.coming coming front → 0 < length front → p.place + length p.held + 1 ≡ 2 ^ 62 → fault ≡ too_long_fault p.input → StopsFilling p fault
+fill_full p coming front fault unended gave some full is =
+    inr (subst (λ (o : Option Coming). IfSome o (λ c. Halts p c fault)) (sym (ahead_open p unended ∙ ap (option_map (preceded_by p.held)) gave))
+    (from_mapped p fault front coming some full is))
+
+pub some_taken : (n : ℕ) (bytes : List ℕ) → 0 < n → 0 < length bytes → 0 < length (take n bytes)
+some_taken zero bytes some full = absurd (omega (arith, some))
+some_taken (suc n) [] some full = absurd (omega (arith, full))
+some_taken (suc n) (b ∷ bytes) some full = omega arith

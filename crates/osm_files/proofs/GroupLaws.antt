@@ -1,0 +1,254 @@
+-- Key groups, one unit at a time.
+use Rattle.std.proofs.Common.{◌≡◌, ℕ, ◌+◌, ◌<◌, ◌≤◌, ◌⊎◌, inl, inr, Bool, true, false, ◌||◌, List, [], ◌∷◌, ◌++◌, refl, ap, sym, ◌∙◌, subst, arith, Option, Some, None, option_to_list, is_some, IfSome, IfOk, IfErr, OnOk, Result, Ok, Err}
+use Rattle.std.proofs.lemmas.Bool.{false≢true}
+use Rattle.std.proofs.lemmas.List.{append-nil}
+use Rattle.std.specs.declared.cmp.Ordering.{Ordering}
+use Rattle.std.specs.declared.cmp.Ordering.TheVariants.{Less, Equal, Greater}
+use Rattle.std.specs.Cmp.{tied_itself}
+use Rattle.std.specs.Ordering.{eq_by_cmp, is_eq, is_lt, is_gt}
+use Rattle.std.specs.List.{list_any, dedup, AllByRecursion}
+use Rattle.std.specs.List.Sorted.{IsStrictlySortedBy, IsSorted, IsPermutation}
+use Rattle.std.proofs.lemmas.List.Sorted.{IsPermutation-append_comm, IsPermutation-trans}
+use Rattle.osm_model.specs.Data.{VersionData}
+use Rattle.osm_model.specs.Order.{key_cmp, version_cmp, version_cmp_total}
+use Rattle.osm_model.specs.Sets.{listed, from_list}
+use Rattle.osm_model.proofs.SetLaws.{listed-from_list, listed-of_sorted, contains-listed, contains-from_list}
+use Rattle.osm_model.proofs.VersionLaws.{version_cmp-IsAntisymmetric}
+use Rattle.osm_files.specs.declared.fault.Fault.{Fault}
+use Rattle.osm_files.specs.declared.reason.Reason.TheVariants.{Unsorted}
+use Rattle.osm_files.specs.Fault.{memory_fault, failed_fault}
+use Rattle.osm_files.specs.Groups.{ascending, joins, follows, versions_then, groups, gathered, some_of, units_left, IsGroup, Gathers, Refuses}
+use Rattle.osm_files.specs.Position.{Position, Keeps, fault_of, still_to_come}
+use Rattle.osm_files.specs.Source.{Step}
+use Rattle.osm_files.specs.Stream.{verdict_at, Placed, Still, whole, refused, front}
+use Rattle.osm_files.proofs.FillLaws.{weaker, keeps_on}
+
+-- what is said of what is kept
+pub from_kept : {A : Type 0} (before after : Option A) (P : A → Type 0) → Keeps before after → IfSome after P → IfSome before P
+from_kept None after P k h = tt
+from_kept {A} (Some x) after P k h = let Q : Option A → Type 0 = λ o. IfSome o P in subst Q k h
+
+-- ---- ascending lists
+strict_nil : IsStrictlySortedBy version_cmp []
+unfolding IsStrictlySortedBy
+strict_nil = tt
+
+strict_one : (v : VersionData) → IsStrictlySortedBy version_cmp (v ∷ [])
+unfolding IsStrictlySortedBy
+strict_one v = (tt, tt)
+
+pub ascending_is : (versions : List VersionData) → ascending versions ≡ listed (from_list {R = version_cmp} versions)
+unfolding ascending
+ascending_is versions = refl
+
+pub ascending_strict : (versions : List VersionData) → IsStrictlySortedBy version_cmp versions → ascending versions ≡ versions
+ascending_strict versions h = ascending_is versions ∙ listed-from_list version_cmp_total version_cmp-IsAntisymmetric versions h
+
+pub ascending_nil : ascending [] ≡ []
+ascending_nil = ascending_strict [] strict_nil
+
+pub ascending_one : (v : VersionData) → ascending (v ∷ []) ≡ v ∷ []
+ascending_one v = ascending_strict (v ∷ []) (strict_one v)
+
+-- has the list a version that ties with this one?
+abbrev pub has : VersionData → List VersionData → Bool
+has v versions = list_any (eq_by_cmp version_cmp v) versions
+
+pub has_ascending : (v : VersionData) (versions : List VersionData) → has v (ascending versions) ≡ has v versions
+has_ascending v versions =
+    ap (has v) (ascending_is versions) ∙ sym (contains-listed {R = version_cmp} (from_list versions) v) ∙ contains-from_list version_cmp_total versions v
+
+has_first : (v : VersionData) (versions : List VersionData) → has v (v ∷ versions) ≡ true
+has_first v versions = ap (λ o. is_eq o || has v versions) (tied_itself version_cmp_total v)
+
+pub ascending_some : (v : VersionData) (versions : List VersionData) → ascending (v ∷ versions) ≡ [] → ⊥
+ascending_some v versions e =
+    let none : false ≡ true = sym (ap (has v) e) ∙ has_ascending v (v ∷ versions) ∙ has_first v versions in
+    false≢true none
+
+-- ---- a version of the key of a group, above it or below it
+pub less_follows : (o : Ordering) → is_lt o ≡ true → is_eq o ≡ false
+less_follows Less h = refl
+less_follows Equal h = absurd (false≢true h)
+less_follows Greater h = absurd (false≢true h)
+
+pub greater_falls : (o : Ordering) → is_gt o ≡ true → (is_eq o ≡ false) × (is_lt o ≡ false)
+greater_falls Less h = absurd (false≢true h)
+greater_falls Equal h = absurd (false≢true h)
+greater_falls Greater h = (refl, refl)
+
+pub neither_joins : (o : Ordering) → is_lt o ≡ false → is_gt o ≡ false → o ≡ Equal
+neither_joins Less h k = absurd (false≢true (sym h))
+neither_joins Equal h k = refl
+neither_joins Greater h k = absurd (false≢true (sym k))
+
+-- ---- a unit, and what it makes of the group at hand
+module _ (input : ℕ) where
+  joined : (before after : Option (Still Placed Fault)) (group : List VersionData) (u : Placed) → Step before (Ok (Some u)) after → joins group u.version ≡ true → Keeps (gathered input before group []) (gathered input after (group ++ u.version ∷ []) [])
+  joined None after group u h j = tt
+  joined (Some s) after group u h j =
+      let same : gathered input (Some (front u h.0)) group [] ≡ gathered input (Some h.0) (group ++ u.version ∷ []) [] = rw j refl in
+      ap (λ o. gathered input o (group ++ u.version ∷ []) []) h.2 ∙ sym same ∙ ap (λ x. gathered input (Some x) group []) (sym h.1)
+
+  followed : (before after : Option (Still Placed Fault)) (group : List VersionData) (u : Placed) → Step before (Ok (Some u)) after → joins group u.version ≡ false → follows group u.version ≡ true
+      → Keeps (gathered input before group []) (gathered input after (u.version ∷ []) (ascending group))
+  followed None after group u h j f = tt
+  followed (Some s) after group u h j f =
+      let same : gathered input (Some (front u h.0)) group [] ≡ gathered input (Some h.0) (u.version ∷ []) (ascending group) = rw (j, f) refl in
+      ap (λ o. gathered input o (u.version ∷ []) (ascending group)) h.2 ∙ sym same ∙ ap (λ x. gathered input (Some x) group []) (sym h.1)
+
+  fell : (before after : Option (Still Placed Fault)) (group : List VersionData) (u : Placed) → Step before (Ok (Some u)) after → joins group u.version ≡ false → follows group u.version ≡ false
+      → IfSome (gathered input before group []) (λ s. s ≡ refused (fault_of input (verdict_at u.place Unsorted)))
+  fell None after group u h j f = tt
+  fell (Some s) after group u h j f =
+      let same : versions_then [] (groups input h.0.refusal (u ∷ h.0.list) group) ≡ refused (fault_of input (verdict_at u.place Unsorted)) = rw (j, f) refl in
+      ap (λ x. versions_then [] (groups input x.refusal x.list group)) h.1 ∙ same
+
+  finished : (before after : Option (Still Placed Fault)) (group : List VersionData) → Step before (Ok None) after → Keeps (gathered input before group []) (gathered input after [] (ascending group))
+  finished None after group h = tt
+  finished (Some s) after group h =
+      let same : gathered input (Some whole) group [] ≡ gathered input (Some whole) [] (ascending group) = rw (ascending_nil, append-nil (ascending group)) refl in
+      ap (λ o. gathered input o [] (ascending group)) h.1 ∙ sym same ∙ ap (λ x. gathered input (Some x) group []) (sym h.0)
+
+  broken_by : (before : Option (Still Placed Fault)) (group : List VersionData) (fault : Fault) → (fault ≡ memory_fault) ⊎ IfSome before (λ s. s ≡ refused fault) → (fault ≡ memory_fault) ⊎ IfSome (gathered input before group []) (λ s. s ≡ refused fault)
+  broken_by before group fault (inl e) = inl e
+  broken_by None group fault (inr h) = inr tt
+  broken_by (Some s) group fault (inr h) = inr (ap (λ x. versions_then [] (groups input x.refusal x.list group)) h)
+
+  -- ---- a whole group
+  module _ (start before after : Option (Still Placed Fault)) (first : VersionData) (others : List VersionData) (keeps : Keeps (gathered input start (first ∷ []) []) (gathered input before (first ∷ others) [])) where
+    pub joins_group : (u : Placed) → Step before (Ok (Some u)) after → is_lt (key_cmp first u.version) ≡ false → is_gt (key_cmp first u.version) ≡ false
+        → Keeps (gathered input start (first ∷ []) []) (gathered input after (first ∷ (others ++ u.version ∷ [])) [])
+    joins_group u h less greater =
+        keeps_on (gathered input start (first ∷ []) []) (gathered input before (first ∷ others) []) (gathered input after (first ∷ (others ++ u.version ∷ [])) []) keeps
+        (joined before after (first ∷ others) u h (ap is_eq (neither_joins (key_cmp first u.version) less greater)))
+
+    pub ends_group : IsGroup first others → Step before (Ok None) after → Gathers input start after first others None
+    ends_group group h = record {
+      keeps = keeps_on (gathered input start (first ∷ []) []) (gathered input before (first ∷ others) []) (gathered input after [] (ascending (first ∷ others))) keeps (finished before after (first ∷ others) h);
+      group = group;
+      above = tt;
+      end = λ e. h.1;
+    }
+
+    pub begins_next : IsGroup first others → (u : Placed) → Step before (Ok (Some u)) after → is_lt (key_cmp first u.version) ≡ true → Gathers input start after first others (Some u.version)
+    begins_next group u h less = record {
+      keeps =
+          keeps_on (gathered input start (first ∷ []) []) (gathered input before (first ∷ others) []) (gathered input after (u.version ∷ []) (ascending (first ∷ others))) keeps
+          (followed before after (first ∷ others) u h (less_follows (key_cmp first u.version) less) less);
+      group = group;
+      above = less;
+      end = λ e. absurd (let f : Some u.version ≡ None = e in cc);
+    }
+
+    told : (P : Still VersionData Fault → Type 0) → IfSome (gathered input before (first ∷ others) []) P → IfSome (gathered input start (first ∷ []) []) P
+    told P h = from_kept (gathered input start (first ∷ []) []) (gathered input before (first ∷ others) []) P keeps h
+
+    told_or : (fault : Fault) → (fault ≡ memory_fault) ⊎ IfSome (gathered input before (first ∷ others) []) (λ s. s ≡ refused fault) → (fault ≡ memory_fault) ⊎ IfSome (gathered input start (first ∷ []) []) (λ s. s ≡ refused fault)
+    told_or fault (inl e) = inl e
+    told_or fault (inr h) = inr (told (λ s. s ≡ refused fault) h)
+
+    pub refuses_read : (fault : Fault) → Step before (Err fault) after → Refuses (gathered input start (first ∷ []) []) fault after
+    refuses_read fault h = (told_or fault (broken_by before (first ∷ others) fault h.0), h.1)
+
+    pub refuses_unsorted : (u : Placed) (fault : Fault) (failed : Option (Still Placed Fault)) (number : ℕ) → Step before (Ok (Some u)) after → is_gt (key_cmp first u.version) ≡ true → fault ≡ fault_of input (verdict_at u.place Unsorted)
+        → failed ≡ Some (refused (failed_fault number)) → Refuses (gathered input start (first ∷ []) []) fault failed
+    refuses_unsorted u fault failed number h greater is e =
+        let falls = greater_falls (key_cmp first u.version) greater in
+        (inr (told (λ s. s ≡ refused fault) (weaker (gathered input before (first ∷ others) []) _ _ (λ s k. k ∙ ap refused (sym is)) (fell before after (first ∷ others) u h falls.0 falls.1))), (number, e))
+
+group_on : (P : VersionData → Type 0) (others : List VersionData) (v : VersionData) → AllByRecursion P others → P v → AllByRecursion P (others ++ v ∷ [])
+group_on P [] v h k = (k, tt)
+group_on P (w ∷ others) v h k = (h.0, group_on P others v h.1 k)
+
+pub group_joined : (first : VersionData) (others : List VersionData) (v : VersionData) → IsGroup first others → is_lt (key_cmp first v) ≡ false → is_gt (key_cmp first v) ≡ false → IsGroup first (others ++ v ∷ [])
+group_joined first others v h less greater = group_on (λ w. key_cmp first w ≡ Equal) others v h (neither_joins (key_cmp first v) less greater)
+
+-- ---- the first group begins, or there is none
+pub first_begins : (input : ℕ) (before after : Option (Still Placed Fault)) (u : Placed) → Step before (Ok (Some u)) after → Keeps (gathered input before [] []) (gathered input after (u.version ∷ []) [])
+first_begins input before after u h = joined input before after [] u h refl
+
+no_more : (input : ℕ) → gathered input (Some whole) [] [] ≡ Some whole
+no_more input = rw ascending_nil refl
+
+pub none_begins : (input : ℕ) (before after : Option (Still Placed Fault)) → Step before (Ok None) after → Step (gathered input before [] []) (Ok None) (gathered input after [] [])
+none_begins input None after h = (tt, ap (λ o. gathered input o [] []) h.1 ∙ no_more input)
+none_begins input (Some s) after h =
+    ((let e : Some (versions_then [] (groups input s.refusal s.list [])) ≡ Some whole = ap (λ x. gathered input (Some x) [] []) h.0 ∙ no_more input in cc), ap (λ o. gathered input o [] []) h.1 ∙ no_more input)
+
+-- ---- what was made ready is given one by one
+first_of : (input : ℕ) (after : Option (Still Placed Fault)) (group ready : List VersionData) (v : VersionData) (s : Still VersionData Fault) → gathered input after group (v ∷ ready) ≡ Some s
+    → (t : Still VersionData Fault) × (s ≡ front v t) × (gathered input after group ready ≡ Some t)
+first_of input None group ready v s e = absurd (let f : None ≡ Some s = e in cc)
+first_of input (Some w) group ready v s e =
+    let t : Still VersionData Fault = versions_then ready (groups input w.refusal w.list group) in
+    (t, (let f : Some (front v t) ≡ Some s = e in cc), refl)
+
+pub gives_ready : (input : ℕ) (units : Option (Still Placed Fault)) (group ready : List VersionData) (v : VersionData) → Step (gathered input units group (v ∷ ready)) (Ok (Some v)) (gathered input units group ready)
+gives_ready input None group ready v = tt
+gives_ready input (Some w) group ready v = (versions_then ready (groups input w.refusal w.list group), refl, refl)
+
+pub gives_first : (input : ℕ) (before after : Option (Still Placed Fault)) (first : VersionData) (others : List VersionData) (next : Option VersionData) (v : VersionData) (ready : List VersionData) → Gathers input before after first others next → ascending (first ∷ others) ≡ v ∷ ready
+    → Step (gathered input before (first ∷ []) []) (Ok (Some v)) (gathered input after (option_to_list next) ready)
+gives_first input before after first others next v ready h e =
+    weaker (gathered input before (first ∷ []) []) _ _ (λ s k. first_of input after (option_to_list next) ready v s (ap (gathered input after (option_to_list next)) (sym e) ∙ k)) h.keeps
+
+-- ---- the answer of a call, behind what was kept
+pub step_on : {A : Type 0} (start before after : Option (Still A Fault)) (r : Result (Option A) Fault) → Keeps start before → Step before r after → Step start r after
+step_on start before after (Ok (Some x)) k h = from_kept start before _ k h
+step_on start before after (Ok None) k h = (from_kept start before _ k h.0, h.1)
+step_on start before after (Err fault) k (inl e, a) = (inl e, a)
+step_on start before after (Err fault) k (inr h, a) = (inr (from_kept start before _ k h), a)
+
+pub refused_step : (input : ℕ) (before : Option (Still VersionData Fault)) (after : Option (Still Placed Fault)) (group : List VersionData) (fault : Fault) → Refuses before fault after → Step before (Err fault) (gathered input after group [])
+refused_step input before after group fault (h, (number, a)) = (h, (number, ap (λ o. gathered input o group []) a))
+
+-- ---- how many are left at most
+some_fit : (us : List Placed) (most : ℕ) → some_of us most ≤ most
+some_fit [] most = omega arith
+some_fit (u ∷ us) most = omega arith
+
+left_fit : (units : Option (Still Placed Fault)) (most : ℕ) → units_left units most ≤ most
+left_fit None most = omega arith
+left_fit (Some s) most = some_fit s.list most
+
+all_left : (before after : Option (Still Placed Fault)) (u : Placed) (most : ℕ) → Step before (Ok (Some u)) after → units_left before most ≡ most
+all_left None after u most h = refl
+all_left (Some s) after u most h = ap (λ x. some_of x.list most) h.1
+
+pub one_fewer : (before after : Option (Still Placed Fault)) (u : Placed) (most few : ℕ) → Step before (Ok (Some u)) after → few < most → units_left after few + 1 ≤ units_left before most
+one_fewer before after u most few h less = let all = all_left before after u most h in let fit = left_fit after few in omega (arith, all, fit, less)
+
+pub none_left : (before after : Option (Still Placed Fault)) (most few : ℕ) → Step before (Ok None) after → units_left after few ≤ units_left before most
+none_left before after most few h = let none : units_left after few ≡ 0 = ap (λ o. units_left o few) h.1 in omega (arith, none)
+
+-- ---- what a sort and a `dedup` make of a group
+pub sorted_group : (first : VersionData) (others sorted : List VersionData) → IsPermutation (others ++ first ∷ []) sorted → IsSorted version_cmp sorted → dedup (eq_by_cmp version_cmp) sorted ≡ ascending (first ∷ others)
+sorted_group first others sorted moved up =
+    listed-of_sorted version_cmp_total version_cmp-IsAntisymmetric (first ∷ others) sorted (IsPermutation-trans (first ∷ others) (others ++ first ∷ []) sorted (IsPermutation-append_comm (first ∷ []) others) moved) up
+    ∙ sym (ascending_is (first ∷ others))
+
+pub alone : (first : VersionData) (others ready : List VersionData) → others ≡ [] → ready ≡ [] → ascending (first ∷ others) ≡ first ∷ ready
+alone first others ready none nothing = ap (λ vs. ascending (first ∷ vs)) none ∙ ascending_one first ∙ ap (λ vs. first ∷ vs) (sym nothing)
+
+pub some_from : {A : Type 0} (o : Option A) → (o ≡ None → ⊥) → is_some o ≡ true
+some_from None h = absurd (h refl)
+some_from (Some x) h = refl
+
+-- ---- a call that gathers a group
+module _ (input : ℕ) (start before : Option (Still Placed Fault)) (pending : Option VersionData) (first : VersionData) (keeps : Keeps (gathered input start (option_to_list pending) []) (gathered input before (first ∷ []) [])) where
+  pub refused_behind : (after : Option (Still Placed Fault)) (group : List VersionData) (fault : Fault) → Refuses (gathered input before (first ∷ []) []) fault after → Step (gathered input start (option_to_list pending) []) (Err fault) (gathered input after group [])
+  refused_behind after group fault h =
+      step_on (gathered input start (option_to_list pending) []) (gathered input before (first ∷ []) []) (gathered input after group []) (Err fault) keeps (refused_step input (gathered input before (first ∷ []) []) after group fault h)
+
+  -- the first of the group is given, or memory was refused
+  pub given_step : (p q : Position) (others : List VersionData) (next : Option VersionData) (ready : List VersionData) (r : Result (Option VersionData) Fault) → Gathers input before (still_to_come p) first others next → OnOk r (q ≡ p) → IfOk r (λ given. is_some given ≡ true)
+      → IfOk r (λ given. ascending (first ∷ others) ≡ option_to_list given ++ ready) → IfErr r (λ fault. (fault ≡ memory_fault) × (q ≡ record p { failed = true }) × (ready ≡ []))
+      → Step (gathered input start (option_to_list pending) []) r (gathered input (still_to_come q) (option_to_list next) ready)
+  given_step p q others next ready (Ok None) h same some given bad = absurd (false≢true some)
+  given_step p q others next ready (Ok (Some v)) h same some given bad =
+      step_on (gathered input start (option_to_list pending) []) (gathered input before (first ∷ []) []) (gathered input (still_to_come q) (option_to_list next) ready) (Ok (Some v)) keeps
+      (gives_first input before (still_to_come q) first others next v ready (subst (λ (x : Position). Gathers input before (still_to_come x) first others next) (sym same) h) given)
+  given_step p q others next ready (Err fault) h same some given (memory, failed, none) =
+      subst (λ (xs : List VersionData). Step (gathered input start (option_to_list pending) []) (Err fault) (gathered input (still_to_come q) (option_to_list next) xs)) (sym none)
+      (refused_behind (still_to_come q) (option_to_list next) fault (inl memory, (p.input, ap still_to_come failed)))

@@ -1,0 +1,289 @@
+-- How inputs are refused: by the first faulty unit that stands whole, or else by what closes their bytes.
+use Rattle.std.proofs.Common.{◌≡◌, ◌⊎◌, inl, inr, ⊎_elim, ℕ, zero, suc, ◌+◌, ◌-◌, ◌≤◌, ◌<◌, ◌==◌, ◌^◌, Bool, true, false, cond, List, [], ◌∷◌, ◌++◌, length, drop, take, refl, sym, ap, ◌∙◌, arith, Option, Some, None, option_map, IfSome, Result, Ok, Err, length-append, length-drop, nat_lt, nat_le}
+use Rattle.std.proofs.lemmas.Bool.{false≢true, ltb-true, ltb-false, lt-ltb}
+use Rattle.std.proofs.lemmas.List.{drop-append-le}
+use Rattle.osm_model.specs.declared.kind.Kind.{Kind}
+use Rattle.osm_model.specs.Data.{VersionData}
+use Rattle.o5_codec.specs.Body.{set_at}
+use Rattle.o5_codec.specs.Decoder.{new_segment}
+use Rattle.opl_line.specs.Cut.{split_first}
+use Rattle.opl_line.specs.Reading.{reading_line}
+use Rattle.opl_line.specs.declared.reason.OplReason.{OplReason}
+use Rattle.opl_line.specs.declared.reason.OplReason.TheVariants as opl
+use Rattle.o5_codec.specs.declared.reason.O5Reason.{O5Reason}
+use Rattle.o5_codec.specs.declared.reason.O5Reason.TheVariants as o5
+use Rattle.o5_codec.specs.declared.segment.Segment.{Segment}
+use Rattle.osm_files.specs.declared.reason.Reason.{Reason}
+use Rattle.osm_files.specs.declared.reason.Reason.TheVariants.{Opl, O5, BadHeader, Unsorted, NoEnd, AfterEnd, TooLong, ReadFault, WriteFault, Memory, Failed}
+use Rattle.osm_files.specs.Reason.{of_line, of_data_set}
+use Rattle.osm_files.specs.Opl.{is_line_end}
+use Rattle.osm_files.specs.O5.{end_byte, reset_byte, is_lone, kind_of_type}
+use Rattle.osm_files.specs.Stream.{Verdict, verdict_at, Placed, Still, whole}
+use Rattle.osm_files.specs.Units.{Stand, InOpl, BeforeHeader, InSegment, BehindEnd, Found, FileUnit, unit, passes, line_found, line_unit, is_header, set_found, content_found, sized_unit, length_at, unit_at, last_at, found_then, closed, unit_then, units_within, units, start_of}
+use Rattle.osm_files.specs.Verdict.{length_limit, too_long, file_units, verdict}
+use Rattle.osm_files.specs.Position.{units_from, fault_of}
+use Rattle.osm_files.specs.LoadLaws.{InputsAreFiles, IsFaultyWhole, NoneFaultyWhole, broken_behind, BrokenInputsAreRefused, VerdictsAreNoDeviceFaults}
+use Rattle.osm_files.proofs.FileLaws.{short_units}
+use Rattle.osm_files.proofs.StepLaws.{unit_sized}
+use Rattle.osm_files.proofs.MoreLaws.{unit_stays}
+use Rattle.osm_files.proofs.PositionLaws.{from_is, known, none_in_nothing}
+use Rattle.osm_files.proofs.LoadLaws.{whole_units}
+
+pub inputs_are_files : InputsAreFiles
+inputs_are_files input bytes = (whole_units bytes, ap (λ (s : Still Placed Verdict). option_map (fault_of input) s.refusal) (whole_units bytes))
+
+-- ---- the units that stand whole in bytes that are closed by a verdict
+abbrev Faulty : ℕ → Stand → ℕ → List ℕ → Verdict → Type 0
+Faulty n stand place bytes v = (close : Verdict) → (units_within n (Some close) stand place bytes).refusal ≡ Some v
+
+abbrev Fine : ℕ → Stand → ℕ → List ℕ → Type 0
+Fine n stand place bytes = (close : Verdict) → (units_within n (Some close) stand place bytes).refusal ≡ Some close
+
+-- one is faulty, whatever closes the bytes, or none is
+abbrev Tells : ℕ → Stand → ℕ → List ℕ → Type 0
+Tells n stand place bytes = ((v : Verdict) × Faulty n stand place bytes v × ((units_within n None stand place bytes).refusal ≡ Some v)) ⊎ Fine n stand place bytes
+
+found_tells : (n place at : ℕ) (rest : List ℕ) (found : Found) → ((next : Stand) → Tells n next at rest)
+    → ((v : Verdict) × ((close : Verdict) → (found_then place found (λ next. units_within n (Some close) next at rest)).refusal ≡ Some v) × ((found_then place found (λ next. units_within n None next at rest)).refusal ≡ Some v))
+    ⊎ ((close : Verdict) → (found_then place found (λ next. units_within n (Some close) next at rest)).refusal ≡ Some close)
+found_tells n place at rest (Err reason) on = inl (verdict_at place reason, λ close. refl, refl)
+found_tells n place at rest (Ok (None, next)) on = on next
+found_tells n place at rest (Ok (Some v, next)) on = on next
+
+abbrev ThenTells : ℕ → Stand → ℕ → List ℕ → Option FileUnit → Type 0
+ThenTells n stand place bytes u =
+    ((v : Verdict) × ((close : Verdict) → (unit_then (Some close) stand place bytes (units_within n (Some close)) u).refusal ≡ Some v) × ((unit_then None stand place bytes (units_within n None) u).refusal ≡ Some v))
+    ⊎ ((close : Verdict) → (unit_then (Some close) stand place bytes (units_within n (Some close)) u).refusal ≡ Some close)
+
+unit_tells : (n : ℕ) (stand : Stand) (place : ℕ) (bytes : List ℕ) → ((next : Stand) (at : ℕ) (rest : List ℕ) → Tells n next at rest) → (u : Option FileUnit) → ThenTells n stand place bytes u
+unit_tells n stand place bytes on None = inr (λ close. refl)
+unit_tells n stand place bytes on (Some u) = found_tells n place (place + u.size) (drop u.size bytes) u.found (λ next. on next (place + u.size) (drop u.size bytes))
+
+tells : (n : ℕ) (stand : Stand) (place : ℕ) (bytes : List ℕ) → Tells n stand place bytes
+tells zero stand place bytes = inr (λ close. refl)
+tells (suc n) stand place bytes = unit_tells n stand place bytes (tells n) (unit_at stand bytes)
+
+whole_tells : (bytes : List ℕ) → ((v : Verdict) × IsFaultyWhole bytes v × ((units None (start_of bytes) 0 bytes).refusal ≡ Some v)) ⊎ NoneFaultyWhole bytes
+unfolding units
+whole_tells bytes = tells (length bytes) (start_of bytes) 0 bytes
+
+-- ---- an error behind the bytes
+broken_units : (bytes : List ℕ) → length bytes < 2 ^ 62 → units_from None 0 (broken_behind bytes) ≡ units (Some (verdict_at (length bytes) ReadFault)) (start_of bytes) 0 bytes
+unfolding length_limit
+broken_units bytes short =
+    let all : 0 + length bytes ≡ length bytes = omega arith in
+    let below : nat_lt (0 + length bytes) (2 ^ 62) ≡ true = lt-ltb (0 + length bytes) (2 ^ 62) (omega (arith, short)) in
+    from_is None 0 (broken_behind bytes)
+    ∙ (λ i. units (cond (below i) (Some (verdict_at (all i) ReadFault)) (Some too_long)) (start_of bytes) 0 (cond (below i) bytes (take (2 ^ 62 - 1 - 0) bytes)))
+
+long_units : (bytes : List ℕ) → nat_lt (length bytes) length_limit ≡ false → units_from None 0 (broken_behind bytes) ≡ file_units bytes
+unfolding file_units
+long_units bytes long =
+    let all : 0 + length bytes ≡ length bytes = omega arith in
+    let room : length_limit - 1 - 0 ≡ length_limit - 1 = omega arith in
+    let above : nat_lt (0 + length bytes) length_limit ≡ false = ap (λ n. nat_lt n length_limit) all ∙ long in
+    from_is None 0 (broken_behind bytes)
+    ∙ (λ i. units (cond (above i) (Some (verdict_at (0 + length bytes) ReadFault)) (Some too_long)) (start_of bytes) 0 (cond (above i) bytes (take (room i) bytes)))
+    ∙ ap (λ t. cond t (units None (start_of bytes) 0 bytes) (units (Some too_long) (start_of bytes) 0 (take (length_limit - 1) bytes))) (sym long)
+
+abbrev refusal_of : Still Placed Verdict → Option Verdict
+refusal_of s = s.refusal
+
+short_refused : (bytes : List ℕ) → length bytes < 2 ^ 62
+    → ((v : Verdict) × length bytes < 2 ^ 62 × IsFaultyWhole bytes v × (verdict bytes ≡ Some v) × ((units_from None 0 (broken_behind bytes)).refusal ≡ Some v))
+    ⊎ (length bytes < 2 ^ 62 × NoneFaultyWhole bytes × ((units_from None 0 (broken_behind bytes)).refusal ≡ Some (verdict_at (length bytes) ReadFault)))
+short_refused bytes short =
+    let close : Verdict = verdict_at (length bytes) ReadFault in
+    let same : (units_from None 0 (broken_behind bytes)).refusal ≡ (units (Some close) (start_of bytes) 0 bytes).refusal = ap refusal_of (broken_units bytes short) in
+    ⊎_elim (λ h. inl (h.0, short, h.1, ap refusal_of (short_units bytes short) ∙ h.2, same ∙ h.1 close)) (λ h. inr (short, h, same ∙ h close)) (whole_tells bytes)
+
+limit_is : length_limit ≡ 2 ^ 62
+unfolding length_limit
+limit_is = refl
+
+pub broken_inputs : BrokenInputsAreRefused
+broken_inputs bytes =
+    elim (nat_lt (length bytes) length_limit) as (λ t. nat_lt (length bytes) length_limit ≡ t → (2 ^ 62 ≤ length bytes × ((units_from None 0 (broken_behind bytes)).refusal ≡ verdict bytes))
+    ⊎ ((v : Verdict) × length bytes < 2 ^ 62 × IsFaultyWhole bytes v × (verdict bytes ≡ Some v) × ((units_from None 0 (broken_behind bytes)).refusal ≡ Some v))
+    ⊎ (length bytes < 2 ^ 62 × NoneFaultyWhole bytes × ((units_from None 0 (broken_behind bytes)).refusal ≡ Some (verdict_at (length bytes) ReadFault)))) [
+      | true ↦ λ is. inr (short_refused bytes (let below = ltb-true (length bytes) length_limit is in omega (arith, limit_is, below)))
+      | false ↦ λ is. inl (let above = ltb-false (length bytes) length_limit is in omega (arith, limit_is, above), ap refusal_of (long_units bytes is))
+    ] refl
+
+-- ---- whatever follows
+-- no verdict is each one
+not_each : (v : Verdict) → ((close : Verdict) → Some close ≡ Some v) → ⊥
+not_each v each =
+    let same : suc v.place ≡ v.place = (let e : Some (verdict_at (suc v.place) ReadFault) ≡ Some v = each (verdict_at (suc v.place) ReadFault) in let f : verdict_at (suc v.place) ReadFault ≡ v = cc in ap (λ (w : Verdict). w.place) f) in
+    omega (arith, same)
+
+abbrev Stays : ℕ → ℕ → Option Verdict → Verdict → Type 0
+Stays n m close v = (stand : Stand) (place : ℕ) (bytes more : List ℕ) → length (bytes ++ more) ≤ m → Faulty n stand place bytes v → (units_within m close stand place (bytes ++ more)).refusal ≡ Some v
+
+found_stays : (n m : ℕ) (close : Option Verdict) (v : Verdict) → Stays n m close v → (place at : ℕ) (rest more : List ℕ) → length (rest ++ more) ≤ m → (found : Found) → ((c : Verdict) → (found_then place found (λ next. units_within n (Some c) next at rest)).refusal ≡ Some v)
+    → (found_then place found (λ next. units_within m close next at (rest ++ more))).refusal ≡ Some v
+found_stays n m close v on place at rest more fits (Err reason) h = h v
+found_stays n m close v on place at rest more fits (Ok (None, next)) h = on next at rest more fits h
+found_stays n m close v on place at rest more fits (Ok (Some w, next)) h = on next at rest more fits h
+
+unit_then_stays : (n m : ℕ) (close : Option Verdict) (v : Verdict) → Stays n m close v → (stand : Stand) (place : ℕ) (bytes more : List ℕ) → length (bytes ++ more) ≤ suc m → (u : Option FileUnit) → unit_at stand bytes ≡ u
+    → ((c : Verdict) → (unit_then (Some c) stand place bytes (units_within n (Some c)) u).refusal ≡ Some v) → (unit_then close stand place (bytes ++ more) (units_within m close) (unit_at stand (bytes ++ more))).refusal ≡ Some v
+unit_then_stays n m close v on stand place bytes more fits None is h = absurd (not_each v h)
+unit_then_stays n m close v on stand place bytes more fits (Some u) is h =
+    let sized = unit_sized stand bytes u is in
+    let rest : drop u.size (bytes ++ more) ≡ drop u.size bytes ++ more = drop-append-le u.size bytes more sized.within in
+    let few : length (drop u.size bytes ++ more) ≤ m = omega (arith, length-append bytes more, length-append (drop u.size bytes) more, length-drop u.size bytes, sized.some, sized.within, fits) in
+    ap (λ o. (unit_then close stand place (bytes ++ more) (units_within m close) o).refusal) (unit_stays stand bytes more u is)
+    ∙ ap (λ x. (found_then place u.found (λ next. units_within m close next (place + u.size) x)).refusal) rest
+    ∙ found_stays n m close v on place (place + u.size) (drop u.size bytes) more few u.found h
+
+stays : (n m : ℕ) (close : Option Verdict) (v : Verdict) → Stays n m close v
+stays zero m close v stand place bytes more fits h = absurd (not_each v h)
+stays (suc n) (suc m) close v stand place bytes more fits h = unit_then_stays n m close v (stays n m close v) stand place bytes more fits (unit_at stand bytes) refl h
+stays (suc n) zero close v stand place [] [] fits h = absurd (not_each v (λ c. ap (λ o. (unit_then (Some c) stand place [] (units_within n (Some c)) o).refusal) (sym (none_in_nothing stand)) ∙ h c))
+stays (suc n) zero close v stand place [] (b ∷ more) fits h = absurd (omega (arith, fits))
+stays (suc n) zero close v stand place (b ∷ bytes) more fits h = absurd (omega (arith, fits, length-append (b ∷ bytes) more))
+
+faulty_stays : (bytes more : List ℕ) (v : Verdict) → IsFaultyWhole bytes v → (units None (start_of (bytes ++ more)) 0 (bytes ++ more)).refusal ≡ Some v
+unfolding units
+faulty_stays [] more v h = absurd (not_each v h)
+faulty_stays (b ∷ bytes) more v h = stays (length (b ∷ bytes)) (length (b ∷ (bytes ++ more))) None v (start_of (b ∷ bytes)) 0 (b ∷ bytes) more (omega arith) h
+
+-- ---- no unit is faulty as a device is
+abbrev is_device : Reason → Bool
+is_device ReadFault = true
+is_device WriteFault = true
+is_device (Opl reason) = false
+is_device (O5 reason) = false
+is_device BadHeader = false
+is_device Unsorted = false
+is_device NoEnd = false
+is_device AfterEnd = false
+is_device TooLong = false
+is_device Memory = false
+is_device Failed = false
+
+line_fine : (reason : OplReason) → is_device (of_line reason) ≡ false
+line_fine opl.NotUtf8 = refl
+line_fine opl.UnknownKind = refl
+line_fine opl.UnknownField = refl
+line_fine opl.RepeatedField = refl
+line_fine opl.BadNumber = refl
+line_fine opl.OutOfRange = refl
+line_fine opl.BadTime = refl
+line_fine opl.BadCoordinate = refl
+line_fine opl.BadText = refl
+line_fine opl.BadList = refl
+line_fine opl.NoVersion = refl
+line_fine opl.NoTime = refl
+line_fine opl.NoLocation = refl
+line_fine opl.Memory = refl
+
+set_fine : (reason : O5Reason) → is_device (of_data_set reason) ≡ false
+set_fine o5.BadNumber = refl
+set_fine o5.OutOfRange = refl
+set_fine o5.NoVersion = refl
+set_fine o5.BadReference = refl
+set_fine o5.BadText = refl
+set_fine o5.NotUtf8 = refl
+set_fine o5.BadSection = refl
+set_fine o5.BadMemberType = refl
+set_fine o5.MixedSegment = refl
+set_fine o5.Truncated = refl
+set_fine o5.Memory = refl
+set_fine o5.Failed = refl
+
+abbrev FineFound : Found → Type 0
+FineFound (Ok found) = Unit {0}
+FineFound (Err reason) = is_device reason ≡ false
+
+abbrev FineUnit : Option FileUnit → Type 0
+FineUnit u = IfSome u (λ x. FineFound x.found)
+
+line_found_fine : (read : Result (Option VersionData) OplReason) → FineFound (line_found read)
+line_found_fine (Ok read) = tt
+line_found_fine (Err reason) = line_fine reason
+
+line_unit_fine : (s : List ℕ × Option (List ℕ)) → FineUnit (line_unit s)
+line_unit_fine (line, None) = tt
+line_unit_fine (line, Some behind) = line_found_fine (reading_line line)
+
+header_fine : (short is : Bool) → FineUnit (cond short None (Some (unit 7 (cond is (passes (InSegment new_segment)) (Err BadHeader)))))
+header_fine true is = tt
+header_fine false true = tt
+header_fine false false = refl
+
+set_found_fine : (read : Result (VersionData × Segment) O5Reason) → FineFound (set_found read)
+set_found_fine (Ok read) = tt
+set_found_fine (Err reason) = set_fine reason
+
+content_fine : (s : Segment) (k : Option Kind) (content : List ℕ) → FineFound (content_found s k content)
+content_fine s None content = tt
+content_fine s (Some k) content = set_found_fine (set_at k s content)
+
+sized_fine : (s : Segment) (b : ℕ) (bytes : List ℕ) (x : Option (Result (ℕ × List ℕ) O5Reason)) → FineUnit (sized_unit s b bytes x)
+sized_fine s b bytes None = tt
+sized_fine s b bytes (Some (Err reason)) = set_fine reason
+sized_fine s b bytes (Some (Ok (size, behind))) =
+    elim (nat_le size (length behind)) as (λ t. FineUnit (cond t (Some (unit (1 + (length bytes - length behind) + size) (content_found s (kind_of_type b) (take size behind)))) None)) [
+      | true ↦ content_fine s (kind_of_type b) (take size behind)
+      | false ↦ tt
+    ]
+
+by_type : (s : Segment) (end reset lone : Bool) (sized : Option FileUnit) → FineUnit sized → FineUnit (cond end (Some (unit 1 (passes BehindEnd))) (cond reset (Some (unit 1 (passes (InSegment new_segment)))) (cond lone (Some (unit 1 (passes (InSegment s)))) sized)))
+by_type s true reset lone sized h = tt
+by_type s false true lone sized h = tt
+by_type s false false true sized h = tt
+by_type s false false false sized h = h
+
+unit_fine : (stand : Stand) (bytes : List ℕ) → FineUnit (unit_at stand bytes)
+unfolding unit_at
+unit_fine InOpl bytes = line_unit_fine (split_first is_line_end bytes)
+unit_fine BeforeHeader bytes = header_fine (nat_lt (length bytes) 7) (is_header (take 7 bytes))
+unit_fine (InSegment s) [] = tt
+unit_fine (InSegment s) (b ∷ bytes) = by_type s (b == end_byte) (b == reset_byte) (is_lone b) (sized_unit s b bytes (length_at bytes)) (sized_fine s b bytes (length_at bytes))
+unit_fine BehindEnd [] = tt
+unit_fine BehindEnd (b ∷ bytes) = refl
+
+last_fine : (stand : Stand) (bytes : List ℕ) → FineFound (last_at stand bytes)
+unfolding last_at
+last_fine InOpl bytes = line_found_fine (reading_line bytes)
+last_fine BeforeHeader bytes = refl
+last_fine (InSegment s) [] = refl
+last_fine (InSegment s) (b ∷ bytes) = refl
+last_fine BehindEnd bytes = tt
+
+abbrev FineRefusal : Option Verdict → Type 0
+FineRefusal r = IfSome r (λ v. is_device v.reason ≡ false)
+
+found_fine : (place : ℕ) (found : Found) (more : Stand → Still Placed Verdict) → FineFound found → ((next : Stand) → FineRefusal (more next).refusal) → FineRefusal (found_then place found more).refusal
+found_fine place (Err reason) more h on = h
+found_fine place (Ok (None, next)) more h on = on next
+found_fine place (Ok (Some v, next)) more h on = on next
+
+closed_fine : (close : Option Verdict) → FineRefusal close → (stand : Stand) (place : ℕ) (bytes : List ℕ) → FineRefusal (closed close place (last_at stand bytes)).refusal
+closed_fine None h stand place bytes = found_fine place (last_at stand bytes) (λ next. whole) (last_fine stand bytes) (λ next. tt)
+closed_fine (Some end) h stand place bytes = h
+
+then_fine : (n : ℕ) (close : Option Verdict) → FineRefusal close → ((stand : Stand) (place : ℕ) (bytes : List ℕ) → FineRefusal (units_within n close stand place bytes).refusal) → (stand : Stand) (place : ℕ) (bytes : List ℕ) (u : Option FileUnit) → FineUnit u
+    → FineRefusal (unit_then close stand place bytes (units_within n close) u).refusal
+then_fine n close h on stand place bytes None fine = closed_fine close h stand place bytes
+then_fine n close h on stand place bytes (Some u) fine = found_fine place u.found _ fine (λ next. on next (place + u.size) (drop u.size bytes))
+
+units_fine : (n : ℕ) (close : Option Verdict) → FineRefusal close → (stand : Stand) (place : ℕ) (bytes : List ℕ) → FineRefusal (units_within n close stand place bytes).refusal
+units_fine zero close h stand place bytes = closed_fine close h stand place bytes
+units_fine (suc n) close h stand place bytes = then_fine n close h (units_fine n close h) stand place bytes (unit_at stand bytes) (unit_fine stand bytes)
+
+verdict_fine : (bytes : List ℕ) → FineRefusal (verdict bytes)
+unfolding file_units units
+verdict_fine bytes =
+    let front : List ℕ = take (length_limit - 1) bytes in
+    elim (nat_lt (length bytes) length_limit) as (λ t. FineRefusal (cond t (units None (start_of bytes) 0 bytes) (units (Some too_long) (start_of bytes) 0 front)).refusal) [
+      | true ↦ units_fine (length bytes) None tt (start_of bytes) 0 bytes
+      | false ↦ units_fine (length front) (Some too_long) refl (start_of bytes) 0 front
+    ]
+
+pub no_device_faults : VerdictsAreNoDeviceFaults
+no_device_faults bytes v is =
+    let fine : is_device v.reason ≡ false = known (verdict bytes) _ v is (verdict_fine bytes) in
+    (λ e. false≢true (sym fine ∙ ap is_device e), λ e. false≢true (sym fine ∙ ap is_device e))

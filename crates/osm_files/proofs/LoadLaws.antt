@@ -1,0 +1,192 @@
+-- A whole file, loaded version by version.
+use Rattle.std.proofs.Common.{◌≡◌, ◌⊎◌, inl, inr, ⊎_elim, ◌↔◌, ℕ, ◌+◌, ◌-◌, ◌≤◌, ◌<◌, ◌==◌, ◌||◌, ◌&&◌, ◌^◌, Bool, true, false, not, cond, IsTrue, List, [], ◌∷◌, ◌++◌, length, take, get_or, refl, sym, ap, ◌∙◌, subst, arith, Option, Some, None, option_map, IfSome, Ok, Err, append_assoc, length-append, nat_lt, nat_le}
+use Rattle.std.specs.List.Sorted.{IsSorted}
+use Rattle.std.specs.Ordering.{is_lt}
+use Rattle.std.proofs.lemmas.Bool.{false≢true, leb-false, lt-ltb}
+use Rattle.std.proofs.lemmas.Bool.Decides.{nat_tests}
+use Rattle.std.proofs.lemmas.List.{append-nil, get_or_append_left}
+use Rattle.std.proofs.lemmas.List.Kept.{IsSortedBy-push}
+use Rattle.std.proofs.lemmas.Option.{slice_get-get_or}
+use Rattle.std.proofs.Math.Seq.{get_or-append_seam}
+use Rattle.osm_model.specs.Data.{VersionData}
+use Rattle.osm_model.specs.Order.{version_cmp, key_cmp}
+use Rattle.osm_model.specs.Sets.{from_list}
+use Rattle.osm_files.specs.declared.fault.Fault.{Fault}
+use Rattle.osm_files.specs.declared.format.Format.{Format}
+use Rattle.osm_files.specs.declared.load.Loaded.{Loaded}
+use Rattle.osm_files.specs.declared.reason.Reason.TheVariants.{ReadFault}
+use Rattle.osm_files.specs.Fault.{memory_fault}
+use Rattle.osm_files.specs.Input.{Coming, whole as all_of}
+use Rattle.osm_files.specs.Stream.{Verdict, verdict_at, Placed, Still}
+use Rattle.osm_files.specs.Source.{Step}
+use Rattle.osm_files.specs.O5.{reset_byte}
+use Rattle.osm_files.specs.Units.{InOpl, unit_at, units, start_of}
+use Rattle.osm_files.specs.Verdict.{length_limit, too_long, file_units, versions_of, verdict, is_below}
+use Rattle.osm_files.specs.Held.{IsFile, HoldsSorted}
+use Rattle.osm_files.specs.Position.{Position, ahead, units_from, named, still_to_come, ReadsOn, stand_at, stand_in, fault_of, StopsFilling}
+use Rattle.osm_files.specs.Whole.{is_below_last}
+use Rattle.osm_files.specs.Load.{format_of, tells_format, Loads, StopsLoading}
+use Rattle.osm_files.proofs.UnitLaws.{some_is_not_none}
+use Rattle.osm_files.proofs.FileLaws.{one_list, accepted_without_verdict, units_closed}
+use Rattle.osm_files.proofs.FillLaws.{weaker}
+use Rattle.osm_files.proofs.PositionLaws.{from_is, known, none_in_nothing, reads_go_on, stopped}
+use Rattle.osm_files.proofs.ReadingLaws.{failed_next}
+
+-- ---- the format
+-- bytes that don't tell the format hold no unit whole
+untold_unit : (b : ℕ) (held : List ℕ) → b == reset_byte ≡ true → length (b ∷ held) < 7 → unit_at (start_of (b ∷ held)) (b ∷ held) ≡ None
+unfolding unit_at
+untold_unit b held first short =
+    let few : nat_lt (length (b ∷ held)) 7 ≡ true = lt-ltb (length (b ∷ held)) 7 short in
+    rw (first, few) refl
+
+untold : (held : List ℕ) → tells_format held ≡ false → (unit_at (start_of held) held ≡ None) × (length held < 7)
+untold [] tells = (none_in_nothing InOpl, omega arith)
+untold (b ∷ held) tells =
+    elim (b == reset_byte) as (λ t. b == reset_byte ≡ t → not t || nat_le 7 (length (b ∷ held)) ≡ false → (unit_at (start_of (b ∷ held)) (b ∷ held) ≡ None) × (length (b ∷ held) < 7)) [
+      | true ↦ λ first long. (let short : length (b ∷ held) < 7 = leb-false 7 (length (b ∷ held)) long in (untold_unit b held first short, short))
+      | false ↦ λ other long. absurd (false≢true (sym long))
+    ] refl tells
+
+-- where no more can be read of a file whose format isn't told
+pub format_refused : (p m q : Position) → ReadsOn p m → p.place ≡ 0 → p.stand ≡ None → p.failed ≡ false → tells_format m.held ≡ false → (fault : Fault) → StopsFilling m fault → Step {A = Placed} (still_to_come p) (Err fault) (still_to_come (record q { failed = true }))
+format_refused p m q on first unseen fine tells fault stops =
+    let k = untold m.held tells in
+    let nothing : unit_at (stand_at m) m.held ≡ None = ap (λ s. unit_at (stand_in s m.held) m.held) (on.stand ∙ unseen) ∙ k.0 in
+    let bound : m.place + length m.held < 2 ^ 62 = omega (arith, on.place, first, k.1) in
+    failed_next p m q (reads_go_on p m on) fine fault (stopped m nothing bound fault stops)
+
+-- ---- the versions
+-- the versions so far of what was to come, and what is still to come
+abbrev pub LoadsOn : Option (Still Placed Fault) → List VersionData → Option (Still Placed Fault) → Type 0
+LoadsOn all versions now = IfSome all (λ s. (t : Still Placed Fault) × (now ≡ Some t) × (versions_of s.list ≡ versions ++ versions_of t.list) × (s.refusal ≡ t.refusal))
+
+module _ (all : Option (Still Placed Fault)) (versions : List VersionData) (now after : Option (Still Placed Fault)) (on : LoadsOn all versions now) where
+  pub load_step : (u : Placed) → Step now (Ok (Some u)) after → LoadsOn all (versions ++ u.version ∷ []) after
+  load_step u step = weaker all _ _ (λ s h. (
+      let k = known now _ h.0 h.1 step in
+      (k.0, k.2, h.2 ∙ ap (λ (x : Still Placed Fault). versions ++ versions_of x.list) k.1 ∙ sym (append_assoc versions (u.version ∷ []) (versions_of (k.0).list)), h.3 ∙ ap (λ (x : Still Placed Fault). x.refusal) k.1))) on
+
+  pub load_ends : Step {A = Placed} now (Ok None) after → IfSome all (λ s. (s.refusal ≡ None) × (versions_of s.list ≡ versions))
+  load_ends step = weaker all _ _ (λ s h. (
+      let k = known now _ h.0 h.1 step.0 in
+      (h.3 ∙ ap (λ (x : Still Placed Fault). x.refusal) k, h.2 ∙ ap (λ (x : Still Placed Fault). versions ++ versions_of x.list) k ∙ append-nil versions))) on
+
+  pub load_stops : (fault : Fault) → Step {A = Placed} now (Err fault) after → (fault ≡ memory_fault) ⊎ IfSome all (λ s. s.refusal ≡ Some fault)
+  load_stops fault step = ⊎_elim (λ e. inl e) (λ k. inr (weaker all _ _ (λ s h. h.3 ∙ ap (λ (x : Still Placed Fault). x.refusal) (known now _ h.0 h.1 k)) on)) step.0
+
+-- ---- whether they are sorted
+module _ (versions : List VersionData) (v : VersionData) where
+  front_at : (k : ℕ) (d : VersionData) → k < length versions → get_or (versions ++ v ∷ []) k d ≡ get_or versions k d
+  front_at k d within = get_or_append_left versions (v ∷ []) d k within
+
+  front_sorted : IsSorted key_cmp (versions ++ v ∷ []) → IsSorted key_cmp versions
+  front_sorted sorted = λ k d from within.
+      subst (λ (x : VersionData). is_lt (key_cmp x (get_or versions k d)) ≡ false) (front_at (k + 1) d within)
+      (subst (λ (x : VersionData). is_lt (key_cmp (get_or (versions ++ v ∷ []) (k + 1) d) x) ≡ false) (front_at k d (omega (arith, within))) (sorted k d from (omega (arith, within, length-append versions (v ∷ [])))))
+
+  below_last : (d : VersionData) → 0 < length versions → is_below_last v versions ≡ is_lt (key_cmp v (get_or versions (length versions - 1) d))
+  below_last d some = ap (is_below v) (slice_get-get_or versions (length versions - 1) d (omega (arith, some)))
+
+  none_below : (xs : List VersionData) → length xs ≡ 0 → is_below_last v xs ≡ false
+  none_below [] e = refl
+  none_below (x ∷ xs) e = absurd (omega (arith, e))
+
+  last_rises : IsSorted key_cmp (versions ++ v ∷ []) → is_below_last v versions ≡ false
+  last_rises sorted =
+      elim (nat_lt 0 (length versions)) as (λ t. nat_lt 0 (length versions) ≡ t → is_below_last v versions ≡ false) [
+        | true ↦ λ is. (
+            let some : 0 < length versions = grind (arith, nat_tests) in
+            let n : ℕ = length versions - 1 in
+            let behind_it : n + 1 ≡ length versions = omega (arith, some) in
+            let last : get_or (versions ++ v ∷ []) (n + 1) v ≡ v = ap (λ m. get_or (versions ++ v ∷ []) m v) behind_it ∙ get_or-append_seam versions v [] v in
+            below_last v some ∙ (λ i. is_lt (key_cmp (sym last i) (sym (front_at n v (omega (arith, some))) i))) ∙ sorted n v (omega arith) (omega (arith, some, length-append versions (v ∷ []))))
+        | false ↦ λ is. none_below versions (let none : length versions ≤ 0 = grind (arith, nat_tests) in omega (arith, none))
+      ] refl
+
+  rises_on : (sorted : Bool) → IsTrue sorted ↔ IsSorted key_cmp versions → (below : Bool) → is_below_last v versions ≡ below → IsTrue (sorted && not below) ↔ IsSorted key_cmp (versions ++ v ∷ [])
+  rises_on true is false e = (λ t. IsSortedBy-push (λ x y. is_lt (key_cmp x y)) versions v (is.0 refl) (λ d some. sym (below_last d some) ∙ e), λ s. refl)
+  rises_on true is true e = (λ t. absurd (false≢true t), λ s. sym (last_rises s) ∙ e)
+  rises_on false is below e = (λ t. absurd (false≢true t), λ s. absurd (false≢true (is.1 (front_sorted s))))
+
+  pub sorted_on : (sorted after : Bool) → IsTrue sorted ↔ IsSorted key_cmp versions → after ≡ (sorted && not (is_below_last v versions)) → IsTrue after ↔ IsSorted key_cmp (versions ++ v ∷ [])
+  sorted_on sorted after is e = subst (λ (b : Bool). IsTrue b ↔ IsSorted key_cmp (versions ++ v ∷ [])) (sym e) (rises_on sorted is (is_below_last v versions) refl)
+
+-- ---- inputs
+-- a file that ends is its units
+pub whole_units : (bytes : List ℕ) → units_from None 0 (all_of bytes) ≡ file_units bytes
+unfolding file_units
+whole_units bytes =
+    let all : 0 + length bytes ≡ length bytes = omega arith in
+    let room : length_limit - 1 - 0 ≡ length_limit - 1 = omega arith in
+    from_is None 0 (all_of bytes)
+    ∙ (λ i. units (cond (nat_lt (all i) length_limit) None (Some too_long)) (start_of bytes) 0 (cond (nat_lt (all i) length_limit) bytes (take (room i) bytes)))
+    ∙ (elim (nat_lt (length bytes) length_limit) as (λ t. units (cond t None (Some too_long)) (start_of bytes) 0 (cond t bytes (take (length_limit - 1) bytes)) ≡ cond t (units None (start_of bytes) 0 bytes) (units (Some too_long) (start_of bytes) 0 (take (length_limit - 1) bytes))) [
+      | true ↦ refl
+      | false ↦ refl
+    ])
+
+-- what is closed otherwise than by its end is refused
+unbroken : (c : Coming) → (units_from None 0 c).refusal ≡ None → c.broken ≡ false
+unbroken c none =
+    let below : Bool = nat_lt (0 + length c.bytes) length_limit in
+    let at_all : Verdict = verdict_at (0 + length c.bytes) ReadFault in
+    let bytes : List ℕ = cond below c.bytes (take (length_limit - 1 - 0) c.bytes) in
+    let closes : (b : Bool) → (units (cond b (Some at_all) (Some too_long)) (start_of c.bytes) 0 bytes).refusal ≡ None → ⊥ =
+    λ b. elim b as (λ t. (units (cond t (Some at_all) (Some too_long)) (start_of c.bytes) 0 bytes).refusal ≡ None → ⊥) [
+      | true ↦ units_closed at_all (start_of c.bytes) 0 bytes
+      | false ↦ units_closed too_long (start_of c.bytes) 0 bytes
+    ] in
+    elim c.broken as (λ t. (units (cond below (cond t (Some at_all) None) (Some too_long)) (start_of c.bytes) 0 bytes).refusal ≡ None → t ≡ false) [
+      | true ↦ λ e. absurd (closes below e)
+      | false ↦ λ e. refl
+    ] (ap (λ s. s.refusal) (sym (from_is None 0 c)) ∙ none)
+
+unnamed : (input : ℕ) (r : Option Verdict) → option_map (fault_of input) r ≡ None → r ≡ None
+unnamed input None e = refl
+unnamed input (Some v) e = absurd (some_is_not_none (fault_of input v) e)
+
+-- the units of an input that are its versions, with no refusal
+module _ (input : ℕ) (c : Coming) (versions : List VersionData) (none : (named input (units_from None 0 c)).refusal ≡ None) (all : versions_of (named input (units_from None 0 c)).list ≡ versions) where
+  ends : c.broken ≡ false
+  ends = unbroken c (unnamed input (units_from None 0 c).refusal none)
+
+  are_file : units_from None 0 c ≡ file_units c.bytes
+  are_file = (λ i. units_from None 0 (record { bytes = c.bytes; broken = ends i })) ∙ whole_units c.bytes
+
+  no_verdict : verdict c.bytes ≡ None
+  no_verdict = ap (λ (s : Still Placed Verdict). s.refusal) (sym are_file) ∙ unnamed input (units_from None 0 c).refusal none
+
+  file_versions : versions_of (file_units c.bytes).list ≡ versions
+  file_versions = ap (λ (s : Still Placed Verdict). versions_of s.list) (sym are_file) ∙ all
+
+  is_file : IsFile c.bytes versions
+  is_file = subst (IsFile c.bytes) file_versions (accepted_without_verdict c.bytes no_verdict).1
+
+  loads_sorted : IsSorted key_cmp versions → HoldsSorted c.bytes (from_list {R = version_cmp} versions)
+  loads_sorted sorted = record { short = (accepted_without_verdict c.bytes no_verdict).0; versions = versions; file = is_file; sorted = sorted; members = refl }
+
+  sorted_loads : HoldsSorted c.bytes (from_list {R = version_cmp} versions) → IsSorted key_cmp versions
+  sorted_loads holds = subst (IsSorted key_cmp) (one_list c.bytes holds.versions versions holds.file is_file) holds.sorted
+
+  loads_all : (format : Format) (sorted : Bool) → format ≡ format_of c.bytes → IsTrue sorted ↔ IsSorted key_cmp versions → Loads c (record { history = from_list {R = version_cmp} versions; format = format; sorted = sorted })
+  loads_all format sorted tells is = record {
+    unbroken = ends;
+    holds = record { short = (accepted_without_verdict c.bytes no_verdict).0; versions = versions; file = is_file; members = refl };
+    format = tells;
+    sorted = (λ t. loads_sorted (is.0 t), λ h. is.1 (sorted_loads h));
+  }
+
+-- an input of which nothing was read
+abbrev pub fresh : ℕ → Option Coming → Position
+fresh input coming = record { input = input; place = 0; held = []; coming = coming; stand = None; ended = false; failed = false }
+
+module _ (input : ℕ) where
+  pub loads : (coming : Option Coming) (format : Format) (versions : List VersionData) (sorted : Bool) (loaded : Loaded) → IfSome (ahead (fresh input coming)) (λ c. format ≡ format_of c.bytes) → IsTrue sorted ↔ IsSorted key_cmp versions
+      → IfSome (still_to_come (fresh input coming)) (λ s. (s.refusal ≡ None) × (versions_of s.list ≡ versions)) → loaded ≡ record { history = from_list {R = version_cmp} versions; format = format; sorted = sorted } → IfSome coming (λ c. Loads c loaded)
+  loads None format versions sorted loaded tells is all gathered = tt
+  loads (Some c) format versions sorted loaded tells is all gathered = subst (Loads c) (sym gathered) (loads_all input c versions all.0 all.1 format sorted tells is)
+
+  pub stops : (coming : Option Coming) (fault : Fault) → (fault ≡ memory_fault) ⊎ IfSome (still_to_come (fresh input coming)) (λ s. s.refusal ≡ Some fault) → StopsLoading input coming fault
+  stops None fault h = ⊎_elim (λ e. inl e) (λ k. inr tt) h
+  stops (Some c) fault h = h

@@ -1,0 +1,284 @@
+-- What the calls of a reading do, step by step.
+use Rattle.std.proofs.Common.{◌≡◌, ◌⊎◌, inl, inr, ⊎_elim, ℕ, zero, suc, ◌+◌, ◌-◌, ◌≤◌, ◌<◌, ◌^◌, Bool, true, false, cond, List, [], ◌∷◌, ◌++◌, length, drop, refl, sym, ap, ◌∙◌, subst, arith, Option, Some, None, option_map, IfSome, is_some, Result, Ok, Err, slice_get, take, length-drop}
+use Rattle.std.proofs.lemmas.Bool.{false≢true}
+use Rattle.std.proofs.lemmas.List.{take_all}
+use Rattle.osm_model.specs.Data.{VersionData}
+use Rattle.osm_files.specs.declared.fault.Fault.{Fault}
+use Rattle.osm_files.specs.declared.reason.Reason.{Reason}
+use Rattle.osm_files.specs.declared.reason.Reason.TheVariants.{Memory}
+use Rattle.osm_files.specs.declared.unit.ReadUnit.{ReadUnit}
+use Rattle.osm_files.specs.declared.unit.Place.{Place}
+use Rattle.osm_files.specs.declared.reading.Advance.{Advance}
+use Rattle.osm_files.specs.declared.reading.Advance.TheVariants.{Passed, Gave, Ended}
+use Rattle.osm_files.specs.Fault.{memory_fault, failed_fault, fault_at}
+use Rattle.osm_files.specs.Input.{Coming}
+use Rattle.osm_files.specs.Stream.{Verdict, verdict_at, Placed, placed, Still, whole, refused, front}
+use Rattle.osm_files.specs.Source.{Step}
+use Rattle.osm_files.specs.Units.{Stand, InOpl, BeforeHeader, InSegment, BehindEnd, Found, FileUnit, unit, unit_at, last_at, found_then, units, start_of}
+use Rattle.osm_files.specs.Reading.{Finds, FindsLast, stand_of, without_stand}
+use Rattle.osm_files.specs.Position.{Position, ahead, stand_in, closing, window, units_from, fault_of, named, to_come, still_to_come, Keeps, GoesOn, Advances, stand_at, seen, given, FindsHeld, progress}
+use Rattle.osm_files.proofs.FillLaws.{weaker, mapped, keeps_on}
+use Rattle.osm_files.proofs.StepLaws.{unit_sized}
+use Rattle.osm_files.proofs.WholeLaws.{fault_is}
+use Rattle.osm_files.proofs.PositionLaws.{from_is, known, behind, same_stand, with_each, gone_over, gone_passed, gone_gave, gone_refused, none_in_nothing, at_the_end, goes_on}
+
+-- ---- the first byte
+seen_by : (p : Position) (P : Position → Type 0) → (is_some (slice_get p.held 0) ≡ true → P (record p { stand = Some (stand_at p) })) → (is_some (slice_get p.held 0) ≡ false → P p) → P (seen p)
+seen_by p P there not_there =
+    elim (is_some (slice_get p.held 0)) as (λ t. is_some (slice_get p.held 0) ≡ t → P (cond t (record p { stand = Some (stand_at p) }) p)) [ true ↦ there | false ↦ not_there ] refl
+
+none_held : (held : List ℕ) → is_some (slice_get held 0) ≡ false → held ≡ []
+none_held [] e = refl
+none_held (b ∷ held) e = absurd (false≢true (sym e))
+
+pub some_held : (held : List ℕ) → is_some (slice_get held 0) ≡ true → 0 < length held
+some_held [] e = absurd (false≢true e)
+some_held (b ∷ held) e = omega arith
+
+pub seen_held : (p : Position) → (seen p).held ≡ p.held
+seen_held p = seen_by p (λ q. q.held ≡ p.held) (λ e. refl) (λ e. refl)
+
+stand_is : (stand : Option Stand) (held : List ℕ) (s : Stand) → stand ≡ Some s → stand_in stand held ≡ s
+stand_is None held s e = absurd (let f : None ≡ Some s = e in cc)
+stand_is (Some t) held s e = cc
+
+seen_stand : (p : Position) (s : Stand) → (seen p).stand ≡ Some s → stand_at p ≡ s
+seen_stand p s = seen_by p (λ q. q.stand ≡ Some s → stand_at p ≡ s) (λ e f. (let g : Some (stand_at p) ≡ Some s = f in cc)) (λ e f. stand_is p.stand p.held s f)
+
+pub seen_none : (p : Position) → (seen p).stand ≡ None → p.held ≡ []
+seen_none p = seen_by p (λ q. q.stand ≡ None → p.held ≡ []) (λ e f. absurd (let g : Some (stand_at p) ≡ None = f in cc)) (λ e f. none_held p.held e)
+
+seen_stands : (p : Position) (s : Stand) → record (seen p) { stand = Some s } ≡ record p { stand = Some s }
+seen_stands p s = seen_by p (λ q. record q { stand = Some s } ≡ record p { stand = Some s }) (λ e. refl) (λ e. refl)
+
+stands_there : (p : Position) (s : Stand) → is_some (slice_get p.held 0) ≡ true → stand_at p ≡ s → GoesOn p (record p { stand = Some s })
+stands_there p s e is = record {
+  input = refl;
+  place = omega arith;
+  failed = refl;
+  keeps =
+      mapped (ahead p) _ (λ x. to_come (record p { stand = Some s }) ≡ Some x) (with_each (ahead p) _ (λ c at. (
+      let b = behind p c at in
+      let in_there : stand_in p.stand c.bytes ≡ s = ap (λ (d : Coming). stand_in p.stand d.bytes) b.here ∙ same_stand p.stand p.held b.more (some_held p.held e) ∙ is in
+      let same : units_from (Some s) p.place c ≡ units_from p.stand p.place c =
+      from_is (Some s) p.place c ∙ ap (λ x. units (closing p.place c) x p.place (window p.place c)) (sym in_there) ∙ sym (from_is p.stand p.place c) in
+      ap (option_map (λ x. named p.input (units_from (Some s) p.place x))) at ∙ ap (λ x. Some (named p.input x)) same)));
+}
+
+pub seen_goes_on : (p : Position) → GoesOn p (seen p)
+seen_goes_on p = seen_by p (GoesOn p) (λ e. stands_there p (stand_at p) e refl) (λ e. goes_on p)
+
+-- ---- the unit at the front of the bytes held
+pub nothing_held : (p m : Position) → m ≡ seen p → m.stand ≡ None → FindsHeld p (Ok None) m
+nothing_held p m is none =
+    let empty : p.held ≡ [] = seen_none p (ap (λ q. q.stand) (sym is) ∙ none) in
+    (ap (unit_at (stand_at p)) empty ∙ none_in_nothing (stand_at p), is)
+
+abbrev pub answers : Option ReadUnit → Result (Option ReadUnit) Reason
+answers unit = Ok unit
+
+-- the bytes behind a place
+pub behind_place : (n : ℕ) (bytes items : List ℕ) → bytes ≡ items → take (length bytes - n) (drop n bytes) ≡ drop n items
+behind_place n bytes items is = take_all (length bytes - n) (drop n bytes) (omega (arith, length-drop n bytes)) ∙ ap (drop n) is
+
+module _ (p m : Position) (at : Place) (bytes : List ℕ) (is : m ≡ seen p) (stands : m.stand ≡ Some (stand_of at)) (held : bytes ≡ m.held) where
+  there : stand_at p ≡ stand_of at
+  there = seen_stand p (stand_of at) (ap (λ q. q.stand) (sym is) ∙ stands)
+
+  same_unit : unit_at (stand_of at) bytes ≡ unit_at (stand_at p) p.held
+  same_unit = (λ i. unit_at (sym there i) ((held ∙ ap (λ q. q.held) is ∙ seen_held p) i))
+
+  pub found_held : (answer : Option ReadUnit) (next : Stand) → Finds (unit_at (stand_of at) bytes) (Ok answer) next → (answers answer ≡ answers None → next ≡ stand_of at) → FindsHeld p (Ok answer) (record m { stand = Some next })
+  found_held None next h unmoved = (sym same_unit ∙ h, (λ i. record m { stand = Some (unmoved refl i) }) ∙ (λ i. record m { stand = sym stands i }) ∙ is)
+  found_held (Some u) next h unmoved = (next, sym same_unit ∙ h, (λ i. record (is i) { stand = Some next }) ∙ seen_stands p next)
+
+  pub refused_held : (reason : Reason) (next : Stand) (q : Position) → Finds (unit_at (stand_of at) bytes) (Err reason) next → FindsHeld p (Err reason) q
+  refused_held reason next q (inl e) = inl e
+  refused_held reason next q (inr h) = inr (h.0, sym same_unit ∙ h.1)
+
+pub some_found : (m q : Position) (u : ReadUnit) (answer : Option ReadUnit) → answer ≡ Some u → FindsHeld m (Ok answer) q → FindsHeld m (Ok (Some u)) q
+some_found m q u answer is h = subst (λ (o : Option ReadUnit). FindsHeld m (Ok o) q) is h
+
+pub none_found : (m q : Position) (answer : Option ReadUnit) → answer ≡ None → FindsHeld m (Ok answer) q → FindsHeld m (Ok None) q
+none_found m q answer is h = subst (λ (o : Option ReadUnit). FindsHeld m (Ok o) q) is h
+
+seen_stand_at : (p : Position) → stand_at (seen p) ≡ stand_at p
+seen_stand_at p = seen_by p (λ q. stand_at q ≡ stand_at p) (λ e. refl) (λ e. refl)
+
+module _ (m q : Position) (h : FindsHeld m (Ok None) q) where
+  pub none_goes_on : GoesOn m q
+  none_goes_on = subst (λ (x : Position). GoesOn m x) (sym h.1) (seen_goes_on m)
+
+  pub none_there : unit_at (stand_at q) q.held ≡ None
+  none_there = (λ i. unit_at (stand_at (h.1 i)) ((h.1 i).held)) ∙ (λ i. unit_at (seen_stand_at m i) (seen_held m i)) ∙ h.0
+
+  pub none_known : q.stand ≡ None → q.held ≡ []
+  none_known e = ap (λ x. x.held) h.1 ∙ seen_held m ∙ seen_none m (ap (λ x. x.stand) (sym h.1) ∙ e)
+
+-- ---- one unit further
+-- a fault of this reason, where what was to come was refused for it
+pub refuses : (m : Position) (reason : Reason) (fault : Fault) → fault ≡ fault_at m.input m.place reason → (reason ≡ Memory) ⊎ IfSome (to_come m) (λ s. s ≡ refused (fault_of m.input (verdict_at m.place reason))) → (fault ≡ memory_fault) ⊎ IfSome (to_come m) (λ s. s ≡ refused fault)
+refuses m reason fault is (inl e) = inl (is ∙ ap (fault_at m.input m.place) e)
+refuses m reason fault is (inr h) =
+    ⊎_elim (λ k. inl (is ∙ k)) (λ k. inr (weaker (to_come m) _ _ (λ s e. e ∙ ap refused (sym (is ∙ k))) h)) (fault_is m.input m.place reason)
+
+pub held_refuses : (m q : Position) (reason : Reason) (fault : Fault) → m.place + length m.held < 2 ^ 62 → FindsHeld m (Err reason) q → fault ≡ fault_at m.input m.place reason → (fault ≡ memory_fault) ⊎ IfSome (to_come m) (λ s. s ≡ refused fault)
+held_refuses m q reason fault bound (inl e) is = refuses m reason fault is (inl e)
+held_refuses m q reason fault bound (inr h) is = refuses m reason fault is (inr (gone_refused m (unit h.0 (Err reason)) h.1 bound reason refl))
+
+goes_over : (m : Position) (size : ℕ) (version : Option VersionData) (next : Stand) → unit_at (stand_at m) m.held ≡ Some (unit size (Ok (version, next))) → m.place + length m.held < 2 ^ 62 → Advances m (Ok (given m.place version)) (gone_over m size next)
+goes_over m size None next e bound = gone_passed m (unit size (Ok (None, next))) e bound next refl
+goes_over m size (Some v) next e bound = gone_gave m (unit size (Ok (Some v, next))) e bound v next refl
+
+pub held_advances : (m q r : Position) (u : ReadUnit) (advance : Advance) → m.place + length m.held < 2 ^ 62 → FindsHeld m (Ok (Some u)) q → advance ≡ given q.place u.version
+    → r ≡ record q { place = q.place + u.size; held = drop u.size q.held } → Advances m (Ok advance) r
+held_advances m q r u advance bound h is gone =
+    let same : r ≡ gone_over m u.size h.0 = gone ∙ (λ i. record (h.2 i) { place = (h.2 i).place + u.size; held = drop u.size (h.2 i).held }) in
+    subst (λ (x : Position). Advances m (Ok advance) x) (sym same) (subst (λ (a : Advance). Advances m (Ok a) (gone_over m u.size h.0)) (sym (is ∙ ap (λ (x : Position). given x.place u.version) h.2)) (goes_over m u.size u.version h.0 h.1 bound))
+
+pub held_size : (m q : Position) (u : ReadUnit) → FindsHeld m (Ok (Some u)) q → (1 ≤ u.size) × (u.size ≤ length q.held) × (q.place ≡ m.place) × (q.input ≡ m.input) × (q.failed ≡ m.failed)
+held_size m q u h =
+    let sized = unit_sized (stand_at m) m.held (unit u.size (Ok (u.version, h.0))) h.1 in
+    (sized.some, subst (λ (x : Position). u.size ≤ length x.held) (sym h.2) sized.within, ap (λ x. x.place) h.2, ap (λ x. x.input) h.2, ap (λ x. x.failed) h.2)
+
+progress_given : (place size : ℕ) (version : Option VersionData) → 1 ≤ size → progress (given place version) ≤ size
+progress_given place size None some = some
+progress_given place size (Some v) some = some
+
+pub held_progress : (p m q r : Position) (u : ReadUnit) (advance : Advance) → GoesOn p m → FindsHeld m (Ok (Some u)) q → advance ≡ given q.place u.version
+    → r ≡ record q { place = q.place + u.size; held = drop u.size q.held } → p.place + progress advance ≤ r.place
+held_progress p m q r u advance on h is gone =
+    let size = held_size m q u h in
+    let few : progress advance ≤ u.size = subst (λ (a : Advance). progress a ≤ u.size) (sym is) (progress_given q.place u.size u.version size.0) in
+    omega (arith, on.place, size.2, ap (λ x. x.place) gone, few)
+
+-- what a step did after steps that gave nothing
+module _ (p m q : Position) (on : GoesOn p m) where
+  pub stops_from : (fault : Fault) → (fault ≡ memory_fault) ⊎ IfSome (to_come m) (λ s. s ≡ refused fault) → (fault ≡ memory_fault) ⊎ IfSome (to_come p) (λ s. s ≡ refused fault)
+  stops_from fault (inl e) = inl e
+  stops_from fault (inr h) = inr (weaker (to_come p) _ _ (λ s e. known (to_come m) (λ x. x ≡ refused fault) s e h) on.keeps)
+
+  pub advances_from : (advance : Advance) → Advances m (Ok advance) q → Advances p (Ok advance) q
+  advances_from Passed h = keeps_on (to_come p) (to_come m) (to_come q) on.keeps h
+  advances_from (Gave u) h = weaker (to_come p) _ _ (λ s e. known (to_come m) (λ x. (t : Still Placed Fault) × (x ≡ front u t) × (to_come q ≡ Some t)) s e h) on.keeps
+  advances_from Ended h = (weaker (to_come p) _ _ (λ s e. known (to_come m) (λ x. x ≡ whole) s e h.0) on.keeps, h.1)
+
+  pub answers_from : (answer : Result Advance Fault) → Advances m answer q → Advances p answer q
+  answers_from (Ok advance) h = advances_from advance h
+  answers_from (Err fault) h = stops_from fault h
+
+-- ---- the last bytes of an ended input
+last_nothing : (stand : Stand) (bytes : List ℕ) (version : Option VersionData) → without_stand (last_at stand bytes) ≡ Ok version → without_stand (last_at stand []) ≡ Ok None
+unfolding last_at
+last_nothing InOpl bytes version e = refl
+last_nothing BeforeHeader bytes version e = cc
+last_nothing (InSegment s) bytes version e = cc
+last_nothing BehindEnd bytes version e = refl
+
+opl_nothing : without_stand (last_at InOpl []) ≡ Ok None
+unfolding last_at
+opl_nothing = refl
+
+stand_nothing : (stand : Option Stand) (held : List ℕ) (version : Option VersionData) → without_stand (last_at (stand_in stand held) held) ≡ Ok version → without_stand (last_at (stand_in stand []) []) ≡ Ok None
+stand_nothing None held version e = opl_nothing
+stand_nothing (Some s) held version e = last_nothing s held version e
+
+-- what is found by its version alone
+found_by : (place : ℕ) (found : Found) (version : Option VersionData) → without_stand found ≡ Ok version → found_then place found (λ next. whole) ≡ found_then place (Ok (version, InOpl)) (λ next. whole)
+found_by place (Ok (None, next)) version e = let f : None ≡ version = cc in ap (λ v. found_then place (Ok (v, InOpl)) (λ next. whole)) f
+found_by place (Ok (Some v, next)) version e = let f : Some v ≡ version = cc in ap (λ w. found_then place (Ok (w, InOpl)) (λ next. whole)) f
+found_by place (Err reason) version e = absurd (let f : Err reason ≡ Ok version = e in cc)
+
+refused_by : (place : ℕ) (found : Found) (reason : Reason) → without_stand found ≡ Err reason → found_then place found (λ next. whole) ≡ refused (verdict_at place reason)
+refused_by place (Ok found) reason e = absurd (let f : Ok found.0 ≡ Err reason = e in cc)
+refused_by place (Err other) reason e = let f : other ≡ reason = cc in ap (λ r. refused (verdict_at place r)) f
+
+nil_of : (xs : List ℕ) → length xs ≡ 0 → xs ≡ []
+nil_of [] e = refl
+nil_of (x ∷ xs) e = absurd (omega (arith, e))
+
+drop_all : (xs : List ℕ) → drop (length xs) xs ≡ []
+drop_all [] = refl
+drop_all (x ∷ xs) = drop_all xs
+
+module _ (m : Position) (nothing : unit_at (stand_at m) m.held ≡ None) (bound : m.place + length m.held < 2 ^ 62) (ended : m.ended ≡ true) where
+  abbrev last_found : Found
+  last_found = last_at (stand_at m) m.held
+
+  comes : (version : Option VersionData) → without_stand last_found ≡ Ok version → to_come m ≡ Some (named m.input (found_then m.place (Ok (version, InOpl)) (λ next. whole)))
+  comes version e = at_the_end m nothing bound ended ∙ ap (λ s. Some (named m.input s)) (found_by m.place last_found version e)
+
+  pub last_ended : (version : Option VersionData) → FindsLast last_found (Ok version) → length m.held ≡ 0 → Advances m (Ok Ended) m
+  last_ended version e empty =
+      let is_nil : m.held ≡ [] = nil_of m.held empty in
+      let none : without_stand last_found ≡ Ok None = (λ i. without_stand (last_at (stand_in m.stand (is_nil i)) (is_nil i))) ∙ stand_nothing m.stand m.held version e in
+      let at : to_come m ≡ Some whole = comes None none in
+      (subst (λ (o : Option (Still Placed Fault)). IfSome o (λ s. s ≡ whole)) (sym at) refl, at)
+
+  -- behind them nothing is to come
+  abbrev behind_last : Position
+  behind_last = record m { place = m.place + length m.held; held = drop (length m.held) m.held }
+
+  no_more : (version : Option VersionData) → without_stand last_found ≡ Ok version → to_come behind_last ≡ Some whole
+  no_more version e =
+      let q : Position = record m { place = m.place + length m.held; held = [] } in
+      let same : behind_last ≡ q = (λ i. record m { place = m.place + length m.held; held = drop_all m.held i }) in
+      let found : without_stand (last_at (stand_at q) []) ≡ Ok None = stand_nothing m.stand m.held version e in
+      ap to_come same ∙ at_the_end q (none_in_nothing (stand_at q)) (omega (arith, bound)) ended ∙ ap (λ s. Some (named m.input s)) (found_by q.place (last_at (stand_at q) []) None found)
+
+  given_last : (version : Option VersionData) → without_stand last_found ≡ Ok version → Advances m (Ok (given m.place version)) behind_last
+  given_last None e =
+      subst (λ (o : Option (Still Placed Fault)). Keeps o (to_come behind_last)) (sym (comes None e)) (no_more None e)
+  given_last (Some v) e =
+      subst (λ (o : Option (Still Placed Fault)). IfSome o (λ s. (t : Still Placed Fault) × (s ≡ front (placed m.place v) t) × (to_come behind_last ≡ Some t))) (sym (comes (Some v) e)) (whole, refl, no_more (Some v) e)
+
+  pub last_advances : (version : Option VersionData) (size : ℕ) (advance : Advance) (q : Position) → FindsLast last_found (Ok version) → size ≡ length m.held → advance ≡ given m.place version
+      → q ≡ record m { place = m.place + size; held = drop size m.held } → Advances m (Ok advance) q
+  last_advances version size advance q e long is gone =
+      let same : q ≡ behind_last = gone ∙ (λ i. record m { place = m.place + long i; held = drop (long i) m.held }) in
+      subst (λ (x : Position). Advances m (Ok advance) x) (sym same) (subst (λ (a : Advance). Advances m (Ok a) behind_last) (sym is) (given_last version e))
+
+  pub last_refuses : (reason : Reason) (fault : Fault) → FindsLast last_found (Err reason) → fault ≡ fault_at m.input m.place reason → (fault ≡ memory_fault) ⊎ IfSome (to_come m) (λ s. s ≡ refused fault)
+  last_refuses reason fault (inl e) is = refuses m reason fault is (inl e)
+  last_refuses reason fault (inr e) is =
+      let at : to_come m ≡ Some (refused (fault_of m.input (verdict_at m.place reason))) = at_the_end m nothing bound ended ∙ ap (λ s. Some (named m.input s)) (refused_by m.place last_found reason e) in
+      refuses m reason fault is (inr (subst (λ (o : Option (Still Placed Fault)). IfSome o (λ s. s ≡ refused (fault_of m.input (verdict_at m.place reason)))) (sym at) refl))
+
+-- ---- the next version
+come_still : (p : Position) → p.failed ≡ false → still_to_come p ≡ to_come p
+come_still p fine = ap (λ b. cond b (Some (refused (failed_fault p.input))) (to_come p)) fine
+
+come_failed : (p : Position) → p.failed ≡ true → still_to_come p ≡ Some (refused (failed_fault p.input))
+come_failed p bad = ap (λ b. cond b (Some (refused (failed_fault p.input))) (to_come p)) bad
+
+module _ (p m q : Position) (on : GoesOn p m) (fine : p.failed ≡ false) where
+  before_is : (r : Result (Option Placed) Fault) (after : Option (Still Placed Fault)) → Step (to_come p) r after → Step (still_to_come p) r after
+  before_is r after = subst (λ (o : Option (Still Placed Fault)). Step o r after) (sym (come_still p fine))
+
+  pub gave_next : (u : Placed) → Advances m (Ok (Gave u)) q → q.failed ≡ m.failed → Step (still_to_come p) (Ok (Some u)) (still_to_come q)
+  gave_next u h same =
+      before_is (Ok (Some u)) (still_to_come q) (subst (λ (o : Option (Still Placed Fault)). Step (to_come p) (Ok (Some u)) o) (sym (come_still q (same ∙ on.failed ∙ fine))) (advances_from p m q on (Gave u) h))
+
+  pub ended_next : Advances m (Ok Ended) q → q.failed ≡ m.failed → Step {A = Placed} (still_to_come p) (Ok None) (still_to_come q)
+  ended_next h same =
+      before_is (Ok None) (still_to_come q) (subst (λ (o : Option (Still Placed Fault)). Step {A = Placed} (to_come p) (Ok None) o) (sym (come_still q (same ∙ on.failed ∙ fine))) (advances_from p m q on Ended h))
+
+  pub failed_next : (fault : Fault) → Advances m (Err fault) q → Step {A = Placed} (still_to_come p) (Err fault) (still_to_come (record q { failed = true }))
+  failed_next fault h =
+      before_is (Err fault) (still_to_come (record q { failed = true })) (stops_from p m q on fault h, (q.input, come_failed (record q { failed = true }) refl))
+
+  pub passed_next : Advances m (Ok Passed) q → q.failed ≡ m.failed → q.input ≡ m.input → m.place ≤ q.place → GoesOn p q
+  passed_next h same input further = record {
+    input = input ∙ on.input;
+    place = omega (arith, on.place, further);
+    failed = same ∙ on.failed;
+    keeps = advances_from p m q on Passed h;
+  }
+
+pub failed_already : (p : Position) (fault : Fault) → p.failed ≡ true → fault ≡ failed_fault p.input → Step {A = Placed} (still_to_come p) (Err fault) (still_to_come p)
+failed_already p fault bad is =
+    (inr (subst (λ (o : Option (Still Placed Fault)). IfSome o (λ s. s ≡ refused fault)) (sym (come_failed p bad)) (ap refused (sym is))), (p.input, come_failed p bad))
+
+-- before the first byte nothing is held
+pub nothing_read : (p : Position) → p.stand ≡ None → p.held ≡ [] → without_stand (last_at (stand_at p) p.held) ≡ Ok None
+nothing_read p none empty = (λ i. without_stand (last_at (stand_in (none i) (empty i)) (empty i))) ∙ opl_nothing

@@ -1,0 +1,244 @@
+-- What groups give ascends, whatever was known before.
+use Rattle.std.proofs.Common.{◌≡◌, ℕ, Bool, true, false, ◌||◌, List, [], ◌∷◌, ◌++◌, refl, ap, sym, ◌∙◌, subst, Option, Some, None, option_map, option_to_list, IfSome, IfOk, IfErr, OnOk, Result, Ok, Err}
+use Rattle.std.proofs.lemmas.Bool.{false≢true}
+use Rattle.std.proofs.lemmas.List.{append-nil}
+use Rattle.std.specs.declared.cmp.Ordering.{Ordering}
+use Rattle.std.specs.declared.cmp.Ordering.TheVariants.{Less, Equal, Greater}
+use Rattle.std.specs.Cmp.{tied_itself}
+use Rattle.std.specs.Ordering.{eq_by_cmp, is_eq, is_lt, ordering_reverse, ordering_then}
+use Rattle.std.specs.List.{AllByRecursion}
+use Rattle.std.specs.List.Sorted.{IsStrictlySortedBy}
+use Rattle.osm_model.specs.Data.{VersionData}
+use Rattle.osm_model.specs.Order.{key_cmp, key_cmp_total, version_cmp, version_cmp_total}
+use Rattle.osm_model.specs.Sets.{from_list}
+use Rattle.osm_model.proofs.SetLaws.{strict-listed, listed-from_list}
+use Rattle.osm_model.proofs.VersionLaws.{version_cmp-IsAntisymmetric}
+use Rattle.osm_files.specs.declared.fault.Fault.{Fault}
+use Rattle.osm_files.specs.Fault.{memory_fault, failed_fault}
+use Rattle.osm_files.specs.Groups.{ascending, last_group, groups, sorted_source, gathered, IsGroup, Gathers, StillSet, as_set, still_given}
+use Rattle.osm_files.specs.Input.{Coming}
+use Rattle.osm_files.specs.Position.{Position, named, units_from, still_to_come}
+use Rattle.osm_files.specs.Source.{Ascends, Step}
+use Rattle.osm_files.specs.Stream.{Placed, Still, whole, refused}
+use Rattle.osm_files.proofs.GroupLaws.{has, has_ascending, ascending_is, ascending_nil}
+
+-- ---- keys
+less_first : (o p : Ordering) → o ≡ Less → ordering_then o p ≡ Less
+less_first o p e = ap (λ r. ordering_then r p) e
+
+pub less_by_key : (v w : VersionData) → key_cmp v w ≡ Less → version_cmp v w ≡ Less
+less_by_key v w e = less_first _ _ (less_first _ _ (less_first _ _ e))
+
+-- the same key on the right
+less_on : (v first w : VersionData) → key_cmp v first ≡ Less → key_cmp first w ≡ Equal → key_cmp v w ≡ Less
+less_on v first w less same =
+    let o = key_cmp_total in
+    o.antisymm v w ∙ ap ordering_reverse (sym (o.congr first w v same) ∙ o.antisymm first v ∙ ap ordering_reverse less)
+
+-- the same key on the left
+less_from : (first v w : VersionData) → key_cmp first w ≡ Less → key_cmp first v ≡ Equal → key_cmp v w ≡ Less
+less_from first v w less same = let o = key_cmp_total in sym (o.congr first v w same) ∙ less
+
+-- ---- lists
+all_weaker : (P Q : VersionData → Type 0) (versions : List VersionData) → ((v : VersionData) → P v → Q v) → AllByRecursion P versions → AllByRecursion Q versions
+all_weaker P Q [] f h = tt
+all_weaker P Q (v ∷ versions) f h = (f v h.0, all_weaker P Q versions f h.1)
+
+all_append : (P : VersionData → Type 0) (versions others : List VersionData) → AllByRecursion P versions → AllByRecursion P others → AllByRecursion P (versions ++ others)
+all_append P [] others h k = k
+all_append P (v ∷ versions) others h k = (h.0, all_append P versions others h.1 k)
+
+or_left : (a b : Bool) → a ≡ true → a || b ≡ true
+or_left a b h = ap (λ x. x || b) h
+
+or_right : (a b : Bool) → b ≡ true → a || b ≡ true
+or_right true b h = refl
+or_right false b h = h
+
+tied_is : (o : Ordering) → is_eq o ≡ true → o ≡ Equal
+tied_is Less h = absurd (false≢true h)
+tied_is Equal h = refl
+tied_is Greater h = absurd (false≢true h)
+
+all_members : (P : VersionData → Type 0) (versions : List VersionData) → ((v : VersionData) → has v versions ≡ true → P v) → AllByRecursion P versions
+all_members P [] f = tt
+all_members P (v ∷ versions) f =
+    (f v (or_left _ _ (ap is_eq (tied_itself version_cmp_total v))), all_members P versions (λ w h. f w (or_right (eq_by_cmp version_cmp w v) _ h)))
+
+member : (P : VersionData → Type 0) (versions : List VersionData) → AllByRecursion P versions → (w : VersionData) → has w versions ≡ true → P w
+member P [] h w e = absurd (false≢true e)
+member P (v ∷ versions) h w e =
+    elim (eq_by_cmp version_cmp w v) as (λ t. eq_by_cmp version_cmp w v ≡ t → t || has w versions ≡ true → P w) [
+      | true ↦ λ k l. subst P (sym (version_cmp-IsAntisymmetric w v (tied_is (version_cmp w v) k))) h.0
+      | false ↦ λ k l. member P versions h.1 w l
+    ] refl e
+
+-- what is said of each version of a group is said of each that is given of it
+all_ascending : (P : VersionData → Type 0) (versions : List VersionData) → AllByRecursion P versions → AllByRecursion P (ascending versions)
+all_ascending P versions h = all_members P (ascending versions) (λ v e. member P versions h v (sym (has_ascending v versions) ∙ e))
+
+ascending_rises : (versions : List VersionData) → IsStrictlySortedBy version_cmp (ascending versions)
+ascending_rises versions = subst (IsStrictlySortedBy version_cmp) (sym (ascending_is versions)) (strict-listed (from_list {R = version_cmp} versions))
+
+nothing_rises : IsStrictlySortedBy version_cmp []
+unfolding IsStrictlySortedBy
+nothing_rises = tt
+
+strict_append : (versions others : List VersionData) → IsStrictlySortedBy version_cmp versions → IsStrictlySortedBy version_cmp others → AllByRecursion (λ v. AllByRecursion (λ w. version_cmp v w ≡ Less) others) versions
+    → IsStrictlySortedBy version_cmp (versions ++ others)
+unfolding IsStrictlySortedBy
+strict_append [] others h k below = k
+strict_append (v ∷ versions) others h k below = (all_append _ versions others h.0 below.0, strict_append versions others h.1 k below.1)
+
+pub strict_rest : (v : VersionData) (versions : List VersionData) → IsStrictlySortedBy version_cmp (v ∷ versions) → IsStrictlySortedBy version_cmp versions
+unfolding IsStrictlySortedBy
+strict_rest v versions h = h.1
+
+-- ---- groups
+-- each has a key above
+abbrev Above : VersionData → List VersionData → Type 0
+Above v versions = AllByRecursion (λ w. key_cmp v w ≡ Less) versions
+
+-- what comes behind a group of the key of this version: it ascends, and is above what the version is above
+record Rises (first : VersionData) (versions : List VersionData) : Type 0 where
+  strict : IsStrictlySortedBy version_cmp versions
+  above : (v : VersionData) → key_cmp v first ≡ Less → Above v versions
+
+group_above : (first v : VersionData) (others : List VersionData) → key_cmp v first ≡ Less → IsGroup first others → Above v (ascending (first ∷ others))
+group_above first v others less group = all_ascending (λ w. key_cmp v w ≡ Less) (first ∷ others) (less, all_weaker _ _ others (λ w same. less_on v first w less same) group)
+
+of_group : (first : VersionData) (others : List VersionData) → IsGroup first others → AllByRecursion (λ v. key_cmp first v ≡ Equal) (ascending (first ∷ others))
+of_group first others group = all_ascending (λ v. key_cmp first v ≡ Equal) (first ∷ others) (tied_itself key_cmp_total first, group)
+
+-- a group, and what is above it
+group_then : (first next : VersionData) (others versions : List VersionData) → IsGroup first others → key_cmp first next ≡ Less → Rises next versions → Rises first (ascending (first ∷ others) ++ versions)
+group_then first next others versions group less rest = record {
+  strict =
+      strict_append (ascending (first ∷ others)) versions (ascending_rises (first ∷ others)) rest.strict
+      (all_weaker _ _ (ascending (first ∷ others)) (λ v same. all_weaker _ _ versions (λ w e. less_by_key v w e) (rest.above v (less_from first v next less same))) (of_group first others group));
+  above =
+      λ v e. all_append (λ w. key_cmp v w ≡ Less) (ascending (first ∷ others)) versions (group_above first v others e group) (rest.above v (key_cmp_total.trans v first next e less));
+}
+
+last_rises : (close : Option Fault) (first : VersionData) (others : List VersionData) → IsGroup first others → Rises first (last_group close (first ∷ others)).list
+last_rises None first others group = record { strict = ascending_rises (first ∷ others); above = λ v e. group_above first v others e group }
+last_rises (Some fault) first others group = record { strict = nothing_rises; above = λ v e. tt }
+
+group_on : (first : VersionData) (others : List VersionData) (v : VersionData) → IsGroup first others → key_cmp first v ≡ Equal → IsGroup first (others ++ v ∷ [])
+group_on first others v group same = all_append (λ w. key_cmp first w ≡ Equal) others (v ∷ []) group (same, tt)
+
+module _ (input : ℕ) (close : Option Fault) where
+  abbrev Gives : List Placed → VersionData → List VersionData → Ordering → Type 0
+  Gives us first others o = (u : Placed) → key_cmp first u.version ≡ o → Rises first (groups input close (u ∷ us) (first ∷ others)).list
+
+  rises : (us : List Placed) (first : VersionData) (others : List VersionData) → IsGroup first others → Rises first (groups input close us (first ∷ others)).list
+  rises [] first others group = last_rises close first others group
+  rises (u ∷ us) first others group =
+      elim (key_cmp first u.version) as (λ o. key_cmp first u.version ≡ o → Rises first (groups input close (u ∷ us) (first ∷ others)).list) [
+        | Less ↦ λ e. rw e (group_then first u.version others (groups input close us (u.version ∷ [])).list group e (rises us u.version [] tt))
+        | Equal ↦ λ e. rw e (rises us first (others ++ u.version ∷ []) (group_on first others u.version group e))
+        | Greater ↦ λ e. rw e (record { strict = nothing_rises; above = λ v less. tt })
+      ] refl
+
+end_rises : (close : Option Fault) → IsStrictlySortedBy version_cmp (last_group close []).list
+end_rises None = ascending_rises []
+end_rises (Some fault) = nothing_rises
+
+pub groups_rise : (input : ℕ) (close : Option Fault) (us : List Placed) → IsStrictlySortedBy version_cmp (groups input close us []).list
+groups_rise input close [] = end_rises close
+groups_rise input close (u ∷ us) = (rises input close us u.version [] tt).strict
+
+-- ---- what a source gives
+module _ (input : ℕ) (first : VersionData) (others : List VersionData) (group : IsGroup first others) where
+  next_rises : (after : Option (Still Placed Fault)) (v : VersionData) → key_cmp first v ≡ Less → IfSome (gathered input after (v ∷ []) (ascending (first ∷ others))) Ascends
+  next_rises None v less = tt
+  next_rises (Some s) v less = (group_then first v others (groups input s.refusal s.list (v ∷ [])).list group less (rises input s.refusal s.list v [] tt)).strict
+
+  end_given : IsStrictlySortedBy version_cmp (ascending (first ∷ others) ++ ascending [])
+  end_given = rw (ascending_nil, append-nil (ascending (first ∷ others))) (ascending_rises (first ∷ others))
+
+less_is : (o : Ordering) → is_lt o ≡ true → o ≡ Less
+less_is Less h = refl
+less_is Equal h = absurd (false≢true h)
+less_is Greater h = absurd (false≢true h)
+
+-- groups rise behind a group of one key, also where nothing was known before
+pub gathers_rise : (input : ℕ) (before after : Option (Still Placed Fault)) (first : VersionData) (others : List VersionData) (next : Option VersionData) → Gathers input before after first others next
+    → IfSome (gathered input after (option_to_list next) (ascending (first ∷ others))) Ascends
+gathers_rise input before after first others None h =
+    let P : Option (Still Placed Fault) → Type 0 = λ o. IfSome (gathered input o [] (ascending (first ∷ others))) Ascends in
+    subst P (sym (h.end refl)) (end_given input first others h.group)
+gathers_rise input before after first others (Some v) h = next_rises input first others h.group after v (less_is (key_cmp first v) h.above)
+
+pub ready_rises : (input : ℕ) (units : Option (Still Placed Fault)) (group ready : List VersionData) (v : VersionData) → IfSome (gathered input units group (v ∷ ready)) Ascends → IfSome (gathered input units group ready) Ascends
+ready_rises input None group ready v h = tt
+ready_rises input (Some s) group ready v h = strict_rest v (ready ++ (groups input s.refusal s.list group).list) h
+
+pub refused_rises : (input : ℕ) (units : Option (Still Placed Fault)) (group : List VersionData) (fault : Fault) → units ≡ Some (refused fault) → IfSome (gathered input units group []) Ascends
+refused_rises input units group fault e = let P : Option (Still Placed Fault) → Type 0 = λ o. IfSome (gathered input o group []) Ascends in subst P (sym e) nothing_rises
+
+pub ended_rises : (input : ℕ) (units : Option (Still Placed Fault)) → units ≡ Some whole → IfSome (gathered input units [] []) Ascends
+ended_rises input units e = let P : Option (Still Placed Fault) → Type 0 = λ o. IfSome (gathered input o [] []) Ascends in subst P (sym e) (ascending_rises [])
+
+pub whole_rises : (known : Option (Still VersionData Fault)) → known ≡ Some whole → IfSome known Ascends
+whole_rises known e = let P : Option (Still VersionData Fault) → Type 0 = λ o. IfSome o Ascends in subst P (sym e) nothing_rises
+
+-- where the first of a group was given
+module _ (input : ℕ) (before : Option (Still Placed Fault)) (p q : Position) (first : VersionData) (others : List VersionData) (next : Option VersionData) (h : Gathers input before (still_to_come p) first others next) where
+  Rising : List VersionData → Type 0
+  Rising ready = IfSome (gathered input (still_to_come q) (option_to_list next) ready) Ascends
+
+  all_rises : q ≡ p → Rising (ascending (first ∷ others))
+  unfolding Rising
+  all_rises same = let P : Position → Type 0 = λ x. IfSome (gathered input (still_to_come x) (option_to_list next) (ascending (first ∷ others))) Ascends in subst P (sym same) (gathers_rise input before (still_to_come p) first others next h)
+
+  pub given_rises : (ready : List VersionData) (r : Result (Option VersionData) Fault) → OnOk r (q ≡ p) → IfOk r (λ given. ascending (first ∷ others) ≡ option_to_list given ++ ready) → IfErr r (λ fault. (fault ≡ memory_fault) × (q ≡ record p { failed = true }) × (ready ≡ []))
+      → IfSome (gathered input (still_to_come q) (option_to_list next) ready) Ascends
+  unfolding Rising
+  given_rises ready (Ok None) same given bad = subst Rising given (all_rises same)
+  given_rises ready (Ok (Some v)) same given bad = ready_rises input (still_to_come q) (option_to_list next) ready v (subst Rising given (all_rises same))
+  given_rises ready (Err fault) same given (memory, failed, none) = subst Rising (sym none) (refused_rises input (still_to_come q) (option_to_list next) (failed_fault p.input) (ap still_to_come failed))
+
+-- a list that ascends is that of its set
+pub told_as_set : (known : Option (Still VersionData Fault)) → IfSome known Ascends → still_given (option_map as_set known) ≡ known
+told_as_set None h = refl
+told_as_set (Some s) h =
+    ap (λ vs. let t : Still VersionData Fault = record { list = vs; refusal = s.refusal } in Some t) (listed-from_list version_cmp_total version_cmp-IsAntisymmetric s.list h)
+
+-- ---- at the begin of an input
+pub source_is : (input : ℕ) (c : Coming) → sorted_source input c ≡ (let units = named input (units_from None 0 c) in groups input units.refusal units.list [])
+unfolding sorted_source
+source_is input c = refl
+
+pub source_rises : (input : ℕ) (c : Coming) → Ascends (sorted_source input c)
+source_rises input c =
+    subst Ascends (sym (source_is input c)) (let units = named input (units_from None 0 c) in groups_rise input units.refusal units.list)
+
+-- a reading at its begin
+abbrev pub beginning : ℕ → Option Coming → Position
+beginning input coming = record { input = input; place = 0; held = []; coming = coming; stand = None; ended = false; failed = false }
+
+begins_so : (input : ℕ) (coming : Option Coming) → gathered input (still_to_come (beginning input coming)) [] [] ≡ option_map (sorted_source input) coming
+begins_so input None = refl
+begins_so input (Some c) = ap Some (sym (source_is input c))
+
+begins_rising : (input : ℕ) (coming : Option Coming) → IfSome (option_map (sorted_source input) coming) Ascends
+begins_rising input None = tt
+begins_rising input (Some c) = source_rises input c
+
+module _ (p : Position) (ready : List VersionData) (input : ℕ) (coming : Option Coming) (begins : p ≡ beginning input coming) (nothing : ready ≡ []) where
+  pub source_begins : gathered p.input (still_to_come p) [] ready ≡ option_map (sorted_source input) coming
+  source_begins = (λ i. gathered (begins i).input (still_to_come (begins i)) [] (nothing i)) ∙ begins_so input coming
+
+  pub source_begins_rising : IfSome (gathered p.input (still_to_come p) [] ready) Ascends
+  source_begins_rising = subst (λ (o : Option (Still VersionData Fault)). IfSome o Ascends) (sym source_begins) (begins_rising input coming)
+
+  pub source_begins_told : still_given (option_map as_set (gathered p.input (still_to_come p) [] ready)) ≡ option_map (sorted_source input) coming
+  source_begins_told = told_as_set (gathered p.input (still_to_come p) [] ready) source_begins_rising ∙ source_begins
+
+-- a call, told of sets
+pub step_told : (value : Option StillSet) (before after : Option (Still VersionData Fault)) (r : Result (Option VersionData) Fault) → option_map as_set before ≡ value → IfSome before Ascends → IfSome after Ascends → Step before r after
+    → Step (still_given value) r (still_given (option_map as_set after))
+step_told value before after r is up on h =
+    let first : before ≡ still_given value = sym (told_as_set before up) ∙ ap still_given is in
+    subst (λ (o : Option (Still VersionData Fault)). Step o r (still_given (option_map as_set after))) first (subst (λ (o : Option (Still VersionData Fault)). Step before r o) (sym (told_as_set after on)) h)

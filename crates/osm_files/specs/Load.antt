@@ -1,0 +1,36 @@
+-- What a whole file is loaded as.
+use Rattle.std.specs.Prelude.{◌≡◌, ◌↔◌, ◌⊎◌, ℕ, ◌==◌, ◌||◌, not, nat_le, Bool, false, IsTrue, List, [], ◌∷◌, length, take, bytes_eq, Option, Some, None, IfSome, if◌then◌else◌}
+use Rattle.osm_files.specs.declared.fault.Fault.{Fault}
+use Rattle.osm_files.specs.declared.format.Format.{Format}
+use Rattle.osm_files.specs.declared.format.Format.TheVariants.{Opl, O5m, O5c}
+use Rattle.osm_files.specs.declared.load.Loaded.{Loaded}
+use Rattle.osm_files.specs.Fault.{memory_fault}
+use Rattle.osm_files.specs.Input.{Coming}
+use Rattle.osm_files.specs.O5.{o5m_header, reset_byte}
+use Rattle.osm_files.specs.Held.{Holds, HoldsSorted}
+use Rattle.osm_files.specs.Position.{units_from, named}
+
+-- the header of o5m files stands at the front
+abbrev pub is_o5m : List ℕ → Bool
+is_o5m bytes = bytes_eq (take 7 bytes) o5m_header
+
+-- the format of a file: OPL where its first byte isn't ff, else o5m or o5c by the header
+abbrev pub format_of : List ℕ → Format
+format_of [] = Opl
+format_of (b ∷ bytes) = if b == reset_byte then (if is_o5m (b ∷ bytes) then O5m else O5c) else Opl
+
+-- these bytes tell the format, whatever follows them: the first isn't ff, or they are as many as a header has
+abbrev pub tells_format : List ℕ → Bool
+tells_format [] = false
+tells_format (b ∷ bytes) = not (b == reset_byte) || nat_le 7 (length (b ∷ bytes))
+
+-- the bytes are a file and no error follows them; what was loaded is what the file holds, its format and whether it is sorted
+pub record Loads (c : Coming) (loaded : Loaded) : Type 0 where
+  pub unbroken : c.broken ≡ false
+  pub holds : Holds c.bytes loaded.history
+  pub format : loaded.format ≡ format_of c.bytes
+  pub sorted : IsTrue loaded.sorted ↔ HoldsSorted c.bytes loaded.history
+
+-- why the file of this input isn't loaded: for want of memory, or as its units are refused
+abbrev pub StopsLoading : ℕ → Option Coming → Fault → Type 0
+StopsLoading input coming fault = (fault ≡ memory_fault) ⊎ IfSome coming (λ c. (named input (units_from None 0 c)).refusal ≡ Some fault)

@@ -1,0 +1,123 @@
+-- Where a reading of units stands in its input, and what is still to come from there.
+use Rattle.std.specs.Prelude.{◌≡◌, ◌⊎◌, ℕ, ◌≤◌, ◌+◌, ◌-◌, Bool, nat_lt, List, [], ◌∷◌, ◌++◌, ◌^◌, length, take, true, Option, Some, None, option_map, IfSome, is_some, slice_get, Result, Ok, Err, if◌then◌else◌}
+use Rattle.osm_model.specs.Data.{VersionData}
+use Rattle.osm_files.specs.declared.fault.Fault.{Fault}
+use Rattle.osm_files.specs.declared.reason.Reason.{Reason}
+use Rattle.osm_files.specs.declared.reason.Reason.TheVariants.{ReadFault, Memory}
+use Rattle.osm_files.specs.declared.unit.ReadUnit.{ReadUnit}
+use Rattle.osm_files.specs.declared.reading.Advance.{Advance}
+use Rattle.osm_files.specs.declared.reading.Advance.TheVariants.{Passed, Gave, Ended}
+use Rattle.osm_files.specs.Fault.{memory_fault, failed_fault}
+use Rattle.osm_files.specs.Input.{Coming, whole as all_of, preceded_by}
+use Rattle.osm_files.specs.Stream.{Verdict, verdict_at, Placed, placed, Still, whole, refused, front}
+use Rattle.osm_files.specs.Units.{Stand, units, unit, unit_at, start_of}
+use Rattle.osm_files.specs.Verdict.{length_limit, too_long}
+
+-- the place in the file of the first byte that is held, the bytes that are held, and what is to come behind them; where the
+-- reading stands, which isn't known before the first byte; whether the input has ended, and whether a call was refused
+pub record Position : Type 0 where
+  pub input : ℕ
+  pub place : ℕ
+  pub held : List ℕ
+  pub coming : Option Coming
+  pub stand : Option Stand
+  pub ended : Bool
+  pub failed : Bool
+
+-- the bytes from the place on, where they are known
+abbrev pub ahead : Position → Option Coming
+ahead p = if p.ended then Some (all_of p.held) else option_map (preceded_by p.held) p.coming
+
+abbrev pub stand_in : Option Stand → List ℕ → Stand
+stand_in None bytes = start_of bytes
+stand_in (Some stand) bytes = stand
+
+-- how a file with these bytes from a place on closes, if not by its own end: it is too long, or an error follows
+abbrev pub closing : ℕ → Coming → Option Verdict
+closing place c =
+    if nat_lt (place + length c.bytes) length_limit then (if c.broken then Some (verdict_at (place + length c.bytes) ReadFault) else None)
+    else Some too_long
+
+-- the bytes that count: those below the limit
+abbrev pub window : ℕ → Coming → List ℕ
+window place c = if nat_lt (place + length c.bytes) length_limit then c.bytes else take (length_limit - 1 - place) c.bytes
+
+-- the units from a place on
+unfoldable pub units_from : Option Stand → ℕ → Coming → Still Placed Verdict
+units_from stand place c = units (closing place c) (stand_in stand c.bytes) place (window place c)
+
+-- a verdict as the fault of an input
+abbrev pub fault_of : ℕ → Verdict → Fault
+fault_of input v = record { input = input; place = v.place; reason = v.reason }
+
+abbrev pub named : {A : Type 0} → ℕ → Still A Verdict → Still A Fault
+named input still = record { list = still.list; refusal = option_map (fault_of input) still.refusal }
+
+-- what is still to come, where it is known and no call was refused
+abbrev pub to_come : Position → Option (Still Placed Fault)
+to_come p = option_map (λ c. named p.input (units_from p.stand p.place c)) (ahead p)
+
+-- what is still to come, where it is known; after a refusal the answer is Failed
+abbrev pub still_to_come : Position → Option (Still Placed Fault)
+still_to_come p = if p.failed then Some (refused (failed_fault p.input)) else to_come p
+
+-- what was known stays so
+abbrev pub Keeps : {A : Type 0} → Option A → Option A → Type 0
+Keeps before after = IfSome before (λ x. after ≡ Some x)
+
+-- what a unit gives
+abbrev pub given : ℕ → Option VersionData → Advance
+given place None = Passed
+given place (Some v) = Gave (placed place v)
+
+-- one unit further: it holds no version, or one, or there is none any more; or why the next unit can't be read
+abbrev pub Advances : Position → Result Advance Fault → Position → Type 0
+Advances p (Ok Passed) q = Keeps (to_come p) (to_come q)
+Advances p (Ok (Gave u)) q = IfSome (to_come p) (λ s. (t : Still Placed Fault) × (s ≡ front u t) × (to_come q ≡ Some t))
+Advances p (Ok Ended) q = IfSome (to_come p) (λ s. s ≡ whole) × (to_come q ≡ Some whole)
+Advances p (Err fault) q = (fault ≡ memory_fault) ⊎ IfSome (to_come p) (λ s. s ≡ refused fault)
+
+-- bytes were read on: nothing was given, and what was known stays so
+pub record ReadsOn (p q : Position) : Type 0 where
+  pub input : q.input ≡ p.input
+  pub place : q.place ≡ p.place
+  pub stand : q.stand ≡ p.stand
+  pub failed : q.failed ≡ p.failed
+  pub ahead : Keeps (ahead p) (ahead q)
+
+-- nothing was given, and what was known to come still is
+pub record GoesOn (p q : Position) : Type 0 where
+  pub input : q.input ≡ p.input
+  pub place : p.place ≤ q.place
+  pub failed : q.failed ≡ p.failed
+  pub keeps : Keeps (to_come p) (to_come q)
+
+-- where the reading stands, as far as the bytes held tell
+abbrev pub stand_at : Position → Stand
+stand_at p = stand_in p.stand p.held
+
+-- the stand is known from the first byte on
+abbrev pub seen : Position → Position
+seen p = if is_some (slice_get p.held 0) then record p { stand = Some (stand_at p) } else p
+
+-- the unit that stands whole at the front of the bytes held
+abbrev pub FindsHeld : Position → Result (Option ReadUnit) Reason → Position → Type 0
+FindsHeld p (Ok None) q = (unit_at (stand_at p) p.held ≡ None) × (q ≡ seen p)
+FindsHeld p (Ok (Some u)) q = (next : Stand) × (unit_at (stand_at p) p.held ≡ Some (unit u.size (Ok (u.version, next)))) × (q ≡ record p { stand = Some next })
+FindsHeld p (Err reason) q = (reason ≡ Memory) ⊎ ((size : ℕ) × (unit_at (stand_at p) p.held ≡ Some (unit size (Err reason))))
+
+-- an error follows the bytes held, or they are all that may be read and one more follows
+abbrev pub Halts : Position → Coming → Fault → Type 0
+Halts p c fault =
+    ((c ≡ record { bytes = p.held; broken = true }) × (fault ≡ fault_of p.input (verdict_at (p.place + length p.held) ReadFault)))
+    ⊎ ((p.place + length p.held + 1 ≡ 2 ^ 62) × ((b : ℕ) × (more : List ℕ) × (c.bytes ≡ p.held ++ b ∷ more)) × (fault ≡ fault_of p.input too_long))
+
+-- why no more bytes can be read
+abbrev pub StopsFilling : Position → Fault → Type 0
+StopsFilling p fault = (fault ≡ memory_fault) ⊎ IfSome (ahead p) (λ c. Halts p c fault)
+
+-- how far a unit goes at least
+abbrev pub progress : Advance → ℕ
+progress Passed = 1
+progress (Gave u) = 1
+progress Ended = 0

@@ -1,0 +1,87 @@
+//! Whole files, loaded in any order of their versions.
+ghost use Rattle.std.specs.Prelude.{◌≡◌, ◌∷◌, [], ◌++◌, ◌&&◌, not, IfOk, IfErr, IfSome, OnOk};
+ghost use Rattle.osm_model.specs.Order.{version_cmp};
+ghost use Rattle.osm_model.specs.Sets.{from_list};
+ghost use Rattle.osm_files.specs.Fault.{memory_fault};
+ghost use Rattle.osm_files.specs.Load.{Loads, StopsLoading};
+ghost use Rattle.osm_files.specs.Whole.{is_below_last};
+
+use crate::fault::Fault;
+use crate::format::Format;
+use crate::input::Input;
+use crate::reading::Reading;
+use crate::whole::is_below_last;
+use osm_model::{History, Version};
+use std::alloc::Global;
+
+/// What a file holds.
+#[derive(Drop)]
+pub struct Loaded {
+    /// Its versions.
+    pub history: History,
+    /// Its format.
+    pub format: Format,
+    /// Whether it is sorted: no version's key is below that of the version before it.
+    pub sorted: bool,
+}
+
+/// What the file holds that an input gives. It may be of any format, and its versions may stand in any order. The input has this
+/// number.
+///
+/// # Errors
+///
+/// The place and the reason of the first faulty unit; `ReadFault` where the input fails and no unit that stands whole before is
+/// faulty; or `Memory`.
+pub fn load_any<R: Input + Drop>(alloc: Global, input: usize, reader: R) -> Result<Loaded, Fault>
+    ensures loaded { IfOk result (λ loaded. IfSome (R.coming reader) (λ c. Loads c loaded)) }
+    ensures refused { IfErr result (StopsLoading input (R.coming reader)) }
+{
+    let mut reading = Reading::new(alloc, input, reader);
+    let format = match reading.format() {
+        Ok(format) => format,
+        Err(fault) => return Err(fault),
+    };
+    let mut versions: Vec<Version> = Vec::new(alloc);
+    let mut sorted = true;
+    'units: loop {
+        match reading.next() {
+            Ok(Some(unit)) => match add(&mut versions, sorted, unit.version) {
+                Ok(rises) => sorted = rises,
+                Err(fault) => return Err(fault),
+            },
+            Ok(None) => return gathered(versions, format, sorted),
+            Err(fault) => return Err(fault),
+        }
+    }
+}
+
+/// Adds a version, and answers whether the versions are still sorted.
+fn add(versions: &mut Vec<Version>, sorted: bool, version: Version) -> Result<bool, Fault>
+    ensures added { OnOk result (versions.new.items ≡ versions.old.items ++ version ∷ []) }
+    ensures sorted { IfOk result (λ still. still ≡ (sorted && not (is_below_last version versions.old.items))) }
+    ensures memory { IfErr result (λ fault. fault ≡ memory_fault) }
+{
+    let rises = !is_below_last(&version, versions);
+    match versions.push(version) {
+        Ok(()) => Ok(sorted && rises),
+        Err(refused) => Err(Fault::from(refused)),
+    }
+}
+
+/// What a file holds with these versions.
+fn gathered(versions: Vec<Version>, format: Format, sorted: bool) -> Result<Loaded, Fault>
+    ensures loaded { IfOk result (λ loaded. loaded ≡ record { history = from_list {R = version_cmp} versions.items; format = format; sorted = sorted }) }
+    ensures memory { IfErr result (λ fault. fault ≡ memory_fault) }
+{
+    match History::from_versions(versions) {
+        Ok(history) => Ok(Loaded {
+            history,
+            format,
+            sorted,
+        }),
+        Err(memory) => Err(Fault::from(memory)),
+    }
+}
+
+#[cfg(test)]
+mod tests;

@@ -1,0 +1,9 @@
+//! Versions with their places.
+use osm_model::Version;
+
+/// A version, and the place of its unit in the file: of its line's first byte, or of the type byte of its data set.
+#[derive(Drop)]
+pub(crate) struct Placed {
+    pub(crate) place: u64,
+    pub(crate) version: Version,
+}

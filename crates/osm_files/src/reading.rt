@@ -1,0 +1,345 @@
+//! Reading the units of an input, one by one, in whatever pieces its bytes come.
+ghost use Rattle.std.specs.Prelude.{◌≡◌, ◌+◌, ◌-◌, ◌<◌, ◌≤◌, ◌^◌, ◌⊎◌, true, false, Option, None, Some, Ok, Err, List, [], ◌∷◌, length, drop, IfOk, IfErr, IfSome, OnOk, IsSome, if◌then◌else◌};
+ghost use Rattle.osm_files.specs.Units as spec;
+ghost use Rattle.osm_files.specs.Reading.{FindsLast, stand_of, IsGood};
+ghost use Rattle.osm_files.specs.Source.{Step};
+ghost use Rattle.osm_files.specs.Stream.{Placed};
+ghost use Rattle.osm_files.specs.Load.{format_of, tells_format, is_o5m};
+ghost use Rattle.osm_files.specs.declared.format.Format.TheVariants.{O5m, O5c};
+ghost use Rattle.osm_files.specs.Position.{Position, Advances, ReadsOn, StopsFilling, FindsHeld, GoesOn, ahead, seen, given, stand_at, progress, still_to_come};
+
+use crate::fault::{Fault, LENGTH_LIMIT};
+use crate::format::Format;
+use crate::input::Input;
+use crate::placed::Placed;
+use crate::reason::Reason;
+use crate::unit::{O5M_HEADER, Place, ReadUnit};
+use osm_model::Version;
+use std::alloc::Global;
+use std::marker::Model;
+
+/// The most bytes that are asked of an input at a time.
+const CHUNK: usize = 65536;
+
+/// The first byte of o5 files.
+const O5_MARK: u8 = 0xff;
+
+/// What one unit gave.
+#[derive(Drop)]
+pub(crate) enum Advance {
+    /// It held no version.
+    Passed,
+    /// A version.
+    Gave(Placed),
+    /// There is none any more.
+    Ended,
+}
+
+/// A reading of the units of an input.
+#[derive(Drop)]
+pub(crate) struct Reading<R: Input> {
+    alloc: Global,
+    input: usize,
+    reader: R,
+    buffer: Vec<u8>,
+    /// How many bytes of the buffer were read.
+    from: usize,
+    /// The place in the file of the first byte that wasn't.
+    place: u64,
+    /// Where the reading stands, once the first byte was seen, which tells the grammar.
+    at: Option<Place>,
+    ended: bool,
+    failed: bool,
+}
+
+impl<R: Input> Model for Reading<R> {
+    ghost use Rattle.std.specs.Prelude.{◌≡◌, ◌+◌, ◌<◌, ◌≤◌, ◌^◌, length, drop, option_map, IfSome, false};
+    ghost use Rattle.osm_files.specs.Reading.{FindsLast, stand_of, IsGood};
+    ghost use Rattle.osm_files.specs.Position.{Position};
+
+    ghost Value = { Position };
+
+    ghost view = { λ r. record { input = r.input; place = r.place; held = drop r.from r.buffer.items; coming = R.coming r.reader; stand = option_map stand_of r.at; ended = r.ended; failed = r.failed } };
+
+    ghost invariant = { λ r. (r.from ≤ length r.buffer.items) × (r.place + length r.buffer.items < r.from + 2 ^ 62) × (r.failed ≡ false → IfSome r.at IsGood) };
+}
+
+impl<R: Input> Reading<R> {
+    /// A reading at the begin of an input of this number.
+    pub(crate) fn new(alloc: Global, input: usize, reader: R) -> Reading<R>
+        ensures { result ≡ record { input = input; place = 0; held = []; coming = R.coming reader; stand = None; ended = false; failed = false } }
+    {
+        Reading {
+            alloc,
+            input,
+            reader,
+            buffer: Vec::new(alloc),
+            from: 0,
+            place: 0,
+            at: None,
+            ended: false,
+            failed: false,
+        }
+    }
+
+    /// Moves the bytes held to the front of the buffer.
+    fn compact(&mut self)
+        ensures { self.new ≡ self.old }
+    {
+        self.buffer.drain(..self.from);
+        self.from = 0;
+    }
+
+    /// Reads more bytes, or finds that there are no more.
+    fn fill(&mut self) -> Result<(), Fault>
+        requires { self.old.ended ≡ false }
+        ensures on { OnOk result (ReadsOn self.old self.new) }
+        ensures more { OnOk result ((self.new.ended ≡ true) ⊎ (length self.old.held < length self.new.held)) }
+        ensures stops { IfErr result (StopsFilling self.old) }
+        ensures number { self.new.input ≡ self.old.input }
+    {
+        self.compact();
+        let read = self.place + (self.buffer.len() - self.from) as u64;
+        let room = LENGTH_LIMIT - 1 - read;
+        let mut chunk = [0u8; CHUNK];
+        let size = room.min(CHUNK as u64).max(1) as usize;
+        let Ok(count) = self.reader.read(&mut chunk[..size]) else {
+            return Err(Fault {
+                input: self.input,
+                place: read,
+                reason: Reason::ReadFault,
+            });
+        };
+        if count == 0 {
+            self.ended = true;
+            return Ok(());
+        }
+        if room == 0 {
+            return Err(Fault::too_long(self.input));
+        }
+        self.buffer.extend_from_slice(&chunk[..count])?;
+        Ok(())
+    }
+
+    /// Sees by the first byte of the file which grammar it has.
+    fn see(&mut self)
+        ensures { self.new ≡ seen self.old }
+    {
+        if self.at.is_some() {
+            return;
+        }
+        if let Some(first) = self.buffer[self.from..].first() {
+            self.at = Some(start(*first));
+        }
+    }
+
+    /// The unit that stands whole at the front of the bytes held, if there is one.
+    fn read_held(&mut self) -> Result<Option<ReadUnit>, Reason>
+        requires { self.old.failed ≡ false }
+        ensures found { FindsHeld self.old result self.new }
+        ensures bound { self.old.place + length self.old.held < 2 ^ 62 }
+        ensures place { self.new.place ≡ self.old.place }
+        ensures number { self.new.input ≡ self.old.input }
+    {
+        self.see();
+        let Some(at) = &mut self.at else {
+            return Ok(None);
+        };
+        match at.read(self.alloc, &self.buffer[self.from..]) {
+            Ok(unit) => Ok(unit),
+            Err(reason) => {
+                self.failed = true;
+                Err(reason)
+            }
+        }
+    }
+
+    /// Goes over a unit of the bytes held.
+    fn pass(&mut self, unit: ReadUnit) -> Advance
+        requires { unit.size ≤ length self.old.held }
+        ensures gone { self.new ≡ record self.old { place = self.old.place + unit.size; held = drop unit.size self.old.held } }
+        ensures gave { result ≡ given self.old.place unit.version }
+    {
+        let place = self.place;
+        self.from += unit.size;
+        self.place += unit.size as u64;
+        match unit.version {
+            None => Advance::Passed,
+            Some(version) => Advance::Gave(Placed { place, version }),
+        }
+    }
+
+    /// What the last bytes of an ended input hold, where no unit stands whole.
+    fn read_last(&self) -> Result<Option<Version>, Reason>
+        requires { self.now.stand ≡ None → self.now.held ≡ [] }
+        ensures { FindsLast (spec.last_at (stand_at self.now) self.now.held) result }
+    {
+        match &self.at {
+            None => Ok(None),
+            Some(at) => at.read_last(self.alloc, &self.buffer[self.from..]),
+        }
+    }
+
+    /// How many bytes are held.
+    fn held_length(&self) -> usize
+        ensures { result ≡ length self.now.held }
+    {
+        self.buffer.len() - self.from
+    }
+
+    /// Goes over the last bytes of an ended input, where no unit stands whole.
+    fn last(&mut self) -> Result<Advance, Fault>
+        requires ended { self.old.ended ≡ true }
+        requires seen { self.old.stand ≡ None → self.old.held ≡ [] }
+        requires nothing { spec.unit_at (stand_at self.old) self.old.held ≡ None }
+        requires bound { self.old.place + length self.old.held < 2 ^ 62 }
+        ensures advances { Advances self.old result self.new }
+        ensures number { self.new.input ≡ self.old.input }
+        ensures good { OnOk result (self.new.failed ≡ self.old.failed) }
+        ensures progress { IfOk result (λ advance. self.old.place + progress advance ≤ self.new.place) }
+    {
+        let version = match self.read_last() {
+            Ok(version) => version,
+            Err(reason) => return Err(Fault::at(self.input, self.place, reason)),
+        };
+        let size = self.held_length();
+        if size == 0 {
+            return Ok(Advance::Ended);
+        }
+        Ok(self.pass(ReadUnit { size, version }))
+    }
+
+    /// One unit further.
+    fn advance(&mut self) -> Result<Advance, Fault>
+        requires { self.old.failed ≡ false }
+        ensures advances { Advances self.old result self.new }
+        ensures number { self.new.input ≡ self.old.input }
+        ensures good { OnOk result (self.new.failed ≡ self.old.failed) }
+        ensures progress { IfOk result (λ advance. self.old.place + progress advance ≤ self.new.place) }
+    {
+        'reads: loop {
+            match self.read_held() {
+                Ok(Some(unit)) => return Ok(self.pass(unit)),
+                Ok(None) => {}
+                Err(reason) => return Err(Fault::at(self.input, self.place, reason)),
+            }
+            if self.ended {
+                return self.last();
+            }
+            if let Err(fault) = self.fill() {
+                return Err(fault);
+            }
+        }
+    }
+
+    /// The next version; none at the end and ever after.
+    ///
+    /// # Errors
+    ///
+    /// Why the next unit can't be read, or `Memory`; ever after `Failed`.
+    pub(crate) fn next(&mut self) -> Result<Option<Placed>, Fault>
+        ensures step { Step (still_to_come self.old) result (still_to_come self.new) }
+        ensures fewer { IfOk result (λ given. IsSome given → 2 ^ 62 - self.new.place < 2 ^ 62 - self.old.place) }
+        ensures number { self.new.input ≡ self.old.input }
+    {
+        if self.failed {
+            return Err(Fault::failed(self.input));
+        }
+        'units: loop {
+            match self.advance() {
+                Ok(Advance::Passed) => {}
+                Ok(Advance::Gave(unit)) => return Ok(Some(unit)),
+                Ok(Advance::Ended) => return Ok(None),
+                Err(fault) => {
+                    self.failed = true;
+                    return Err(fault);
+                }
+            }
+        }
+    }
+
+    /// The format of the file, by its first bytes, of which none was gone over.
+    ///
+    /// # Errors
+    ///
+    /// Why they can't be read, or `Memory`; ever after `Failed`.
+    pub(crate) fn format(&mut self) -> Result<Format, Fault>
+        requires at_first { self.old.place ≡ 0 }
+        requires unseen { self.old.stand ≡ None }
+        requires good { self.old.failed ≡ false }
+        ensures tells { IfOk result (λ format. IfSome (ahead self.old) (λ c. format ≡ format_of c.bytes)) }
+        ensures keeps { OnOk result (GoesOn self.old self.new) }
+        ensures refused { IfErr result (λ fault. Step {A = Placed} (still_to_come self.old) (Err fault) (still_to_come self.new)) }
+    {
+        'reads: loop {
+            let held = &self.buffer[self.from..];
+            if tells_format(held) {
+                return Ok(format_of(held));
+            }
+            if self.ended {
+                return Ok(format_of(held));
+            }
+            if let Err(fault) = self.fill() {
+                self.failed = true;
+                return Err(fault);
+            }
+        }
+    }
+
+    /// Refuses every later call: what was read can't be used.
+    pub(crate) fn fail(&mut self)
+        ensures { self.new ≡ record self.old { failed = true } }
+    {
+        self.failed = true;
+    }
+
+    /// The number of the input.
+    pub(crate) fn number(&self) -> usize
+        ensures { result ≡ self.now.input }
+    {
+        self.input
+    }
+}
+
+/// Where the reading of a file with this first byte begins.
+fn start(first: u8) -> Place
+    ensures place { stand_of result ≡ spec.start_of (first ∷ []) }
+    ensures good { IsGood result }
+{
+    if first == O5_MARK {
+        Place::Header
+    } else {
+        Place::Lines
+    }
+}
+
+/// Whether these bytes tell the format, whatever follows them.
+fn tells_format(bytes: &[u8]) -> bool
+    ensures { result ≡ tells_format bytes.now }
+{
+    match bytes.first() {
+        None => false,
+        Some(first) => *first != O5_MARK || bytes.len() >= 7,
+    }
+}
+
+/// The format of a file with these bytes.
+fn format_of(bytes: &[u8]) -> Format
+    ensures { result ≡ format_of bytes.now }
+{
+    match bytes.first() {
+        Some(first) if *first == O5_MARK => o5_format(bytes),
+        _ => Format::Opl,
+    }
+}
+
+/// The format of an o5 file with these bytes.
+fn o5_format(bytes: &[u8]) -> Format
+    ensures { result ≡ (if is_o5m bytes.now then O5m else O5c) }
+{
+    if bytes.len() >= 7 && &bytes[..7] == O5M_HEADER.as_slice() {
+        Format::O5m
+    } else {
+        Format::O5c
+    }
+}

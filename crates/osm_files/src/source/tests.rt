@@ -1,0 +1,74 @@
+//! Sources of small files.
+use super::{FileSource, Source};
+use crate::fault::Fault;
+use crate::input::SliceIn;
+use crate::reason::Reason;
+use opl_line::read_line;
+use std::alloc::Global;
+use std::test::Fail;
+
+/// Whether the source gives the version of this line next, or none for an empty line.
+fn gives(alloc: Global, source: &mut FileSource<SliceIn<'_>>, line: &[u8]) -> Result<bool, Fail> {
+    let given = source.next()?;
+    let expected = read_line(alloc, line)?;
+    Ok(given == expected)
+}
+
+/// A refusal of the input with the number 2.
+fn fault(place: u64, reason: Reason) -> Fault {
+    Fault {
+        input: 2,
+        place,
+        reason,
+    }
+}
+
+#[test]
+fn group_is_sorted_without_repeats(rt: HostRuntime) -> Result<(), Fail> {
+    let alloc = rt.alloc();
+    let file = b"n1 v1 x2 y1\nn1 v1 x1 y1\nn1 v1 x2 y1\nn2 v1 x1 y1";
+    let mut source = FileSource::new(alloc, 2, SliceIn::new(file))?;
+    assert!(rt; gives(alloc, &mut source, b"n1 v1 x1 y1")?);
+    assert!(rt; gives(alloc, &mut source, b"n1 v1 x2 y1")?);
+    assert!(rt; gives(alloc, &mut source, b"n2 v1 x1 y1")?);
+    assert!(rt; gives(alloc, &mut source, b"")?);
+    assert!(rt; gives(alloc, &mut source, b"")?);
+    Ok(())
+}
+
+#[test]
+fn fault_stands_in_place_of_its_group(rt: HostRuntime) -> Result<(), Fail> {
+    let alloc = rt.alloc();
+    let file = b"n1 v1 x1 y1\nn2 v1 x1 y1\nn2 v1 x1";
+    let mut source = FileSource::new(alloc, 2, SliceIn::new(file))?;
+    assert!(rt; gives(alloc, &mut source, b"n1 v1 x1 y1")?);
+    let met = source.next().err();
+    assert!(rt; met.is_some_and(|met| met.input == 2 && met.place == 24));
+    assert_eq!(rt; source.next().err(), Some(fault(0, Reason::Failed)));
+    Ok(())
+}
+
+#[test]
+fn unsorted_file_is_refused(rt: HostRuntime) -> Result<(), Fail> {
+    let file = b"n2 v1 x1 y1\nn1 v1 x1 y1";
+    let mut source = FileSource::new(rt.alloc(), 2, SliceIn::new(file))?;
+    assert_eq!(rt; source.next().err(), Some(fault(12, Reason::Unsorted)));
+    assert_eq!(rt; source.next().err(), Some(fault(0, Reason::Failed)));
+    Ok(())
+}
+
+#[test]
+fn node_of_o5m_is_given(rt: HostRuntime) -> Result<(), Fail> {
+    let alloc = rt.alloc();
+    let file = b"\xff\xe0\x04o5m2\x10\x0b\x02\x01\x02\x02\x00\x01\x00a\x00\x00\x00\xfe";
+    let mut source = FileSource::new(alloc, 2, SliceIn::new(file))?;
+    assert!(rt;
+        gives(
+            alloc,
+            &mut source,
+            b"n1 v1 c1 t1970-01-01T00:00:01Z i1 ua x0 y0"
+        )?
+    );
+    assert!(rt; gives(alloc, &mut source, b"")?);
+    Ok(())
+}
