@@ -6,8 +6,6 @@ use std::process::ExitCode;
 use std::rt::Env;
 use std::{env, io};
 
-pub mod counts;
-pub mod merge;
 pub mod words;
 
 fn main(rt: HostRuntime) -> ExitCode {

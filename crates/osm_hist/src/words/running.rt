@@ -1,9 +1,9 @@
 //! Running what the words ask for, over files or standard input and output.
 use super::refusal::Refusal;
 use super::request::FileMerge;
-use crate::counts::Counts;
-use crate::merge::run_merge;
 use osm_files::{Fault, Format, FromRead, ToWrite};
+use osm_merge::Counts;
+use osm_mirror::run_merge;
 use std::alloc::{AllocError, Global};
 use std::fs;
 use std::fs::File;

@@ -1,0 +1,266 @@
+-- What was put, against the union, and the file of it.
+use Rattle.std.proofs.Common.{◌≡◌, ◌⊎◌, ℕ, suc, ◌<◌, ◌≤◌, Bool, true, false, not, ◌||◌, ◌&&◌, cond, List, [], ◌∷◌, ◌++◌, length, take, refl, sym, ap, ◌∙◌, subst, arith, Option, Some, None, inl, inr, length-append}
+use Rattle.std.specs.Ordering.{is_gt, eq_by_cmp}
+use Rattle.std.specs.declared.cmp.Ordering.TheVariants.{Less}
+use Rattle.std.specs.Cmp.{tied_itself}
+use Rattle.std.specs.List.{AllByRecursion, filter}
+use Rattle.std.specs.List.Sorted.{IsStrictlySortedBy}
+use Rattle.std.proofs.lemmas.List.Folds.{list_any-append}
+use Rattle.std.proofs.lemmas.List.Kept.{IsStrictlySortedBy-filter}
+use Rattle.std.proofs.lemmas.List.{append-nil}
+use Rattle.std.proofs.Math.Seq.{take-append_seam}
+use Rattle.std.proofs.lemmas.Bool.{false≢true}
+use Rattle.osm_model.specs.Data.{VersionData}
+use Rattle.osm_model.specs.Order.{version_cmp, version_cmp_total}
+use Rattle.osm_model.specs.VersionSet.{VersionSet}
+use Rattle.osm_model.specs.Sets.{listed, from_list}
+use Rattle.osm_model.proofs.SetLaws.{strict-listed}
+use Rattle.osm_files.specs.declared.fault.Fault.{Fault}
+use Rattle.osm_files.specs.declared.format.Format.{Format}
+use Rattle.osm_files.specs.Fault.{memory_fault}
+use Rattle.osm_files.specs.Output.{Appended}
+use Rattle.osm_files.specs.Spell.{ended, spelled_open, spell_list, spell}
+use Rattle.osm_files.specs.Sink.{CutShort}
+use Rattle.osm_files.proofs.SpellLaws.{first_in_front, list_spelled}
+use Rattle.osm_files.proofs.SinkLaws.{cut_before_end}
+use Rattle.osm_merge.specs.Coming.{Coming, first, head, coming_at, IsFirstFault, IsFaultOfOne}
+use Rattle.osm_merge.specs.Union.{versions_of, union_of}
+use Rattle.osm_merge.specs.Merged.{last_of, up_to, written_so_far, IsRefused, WhyRefused, HasBegun}
+use Rattle.osm_merge.proofs.OrderLaws.{equal_versions, equal_both_ways, greater_on}
+use Rattle.osm_merge.proofs.AscendingLaws.{first_below, rest_ascends, among, same_list, among_listed}
+use Rattle.osm_merge.proofs.MergeLaws.{among_end}
+use Rattle.osm_merge.proofs.State.{Floor, IsMerging}
+
+-- the members of the union, ascending
+abbrev pub union_list : List Coming → List VersionData
+union_list all = listed (union_of all)
+
+union_ascends : (all : List Coming) → IsStrictlySortedBy version_cmp (union_list all)
+union_ascends all = strict-listed (union_of all)
+
+among_union : (all : List Coming) (q : VersionData) → among q (union_list all) ≡ among q (versions_of all)
+unfolding union_of
+among_union all q = among_listed (versions_of all) q
+
+-- ---- at the end
+or_none : (b : Bool) → (b || false) ≡ b
+or_none true = refl
+or_none false = refl
+
+no_first : (versions : List VersionData) → first versions ≡ None → versions ≡ []
+no_first [] h = refl
+no_first (v ∷ vs) h = absurd cc
+
+none_to_come : (states : List Coming) → ((i : ℕ) → i < length states → head (coming_at states i) ≡ None) → versions_of states ≡ []
+none_to_come [] h = refl
+none_to_come (c ∷ cs) h = ap (λ t. t ++ versions_of cs) (no_first c.list (h 0 (omega arith))) ∙ none_to_come cs (λ i less. h (suc i) (omega arith))
+
+module _ (all states : List Coming) (put : List VersionData) (last : Option VersionData) (taken : ℕ) (m : IsMerging all states put last taken) where
+  -- where no head is left, the union was put
+  pub all_put : ((i : ℕ) → i < length states → head (coming_at states i) ≡ None) → union_list all ≡ put
+  all_put none =
+      same_list (union_list all) put (union_ascends all) m.ascends
+      (λ q. among_union all q ∙ m.same q ∙ ap (λ t. among q put || among q t) (none_to_come states none) ∙ or_none (among q put))
+
+  pub all_taken : ((i : ℕ) → i < length states → head (coming_at states i) ≡ None) → taken ≡ length (versions_of all)
+  all_taken none = let e : length (versions_of states) ≡ 0 = ap length (none_to_come states none) in omega (arith, m.count, e)
+
+-- ---- what a filter keeps
+kept : (a b c : Bool) → (a ≡ true → c ≡ true) → (a || (b && c)) ≡ ((a || b) && c)
+kept true b c h = sym (h refl)
+kept false b c h = refl
+
+left_out : (a b c : Bool) → (a ≡ true → c ≡ false) → (b && c) ≡ ((a || b) && c)
+left_out true true c h = refl
+left_out true false c h = sym (h refl)
+left_out false b c h = refl
+
+among_filter : (p : VersionData → Bool) (q : VersionData) (vs : List VersionData) → among q (filter p vs) ≡ (among q vs && p q)
+among_filter p q [] = refl
+among_filter p q (v ∷ vs) =
+    elim (p v) as (λ b. p v ≡ b → among q (cond b (v ∷ filter p vs) (filter p vs)) ≡ ((eq_by_cmp version_cmp q v || among q vs) && p q)) [
+      | true ↦ λ is. ap (λ t. eq_by_cmp version_cmp q v || t) (among_filter p q vs) ∙ kept (eq_by_cmp version_cmp q v) (among q vs) (p q) (λ e. ap p (equal_versions q v e) ∙ is)
+      | false ↦ λ is. among_filter p q vs ∙ left_out (eq_by_cmp version_cmp q v) (among q vs) (p q) (λ e. ap p (equal_versions q v e) ∙ is)
+    ] refl
+
+among_floor : (v q : VersionData) (vs : List VersionData) → Floor (Some v) vs → among q vs ≡ true → is_gt (version_cmp v q) ≡ false
+among_floor v q [] f h = absurd (false≢true h)
+among_floor v q (w ∷ ws) f h =
+    elim (eq_by_cmp version_cmp q w) as (λ b. eq_by_cmp version_cmp q w ≡ b → (b || among q ws) ≡ true → is_gt (version_cmp v q) ≡ false) [
+      | true ↦ λ is e. ap (λ t. is_gt (version_cmp v t)) (equal_versions q w is) ∙ f.0
+      | false ↦ λ is e. among_floor v q ws f.1 e
+    ] refl h
+
+all_floor : (v q : VersionData) (states : List Coming) → ((i : ℕ) → Floor (Some v) (coming_at states i).list) → among q (versions_of states) ≡ true → is_gt (version_cmp v q) ≡ false
+all_floor v q [] f h = absurd (false≢true h)
+all_floor v q (c ∷ cs) f h =
+    elim (among q c.list) as (λ b. among q c.list ≡ b → (b || among q (versions_of cs)) ≡ true → is_gt (version_cmp v q) ≡ false) [
+      | true ↦ λ is e. among_floor v q c.list (f 0) is
+      | false ↦ λ is e. all_floor v q cs (λ i. f (suc i)) e
+    ] refl (sym (list_any-append (eq_by_cmp version_cmp q) c.list (versions_of cs)) ∙ h)
+
+below_end : (w : VersionData) (ws : List VersionData) (v : VersionData) → AllByRecursion (λ z. version_cmp w z ≡ Less) (ws ++ v ∷ []) → version_cmp w v ≡ Less
+below_end w [] v h = h.0
+below_end w (z ∷ zs) v h = below_end w zs v h.1
+
+below_last : (front : List VersionData) (q v : VersionData) → IsStrictlySortedBy version_cmp (front ++ v ∷ []) → among q (front ++ v ∷ []) ≡ true → is_gt (version_cmp q v) ≡ false
+below_last [] q v s h =
+    elim (eq_by_cmp version_cmp q v) as (λ b. eq_by_cmp version_cmp q v ≡ b → (b || false) ≡ true → is_gt (version_cmp q v) ≡ false) [
+      | true ↦ λ is e. ap (λ t. is_gt (version_cmp t v)) (equal_versions q v is) ∙ ap is_gt (tied_itself version_cmp_total v)
+      | false ↦ λ is e. absurd (false≢true e)
+    ] refl h
+below_last (w ∷ ws) q v s h =
+    elim (eq_by_cmp version_cmp q w) as (λ b. eq_by_cmp version_cmp q w ≡ b → (b || among q (ws ++ v ∷ [])) ≡ true → is_gt (version_cmp q v) ≡ false) [
+      | true ↦ λ is e. ap (λ t. is_gt (version_cmp t v)) (equal_versions q w is) ∙ ap is_gt (below_end w ws v (first_below version_cmp w (ws ++ v ∷ []) s))
+      | false ↦ λ is e. below_last ws q v (rest_ascends version_cmp w (ws ++ v ∷ []) s) e
+    ] refl h
+
+narrow : (a b p : Bool) → (a ≡ true → p ≡ true) → (b ≡ true → p ≡ true → a ≡ true) → ((a || b) && p) ≡ a
+narrow true b p h k = h refl
+narrow false true true h k = sym (k refl refl)
+narrow false true false h k = refl
+narrow false false p h k = refl
+
+not_true : (b : Bool) → not b ≡ true → b ≡ false
+not_true true h = absurd (false≢true h)
+not_true false h = refl
+
+-- what was put is the union up to the one put last
+pub put_up_to : (all states : List Coming) (put : List VersionData) (v : VersionData) (taken : ℕ) → IsMerging all states put (Some v) taken → put ≡ up_to (Some v) (union_list all)
+put_up_to all states put v taken m =
+    let p : VersionData → Bool = λ w. not (is_gt (version_cmp w v)) in
+    same_list put (filter p (union_list all)) m.ascends (IsStrictlySortedBy-filter version_cmp p (union_list all) (union_ascends all))
+    (λ q. sym (among_filter p q (union_list all) ∙ ap (λ t. t && p q) (among_union all q ∙ m.same q)
+    ∙ narrow (among q put) (among q (versions_of states)) (p q)
+    (λ h. ap not (below_last (m.ends.0) q v (subst (IsStrictlySortedBy version_cmp) m.ends.1 m.ascends) (sym (ap (among q) m.ends.1) ∙ h)))
+    (λ h k. ap (among q) m.ends.1 ∙ among_end q v (m.ends.0)
+    (equal_both_ways q v (not_true (is_gt (version_cmp q v)) k) (all_floor v q states m.floor h)))))
+
+pub last_of_end : (front : List VersionData) (v : VersionData) → last_of (front ++ v ∷ []) ≡ Some v
+last_of_end [] v = refl
+last_of_end (w ∷ []) v = refl
+last_of_end (w ∷ z ∷ zs) v = last_of_end (z ∷ zs) v
+
+-- ---- an ascending list is cut in two at a version
+above : VersionData → List VersionData → List VersionData
+above v vs = filter (λ w. is_gt (version_cmp w v)) vs
+
+none_kept : (v w : VersionData) (ws : List VersionData) → is_gt (version_cmp w v) ≡ true → AllByRecursion (λ z. version_cmp w z ≡ Less) ws → up_to (Some v) ws ≡ []
+none_kept v w [] h s = refl
+none_kept v w (z ∷ zs) h s = ap (λ b. cond (not b) (z ∷ up_to (Some v) zs) (up_to (Some v) zs)) (greater_on v w z h s.0) ∙ none_kept v w zs h s.1
+
+all_kept : (v w : VersionData) (ws : List VersionData) → is_gt (version_cmp w v) ≡ true → AllByRecursion (λ z. version_cmp w z ≡ Less) ws → above v ws ≡ ws
+unfolding above
+all_kept v w [] h s = refl
+all_kept v w (z ∷ zs) h s = ap (λ b. cond b (z ∷ above v zs) (above v zs)) (greater_on v w z h s.0) ∙ ap (λ t. z ∷ t) (all_kept v w zs h s.1)
+
+all_above : (v w : VersionData) (ws : List VersionData) → is_gt (version_cmp w v) ≡ true → AllByRecursion (λ z. version_cmp w z ≡ Less) ws → up_to (Some v) ws ++ w ∷ above v ws ≡ w ∷ ws
+all_above v w ws h s = ap (λ t. t ++ w ∷ above v ws) (none_kept v w ws h s) ∙ ap (λ t. w ∷ t) (all_kept v w ws h s)
+
+split_at : (v : VersionData) (ws : List VersionData) → IsStrictlySortedBy version_cmp ws → ws ≡ up_to (Some v) ws ++ above v ws
+unfolding above
+split_at v [] s = refl
+split_at v (w ∷ ws) s =
+    elim (is_gt (version_cmp w v)) as (λ b. is_gt (version_cmp w v) ≡ b → w ∷ ws ≡ cond (not b) (w ∷ up_to (Some v) ws) (up_to (Some v) ws) ++ cond b (w ∷ above v ws) (above v ws)) [
+      | false ↦ λ is. ap (λ t. w ∷ t) (split_at v ws (rest_ascends version_cmp w ws s))
+      | true ↦ λ is. sym (all_above v w ws is (first_below version_cmp w ws s))
+    ] refl
+
+-- a list stands in front of the union
+abbrev pub InFront : List VersionData → List Coming → Type 0
+InFront put all = (more : List VersionData) × (put ++ more ≡ union_list all)
+
+up_to_in_front : (last : Option VersionData) (all : List Coming) → InFront (up_to last (union_list all)) all
+up_to_in_front None all = (union_list all, refl)
+up_to_in_front (Some v) all = (above v (union_list all), sym (split_at v (union_list all) (union_ascends all)))
+
+pub nothing_in_front : (all : List Coming) → InFront [] all
+nothing_in_front all = (union_list all, refl)
+
+-- what was put stands in front of the union
+pub put_in_front : (all states : List Coming) (put : List VersionData) (last : Option VersionData) (taken : ℕ) → IsMerging all states put last taken → InFront put all
+put_in_front all states put None taken m = subst (λ (vs : List VersionData). InFront vs all) (sym m.ends) (nothing_in_front all)
+put_in_front all states put (Some v) taken m = subst (λ (vs : List VersionData). InFront vs all) (sym (put_up_to all states put v taken m)) (up_to_in_front (Some v) all)
+
+-- ---- the file of the union
+module _ (all : List Coming) (format : Format) (number : ℕ) (before after : Option (List ℕ)) where
+  abbrev pub whole_file : List ℕ
+  whole_file = spell format (union_of all)
+
+  -- the rest of the file behind a front of the union
+  file_split : (put : List VersionData) → InFront put all → (more : List ℕ) × (whole_file ≡ spelled_open format put ++ more)
+  file_split put front = let part = first_in_front format put (front.0) in (part.0, ap (spell_list format) (sym front.1) ∙ part.1)
+
+  -- calls that were cut short in a front of the union were cut short in its file
+  pub cut_in_file : (put : List VersionData) (failed : Bool) (fault : Fault) → InFront put all → CutShort number before after failed (spelled_open format put) fault → CutShort number before after failed whole_file fault
+  cut_in_file put failed fault front h =
+      subst (λ (vs : List VersionData). CutShort number before after failed (spell_list format vs) fault) front.1
+      (cut_before_end format number put (front.0) before after failed fault h)
+
+  begun_at : (bytes : List ℕ) → (more : List ℕ) × (whole_file ≡ bytes ++ more) → Appended before after bytes → HasBegun all format before after
+  begun_at bytes part h = record {
+    count = length bytes;
+    within = let e = part.1 in subst (λ (x : List ℕ). length bytes ≤ length x) (sym e) (omega (arith, length-append bytes (part.0)));
+    appended = subst (Appended before after) (sym (ap (take (length bytes)) part.1 ∙ take-append_seam bytes (part.0))) h;
+  }
+
+  -- want of memory, where no call of the sink was cut short
+  pub memory_refused : (put : List VersionData) (failed : Bool) → InFront put all → Appended before after (spelled_open format put) → CutShort number before after failed whole_file memory_fault
+  memory_refused put failed front h =
+      let b = begun_at (spelled_open format put) (file_split put front) h in
+      record { count = b.count; within = b.within; appended = b.appended; why = inl refl }
+
+  so_far_split : (put : List VersionData) → InFront put all → (more : List ℕ) × (whole_file ≡ written_so_far format put ++ more)
+  so_far_split [] front = (whole_file, refl)
+  so_far_split (v ∷ vs) front = file_split (v ∷ vs) front
+
+  -- after any refusal a front of the file was appended
+  pub begun_refused : (failed : Bool) (fault : Fault) → IsRefused all format number before after failed fault → HasBegun all format before after
+  begun_refused failed fault (inl cut) = record { count = cut.count; within = cut.within; appended = cut.appended }
+  begun_refused failed fault (inr source) =
+      let last : Option VersionData = last_of (coming_at all source.place).list in
+      begun_at (written_so_far format (up_to last (union_list all))) (so_far_split (up_to last (union_list all)) (up_to_in_front last all)) source.appended
+
+-- an output that nothing was written to
+pub nothing_appended : (held : Option (List ℕ)) → Appended held held []
+nothing_appended None = tt
+nothing_appended (Some bytes) = ap Some (sym (append-nil bytes))
+
+-- where the first versions can't be had, nothing is written
+pub refused_at_first : (all : List Coming) (format : Format) (number : ℕ) (held : Option (List ℕ)) (failed : Bool) (fault : Fault) → IsFirstFault all fault → IsRefused all format number held held failed fault
+refused_at_first all format number held failed fault (inl wanting) = inl (record { count = 0; within = omega arith; appended = nothing_appended held; why = inl wanting })
+refused_at_first all format number held failed fault (inr source) = inr (record {
+  place = source.0;
+  within = source.1;
+  refusal = source.3;
+  appended = subst (λ (vs : List VersionData). Appended held held (written_so_far format (up_to (last_of vs) (union_list all)))) (sym source.2) (nothing_appended held);
+})
+
+-- ---- whatever the sources tell
+-- versions that ascend are spelled as a set, up to the mark of the end and with it
+whole_of : (format : Format) (put : List VersionData) → IsStrictlySortedBy version_cmp put → (set : VersionSet) × (length (spell_list format put) ≤ length (spell format set))
+whole_of format put up = (from_list put, (let e : length (spell_list format put) ≡ length (spell format (from_list put)) = ap length (list_spelled format put up) in omega (arith, e)))
+
+open_of : (format : Format) (put : List VersionData) → IsStrictlySortedBy version_cmp put → (set : VersionSet) × (length (spelled_open format put) ≤ length (spell format set))
+open_of format put up =
+    let w = whole_of format put up in
+    let low = w.1 in
+    (w.0, omega (arith, length-append (spelled_open format put) (ended format), low))
+
+module _ (told : List (Option Coming)) (format : Format) (number : ℕ) (before after : Option (List ℕ)) (failed : Bool) (fault : Fault) where
+  why_cut : (bytes : List ℕ) → (set : VersionSet) × (length bytes ≤ length (spell format set)) → CutShort number before after failed bytes fault → WhyRefused told format number failed fault
+  why_cut bytes w cut = elim cut.why [
+    | inl wanting ↦ inl wanting
+    | inr (inl broken) ↦ inr (inl (cut.count, broken.0, broken.1))
+    | inr (inr long) ↦ inr (inr (inl (w.0, long.0, (let low = w.1 in let high = long.1 in omega (arith, low, high)))))
+  ]
+
+  pub why_cut_open : (put : List VersionData) → IsStrictlySortedBy version_cmp put → CutShort number before after failed (spelled_open format put) fault → WhyRefused told format number failed fault
+  why_cut_open put up cut = why_cut (spelled_open format put) (open_of format put up) cut
+
+  pub why_cut_whole : (put : List VersionData) → IsStrictlySortedBy version_cmp put → CutShort number before after failed (spell_list format put) fault → WhyRefused told format number failed fault
+  why_cut_whole put up cut = why_cut (spell_list format put) (whole_of format put up) cut
+
+  pub why_source : (fault ≡ memory_fault) ⊎ IsFaultOfOne told fault → WhyRefused told format number failed fault
+  why_source (inl wanting) = inl wanting
+  why_source (inr one) = inr (inr (inr one))

@@ -1,0 +1,90 @@
+-- What a merge of sources writes, answers and counts.
+use Rattle.std.specs.Prelude.{◌≡◌, ◌⊎◌, ℕ, ◌+◌, ◌-◌, ◌*◌, ◌^◌, ◌<◌, ◌≤◌, Bool, true, not, List, [], ◌∷◌, length, take, Option, Some, None, IfSome}
+use Rattle.std.specs.List.{All, filter}
+use Rattle.std.specs.Ordering.{is_gt}
+use Rattle.osm_model.specs.Data.{VersionData}
+use Rattle.osm_model.specs.Order.{version_cmp}
+use Rattle.osm_model.specs.VersionSet.{VersionSet}
+use Rattle.osm_model.specs.Sets.{listed, size}
+use Rattle.osm_files.specs.declared.fault.Fault.{Fault}
+use Rattle.osm_files.specs.declared.format.Format.{Format}
+use Rattle.osm_files.specs.Fault.{memory_fault, too_long_fault, write_fault}
+use Rattle.osm_files.specs.Output.{Appended}
+use Rattle.osm_files.specs.Spell.{spelled_open, spell}
+use Rattle.osm_files.specs.Sink.{CutShort}
+use Rattle.osm_merge.specs.declared.merge.Counts.{Counts}
+use Rattle.osm_merge.specs.Coming.{Coming, coming_at, IsFaultOfOne}
+use Rattle.osm_merge.specs.Union.{versions_of, union_of, capped}
+
+-- a source that tells how it ends is whole
+abbrev pub IsWhole : Option Coming → Type 0
+IsWhole told = IfSome told (λ c. c.refusal ≡ None)
+
+-- What `compared` may be, of k sources that gave n versions: between n - 1 and k - 1 + n * (depth + 1), for the least depth
+-- with k up to 2^depth, and for each greater one. Of no source it is 0.
+pub record IsBounded (sources given compared : ℕ) : Type 0 where
+  pub most : (depth : ℕ) → sources ≤ 2 ^ depth → compared ≤ (sources - 1) + given * (depth + 1)
+  pub least : capped (given - 1) ≤ compared
+
+-- A merge of sources that give this, to an output with these bytes before and after: each is whole, and the file of the
+-- union was appended.
+pub record IsMerged (all : List Coming) (format : Format) (before after : Option (List ℕ)) (counts : Counts) : Type 0 where
+  pub whole : All (λ c. c.refusal ≡ None) all
+  pub appended : Appended before after (spell format (union_of all))
+  pub read : counts.read ≡ capped (length (versions_of all))
+  pub written : counts.written ≡ capped (size (union_of all))
+  pub compared : IsBounded (length all) (length (versions_of all)) counts.compared
+
+-- What was written is the one file of a set, with as many versions as were counted.
+pub record WritesSet (format : Format) (before after : Option (List ℕ)) (counts : Counts) : Type 0 where
+  pub set : VersionSet
+  pub appended : Appended before after (spell format set)
+  pub written : counts.written ≡ capped (size set)
+
+-- the last of a list
+abbrev pub last_of : List VersionData → Option VersionData
+last_of [] = None
+last_of (v ∷ []) = Some v
+last_of (v ∷ w ∷ ws) = last_of (w ∷ ws)
+
+-- the versions that are not greater than the last one of a source; none where it gives none
+abbrev pub up_to : Option VersionData → List VersionData → List VersionData
+up_to None versions = []
+up_to (Some last) versions = filter (λ v. not (is_gt (version_cmp v last))) versions
+
+-- what is written of some versions before a fault: nothing of none, else their file up to the mark of its end
+abbrev pub written_so_far : Format → List VersionData → List ℕ
+written_so_far format [] = []
+written_so_far format (v ∷ versions) = spelled_open format (v ∷ versions)
+
+-- The fault is that of a source, and all that the merge puts up to that source's last version was written.
+pub record IsSourceFault (all : List Coming) (format : Format) (before after : Option (List ℕ)) (fault : Fault) : Type 0 where
+  pub place : ℕ
+  pub within : place < length all
+  pub refusal : (coming_at all place).refusal ≡ Some fault
+  pub appended : Appended before after (written_so_far format (up_to (last_of (coming_at all place).list) (listed (union_of all))))
+
+-- Why a merge was refused: memory was refused, or the output failed, or the file of the union has 2^62 bytes or more, in each
+-- of which cases a front of that file was written; or a source is refused.
+abbrev pub IsRefused : List Coming → Format → ℕ → Option (List ℕ) → Option (List ℕ) → Bool → Fault → Type 0
+IsRefused all format output before after failed fault =
+    CutShort output before after failed (spell format (union_of all)) fault ⊎ IsSourceFault all format before after fault
+
+-- Why a merge was refused, whatever the sources tell: memory was refused, or the output failed, or the file of a set has
+-- 2^62 bytes or more; or a source is refused.
+abbrev pub WhyRefused : List (Option Coming) → Format → ℕ → Bool → Fault → Type 0
+WhyRefused told format output failed fault =
+    (fault ≡ memory_fault)
+    ⊎ ((place : ℕ) × (fault ≡ write_fault output place) × (failed ≡ true))
+    ⊎ ((set : VersionSet) × (fault ≡ too_long_fault output) × (2 ^ 62 ≤ length (spell format set)))
+    ⊎ IsFaultOfOne told fault
+
+-- the bytes from before are still held, and some more
+abbrev pub Grows : Option (List ℕ) → Option (List ℕ) → Type 0
+Grows before after = (bytes : List ℕ) × Appended before after bytes
+
+-- After any refusal a front of the file of the union was appended.
+pub record HasBegun (all : List Coming) (format : Format) (before after : Option (List ℕ)) : Type 0 where
+  pub count : ℕ
+  pub within : count ≤ length (spell format (union_of all))
+  pub appended : Appended before after (take count (spell format (union_of all)))

@@ -1,0 +1,262 @@
+//! Merges of sources in memory, with what is written worked out by hand.
+use super::{Counts, merge_into};
+use osm_files::{Broken, Fault, Format, Output, Reason, Sink, Source, VecOut};
+use osm_model::{Body, History, Meta, Tags, Text, Version};
+use std::alloc::Global;
+use std::cell::Cell;
+use std::test::Fail;
+
+/// A node's id, its version number and its longitude; it stands at latitude 1.
+type Node = (i64, u64, i32);
+
+/// A source of the versions of a history, which counts what it gave.
+#[derive(Drop)]
+struct Held<'a> {
+    history: History,
+    /// So many versions were given.
+    place: usize,
+    /// Why the rest can't be given, if it can't.
+    fault: Option<Fault>,
+    given: &'a Cell<usize>,
+}
+
+impl Source for Held<'_> {
+    ghost use Rattle.std.specs.Prelude.{Some, drop, length};
+    ghost use Rattle.osm_model.specs.Order.{version_cmp};
+    ghost use Rattle.osm_model.specs.Sets.{listed};
+    ghost use Rattle.osm_model.proofs.SetLaws.{strict-listed};
+    ghost use Rattle.osm_merge.specs.Rest.{drop_ascends};
+
+    ghost still = { λ s. Some (record { list = drop s.place (listed s.history); refusal = s.fault }) };
+
+    ghost left = { λ s. length (drop s.place (listed s.history)) };
+
+    ghost ascends = { λ s. drop_ascends version_cmp s.place (listed s.history) (strict-listed s.history) };
+
+    fn next(&mut self) -> Result<Option<Version>, Fault> {
+        if self.place < self.history.len() {
+            if let Ok(version) = self.history.get(self.place).copy() {
+                self.place += 1;
+                self.given.set(self.given.get().saturating_add(1));
+                return Ok(Some(version));
+            }
+            self.place = self.history.len();
+            self.fault = Some(Fault::failed(0));
+            return Err(Fault::memory());
+        }
+        match self.fault {
+            None => Ok(None),
+            Some(fault) => {
+                self.fault = Some(Fault::failed(fault.input));
+                Err(fault)
+            }
+        }
+    }
+}
+
+/// A source of these nodes, which ends with this fault if there is one.
+fn source_of<'a>(
+    alloc: Global,
+    nodes: &[Node],
+    fault: Option<Fault>,
+    given: &'a Cell<usize>,
+) -> Result<Held<'a>, Fail> {
+    let mut versions = Vec::new(alloc);
+    for node in nodes {
+        versions.push(version(alloc, *node)?)?;
+    }
+    Ok(Held {
+        history: History::from_versions(versions)?,
+        place: 0,
+        fault,
+        given,
+    })
+}
+
+fn version(alloc: Global, (id, number, lon): Node) -> Result<Version, Fail> {
+    let meta = Meta {
+        version: number,
+        time: None,
+        changeset: 0,
+        uid: 0,
+        user: Text::new(alloc),
+    };
+    let body = Body::Node {
+        lon,
+        lat: 10_000_000,
+        tags: Tags::from_vec(Vec::new(alloc)),
+    };
+    Ok(Version::new(id, meta, body)?)
+}
+
+/// What a merge of these sources answers, each with its fault if it has one, and what it wrote.
+fn merge(
+    alloc: Global,
+    format: Format,
+    sources: &[(&[Node], Option<Fault>)],
+) -> Result<(Result<Counts, Fault>, Vec<u8>), Fail> {
+    let count = Cell::new(0);
+    let mut inputs = Vec::new(alloc);
+    for (nodes, fault) in sources {
+        inputs.push(source_of(alloc, nodes, *fault, &count)?)?;
+    }
+    let mut sink = Sink::new(alloc, format, sources.len())?;
+    let mut out = VecOut::new(alloc);
+    let answer = merge_into(alloc, inputs, &mut sink, &mut out);
+    Ok((answer, out.into_vec()))
+}
+
+const FIRST: (&[Node], Option<Fault>) = (&[(1, 1, 15_000_000)], None);
+
+const SECOND: (&[Node], Option<Fault>) = (&[(1, 2, 15_000_000)], None);
+
+const BOTH: &[u8] = b"n1 v1 dV c0 t i0 u T x1.5 y1\nn1 v2 dV c0 t i0 u T x1.5 y1\n";
+
+#[test]
+fn order_and_repetition_make_no_difference(rt: HostRuntime) -> Result<(), Fail> {
+    let (answer, text) = merge(rt.alloc(), Format::Opl, &[FIRST, SECOND])?;
+    assert_eq!(rt; text.as_slice(), BOTH);
+    let counts = answer?;
+    assert_eq!(rt; (counts.read, counts.written), (2, 2));
+    let (answer, text) = merge(rt.alloc(), Format::Opl, &[SECOND, FIRST, FIRST])?;
+    assert_eq!(rt; text.as_slice(), BOTH);
+    let counts = answer?;
+    assert_eq!(rt; (counts.read, counts.written), (3, 2));
+    assert!(rt; counts.compared >= 2 && counts.compared <= 11);
+    Ok(())
+}
+
+#[test]
+fn each_comparison_is_counted(rt: HostRuntime) -> Result<(), Fail> {
+    let one: (&[Node], Option<Fault>) = (&[(1, 1, 15_000_000), (1, 2, 15_000_000)], None);
+    let (answer, _text) = merge(rt.alloc(), Format::Opl, &[one])?;
+    let counts = answer?;
+    assert!(rt; counts.compared >= 1 && counts.compared <= 2);
+    let sources: [(&[Node], Option<Fault>); 4] = [
+        (&[(1, 1, 0), (5, 1, 0)], None),
+        (&[(2, 1, 0), (6, 1, 0)], None),
+        (&[(3, 1, 0), (7, 1, 0)], None),
+        (&[(4, 1, 0), (8, 1, 0)], None),
+    ];
+    let (answer, _text) = merge(rt.alloc(), Format::Opl, &sources)?;
+    let counts = answer?;
+    assert!(rt; counts.compared >= 7 && counts.compared <= 27);
+    Ok(())
+}
+
+#[test]
+fn versions_of_one_key_both_stay(rt: HostRuntime) -> Result<(), Fail> {
+    let sources: [(&[Node], Option<Fault>); 2] = [
+        (&[(1, 1, 90_000_000)], None),
+        (&[(1, 1, 100_000_000)], None),
+    ];
+    let (answer, text) = merge(rt.alloc(), Format::Opl, &sources)?;
+    assert!(rt; answer.is_ok());
+    assert_eq!(rt;
+        text.as_slice(),
+        b"n1 v1 dV c0 t i0 u T x10 y1\nn1 v1 dV c0 t i0 u T x9 y1\n".as_slice()
+    );
+    Ok(())
+}
+
+#[test]
+fn no_sources_make_an_empty_file(rt: HostRuntime) -> Result<(), Fail> {
+    let none = Counts {
+        read: 0,
+        written: 0,
+        compared: 0,
+    };
+    for (format, file) in [
+        (Format::Opl, b"".as_slice()),
+        (Format::O5m, b"\xff\xe0\x04o5m2\xfe".as_slice()),
+        (Format::O5c, b"\xff\xe0\x04o5c2\xfe".as_slice()),
+    ] {
+        let (answer, text) = merge(rt.alloc(), format, &[])?;
+        assert_eq!(rt; answer, Ok(none));
+        assert_eq!(rt; text.as_slice(), file);
+    }
+    Ok(())
+}
+
+#[test]
+fn what_stands_before_a_fault_is_written(rt: HostRuntime) -> Result<(), Fail> {
+    let fault = Fault {
+        input: 1,
+        place: 40,
+        reason: Reason::NoEnd,
+    };
+    let sources: [(&[Node], Option<Fault>); 3] = [
+        (&[(1, 1, 10_000_000), (4, 1, 10_000_000)], None),
+        (&[(2, 1, 10_000_000), (3, 1, 10_000_000)], Some(fault)),
+        (&[(5, 1, 10_000_000)], None),
+    ];
+    let (answer, text) = merge(rt.alloc(), Format::Opl, &sources)?;
+    assert_eq!(rt; answer, Err(fault));
+    assert_eq!(rt;
+        text.as_slice(),
+        b"n1 v1 dV c0 t i0 u T x1 y1\nn2 v1 dV c0 t i0 u T x1 y1\nn3 v1 dV c0 t i0 u T x1 y1\n".as_slice()
+    );
+    let (answer, text) = merge(rt.alloc(), Format::O5m, &[FIRST, (&[], Some(fault))])?;
+    assert_eq!(rt; answer, Err(fault));
+    assert!(rt; text.is_empty());
+    Ok(())
+}
+
+/// An output that notes how many versions the sources gave for which it took no line yet.
+#[derive(Drop)]
+struct Ahead<'a> {
+    given: &'a Cell<usize>,
+    lines: usize,
+    most: &'a Cell<usize>,
+}
+
+impl Output for Ahead<'_> {
+    ghost use Rattle.std.specs.Prelude.{None, false};
+
+    ghost contents = { λ _. None };
+
+    ghost failed = { λ _. false };
+
+    fn write(&mut self, bytes: &[u8]) -> Result<usize, Broken> {
+        let ahead = self.given.get().saturating_sub(self.lines);
+        self.most.set(self.most.get().max(ahead));
+        for byte in bytes {
+            if *byte == b'\n' {
+                self.lines = self.lines.saturating_add(1);
+            }
+        }
+        Ok(bytes.len())
+    }
+
+    fn flush(&mut self) -> Result<(), Broken> {
+        Ok(())
+    }
+}
+
+#[test]
+fn merge_reads_one_version_ahead_of_each_source(rt: HostRuntime) -> Result<(), Fail> {
+    let count = Cell::new(0);
+    let most = Cell::new(0);
+    let mut inputs = Vec::new(rt.alloc());
+    for first in 1..4 {
+        let mut nodes = Vec::new(rt.alloc());
+        for step in 0..100 {
+            nodes.push((
+                3i64.saturating_mul(step).saturating_add(first),
+                1,
+                10_000_000,
+            ))?;
+        }
+        inputs.push(source_of(rt.alloc(), &nodes, None, &count)?)?;
+    }
+    let mut sink = Sink::new(rt.alloc(), Format::Opl, 3)?;
+    let mut out = Ahead {
+        given: &count,
+        lines: 0,
+        most: &most,
+    };
+    let counts = merge_into(rt.alloc(), inputs, &mut sink, &mut out)?;
+    assert_eq!(rt; (counts.read, counts.written), (300, 300));
+    assert_eq!(rt; (count.get(), most.get()), (300, 3));
+    Ok(())
+}

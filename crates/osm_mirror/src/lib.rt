@@ -1,0 +1,6 @@
+//! The runs over whole files of OpenStreetMap histories.
+#![tactic(auto)]
+
+mod merge;
+
+pub use merge::run_merge;

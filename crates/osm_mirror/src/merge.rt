@@ -1,0 +1,62 @@
+//! The merge of files.
+ghost use Rattle.std.specs.Prelude.{◌≡◌, false, List, map, IfOk, IfErr, OnOk};
+ghost use Rattle.std.specs.List.{All};
+ghost use Rattle.osm_files.specs.Input.{Coming};
+ghost use Rattle.osm_files.specs.Fault.{memory_fault};
+ghost use Rattle.osm_files.specs.Groups.{still_given};
+ghost use Rattle.osm_merge.specs.Merged.{WritesSet, Grows};
+ghost use Rattle.osm_mirror.specs.Merge.{Tell, IsMerged, IsRefused, IsCutShort, WhyRefused, IsSorted, sources_told};
+
+use osm_files::{Fault, FileSource, Format, Input, Output, Sink};
+use osm_merge::{Counts, merge_into};
+use std::alloc::Global;
+
+/// Merges sorted files: appends the one file of this format that holds the versions of all inputs, each once.
+///
+/// Where it answers Ok, every input is a sorted file of its grammar, and the bytes written are the one spelling of the
+/// union of the versions held. The inputs are read side by side, one key at a time, and a version is written before its
+/// input is read on.
+///
+/// # Errors
+///
+/// The inputs are numbered from 0, and the output has the number of the inputs. An input that can't be read or isn't
+/// sorted is named with the reason and its place, where several are, one of them; WriteFault where the output failed,
+/// TooLong where a file has 2^62 bytes or more, Memory where a growth was refused. What was written then is a front of
+/// the file.
+pub fn run_merge<R: Input + Drop, W: Output>(
+    alloc: Global,
+    inputs: Vec<R>,
+    format: Format,
+    out: &mut W,
+) -> Result<Counts, Fault>
+    // Where all inputs tell their bytes.
+    ensures merged { IfOk result (λ counts. (all : List Coming) → Tell (map R.coming inputs.items) all → IsMerged all format (W.contents out.old) (W.contents out.new) counts) }
+    ensures refused { IfErr result (λ fault. (all : List Coming) → Tell (map R.coming inputs.items) all → IsRefused all format (W.contents out.old) (W.contents out.new) (W.failed out.new) fault) }
+    ensures cut { IfErr result (λ fault. (all : List Coming) → Tell (map R.coming inputs.items) all → IsCutShort all format (W.contents out.old) (W.contents out.new) (W.failed out.new) fault) }
+    // Whatever they tell.
+    ensures why { IfErr result (WhyRefused (map R.coming inputs.items) format (W.failed out.new)) }
+    ensures sorted { OnOk result (All IsSorted (map R.coming inputs.items)) }
+    ensures file { IfOk result (WritesSet format (W.contents out.old) (W.contents out.new)) }
+    ensures kept { Grows (W.contents out.old) (W.contents out.new) }
+    ensures good { OnOk result (W.failed out.new ≡ false) }
+{
+    let output = inputs.len();
+    let sources = open_sources(alloc, inputs)?;
+    let mut sink = Sink::new(alloc, format, output)?;
+    merge_into(alloc, sources, &mut sink, out)
+}
+
+/// The inputs as sources, numbered from 0.
+fn open_sources<R: Input + Drop>(alloc: Global, inputs: Vec<R>) -> Result<Vec<FileSource<R>>, Fault>
+    ensures opened { IfOk result (λ sources. map (λ s. still_given s.known) sources.items ≡ sources_told 0 (map R.coming inputs.items)) }
+    ensures memory { IfErr result (λ fault. fault ≡ memory_fault) }
+{
+    let mut sources = Vec::new(alloc);
+    for reader in inputs {
+        sources.push(FileSource::new(alloc, sources.len(), reader)?)?;
+    }
+    Ok(sources)
+}
+
+#[cfg(test)]
+mod tests;
