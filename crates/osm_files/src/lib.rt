@@ -24,3 +24,6 @@ pub use reason::Reason;
 pub use sink::{Sink, write_history};
 pub use source::{FileSource, Source};
 pub use whole::read_sorted;
+
+#[cfg(test)]
+mod tests;
