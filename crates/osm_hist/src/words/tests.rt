@@ -228,3 +228,48 @@ fn a_faulty_line_of_standard_input_is_named(rt: HostRuntime) -> Result<(), Fail>
     assert!(rt; out.is_empty());
     Ok(())
 }
+
+/// Sees that the merge of both files in this format is merged back to lines, by file and by standard input.
+fn assert_back<R: Files + AllocGlobal + Abort>(rt: &R, format: &str) -> Result<(), Fail> {
+    let to = [
+        "merge", "--output", "m", "--format", format, "a.opl", "b.opl",
+    ];
+    assert_eq!(rt; run(rt, &to).status, 0);
+    let back = ["merge", "--output", "o.opl", "m"];
+    assert_eq!(rt; run(rt, &back).status, 0);
+    assert_eq!(rt; fs::read_to_string(rt, "o.opl")?.as_str(), MERGED);
+    let file = fs::read(rt, "m")?;
+    let words: [&str; 0] = [];
+    let mut out = Vec::new(rt.alloc());
+    let mut err = Vec::new(rt.alloc());
+    let status = run_words(rt, &words, file.as_slice(), &mut out, &mut err);
+    assert_eq!(rt; status, 0);
+    assert_eq!(rt; out.as_slice(), MERGED.as_bytes());
+    Ok(())
+}
+
+#[test]
+fn three_formats_by_file_and_by_standard_input(rt: HostRuntime) -> Result<(), Fail> {
+    enter(&rt, "three_formats")?;
+    fs::write(&rt, "a.opl", FIRST)?;
+    fs::write(&rt, "b.opl", SECOND)?;
+    assert_back(&rt, "opl")?;
+    assert_back(&rt, "o5m")?;
+    assert_back(&rt, "o5c")?;
+    leave(&rt, "three_formats")?;
+    Ok(())
+}
+
+#[test]
+fn a_cut_file_is_refused(rt: HostRuntime) -> Result<(), Fail> {
+    enter(&rt, "a_cut_file")?;
+    let cut =
+        b"\xff\xe0\x04o5m2\x10\x0b\x02\x01\x02\x02\x00\x01\x00a\x00\x00\x00\x10\x05\x00\x02\x02\x00\x01";
+    fs::write(&rt, "cut.o5m", cut)?;
+    let merge = ["merge", "--output", "o.opl", "cut.o5m"];
+    assert_refused(&rt, &merge, 1, "cut.o5m: 27: NoEnd\n");
+    assert!(rt; !fs::exists(&rt, "o.opl")?);
+    assert!(rt; !fs::exists(&rt, "o.opl.part")?);
+    leave(&rt, "a_cut_file")?;
+    Ok(())
+}
