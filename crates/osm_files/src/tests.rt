@@ -7,6 +7,7 @@ use crate::output::VecOut;
 use crate::reason::Reason;
 use crate::sink::write_history;
 use crate::source::{FileSource, Source};
+use o5_codec::O5Reason;
 use std::alloc::Global;
 use std::cell::Cell;
 use std::io;
@@ -179,6 +180,112 @@ fn faulty_data_sets_in_pieces(rt: HostRuntime) -> Result<(), Fail> {
         )?
     );
     assert!(rt; is_one_answer(alloc, b"\xff\xe0\x04o5m2\xfe\x00")?);
+    Ok(())
+}
+
+#[test]
+fn hostile_numbers_in_pieces(rt: HostRuntime) -> Result<(), Fail> {
+    let alloc = rt.alloc();
+    assert!(rt;
+        is_one_answer(
+            alloc,
+            b"\xff\xe0\x04o5m2\x10\xff\xff\xff\xff\xff\xff\xff\xff\xff\x02\xfe"
+        )?
+    );
+    assert!(rt;
+        is_one_answer(
+            alloc,
+            b"\xff\xe0\x04o5m2\x10\x80\x80\x80\x80\x80\x80\x80\x80\x80\x80"
+        )?
+    );
+    assert!(rt; is_one_answer(alloc, b"\xff\xe0\x04o5m2\x10\x01\x80\xfe")?);
+    assert!(rt;
+        is_one_answer(
+            alloc,
+            b"\xff\xe0\x04o5m2\x10\x07\x02\x01\x00\x00\x00\x80\x00\xfe"
+        )?
+    );
+    assert!(rt; is_one_answer(alloc, b"\xff\xe0\x04o5m2\x11\x04\x02\x01\x00\x05\xfe")?);
+    Ok(())
+}
+
+#[test]
+fn real_line_and_old_order_in_pieces(rt: HostRuntime) -> Result<(), Fail> {
+    let alloc = rt.alloc();
+    assert!(rt;
+        is_one_answer(
+            alloc,
+            b"n1 v3 dV c12 t2014-05-06T07:08:09Z i5 uanna Tnatural=tree x8.6868047 y49.0000001"
+        )?
+    );
+    assert!(rt;
+        is_one_answer(
+            alloc,
+            b"\xff\xe0\x04o5m2\x10\x03\x02\x01\x00\x10\x0b\x00\x01\x00\x80\xda\xc4\x09\x80\xda\xc4\x09\xfe"
+        )?
+    );
+    Ok(())
+}
+
+#[test]
+fn longitude_wrap_in_pieces(rt: HostRuntime) -> Result<(), Fail> {
+    let alloc = rt.alloc();
+    assert!(rt;
+        is_one_answer(
+            alloc,
+            b"\xff\xe0\x04o5m2\x10\x09\x02\x01\x00\xff\xc7\xce\xb4\x0d\x00\x10\x09\x02\x01\x00\x80\x90\x9d\xe9\x1a\x00\xfe"
+        )?
+    );
+    assert!(rt;
+        is_one_answer(
+            alloc,
+            b"\xff\xe0\x04o5m2\x10\x09\x02\x01\x00\xff\xc7\xce\xb4\x0d\x00\x10\x09\x02\x01\x00\xff\xef\xe2\x96\x05\x00\xfe"
+        )?
+    );
+    Ok(())
+}
+
+#[test]
+fn cut_files_in_pieces(rt: HostRuntime) -> Result<(), Fail> {
+    let file =
+        b"\xff\xe0\x04o5m2\x10\x0b\x02\x01\x02\x02\x00\x01\x00a\x00\x00\x00\x10\x05\x00\x02\x02\x00\x01\xfe";
+    for length in 0..28usize {
+        assert!(rt; is_one_answer(rt.alloc(), &file[..length])?);
+    }
+    Ok(())
+}
+
+/// A file of a node with a tag of the key k and so many letters, whose data set has this length, and of a node with the
+/// same tag by reference.
+fn long_tag(alloc: Global, length: &[u8], letters: usize) -> Result<Vec<u8>, Fail> {
+    let mut file = Vec::new(alloc);
+    file.extend_from_slice(b"\xff\xe0\x04o5m2\x10")?;
+    file.extend_from_slice(length)?;
+    file.extend_from_slice(b"\x02\x01\x00\x00\x00\x00k\x00")?;
+    for _ in 0..letters {
+        file.push(b'a')?;
+    }
+    file.extend_from_slice(b"\x00\x10\x06\x02\x01\x00\x00\x00\x01\xfe")?;
+    Ok(file)
+}
+
+#[test]
+fn table_limits_in_pieces(rt: HostRuntime) -> Result<(), Fail> {
+    let alloc = rt.alloc();
+    let stored = long_tag(alloc, b"\x82\x02", 249)?;
+    assert!(rt; is_one_answer(alloc, &stored)?);
+    assert_eq!(rt; load_any(alloc, 0, SliceIn::new(&stored))?.history.len(), 2);
+    let longer = long_tag(alloc, b"\x83\x02", 250)?;
+    assert!(rt; is_one_answer(alloc, &longer)?);
+    let fault = Fault {
+        input: 0,
+        place: 269,
+        reason: Reason::O5(O5Reason::BadReference),
+    };
+    assert_eq!(rt;
+        load_any(alloc, 0, SliceIn::new(&longer)).err(),
+        Some(fault)
+    );
     Ok(())
 }
 
