@@ -66,7 +66,7 @@ fn version(alloc: Global, number: u32) -> Result<Version> {
         uid: 54_321,
         user: text(alloc, "mapper_of_trees")?,
     };
-    Ok(Version::new(i64::from(number) + 1, meta, body(alloc, number)?)?)
+    Ok(Version::new(alloc, i64::from(number) + 1, meta, body(alloc, number)?)?)
 }
 
 fn versions(alloc: Global, count: u32) -> Result<Vec<Version>> {

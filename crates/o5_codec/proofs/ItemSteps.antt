@@ -37,6 +37,10 @@ module _ {X : Type 0} (item_at : Segment → List ℕ → Step X) where
     left = λ most e. (let same : length bytes ≡ most = omega arith in ap (λ n. items_up_to item_at n s bytes) same ∙ sym (behind_none (items_up_to item_at most s bytes)));
   }
 
+  pub items_none : (s : Segment) (bytes : List ℕ) → bytes ≡ [] → items_at item_at s bytes ≡ Ok ([], s)
+  unfolding items_at items_up_to
+  items_none s bytes none = rw none refl
+
   pub items_end : (start : Segment) (bytes : List ℕ) (done : List X) (s : Segment) (rest : List ℕ) →
       HasItems item_at start bytes done s rest → rest ≡ [] → items_at item_at start bytes ≡ Ok (done, s)
   unfolding items_up_to

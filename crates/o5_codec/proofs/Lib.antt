@@ -17,6 +17,7 @@ pub mod EarlierLaws
 pub mod RefusalNames
 pub mod AnswerLaws
 pub mod UserLaws
+pub mod EntryBytes
 pub mod ShortestSteps
 pub mod IndexSteps
 pub mod TurnSteps

@@ -3,7 +3,7 @@ use Rattle.std.proofs.Common.{◌≡◌, ℕ, zero, suc, ◌+◌, ◌-◌, ◌*�
 use Rattle.std.proofs.Math.Nat.{mul-le-mul_right}
 use Rattle.std.proofs.lemmas.Bool.{le-ltb, lt-ltb}
 use Rattle.std.proofs.lemmas.Grind.{pow_more}
-use Rattle.o5_codec.specs.Shortest.{groups_of}
+use Rattle.o5_codec.specs.Shortest.{groups_of, shortest_number}
 
 -- i groups are written
 pub record Written (all written : List ℕ) (n i rest : ℕ) : Type 0 where
@@ -31,3 +31,8 @@ write_last all written n i rest w small low = w.left (9 - i) (omega arith) ∙ a
 -- after nine groups little is left
 pub write_nine : (all written : List ℕ) (n i rest : ℕ) → Written all written n i rest → i ≡ 9 → n < 2 ^ 64 → rest < 128
 write_nine all written n i rest w nine fits = let P : ℕ → Type 0 = λ k. rest * 128 ^ k ≤ n in let b : rest * 128 ^ 9 ≤ n = subst P nine w.below in omega arith
+
+-- a number of one byte
+pub write_one : (n : ℕ) → n < 128 → shortest_number n ≡ n ∷ []
+unfolding shortest_number groups_of
+write_one n low = rw (lt-ltb n 128 low) refl

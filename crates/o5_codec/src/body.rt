@@ -186,7 +186,19 @@ impl Segment {
     }
 
     /// Tags to the end of the bytes.
+    #[inline(always)]
     fn read_tags(&mut self, bytes: &[u8]) -> Result<Tags, O5Reason>
+        ensures { Answers (λ tags. (tags, self.new)) (items_at spec.tag_at self.old bytes.now) result }
+    {
+        if bytes.is_empty() {
+            return Ok(Tags::from_vec(Vec::new(self.table.allocator())));
+        }
+        self.read_each_tag(bytes)
+    }
+
+    /// The same where there are tags.
+    #[inline(never)]
+    fn read_each_tag(&mut self, bytes: &[u8]) -> Result<Tags, O5Reason>
         ensures { Answers (λ tags. (tags, self.new)) (items_at spec.tag_at self.old bytes.now) result }
     {
         let mut tags = Vec::new(self.table.allocator());

@@ -1,5 +1,6 @@
 //! Reading data sets.
 ghost use Rattle.std.specs.Prelude.{◌≡◌, ◌⊎◌, Ok, true, false, IfOk, IfErr, OnOk};
+ghost use Rattle.osm_model.specs.declared.fault.ValueFault.TheVariants as value_fault;
 ghost use Rattle.o5_codec.specs.Answer.{Answers};
 ghost use Rattle.o5_codec.specs.Body.{set_at};
 ghost use Rattle.o5_codec.specs.Sound.{is_sound};
@@ -11,7 +12,7 @@ use crate::O5Reason;
 use crate::base::Bases;
 use crate::segment::{ListsSeen, Segment};
 use crate::table::Table;
-use osm_model::{Kind, Memory, Version};
+use osm_model::{Kind, Memory, ValueFault, Version};
 use std::alloc::Global;
 use std::marker::Model;
 
@@ -110,9 +111,20 @@ impl Segment {
         let (id, rest) = self.read_id(content)?;
         let (meta, rest) = self.read_meta(rest)?;
         let body = self.read_body(kind, rest)?;
-        match Version::new(id, meta, body) {
+        match Version::new(self.table.allocator(), id, meta, body) {
             Ok(version) => Ok(version),
-            Err(_) => unreachable!(),
+            Err(fault) => Err(want_of_memory(fault)),
         }
+    }
+}
+
+/// What a data set says is within all ranges, so that a version of it is refused for want of memory alone.
+fn want_of_memory(fault: ValueFault) -> O5Reason
+    requires { fault ≡ value_fault.Memory }
+    ensures { result ≡ O5Reason.Memory }
+{
+    match fault {
+        ValueFault::Memory => O5Reason::Memory,
+        _ => unreachable!(),
     }
 }

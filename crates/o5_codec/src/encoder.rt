@@ -1,5 +1,5 @@
 //! Writing data sets.
-ghost use Rattle.std.specs.Prelude.{◌≡◌, ◌++◌, IfOk, IfErr, OnOk, OnErr};
+ghost use Rattle.std.specs.Prelude.{◌≡◌, ◌++◌, ◌<◌, length, IfOk, IfErr, OnOk, OnErr};
 ghost use Rattle.osm_model.specs.Data.{kind_of};
 ghost use Rattle.o5_codec.specs.Encoder as spec;
 
@@ -105,9 +105,12 @@ impl Encoder {
         self.content.clear();
         self.context
             .append_content(&mut self.content, &mut self.section, v)?;
-        fill_set(&mut self.set, begins, kind, &self.content)?;
-        out.extend_from_slice(&self.set)?;
-        Ok(())
+        if begins || self.content.len() >= 128 {
+            fill_set(&mut self.set, begins, kind, &self.content)?;
+            out.extend_from_slice(&self.set)?;
+            return Ok(());
+        }
+        append_short_set(out, kind, &self.content)
     }
 }
 
@@ -137,6 +140,23 @@ fn fill_set(set: &mut Vec<u8>, begins: bool, kind: Kind, content: &[u8]) -> Resu
     }
     set.push(type_byte(kind))?;
     append_section(set, content)
+}
+
+/// Appends a data set whose content is short, where no segment begins.
+fn append_short_set(out: &mut Vec<u8>, kind: Kind, content: &[u8]) -> Result<(), Memory>
+    requires { length content.now < 128 }
+    ensures bytes { OnOk result (out.new.items ≡ out.old.items ++ spec.data_set kind content.now) }
+    ensures unchanged { OnErr result (out.new.items ≡ out.old.items) }
+{
+    let before = out.len();
+    out.extend_from_slice(&[type_byte(kind), content.len() as u8])?;
+    match out.extend_from_slice(content) {
+        Ok(()) => Ok(()),
+        Err(_) => {
+            out.truncate(before);
+            Err(Memory)
+        }
+    }
 }
 
 fn type_byte(kind: Kind) -> u8

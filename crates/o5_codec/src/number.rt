@@ -10,7 +10,20 @@ use crate::O5Reason;
 /// # Errors
 ///
 /// `BadNumber` where it isn't ended, has more than 10 bytes, or is 2^64 or more.
+#[inline(always)]
 pub fn read_number(bytes: &[u8]) -> Result<(u64, &[u8]), O5Reason>
+    ensures value { Gives (λ x. (x.0, x.1.now)) (number_at bytes.now) result }
+    ensures shorter { IfOk result (λ x. length x.1.now < length bytes.now) }
+{
+    match bytes.split_first() {
+        Some((first, rest)) if *first < 128 => Ok((u64::from(*first), rest)),
+        _ => read_groups(bytes),
+    }
+}
+
+/// The same of a number of any length.
+#[inline(never)]
+fn read_groups(bytes: &[u8]) -> Result<(u64, &[u8]), O5Reason>
     ensures value { Gives (λ x. (x.0, x.1.now)) (number_at bytes.now) result }
     ensures shorter { IfOk result (λ x. length x.1.now < length bytes.now) }
 {

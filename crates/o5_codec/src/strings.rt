@@ -45,6 +45,7 @@ pub(crate) enum Spelled<'a> {
 /// # Errors
 ///
 /// `BadText` where no byte is left or a string isn't ended, `BadNumber` where a reference is no number.
+#[inline(always)]
 #[tactic(auto, unfolding(crate::specs::Strings::spelled_at))]
 pub(crate) fn read_spelled(form: Form, bytes: &[u8]) -> Result<(Spelled<'_>, &[u8]), O5Reason>
     ensures value { Gives (λ x. (x.0, x.1.now)) (spelled_at form bytes.now) result }
@@ -62,6 +63,7 @@ pub(crate) fn read_spelled(form: Form, bytes: &[u8]) -> Result<(Spelled<'_>, &[u
 }
 
 /// The strings behind the zero byte that begins them inline, and the bytes behind them.
+#[inline(never)]
 #[tactic(auto, unfolding(crate::specs::Strings::inline_at))]
 fn read_inline(form: Form, bytes: &[u8]) -> Result<(Strings<'_>, &[u8]), O5Reason>
     ensures value { Gives (λ x. (x.0, x.1.now)) (inline_at form bytes.now) result }

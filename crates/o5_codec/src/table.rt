@@ -98,6 +98,7 @@ impl Table {
     }
 
     /// Stores strings that stand inline, unless they are too long.
+    #[inline(always)]
     pub(crate) fn store(&mut self, spelled: &Spelled<'_>) -> Result<(), Memory>
         ensures { OnOk result (self.new ≡ table_after spelled.now self.old) }
     {
@@ -107,6 +108,7 @@ impl Table {
         }
     }
 
+    #[inline(never)]
     fn store_strings(&mut self, strings: &Strings<'_>) -> Result<(), Memory>
         ensures { OnOk result (self.new ≡ stored strings.now self.old) }
     {
@@ -128,6 +130,7 @@ impl Table {
     /// # Errors
     ///
     /// `BadReference` where the table has no such entry.
+    #[inline(always)]
     pub(crate) fn strings<'a>(&'a self, spelled: &Spelled<'a>) -> Result<Strings<'a>, O5Reason>
         ensures { Gives (λ s. s) (strings_of self.now spelled.now) result }
     {
@@ -143,6 +146,7 @@ impl Table {
         }
     }
 
+    #[inline(always)]
     fn get(&self, reference: u64) -> Option<&Stored>
         ensures { option_copied result ≡ entry_at self.now reference }
     {

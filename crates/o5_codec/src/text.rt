@@ -1,5 +1,6 @@
 //! Texts in the strings of data sets.
 ghost use Rattle.std.specs.Prelude.{◌≡◌};
+ghost use Rattle.std.specs.Str.{chars};
 ghost use Rattle.o5_codec.specs.Answer.{Gives, Answers};
 ghost use Rattle.o5_codec.specs.Text.{text_of, tag_of, uid_of, user_of};
 
@@ -15,11 +16,21 @@ use std::alloc::Global;
 /// # Errors
 ///
 /// `NotUtf8` where it isn't UTF-8.
+#[inline(always)]
 pub(crate) fn to_text(alloc: Global, bytes: &[u8]) -> Result<Text, O5Reason>
     ensures { Answers (λ text. text) (text_of bytes.now) result }
 {
+    let text = to_str(bytes)?;
+    Ok(Text::from_string(String::from_str(alloc, text)?))
+}
+
+/// A string as a slice of a text.
+#[inline(never)]
+fn to_str(bytes: &[u8]) -> Result<&str, O5Reason>
+    ensures { Gives (λ text. chars text.now) (text_of bytes.now) result }
+{
     match simdutf8::basic::from_utf8(bytes) {
-        Ok(text) => Ok(Text::from_string(String::from_str(alloc, text)?)),
+        Ok(text) => Ok(text),
         Err(_) => Err(O5Reason::NotUtf8),
     }
 }

@@ -47,7 +47,7 @@ fn node(alloc: Global, number: u32) -> Result<Version> {
         lat: 490_000_001 - place * 7,
         tags: Tags::from_vec(Vec::new(alloc)),
     };
-    Ok(Version::new(i64::from(number) + 1, meta(alloc, number)?, body)?)
+    Ok(Version::new(alloc, i64::from(number) + 1, meta(alloc, number)?, body)?)
 }
 
 fn way(alloc: Global, number: u32) -> Result<Version> {
@@ -66,7 +66,7 @@ fn way(alloc: Global, number: u32) -> Result<Version> {
         refs: References::from_vec(ids),
         tags: Tags::from_vec(tags),
     };
-    Ok(Version::new(i64::from(number) + 1, meta(alloc, number)?, body)?)
+    Ok(Version::new(alloc, i64::from(number) + 1, meta(alloc, number)?, body)?)
 }
 
 fn nodes(alloc: Global, count: u32) -> Result<Vec<Version>> {

@@ -1,13 +1,13 @@
 -- Where a text is cut first, and into which pieces.
 use Rattle.std.proofs.Common.{◌≡◌, ℕ, suc, ◌+◌, ◌<◌, ◌≤◌, Bool, true, false, not, cond, List, [], ◌∷◌, ◌++◌, length, take, drop, get_or, refl, ap, ◌∙◌, arith, Option, Some, None, position, ltb}
-use Rattle.std.proofs.lemmas.Bool.{and_parts, ltb-true, ltb-false}
+use Rattle.std.proofs.lemmas.Bool.{and_parts, ltb-true, ltb-false, lt-ltb, le-ltb}
 use Rattle.std.proofs.lemmas.Bool.Decides.{nat_tests}
-use Rattle.std.proofs.lemmas.List.Sums.{passes_at_first}
+use Rattle.std.proofs.lemmas.List.Sums.{passes_at_first, position_or_len_is, sum_by-cons}
 use Rattle.std.proofs.lemmas.Str.{IsCharBoundary-before_ascii, IsCharBoundary-after_ascii}
-use Rattle.std.specs.List.{list_all, position_or_len}
+use Rattle.std.specs.List.{list_all, sum_by, count_by, position_or_len}
 use Rattle.std.specs.Str.{IsUtf8, IsCharBoundary}
 use Rattle.opl_line.specs.declared.cut.Cut.{Cut}
-use Rattle.opl_line.specs.declared.cut.Cut.TheVariants.{Blanks, Commas, Equals, Ats, Percents, Points}
+use Rattle.opl_line.specs.declared.cut.Cut.TheVariants.{Blanks, Commas, Equals, Ats, Percents, Points, LineEnds}
 use Rattle.opl_line.specs.Cut.{is_end, lengthened, split_first, begun_with, cut, pieces_of}
 use Rattle.opl_line.proofs.BoolLaws.{not_true}
 
@@ -71,6 +71,36 @@ module _ (p : ℕ → Bool) where
         | false ↦ λ e f. split_none bytes (ltb-false _ _ e)
       ] refl found
 
+begun_as_many : (b : ℕ) (pieces : List (List ℕ)) → 0 < length pieces → length (begun_with b pieces) ≡ length pieces
+begun_as_many b [] some = absurd (omega (arith, some))
+begun_as_many b (piece ∷ pieces) some = refl
+
+-- there is one more piece than bytes that are cut at
+pub pieces_counted : (p : ℕ → Bool) (bytes : List ℕ) → length (cut p bytes) ≡ count_by p bytes + 1
+pieces_counted p [] = refl
+pieces_counted p (b ∷ bs) =
+    let rest = pieces_counted p bs in
+    let one : ℕ → ℕ = λ x. cond (p x) 1 0 in
+    elim (p b) as (λ t. sum_by one (b ∷ bs) ≡ cond t 1 0 + count_by p bs → length (cond t ([] ∷ cut p bs) (begun_with b (cut p bs))) ≡ sum_by one (b ∷ bs) + 1) [
+      | true ↦ λ e. omega (arith, rest, e)
+      | false ↦ λ e. omega (arith, rest, e, begun_as_many b (cut p bs) (omega (arith, rest)))
+    ] (sum_by-cons one b bs)
+
+-- the first byte that passes, as a search finds it
+module _ (p : ℕ → Bool) (bytes : List ℕ) where
+  abbrev pub NoneBelow : ℕ → Type 0
+  NoneBelow n = (k : ℕ) → k < n → p (get_or bytes k 0) ≡ false
+
+  pub first_at : (n : ℕ) → n < length bytes → NoneBelow n → p (get_or bytes n 0) ≡ true → Some n ≡ position p bytes
+  first_at n within none here =
+      let at : position_or_len p bytes ≡ n = position_or_len_is p bytes n 0 (omega arith) none (λ _. here) in
+      rw (at, lt-ltb n (length bytes) within) refl
+
+  pub first_nowhere : NoneBelow (length bytes) → None ≡ position p bytes
+  first_nowhere none =
+      let at : position_or_len p bytes ≡ length bytes = position_or_len_is p bytes (length bytes) 0 (omega arith) none (λ less. absurd (omega (arith, less))) in
+      rw (at, le-ltb (length bytes) (length bytes) (omega arith)) refl
+
 -- all bytes that are cut at are ASCII
 pub ends_ascii : (at : Cut) (b : ℕ) → is_end at b ≡ true → b < 128
 ends_ascii Blanks b e = grind (arith, nat_tests)
@@ -79,6 +109,7 @@ ends_ascii Equals b e = grind (arith, nat_tests)
 ends_ascii Ats b e = grind (arith, nat_tests)
 ends_ascii Percents b e = grind (arith, nat_tests)
 ends_ascii Points b e = grind (arith, nat_tests)
+ends_ascii LineEnds b e = grind (arith, nat_tests)
 
 -- so a text may be cut before and behind them
 pub cut_before : (at : Cut) (text : List ℕ) (n : ℕ) → position (is_end at) text ≡ Some n → IsCharBoundary text n

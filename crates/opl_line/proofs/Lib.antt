@@ -25,3 +25,5 @@ pub mod RangeLaws
 pub mod LineReasonLaws
 pub mod RawLaws
 pub mod MemoryLaws
+pub mod LaneLaws
+pub mod PlainLaws

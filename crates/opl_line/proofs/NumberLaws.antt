@@ -1,18 +1,29 @@
 -- The digits of a number, one by one.
-use Rattle.std.proofs.Common.{◌≡◌, ℕ, ◌+◌, ◌-◌, ◌*◌, ◌^◌, ◌<◌, ◌≤◌, min, suc, true, false, ◌&&◌, List, [], ◌∷◌, length, take, ◌==◌, leb, not, add-one, refl, sym, ◌∙◌, arith, cond, if◌then◌else◌, Ok, Err, IfOk}
+use Rattle.std.proofs.Common.{◌≡◌, ℕ, ◌+◌, ◌-◌, ◌*◌, ◌^◌, ◌<◌, ◌≤◌, min, suc, true, false, ◌&&◌, List, [], ◌∷◌, length, take, ◌==◌, leb, not, add-one, refl, arith, cond, Some, None, Ok, Err, IfOk}
 use Rattle.std.proofs.lemmas.Bool.{and_parts, leb-true, le-leb}
 use Rattle.std.specs.Char.{is_ascii_digit}
+use Rattle.std.specs.Option.{ok_or}
 use Rattle.std.specs.List.{list_all, fold}
 use Rattle.std.proofs.Math.Nat.{pow-le-pow_right, pow-succ'}
-use Rattle.opl_line.specs.declared.reason.OplReason.{OplReason}
-use Rattle.opl_line.specs.declared.reason.OplReason.TheVariants.{BadNumber, BadCoordinate}
-use Rattle.opl_line.specs.Answer.{with_reason}
-use Rattle.opl_line.specs.Number.{is_numeral, with_digit, decimal_value, up_to, reading_number, reading_short_numeral}
+use Rattle.opl_line.specs.declared.reason.OplReason.TheVariants.{BadCoordinate}
+use Rattle.opl_line.specs.Number.{is_numeral, with_digit, decimal_value, value_of, reading_short_numeral}
 
 -- the first digits, and their value, or 2^64 - 1 where it is more
 pub record IsReadTo (digits : List ℕ) (i number : ℕ) : Type 0 where
   pub all_digits : list_all is_ascii_digit (take i digits) ≡ true
   pub value : number ≡ min (decimal_value (take i digits)) (2 ^ 64 - 1)
+
+-- the first digits of few, and their value
+pub record IsFewTo (digits : List ℕ) (i number : ℕ) : Type 0 where
+  pub all_digits : list_all is_ascii_digit (take i digits) ≡ true
+  pub value : number ≡ decimal_value (take i digits)
+  pub bound : number < 10 ^ i
+
+pub small_number : (i number : ℕ) → i < 19 → number < 10 ^ i → number < 10 ^ 18
+small_number i number few below =
+    let some : 0 < 10 = omega arith in
+    let power : 10 ^ i ≤ 10 ^ 18 = pow-le-pow_right some (let k : i ≤ 18 = omega arith in k) in
+    omega arith
 
 -- the value of few digits is small
 decimal_below : (digits : List ℕ) (n k : ℕ) → list_all is_ascii_digit digits ≡ true → n < 10 ^ k → fold with_digit n digits < 10 ^ (length digits + k)
@@ -40,19 +51,13 @@ numeral_below digits most is few =
 pub scale_below : (decimals : ℕ) → 10 ^ (7 - decimals) ≤ 10 ^ 7
 scale_below decimals = let less : 7 - decimals ≤ 7 = omega arith in let some : 0 < 10 = omega arith in pow-le-pow_right some less
 
--- few digits are no large number
-pub short_numeral : (digits : List ℕ) (most : ℕ) → most ≤ 7 → length digits ≤ most →
-    with_reason (λ _. BadCoordinate) (reading_number 9_223_372_036_854_775_807 digits) ≡ reading_short_numeral most digits
-short_numeral digits most limit few =
-    elim (is_numeral digits) as (λ t. is_numeral digits ≡ t →
-    with_reason (λ _. BadCoordinate) (cond t (up_to 9_223_372_036_854_775_807 (decimal_value digits)) (Err BadNumber)) ≡ cond (t && leb (length digits) most) (Ok (decimal_value digits)) (Err BadCoordinate)) [
-      | true ↦ λ is.
-          let below = numeral_below digits most is few in
-          let some : 0 < 10 = omega arith in
-          let power : 10 ^ most ≤ 10 ^ 7 = pow-le-pow_right some limit in
-          rw (le-leb (decimal_value digits) 9_223_372_036_854_775_807 (omega arith), le-leb (length digits) most few) refl
-      | false ↦ λ is. refl
-    ] refl
+-- few digits, and so many at most
+pub short_numeral : (digits : List ℕ) (most : ℕ) → length digits ≤ most → ok_or (value_of digits) BadCoordinate ≡ reading_short_numeral most digits
+short_numeral digits most few =
+    elim (is_numeral digits) as (λ t. ok_or (cond t (Some (decimal_value digits)) None) BadCoordinate ≡ cond (t && leb (length digits) most) (Ok (decimal_value digits)) (Err BadCoordinate)) [
+      | true ↦ rw (le-leb (length digits) most few) refl
+      | false ↦ refl
+    ]
 
 pub short_below : (digits : List ℕ) (most : ℕ) → IfOk (reading_short_numeral most digits) (λ n. n < 10 ^ most)
 short_below digits most =
@@ -60,25 +65,3 @@ short_below digits most =
       | true ↦ λ e. let parts = and_parts _ _ e in numeral_below digits most parts.0 (leb-true (length digits) most parts.1)
       | false ↦ λ e. tt
     ] refl
-
--- up to four digits are below 10,000
-pub four_digits : (digits : List ℕ) → length digits ≤ 4 → reading_number 9_999 digits ≡ (if is_numeral digits then Ok (decimal_value digits) else Err BadNumber)
-four_digits digits few =
-    elim (is_numeral digits) as (λ t. is_numeral digits ≡ t → cond t (up_to 9_999 (decimal_value digits)) (Err BadNumber) ≡ cond t (Ok (decimal_value digits)) (Err BadNumber)) [
-      | true ↦ λ is. let below = numeral_below digits 4 is few in rw (le-leb (decimal_value digits) 9_999 (omega arith)) refl
-      | false ↦ λ is. refl
-    ] refl
-
-pub four_read : (digits : List ℕ) (most n : ℕ) → most ≤ 4 → length digits ≤ most → reading_number 9_999 digits ≡ Ok n → n < 10 ^ most
-four_read digits most n limit few read =
-    elim (is_numeral digits) as (λ t. is_numeral digits ≡ t → cond t (Ok (decimal_value digits)) (Err BadNumber) ≡ Ok n → n < 10 ^ most) [
-      | true ↦ λ is e. let same : decimal_value digits ≡ n = cc in rw same at (numeral_below digits most is few)
-      | false ↦ λ is e. cc
-    ] refl (sym (four_digits digits (omega arith)) ∙ read)
-
-pub four_refused : (digits : List ℕ) (reason : OplReason) → length digits ≤ 4 → reading_number 9_999 digits ≡ Err reason → is_numeral digits ≡ false
-four_refused digits reason few refused =
-    elim (is_numeral digits) as (λ t. is_numeral digits ≡ t → cond t (Ok (decimal_value digits)) (Err BadNumber) ≡ Err reason → is_numeral digits ≡ false) [
-      | true ↦ λ is e. cc
-      | false ↦ λ is e. is
-    ] refl (sym (four_digits digits few) ∙ refused)

@@ -65,7 +65,11 @@ pub other_ends : (bytes : List ℕ) (n : ℕ) → RawEnd bytes n → eqb (get_or
 other_ends bytes n end apart = ap (λ t. list_all is_raw (split_first (is_end Percents) t).0) end.whole ∙ unraw (take n bytes) (drop (n + 1) bytes) (get_or bytes n 0) end.raw end.other apart
 
 -- nothing ends them
-pub all_raw : (bytes : List ℕ) → position is_other bytes ≡ None → (list_all is_raw bytes ≡ true) × (split_first (is_end Percents) bytes ≡ (bytes, None))
-all_raw bytes none =
-    let raw = sym (ap (λ parts. list_all is_raw parts.0) (split_nowhere is_other bytes none)) ∙ front_raw bytes in
-    (raw, split_never (is_end Percents) bytes (all_weaker is_raw (λ b. not (eqb b 37)) raw_no_percent bytes raw))
+abbrev pub AllRaw : List ℕ → Type 0
+AllRaw bytes = (list_all is_raw bytes ≡ true) × (split_first (is_end Percents) bytes ≡ (bytes, None))
+
+pub raw_alone : (bytes : List ℕ) → list_all is_raw bytes ≡ true → AllRaw bytes
+raw_alone bytes raw = (raw, split_never (is_end Percents) bytes (all_weaker is_raw (λ b. not (eqb b 37)) raw_no_percent bytes raw))
+
+pub all_raw : (bytes : List ℕ) → position is_other bytes ≡ None → AllRaw bytes
+all_raw bytes none = raw_alone bytes (sym (ap (λ parts. list_all is_raw parts.0) (split_nowhere is_other bytes none)) ∙ front_raw bytes)

@@ -41,7 +41,8 @@ use Rattle.opl_line.specs.Part as part
 use Rattle.opl_line.specs.Part.{Part, SpellsPart}
 use Rattle.opl_line.specs.Content.{SpellsObject, Pairwise}
 use Rattle.opl_line.specs.Spells.{is_full, said_by, Spells}
-use Rattle.opl_line.specs.Canonical.{is_line_end, LineSpellsItsVersion, LineIsReadBack, LineStandsInOne}
+use Rattle.opl_line.specs.Cut.{is_line_end}
+use Rattle.opl_line.specs.Canonical.{LineSpellsItsVersion, LineIsReadBack, LineStandsInOne}
 use Rattle.opl_line.proofs.ContentLaws.{all_weaker}
 use Rattle.opl_line.proofs.PartLaws.{Different, distinct}
 use Rattle.opl_line.proofs.SpellsLaws.{spelled_is_read, one_reading}

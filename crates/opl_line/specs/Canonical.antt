@@ -14,6 +14,7 @@ use Rattle.osm_model.specs.Escape.{escape}
 use Rattle.osm_model.specs.Coordinate.{coordinate_text}
 use Rattle.osm_model.specs.Time.{time_text}
 use Rattle.osm_model.specs.Id.{is_id}
+use Rattle.opl_line.specs.Cut.{is_line_end}
 use Rattle.osm_model.specs.Text.{is_text}
 use Rattle.opl_line.specs.Number.{reading_number, reading_id, reading_coordinate}
 use Rattle.opl_line.specs.Time.{reading_time}
@@ -59,10 +60,6 @@ LineSpellsItsVersion = (v : VersionData) → IsVersion v → SpellsAlone (line v
 -- The canonical line of a version is read as the version.
 abbrev pub LineIsReadBack : Type 0
 LineIsReadBack = (v : VersionData) → IsVersion v → reading_line (line v) ≡ Ok (Some v)
-
--- LF or CR
-abbrev pub is_line_end : ℕ → Bool
-is_line_end b = (b == 10) || (b == 13)
 
 -- No canonical line has a line end in it, and none is skipped.
 abbrev pub LineStandsInOne : Type 0

@@ -1,11 +1,15 @@
 -- Texts cut at some of their bytes.
 use Rattle.std.specs.Prelude.{ℕ, Bool, ◌==◌, ◌||◌, List, [], ◌∷◌, Option, Some, None, if◌then◌else◌}
 use Rattle.opl_line.specs.declared.cut.Cut.{Cut}
-use Rattle.opl_line.specs.declared.cut.Cut.TheVariants.{Blanks, Commas, Equals, Ats, Percents, Points}
+use Rattle.opl_line.specs.declared.cut.Cut.TheVariants.{Blanks, Commas, Equals, Ats, Percents, Points, LineEnds}
 
 -- a space or a tab
 abbrev pub is_blank : ℕ → Bool
 is_blank b = (b == 32) || (b == 9)
+
+-- LF and CR
+abbrev pub is_line_end : ℕ → Bool
+is_line_end b = (b == 10) || (b == 13)
 
 -- the bytes that a text is cut at
 abbrev pub is_end : Cut → ℕ → Bool
@@ -15,6 +19,7 @@ is_end Equals = λ b. b == 61
 is_end Ats = λ b. b == 64
 is_end Percents = λ b. b == 37
 is_end Points = λ b. b == 46
+is_end LineEnds = is_line_end
 
 -- one more byte at the front of the first piece
 abbrev pub lengthened : {X : Type 0} → ℕ → List ℕ × X → List ℕ × X

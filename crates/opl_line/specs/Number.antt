@@ -19,6 +19,10 @@ with_digit n digit = 10 * n + (digit - 48)
 abbrev pub decimal_value : List ℕ → ℕ
 decimal_value digits = fold with_digit 0 digits
 
+-- the number that a numeral writes
+abbrev pub value_of : List ℕ → Option ℕ
+value_of text = if is_numeral text then Some (decimal_value text) else None
+
 -- a number that is at most the bound
 abbrev pub up_to : ℕ → ℕ → Result ℕ OplReason
 up_to most n = if nat_le n most then Ok n else Err OutOfRange

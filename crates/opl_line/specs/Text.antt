@@ -14,6 +14,10 @@ use Rattle.opl_line.specs.Cut.{is_end, split_first, pieces_of}
 abbrev pub is_raw : ℕ → Bool
 is_raw b = not (b == 0 || b == 9 || b == 10 || b == 13 || b == 32 || b == 37 || b == 44 || b == 61)
 
+-- above CR, and not a space, percent sign, comma or equals sign: a byte that stands for itself, told by few tests
+abbrev pub is_plain : ℕ → Bool
+is_plain b = not ((((nat_le b 13 || b == 32) || b == 37) || b == 44) || b == 61)
+
 -- hexadecimal digits of either case, and the number that they write
 abbrev pub is_hex_digit : ℕ → Bool
 is_hex_digit c = is_digit c 16

@@ -1,15 +1,20 @@
 -- Times in OPL lines, `yyyy-mm-ddThh:mm:ssZ` (the OPL manual; that there is no second 60 is an own rule of this project).
 use Rattle.std.specs.Prelude.{ℕ, ◌+◌, ◌-◌, ◌*◌, ◌^◌, ◌&&◌, ◌==◌, nat_lt, List, length, take, drop, slice_index, Option, Some, None, Result, Ok, Err, if◌then◌else◌}
 use Rattle.std.specs.Option.{option_and_then, ok_or}
+use Rattle.std.specs.Char.{is_ascii_digit}
 use Rattle.osm_model.specs.Calendar.{is_date, day_number}
 use Rattle.opl_line.specs.declared.reason.OplReason.{OplReason}
 use Rattle.opl_line.specs.declared.reason.OplReason.TheVariants.{BadTime, OutOfRange}
 use Rattle.opl_line.specs.Answer.{and_then}
-use Rattle.opl_line.specs.Number.{is_numeral, decimal_value}
+use Rattle.opl_line.specs.Number.{value_of}
+
+-- the number of a digit
+abbrev pub digit_of : ℕ → Option ℕ
+digit_of byte = if is_ascii_digit byte then Some (byte - 48) else None
 
 -- so many digits from a place on
 abbrev pub digits_at : ℕ → ℕ → List ℕ → Option ℕ
-digits_at from count text = let digits = take count (drop from text) in if is_numeral digits then Some (decimal_value digits) else None
+digits_at from count text = value_of (take count (drop from text))
 
 -- the number of a day that the calendar has, counted from 0000-01-01
 abbrev pub day_of : ℕ → ℕ → ℕ → Option ℕ

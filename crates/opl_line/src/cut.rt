@@ -1,6 +1,13 @@
 //! Texts cut at some of their bytes.
-ghost use Rattle.std.specs.Prelude.{◌≡◌, ◌∷◌, ◌<◌, length, position, IfSome, option_copied};
-ghost use Rattle.opl_line.specs.Cut.{is_end, split_first, cut, pieces_of};
+ghost use Rattle.std.specs.Prelude.{◌≡◌, ◌∷◌, ◌+◌, ◌<◌, ◌≤◌, ℕ, not, ◌||◌, ◌==◌, length, position, IfSome, option_copied};
+ghost use Rattle.std.specs.List.{prefix_len};
+ghost use Rattle.std.specs.Simd.Lanes.{chunk};
+ghost use Rattle.opl_line.specs.Cut.{is_end, is_line_end, split_first, cut, pieces_of};
+
+use std::simd::prelude::*;
+
+/// How many bytes are looked at together.
+const LANES: usize = 16;
 
 /// Where a text is cut.
 #[derive(Clone, Copy, Debug)]
@@ -17,10 +24,20 @@ pub(crate) enum Cut {
     Percents,
     /// At each point.
     Points,
+    /// At each line feed and each carriage return.
+    LineEnds,
+}
+
+/// Where a line ends: the place of the first line feed or carriage return.
+pub fn find_line_end(bytes: &[u8]) -> Option<usize>
+    ensures { result ≡ position is_line_end bytes.now }
+{
+    Cut::LineEnds.find(bytes)
 }
 
 impl Cut {
     /// What stands before the first byte that is cut at, and what stands behind it, if there is one.
+    #[inline(always)]
     pub(crate) fn split(self, text: &str) -> (&str, Option<&str>)
         ensures first { result.0.now ≡ (split_first (is_end self) text.now).0 }
         ensures behind { option_copied result.1 ≡ (split_first (is_end self) text.now).1 }
@@ -34,6 +51,7 @@ impl Cut {
     }
 
     /// The same of bytes.
+    #[inline(always)]
     pub(crate) fn split_bytes(self, bytes: &[u8]) -> (&[u8], Option<&[u8]>)
         ensures first { result.0.now ≡ (split_first (is_end self) bytes.now).0 }
         ensures behind { option_copied result.1 ≡ (split_first (is_end self) bytes.now).1 }
@@ -44,22 +62,66 @@ impl Cut {
         }
     }
 
+    /// The place of the first byte that is cut at.
+    #[inline(always)]
     fn find(self, bytes: &[u8]) -> Option<usize>
         ensures { result ≡ position (is_end self) bytes.now }
     {
-        bytes.iter().position(|byte| self.is_end(*byte))
+        let mut seen = 0;
+        'lanes: while bytes.len() - seen >= LANES {
+            let run = self.run(bytes, seen);
+            if run < LANES {
+                return Some(seen + run);
+            }
+            seen += LANES;
+        }
+        'rest: for place in seen..bytes.len() {
+            if self.is_end(bytes[place]) {
+                return Some(place);
+            }
+        }
+        None
     }
 
+    /// How many of the 16 bytes from a place on stand before the first that is cut at.
+    #[inline(always)]
+    fn run(self, bytes: &[u8], from: usize) -> usize
+        requires { from + 16 ≤ length bytes.now }
+        ensures { result ≡ prefix_len (λ b. not (is_end self b)) (chunk from 16 bytes.now) }
+    {
+        let (one, other) = self.ends();
+        let lanes = u8x16::from_slice(&bytes[from..]);
+        let ends = lanes.simd_eq(u8x16::splat(one)) | lanes.simd_eq(u8x16::splat(other));
+        let mask = ends.to_bitmask();
+        if mask == 0 {
+            LANES
+        } else {
+            mask.trailing_zeros() as usize
+        }
+    }
+
+    /// Whether a byte is cut at.
+    #[inline(always)]
     fn is_end(self, byte: u8) -> bool
         ensures { result ≡ is_end self byte }
     {
+        let (one, other) = self.ends();
+        byte == one || byte == other
+    }
+
+    /// The bytes that are cut at, which may be the same.
+    #[inline(always)]
+    fn ends(self) -> (u8, u8)
+        ensures { (byte : ℕ) → is_end self byte ≡ (byte == result.0 || byte == result.1) }
+    {
         match self {
-            Cut::Blanks => byte == b' ' || byte == b'\t',
-            Cut::Commas => byte == b',',
-            Cut::Equals => byte == b'=',
-            Cut::Ats => byte == b'@',
-            Cut::Percents => byte == b'%',
-            Cut::Points => byte == b'.',
+            Cut::Blanks => (b' ', b'\t'),
+            Cut::Commas => (b',', b','),
+            Cut::Equals => (b'=', b'='),
+            Cut::Ats => (b'@', b'@'),
+            Cut::Percents => (b'%', b'%'),
+            Cut::Points => (b'.', b'.'),
+            Cut::LineEnds => (b'\n', b'\r'),
         }
     }
 }

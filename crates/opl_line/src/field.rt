@@ -2,7 +2,6 @@
 ghost use Rattle.std.specs.Prelude.{◌≡◌, ◌⊎◌, Ok, Err, MatchResult, option_copied};
 ghost use Rattle.opl_line.specs.declared.cut.Cut.TheVariants.{Blanks};
 ghost use Rattle.opl_line.specs.declared.reason.OplReason.TheVariants.{Memory};
-ghost use Rattle.opl_line.specs.Answer.{Answers};
 ghost use Rattle.opl_line.specs.Cut.{is_end, pieces_of};
 
 use crate::OplReason;
@@ -44,7 +43,7 @@ impl Fields {
     ghost use Rattle.opl_line.specs.Field as spec;
 
     /// What no field says.
-    fn nothing_said() -> Fields
+    pub(crate) fn nothing_said() -> Fields
         ensures { result ≡ spec.nothing_said }
     {
         Fields {
@@ -62,24 +61,30 @@ impl Fields {
         }
     }
 
-    /// What the fields of a kind of object say, which stand behind the first field's blank.
+    /// Adds what the fields of a kind of object say, which stand behind the first field's blank.
     ///
     /// # Errors
     ///
     /// That of the leftmost faulty field; `Memory`.
-    pub(crate) fn read(alloc: Global, kind: Kind, text: Option<&str>) -> Result<Fields, OplReason>
-        ensures { Answers (spec.reading_fields kind (pieces_of (is_end Blanks) (option_copied text.entry)) spec.nothing_said) result }
+    pub(crate) fn read(
+        &mut self,
+        alloc: Global,
+        kind: Kind,
+        text: Option<&str>,
+    ) -> Result<(), OplReason>
+        ensures { MatchResult result
+            (λ _. spec.reading_fields kind (pieces_of (is_end Blanks) (option_copied text.entry)) self.old ≡ Ok self.new)
+            (λ reason. (reason ≡ Memory) ⊎ (spec.reading_fields kind (pieces_of (is_end Blanks) (option_copied text.entry)) self.old ≡ Err reason)) }
     {
-        let mut fields = Fields::nothing_said();
         let mut rest = text;
         'fields: while let Some(text) = rest {
             let (field, behind) = Cut::Blanks.split(text);
-            match fields.add(alloc, kind, field) {
+            match self.add(alloc, kind, field) {
                 Ok(()) => rest = behind,
                 Err(reason) => return Err(reason),
             }
         }
-        Ok(fields)
+        Ok(())
     }
 
     /// Adds what one more field says. An empty one says nothing.

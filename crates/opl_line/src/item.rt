@@ -1,7 +1,9 @@
 //! The items of lists in OPL lines.
-ghost use Rattle.std.specs.Prelude.{◌≡◌, ◌⊎◌, Err, MatchResult};
+ghost use Rattle.std.specs.Prelude.{◌≡◌, ◌⊎◌, Err, MatchResult, length};
+ghost use Rattle.opl_line.specs.declared.cut.Cut.TheVariants.{Commas};
 ghost use Rattle.opl_line.specs.declared.reason.OplReason.TheVariants.{Memory};
 ghost use Rattle.opl_line.specs.Answer.{Answers};
+ghost use Rattle.opl_line.specs.Cut.{is_end, cut};
 ghost use Rattle.opl_line.specs.Item as spec;
 
 use crate::OplReason;
@@ -10,6 +12,10 @@ use crate::number::read_id;
 use crate::text::read_text;
 use osm_model::{Kind, Member, Tag};
 use std::alloc::Global;
+
+/// The most items that room is made for before they are read, as many as a way may have references today; so commas
+/// alone can't ask for much memory.
+const MOST_ROOM: usize = 2000;
 
 /// What can stand in a list.
 pub(crate) trait Item: Drop + Sized {
@@ -38,10 +44,11 @@ pub(crate) fn read_list<T: Item>(alloc: Global, content: &str) -> Result<Vec<T>,
         (λ items. spec.reading_list T.reading content.now ≡ Ok items.items)
         (λ reason. (reason ≡ Memory) ⊎ (spec.reading_list T.reading content.now ≡ Err reason)) }
 {
-    let mut items: Vec<T> = Vec::new(alloc);
     if content.is_empty() {
-        return Ok(items);
+        return Ok(Vec::new(alloc));
     }
+    let room = count_pieces(content.as_bytes()).min(MOST_ROOM);
+    let mut items: Vec<T> = Vec::with_capacity(alloc, room)?;
     let mut rest = Some(content);
     'items: while let Some(text) = rest {
         let (item, behind) = Cut::Commas.split(text);
@@ -52,6 +59,13 @@ pub(crate) fn read_list<T: Item>(alloc: Global, content: &str) -> Result<Vec<T>,
         rest = behind;
     }
     Ok(items)
+}
+
+/// How many pieces there are between commas.
+fn count_pieces(bytes: &[u8]) -> usize
+    ensures { result ≡ length (cut (is_end Commas) bytes.now) }
+{
+    bytes.iter().filter(|byte| **byte == b',').count() + 1
 }
 
 /// `key=value`.

@@ -12,6 +12,7 @@ mod reason;
 mod text;
 mod time;
 
+pub use cut::find_line_end;
 pub use line::{append_line, read_line, write_line};
 pub use reason::OplReason;
 pub use time::read_time;

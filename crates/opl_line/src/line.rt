@@ -1,7 +1,7 @@
 //! OPL lines, read and written.
 ghost use Rattle.std.specs.Prelude.{◌≡◌, ◌⊎◌, ◌++◌, true, IfOk, IfErr, OnOk, MatchOption};
 ghost use Rattle.osm_model.specs.Line.{line};
-ghost use Rattle.osm_model.specs.New.{is_dated};
+ghost use Rattle.osm_model.specs.New.{is_dated, version_or_fault};
 ghost use Rattle.opl_line.specs.Answer.{Answers};
 ghost use Rattle.opl_line.specs.Reading as spec;
 ghost use Rattle.opl_line.specs.Spells.{Spells, SpellsNothing};
@@ -54,8 +54,9 @@ fn read_version(alloc: Global, line: &str) -> Result<Version, OplReason>
 {
     let (object, behind) = Cut::Blanks.split(line);
     let (kind, id) = read_object(object.as_bytes())?;
-    let fields = Fields::read(alloc, kind, behind)?;
-    to_version(alloc, kind, id, fields)
+    let mut fields = Fields::nothing_said();
+    fields.read(alloc, kind, behind)?;
+    to_version(alloc, kind, id, &mut fields)
 }
 
 /// The kind and the id of an object.
@@ -72,17 +73,15 @@ fn read_object(field: &[u8]) -> Result<(Kind, i64), OplReason>
 }
 
 /// The version of what the fields of a line say.
-fn to_version(alloc: Global, kind: Kind, id: i64, fields: Fields) -> Result<Version, OplReason>
-    ensures { result ≡ spec.reading_whole kind id fields }
+fn to_version(alloc: Global, kind: Kind, id: i64, fields: &mut Fields) -> Result<Version, OplReason>
+    ensures { Answers (spec.reading_whole kind id fields.old) result }
 {
-    let mut fields = fields;
-    let user = fields.user.take();
     let meta = Meta {
         version: fields.number.unwrap_or(0),
         time: fields.time.unwrap_or(None),
         changeset: fields.changeset.unwrap_or(0),
         uid: fields.uid.unwrap_or(0),
-        user: user.unwrap_or(Text::new(alloc)),
+        user: fields.user.take().unwrap_or(Text::new(alloc)),
     };
     if meta.version == 0 {
         return Err(OplReason::NoVersion);
@@ -91,17 +90,30 @@ fn to_version(alloc: Global, kind: Kind, id: i64, fields: Fields) -> Result<Vers
         return Err(OplReason::NoTime);
     }
     let body = to_body(alloc, kind, fields)?;
-    Version::new(id, meta, body).map_err(reason_of)
+    make_version(alloc, id, meta, body)
+}
+
+/// The version of data.
+fn make_version(alloc: Global, id: i64, meta: Meta, body: Body) -> Result<Version, OplReason>
+    ensures { Answers (spec.unless_fault (version_or_fault id meta body)) result }
+{
+    match Version::new(alloc, id, meta, body) {
+        Ok(version) => Ok(version),
+        Err(fault) => Err(reason_of(fault)),
+    }
 }
 
 /// The body of what the fields of a line say.
-fn to_body(alloc: Global, kind: Kind, fields: Fields) -> Result<Body, OplReason>
-    ensures { result ≡ spec.reading_body kind fields }
+fn to_body(alloc: Global, kind: Kind, fields: &mut Fields) -> Result<Body, OplReason>
+    ensures { result ≡ spec.reading_body kind fields.old }
 {
     if fields.deleted.unwrap_or(false) {
         return Ok(Body::Deleted(kind));
     }
-    let tags = fields.tags.unwrap_or(Tags::from_vec(Vec::new(alloc)));
+    let tags = fields
+        .tags
+        .take()
+        .unwrap_or(Tags::from_vec(Vec::new(alloc)));
     match kind {
         Kind::Node => {
             let longitude = fields.longitude.unwrap_or(None);
@@ -113,12 +125,12 @@ fn to_body(alloc: Global, kind: Kind, fields: Fields) -> Result<Body, OplReason>
         }
         Kind::Way => {
             let no_references = References::from_vec(Vec::new(alloc));
-            let refs = fields.references.unwrap_or(no_references);
+            let refs = fields.references.take().unwrap_or(no_references);
             Ok(Body::Way { refs, tags })
         }
         Kind::Relation => {
             let no_members = Members::from_vec(Vec::new(alloc));
-            let members = fields.members.unwrap_or(no_members);
+            let members = fields.members.take().unwrap_or(no_members);
             Ok(Body::Relation { members, tags })
         }
     }

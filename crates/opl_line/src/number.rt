@@ -11,12 +11,61 @@ const GREATEST_ID: u64 = (1 << 62) - 1;
 /// Units of a coordinate in a degree.
 const DEGREE: u64 = 10_000_000;
 
+/// So many digits are always a number of 64 bits.
+const FEW: usize = 19;
+
 /// A number: one decimal digit or more, and `most` at most.
 ///
 /// # Errors
 ///
 /// `BadNumber` where it is none, `OutOfRange` where it is above `most`.
 pub(crate) fn read_number(digits: &[u8], most: u64) -> Result<u64, OplReason>
+    requires { most < 2 ^ 64 - 1 }
+    ensures { result ≡ spec.reading_number most digits.now }
+{
+    if digits.len() > FEW {
+        return read_long_number(digits, most);
+    }
+    match value_of_few(digits) {
+        None => Err(OplReason::BadNumber),
+        Some(number) => up_to(most, number),
+    }
+}
+
+/// The number, where it is at most the bound.
+fn up_to(most: u64, number: u64) -> Result<u64, OplReason>
+    ensures { result ≡ spec.up_to most number }
+{
+    if number <= most {
+        Ok(number)
+    } else {
+        Err(OplReason::OutOfRange)
+    }
+}
+
+/// The number that up to 19 digits write, if they are digits.
+#[inline(never)]
+fn value_of_few(digits: &[u8]) -> Option<u64>
+    requires { length digits.now ≤ 19 }
+    ensures { result ≡ spec.value_of digits.now }
+{
+    if digits.is_empty() {
+        return None;
+    }
+    let mut number: u64 = 0;
+    for digit in digits {
+        if !digit.is_ascii_digit() {
+            return None;
+        }
+        number = 10 * number + u64::from(*digit - b'0');
+    }
+    Some(number)
+}
+
+/// The same as `read_number`, for any length.
+#[cold]
+#[inline(never)]
+fn read_long_number(digits: &[u8], most: u64) -> Result<u64, OplReason>
     requires { most < 2 ^ 64 - 1 }
     ensures { result ≡ spec.reading_number most digits.now }
 {
@@ -32,11 +81,7 @@ pub(crate) fn read_number(digits: &[u8], most: u64) -> Result<u64, OplReason>
             .saturating_mul(10)
             .saturating_add(u64::from(*digit - b'0'));
     }
-    if number <= most {
-        Ok(number)
-    } else {
-        Err(OplReason::OutOfRange)
-    }
+    up_to(most, number)
 }
 
 /// An id: a number, behind a minus sign or not, from -4611686018427387903 to 4611686018427387903.
@@ -111,7 +156,7 @@ fn read_short_numeral(digits: &[u8], most: usize) -> Result<u64, OplReason>
     if digits.len() > most {
         return Err(OplReason::BadCoordinate);
     }
-    read_number(digits, u64::MAX >> 1).map_err(|_| OplReason::BadCoordinate)
+    value_of_few(digits).ok_or(OplReason::BadCoordinate)
 }
 
 /// What the last of so many decimals counts, in units of 10^-7 degree.

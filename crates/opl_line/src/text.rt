@@ -1,6 +1,7 @@
 //! Texts in OPL lines, with their escapes.
-ghost use Rattle.std.specs.Prelude.{◌≡◌, ◌⊎◌, ◌<◌, true, false, not, None, length, position, string_bytes, option_copied, MatchOption, MatchResult, IfOk, IfSome};
+ghost use Rattle.std.specs.Prelude.{◌≡◌, ◌⊎◌, ◌+◌, ◌<◌, ◌≤◌, nat_le, ◌&&◌, true, false, not, None, length, position, string_bytes, option_copied, MatchOption, MatchResult, IfOk, IfSome};
 ghost use Rattle.std.specs.List.{list_all};
+ghost use Rattle.std.specs.Simd.Lanes.{chunk};
 ghost use Rattle.opl_line.specs.declared.cut.Cut.TheVariants.{Percents};
 ghost use Rattle.opl_line.specs.declared.reason.OplReason.TheVariants.{Memory, BadText};
 ghost use Rattle.opl_line.specs.Answer.{Answers};
@@ -11,6 +12,10 @@ use crate::OplReason;
 use crate::cut::Cut;
 use osm_model::Text;
 use std::alloc::Global;
+use std::simd::prelude::*;
+
+/// How many bytes are looked at together.
+const LANES: usize = 8;
 
 /// The text that some bytes spell: raw characters and escapes.
 ///
@@ -65,6 +70,9 @@ fn split_raw(text: &str) -> Option<(&str, Option<&str>)>
     ensures shorter { IfSome result (λ parts. IfSome parts.1 (λ behind. length behind.now < length text.now)) }
 {
     let bytes = text.as_bytes();
+    if is_plain(bytes) {
+        return Some((text, None));
+    }
     let Some(end) = find_other(bytes) else {
         return Some((text, None));
     };
@@ -72,6 +80,38 @@ fn split_raw(text: &str) -> Option<(&str, Option<&str>)>
         return None;
     }
     Some((&text[..end], Some(&text[end + 1..])))
+}
+
+/// Whether there are 8 bytes at least, and all of them are plain.
+fn is_plain(bytes: &[u8]) -> bool
+    ensures { result ≡ (nat_le 8 (length bytes.now) && list_all spec.is_plain bytes.now) }
+{
+    if bytes.len() < LANES {
+        return false;
+    }
+    let mut seen = 0;
+    'lanes: while bytes.len() - seen >= LANES {
+        if !are_plain(bytes, seen) {
+            return false;
+        }
+        seen += LANES;
+    }
+    are_plain(bytes, bytes.len() - LANES)
+}
+
+/// Whether the 8 bytes from a place on are plain.
+#[inline(always)]
+fn are_plain(bytes: &[u8], from: usize) -> bool
+    requires { from + 8 ≤ length bytes.now }
+    ensures { result ≡ list_all spec.is_plain (chunk from 8 bytes.now) }
+{
+    let lanes = u8x8::from_slice(&bytes[from..]);
+    let controls = lanes.simd_le(u8x8::splat(b'\r'));
+    let blanks = controls | lanes.simd_eq(u8x8::splat(b' '));
+    let percents = blanks | lanes.simd_eq(u8x8::splat(b'%'));
+    let commas = percents | lanes.simd_eq(u8x8::splat(b','));
+    let others = commas | lanes.simd_eq(u8x8::splat(b'='));
+    others.to_bitmask() == 0
 }
 
 /// The place of the first byte that doesn't stand for itself.

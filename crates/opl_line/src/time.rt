@@ -1,9 +1,8 @@
 //! Times in OPL lines.
-ghost use Rattle.std.specs.Prelude.{◌≡◌, ◌+◌, ◌*◌, ◌<◌, ◌≤◌, ◌^◌, length, IfSome};
+ghost use Rattle.std.specs.Prelude.{◌≡◌, ◌+◌, ◌<◌, ◌≤◌, length, IfSome};
 ghost use Rattle.opl_line.specs.Time as spec;
 
 use crate::OplReason;
-use crate::number::read_number;
 use jiff::civil::Date;
 
 /// The days from 0000-01-01 to 1970-01-01.
@@ -48,9 +47,9 @@ fn read_date(text: &[u8]) -> Option<u32>
     requires { length text.now ≡ 20 }
     ensures { result ≡ spec.reading_date text.now }
 {
-    let year = digits_at(text, 0, 4)?;
-    let month = digits_at(text, 5, 2)?;
-    let day = digits_at(text, 8, 2)?;
+    let year = four_digits_at(text, 0)?;
+    let month = two_digits_at(text, 5)?;
+    let day = two_digits_at(text, 8)?;
     if text[4] == b'-' && text[7] == b'-' {
         day_of(year, month as u8, day as u8)
     } else {
@@ -63,9 +62,9 @@ fn read_clock(text: &[u8]) -> Option<u32>
     requires { length text.now ≡ 20 }
     ensures { result ≡ spec.reading_clock text.now }
 {
-    let hour = digits_at(text, 11, 2)?;
-    let minute = digits_at(text, 14, 2)?;
-    let second = digits_at(text, 17, 2)?;
+    let hour = two_digits_at(text, 11)?;
+    let minute = two_digits_at(text, 14)?;
+    let second = two_digits_at(text, 17)?;
     if text[10] == b'T' && text[13] == b':' && text[16] == b':' && text[19] == b'Z' {
         second_of(hour, minute, second)
     } else {
@@ -84,16 +83,39 @@ fn second_of(hour: u16, minute: u16, second: u16) -> Option<u32>
     }
 }
 
-/// The number that so many digits from a place on write.
-fn digits_at(text: &[u8], from: usize, count: usize) -> Option<u16>
-    requires within { from + count ≤ length text.now }
-    requires few { count ≤ 4 }
-    ensures value { result ≡ spec.digits_at from count text.now }
-    ensures bound { IfSome result (λ number. number < 10 ^ count) }
+/// The number that four digits from a place on write.
+fn four_digits_at(text: &[u8], from: usize) -> Option<u16>
+    requires { from + 4 ≤ length text.now }
+    ensures value { result ≡ spec.digits_at from 4 text.now }
+    ensures bound { IfSome result (λ number. number < 10_000) }
 {
-    match read_number(&text[from..from + count], 9_999) {
-        Ok(number) => Some(number as u16),
-        Err(_) => None,
+    let thousands = digit_of(text[from])?;
+    let hundreds = digit_of(text[from + 1])?;
+    let tens = digit_of(text[from + 2])?;
+    let ones = digit_of(text[from + 3])?;
+    Some(1_000 * thousands + 100 * hundreds + 10 * tens + ones)
+}
+
+/// The number that two digits from a place on write.
+fn two_digits_at(text: &[u8], from: usize) -> Option<u16>
+    requires { from + 2 ≤ length text.now }
+    ensures value { result ≡ spec.digits_at from 2 text.now }
+    ensures bound { IfSome result (λ number. number < 100) }
+{
+    let tens = digit_of(text[from])?;
+    let ones = digit_of(text[from + 1])?;
+    Some(10 * tens + ones)
+}
+
+/// The number that a digit writes.
+fn digit_of(byte: u8) -> Option<u16>
+    ensures value { result ≡ spec.digit_of byte }
+    ensures bound { IfSome result (λ digit. digit < 10) }
+{
+    if byte.is_ascii_digit() {
+        Some(u16::from(byte - b'0'))
+    } else {
+        None
     }
 }
 

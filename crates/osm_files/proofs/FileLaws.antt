@@ -1,9 +1,9 @@
 -- Whole files: one reading, and what their verdicts tell.
-use Rattle.std.proofs.Common.{◌≡◌, ◌⊎◌, inl, inr, ⊎_elim, ℕ, zero, suc, ◌+◌, ◌-◌, ◌≤◌, ◌<◌, ◌^◌, ◌==◌, ◌||◌, Bool, true, false, cond, List, [], ◌∷◌, ◌++◌, length, drop, take, get_or, refl, sym, ap, ◌∙◌, subst, arith, Option, Some, None, Result, Ok, Err, length-append, length-drop, nat_lt, take-append-drop, bytes_eq}
+use Rattle.std.proofs.Common.{◌≡◌, ◌⊎◌, ⊎_elim, ℕ, zero, suc, ◌+◌, ◌-◌, ◌≤◌, ◌<◌, ◌^◌, ◌==◌, true, false, cond, List, [], ◌∷◌, ◌++◌, length, drop, take, get_or, refl, sym, ap, ◌∙◌, subst, arith, Option, Some, None, Ok, Err, length-append, length-drop, nat_lt, take-append-drop}
 use Rattle.std.specs.List.{flat_map}
 use Rattle.std.specs.List.Sorted.{IsSorted}
 use Rattle.std.specs.Ordering.{is_lt}
-use Rattle.std.proofs.lemmas.Bool.{false≢true, lt-ltb, ltb-true, ltb-false, eqb-true}
+use Rattle.std.proofs.lemmas.Bool.{false≢true, lt-ltb, ltb-true}
 use Rattle.std.proofs.lemmas.Bool.Decides.{Decides-or}
 use Rattle.std.proofs.lemmas.Slice.Eq.{bytes_eq-Decides}
 use Rattle.osm_model.specs.Data.{VersionData}
@@ -14,7 +14,7 @@ use Rattle.osm_files.specs.Stream.{Verdict, verdict_at, Placed, Still}
 use Rattle.osm_files.specs.O5.{o5m_header, o5c_header, end_byte, reset_byte, part_bytes, O5File}
 use Rattle.osm_files.specs.Units.{Stand, InOpl, BeforeHeader, InSegment, Found, FileUnit, unit, passes, found_then, closed, unit_then, unit_at, last_at, units_within, units, header_unit, is_header, start_of}
 use Rattle.osm_files.specs.Held.{IsFile, IsFileOf}
-use Rattle.osm_files.specs.Verdict.{length_limit, too_long, file_units, versions_of, verdict, is_below, sorted_verdict, verdict_sorted}
+use Rattle.osm_files.specs.Verdict.{length_limit, too_long, file_units, versions_of, verdict, is_below, sorted_verdict}
 use Rattle.osm_files.specs.Laws.{OneList, FilesAreRead, AcceptedWithoutVerdict, SortedFilesAreRead, SortedWithoutVerdict}
 use Rattle.osm_files.proofs.UnitLaws.{ReadsAs, some_is_not_none, opl_reads}
 use Rattle.osm_files.proofs.PartLaws.{PartsFile, reads_parts, through, nothing_reads}

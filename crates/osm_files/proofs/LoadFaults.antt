@@ -16,7 +16,7 @@ use Rattle.o5_codec.specs.declared.segment.Segment.{Segment}
 use Rattle.osm_files.specs.declared.reason.Reason.{Reason}
 use Rattle.osm_files.specs.declared.reason.Reason.TheVariants.{Opl, O5, BadHeader, Unsorted, NoEnd, AfterEnd, TooLong, ReadFault, WriteFault, Memory, Failed}
 use Rattle.osm_files.specs.Reason.{of_line, of_data_set}
-use Rattle.osm_files.specs.Opl.{is_line_end}
+use Rattle.opl_line.specs.Cut.{is_line_end}
 use Rattle.osm_files.specs.O5.{end_byte, reset_byte, is_lone, kind_of_type}
 use Rattle.osm_files.specs.Stream.{Verdict, verdict_at, Placed, Still, whole}
 use Rattle.osm_files.specs.Units.{Stand, InOpl, BeforeHeader, InSegment, BehindEnd, Found, FileUnit, unit, passes, line_found, line_unit, is_header, set_found, content_found, sized_unit, length_at, unit_at, last_at, found_then, closed, unit_then, units_within, units, start_of}

@@ -1,12 +1,10 @@
 -- A unit that stands whole stays the same, whatever follows it.
-use Rattle.std.proofs.Common.{◌≡◌, ◌⊎◌, inl, inr, ⊎_elim, ℕ, zero, suc, ◌+◌, ◌-◌, ◌≤◌, ◌<◌, ◌==◌, ◌||◌, ◌^◌, Bool, true, false, cond, List, [], ◌∷◌, ◌++◌, length, drop, take, refl, sym, ap, ◌∙◌, subst, arith, Option, Some, None, Result, Ok, Err, length-append, nat_lt, nat_le}
+use Rattle.std.proofs.Common.{◌≡◌, ◌⊎◌, inl, inr, ⊎_elim, ℕ, zero, suc, ◌+◌, ◌-◌, ◌≤◌, ◌<◌, ◌==◌, ◌||◌, ◌^◌, Bool, true, false, cond, List, [], ◌∷◌, ◌++◌, length, take, refl, sym, ap, ◌∙◌, arith, Option, Some, None, Result, Ok, Err, length-append, nat_lt, nat_le}
 use Rattle.std.specs.List.{list_any}
 use Rattle.std.proofs.lemmas.Bool.{false≢true, ltb-true, ltb-false, leb-true, lt-ltb}
 use Rattle.std.proofs.lemmas.Bool.Decides.{nat_tests}
 use Rattle.std.proofs.lemmas.List.{take-append-le}
-use Rattle.osm_model.specs.Data.{VersionData}
 use Rattle.opl_line.specs.Cut.{split_first, lengthened}
-use Rattle.opl_line.specs.Reading.{reading_line}
 use Rattle.o5_codec.specs.declared.reason.O5Reason.{O5Reason}
 use Rattle.o5_codec.specs.declared.reason.O5Reason.TheVariants.{BadNumber}
 use Rattle.o5_codec.specs.declared.segment.Segment.{Segment}
@@ -14,12 +12,11 @@ use Rattle.o5_codec.specs.Answer.{and_then}
 use Rattle.o5_codec.specs.Number.{groups_at, number_at, with_low, within_word}
 use Rattle.o5_codec.specs.Decoder.{new_segment}
 use Rattle.osm_files.specs.declared.reason.Reason.TheVariants.{BadHeader}
-use Rattle.osm_files.specs.Opl.{is_line_end}
+use Rattle.opl_line.specs.Cut.{is_line_end}
 use Rattle.osm_files.specs.O5.{end_byte, reset_byte, is_lone, kind_of_type}
-use Rattle.osm_files.specs.Reason.{of_data_set}
-use Rattle.osm_files.specs.Units.{Stand, InOpl, BeforeHeader, InSegment, BehindEnd, Found, FileUnit, unit, passes, line_unit, line_found, header_unit, is_header, content_found, is_last, is_ended, length_at, sized_unit, segment_unit, behind_unit, unit_at}
+use Rattle.osm_files.specs.Units.{Stand, InOpl, BeforeHeader, InSegment, BehindEnd, FileUnit, unit, passes, line_unit, header_unit, is_header, content_found, is_last, is_ended, length_at, sized_unit, segment_unit, behind_unit, unit_at}
 use Rattle.osm_files.proofs.UnitLaws.{some_is_not_none}
-use Rattle.osm_files.proofs.PartLaws.{LengthFound, length_found}
+use Rattle.osm_files.proofs.PartLaws.{length_found}
 
 abbrev Split : Type 0
 Split = List ℕ × Option (List ℕ)

@@ -1,23 +1,23 @@
 -- The data sets of o5 files as units.
-use Rattle.std.proofs.Common.{◌≡◌, ◌≢◌, ◌⊎◌, inl, inr, ℕ, zero, suc, ◌+◌, ◌-◌, ◌≤◌, ◌<◌, Bool, true, false, not, cond, List, [], ◌∷◌, ◌++◌, length, drop, take, refl, sym, ap, ◌∙◌, subst, arith, Option, Some, None, Result, Ok, Err, length-append, length-drop, append_assoc, ◌||◌, ◌==◌, nat_lt, nat_le, take-append-drop, length-take}
+use Rattle.std.proofs.Common.{◌≡◌, ◌⊎◌, inl, inr, ℕ, zero, suc, ◌+◌, ◌-◌, ◌≤◌, ◌<◌, Bool, true, false, cond, List, [], ◌∷◌, ◌++◌, length, drop, take, refl, sym, ap, ◌∙◌, subst, arith, Option, Some, None, Result, Ok, Err, length-append, length-drop, append_assoc, ◌||◌, ◌==◌, nat_lt, nat_le, take-append-drop, length-take}
 use Rattle.std.specs.List.{flat_map, list_any}
-use Rattle.std.proofs.lemmas.Bool.{false≢true, lt-ltb, ltb-true, eqb-true, leb-true, leb-false}
+use Rattle.std.proofs.lemmas.Bool.{false≢true, lt-ltb, eqb-true, leb-true, leb-false}
 use Rattle.osm_model.specs.Data.{VersionData}
 use Rattle.osm_model.specs.declared.kind.Kind.{Kind}
 use Rattle.osm_model.specs.declared.kind.Kind.TheVariants as kind
 use Rattle.o5_codec.specs.declared.reason.O5Reason.{O5Reason}
 use Rattle.o5_codec.specs.declared.segment.Segment.{Segment}
 use Rattle.o5_codec.specs.Number.{AreGroups, SpellsNumber, number_at}
-use Rattle.o5_codec.specs.Spelling.{NumberStands, SpellsSet}
+use Rattle.o5_codec.specs.Spelling.{SpellsSet}
 use Rattle.o5_codec.specs.Decoder.{new_segment}
 use Rattle.o5_codec.specs.Body.{set_at}
 use Rattle.o5_codec.proofs.NumberLaws.{number_found, number_only}
 use Rattle.o5_codec.proofs.StepLaws.{set_found, set_only}
-use Rattle.osm_files.specs.Stream.{Verdict, Placed, placed, Still, whole, refused, front}
+use Rattle.osm_files.specs.Stream.{Verdict, Placed, placed, Still, refused, front}
 use Rattle.osm_files.specs.O5.{end_byte, reset_byte, type_byte, kind_of_type, is_lone, IsOtherType, Part, Reset, Lone, Skipped, Object, part_bytes, PartsSpell}
 use Rattle.o5_codec.specs.declared.reason.O5Reason.TheVariants as o5
 use Rattle.osm_files.specs.declared.reason.Reason.TheVariants.{NoEnd, O5}
-use Rattle.osm_files.specs.Units.{Stand, InSegment, BehindEnd, Found, FileUnit, unit, passes, found_then, closed, unit_then, unit_at, last_at, units_within, segment_unit, behind_unit, sized_unit, content_found, set_found as found_of, is_last, is_ended, length_at}
+use Rattle.osm_files.specs.Units.{InSegment, BehindEnd, FileUnit, unit, passes, closed, unit_then, unit_at, last_at, units_within, segment_unit, behind_unit, sized_unit, content_found, set_found as found_of, is_last, is_ended, length_at}
 use Rattle.osm_files.specs.Verdict.{versions_of}
 use Rattle.std.proofs.lemmas.Bool.Decides.{nat_tests}
 use Rattle.osm_files.proofs.UnitLaws.{ReadsAs, some_is_not_none}

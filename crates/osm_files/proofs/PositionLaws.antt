@@ -1,19 +1,19 @@
 -- One unit further.
-use Rattle.std.proofs.Common.{◌≡◌, ◌⊎◌, inl, inr, ⊎_elim, ℕ, zero, suc, ◌+◌, ◌-◌, ◌≤◌, ◌<◌, ◌^◌, Bool, true, false, cond, List, [], ◌∷◌, ◌++◌, length, drop, take, refl, sym, ap, ◌∙◌, subst, arith, Option, Some, None, option_map, IfSome, Result, Ok, Err, length-append, length-drop, append_assoc, nat_lt, slice_get}
-use Rattle.std.proofs.lemmas.List.{append-nil, take-append-le, drop-append-le}
-use Rattle.std.proofs.lemmas.Bool.{ltb-true, ltb-false, lt-ltb}
+use Rattle.std.proofs.Common.{◌≡◌, ◌⊎◌, inl, inr, ℕ, zero, suc, ◌+◌, ◌-◌, ◌≤◌, ◌<◌, ◌^◌, Bool, true, false, cond, List, [], ◌∷◌, ◌++◌, length, drop, take, refl, sym, ap, ◌∙◌, subst, arith, Option, Some, None, option_map, IfSome, Ok, Err, length-append, length-drop, nat_lt}
+use Rattle.std.proofs.lemmas.List.{append-nil, drop-append-le}
+use Rattle.std.proofs.lemmas.Bool.{lt-ltb}
 use Rattle.std.proofs.lemmas.Bool.Decides.{nat_tests}
 use Rattle.std.proofs.Math.Seq.{take-append-add}
 use Rattle.osm_model.specs.Data.{VersionData}
 use Rattle.osm_files.specs.declared.fault.Fault.{Fault}
 use Rattle.osm_files.specs.declared.reason.Reason.{Reason}
-use Rattle.osm_files.specs.declared.reason.Reason.TheVariants.{ReadFault, Memory}
-use Rattle.osm_files.specs.Fault.{memory_fault, fault_at}
+use Rattle.osm_files.specs.declared.reason.Reason.TheVariants.{ReadFault}
+use Rattle.osm_files.specs.Fault.{memory_fault}
 use Rattle.osm_files.specs.Input.{Coming, whole as all_of, preceded_by}
-use Rattle.osm_files.specs.Stream.{Verdict, verdict_at, Placed, placed, Still, whole, refused, front}
-use Rattle.osm_files.specs.Units.{Stand, Found, FileUnit, unit, unit_at, last_at, found_then, closed, units, start_of}
+use Rattle.osm_files.specs.Stream.{verdict_at, Placed, placed, Still, whole, refused, front}
+use Rattle.osm_files.specs.Units.{Stand, FileUnit, unit_at, last_at, found_then, units}
 use Rattle.osm_files.specs.Verdict.{length_limit, too_long}
-use Rattle.osm_files.specs.Position.{Position, ahead, stand_in, closing, window, units_from, fault_of, named, to_come, Keeps, ReadsOn, GoesOn, stand_at, seen, Halts, StopsFilling}
+use Rattle.osm_files.specs.Position.{Position, ahead, stand_in, closing, window, units_from, fault_of, named, to_come, Keeps, ReadsOn, GoesOn, stand_at, Halts, StopsFilling}
 use Rattle.osm_files.proofs.FillLaws.{weaker, mapped, kept, keeps_on}
 use Rattle.osm_files.proofs.StepLaws.{IsSized, unit_sized, found_same, units_step, units_stop}
 use Rattle.osm_files.proofs.MoreLaws.{unit_stays}

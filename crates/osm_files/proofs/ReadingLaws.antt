@@ -1,5 +1,5 @@
 -- What the calls of a reading do, step by step.
-use Rattle.std.proofs.Common.{◌≡◌, ◌⊎◌, inl, inr, ⊎_elim, ℕ, zero, suc, ◌+◌, ◌-◌, ◌≤◌, ◌<◌, ◌^◌, Bool, true, false, cond, List, [], ◌∷◌, ◌++◌, length, drop, refl, sym, ap, ◌∙◌, subst, arith, Option, Some, None, option_map, IfSome, is_some, Result, Ok, Err, slice_get, take, length-drop}
+use Rattle.std.proofs.Common.{◌≡◌, ◌⊎◌, inl, inr, ⊎_elim, ℕ, ◌+◌, ◌-◌, ◌≤◌, ◌<◌, ◌^◌, true, false, cond, List, [], ◌∷◌, length, drop, refl, sym, ap, ◌∙◌, subst, arith, Option, Some, None, option_map, IfSome, is_some, Result, Ok, Err, slice_get, take, length-drop}
 use Rattle.std.proofs.lemmas.Bool.{false≢true}
 use Rattle.std.proofs.lemmas.List.{take_all}
 use Rattle.osm_model.specs.Data.{VersionData}
@@ -12,9 +12,9 @@ use Rattle.osm_files.specs.declared.reading.Advance.{Advance}
 use Rattle.osm_files.specs.declared.reading.Advance.TheVariants.{Passed, Gave, Ended}
 use Rattle.osm_files.specs.Fault.{memory_fault, failed_fault, fault_at}
 use Rattle.osm_files.specs.Input.{Coming}
-use Rattle.osm_files.specs.Stream.{Verdict, verdict_at, Placed, placed, Still, whole, refused, front}
+use Rattle.osm_files.specs.Stream.{verdict_at, Placed, placed, Still, whole, refused, front}
 use Rattle.osm_files.specs.Source.{Step}
-use Rattle.osm_files.specs.Units.{Stand, InOpl, BeforeHeader, InSegment, BehindEnd, Found, FileUnit, unit, unit_at, last_at, found_then, units, start_of}
+use Rattle.osm_files.specs.Units.{Stand, InOpl, BeforeHeader, InSegment, BehindEnd, Found, unit, unit_at, last_at, found_then, units}
 use Rattle.osm_files.specs.Reading.{Finds, FindsLast, stand_of, without_stand}
 use Rattle.osm_files.specs.Position.{Position, ahead, stand_in, closing, window, units_from, fault_of, named, to_come, still_to_come, Keeps, GoesOn, Advances, stand_at, seen, given, FindsHeld, progress}
 use Rattle.osm_files.proofs.FillLaws.{weaker, mapped, keeps_on}

@@ -33,7 +33,8 @@ use Rattle.o5_codec.specs.WritingLaws.{segment_for, SetsStand, spelled_sets}
 use Rattle.o5_codec.proofs.WrittenLists.{lists_read}
 use Rattle.osm_files.specs.declared.format.Format.{Format}
 use Rattle.osm_files.specs.declared.format.Format.TheVariants.{Opl, O5m, O5c}
-use Rattle.osm_files.specs.Opl.{is_line_end, is_read, OplFile}
+use Rattle.opl_line.specs.Cut.{is_line_end}
+use Rattle.osm_files.specs.Opl.{is_read, OplFile}
 use Rattle.osm_files.specs.O5.{o5m_header, o5c_header, end_byte, reset_byte, type_byte, Part, Reset, Object, part_bytes, PartsSpell, O5File}
 use Rattle.osm_files.specs.Units.{Stand, InOpl, BeforeHeader, start_of}
 use Rattle.osm_files.specs.Held.{IsFile, IsFileOf, Holds}

@@ -1,5 +1,5 @@
 -- What the code finds at the front of some bytes is the unit there.
-use Rattle.std.proofs.Common.{◌≡◌, ◌⊎◌, inl, inr, ℕ, ◌+◌, ◌<◌, ◌≤◌, Bool, true, false, cond, List, [], ◌∷◌, length, take, drop, refl, sym, ap, ◌∙◌, arith, Option, Some, None, Result, Ok, Err, position, length-take, nat_lt, nat_le, ◌-◌, slice_get}
+use Rattle.std.proofs.Common.{◌≡◌, ◌⊎◌, inl, inr, ℕ, ◌+◌, ◌≤◌, true, false, List, [], ◌∷◌, length, take, refl, sym, ap, ◌∙◌, arith, Option, Some, None, Ok, Err, position, length-take, nat_lt, nat_le, ◌-◌, slice_get}
 use Rattle.std.proofs.lemmas.Bool.{false≢true}
 use Rattle.std.proofs.lemmas.Bool.Decides.{nat_tests}
 use Rattle.osm_model.specs.Data.{VersionData}
@@ -15,9 +15,9 @@ use Rattle.o5_codec.specs.declared.segment.Segment.{Segment}
 use Rattle.o5_codec.specs.Number.{number_at}
 use Rattle.osm_files.specs.Reason.{of_line, of_data_set}
 use Rattle.osm_files.specs.O5.{kind_of_type}
-use Rattle.osm_files.specs.Opl.{is_line_end}
+use Rattle.opl_line.specs.Cut.{is_line_end}
 use Rattle.osm_files.specs.Reading.{Finds, ends_at}
-use Rattle.osm_files.specs.Units.{Stand, BehindEnd, behind_unit, segment_unit, InOpl, InSegment, is_ended, length_at, sized_unit, content_found, unit, line_unit, line_found, header_unit, is_header, passes}
+use Rattle.osm_files.specs.Units.{Stand, BehindEnd, behind_unit, segment_unit, InOpl, is_ended, length_at, sized_unit, content_found, unit, line_unit, line_found, header_unit, is_header, passes}
 
 pub no_line : (bytes : List ℕ) → position is_line_end bytes ≡ None → line_unit (split_first is_line_end bytes) ≡ None
 no_line bytes none = ap line_unit (split_nowhere is_line_end bytes none)

@@ -1,25 +1,24 @@
 -- The units of a whole file, gone over one by one.
-use Rattle.std.proofs.Common.{◌≡◌, ◌⊎◌, inl, inr, ⊎_elim, ℕ, ◌+◌, ◌-◌, ◌<◌, ◌^◌, Bool, true, false, cond, List, [], ◌∷◌, ◌++◌, length, drop, get_or, refl, sym, ap, ◌∙◌, subst, arith, Option, Some, None, Result, Ok, Err, append_assoc, length-append, slice_get}
+use Rattle.std.proofs.Common.{◌≡◌, ◌⊎◌, inl, inr, ⊎_elim, ℕ, ◌+◌, ◌-◌, ◌<◌, ◌^◌, false, cond, List, [], ◌∷◌, ◌++◌, length, drop, refl, sym, ap, ◌∙◌, subst, arith, Option, Some, None, Result, Ok, Err, append_assoc, length-append, slice_get}
 use Rattle.std.proofs.lemmas.List.{append-nil}
 use Rattle.std.proofs.lemmas.Option.{slice_get-get_or}
 use Rattle.std.proofs.Math.Seq.{get_or-append_seam}
-use Rattle.std.proofs.lemmas.Bool.{lt-ltb}
 use Rattle.osm_model.specs.Data.{VersionData}
 use Rattle.osm_files.specs.declared.fault.Fault.{Fault}
 use Rattle.osm_files.specs.declared.reason.Reason.{Reason}
 use Rattle.osm_files.specs.declared.reason.Reason.TheVariants.{Memory, Unsorted, Opl, O5, BadHeader, NoEnd, AfterEnd, TooLong, ReadFault, WriteFault, Failed}
 use Rattle.osm_files.specs.Fault.{memory_fault, fault_at}
-use Rattle.osm_files.specs.Stream.{Verdict, verdict_at, Placed, placed, Still, whole, refused, front}
-use Rattle.osm_files.specs.Reading.{without_stand, Finds}
-use Rattle.osm_files.specs.Units.{Stand, Found, FileUnit, unit, unit_at, last_at, found_then, closed, units, start_of}
-use Rattle.osm_files.specs.Verdict.{length_limit, file_units, versions_of, verdict_sorted, sorted_verdict, is_below}
-use Rattle.osm_files.specs.Whole.{fault_of, last_of, is_below_last, Adds, AddsLast, ReadsSorted}
+use Rattle.osm_files.specs.Stream.{Verdict, verdict_at, Placed, placed, Still, whole, front}
+use Rattle.osm_files.specs.Reading.{Finds}
+use Rattle.osm_files.specs.Units.{Stand, Found, unit, unit_at, last_at, found_then, units, start_of}
+use Rattle.osm_files.specs.Verdict.{file_units, versions_of, verdict_sorted, sorted_verdict}
+use Rattle.osm_files.specs.Whole.{fault_of, last_of, is_below_last, Adds, AddsLast}
 use Rattle.std.specs.List.Sorted.{IsSorted}
 use Rattle.osm_model.specs.Order.{version_cmp, key_cmp}
 use Rattle.osm_model.specs.Sets.{from_list}
 use Rattle.osm_files.specs.Held.{IsFile, HoldsSorted}
 use Rattle.osm_files.proofs.FileLaws.{short_units, accepted_without_verdict, sorted_without_verdict}
-use Rattle.osm_files.proofs.StepLaws.{IsSized, unit_sized, units_step, units_stop}
+use Rattle.osm_files.proofs.StepLaws.{units_step, units_stop}
 
 abbrev pub verdict_of : Still Placed Verdict → List VersionData → Option Verdict
 verdict_of still before = sorted_verdict still.refusal (last_of before) still.list

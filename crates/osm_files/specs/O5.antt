@@ -8,8 +8,6 @@ use Rattle.o5_codec.specs.declared.segment.Segment.{Segment}
 use Rattle.o5_codec.specs.Number.{SpellsNumber}
 use Rattle.o5_codec.specs.Decoder.{new_segment}
 use Rattle.o5_codec.specs.Spelling.{SpellsSet}
-use Rattle.osm_files.specs.declared.format.Format.{Format}
-use Rattle.osm_files.specs.declared.format.Format.TheVariants.{Opl, O5m, O5c}
 
 -- a reset byte, and four more bytes that end in the letters of the format
 abbrev pub o5m_header : List ℕ

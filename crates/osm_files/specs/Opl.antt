@@ -1,14 +1,10 @@
 -- OPL files: lines and what they hold (Osmium OPL file format manual; that comments and empty lines are skipped is an own rule).
-use Rattle.std.specs.Prelude.{ℕ, Bool, not, ◌==◌, ◌||◌, List, filter}
+use Rattle.std.specs.Prelude.{ℕ, Bool, not, List, filter}
 use Rattle.osm_model.specs.Data.{VersionData}
-use Rattle.opl_line.specs.Cut.{cut}
+use Rattle.opl_line.specs.Cut.{cut, is_line_end}
 use Rattle.opl_line.specs.Content.{Pairwise}
 use Rattle.opl_line.specs.Reading.{is_skipped}
 use Rattle.opl_line.specs.Spells.{Spells}
-
--- LF and CR
-abbrev pub is_line_end : ℕ → Bool
-is_line_end b = (b == 10) || (b == 13)
 
 abbrev pub is_read : List ℕ → Bool
 is_read line = not (is_skipped line)

@@ -1,5 +1,5 @@
 -- Where a reading of units stands in its input, and what is still to come from there.
-use Rattle.std.specs.Prelude.{◌≡◌, ◌⊎◌, ℕ, ◌≤◌, ◌+◌, ◌-◌, Bool, nat_lt, List, [], ◌∷◌, ◌++◌, ◌^◌, length, take, true, Option, Some, None, option_map, IfSome, is_some, slice_get, Result, Ok, Err, if◌then◌else◌}
+use Rattle.std.specs.Prelude.{◌≡◌, ◌⊎◌, ℕ, ◌≤◌, ◌+◌, ◌-◌, Bool, nat_lt, List, ◌∷◌, ◌++◌, ◌^◌, length, take, true, Option, Some, None, option_map, IfSome, is_some, slice_get, Result, Ok, Err, if◌then◌else◌}
 use Rattle.osm_model.specs.Data.{VersionData}
 use Rattle.osm_files.specs.declared.fault.Fault.{Fault}
 use Rattle.osm_files.specs.declared.reason.Reason.{Reason}

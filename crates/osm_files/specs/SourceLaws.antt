@@ -1,5 +1,5 @@
 -- What the source of a file means, in the words of sets and verdicts.
-use Rattle.std.specs.Prelude.{◌≡◌, ◌⊎◌, ℕ, ◌<◌, ◌≤◌, ◌^◌, true, List, ◌++◌, length, Option, Some, None, option_map}
+use Rattle.std.specs.Prelude.{◌≡◌, ◌⊎◌, ℕ, ◌<◌, ◌≤◌, ◌^◌, List, ◌++◌, length, Option, Some, None, option_map}
 use Rattle.osm_model.specs.Order.{version_cmp}
 use Rattle.osm_model.specs.Sets.{listed, from_list}
 use Rattle.osm_model.specs.VersionSet.{VersionSet}

@@ -1,5 +1,5 @@
 -- The units of a file, lines or data sets, one after the other from the left, up to the first that is faulty.
-use Rattle.std.specs.Prelude.{ℕ, zero, suc, ◌+◌, ◌-◌, ◌==◌, ◌||◌, nat_le, nat_lt, bytes_eq, Bool, true, false, List, [], ◌∷◌, length, take, drop, Option, Some, None, Result, Ok, Err, if◌then◌else◌}
+use Rattle.std.specs.Prelude.{ℕ, zero, suc, ◌+◌, ◌-◌, ◌==◌, ◌||◌, nat_le, nat_lt, bytes_eq, Bool, List, [], ◌∷◌, length, take, drop, Option, Some, None, Result, Ok, Err, if◌then◌else◌}
 use Rattle.std.specs.List.{list_any}
 use Rattle.osm_model.specs.declared.kind.Kind.{Kind}
 use Rattle.osm_model.specs.Data.{VersionData}
@@ -15,7 +15,7 @@ use Rattle.o5_codec.specs.Decoder.{new_segment}
 use Rattle.osm_files.specs.declared.reason.Reason.{Reason}
 use Rattle.osm_files.specs.declared.reason.Reason.TheVariants.{BadHeader, NoEnd, AfterEnd, O5}
 use Rattle.osm_files.specs.Reason.{of_line, of_data_set}
-use Rattle.osm_files.specs.Opl.{is_line_end}
+use Rattle.opl_line.specs.Cut.{is_line_end}
 use Rattle.osm_files.specs.O5.{o5m_header, o5c_header, end_byte, reset_byte, kind_of_type, is_lone}
 use Rattle.osm_files.specs.Stream.{Verdict, verdict_at, Placed, placed, Still, whole, refused, front}
 

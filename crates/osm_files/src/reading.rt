@@ -1,5 +1,6 @@
 //! Reading the units of an input, one by one, in whatever pieces its bytes come.
 ghost use Rattle.std.specs.Prelude.{◌≡◌, ◌+◌, ◌-◌, ◌<◌, ◌≤◌, ◌^◌, ◌⊎◌, true, false, Option, None, Some, Ok, Err, List, [], ◌∷◌, length, drop, IfOk, IfErr, IfSome, OnOk, IsSome, if◌then◌else◌};
+ghost use Rattle.osm_files.specs.Fault.{fault_at};
 ghost use Rattle.osm_files.specs.Units as spec;
 ghost use Rattle.osm_files.specs.Reading.{FindsLast, stand_of, IsGood};
 ghost use Rattle.osm_files.specs.Source.{Step};
@@ -42,10 +43,10 @@ pub(crate) struct Reading<R: Input> {
     input: usize,
     reader: R,
     buffer: Vec<u8>,
+    /// The place in the file of the first byte of the buffer.
+    begin: u64,
     /// How many bytes of the buffer were read.
     from: usize,
-    /// The place in the file of the first byte that wasn't.
-    place: u64,
     /// Where the reading stands, once the first byte was seen, which tells the grammar.
     at: Option<Place>,
     ended: bool,
@@ -59,9 +60,9 @@ impl<R: Input> Model for Reading<R> {
 
     ghost Value = { Position };
 
-    ghost view = { λ r. record { input = r.input; place = r.place; held = drop r.from r.buffer.items; coming = R.coming r.reader; stand = option_map stand_of r.at; ended = r.ended; failed = r.failed } };
+    ghost view = { λ r. record { input = r.input; place = r.begin + r.from; held = drop r.from r.buffer.items; coming = R.coming r.reader; stand = option_map stand_of r.at; ended = r.ended; failed = r.failed } };
 
-    ghost invariant = { λ r. (r.from ≤ length r.buffer.items) × (r.place + length r.buffer.items < r.from + 2 ^ 62) × (r.failed ≡ false → IfSome r.at IsGood) };
+    ghost invariant = { λ r. (r.from ≤ length r.buffer.items) × (r.begin + length r.buffer.items < 2 ^ 62) × (r.failed ≡ false → IfSome r.at IsGood) };
 }
 
 impl<R: Input> Reading<R> {
@@ -74,8 +75,8 @@ impl<R: Input> Reading<R> {
             input,
             reader,
             buffer: Vec::new(alloc),
+            begin: 0,
             from: 0,
-            place: 0,
             at: None,
             ended: false,
             failed: false,
@@ -87,10 +88,26 @@ impl<R: Input> Reading<R> {
         ensures { self.new ≡ self.old }
     {
         self.buffer.drain(..self.from);
+        self.begin += self.from as u64;
         self.from = 0;
     }
 
-    /// Reads more bytes, or finds that there are no more.
+    /// The place in the file of the first byte that wasn't read.
+    fn place(&self) -> u64
+        ensures { result ≡ self.now.place }
+    {
+        self.begin + self.from as u64
+    }
+
+    /// The refusal of the unit there.
+    fn refusal(&self, reason: Reason) -> Fault
+        ensures { result ≡ fault_at self.now.input self.now.place reason }
+    {
+        Fault::at(self.input, self.place(), reason)
+    }
+
+    /// Reads more bytes, or finds that there are no more. Its chunk stands on the stack, so it is no part of its callers.
+    #[inline(never)]
     fn fill(&mut self) -> Result<(), Fault>
         requires { self.old.ended ≡ false }
         ensures on { OnOk result (ReadsOn self.old self.new) }
@@ -99,7 +116,7 @@ impl<R: Input> Reading<R> {
         ensures number { self.new.input ≡ self.old.input }
     {
         self.compact();
-        let read = self.place + (self.buffer.len() - self.from) as u64;
+        let read = self.begin + self.buffer.len() as u64;
         let room = LENGTH_LIMIT - 1 - read;
         let mut chunk = [0u8; CHUNK];
         let size = room.min(CHUNK as u64).max(1) as usize;
@@ -160,9 +177,8 @@ impl<R: Input> Reading<R> {
         ensures gone { self.new ≡ record self.old { place = self.old.place + unit.size; held = drop unit.size self.old.held } }
         ensures gave { result ≡ given self.old.place unit.version }
     {
-        let place = self.place;
+        let place = self.place();
         self.from += unit.size;
-        self.place += unit.size as u64;
         match unit.version {
             None => Advance::Passed,
             Some(version) => Advance::Gave(Placed { place, version }),
@@ -200,7 +216,7 @@ impl<R: Input> Reading<R> {
     {
         let version = match self.read_last() {
             Ok(version) => version,
-            Err(reason) => return Err(Fault::at(self.input, self.place, reason)),
+            Err(reason) => return Err(self.refusal(reason)),
         };
         let size = self.held_length();
         if size == 0 {
@@ -221,7 +237,7 @@ impl<R: Input> Reading<R> {
             match self.read_held() {
                 Ok(Some(unit)) => return Ok(self.pass(unit)),
                 Ok(None) => {}
-                Err(reason) => return Err(Fault::at(self.input, self.place, reason)),
+                Err(reason) => return Err(self.refusal(reason)),
             }
             if self.ended {
                 return self.last();

@@ -1,17 +1,17 @@
 //! Units: the lines of OPL files and the data sets of o5 files, one at a time from the left.
-ghost use Rattle.std.specs.Prelude.{◌≡◌, ◌⊎◌, ℕ, true, false, Option, None, Some, Ok, List, ◌∷◌, ◌≤◌, length, position, IfOk, IfSome, OnOk};
+ghost use Rattle.std.specs.Prelude.{◌≡◌, ◌⊎◌, ℕ, true, false, Option, None, Some, Ok, List, ◌∷◌, ◌≤◌, length, IfOk, IfSome, OnOk};
 ghost use Rattle.std.specs.List.{list_any};
 ghost use Rattle.o5_codec.specs.Decoder.{new_segment};
 ghost use Rattle.opl_line.specs.Cut.{split_first};
 ghost use Rattle.opl_line.specs.Reading.{reading_line};
-ghost use Rattle.osm_files.specs.Opl.{is_line_end};
+ghost use Rattle.opl_line.specs.Cut.{is_line_end};
 ghost use Rattle.osm_files.specs.O5 as o5;
 ghost use Rattle.osm_files.specs.Reading.{Finds, FindsContent, FindsLast, stand_of, IsGood, ends_at};
 ghost use Rattle.osm_files.specs.Units as spec;
 
 use crate::reason::Reason;
 use o5_codec::{Decoder, O5Reason, read_number};
-use opl_line::read_line;
+use opl_line::{find_line_end, read_line};
 use osm_model::{Kind, Version};
 use std::alloc::Global;
 
@@ -60,19 +60,6 @@ fn passed(size: usize) -> Result<Option<ReadUnit>, Reason>
         size,
         version: None,
     }))
-}
-
-/// Where a line ends.
-fn find_line_end(bytes: &[u8]) -> Option<usize>
-    ensures { result ≡ position is_line_end bytes.now }
-{
-    bytes.iter().position(|byte| is_line_end(*byte))
-}
-
-fn is_line_end(byte: u8) -> bool
-    ensures { result ≡ is_line_end byte }
-{
-    byte == b'\n' || byte == b'\r'
 }
 
 /// The line at the front of the bytes, if its end is there.

@@ -16,4 +16,5 @@ pub mod JoinedLaws
 pub mod LineLaws
 pub mod VersionLaws
 pub mod CursorLaws
+pub mod AppendLaws
 pub mod KindLaws

@@ -1,5 +1,5 @@
 -- The raw characters at the front of a text.
-use Rattle.std.proofs.Common.{◌≡◌, ◌⊎◌, ℕ, ◌+◌, ◌/◌, ◌%◌, ◌<◌, ◌≤◌, true, false, cond, ltb, leb, ◌&&◌, List, [], ◌∷◌, ◌++◌, length, get_or, take, drop, refl, sym, ap, ◌∙◌, subst, arith, append_assoc, if◌then◌else◌, ⊎_elim, add_assoc, ◌≢◌}
+use Rattle.std.proofs.Common.{◌≡◌, ◌⊎◌, ℕ, zero, suc, ◌-◌, Bool, T, eqb, eqb→eq, eq-zero-or-pos, inl, inr, ◌+◌, ◌/◌, ◌%◌, ◌<◌, ◌≤◌, true, false, cond, ltb, leb, ◌&&◌, List, [], ◌∷◌, ◌++◌, length, get_or, take, drop, refl, sym, ap, ◌∙◌, subst, arith, append_assoc, if◌then◌else◌, ⊎_elim, add_assoc, ◌≢◌}
 use Rattle.std.proofs.lemmas.Bool.Decides.{nat_tests}
 use Rattle.std.proofs.lemmas.Bool.{ltb-true, ltb-false, leb-true, and_parts, cases_lt}
 use Rattle.std.proofs.lemmas.List.{take-append-drop, take_at, length-append, drop_all, length-drop, length-take-le}
@@ -10,6 +10,8 @@ use Rattle.std.specs.Int.{is_in_range}
 use Rattle.std.specs.Str.{chars, IsUtf8}
 use Rattle.std.specs.List.{take_while}
 use lib.Utf8.{encode, encodes}
+use lib.Ieee.Fits.{and_l, and_r}
+use Rattle.osm_model.specs.declared.escape.TheConstants.{RAW_BYTES}
 use Rattle.osm_model.specs.Escape.{is_raw, escape, raw_width, raw_length}
 use Rattle.osm_model.proofs.EscapeLaws.{escape_char-raw}
 
@@ -169,3 +171,20 @@ width-other width lead next len is no_byte no_lead no_latin = sym (⊎_elim
     (λ low. is.byte low ∙ (let no : is_raw lead ≡ false = grind (arith, nat_tests) in rw no refl))
     (λ high. is.other high (grind (arith, nat_tests)))
     (cases_lt lead 0x80))
+
+abbrev are_raw_bytes : ℕ → Bool
+are_raw_bytes zero = true
+are_raw_bytes (suc byte) = eqb (get_or RAW_BYTES byte 0) (if is_raw byte && ltb byte 0x80 then 1 else 0) && are_raw_bytes byte
+
+raw_bytes_below : (n byte : ℕ) → T (are_raw_bytes n) → byte < n → get_or RAW_BYTES byte 0 ≡ (if is_raw byte && ltb byte 0x80 then 1 else 0)
+raw_bytes_below zero byte t h = absurd (omega arith)
+raw_bytes_below (suc n) byte t h =
+    elim (eq-zero-or-pos (n - byte)) [
+      | inl z ↦ let e : byte ≡ n = omega arith in rw e (eqb→eq _ _ (and_l _ (are_raw_bytes n) t))
+      | inr g ↦ raw_bytes_below n byte (and_r _ (are_raw_bytes n) t) (omega arith)
+    ]
+
+-- the table tells of each byte whether it is raw
+pub raw_byte_at : (byte : ℕ) → byte < 256 → eqb (get_or RAW_BYTES byte 0) 1 ≡ (is_raw byte && ltb byte 0x80)
+raw_byte_at byte small =
+    rw (raw_bytes_below 256 byte tt small) (elim (is_raw byte && ltb byte 0x80) as (λ b. eqb (cond b 1 0) 1 ≡ b) [ true ↦ refl | false ↦ refl ])

@@ -1,13 +1,15 @@
 -- Tags that tie are equal, and the texts of tags.
-use Rattle.std.proofs.Common.{◌≡◌, ℕ, Bool, true, false, not, ◌||◌, ◌&&◌, List, [], ◌∷◌, refl, sym, ap, ◌∙◌}
+use Rattle.std.proofs.Common.{◌≡◌, ℕ, Bool, true, false, not, ◌||◌, ◌&&◌, List, [], ◌∷◌, refl, sym, ap, ◌∙◌, subst}
 use Rattle.std.specs.declared.cmp.Ordering.{Ordering}
 use Rattle.std.specs.declared.cmp.Ordering.TheVariants.{Less, Equal, Greater}
-use Rattle.std.specs.Ordering.{ordering_then}
-use Rattle.std.specs.List.{list_any, list_all}
+use Rattle.std.specs.Bool.{OnTrue}
+use Rattle.std.specs.Ordering.{ordering_then, is_lt}
+use Rattle.std.specs.List.{list_any, list_all, IsAllAdjacentAnswer}
+use Rattle.std.specs.List.Sorted.{IsStrictlySortedBy}
 use Rattle.std.specs.FinMap.{IsAntisymmetric}
 use Rattle.osm_model.specs.declared.tags.Tag.{Tag}
 use Rattle.osm_model.specs.Tags.{tag_cmp, tag_cmp_total, normal, texts_of_tags}
-use Rattle.osm_model.proofs.SetLaws.{list_any-listed}
+use Rattle.osm_model.proofs.SetLaws.{list_any-listed, listed-from_list, strict_from_neighbours}
 use Rattle.osm_model.proofs.TextLaws.{text_cmp-IsAntisymmetric}
 
 pub first_equal : (a b : Ordering) → ordering_then a b ≡ Equal → a ≡ Equal
@@ -50,3 +52,12 @@ list_all-normal p ts =
     list_all-texts_of_tags p (normal ts) ∙ list_all-none _ (normal ts)
     ∙ ap not (list_any-listed tag_cmp_total tag_cmp-IsAntisymmetric (λ t. not (p t.key && p t.value)) ts)
     ∙ sym (list_all-texts_of_tags p ts ∙ list_all-none _ ts)
+
+-- what a test of each two neighbours tells
+pub ascending_from_test : (b : Bool) (xs ts : List Tag) → xs ≡ ts → IsAllAdjacentAnswer (λ x y a. a ≡ is_lt (tag_cmp x y)) xs b → OnTrue b (IsStrictlySortedBy tag_cmp ts)
+ascending_from_test true xs ts e h = subst (IsStrictlySortedBy tag_cmp) e (strict_from_neighbours tag_cmp_total xs h)
+ascending_from_test false xs ts e h = tt
+
+-- tags that ascend are those of their set
+pub normal-ascending : (ts : List Tag) → IsStrictlySortedBy tag_cmp ts → ts ≡ normal ts
+normal-ascending ts up = sym (listed-from_list tag_cmp_total tag_cmp-IsAntisymmetric ts up)

@@ -23,4 +23,5 @@ pub mod VersionSet
 pub mod Laws
 pub mod Piece
 pub mod Cursor
+pub mod Append
 pub mod KindLaw

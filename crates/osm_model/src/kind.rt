@@ -1,6 +1,8 @@
 //! The kinds of objects.
-ghost use Rattle.std.specs.Prelude.{◌≡◌};
+ghost use Rattle.std.specs.Prelude.{◌≡◌, ◌≤◌, ◌∷◌, length};
 ghost use Rattle.osm_model.specs.Kind.{kind_rank, kind_letter};
+ghost use Rattle.osm_model.specs.Joined.{joined};
+ghost use Rattle.osm_model.specs.Line as text;
 
 /// The kind of an object.
 #[derive(Clone, Copy, Debug, PartialEq, Eq)]
@@ -30,6 +32,18 @@ impl Kind {
             Kind::Node => b'n',
             Kind::Way => b'w',
             Kind::Relation => b'r',
+        }
+    }
+
+    /// The fields behind the tags in the line of a deleted version, each with a space in front of it.
+    pub(crate) fn empty_fields(self) -> &'static [u8]
+        ensures text { result.now ≡ 32 ∷ joined 32 (text.empty_fields self) }
+        ensures short { length result.now ≤ 4 }
+    {
+        match self {
+            Kind::Node => b" x y",
+            Kind::Way => b" N",
+            Kind::Relation => b" M",
         }
     }
 }

@@ -1,6 +1,7 @@
 //! OpenStreetMap versions: their data, their canonical OPL line, their order, and finite sets of them.
 #![tactic(auto)]
 
+mod append;
 mod body;
 mod calendar;
 mod escape;

@@ -4,15 +4,14 @@ ghost use Rattle.std.specs.Bool.{MatchBool};
 ghost use Rattle.std.specs.Str.{chars};
 ghost use Rattle.std.specs.Iterator.{YieldsFirst, item_count};
 ghost use Rattle.osm_model.specs.Data.{VersionData, tags_of};
-ghost use Rattle.osm_model.specs.Joined.{joined};
 ghost use Rattle.osm_model.specs.Escape.{escape};
 ghost use Rattle.osm_model.specs.Piece.{left};
-ghost use Rattle.osm_model.specs.Line.{list_text, tag_text, reference_text, member_text, empty_fields, line};
+ghost use Rattle.osm_model.specs.Line.{list_text, tag_text, reference_text, member_text, line};
 ghost use Rattle.osm_model.specs.Cursor.{after, from_field, from_kind, coming, more_text, items_text, run_text, run_of, behind, still, Gives, GivesOrEnds};
 
 use crate::escape::plain_length;
 use crate::piece::Piece;
-use crate::{Body, Kind, Member, Tag, Text, Version};
+use crate::{Body, Member, Tag, Text, Version};
 
 /// A field of a line.
 #[derive(Clone, Copy)]
@@ -174,7 +173,7 @@ fn give_kind_field<'a>(version: &'a Version, piece: &mut Piece) -> Next<'a>
 {
     match version.body() {
         Body::Deleted(kind) => {
-            give_empty_fields(*kind, piece);
+            piece.set_bytes(kind.empty_fields());
             Next::at(Place::End)
         }
         Body::Node { lon, lat, .. } => {
@@ -195,17 +194,6 @@ fn give_kind_field<'a>(version: &'a Version, piece: &mut Piece) -> Next<'a>
                 members: members.as_slice(),
             })
         }
-    }
-}
-
-/// Fills the piece with the fields behind the tags of a deleted version.
-fn give_empty_fields(kind: Kind, piece: &mut Piece)
-    ensures { left piece.new ≡ 32 ∷ joined 32 (empty_fields kind) }
-{
-    match kind {
-        Kind::Node => piece.set_bytes(b" x y"),
-        Kind::Way => piece.set_bytes(b" N"),
-        Kind::Relation => piece.set_bytes(b" M"),
     }
 }
 
@@ -299,8 +287,7 @@ fn give_text<'a>(text: &'a str, piece: &mut Piece) -> Option<(Run<'a>, &'a str)>
 }
 
 /// The bytes of a version's canonical line that are still to be given: those of the run at hand, and what comes
-/// behind it. It takes no memory: it is a place in the version, and at most 32 bytes of the number, time or escape at
-/// hand.
+/// behind it. It takes no memory: it is a place in the version, and the bytes of the number, time or escape at hand.
 #[derive(Drop)]
 pub struct LineBytes<'a> {
     version: &'a Version,

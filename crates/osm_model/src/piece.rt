@@ -1,12 +1,13 @@
-//! A few bytes of a line, filled in place.
-ghost use Rattle.std.specs.Prelude.{◌≡◌, ◌++◌, ◌+◌, ◌∷◌, [], ◌≤◌, ◌<◌, ◌^◌, length, replicate, MatchOption};
+//! Some bytes of a line, filled in place.
+ghost use Rattle.std.specs.Prelude.{◌≡◌, ◌++◌, ◌+◌, ◌/◌, ◌%◌, ◌∷◌, [], ◌≤◌, ◌<◌, ◌^◌, length, replicate, MatchOption, OnOk};
 ghost use Rattle.std.specs.Option.{ForSome};
 ghost use Rattle.osm_model.specs.Numeral.{numeral, padded};
 ghost use Rattle.osm_model.specs.Decimal.{number_text, sign_text, integer_text};
 ghost use Rattle.osm_model.specs.Coordinate.{fraction_text, coordinate_text};
-ghost use Rattle.osm_model.specs.Time.{date_of, date_text, clock_text, time_text, two_digits};
+ghost use Rattle.osm_model.specs.Time.{date_of, date_text, clock_text, time_text};
 ghost use Rattle.osm_model.specs.Escape.{code_escape, escape_char};
 
+use crate::Memory;
 use crate::calendar::Date;
 use crate::escape::{escape_width, hex_digit, is_raw};
 
@@ -15,14 +16,18 @@ const UNITS_IN_DEGREE: u64 = 10_000_000;
 
 const SECONDS_IN_DAY: u64 = 86_400;
 
-/// At most 32 bytes that are still to be given.
+/// The bytes that a piece has room for: more than the fields before a user name take.
+const ROOM: usize = 128;
+
+/// At most 128 bytes that are still to be given.
 ///
-/// They end where the room ends, so that a number is written in place from its last digit on.
+/// They end where the room ends, so that a number is written in place from its last digit on, and a field in front of
+/// those behind it.
 #[derive(Drop)]
 pub struct Piece {
-    bytes: [u8; 32],
+    bytes: [u8; ROOM],
     start: usize,
-    ghost within: { start ≤ 32 },
+    ghost within: { start ≤ 128 },
 }
 
 impl Piece {
@@ -30,11 +35,12 @@ impl Piece {
 
     /// A piece with nothing left.
     pub fn new() -> Piece
-        ensures { left result ≡ [] }
+        ensures left { left result ≡ [] }
+        ensures room { result.start ≡ ROOM }
     {
         Piece {
-            bytes: [0; 32],
-            start: 32,
+            bytes: [0; ROOM],
+            start: ROOM,
         }
     }
 
@@ -45,13 +51,21 @@ impl Piece {
         &self.bytes[self.start..]
     }
 
+    /// Appends the bytes that are left.
+    pub fn append_to(&self, out: &mut Vec<u8>) -> Result<(), Memory>
+        ensures { OnOk result (out.new.items ≡ out.old.items ++ left self.now) }
+    {
+        out.extend_from_slice(self.as_slice())?;
+        Ok(())
+    }
+
     /// The first byte that is left, which is taken.
     pub fn take(&mut self) -> Option<u8>
         ensures { MatchOption result
             ((left self.old ≡ []) × (left self.new ≡ []))
             (λ byte. left self.old ≡ byte ∷ left self.new) }
     {
-        if self.start == 32 {
+        if self.start == ROOM {
             return None;
         }
         let byte = self.bytes[self.start];
@@ -62,13 +76,13 @@ impl Piece {
     /// Takes all that is left.
     pub fn clear(&mut self)
         ensures left { left self.new ≡ [] }
-        ensures room { self.new.start ≡ 32 }
+        ensures room { self.new.start ≡ ROOM }
     {
-        self.start = 32;
+        self.start = ROOM;
     }
 
     /// One byte more, in front.
-    fn push_front(&mut self, byte: u8)
+    pub fn push_front(&mut self, byte: u8)
         requires { 0 < self.old.start }
         ensures left { left self.new ≡ byte ∷ left self.old }
         ensures room { self.new.start + 1 ≡ self.old.start }
@@ -78,7 +92,7 @@ impl Piece {
     }
 
     /// More bytes, in front.
-    fn prepend(&mut self, bytes: &[u8])
+    pub fn prepend(&mut self, bytes: &[u8])
         requires { length bytes.now ≤ self.old.start }
         ensures left { left self.new ≡ bytes.now ++ left self.old }
         ensures room { self.new.start + length bytes.now ≡ self.old.start }
@@ -90,7 +104,7 @@ impl Piece {
     }
 
     /// A number in decimal, in front.
-    fn prepend_number(&mut self, number: u64)
+    pub fn prepend_number(&mut self, number: u64)
         requires { 20 ≤ self.old.start }
         ensures left { left self.new ≡ number_text number ++ left self.old }
         ensures room { self.new.start + length (number_text number) ≡ self.old.start }
@@ -111,9 +125,19 @@ impl Piece {
         }
     }
 
-    /// These bytes, at most 32.
+    /// An integer in decimal, in front.
+    pub fn prepend_integer(&mut self, integer: i64)
+        requires { 21 ≤ self.old.start }
+        ensures left { left self.new ≡ integer_text integer ++ left self.old }
+        ensures short { self.old.start ≤ self.new.start + 21 }
+    {
+        self.prepend_number(integer.unsigned_abs());
+        self.prepend_sign(integer);
+    }
+
+    /// These bytes, at most 128.
     pub fn set_bytes(&mut self, bytes: &[u8])
-        requires { length bytes.now ≤ 32 }
+        requires { length bytes.now ≤ ROOM }
         ensures { left self.new ≡ bytes.now }
     {
         self.clear();
@@ -136,8 +160,7 @@ impl Piece {
         ensures { left self.new ≡ mark.now ++ integer_text integer }
     {
         self.clear();
-        self.prepend_number(integer.unsigned_abs());
-        self.prepend_sign(integer);
+        self.prepend_integer(integer);
         self.prepend(mark);
     }
 
@@ -146,20 +169,30 @@ impl Piece {
         requires { length mark.now ≤ 2 }
         ensures { left self.new ≡ mark.now ++ coordinate_text units }
     {
-        let size = u64::from(units.unsigned_abs());
-        self.set_fraction(size % UNITS_IN_DEGREE);
-        self.prepend_number(size / UNITS_IN_DEGREE);
-        self.prepend_sign(i64::from(units));
+        self.clear();
+        self.prepend_coordinate(units);
         self.prepend(mark);
     }
 
-    /// The point and the decimals of a part of a degree, or nothing where it is 0.
-    fn set_fraction(&mut self, units: u64)
-        requires { units < 10_000_000 }
-        ensures left { left self.new ≡ fraction_text units }
-        ensures room { 24 ≤ self.new.start }
+    /// A coordinate in units of 10^-7 degree, in front.
+    pub fn prepend_coordinate(&mut self, units: i32)
+        requires { 29 ≤ self.old.start }
+        ensures left { left self.new ≡ coordinate_text units ++ left self.old }
+        ensures short { self.old.start ≤ self.new.start + 29 }
     {
-        self.clear();
+        let size = u64::from(units.unsigned_abs());
+        self.prepend_fraction(size % UNITS_IN_DEGREE);
+        self.prepend_number(size / UNITS_IN_DEGREE);
+        self.prepend_sign(i64::from(units));
+    }
+
+    /// The point and the decimals of a part of a degree in front, or nothing where it is 0.
+    fn prepend_fraction(&mut self, units: u64)
+        requires room { 20 ≤ self.old.start }
+        requires part { units < 10_000_000 }
+        ensures left { left self.new ≡ fraction_text units ++ left self.old }
+        ensures short { self.old.start ≤ self.new.start + 8 }
+    {
         if units == 0 {
             return;
         }
@@ -210,7 +243,7 @@ impl Piece {
     }
 
     /// `yyyy-mm-ddThh:mm:ssZ` in front, or nothing where there is no time.
-    fn prepend_time(&mut self, time: Option<u64>)
+    pub fn prepend_time(&mut self, time: Option<u64>)
         requires room { 20 ≤ self.old.start }
         requires in_range { ForSome time (λ seconds. seconds < 2 ^ 32) }
         ensures left { left self.new ≡ time_text time ++ left self.old }
@@ -232,12 +265,20 @@ impl Piece {
         ensures room { self.new.start + 10 ≡ self.old.start }
     {
         let date = Date::from_day(day);
-        self.prepend_pair(date.day);
-        self.push_front(b'-');
-        self.prepend_pair(date.month);
-        self.push_front(b'-');
-        self.prepend_pair((date.year % 100) as u8);
-        self.prepend_pair((date.year / 100) as u8);
+        let century = (date.year / 100) as u8;
+        let year = (date.year % 100) as u8;
+        self.prepend(&[
+            tens(century),
+            ones(century),
+            tens(year),
+            ones(year),
+            b'-',
+            tens(date.month),
+            ones(date.month),
+            b'-',
+            tens(date.day),
+            ones(date.day),
+        ]);
     }
 
     /// A second of the day as `hh:mm:ss`, in front.
@@ -247,22 +288,19 @@ impl Piece {
         ensures left { left self.new ≡ clock_text second ++ left self.old }
         ensures room { self.new.start + 8 ≡ self.old.start }
     {
-        self.prepend_pair((second % 60) as u8);
-        self.push_front(b':');
-        self.prepend_pair((second / 60 % 60) as u8);
-        self.push_front(b':');
-        self.prepend_pair((second / 3600) as u8);
-    }
-
-    /// A number in two digits, in front.
-    fn prepend_pair(&mut self, number: u8)
-        requires room { 2 ≤ self.old.start }
-        requires small { number < 100 }
-        ensures left { left self.new ≡ two_digits number ++ left self.old }
-        ensures room { self.new.start + 2 ≡ self.old.start }
-    {
-        self.push_front(b'0' + number % 10);
-        self.push_front(b'0' + number / 10);
+        let hour = (second / 3600) as u8;
+        let minute = (second / 60 % 60) as u8;
+        let second = (second % 60) as u8;
+        self.prepend(&[
+            tens(hour),
+            ones(hour),
+            b':',
+            tens(minute),
+            ones(minute),
+            b':',
+            tens(second),
+            ones(second),
+        ]);
     }
 
     /// A character of a text, raw or as an escape.
@@ -284,8 +322,9 @@ impl Piece {
     {
         self.clear();
         self.push_front(b'%');
+        let end = self.start;
         self.prepend_hex(code);
-        let digits = 31 - self.start;
+        let digits = end - self.start;
         self.prepend_zeros(escape_width(code).saturating_sub(digits));
         self.push_front(b'%');
     }
@@ -304,6 +343,22 @@ impl Piece {
         }
         self.push_front(hex_digit(rest));
     }
+}
+
+/// The first digit of a number below 100.
+fn tens(number: u8) -> u8
+    requires { number < 100 }
+    ensures { result ≡ 48 + number / 10 }
+{
+    b'0' + number / 10
+}
+
+/// The last digit of a number below 100.
+fn ones(number: u8) -> u8
+    requires { number < 100 }
+    ensures { result ≡ 48 + number % 10 }
+{
+    b'0' + number % 10
 }
 
 #[cfg(test)]

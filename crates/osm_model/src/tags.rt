@@ -2,7 +2,9 @@
 ghost use Rattle.std.specs.Prelude.{◌≡◌, Some, refl, IfOk};
 ghost use Rattle.std.specs.Ordering.{eq_by_cmp, as_partial_cmp};
 ghost use Rattle.std.specs.Cmp.{eq_by_cmp_equiv, partial_equiv_from_equiv, partial_order_from_agreeing_total};
+ghost use Rattle.std.specs.Bool.{OnTrue};
 ghost use Rattle.std.specs.List.{list_all};
+ghost use Rattle.std.specs.List.Sorted.{IsStrictlySortedBy};
 ghost use Rattle.osm_model.specs.Text.{is_text};
 ghost use Rattle.osm_model.specs.Tags.{tag_cmp, tag_cmp_total, normal, texts_of_tags};
 
@@ -65,7 +67,10 @@ impl Ord for Tag {
 
     fn cmp(&self, other: &Tag) -> Ordering {
         let key = self.key.as_str().cmp(other.key.as_str());
-        key.then(self.value.as_str().cmp(other.value.as_str()))
+        if key != Ordering::Equal {
+            return key;
+        }
+        self.value.as_str().cmp(other.value.as_str())
     }
 }
 
@@ -111,10 +116,21 @@ impl Tags {
     pub(crate) fn normal(self) -> Tags
         ensures { result ≡ normal self }
     {
+        if self.do_ascend() {
+            return self;
+        }
         let mut tags = self.into_vec();
         tags.sort_unstable();
         tags.dedup();
         Tags { tags }
+    }
+
+    /// Whether each tag stands below the next one.
+    fn do_ascend(&self) -> bool
+        ensures { OnTrue result (IsStrictlySortedBy tag_cmp self.now) }
+    {
+        self.tags
+            .is_sorted_by(|left, right| left.cmp(right).is_lt())
     }
 
     /// Whether no key and no value holds the character U+0000.

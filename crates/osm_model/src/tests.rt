@@ -61,7 +61,7 @@ fn node(alloc: Global, id: i64, version: u64, lon: i32, lat: i32) -> Result<Vers
         lat,
         tags: no_tags(alloc),
     };
-    Ok(Version::new(id, number(alloc, version), body)?)
+    Ok(Version::new(alloc, id, number(alloc, version), body)?)
 }
 
 fn tagged_node(alloc: Global, key: &str) -> Result<Version, Fail> {
@@ -70,7 +70,7 @@ fn tagged_node(alloc: Global, key: &str) -> Result<Version, Fail> {
         lat: 10_000_000,
         tags: Tags::from_vec(vec![in alloc; tag(alloc, key, "1")?]?),
     };
-    Ok(Version::new(1, number(alloc, 1), body)?)
+    Ok(Version::new(alloc, 1, number(alloc, 1), body)?)
 }
 
 fn way(alloc: Global, id: i64, refs: Vec<i64>) -> Result<Version, ValueFault> {
@@ -78,7 +78,7 @@ fn way(alloc: Global, id: i64, refs: Vec<i64>) -> Result<Version, ValueFault> {
         refs: References::from_vec(refs),
         tags: no_tags(alloc),
     };
-    Version::new(id, number(alloc, 1), body)
+    Version::new(alloc, id, number(alloc, 1), body)
 }
 
 /// One node as a member.
@@ -96,11 +96,11 @@ fn relation(alloc: Global, members: Members) -> Result<Version, ValueFault> {
         members,
         tags: no_tags(alloc),
     };
-    Version::new(7, number(alloc, 1), body)
+    Version::new(alloc, 7, number(alloc, 1), body)
 }
 
 fn deleted(alloc: Global, kind: Kind, version: u64) -> Result<Version, ValueFault> {
-    Version::new(1, number(alloc, version), Body::Deleted(kind))
+    Version::new(alloc, 1, number(alloc, version), Body::Deleted(kind))
 }
 
 /// The relation of the canonical texts.
@@ -117,7 +117,7 @@ fn texts(alloc: Global) -> Result<Version, Fail> {
         members: Members::from_vec(members),
         tags: Tags::from_vec(tags),
     };
-    Ok(Version::new(7, author(alloc, Some(1), "a b")?, body)?)
+    Ok(Version::new(alloc, 7, author(alloc, Some(1), "a b")?, body)?)
 }
 
 fn line(alloc: Global, version: &Version) -> Result<Vec<u8>, Fail> {
@@ -191,14 +191,14 @@ fn tags_are_a_set(rt: HostRuntime) -> Result<(), Fail> {
         refs: References::from_vec(vec![in alloc; 1, -2, 1]?),
         tags: Tags::from_vec(tags),
     };
-    let v = Version::new(-3, number(alloc, 2), body)?;
+    let v = Version::new(alloc, -3, number(alloc, 2), body)?;
     let expected = b">w-3 v2 dV c0 t i0 u Ta=1,b=1,b=2 Nn1,n-2,n1";
     assert_eq!(rt; line(alloc, &v)?.as_slice(), expected.as_slice());
     Ok(())
 }
 
-fn fault(id: i64, meta: Meta) -> Option<ValueFault> {
-    Version::new(id, meta, Body::Deleted(Kind::Node)).err()
+fn fault(alloc: Global, id: i64, meta: Meta) -> Option<ValueFault> {
+    Version::new(alloc, id, meta, Body::Deleted(Kind::Node)).err()
 }
 
 #[test]
@@ -206,17 +206,17 @@ fn faults_in_their_order(rt: HostRuntime) -> Result<(), Fail> {
     let alloc = rt.alloc();
     let beyond = 1 << 62;
     let none = meta(alloc, 0, None, 0, 0, "")?;
-    assert_eq!(rt; fault(beyond, none), Some(ValueFault::IdRange));
+    assert_eq!(rt; fault(alloc, beyond, none), Some(ValueFault::IdRange));
     let none = meta(alloc, 0, None, 1 << 32, 0, "")?;
-    assert_eq!(rt; fault(1, none), Some(ValueFault::NoVersion));
+    assert_eq!(rt; fault(alloc, 1, none), Some(ValueFault::NoVersion));
     let far = meta(alloc, 1, Some(0), 0, 1 << 32, "")?;
-    assert_eq!(rt; fault(1, far), Some(ValueFault::NumberRange));
+    assert_eq!(rt; fault(alloc, 1, far), Some(ValueFault::NumberRange));
     let early = meta(alloc, 1, Some(0), 0, 0, "\0")?;
-    assert_eq!(rt; fault(1, early), Some(ValueFault::TimeRange));
+    assert_eq!(rt; fault(alloc, 1, early), Some(ValueFault::TimeRange));
     let undated = meta(alloc, 1, None, 0, 0, "\0")?;
-    assert_eq!(rt; fault(1, undated), Some(ValueFault::NoTime));
+    assert_eq!(rt; fault(alloc, 1, undated), Some(ValueFault::NoTime));
     let zero = meta(alloc, 1, Some(1), 0, 0, "\0")?;
-    assert_eq!(rt; fault(1, zero), Some(ValueFault::ZeroInText));
+    assert_eq!(rt; fault(alloc, 1, zero), Some(ValueFault::ZeroInText));
     Ok(())
 }
 
@@ -237,11 +237,11 @@ fn faults_of_parts(rt: HostRuntime) -> Result<(), Fail> {
 fn time_limits(rt: HostRuntime) -> Result<(), Fail> {
     let alloc = rt.alloc();
     let last = author(alloc, Some(4_294_967_295), "")?;
-    let v = Version::new(1, last, Body::Deleted(Kind::Way))?;
+    let v = Version::new(alloc, 1, last, Body::Deleted(Kind::Way))?;
     let expected = b">w1 v1 dD c1 t2106-02-07T06:28:15Z i1 u T N";
     assert_eq!(rt; line(alloc, &v)?.as_slice(), expected.as_slice());
     let beyond = author(alloc, Some(4_294_967_296), "")?;
-    assert_eq!(rt; fault(1, beyond), Some(ValueFault::TimeRange));
+    assert_eq!(rt; fault(alloc, 1, beyond), Some(ValueFault::TimeRange));
     Ok(())
 }
 
@@ -295,7 +295,7 @@ fn ascending(alloc: Global) -> Result<Vec<Version>, Fail> {
         // a visible version comes before a deleted one
         deleted(alloc, Kind::Node, 1)?,
         // but not before an earlier one
-        Version::new(1, timed, Body::Node { lon: 0, lat: 0, tags: no_tags(alloc) })?,
+        Version::new(alloc, 1, timed, Body::Node { lon: 0, lat: 0, tags: no_tags(alloc) })?,
         node(alloc, 1, 2, 0, 0)?,
         node(alloc, 3, 1, 0, 0)?,
         // a line comes before its extensions

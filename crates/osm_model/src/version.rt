@@ -1,5 +1,5 @@
 //! Versions of objects.
-ghost use Rattle.std.specs.Prelude.{◌≡◌, ◌++◌, ◌<◌, ◌^◌, Some, refl, IfOk, OnOk};
+ghost use Rattle.std.specs.Prelude.{◌≡◌, ◌⊎◌, ◌<◌, ◌^◌, Some, Ok, Err, refl, IfOk, MatchResult};
 ghost use Rattle.std.specs.Ordering.{eq_by_cmp, as_partial_cmp, nat_cmp};
 ghost use Rattle.std.specs.Cmp.{eq_by_cmp_equiv, partial_equiv_from_equiv, partial_order_from_agreeing_total};
 ghost use Rattle.std.specs.Cmp.Lexicographic.{slice_cmp};
@@ -9,10 +9,12 @@ ghost use Rattle.osm_model.specs.Order.{object_cmp, key_cmp, data_cmp, version_c
 ghost use Rattle.osm_model.specs.Line.{line};
 ghost use Rattle.osm_model.specs.New.{first_fault, version_or_fault};
 ghost use Rattle.osm_model.specs.Valid.{IsVersion};
+ghost use Rattle.osm_model.specs.declared.fault.ValueFault.TheVariants as fault;
 
 use crate::id::is_id;
 use crate::same::Same;
 use crate::{Body, Kind, Memory, Meta, Text, ValueFault};
+use std::alloc::Global;
 use std::cmp::Ordering;
 use std::marker::Model;
 
@@ -21,8 +23,16 @@ use std::marker::Model;
 /// Versions are ordered by their objects (nodes, ways, relations; ids not above 0 before the others; the absolute value
 /// of the id), their numbers, their times with none as 0, visible ones before deleted ones, and the bytes of their
 /// canonical lines. Only equal versions tie. Comparisons take no memory.
+///
+/// A version is a pointer to its parts, so that it moves at the cost of a word.
 #[derive(Debug, Drop)]
 pub struct Version {
+    parts: Box<Parts>,
+}
+
+/// What a version holds.
+#[derive(Debug, Drop)]
+struct Parts {
     id: i64,
     meta: Meta,
     body: Body,
@@ -69,20 +79,26 @@ impl Version {
     ///
     /// # Errors
     ///
-    /// The first fault in the order of `IdRange`, `NoVersion`, `NumberRange`, `TimeRange`, `NoTime`, `ZeroInText`.
-    /// It takes no memory.
-    pub fn new(id: i64, meta: Meta, body: Body) -> Result<Version, ValueFault>
-        ensures value { result ≡ version_or_fault id meta body }
+    /// The first fault in the order of `IdRange`, `NoVersion`, `NumberRange`, `TimeRange`, `NoTime`, `ZeroInText`; or
+    /// `Memory`.
+    pub fn new(alloc: Global, id: i64, meta: Meta, body: Body) -> Result<Version, ValueFault>
+        ensures value { MatchResult result
+            (λ version. version_or_fault id meta body ≡ Ok version)
+            (λ refused. (refused ≡ fault.Memory) ⊎ (version_or_fault id meta body ≡ Err refused)) }
         ensures valid { IfOk result IsVersion }
     {
         if let Some(fault) = first_fault(id, &meta, &body) {
             return Err(fault);
         }
-        Ok(Version {
+        let parts = Parts {
             id,
             meta,
             body: body.normal(),
-        })
+        };
+        match Box::new(alloc, parts) {
+            Ok(parts) => Ok(Version { parts }),
+            Err(_) => Err(ValueFault::Memory),
+        }
     }
 
     /// The id of the object, and that the version is within its ranges.
@@ -90,21 +106,21 @@ impl Version {
         ensures value { result ≡ self.now.id }
         ensures valid { IsVersion self.now }
     {
-        self.id
+        self.parts.id
     }
 
     /// The kind of the object.
     pub fn kind(&self) -> Kind
         ensures { result ≡ kind_of self.now.body }
     {
-        self.body.kind()
+        self.parts.body.kind()
     }
 
     /// The version number, 1 to 4294967295.
     pub fn number(&self) -> u64
         ensures { result ≡ self.now.number }
     {
-        self.meta.version
+        self.parts.meta.version
     }
 
     /// Seconds since 1970-01-01T00:00:00Z, 1 to 4294967295.
@@ -112,35 +128,35 @@ impl Version {
         ensures value { result ≡ self.now.time }
         ensures range { ForSome result (λ t. (0 < t) × (t < 2 ^ 32)) }
     {
-        self.meta.time
+        self.parts.meta.time
     }
 
     /// The changeset, up to 4294967295; 0 without a time.
     pub fn changeset(&self) -> u64
         ensures { result ≡ self.now.changeset }
     {
-        self.meta.changeset
+        self.parts.meta.changeset
     }
 
     /// The user id, up to 4294967295; 0 without a time.
     pub fn uid(&self) -> u64
         ensures { result ≡ self.now.uid }
     {
-        self.meta.uid
+        self.parts.meta.uid
     }
 
     /// The user name; empty without a time.
     pub fn user(&self) -> &Text
         ensures { result.now ≡ self.now.user }
     {
-        &self.meta.user
+        &self.parts.meta.user
     }
 
     /// The location, references or members, and the tags; or that the version is deleted.
     pub fn body(&self) -> &Body
         ensures { result.now ≡ self.now.body }
     {
-        &self.body
+        &self.parts.body
     }
 
     /// The order of the objects: the kind, ids above 0 behind the others, the absolute value of the id.
@@ -148,8 +164,9 @@ impl Version {
         ensures { result ≡ object_cmp self.now other.now }
     {
         let kind = self.kind().rank().cmp(&other.kind().rank());
-        let positive = (self.id > 0).cmp(&(other.id > 0));
-        let size = self.id.unsigned_abs().cmp(&other.id.unsigned_abs());
+        let (id, other_id) = (self.id(), other.id());
+        let positive = (id > 0).cmp(&(other_id > 0));
+        let size = id.unsigned_abs().cmp(&other_id.unsigned_abs());
         kind.then(positive).then(size)
     }
 
@@ -165,10 +182,14 @@ impl Version {
     pub fn copy(&self) -> Result<Version, Memory>
         ensures { IfOk result (λ v. v ≡ self.now) }
     {
+        let parts = Parts {
+            id: self.parts.id,
+            meta: self.parts.meta.copy()?,
+            body: self.parts.body.copy()?,
+        };
+        let alloc = *Box::allocator(&self.parts);
         Ok(Version {
-            id: self.id,
-            meta: self.meta.copy()?,
-            body: self.body.copy()?,
+            parts: Box::new(alloc, parts)?,
         })
     }
 
@@ -177,7 +198,7 @@ impl Version {
         ensures { result ≡ data_cmp self.now other.now }
     {
         let time = self.time().unwrap_or(0).cmp(&other.time().unwrap_or(0));
-        let deleted = self.body.is_deleted().cmp(&other.body.is_deleted());
+        let deleted = self.body().is_deleted().cmp(&other.body().is_deleted());
         self.key_cmp(other).then(time).then(deleted)
     }
 
@@ -203,22 +224,14 @@ impl Version {
             Ordering::Equal
         }
     }
-
-    /// Appends the canonical OPL line, without a line end. After an error a part of it may stand there.
-    pub fn append_line(&self, out: &mut Vec<u8>) -> Result<(), Memory>
-        ensures { OnOk result (out.new.items ≡ out.old.items ++ line self.now) }
-    {
-        let mut bytes = self.line_bytes();
-        while bytes.advance() {
-            out.extend_from_slice(bytes.run())?;
-        }
-        Ok(())
-    }
 }
 
 impl Same for Version {
     fn is_same(&self, other: &Version) -> bool {
-        self.id == other.id && self.meta.is_same(&other.meta) && self.body.is_same(&other.body)
+        let (parts, others) = (&*self.parts, &*other.parts);
+        parts.id == others.id
+            && parts.meta.is_same(&others.meta)
+            && parts.body.is_same(&others.body)
     }
 }
 

@@ -52,10 +52,8 @@ impl PartialEq for Entry {
     ghost laws = { partial_equiv_from_equiv (decided same_entry same_entry_decides) };
 
     fn eq(&self, other: &Entry) -> bool {
-        let (strings, others) = (self.strings(), other.strings());
-        self.form.is_same(other.form)
-            && strings.first == others.first
-            && strings.second == others.second
+        let same = self.split == other.split && self.form.is_same(other.form);
+        same && self.bytes.as_slice() == other.bytes.as_slice()
     }
 }
 

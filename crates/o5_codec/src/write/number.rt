@@ -11,7 +11,20 @@ use osm_model::Memory;
 /// # Errors
 ///
 /// For want of memory alone; a part of the number may then stand there.
+#[inline(always)]
 pub(crate) fn append_number(out: &mut Vec<u8>, number: u64) -> Result<(), Memory>
+    ensures { OnOk result (out.new.items ≡ out.old.items ++ shortest_number number) }
+{
+    if number < 128 {
+        out.push(number as u8)?;
+        return Ok(());
+    }
+    append_groups(out, number)
+}
+
+/// The same for a number of any length.
+#[inline(never)]
+fn append_groups(out: &mut Vec<u8>, number: u64) -> Result<(), Memory>
     ensures { OnOk result (out.new.items ≡ out.old.items ++ shortest_number number) }
 {
     let mut rest = number;

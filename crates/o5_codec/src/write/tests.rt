@@ -191,7 +191,7 @@ fn node(alloc: Global, id: i64, tags: Vec<Tag>) -> Result<Version, Fail> {
         lat: 0,
         tags: Tags::from_vec(tags),
     };
-    Ok(Version::new(id, meta, body)?)
+    Ok(Version::new(alloc, id, meta, body)?)
 }
 
 /// Node 1, whose tags have the numbers from 1 on as keys, in five digits, and empty values.

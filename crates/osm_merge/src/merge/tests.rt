@@ -86,7 +86,7 @@ fn version(alloc: Global, (id, number, lon): Node) -> Result<Version, Fail> {
         lat: 10_000_000,
         tags: Tags::from_vec(Vec::new(alloc)),
     };
-    Ok(Version::new(id, meta, body)?)
+    Ok(Version::new(alloc, id, meta, body)?)
 }
 
 /// What a merge of these sources answers, each with its fault if it has one, and what it wrote.

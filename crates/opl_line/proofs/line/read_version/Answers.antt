@@ -6,9 +6,9 @@ pub returns-in_err-kind : goal.returns-in_err-kind
 unfolding reading_version
 returns-in_err-kind c = search rules
 
-pub returns-in_err-fields : goal.returns-in_err-fields
+pub returns-in_err-read : goal.returns-in_err-read
 unfolding reading_version
-returns-in_err-fields c = search rules
+returns-in_err-read c = search rules
 
 pub returns : goal.returns
 unfolding reading_version

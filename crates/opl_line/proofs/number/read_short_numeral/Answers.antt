@@ -1,18 +1,18 @@
-use Rattle.std.proofs.Common.{◌≡◌, ◌<◌, ◌^◌, IfOk, rules, sym, ◌∙◌, ap, subst, Result, ℕ}
+use Rattle.std.proofs.Common.{◌≡◌, ◌<◌, ◌^◌, IfOk, rules, sym, ◌∙◌, subst, Result, ℕ}
+use Rattle.std.specs.Option.{ok_or}
 use Rattle.opl_line.specs.declared.reason.OplReason.{OplReason}
 use Rattle.opl_line.specs.declared.reason.OplReason.TheVariants.{BadCoordinate}
-use Rattle.opl_line.specs.Answer.{with_reason}
+use Rattle.opl_line.specs.Number.{value_of}
 use Rattle.opl_line.proofs.NumberLaws.{short_numeral, short_below}
 use Rattle.opl_line.proofs.number.read_short_numeral.Goals as goal
 
 pub returns-clause-value : goal.returns-clause-value
 returns-clause-value c =
-    let refused : c.map_err.result ≡ with_reason (λ _. BadCoordinate) c.read_number.result = search rules in
-    refused ∙ ap (with_reason (λ _. BadCoordinate)) c.read_number.ensures ∙ short_numeral c.args.digits.now c.args.most c.requires c.if-digits-most.false
+    let told : c.ok_or.result ≡ ok_or (value_of c.args.digits.now) BadCoordinate = search rules in
+    told ∙ short_numeral c.args.digits.now c.args.most c.if-digits-most.false
 
 pub returns-clause-bound : goal.returns-clause-bound
 returns-clause-bound c =
-    let refused : c.map_err.result ≡ with_reason (λ _. BadCoordinate) c.read_number.result = search rules in
-    let e = refused ∙ ap (with_reason (λ _. BadCoordinate)) c.read_number.ensures ∙ short_numeral c.args.digits.now c.args.most c.requires c.if-digits-most.false in
+    let told : c.ok_or.result ≡ ok_or (value_of c.args.digits.now) BadCoordinate = search rules in
     let P : Result ℕ OplReason → Type 0 = λ r. IfOk r (λ n. n < 10 ^ c.args.most) in
-    subst P (sym e) (short_below c.args.digits.now c.args.most)
+    subst P (sym (told ∙ short_numeral c.args.digits.now c.args.most c.if-digits-most.false)) (short_below c.args.digits.now c.args.most)

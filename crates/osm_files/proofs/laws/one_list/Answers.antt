@@ -1,5 +1,4 @@
 use Rattle.osm_files.proofs.FileLaws.{one_list}
-use Rattle.osm_files.proofs.WholeLaws.{begins}
 use Rattle.osm_files.proofs.laws.one_list.Goals as goal
 
 pub returns : goal.returns

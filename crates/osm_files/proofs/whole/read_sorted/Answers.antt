@@ -1,11 +1,10 @@
-use Rattle.std.proofs.Common.{◌≡◌, ◌+◌, ◌-◌, ◌≤◌, ◌<◌, [], ◌∷◌, ap, sym, subst, arith, ℕ, List, None, Some, Ok, length, length-drop, drop, take}
+use Rattle.std.proofs.Common.{◌≡◌, ◌+◌, ◌-◌, ap, sym, arith, None, Ok, length, length-drop, drop, take}
 use Rattle.std.proofs.lemmas.List.{take_all}
-use Rattle.osm_files.specs.Stream.{whole}
 use Rattle.osm_files.specs.Reading.{stand_of}
 use Rattle.osm_files.specs.Units.{unit, unit_at, last_at, units}
 use Rattle.osm_files.specs.Verdict.{file_units}
 use Rattle.osm_files.proofs.StepLaws.{unit_sized}
-use Rattle.osm_files.proofs.WholeLaws.{ReadsOn, file_begins, named_fault, unit_next, unit_last, unit_on, unit_off, read_off, last_on, last_off}
+use Rattle.osm_files.proofs.WholeLaws.{file_begins, named_fault, unit_next, unit_last, unit_on, unit_off, read_off, last_on, last_off}
 use Rattle.osm_files.proofs.whole.read_sorted.Goals as goal
 
 pub units-init : goal.units-init

@@ -1,4 +1,4 @@
-use Rattle.std.proofs.Common.{rules, ◌≡◌, ◌∙◌, sym, ap}
+use Rattle.std.proofs.Common.{rules, ◌∙◌}
 use Rattle.osm_files.specs.Fault.{fault_at}
 use Rattle.osm_files.proofs.PositionLaws.{goes_further, reads_go_on, stopped}
 use Rattle.osm_files.proofs.ReadingLaws.{held_size, held_advances, held_progress, held_refuses, none_goes_on, none_there, some_found, none_found, advances_from, answers_from, stops_from}
@@ -18,9 +18,9 @@ returns-in-Ok-Some-clause-progress g c =
 
 pub returns-in-Err-clause-advances : goal.returns-in-Err-clause-advances
 returns-in-Err-clause-advances g c =
-    stops_from c.args.self.now c.reads.self c.reads.self c.reads.invariant c.at.result
-    (held_refuses c.reads.self c.read_held.new.self c.in-Err.reason c.at.result c.read_held.ensures.bound c.in-Err.ensures.found
-    (c.at.ensures ∙ (λ i. fault_at (((ap (λ v. v.input) c.self.view_is) ∙ c.read_held.ensures.number) i) (((ap (λ v. v.place) c.self.view_is) ∙ c.read_held.ensures.place) i) c.in-Err.reason)))
+    stops_from c.args.self.now c.reads.self c.reads.self c.reads.invariant c.refusal.result
+    (held_refuses c.reads.self c.read_held.new.self c.in-Err.reason c.refusal.result c.read_held.ensures.bound c.in-Err.ensures.found
+    (c.refusal.ensures ∙ (λ i. fault_at (c.read_held.ensures.number i) (c.read_held.ensures.place i) c.in-Err.reason)))
 
 pub returns-then-self-clause-advances : goal.returns-then-self-clause-advances
 returns-then-self-clause-advances g c =

@@ -1,4 +1,4 @@
-use Rattle.std.proofs.Common.{◌+◌, ◌-◌, ◌^◌, ◌≡◌, length, cond, false}
+use Rattle.std.proofs.Common.{◌+◌, ◌-◌, ◌^◌, length, cond}
 use Rattle.osm_files.specs.Position.{GoesOn}
 use Rattle.osm_files.proofs.reading.Reading.advance.Given as goal
 

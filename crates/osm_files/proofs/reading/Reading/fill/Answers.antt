@@ -1,8 +1,7 @@
-use Rattle.std.proofs.Common.{rules, ◌≡◌, ◌∙◌, ◌+◌, ◌-◌, ◌<◌, ◌^◌, Ok, Option, true, false, sym, subst, ap, arith, length, drop, take, length-drop, length-take}
+use Rattle.std.proofs.Common.{◌≡◌, ◌∙◌, ◌+◌, ◌<◌, ◌^◌, Ok, Option, true, sym, subst, ap, arith, length, take, length-drop, length-take}
 use Rattle.osm_files.specs.Input.{Coming, Gave, AtEnd, AtError}
-use Rattle.osm_files.specs.Position.{Position, ReadsOn, StopsFilling, fault_of}
+use Rattle.osm_files.specs.Position.{Position, ReadsOn}
 use Rattle.osm_files.specs.Fault.{too_long_fault}
-use Rattle.osm_files.specs.Stream.{verdict_at}
 use Rattle.osm_files.specs.declared.reason.Reason.TheVariants.{ReadFault}
 use Rattle.osm_files.proofs.FillLaws.{fill_broken, fill_ended, fill_full, some_taken}
 use Rattle.osm_files.proofs.reading.Reading.fill.Goals as goal
@@ -11,8 +10,8 @@ pub returns-in_default-clause-stops : goal.returns-in_default-clause-stops
 returns-in_default-clause-stops g c =
     let p = c.args.self.now in
     let same = c.self.view_is ∙ c.compact.ensures in
-    let place : c.self.inside.place + (c.len.result - c.self.inside.from) ≡ p.place + length p.held =
-    omega (arith, c.len.ensures, ap (λ v. v.place) same, ap (λ v. length v.held) same, length-drop c.self.inside.from c.self.inside.buffer.items) in
+    let place : c.self.inside.begin + c.len.result ≡ p.place + length p.held =
+    omega (arith, c.len.ensures, ap (λ v. v.place) same, ap (λ v. length v.held) same, length-drop c.self.inside.from c.self.inside.buffer.items, c.self.invariant) in
     fill_broken p _ c.requires (subst AtError (ap (λ v. v.coming) same) c.in_default.ensures.broken) (λ i. record { input = (ap (λ v. v.input) same) i; place = place i; reason = ReadFault })
 
 pub returns-then-count-eq0-clause-on : goal.returns-then-count-eq0-clause-on

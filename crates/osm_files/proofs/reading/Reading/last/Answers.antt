@@ -1,13 +1,11 @@
-use Rattle.std.proofs.Common.{◌≡◌, ◌∙◌, sym, ap}
-use Rattle.osm_files.specs.Fault.{fault_at}
+use Rattle.std.proofs.Common.{◌∙◌, sym}
 use Rattle.osm_files.proofs.ReadingLaws.{last_refuses, last_ended, last_advances}
 use Rattle.osm_files.proofs.reading.Reading.last.Goals as goal
 
 pub returns-in-Err-clause-advances : goal.returns-in-Err-clause-advances
 returns-in-Err-clause-advances g c =
     let p = c.args.self.now in
-    last_refuses p c.requires.nothing c.requires.bound c.requires.ended c.in-Err.reason c.at.result c.in-Err.ensures
-    (c.at.ensures ∙ (λ i. fault_at ((ap (λ v. v.input) c.self.view_is) i) ((ap (λ v. v.place) c.self.view_is) i) c.in-Err.reason))
+    last_refuses p c.requires.nothing c.requires.bound c.requires.ended c.in-Err.reason c.refusal.result c.in-Err.ensures c.refusal.ensures
 
 pub returns-then-size-eq0-clause-advances : goal.returns-then-size-eq0-clause-advances
 returns-then-size-eq0-clause-advances g c =

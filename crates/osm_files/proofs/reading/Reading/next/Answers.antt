@@ -1,4 +1,4 @@
-use Rattle.std.proofs.Common.{◌≡◌, ◌∙◌, sym, ap}
+use Rattle.std.proofs.Common.{◌∙◌, sym, ap}
 use Rattle.osm_files.specs.Fault.{failed_fault}
 use Rattle.osm_files.proofs.ReadingLaws.{failed_already}
 use Rattle.osm_files.proofs.reading.Reading.next.Goals as goal

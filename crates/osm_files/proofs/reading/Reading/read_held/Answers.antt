@@ -1,4 +1,4 @@
-use Rattle.std.proofs.Common.{◌≡◌, ◌∙◌, sym, ap, None, option_map}
+use Rattle.std.proofs.Common.{◌∙◌, ap, option_map}
 use Rattle.osm_files.specs.Reading.{stand_of}
 use Rattle.osm_files.proofs.ReadingLaws.{behind_place, nothing_held, found_held, refused_held}
 use Rattle.osm_files.proofs.reading.Reading.read_held.Goals as goal

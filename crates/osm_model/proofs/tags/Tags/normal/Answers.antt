@@ -1,9 +1,12 @@
-use Rattle.std.proofs.Common.{ap, ◌∙◌}
+use Rattle.std.proofs.Common.{ap, ◌∙◌, rules}
 use Rattle.std.proofs.lemmas.List.Filters.{dedup_is}
 use Rattle.osm_model.specs.Tags.{tag_cmp_total, normal}
 use Rattle.osm_model.proofs.SetLaws.{listed-of_sorted}
-use Rattle.osm_model.proofs.TagLaws.{tag_cmp-IsAntisymmetric}
+use Rattle.osm_model.proofs.TagLaws.{tag_cmp-IsAntisymmetric, normal-ascending}
 use Rattle.osm_model.proofs.tags.Tags.normal.Goals as goal
+
+pub returns-then-do_ascend : goal.returns-then-do_ascend
+returns-then-do_ascend c = normal-ascending c.args.self (search rules)
 
 pub returns : goal.returns
 returns c =

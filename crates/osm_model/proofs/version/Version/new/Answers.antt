@@ -10,7 +10,7 @@ invariant_of-result c =
     let same = to_z-of_z w64 c.args.id c.ranges.id in
     let none : first_fault c.args.id c.args.meta c.args.body ≡ None = search rules in
     let location = rw c.normal.ensures.value at c.normal.ensures.location in
-    rw (same, c.normal.ensures.value) (valid_version c.args.id c.args.meta c.args.body none location)
+    rw c.in-Ok.ensures.ok (rw (same, c.normal.ensures.value) (valid_version c.args.id c.args.meta c.args.body none location))
 
-pub returns-clause-valid : goal.returns-clause-valid
-returns-clause-valid c = invariant_of-result c
+pub returns-in-Ok-clause-valid : goal.returns-in-Ok-clause-valid
+returns-in-Ok-clause-valid c = invariant_of-result c

@@ -1,0 +1,35 @@
+-- An entry is told by its form, by the bytes of both strings together, and by where the first string ends.
+use Rattle.std.proofs.Common.{◌≡◌, ℕ, ◌++◌, Bool, true, false, ◌&&◌, List, take, drop, refl, ap, sym, ◌∙◌}
+use Rattle.std.proofs.lemmas.List.{take-append-drop}
+use Rattle.std.specs.Str.{bytes_eq}
+use Rattle.std.specs.Cmp.Lexicographic.{bytes_decides}
+use Rattle.o5_codec.specs.declared.strings.Form.{Form}
+use Rattle.o5_codec.specs.Formed.{FormedEntry, formed, same_form, same_entry}
+use Rattle.o5_codec.specs.SameEntry.{same_entry_decides}
+
+agree : (a b : Bool) → (a ≡ true → b ≡ true) → (b ≡ true → a ≡ true) → a ≡ b
+agree true b there back = sym (there refl)
+agree false true there back = back refl
+agree false false there back = refl
+
+-- the entry of these bytes, whose first string ends there
+abbrev pub cut : Form → ℕ → List ℕ → FormedEntry
+cut form split bytes = formed form (take split bytes) (drop split bytes)
+
+whole : (f g : Form) (i j : ℕ) (xs ys : List ℕ) → cut f i xs ≡ cut g j ys → xs ≡ ys
+whole f g i j xs ys e =
+    sym (take-append-drop i xs) ∙ ap (λ z. z.strings.first ++ z.strings.second) e ∙ take-append-drop j ys
+
+both_equal : (f g : Form) (i : ℕ) (xs ys : List ℕ) → same_form f g ≡ true → xs ≡ ys → same_entry (cut f i xs) (cut g i ys) ≡ true
+both_equal f g i xs ys form e =
+    let first : bytes_eq (take i xs) (take i ys) ≡ true = (bytes_decides (take i xs) (take i ys)).1 (ap (take i) e) in
+    let second : bytes_eq (drop i xs) (drop i ys) ≡ true = (bytes_decides (drop i xs) (drop i ys)).1 (ap (drop i) e) in
+    λ k. form k && (first k && second k)
+
+-- where the forms and the places are the same, the bytes decide
+pub same_bytes : (f g : Form) (i j : ℕ) (xs ys : List ℕ) → i ≡ j → same_form f g ≡ true → bytes_eq xs ys ≡ same_entry (cut f i xs) (cut g j ys)
+same_bytes f g i j xs ys place form =
+    agree (bytes_eq xs ys) (same_entry (cut f i xs) (cut g i ys))
+    (λ e. both_equal f g i xs ys form ((bytes_decides xs ys).0 e))
+    (λ e. (bytes_decides xs ys).1 (whole f g i i xs ys ((same_entry_decides (cut f i xs) (cut g i ys)).0 e)))
+    ∙ ap (λ k. same_entry (cut f i xs) (cut g k ys)) place

@@ -1,0 +1,24 @@
+-- The stretches of a line, one behind the other.
+use Rattle.std.proofs.Common.{◌≡◌, ℕ, List, ◌∷◌, ◌++◌, codes, ap, sym, ◌∙◌, append_assoc}
+use Rattle.std.specs.Str.{chars}
+use Rattle.osm_model.specs.Escape.{escape}
+use Rattle.osm_model.specs.Joined.{joined}
+use Rattle.osm_model.specs.Data.{VersionData, tags_of}
+use Rattle.osm_model.specs.Line.{list_text, tag_text, kind_fields, line}
+use Rattle.osm_model.specs.Cursor.{more_text}
+use Rattle.osm_model.specs.Append.{head_text}
+use Rattle.osm_model.proofs.CursorLaws.{list_text-cons, line-from_object}
+
+-- a list begins with a mark and its first item
+pub list_begins : {X : Type 0} (text : X → List ℕ) (x : X) (all rest : List X) (mark before now : List ℕ) → all ≡ x ∷ rest → now ≡ before ++ (mark ++ text x) →
+    before ++ (mark ++ list_text text all) ≡ now ++ more_text text rest
+list_begins text x all rest mark before now a n = rw (a, n, list_text-cons text x rest) (sym (append_assoc before (mark ++ text x) _ ∙ ap (λ t. before ++ t) (append_assoc mark (text x) _)))
+
+-- a text goes on behind its raw characters
+pub plain_stretch : (before all bytes front back now : List ℕ) → before ≡ all ++ escape (chars bytes) → escape (chars bytes) ≡ front ++ escape (chars back) → now ≡ all ++ front →
+    before ≡ now ++ escape (chars back)
+plain_stretch before all bytes front back now b e n = b ∙ ap (λ t. all ++ t) e ∙ sym (append_assoc all front _) ∙ ap (λ t. t ++ escape (chars back)) (sym n)
+
+-- the line is its head, the user name, the tags and the fields of its kind
+pub line-parts : (v : VersionData) → line v ≡ head_text v ++ (escape v.user ++ ((codes " T" ++ list_text tag_text (tags_of v.body)) ++ (32 ∷ joined 32 (kind_fields v.body))))
+line-parts v = line-from_object v ∙ simp append_assoc

@@ -1,0 +1,165 @@
+//! Canonical lines, appended to a vector.
+ghost use Rattle.std.specs.Prelude.{◌≡◌, ◌++◌, ◌∷◌, ◌≤◌, ℕ, ℤ, List, length, codes, OnOk};
+ghost use Rattle.osm_model.specs.Joined.{joined};
+ghost use Rattle.osm_model.specs.Escape.{escape, escape_char};
+ghost use Rattle.osm_model.specs.Line.{list_text, tag_text, reference_text, member_text, kind_fields, line};
+ghost use Rattle.osm_model.specs.Append.{head_text, location_text};
+
+use crate::escape::plain_length;
+use crate::piece::Piece;
+use crate::{Body, Member, Memory, Tag, Text, Version};
+
+impl Version {
+    /// Appends the canonical OPL line, without a line end. After an error a part of it may stand there.
+    pub fn append_line(&self, out: &mut Vec<u8>) -> Result<(), Memory>
+        ensures { OnOk result (out.new.items ≡ out.old.items ++ line self.now) }
+    {
+        append_head(self, out)?;
+        append_text(self.user(), out)?;
+        append_list(b" T", self.body().tags(), out)?;
+        append_kind_fields(self.body(), out)
+    }
+}
+
+/// Appends the fields before the user name, and the mark of the user name.
+fn append_head(version: &Version, out: &mut Vec<u8>) -> Result<(), Memory>
+    ensures { OnOk result (out.new.items ≡ out.old.items ++ head_text version.now) }
+{
+    let mut piece = Piece::new();
+    piece.prepend(b" u");
+    piece.prepend_number(version.uid());
+    piece.prepend(b" i");
+    piece.prepend_time(version.time());
+    piece.prepend(b" t");
+    piece.prepend_number(version.changeset());
+    piece.prepend(b" c");
+    piece.push_front(if version.body().is_deleted() {
+        b'D'
+    } else {
+        b'V'
+    });
+    piece.prepend(b" d");
+    piece.prepend_number(version.number());
+    piece.prepend(b" v");
+    piece.prepend_integer(version.id());
+    piece.push_front(version.kind().letter());
+    piece.append_to(out)
+}
+
+/// Appends the characters of a text, raw or as escapes.
+fn append_text(text: &Text, out: &mut Vec<u8>) -> Result<(), Memory>
+    ensures { OnOk result (out.new.items ≡ out.old.items ++ escape text.now) }
+{
+    let mut rest = text.as_str();
+    'characters: loop {
+        let (plain, other) = rest.split_at(plain_length(rest));
+        out.extend_from_slice(plain.as_bytes())?;
+        let mut characters = other.chars();
+        let Some(first) = characters.next() else {
+            return Ok(());
+        };
+        append_escaped(first, out)?;
+        rest = characters.as_str();
+    }
+}
+
+/// Appends a character of a text, raw or as an escape.
+fn append_escaped(c: char, out: &mut Vec<u8>) -> Result<(), Memory>
+    ensures { OnOk result (out.new.items ≡ out.old.items ++ escape_char c) }
+{
+    let mut piece = Piece::new();
+    piece.set_escaped(c);
+    piece.append_to(out)
+}
+
+/// What stands in a list of a line.
+trait Listed {
+    ghost text: { Self → List ℕ };
+
+    /// Appends a mark of at most 2 bytes, and the item behind it.
+    fn append_behind(&self, mark: &[u8], out: &mut Vec<u8>) -> Result<(), Memory>
+        requires { length mark.now ≤ 2 }
+        ensures { OnOk result (out.new.items ≡ out.old.items ++ (mark.now ++ text self.now)) };
+}
+
+impl Listed for Tag {
+    ghost text = { tag_text };
+
+    #[inline(always)]
+    fn append_behind(&self, mark: &[u8], out: &mut Vec<u8>) -> Result<(), Memory> {
+        out.extend_from_slice(mark)?;
+        append_text(&self.key, out)?;
+        out.push(b'=')?;
+        append_text(&self.value, out)
+    }
+}
+
+impl Listed for i64 {
+    ghost text = { reference_text };
+
+    fn append_behind(&self, mark: &[u8], out: &mut Vec<u8>) -> Result<(), Memory> {
+        let mut piece = Piece::new();
+        piece.prepend_integer(*self);
+        piece.push_front(b'n');
+        piece.prepend(mark);
+        piece.append_to(out)
+    }
+}
+
+impl Listed for Member {
+    ghost text = { member_text };
+
+    fn append_behind(&self, mark: &[u8], out: &mut Vec<u8>) -> Result<(), Memory> {
+        let mut piece = Piece::new();
+        piece.push_front(b'@');
+        piece.prepend_integer(self.id);
+        piece.push_front(self.kind.letter());
+        piece.prepend(mark);
+        piece.append_to(out)?;
+        append_text(&self.role, out)
+    }
+}
+
+/// Appends a mark of at most 2 bytes, and behind it the items with a comma between each two.
+#[inline(always)]
+fn append_list<T: Listed>(mark: &[u8], items: &[T], out: &mut Vec<u8>) -> Result<(), Memory>
+    requires { length mark.now ≤ 2 }
+    ensures { OnOk result (out.new.items ≡ out.old.items ++ (mark.now ++ list_text T.text items.now)) }
+{
+    let Some((first, more)) = items.split_first() else {
+        out.extend_from_slice(mark)?;
+        return Ok(());
+    };
+    first.append_behind(mark, out)?;
+    for item in more {
+        item.append_behind(b",", out)?;
+    }
+    Ok(())
+}
+
+/// Appends the fields behind the tags.
+fn append_kind_fields(body: &Body, out: &mut Vec<u8>) -> Result<(), Memory>
+    ensures { OnOk result (out.new.items ≡ out.old.items ++ (32 ∷ joined 32 (kind_fields body.now))) }
+{
+    match body {
+        Body::Deleted(kind) => {
+            out.extend_from_slice(kind.empty_fields())?;
+            Ok(())
+        }
+        Body::Node { lon, lat, .. } => append_location(*lon, *lat, out),
+        Body::Way { refs, .. } => append_list(b" N", refs.as_slice(), out),
+        Body::Relation { members, .. } => append_list(b" M", members.as_slice(), out),
+    }
+}
+
+/// Appends the fields of a location.
+fn append_location(lon: i32, lat: i32, out: &mut Vec<u8>) -> Result<(), Memory>
+    ensures { OnOk result (out.new.items ≡ out.old.items ++ location_text lon lat) }
+{
+    let mut piece = Piece::new();
+    piece.prepend_coordinate(lat);
+    piece.prepend(b" y");
+    piece.prepend_coordinate(lon);
+    piece.prepend(b" x");
+    piece.append_to(out)
+}
