@@ -6,7 +6,7 @@
 
 use anyhow::{Result, anyhow};
 use o5_codec::{Decoder, read_number};
-use opl_line::read_line;
+use opl_line::{find_line_end, read_line};
 use osm_files::{FileSource, Format, SliceIn, Source, load_any};
 use osm_model::Kind;
 use std::alloc::Global;
@@ -23,9 +23,15 @@ const HEADER: usize = 7;
 /// Reads each line by itself, and answers how many versions they hold.
 fn read_lines(alloc: Global, bytes: &[u8]) -> Result<u64> {
     let mut versions: u64 = 0;
-    for line in bytes.split(|byte| *byte == b'\n') {
-        if read_line(alloc, line)?.is_some() {
+    let mut rest = bytes;
+    for _ in 0..bytes.len() {
+        let end = find_line_end(rest).unwrap_or(rest.len());
+        if read_line(alloc, &rest[..end])?.is_some() {
             versions = versions.saturating_add(1);
+        }
+        match rest[end..].split_first() {
+            Some((_, behind)) => rest = behind,
+            None => break,
         }
     }
     Ok(versions)

@@ -1,5 +1,5 @@
 //! Lines with their answers, worked out by hand from the rules of the format.
-use crate::{OplReason, append_line, read_line, read_time, write_line};
+use crate::{OplReason, append_line, find_line_end, read_line, read_time, write_line};
 use std::alloc::Global;
 use std::process::Abort;
 use std::str;
@@ -235,4 +235,15 @@ fn appends_a_line(rt: HostRuntime) -> Result<(), Fail> {
         "w1 v1 dV c0 t i0 u T Nn1w1 v1 dV c0 t i0 u T Nn1"
     );
     Ok(())
+}
+
+#[test]
+fn line_ends_are_found(rt: HostRuntime) {
+    assert_eq!(rt; find_line_end(b"n1 v1\nn2\n"), Some(5));
+    assert_eq!(rt;
+        find_line_end(b"n1 v1 dV c8 t2014-05-06T07:08:09Z\rn2\n"),
+        Some(33)
+    );
+    assert_eq!(rt; find_line_end(b"n1 v1 dV c8 t i5"), None);
+    assert_eq!(rt; find_line_end(b""), None);
 }

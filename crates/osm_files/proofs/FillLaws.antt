@@ -1,13 +1,10 @@
 -- Reading on.
-use Rattle.std.proofs.Common.{◌≡◌, inl, inr, ℕ, zero, suc, ◌+◌, ◌<◌, ◌^◌, true, false, List, [], ◌∷◌, ◌++◌, length, take, refl, sym, ap, ◌∙◌, subst, arith, Option, Some, None, option_map, IfSome}
-use Rattle.std.proofs.lemmas.List.{append-nil}
+use Rattle.std.proofs.Common.{◌≡◌, inr, ℕ, ◌+◌, ◌<◌, ◌^◌, false, List, [], ◌∷◌, ◌++◌, length, refl, sym, ap, ◌∙◌, subst, arith, Option, Some, None, option_map, IfSome}
 use Rattle.osm_files.specs.declared.fault.Fault.{Fault}
-use Rattle.osm_files.specs.declared.reason.Reason.TheVariants.{ReadFault}
 use Rattle.osm_files.specs.Fault.{too_long_fault}
-use Rattle.osm_files.specs.Input.{Coming, whole, preceded_by, Gave, AtEnd, AtError}
-use Rattle.osm_files.specs.Stream.{verdict_at}
+use Rattle.osm_files.specs.Input.{Coming, preceded_by, Gave}
 use Rattle.osm_files.specs.Verdict.{too_long, length_limit}
-use Rattle.osm_files.specs.Position.{Position, ahead, fault_of, Keeps, ReadsOn, Halts, StopsFilling}
+use Rattle.osm_files.specs.Position.{Position, ahead, fault_of, Keeps, Halts, StopsFilling}
 
 pub weaker : {A : Type 0} (o : Option A) (P Q : A → Type 0) → ((x : A) → P x → Q x) → IfSome o P → IfSome o Q
 weaker None P Q f h = tt
@@ -28,30 +25,6 @@ keeps_on {A} (Some x) b c h k = let P : Option A → Type 0 = λ o. IfSome o (λ
 ahead_open : (p : Position) → p.ended ≡ false → ahead p ≡ option_map (preceded_by p.held) p.coming
 ahead_open p unended = rw unended refl
 
--- an error follows
-broken_there : (held : List ℕ) (c : Coming) → (c.bytes ≡ []) × (c.broken ≡ true) → preceded_by held c ≡ record { bytes = held; broken = true }
-broken_there held c h = (λ i. record { bytes = (ap (λ x. held ++ x) h.0 ∙ append-nil held) i; broken = h.1 i })
-
-pub fill_broken : (p : Position) (fault : Fault) → p.ended ≡ false → AtError p.coming → fault ≡ fault_of p.input (verdict_at (p.place + length p.held) ReadFault) → StopsFilling p fault
-fill_broken p fault unended at is =
-    inr (subst (λ (o : Option Coming). IfSome o (λ c. Halts p c fault)) (sym (ahead_open p unended))
-    (mapped p.coming (preceded_by p.held) (λ c. Halts p c fault) (weaker p.coming _ _ (λ c h. inl (broken_there p.held c h, is)) at)))
-
--- the end of input
-ended_there : (held : List ℕ) (c : Coming) → (c.bytes ≡ []) × (c.broken ≡ false) → preceded_by held c ≡ whole held
-ended_there held c h = (λ i. record { bytes = (ap (λ x. held ++ x) h.0 ∙ append-nil held) i; broken = h.1 i })
-
-pub fill_ended : (p : Position) (coming : Option Coming) → p.ended ≡ false → AtEnd p.coming → ReadsOn p (record p { coming = coming; ended = true })
-fill_ended p coming unended at = record {
-  input = refl;
-  place = refl;
-  stand = refl;
-  failed = refl;
-  ahead =
-      subst (λ (o : Option Coming). IfSome o (λ c. Some (whole p.held) ≡ Some c)) (sym (ahead_open p unended))
-      (mapped p.coming (preceded_by p.held) (λ c. Some (whole p.held) ≡ Some c) (weaker p.coming _ _ (λ c h. ap Some (sym (ended_there p.held c h))) at));
-}
-
 too_long_is : (input : ℕ) → too_long_fault input ≡ fault_of input too_long
 unfolding length_limit
 too_long_is input = refl
@@ -70,8 +43,3 @@ pub fill_full : (p : Position) (coming : Option Coming) (front : List ℕ) (faul
 fill_full p coming front fault unended gave some full is =
     inr (subst (λ (o : Option Coming). IfSome o (λ c. Halts p c fault)) (sym (ahead_open p unended ∙ ap (option_map (preceded_by p.held)) gave))
     (from_mapped p fault front coming some full is))
-
-pub some_taken : (n : ℕ) (bytes : List ℕ) → 0 < n → 0 < length bytes → 0 < length (take n bytes)
-some_taken zero bytes some full = absurd (omega (arith, some))
-some_taken (suc n) [] some full = absurd (omega (arith, full))
-some_taken (suc n) (b ∷ bytes) some full = omega arith

@@ -5,6 +5,7 @@ mod FileLaws
 mod UnitSteps
 mod StepLaws
 mod MoreLaws
+mod HeldBytes
 mod FillLaws
 mod PositionLaws
 mod ReadingLaws

@@ -1,7 +1,6 @@
 -- What the calls of a reading do, step by step.
-use Rattle.std.proofs.Common.{◌≡◌, ◌⊎◌, inl, inr, ⊎_elim, ℕ, ◌+◌, ◌-◌, ◌≤◌, ◌<◌, ◌^◌, true, false, cond, List, [], ◌∷◌, length, drop, refl, sym, ap, ◌∙◌, subst, arith, Option, Some, None, option_map, IfSome, is_some, Result, Ok, Err, slice_get, take, length-drop}
+use Rattle.std.proofs.Common.{◌≡◌, ◌⊎◌, inl, inr, ⊎_elim, ℕ, ◌+◌, ◌≤◌, ◌<◌, ◌^◌, true, false, cond, List, [], ◌∷◌, length, drop, refl, sym, ap, ◌∙◌, subst, arith, Option, Some, None, option_map, IfSome, is_some, Result, Ok, Err, slice_get}
 use Rattle.std.proofs.lemmas.Bool.{false≢true}
-use Rattle.std.proofs.lemmas.List.{take_all}
 use Rattle.osm_model.specs.Data.{VersionData}
 use Rattle.osm_files.specs.declared.fault.Fault.{Fault}
 use Rattle.osm_files.specs.declared.reason.Reason.{Reason}
@@ -76,10 +75,6 @@ nothing_held p m is none =
 
 abbrev pub answers : Option ReadUnit → Result (Option ReadUnit) Reason
 answers unit = Ok unit
-
--- the bytes behind a place
-pub behind_place : (n : ℕ) (bytes items : List ℕ) → bytes ≡ items → take (length bytes - n) (drop n bytes) ≡ drop n items
-behind_place n bytes items is = take_all (length bytes - n) (drop n bytes) (omega (arith, length-drop n bytes)) ∙ ap (drop n) is
 
 module _ (p m : Position) (at : Place) (bytes : List ℕ) (is : m ≡ seen p) (stands : m.stand ≡ Some (stand_of at)) (held : bytes ≡ m.held) where
   there : stand_at p ≡ stand_of at

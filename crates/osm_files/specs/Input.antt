@@ -21,6 +21,10 @@ preceded_by front coming = record { bytes = front ++ coming.bytes; broken = comi
 abbrev pub Gave : Option Coming → Option Coming → List ℕ → Type 0
 Gave before after front = before ≡ option_map (preceded_by front) after
 
+-- behind these bytes stand so many more that the input gave
+abbrev pub GaveMore : Option Coming → Option Coming → List ℕ → List ℕ → ℕ → Type 0
+GaveMore before after held more count = (front : List ℕ) × Gave before after front × (more ≡ held ++ front) × (length front ≡ count)
+
 -- the end of input comes next
 abbrev pub AtEnd : Option Coming → Type 0
 AtEnd coming = IfSome coming (λ c. (c.bytes ≡ []) × (c.broken ≡ false))

@@ -3,6 +3,7 @@
 
 mod fault;
 mod format;
+mod held;
 mod input;
 pub mod laws;
 mod load;

@@ -11,6 +11,7 @@ ghost use Rattle.osm_files.specs.Position.{Position, Advances, ReadsOn, StopsFil
 
 use crate::fault::{Fault, LENGTH_LIMIT};
 use crate::format::Format;
+use crate::held::Held;
 use crate::input::Input;
 use crate::placed::Placed;
 use crate::reason::Reason;
@@ -18,9 +19,6 @@ use crate::unit::{O5M_HEADER, Place, ReadUnit};
 use osm_model::Version;
 use std::alloc::Global;
 use std::marker::Model;
-
-/// The most bytes that are asked of an input at a time.
-const CHUNK: usize = 65536;
 
 /// The first byte of o5 files.
 const O5_MARK: u8 = 0xff;
@@ -42,11 +40,10 @@ pub(crate) struct Reading<R: Input> {
     alloc: Global,
     input: usize,
     reader: R,
-    buffer: Vec<u8>,
-    /// The place in the file of the first byte of the buffer.
-    begin: u64,
-    /// How many bytes of the buffer were read.
-    from: usize,
+    /// The bytes that came and weren't read.
+    held: Held,
+    /// The place in the file of the first of them.
+    place: u64,
     /// Where the reading stands, once the first byte was seen, which tells the grammar.
     at: Option<Place>,
     ended: bool,
@@ -60,9 +57,9 @@ impl<R: Input> Model for Reading<R> {
 
     ghost Value = { Position };
 
-    ghost view = { λ r. record { input = r.input; place = r.begin + r.from; held = drop r.from r.buffer.items; coming = R.coming r.reader; stand = option_map stand_of r.at; ended = r.ended; failed = r.failed } };
+    ghost view = { λ r. record { input = r.input; place = r.place; held = r.held; coming = R.coming r.reader; stand = option_map stand_of r.at; ended = r.ended; failed = r.failed } };
 
-    ghost invariant = { λ r. (r.from ≤ length r.buffer.items) × (r.begin + length r.buffer.items < 2 ^ 62) × (r.failed ≡ false → IfSome r.at IsGood) };
+    ghost invariant = { λ r. (r.place + length r.held < 2 ^ 62) × (r.failed ≡ false → IfSome r.at IsGood) };
 }
 
 impl<R: Input> Reading<R> {
@@ -74,40 +71,22 @@ impl<R: Input> Reading<R> {
             alloc,
             input,
             reader,
-            buffer: Vec::new(alloc),
-            begin: 0,
-            from: 0,
+            held: Held::new(alloc),
+            place: 0,
             at: None,
             ended: false,
             failed: false,
         }
     }
 
-    /// Moves the bytes held to the front of the buffer.
-    fn compact(&mut self)
-        ensures { self.new ≡ self.old }
-    {
-        self.buffer.drain(..self.from);
-        self.begin += self.from as u64;
-        self.from = 0;
-    }
-
-    /// The place in the file of the first byte that wasn't read.
-    fn place(&self) -> u64
-        ensures { result ≡ self.now.place }
-    {
-        self.begin + self.from as u64
-    }
-
-    /// The refusal of the unit there.
+    /// The refusal of the unit at the front of the bytes held.
     fn refusal(&self, reason: Reason) -> Fault
         ensures { result ≡ fault_at self.now.input self.now.place reason }
     {
-        Fault::at(self.input, self.place(), reason)
+        Fault::at(self.input, self.place, reason)
     }
 
-    /// Reads more bytes, or finds that there are no more. Its chunk stands on the stack, so it is no part of its callers.
-    #[inline(never)]
+    /// Reads more bytes, or finds that there are no more.
     fn fill(&mut self) -> Result<(), Fault>
         requires { self.old.ended ≡ false }
         ensures on { OnOk result (ReadsOn self.old self.new) }
@@ -115,27 +94,40 @@ impl<R: Input> Reading<R> {
         ensures stops { IfErr result (StopsFilling self.old) }
         ensures number { self.new.input ≡ self.old.input }
     {
-        self.compact();
-        let read = self.begin + self.buffer.len() as u64;
+        let read = self.place + self.held.len() as u64;
         let room = LENGTH_LIMIT - 1 - read;
-        let mut chunk = [0u8; CHUNK];
-        let size = room.min(CHUNK as u64).max(1) as usize;
-        let Ok(count) = self.reader.read(&mut chunk[..size]) else {
-            return Err(Fault {
-                input: self.input,
-                place: read,
-                reason: Reason::ReadFault,
-            });
-        };
-        if count == 0 {
-            self.ended = true;
-            return Ok(());
-        }
         if room == 0 {
-            return Err(Fault::too_long(self.input));
+            return self.end_at_limit(read);
         }
-        self.buffer.extend_from_slice(&chunk[..count])?;
-        Ok(())
+        match self.held.read_more(&mut self.reader, room as usize) {
+            Ok(0) => {
+                self.ended = true;
+                Ok(())
+            }
+            Ok(_) => Ok(()),
+            Err(reason) => Err(Fault::at(self.input, read, reason)),
+        }
+    }
+
+    /// Finds that there are no more bytes, where as many came as a file may have.
+    fn end_at_limit(&mut self, read: u64) -> Result<(), Fault>
+        requires unended { self.old.ended ≡ false }
+        requires place { read ≡ self.old.place + length self.old.held }
+        requires limit { read + 1 ≡ 2 ^ 62 }
+        ensures on { OnOk result (ReadsOn self.old self.new) }
+        ensures ended { OnOk result (self.new.ended ≡ true) }
+        ensures stops { IfErr result (StopsFilling self.old) }
+        ensures number { self.new.input ≡ self.old.input }
+    {
+        let mut byte = [0u8; 1];
+        match self.reader.read(&mut byte) {
+            Ok(0) => {
+                self.ended = true;
+                Ok(())
+            }
+            Ok(_) => Err(Fault::too_long(self.input)),
+            Err(_) => Err(Fault::at(self.input, read, Reason::ReadFault)),
+        }
     }
 
     /// Sees by the first byte of the file which grammar it has.
@@ -145,7 +137,7 @@ impl<R: Input> Reading<R> {
         if self.at.is_some() {
             return;
         }
-        if let Some(first) = self.buffer[self.from..].first() {
+        if let Some(first) = self.held.as_slice().first() {
             self.at = Some(start(*first));
         }
     }
@@ -162,7 +154,7 @@ impl<R: Input> Reading<R> {
         let Some(at) = &mut self.at else {
             return Ok(None);
         };
-        match at.read(self.alloc, &self.buffer[self.from..]) {
+        match at.read(self.alloc, self.held.as_slice()) {
             Ok(unit) => Ok(unit),
             Err(reason) => {
                 self.failed = true;
@@ -177,8 +169,9 @@ impl<R: Input> Reading<R> {
         ensures gone { self.new ≡ record self.old { place = self.old.place + unit.size; held = drop unit.size self.old.held } }
         ensures gave { result ≡ given self.old.place unit.version }
     {
-        let place = self.place();
-        self.from += unit.size;
+        let place = self.place;
+        self.held.skip(unit.size);
+        self.place += unit.size as u64;
         match unit.version {
             None => Advance::Passed,
             Some(version) => Advance::Gave(Placed { place, version }),
@@ -192,15 +185,8 @@ impl<R: Input> Reading<R> {
     {
         match &self.at {
             None => Ok(None),
-            Some(at) => at.read_last(self.alloc, &self.buffer[self.from..]),
+            Some(at) => at.read_last(self.alloc, self.held.as_slice()),
         }
-    }
-
-    /// How many bytes are held.
-    fn held_length(&self) -> usize
-        ensures { result ≡ length self.now.held }
-    {
-        self.buffer.len() - self.from
     }
 
     /// Goes over the last bytes of an ended input, where no unit stands whole.
@@ -218,7 +204,7 @@ impl<R: Input> Reading<R> {
             Ok(version) => version,
             Err(reason) => return Err(self.refusal(reason)),
         };
-        let size = self.held_length();
+        let size = self.held.len();
         if size == 0 {
             return Ok(Advance::Ended);
         }
@@ -288,7 +274,7 @@ impl<R: Input> Reading<R> {
         ensures refused { IfErr result (λ fault. Step {A = Placed} (still_to_come self.old) (Err fault) (still_to_come self.new)) }
     {
         'reads: loop {
-            let held = &self.buffer[self.from..];
+            let held = self.held.as_slice();
             if tells_format(held) {
                 return Ok(format_of(held));
             }

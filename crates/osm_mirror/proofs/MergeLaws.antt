@@ -1,8 +1,7 @@
 -- What the sources of files give together is what the files hold.
-use Rattle.std.proofs.Common.{◌≡◌, ◌⊎◌, inl, inr, ℕ, zero, suc, ◌+◌, ◌<◌, Bool, true, false, ◌||◌, List, [], ◌∷◌, ◌++◌, length, map, fold, take, get_or, refl, sym, ap, ◌∙◌, subst, arith, Option, Some, None, option_map, IfSome, is_some, sum_by, Result, Ok, Err, IfOk, IfErr, OnOk}
+use Rattle.std.proofs.Common.{◌≡◌, inl, inr, ℕ, suc, ◌+◌, Bool, true, false, ◌||◌, List, [], ◌∷◌, ◌++◌, length, map, fold, refl, sym, ap, ◌∙◌, subst, arith, append-nil, Option, Some, None, option_map, is_some, sum_by, Result, Ok, Err, IfOk, IfErr, OnOk}
 use Rattle.std.specs.Ordering.{eq_by_cmp}
-use Rattle.std.specs.List.{list_any, flat_map, All}
-use Rattle.std.specs.List.Sorted.{IsStrictlySortedBy}
+use Rattle.std.specs.List.{list_any, All}
 use Rattle.std.proofs.lemmas.List.{map-append, length-map}
 use Rattle.std.proofs.lemmas.List.Folds.{list_any-append}
 use Rattle.std.proofs.lemmas.List.Elements.{All-cons, All-nil}
@@ -13,11 +12,12 @@ use Rattle.osm_model.specs.Data.{VersionData}
 use Rattle.osm_model.specs.Order.{version_cmp, version_cmp_total}
 use Rattle.osm_model.specs.VersionSet.{VersionSet}
 use Rattle.osm_model.specs.Sets.{size, empty, union, contains, listed, from_list}
-use Rattle.osm_model.proofs.SetLaws.{contains-union, contains-from_list, contains-listed, same_set}
+use Rattle.osm_model.proofs.SetLaws.{contains-union, contains-from_list, same_set}
 use Rattle.osm_model.proofs.VersionLaws.{version_cmp-IsAntisymmetric, listed-view}
 use Rattle.opl_line.specs.Content.{Pairwise}
 use Rattle.osm_files.specs.declared.fault.Fault.{Fault}
 use Rattle.osm_files.specs.declared.format.Format.{Format}
+use Rattle.osm_files.specs.Fault.{memory_fault}
 use Rattle.osm_files.specs.Input.{Coming}
 use Rattle.osm_files.specs.Output.{Appended}
 use Rattle.osm_files.specs.Held.{HoldsSorted}
@@ -217,3 +217,11 @@ module _ (told : List (Option Coming)) (stills : List (Option source.Coming)) (f
   pub run_sorted : (result : Result Counts Fault) → OnOk result (All merge.IsWhole stills) → OnOk result (All IsSorted told)
   run_sorted (Ok counts) h = each_sorted 0 told (subst (λ (t : List (Option source.Coming)). All merge.IsWhole t) opened h)
   run_sorted (Err fault) h = tt
+
+at_first : (held : Option (List ℕ)) → Appended held held []
+at_first None = tt
+at_first (Some bytes) = ap Some (sym (append-nil bytes))
+
+-- want of memory before anything was written
+pub cut_at_once : (output : ℕ) (held : Option (List ℕ)) (failed : Bool) (bytes : List ℕ) (fault : Fault) → fault ≡ memory_fault → CutShort output held held failed bytes fault
+cut_at_once output held failed bytes fault memory = record { count = 0; within = omega arith; appended = at_first held; why = inl memory }

@@ -1,6 +1,5 @@
 use Rattle.std.proofs.Common.{rules, ◌≡◌, ◌∙◌, ap, map, length}
 use Rattle.osm_files.specs.Groups.{still_given}
-use Rattle.osm_mirror.specs.Merge.{sources_told}
 use Rattle.osm_mirror.proofs.MergeLaws.{opened_more}
 use Rattle.osm_mirror.proofs.merge.open_sources.Goals as goal
 

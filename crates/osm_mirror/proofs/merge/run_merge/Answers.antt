@@ -1,7 +1,18 @@
-use Rattle.std.proofs.Common.{rules, ◌≡◌, ◌∙◌, refl, sym, ap, map, length}
+use Rattle.std.proofs.Common.{rules, ◌≡◌, ◌∙◌, refl, sym, ap, map, length, inl}
 use Rattle.std.proofs.lemmas.List.{length-map}
-use Rattle.osm_mirror.proofs.MergeLaws.{run_merged, run_refused, run_cut, run_why, run_file, run_sorted}
+use Rattle.std.proofs.lemmas.Result.{err_from_is_err_and}
+use Rattle.osm_mirror.proofs.MergeLaws.{cut_at_once, run_merged, run_refused, run_cut, run_why, run_sorted}
 use Rattle.osm_mirror.proofs.merge.run_merge.Goals as goal
+
+pub returns-in_err-sink-clause-refused : goal.returns-in_err-sink-clause-refused
+returns-in_err-sink-clause-refused g c =
+    let p = err_from_is_err_and c.from_residual-in_err-sink.result c.from_residual-in_err-sink.ensures.1 in
+    rw (p.1, p.2) (λ all t. inl (cut_at_once _ (g.W.Output.contents c.args.out.now) _ _ _ c.in_err-sink.ensures.err))
+
+pub returns-in_err-sink-clause-cut : goal.returns-in_err-sink-clause-cut
+returns-in_err-sink-clause-cut g c =
+    let p = err_from_is_err_and c.from_residual-in_err-sink.result c.from_residual-in_err-sink.ensures.1 in
+    rw (p.1, p.2) (λ all t held gives. cut_at_once _ (g.W.Output.contents c.args.out.now) _ _ _ c.in_err-sink.ensures.err)
 
 pub returns-clause-merged : goal.returns-clause-merged
 returns-clause-merged g c =

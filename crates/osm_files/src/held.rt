@@ -1,0 +1,146 @@
+//! The bytes that came from an input and weren't read.
+ghost use Rattle.std.specs.Prelude.{◌≡◌, ◌⊎◌, ◌<◌, ◌≤◌, Ok, Err, ◌+◌, [], length, take, drop, IfOk, IfErr, OnOk, OnErr};
+ghost use Rattle.osm_files.specs.Input.{AtEnd, AtError, GaveMore};
+ghost use Rattle.osm_files.specs.declared.reason.Reason.TheVariants as reason;
+
+use crate::input::{Broken, Input};
+use crate::reason::Reason;
+use std::alloc::Global;
+use std::marker::Model;
+
+/// The most bytes that are asked of an input at a time.
+const CHUNK: usize = 65536;
+
+/// The bytes that came from an input and weren't read. Contracts see their list.
+#[derive(Drop)]
+pub(crate) struct Held {
+    /// Room for bytes, which input is read into. The bytes from `from` on and before `end` are held.
+    room: Vec<u8>,
+    from: usize,
+    end: usize,
+}
+
+impl Model for Held {
+    ghost use Rattle.std.specs.Prelude.{List, ℕ, ◌≤◌, ◌-◌, length, take, drop};
+
+    ghost Value = { List ℕ };
+
+    ghost view = { λ h. take (h.end - h.from) (drop h.from h.room.items) };
+
+    ghost invariant = { λ h. (h.from ≤ h.end) × (h.end ≤ length h.room.items) };
+}
+
+impl Held {
+    /// No bytes yet.
+    pub(crate) fn new(alloc: Global) -> Held
+        ensures { result ≡ [] }
+    {
+        Held {
+            room: Vec::new(alloc),
+            from: 0,
+            end: 0,
+        }
+    }
+
+    /// The bytes.
+    pub(crate) fn as_slice(&self) -> &[u8]
+        ensures { result.now ≡ self.now }
+    {
+        &self.room[self.from..self.end]
+    }
+
+    /// How many there are.
+    pub(crate) fn len(&self) -> usize
+        ensures { result ≡ length self.now }
+    {
+        self.end - self.from
+    }
+
+    /// Lets go the first bytes, which were read.
+    pub(crate) fn skip(&mut self, count: usize)
+        requires { count ≤ length self.old }
+        ensures { self.new ≡ drop count self.old }
+    {
+        self.from += count;
+    }
+
+    /// Moves the bytes to the front of the room.
+    fn compact(&mut self)
+        ensures { self.new ≡ self.old }
+    {
+        self.room.copy_within(self.from..self.end, 0);
+        self.end -= self.from;
+        self.from = 0;
+    }
+
+    /// Reads more bytes, at most so many, and answers how many; 0 at the end of input.
+    ///
+    /// # Errors
+    ///
+    /// `ReadFault` where the input fails, or `Memory`. The bytes stay as they were.
+    #[inline(never)]
+    pub(crate) fn read_more<R: Input>(
+        &mut self,
+        reader: &mut R,
+        most: usize,
+    ) -> Result<usize, Reason>
+        requires { 0 < most }
+        ensures gave { IfOk result (GaveMore (R.coming reader.old) (R.coming reader.new) self.old self.new) }
+        ensures most { IfOk result (λ count. count ≤ most) }
+        ensures end { result ≡ Ok 0 → AtEnd (R.coming reader.old) }
+        ensures broken { result ≡ Err reason.ReadFault → AtError (R.coming reader.old) }
+        ensures reason { IfErr result (λ refused. (refused ≡ reason.Memory) ⊎ (refused ≡ reason.ReadFault)) }
+        ensures unchanged { OnErr result (self.new ≡ self.old) }
+    {
+        self.compact();
+        if let Err(refused) = make_room(&mut self.room, self.end) {
+            return Err(refused);
+        }
+        match read_behind(reader, &mut self.room, self.end, most.min(CHUNK)) {
+            Ok(count) => {
+                self.end += count;
+                Ok(count)
+            }
+            Err(_) => Err(Reason::ReadFault),
+        }
+    }
+}
+
+/// Reads at most so many bytes into the room behind so many bytes, and answers how many.
+fn read_behind<R: Input>(
+    reader: &mut R,
+    room: &mut Vec<u8>,
+    end: usize,
+    most: usize,
+) -> Result<usize, Broken>
+    requires some { 0 < most }
+    requires within { end + most ≤ length room.old.items }
+    ensures gave { IfOk result (λ count. GaveMore (R.coming reader.old) (R.coming reader.new) (take end room.old.items) (take (end + count) room.new.items) count) }
+    ensures most { IfOk result (λ count. count ≤ most) }
+    ensures end { result ≡ Ok 0 → AtEnd (R.coming reader.old) }
+    ensures broken { OnErr result (AtError (R.coming reader.old)) }
+    ensures kept { take end room.new.items ≡ take end room.old.items }
+    ensures size { length room.new.items ≡ length room.old.items }
+{
+    match reader.read(&mut room[end..end + most]) {
+        Ok(count) => Ok(count),
+        Err(broken) => Err(broken),
+    }
+}
+
+/// Makes room for a chunk behind so many bytes.
+fn make_room(room: &mut Vec<u8>, end: usize) -> Result<(), Reason>
+    requires { end ≤ length room.old.items }
+    ensures room { OnOk result (end + 65536 ≤ length room.new.items) }
+    ensures kept { take end room.new.items ≡ take end room.old.items }
+    ensures longer { length room.old.items ≤ length room.new.items }
+    ensures memory { IfErr result (λ refused. refused ≡ reason.Memory) }
+{
+    if room.len() - end >= CHUNK {
+        return Ok(());
+    }
+    match room.resize(end + CHUNK, 0) {
+        Ok(()) => Ok(()),
+        Err(_) => Err(Reason::Memory),
+    }
+}
