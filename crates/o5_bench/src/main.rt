@@ -85,6 +85,7 @@ fn read_all(alloc: Global, nodes: &[Vec<u8>]) -> Result<u64> {
         if version.uid() > 0 {
             count = count.saturating_add(1);
         }
+        decoder.reuse(version);
     }
     Ok(count)
 }

@@ -1,6 +1,7 @@
 -- What storing an entry and letting the oldest go do to the numbers.
 use Rattle.std.proofs.Common.{◌≡◌, ℕ, zero, suc, ◌+◌, ◌-◌, ◌<◌, ◌≤◌, ◌^◌, Bool, true, false, cond, List, [], ◌∷◌, ◌++◌, length, take, length-append, refl, sym, ap, ◌∙◌, subst, arith, Option, Some, None, inl, inr}
 use Rattle.std.specs.Option.{option_map}
+use Rattle.std.specs.List.{slice_get}
 use Rattle.std.specs.HashMap as hash
 use Rattle.std.specs.HashMap.{HashMap}
 use Rattle.std.proofs.lemmas.List.{length-take, take_all}
@@ -215,3 +216,17 @@ room_made t = let h : 0 < limit = some_room in omega (arith, length-take (limit 
 
 pub stored_is : (e : FormedEntry) (t : List FormedEntry) → e ∷ take (limit - 1) t ≡ take limit (e ∷ t)
 stored_is e t = sym (take_cons limit e t some_room)
+
+-- an entry that stands in a table of distinct ones has the reference of its place
+pub standing : (table : List FormedEntry) (i : ℕ) (e : FormedEntry) → AreDistinct table → slice_get table i ≡ Some e → reference_to e table ≡ Some (i + 1)
+standing [] i e distinct at = absurd (cc)
+standing (x ∷ table) zero e distinct at =
+    let here : x ≡ e = cc in
+    cond-true (same_entry e x) (Some 1) _ ((same_entry_decides e x).1 (sym here))
+standing (x ∷ table) (suc i) e distinct at =
+    let behind : reference_to e table ≡ Some (i + 1) = standing table i e distinct.1 at in
+    elim (cases_Bool (same_entry e x)) [
+      | inl is ↦ absurd (let twice : Some (i + 1) ≡ None = sym behind ∙ ap (λ f. reference_to f table) ((same_entry_decides e x).0 is) ∙ distinct.0 in cc)
+      | inr other ↦ (let one : i + 1 + 1 ≡ suc i + 1 = omega arith in
+          cond-false (same_entry e x) (Some 1) _ other ∙ ap (option_map (λ n. n + 1)) behind ∙ ap (λ n. Some n) one)
+    ]

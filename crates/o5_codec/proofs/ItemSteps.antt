@@ -81,6 +81,10 @@ pub filled_by_test : {X : Type 0} (xs : List X) → false ≡ eqb (length xs) 0 
 filled_by_test [] test e = cc
 filled_by_test (x ∷ xs) test e = cc
 
+pub some_by_test : {X : Type 0} (xs : List X) → false ≡ eqb (length xs) 0 → 0 < length xs
+some_by_test [] test = cc
+some_by_test (x ∷ xs) test = omega arith
+
 pub empty_by_test : {X : Type 0} (xs : List X) → true ≡ eqb (length xs) 0 → xs ≡ []
 empty_by_test [] test = refl
 empty_by_test (x ∷ xs) test = grind (arith, nat_tests)

@@ -81,6 +81,12 @@ read_end bytes i value weight b r is small inside low fits =
     ∙ (let e : value + weight * b ≡ value + b * weight = omega arith in ap (λ n. Ok (n, rest)) e) in
     ap (λ r. and_then r within_word) read ∙ rw (lt-ltb (value + b * weight) (2 ^ 64) fits, take_rest bytes (i + 1)) refl
 
+-- the same of a sum that is written in another way
+pub read_sum : (bytes : List ℕ) (i value weight b sum : ℕ) → Read bytes i value weight → b ≡ get_or bytes i 0 → i < 10 → i < length bytes → b < 128 → sum ≡ value + b * weight → sum < 2 ^ 64 →
+    number_at bytes ≡ Ok (sum, take (length bytes - (i + 1)) (drop (i + 1) bytes))
+read_sum bytes i value weight b sum r is small inside low same fits =
+    read_end bytes i value weight b r is small inside low (omega arith) ∙ ap (λ n. Ok (n, take (length bytes - (i + 1)) (drop (i + 1) bytes))) (sym same)
+
 -- a last group that doesn't fit, or one that isn't the last
 over : (value weight b : ℕ) (rest : List ℕ) → 2 ^ 64 ≤ value + weight * b → and_then (scaled value weight (groups_at 1 (b ∷ rest))) within_word ≡ Err BadNumber
 unfolding groups_at
@@ -103,3 +109,16 @@ read_over bytes i value weight b r is nine inside high =
 
 pub read_to_nine : (bytes : List ℕ) (i value weight : ℕ) → Read bytes i value weight → i ≡ 9 → Read bytes 9 value weight
 read_to_nine bytes i value weight r nine = let P : ℕ → Type 0 = λ n. Read bytes n value weight in subst P nine r
+
+-- nothing is read yet
+pub read_begin : (bytes : List ℕ) → Read bytes 0 0 1
+read_begin bytes = record {
+  power = refl;
+  below = omega arith;
+  within = omega arith;
+  left = λ room e. (let ten : room ≡ 10 = omega arith in rw ten (sym (scaled_one (groups_at 10 bytes))));
+}
+  where
+    scaled_one : (r : Result (ℕ × List ℕ) O5Reason) → scaled 0 1 r ≡ r
+    scaled_one (Ok x) = let e : 0 + 1 * x.0 ≡ x.0 = omega arith in ap (λ n. Ok (n, x.1)) e
+    scaled_one (Err e) = refl

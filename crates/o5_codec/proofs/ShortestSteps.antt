@@ -1,14 +1,22 @@
 -- The loop of the writer of numbers: what is written, and what is left, are the whole number.
-use Rattle.std.proofs.Common.{◌≡◌, ℕ, zero, suc, ◌+◌, ◌-◌, ◌*◌, ◌/◌, ◌%◌, ◌<◌, ◌≤◌, ◌^◌, List, [], ◌∷◌, ◌++◌, refl, ap, sym, ◌∙◌, arith, append_assoc, subst}
+use Rattle.std.proofs.Common.{◌≡◌, ℕ, zero, suc, length, take, slice_set, ◌+◌, ◌-◌, ◌*◌, ◌/◌, ◌%◌, ◌<◌, ◌≤◌, ◌^◌, List, [], ◌∷◌, ◌++◌, refl, ap, sym, ◌∙◌, arith, append_assoc, subst, inl, inr}
 use Rattle.std.proofs.Math.Nat.{mul-le-mul_right}
-use Rattle.std.proofs.lemmas.Bool.{le-ltb, lt-ltb}
+use Rattle.std.proofs.lemmas.Bool.{le-ltb, lt-ltb, cases_lt}
 use Rattle.std.proofs.lemmas.Grind.{pow_more}
+use Rattle.std.proofs.lemmas.List.{take_more_set}
 use Rattle.o5_codec.specs.Shortest.{groups_of, shortest_number}
 
 -- i groups are written
 pub record Written (all written : List ℕ) (n i rest : ℕ) : Type 0 where
   pub below : rest * 128 ^ i ≤ n
   pub left : (more : ℕ) → more + i ≡ 9 → all ≡ written ++ groups_of more rest
+
+pub write_begin : (front : List ℕ) (n : ℕ) → Written (front ++ shortest_number n) front n 0 n
+unfolding shortest_number
+write_begin front n = record {
+  below = omega arith;
+  left = λ more e. (let m : more ≡ 9 = omega arith in rw m refl);
+}
 
 pub write_more : (all written : List ℕ) (n i rest : ℕ) → Written all written n i rest → i < 9 → 128 ≤ rest →
     Written all (written ++ (rest % 128 + 128) ∷ []) n (i + 1) (rest / 128)
@@ -32,7 +40,18 @@ write_last all written n i rest w small low = w.left (9 - i) (omega arith) ∙ a
 pub write_nine : (all written : List ℕ) (n i rest : ℕ) → Written all written n i rest → i ≡ 9 → n < 2 ^ 64 → rest < 128
 write_nine all written n i rest w nine fits = let P : ℕ → Type 0 = λ k. rest * 128 ^ k ≤ n in let b : rest * 128 ^ 9 ≤ n = subst P nine w.below in omega arith
 
+-- before a group that isn't the last, few are written
+pub write_early : (all written : List ℕ) (n i rest : ℕ) → Written all written n i rest → i ≤ 9 → n < 2 ^ 64 → 128 ≤ rest → i < 9
+write_early all written n i rest w few fits high = elim (cases_lt i 9) [
+  | inl early ↦ early
+  | inr late ↦ absurd (let low : rest < 128 = write_nine all written n i rest w (omega arith) fits in omega arith)
+]
+
 -- a number of one byte
 pub write_one : (n : ℕ) → n < 128 → shortest_number n ≡ n ∷ []
 unfolding shortest_number groups_of
 write_one n low = rw (lt-ltb n 128 low) refl
+
+-- one byte more behind those that are filled
+pub fill_more : (bytes written : List ℕ) (end behind byte : ℕ) → behind ≡ end + 1 → take end bytes ≡ written → end < length bytes → take behind (slice_set bytes end byte) ≡ written ++ byte ∷ []
+fill_more bytes written end behind byte next same inside = ap (λ n. take n (slice_set bytes end byte)) next ∙ take_more_set bytes end byte inside ∙ ap (λ xs. xs ++ byte ∷ []) same

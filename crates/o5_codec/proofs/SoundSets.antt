@@ -16,7 +16,7 @@ use Rattle.osm_model.specs.Text.{is_text}
 use Rattle.osm_model.specs.Tags.{texts_of_tags}
 use Rattle.osm_model.specs.Members.{ids_of_members, roles_of}
 use Rattle.osm_model.specs.Data.{VersionData, ids_of, texts_of, normal_body, version_of}
-use Rattle.osm_model.specs.New.{is_number, is_time, is_dated, first_fault, version_or_fault, unless_faulty}
+use Rattle.osm_model.specs.New.{is_number, is_time, is_dated, first_fault}
 use Rattle.osm_model.specs.Valid.{IsInRange, IsVersion}
 use Rattle.osm_model.proofs.ValidLaws.{valid_version}
 use Rattle.o5_codec.specs.declared.segment.Segment.{Segment}
@@ -120,14 +120,6 @@ set_faultless k s content x m b sound first second third =
     let meta = meta_ok x.1 x.2 m id.1 second in
     let body = body_ok k m.1 m.2 b meta.1 third in
     (no_fault x.0 m.0 b.0 id.0 meta.0 body.0, body.1)
-
--- what the steps read makes a version
-pub version_made : (k : Kind) (s : Segment) (content : List ℕ) (x : ℤ × Segment × List ℕ) (m : Meta × Segment × List ℕ) (b : Body × Segment) → is_sound s ≡ true →
-    id_at s content ≡ Ok x → meta_at x.1 x.2 ≡ Ok m → body_at k m.1 m.2 ≡ Ok b →
-    (version_or_fault x.0 m.0 b.0 ≡ Ok (version_of x.0 m.0 b.0)) × (is_sound b.1 ≡ true)
-version_made k s content x m b sound first second third =
-    let f = set_faultless k s content x m b sound first second third in
-    (ap (λ f. unless_faulty f (version_of x.0 m.0 b.0)) f.0, f.1)
 
 -- ---- the version is within its ranges
 node_range : (s : Segment) (bytes : List ℕ) (x : Body × Segment) → node_at s bytes ≡ Ok x → IsInRange (normal_body x.0)

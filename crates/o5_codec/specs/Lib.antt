@@ -26,3 +26,6 @@ pub mod IdBases
 pub mod SameEntry
 pub mod Agreement
 pub mod WritingLaws
+pub mod Piece
+pub mod StoredInside
+pub mod EntryInside

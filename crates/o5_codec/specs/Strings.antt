@@ -31,11 +31,15 @@ unfoldable pub inline_at : Form → List ℕ → Result (Entry × List ℕ) O5Re
 inline_at Pair bytes = and_then (string_at bytes) (λ x. and_then (string_at x.1) (λ y. Ok (entry_of x.0 y.0, y.1)))
 inline_at Single bytes = and_then (string_at bytes) (λ x. Ok (entry_of x.0 [], x.1))
 
+-- the same, as they are spelled
+abbrev pub inline_spelled : Form → List ℕ → Result (Spelled × List ℕ) O5Reason
+inline_spelled form bytes = and_then (inline_at form bytes) (λ x. Ok (Inline x.0, x.1))
+
 -- the pair or single string at the front, and the bytes behind it: inline behind a zero byte, else a reference
 unfoldable pub spelled_at : Form → List ℕ → Result (Spelled × List ℕ) O5Reason
 spelled_at form [] = Err BadText
 spelled_at form (b ∷ bytes) =
-    if b == 0 then and_then (inline_at form bytes) (λ x. Ok (Inline x.0, x.1))
+    if b == 0 then inline_spelled form bytes
     else and_then (number_at (b ∷ bytes)) (λ x. Ok (Reference x.0, x.1))
 
 abbrev pub referred : Option Entry → Result Entry O5Reason

@@ -81,10 +81,11 @@ pub(crate) fn within_range(number: u64) -> Result<u32, O5Reason>
 pub(crate) fn moved_number(base: u32, difference: i64) -> Result<u32, O5Reason>
     ensures { result ≡ spec.moved_number base difference }
 {
-    match i64::from(base).checked_add(difference) {
-        Some(sum) if sum >= 0 => within_range(sum as u64),
-        _ => Err(O5Reason::OutOfRange),
+    let sum = i64::from(base).wrapping_add(difference);
+    if sum < 0 {
+        return Err(O5Reason::OutOfRange);
     }
+    within_range(sum as u64)
 }
 
 /// A longitude or latitude, by its difference to the base. The sum is reduced modulo 2^32 to 32 bits.

@@ -9,7 +9,7 @@ use crate::base::{Bases, moved_coordinate, moved_id};
 use crate::number::{read_number, read_signed};
 use crate::segment::{ListsSeen, Segment};
 use crate::strings::{Form, read_spelled};
-use crate::text::{to_tag, to_text};
+use crate::text::to_text;
 use osm_model::{Body, Kind, Member, Members, References, Tag, Tags};
 
 impl ListsSeen {
@@ -134,7 +134,8 @@ impl Segment {
     fn read_references(&mut self, bytes: &[u8]) -> Result<References, O5Reason>
         ensures { Answers (λ ids. (ids, self.new)) (items_at spec.reference_at self.old bytes.now) result }
     {
-        let mut ids = Vec::new(self.table.allocator());
+        // Most references take two bytes or more; those that don't make the vector grow.
+        let mut ids = Vec::with_capacity(self.table.allocator(), bytes.len() / 2)?;
         let mut rest = bytes;
         while !rest.is_empty() {
             let (id, behind) = self.read_reference(rest)?;
@@ -218,8 +219,7 @@ impl Segment {
     {
         let (spelled, rest) = read_spelled(Form::Pair, bytes)?;
         self.table.store(&spelled)?;
-        let strings = self.table.strings(&spelled)?;
-        let tag = to_tag(self.table.allocator(), &strings)?;
+        let tag = self.table.tag(&spelled)?;
         Ok((tag, rest))
     }
 }

@@ -1,6 +1,5 @@
 //! Reading data sets.
 ghost use Rattle.std.specs.Prelude.{◌≡◌, ◌⊎◌, Ok, true, false, IfOk, IfErr, OnOk};
-ghost use Rattle.osm_model.specs.declared.fault.ValueFault.TheVariants as value_fault;
 ghost use Rattle.o5_codec.specs.Answer.{Answers};
 ghost use Rattle.o5_codec.specs.Body.{set_at};
 ghost use Rattle.o5_codec.specs.Sound.{is_sound};
@@ -12,7 +11,7 @@ use crate::O5Reason;
 use crate::base::Bases;
 use crate::segment::{ListsSeen, Segment};
 use crate::table::Table;
-use osm_model::{Kind, Memory, ValueFault, Version};
+use osm_model::{Kind, Memory, Version};
 use std::alloc::Global;
 use std::marker::Model;
 
@@ -21,6 +20,8 @@ use std::marker::Model;
 pub struct Decoder {
     segment: Segment,
     failed: bool,
+    /// A version that isn't needed any more, whose memory the next one takes.
+    spare: Option<Version>,
 }
 
 impl Model for Decoder {
@@ -47,6 +48,7 @@ impl Decoder {
         Ok(Decoder {
             segment: Segment::new(alloc)?,
             failed: false,
+            spare: None,
         })
     }
 
@@ -63,13 +65,20 @@ impl Decoder {
         if self.failed {
             return Err(O5Reason::Failed);
         }
-        match self.segment.read_set(kind, content) {
+        match self.segment.read_set(kind, content, &mut self.spare) {
             Ok(version) => Ok(version),
             Err(reason) => {
                 self.failed = true;
                 Err(reason)
             }
         }
+    }
+
+    /// Takes back a version that isn't needed any more. The next one takes its memory, so that none is asked for.
+    pub fn reuse(&mut self, version: Version)
+        ensures { self.new ≡ self.old }
+    {
+        self.spare = Some(version);
     }
 
     /// Begins a segment: all bases are 0, and the string table is empty. A decoder that has failed stays so.
@@ -101,9 +110,14 @@ impl Segment {
         self.seen = ListsSeen::Neither;
     }
 
-    /// The version of a data set.
+    /// The version of a data set, in the memory of a version that isn't needed any more, if there is one.
     #[tactic(auto, unfolding(crate::specs::Body::set_at))]
-    fn read_set(&mut self, kind: Kind, content: &[u8]) -> Result<Version, O5Reason>
+    fn read_set(
+        &mut self,
+        kind: Kind,
+        content: &[u8],
+        spare: &mut Option<Version>,
+    ) -> Result<Version, O5Reason>
         requires { is_sound self.old ≡ true }
         ensures value { Answers (λ v. (v, self.new)) (set_at kind self.old content.now) result }
         ensures sound { OnOk result (is_sound self.new ≡ true) }
@@ -111,20 +125,10 @@ impl Segment {
         let (id, rest) = self.read_id(content)?;
         let (meta, rest) = self.read_meta(rest)?;
         let body = self.read_body(kind, rest)?;
-        match Version::new(self.table.allocator(), id, meta, body) {
-            Ok(version) => Ok(version),
-            Err(fault) => Err(want_of_memory(fault)),
+        // What a data set says is within all ranges, so that memory alone can be wanting.
+        match spare.take() {
+            Some(spare) => Ok(Version::of_sound_data_in(spare, id, meta, body)),
+            None => Ok(Version::of_sound_data(self.table.allocator(), id, meta, body)?),
         }
-    }
-}
-
-/// What a data set says is within all ranges, so that a version of it is refused for want of memory alone.
-fn want_of_memory(fault: ValueFault) -> O5Reason
-    requires { fault ≡ value_fault.Memory }
-    ensures { result ≡ O5Reason.Memory }
-{
-    match fault {
-        ValueFault::Memory => O5Reason::Memory,
-        _ => unreachable!(),
     }
 }

@@ -4,8 +4,9 @@ ghost use Rattle.osm_model.specs.Data.{kind_of};
 ghost use Rattle.o5_codec.specs.Encoder as spec;
 
 use crate::EncodeFault;
-use crate::write::body::append_section;
 use crate::write::context::Context;
+use crate::write::draft::Draft;
+use crate::write::number::append_number;
 use osm_model::{Kind, Memory, Version};
 use std::alloc::Global;
 use std::marker::Model;
@@ -19,8 +20,8 @@ pub struct Encoder {
     alloc: Global,
     /// Buffers that are used again: a data set, its content, and a section within it.
     set: Vec<u8>,
-    content: Vec<u8>,
-    section: Vec<u8>,
+    content: Draft,
+    section: Draft,
 }
 
 impl Model for Encoder {
@@ -46,8 +47,8 @@ impl Encoder {
             failed: false,
             alloc,
             set: Vec::new(alloc),
-            content: Vec::new(alloc),
-            section: Vec::new(alloc),
+            content: Draft::new(alloc),
+            section: Draft::new(alloc),
         })
     }
 
@@ -105,12 +106,14 @@ impl Encoder {
         self.content.clear();
         self.context
             .append_content(&mut self.content, &mut self.section, v)?;
-        if begins || self.content.len() >= 128 {
-            fill_set(&mut self.set, begins, kind, &self.content)?;
-            out.extend_from_slice(&self.set)?;
-            return Ok(());
+        match self.content.as_piece() {
+            Some(content) if !begins && content.len() < 128 => append_short_set(out, kind, content),
+            _ => {
+                fill_set(&mut self.set, begins, kind, &self.content)?;
+                out.extend_from_slice(&self.set)?;
+                Ok(())
+            }
         }
-        append_short_set(out, kind, &self.content)
     }
 }
 
@@ -131,7 +134,7 @@ fn begin_if(begins: bool, context: &mut Context)
 }
 
 /// Makes a data set with this content, behind a reset where it begins a segment.
-fn fill_set(set: &mut Vec<u8>, begins: bool, kind: Kind, content: &[u8]) -> Result<(), Memory>
+fn fill_set(set: &mut Vec<u8>, begins: bool, kind: Kind, content: &Draft) -> Result<(), Memory>
     ensures { OnOk result (set.new.items ≡ spec.reset_before begins ++ spec.data_set kind content.now) }
 {
     set.clear();
@@ -139,7 +142,8 @@ fn fill_set(set: &mut Vec<u8>, begins: bool, kind: Kind, content: &[u8]) -> Resu
         set.push(0xff)?;
     }
     set.push(type_byte(kind))?;
-    append_section(set, content)
+    append_number(set, content.len())?;
+    content.append_to(set)
 }
 
 /// Appends a data set whose content is short, where no segment begins.

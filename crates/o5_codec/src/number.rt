@@ -1,9 +1,18 @@
 //! Numbers in groups of seven bits.
-ghost use Rattle.std.specs.Prelude.{◌≡◌, ◌<◌, length, IfOk};
+ghost use Rattle.std.specs.Prelude.{◌≡◌, ◌<◌, length, Ok, IfOk, IfSome};
 ghost use Rattle.o5_codec.specs.Answer.{Gives};
 ghost use Rattle.o5_codec.specs.Number.{number_at, signed_at, signed_of};
 
 use crate::O5Reason;
+
+/// What the marks of one group, of two, three and four, each of which others follow, add to the sum of the groups.
+const ONE_MARK: u64 = 128;
+
+const TWO_MARKS: u64 = ONE_MARK + 128 * 128;
+
+const THREE_MARKS: u64 = TWO_MARKS + 128 * 16_384;
+
+const FOUR_MARKS: u64 = THREE_MARKS + 128 * 2_097_152;
 
 /// The unsigned number at the front, and the bytes behind it.
 ///
@@ -15,13 +24,68 @@ pub fn read_number(bytes: &[u8]) -> Result<(u64, &[u8]), O5Reason>
     ensures value { Gives (λ x. (x.0, x.1.now)) (number_at bytes.now) result }
     ensures shorter { IfOk result (λ x. length x.1.now < length bytes.now) }
 {
-    match bytes.split_first() {
-        Some((first, rest)) if *first < 128 => Ok((u64::from(*first), rest)),
-        _ => read_groups(bytes),
+    match read_few_groups(bytes) {
+        Some(read) => Ok(read),
+        None => read_any_groups(bytes),
     }
 }
 
-/// The same of a number of any length.
+/// The same of a number of five groups at most, which is ended.
+#[inline(always)]
+fn read_few_groups(bytes: &[u8]) -> Option<(u64, &[u8])>
+    ensures value { IfSome result (λ x. number_at bytes.now ≡ Ok (x.0, x.1.now)) }
+    ensures shorter { IfSome result (λ x. length x.1.now < length bytes.now) }
+{
+    if bytes.is_empty() {
+        return None;
+    }
+    let one = u64::from(bytes[0]);
+    if bytes[0] < 128 {
+        return Some((one, &bytes[1..]));
+    }
+    if bytes.len() < 2 {
+        return None;
+    }
+    let two = one + u64::from(bytes[1]) * 128;
+    if bytes[1] < 128 {
+        return Some((two - ONE_MARK, &bytes[2..]));
+    }
+    if bytes.len() < 3 {
+        return None;
+    }
+    let three = two + u64::from(bytes[2]) * 16_384;
+    if bytes[2] < 128 {
+        return Some((three - TWO_MARKS, &bytes[3..]));
+    }
+    if bytes.len() < 4 {
+        return None;
+    }
+    let four = three + u64::from(bytes[3]) * 2_097_152;
+    if bytes[3] < 128 {
+        return Some((four - THREE_MARKS, &bytes[4..]));
+    }
+    if bytes.len() < 5 {
+        return None;
+    }
+    let five = four + u64::from(bytes[4]) * 268_435_456;
+    if bytes[4] < 128 {
+        return Some((five - FOUR_MARKS, &bytes[5..]));
+    }
+    None
+}
+
+/// The same of any number. Its answer is taken apart here, so that no room for it is cleared where it isn't asked for.
+#[inline(always)]
+fn read_any_groups(bytes: &[u8]) -> Result<(u64, &[u8]), O5Reason>
+    ensures value { Gives (λ x. (x.0, x.1.now)) (number_at bytes.now) result }
+    ensures shorter { IfOk result (λ x. length x.1.now < length bytes.now) }
+{
+    let (number, rest) = read_groups(bytes)?;
+    Ok((number, rest))
+}
+
+/// The same of any number, group by group.
+#[cold]
 #[inline(never)]
 fn read_groups(bytes: &[u8]) -> Result<(u64, &[u8]), O5Reason>
     ensures value { Gives (λ x. (x.0, x.1.now)) (number_at bytes.now) result }
@@ -55,6 +119,7 @@ fn read_groups(bytes: &[u8]) -> Result<(u64, &[u8]), O5Reason>
 /// # Errors
 ///
 /// As for [`read_number`].
+#[inline(always)]
 #[tactic(auto, unfolding(crate::specs::Number::signed_at))]
 pub(crate) fn read_signed(bytes: &[u8]) -> Result<(i64, &[u8]), O5Reason>
     ensures value { Gives (λ x. (x.0, x.1.now)) (signed_at bytes.now) result }
@@ -65,6 +130,7 @@ pub(crate) fn read_signed(bytes: &[u8]) -> Result<(i64, &[u8]), O5Reason>
 }
 
 /// The signed number that an unsigned one stands for: even ones for 0, 1, 2 and so on, odd ones for -1, -2 and so on.
+#[inline(always)]
 fn to_signed(number: u64) -> i64
     ensures { result ≡ signed_of number }
 {

@@ -8,7 +8,6 @@ use crate::base::{Bases, moved_id, moved_number, within_range};
 use crate::number::{read_number, read_signed};
 use crate::strings::{Form, read_spelled};
 use crate::table::Table;
-use crate::text::to_user;
 use osm_model::{Meta, Text};
 
 /// Which of two kinds of lists a segment had, that may not stand in one segment.
@@ -84,7 +83,7 @@ impl Segment {
             let author = Author {
                 changeset: 0,
                 uid: 0,
-                user: Text::new(self.table.allocator()),
+                user: Text::new(),
             };
             return Ok((author, bytes));
         }
@@ -104,7 +103,7 @@ impl Segment {
             let author = Author {
                 changeset,
                 uid: 0,
-                user: Text::new(self.table.allocator()),
+                user: Text::new(),
             };
             return Ok((author, bytes));
         }
@@ -134,8 +133,7 @@ impl Segment {
     {
         let (spelled, rest) = read_spelled(Form::Pair, bytes)?;
         self.table.store(&spelled)?;
-        let strings = self.table.strings(&spelled)?;
-        let user = to_user(self.table.allocator(), &strings)?;
+        let user = self.table.user(&spelled)?;
         Ok((user, rest))
     }
 }

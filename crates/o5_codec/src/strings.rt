@@ -1,7 +1,7 @@
 //! Pairs of strings and single strings.
 ghost use Rattle.std.specs.Prelude.{◌≡◌, ◌<◌, length, IfOk, position};
 ghost use Rattle.o5_codec.specs.Answer.{Gives};
-ghost use Rattle.o5_codec.specs.Strings.{is_zero, string_at, inline_at, spelled_at};
+ghost use Rattle.o5_codec.specs.Strings.{is_zero, string_at, inline_at, inline_spelled, spelled_at};
 
 use crate::O5Reason;
 use crate::number::read_number;
@@ -55,11 +55,20 @@ pub(crate) fn read_spelled(form: Form, bytes: &[u8]) -> Result<(Spelled<'_>, &[u
         return Err(O5Reason::BadText);
     };
     if *first == 0 {
-        let (strings, rest) = read_inline(form, behind)?;
-        return Ok((Spelled::Inline(strings), rest));
+        return spelled_inline(form, behind);
     }
     let (reference, rest) = read_number(bytes)?;
     Ok((Spelled::Reference(reference), rest))
+}
+
+/// The strings behind the zero byte that begins them inline, as they are spelled, and the bytes behind them.
+#[inline(always)]
+fn spelled_inline(form: Form, bytes: &[u8]) -> Result<(Spelled<'_>, &[u8]), O5Reason>
+    ensures value { Gives (λ x. (x.0, x.1.now)) (inline_spelled form bytes.now) result }
+    ensures shorter { IfOk result (λ x. length x.1.now < length bytes.now) }
+{
+    let (strings, rest) = read_inline(form, bytes)?;
+    Ok((Spelled::Inline(strings), rest))
 }
 
 /// The strings behind the zero byte that begins them inline, and the bytes behind them.

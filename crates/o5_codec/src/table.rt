@@ -1,13 +1,15 @@
 //! The string table of a segment.
 ghost use Rattle.std.specs.Prelude.{◌≡◌, [], ◌∷◌, take, IfOk, OnOk, IsTrue, option_copied};
-ghost use Rattle.o5_codec.specs.Answer.{Gives};
+ghost use Rattle.o5_codec.specs.Answer.{Gives, Answers, and_then};
 ghost use Rattle.o5_codec.specs.Table.{limit, is_short, stored, entry_at};
-ghost use Rattle.o5_codec.specs.Strings.{strings_of, table_after};
+ghost use Rattle.o5_codec.specs.Text.{tag_of, user_of};
+ghost use Rattle.o5_codec.specs.Strings.{entry_of, strings_of, table_after};
 
 use crate::O5Reason;
 use crate::strings::{Spelled, Strings};
+use crate::text::{known_text, known_uid, to_tag, to_user};
 use circular_buffer::HeapCircularBuffer;
-use osm_model::Memory;
+use osm_model::{Memory, Tag, Text};
 use std::alloc::Global;
 use std::marker::Model;
 
@@ -18,21 +20,31 @@ pub(crate) const LIMIT: usize = 15_000;
 pub(crate) const LONGEST: usize = 250;
 
 /// An entry: the bytes of its first string, behind them those of its second. Contracts see the two strings.
+///
+/// What they mean is kept beside them, since most entries are referred to again and again.
 #[derive(Drop)]
 struct Stored {
     bytes: Vec<u8>,
     split: usize,
+    /// The text of the first string.
+    first: Option<Text>,
+    /// The user id that the first string spells.
+    uid: Option<u32>,
+    /// The text of the second string.
+    second: Option<Text>,
 }
 
 impl Model for Stored {
-    ghost use Rattle.std.specs.Prelude.{take, drop, length, ◌≤◌};
+    ghost use Rattle.std.specs.Prelude.{take, drop};
     ghost use Rattle.o5_codec.specs.Entry.{Entry};
+    ghost use Rattle.o5_codec.specs.Strings.{entry_of};
+    ghost use Rattle.o5_codec.specs.StoredInside.{IsStored};
 
     ghost Value = { Entry };
 
-    ghost view = { λ e. record { first = take e.split e.bytes.items; second = drop e.split e.bytes.items } };
+    ghost view = { λ e. entry_of (take e.split e.bytes.items) (drop e.split e.bytes.items) };
 
-    ghost invariant = { λ e. e.split ≤ length e.bytes.items };
+    ghost invariant = { IsStored };
 }
 
 impl Stored {
@@ -47,6 +59,9 @@ impl Stored {
         Ok(Stored {
             bytes,
             split: strings.first.len(),
+            first: known_text(alloc, strings.first)?,
+            uid: known_uid(strings.first),
+            second: known_text(alloc, strings.second)?,
         })
     }
 
@@ -55,6 +70,39 @@ impl Stored {
     {
         let (first, second) = self.bytes.split_at(self.split);
         Strings { first, second }
+    }
+
+    /// The user id and the user name.
+    ///
+    /// # Errors
+    ///
+    /// As for [`to_user`].
+    #[inline(always)]
+    fn user(&self, alloc: Global) -> Result<(u32, Text), O5Reason>
+        ensures { Answers (λ user. user) (user_of self.now) result }
+    {
+        match (&self.uid, &self.second) {
+            (Some(uid), Some(name)) => Ok((*uid, name.copy()?)),
+            _ => to_user(alloc, &self.strings()),
+        }
+    }
+
+    /// The tag.
+    ///
+    /// # Errors
+    ///
+    /// As for [`to_tag`].
+    #[inline(always)]
+    fn tag(&self, alloc: Global) -> Result<Tag, O5Reason>
+        ensures { Answers (λ tag. tag) (tag_of self.now) result }
+    {
+        match (&self.first, &self.second) {
+            (Some(key), Some(value)) => Ok(Tag {
+                key: key.copy()?,
+                value: value.copy()?,
+            }),
+            _ => to_tag(alloc, &self.strings()),
+        }
     }
 }
 
@@ -103,17 +151,18 @@ impl Table {
         ensures { OnOk result (self.new ≡ table_after spelled.now self.old) }
     {
         match spelled {
-            Spelled::Inline(strings) => self.store_strings(strings),
+            Spelled::Inline(strings) => self.store_strings(strings.first, strings.second),
             Spelled::Reference(_) => Ok(()),
         }
     }
 
     #[inline(never)]
-    fn store_strings(&mut self, strings: &Strings<'_>) -> Result<(), Memory>
-        ensures { OnOk result (self.new ≡ stored strings.now self.old) }
+    fn store_strings(&mut self, first: &[u8], second: &[u8]) -> Result<(), Memory>
+        ensures { OnOk result (self.new ≡ stored (entry_of first.now second.now) self.old) }
     {
-        if is_short(strings) {
-            let entry = Stored::new(self.allocator(), strings)?;
+        let strings = Strings { first, second };
+        if is_short(&strings) {
+            let entry = Stored::new(self.allocator(), &strings)?;
             self.push(entry);
         }
         Ok(())
@@ -141,6 +190,42 @@ impl Table {
             }),
             Spelled::Reference(reference) => match self.get(*reference) {
                 Some(entry) => Ok(entry.strings()),
+                None => Err(O5Reason::BadReference),
+            },
+        }
+    }
+
+    /// The user id and the user name of strings that stand inline or that a reference names.
+    ///
+    /// # Errors
+    ///
+    /// `BadReference` where the table has no such entry, else as for [`to_user`].
+    #[inline(always)]
+    pub(crate) fn user(&self, spelled: &Spelled<'_>) -> Result<(u32, Text), O5Reason>
+        ensures { Answers (λ user. user) (and_then (strings_of self.now spelled.now) user_of) result }
+    {
+        match spelled {
+            Spelled::Inline(strings) => to_user(self.allocator(), strings),
+            Spelled::Reference(reference) => match self.get(*reference) {
+                Some(entry) => entry.user(self.allocator()),
+                None => Err(O5Reason::BadReference),
+            },
+        }
+    }
+
+    /// The tag of strings that stand inline or that a reference names.
+    ///
+    /// # Errors
+    ///
+    /// `BadReference` where the table has no such entry, else as for [`to_tag`].
+    #[inline(always)]
+    pub(crate) fn tag(&self, spelled: &Spelled<'_>) -> Result<Tag, O5Reason>
+        ensures { Answers (λ tag. tag) (and_then (strings_of self.now spelled.now) tag_of) result }
+    {
+        match spelled {
+            Spelled::Inline(strings) => to_tag(self.allocator(), strings),
+            Spelled::Reference(reference) => match self.get(*reference) {
+                Some(entry) => entry.tag(self.allocator()),
                 None => Err(O5Reason::BadReference),
             },
         }

@@ -16,7 +16,8 @@ fn split_kind(content: &str) -> (Kind, &str) {
     (Kind::Node, content)
 }
 
-/// Reads a content, written in hexadecimal, and compares the line of its version, or the name of its reason.
+/// Reads a content, written in hexadecimal, and compares the line of its version, or the name of its reason. The next
+/// version takes the memory of this one.
 fn read(
     rt: &impl Abort,
     alloc: Global,
@@ -31,7 +32,10 @@ fn read(
     }
     let mut line = Vec::new(alloc);
     match decoder.read_set(kind, &bytes) {
-        Ok(version) => version.append_line(&mut line)?,
+        Ok(version) => {
+            version.append_line(&mut line)?;
+            decoder.reuse(version);
+        }
         Err(reason) => line.extend_from_slice(reason.name().as_bytes())?,
     }
     assert_eq!(rt; line.as_slice(), expected.as_bytes());

@@ -1,5 +1,5 @@
 //! Texts in the strings of data sets.
-ghost use Rattle.std.specs.Prelude.{◌≡◌};
+ghost use Rattle.std.specs.Prelude.{◌≡◌, Ok, IfOk, IfSome};
 ghost use Rattle.std.specs.Str.{chars};
 ghost use Rattle.o5_codec.specs.Answer.{Gives, Answers};
 ghost use Rattle.o5_codec.specs.Text.{text_of, tag_of, uid_of, user_of};
@@ -8,7 +8,7 @@ use crate::O5Reason;
 use crate::base::within_range;
 use crate::number::read_number;
 use crate::strings::Strings;
-use osm_model::{Tag, Text};
+use osm_model::{Memory, Tag, Text};
 use std::alloc::Global;
 
 /// A string as a text.
@@ -21,12 +21,23 @@ pub(crate) fn to_text(alloc: Global, bytes: &[u8]) -> Result<Text, O5Reason>
     ensures { Answers (λ text. text) (text_of bytes.now) result }
 {
     let text = to_str(bytes)?;
-    Ok(Text::from_string(String::from_str(alloc, text)?))
+    Ok(Text::from_str(alloc, text)?)
 }
 
 /// A string as a slice of a text.
-#[inline(never)]
+#[inline(always)]
 fn to_str(bytes: &[u8]) -> Result<&str, O5Reason>
+    ensures { Gives (λ text. chars text.now) (text_of bytes.now) result }
+{
+    if bytes.is_ascii() {
+        return Ok(unsafe { str::from_utf8_unchecked(bytes) });
+    }
+    any_to_str(bytes)
+}
+
+/// The same of a string with characters of any kind.
+#[inline(never)]
+fn any_to_str(bytes: &[u8]) -> Result<&str, O5Reason>
     ensures { Gives (λ text. chars text.now) (text_of bytes.now) result }
 {
     match simdutf8::basic::from_utf8(bytes) {
@@ -54,13 +65,47 @@ pub(crate) fn to_tag(alloc: Global, strings: &Strings<'_>) -> Result<Tag, O5Reas
 /// # Errors
 ///
 /// `BadNumber` and `OutOfRange` for the user id, `NotUtf8` for the name.
-#[tactic(auto, unfolding(crate::specs::Text::user_of))]
+#[inline(always)]
 pub(crate) fn to_user(alloc: Global, strings: &Strings<'_>) -> Result<(u32, Text), O5Reason>
+    ensures { Answers (λ user. user) (user_of strings.now) result }
+{
+    let (uid, name) = to_any_user(alloc, strings)?;
+    Ok((uid, name))
+}
+
+/// The same, out of the way of users that are known.
+#[inline(never)]
+#[tactic(auto, unfolding(crate::specs::Text::user_of))]
+fn to_any_user(alloc: Global, strings: &Strings<'_>) -> Result<(u32, Text), O5Reason>
     ensures { Answers (λ user. user) (user_of strings.now) result }
 {
     let uid = to_uid(strings.first)?;
     let name = to_text(alloc, strings.second)?;
     Ok((uid, name))
+}
+
+/// The text of a string, where it is one.
+///
+/// # Errors
+///
+/// For want of memory alone.
+pub(crate) fn known_text(alloc: Global, bytes: &[u8]) -> Result<Option<Text>, Memory>
+    ensures { IfOk result (λ known. IfSome known (λ text. text_of bytes.now ≡ Ok text)) }
+{
+    match to_str(bytes) {
+        Ok(text) => Ok(Some(Text::from_str(alloc, text)?)),
+        Err(_) => Ok(None),
+    }
+}
+
+/// The user id that a string spells, where it spells one.
+pub(crate) fn known_uid(bytes: &[u8]) -> Option<u32>
+    ensures { IfSome result (λ uid. uid_of bytes.now ≡ Ok uid) }
+{
+    match to_uid(bytes) {
+        Ok(uid) => Some(uid),
+        Err(_) => None,
+    }
 }
 
 /// A user id; an empty string means 0.

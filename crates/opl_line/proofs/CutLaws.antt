@@ -1,13 +1,15 @@
 -- Where a text is cut first, and into which pieces.
-use Rattle.std.proofs.Common.{◌≡◌, ℕ, suc, ◌+◌, ◌<◌, ◌≤◌, Bool, true, false, not, cond, List, [], ◌∷◌, ◌++◌, length, take, drop, get_or, refl, ap, ◌∙◌, arith, Option, Some, None, position, ltb}
+use Rattle.std.proofs.Common.{◌≡◌, ℕ, zero, suc, ◌+◌, ◌<◌, ◌≤◌, Bool, true, false, not, ◌&&◌, cond, List, [], ◌∷◌, ◌++◌, length, take, drop, get_or, refl, sym, ap, ◌∙◌, arith, add-one, drop-cons, Option, Some, None, position, ltb}
 use Rattle.std.proofs.lemmas.Bool.{and_parts, ltb-true, ltb-false, lt-ltb, le-ltb}
 use Rattle.std.proofs.lemmas.Bool.Decides.{nat_tests}
-use Rattle.std.proofs.lemmas.List.Sums.{passes_at_first, position_or_len_is, sum_by-cons}
+use Rattle.std.proofs.lemmas.List.{take_all, take-append-drop}
+use Rattle.std.proofs.lemmas.List.Folds.{list_all_more}
+use Rattle.std.proofs.lemmas.List.Sums.{passes_at_first, position_or_len_is}
 use Rattle.std.proofs.lemmas.Str.{IsCharBoundary-before_ascii, IsCharBoundary-after_ascii}
-use Rattle.std.specs.List.{list_all, sum_by, count_by, position_or_len}
+use Rattle.std.specs.List.{list_all, position_or_len}
 use Rattle.std.specs.Str.{IsUtf8, IsCharBoundary}
 use Rattle.opl_line.specs.declared.cut.Cut.{Cut}
-use Rattle.opl_line.specs.declared.cut.Cut.TheVariants.{Blanks, Commas, Equals, Ats, Percents, Points, LineEnds}
+use Rattle.opl_line.specs.declared.cut.Cut.TheVariants.{Blanks, Commas, Equals, Ats, Percents, Points}
 use Rattle.opl_line.specs.Cut.{is_end, lengthened, split_first, begun_with, cut, pieces_of}
 use Rattle.opl_line.proofs.BoolLaws.{not_true}
 
@@ -71,21 +73,6 @@ module _ (p : ℕ → Bool) where
         | false ↦ λ e f. split_none bytes (ltb-false _ _ e)
       ] refl found
 
-begun_as_many : (b : ℕ) (pieces : List (List ℕ)) → 0 < length pieces → length (begun_with b pieces) ≡ length pieces
-begun_as_many b [] some = absurd (omega (arith, some))
-begun_as_many b (piece ∷ pieces) some = refl
-
--- there is one more piece than bytes that are cut at
-pub pieces_counted : (p : ℕ → Bool) (bytes : List ℕ) → length (cut p bytes) ≡ count_by p bytes + 1
-pieces_counted p [] = refl
-pieces_counted p (b ∷ bs) =
-    let rest = pieces_counted p bs in
-    let one : ℕ → ℕ = λ x. cond (p x) 1 0 in
-    elim (p b) as (λ t. sum_by one (b ∷ bs) ≡ cond t 1 0 + count_by p bs → length (cond t ([] ∷ cut p bs) (begun_with b (cut p bs))) ≡ sum_by one (b ∷ bs) + 1) [
-      | true ↦ λ e. omega (arith, rest, e)
-      | false ↦ λ e. omega (arith, rest, e, begun_as_many b (cut p bs) (omega (arith, rest)))
-    ] (sum_by-cons one b bs)
-
 -- the first byte that passes, as a search finds it
 module _ (p : ℕ → Bool) (bytes : List ℕ) where
   abbrev pub NoneBelow : ℕ → Type 0
@@ -101,6 +88,13 @@ module _ (p : ℕ → Bool) (bytes : List ℕ) where
       let at : position_or_len p bytes ≡ length bytes = position_or_len_is p bytes (length bytes) 0 (omega arith) none (λ less. absurd (omega (arith, less))) in
       rw (at, le-ltb (length bytes) (length bytes) (omega arith)) refl
 
+  pub none_below : (n : ℕ) → n ≤ length bytes → NoneBelow n → list_all (λ x. not (p x)) (take n bytes) ≡ true
+  none_below zero within none = refl
+  none_below (suc n) within none =
+      let here : p (get_or bytes n 0) ≡ false = none n (omega arith) in
+      let before : list_all (λ x. not (p x)) (take n bytes) ≡ true = none_below n (omega arith) (λ k less. none k (omega arith)) in
+      rw (← add-one) (list_all_more (λ x. not (p x)) bytes n 0 (omega arith) ∙ (λ i. before i && not (here i)))
+
 -- all bytes that are cut at are ASCII
 pub ends_ascii : (at : Cut) (b : ℕ) → is_end at b ≡ true → b < 128
 ends_ascii Blanks b e = grind (arith, nat_tests)
@@ -109,7 +103,6 @@ ends_ascii Equals b e = grind (arith, nat_tests)
 ends_ascii Ats b e = grind (arith, nat_tests)
 ends_ascii Percents b e = grind (arith, nat_tests)
 ends_ascii Points b e = grind (arith, nat_tests)
-ends_ascii LineEnds b e = grind (arith, nat_tests)
 
 -- so a text may be cut before and behind them
 pub cut_before : (at : Cut) (text : List ℕ) (n : ℕ) → position (is_end at) text ≡ Some n → IsCharBoundary text n
@@ -137,3 +130,31 @@ module _ (p : ℕ → Bool) where
   split_never (x ∷ xs) none =
       let parts = and_parts (not (p x)) (list_all (λ y. not (p y)) xs) none in
       ap (λ t. cond t ([], Some xs) (lengthened x (split_first p xs))) (not_true (p x) parts.0) ∙ ap (lengthened x) (split_never xs parts.1)
+
+  -- where a text is split of whose first bytes none passes
+  pub split_behind : (bytes : List ℕ) (n : ℕ) → n < length bytes → list_all (λ x. not (p x)) (take n bytes) ≡ true → p (get_or bytes n 0) ≡ true → split_first p bytes ≡ (take n bytes, Some (drop (n + 1) bytes))
+  split_behind bytes n within none is =
+      let rest : take n bytes ++ drop n bytes ≡ take n bytes ++ get_or bytes n 0 ∷ drop (n + 1) bytes = rw (add-one, drop-cons bytes n 0) refl in
+      ap (split_first p) (sym (take-append-drop n bytes) ∙ rest) ∙ split_front (take n bytes) (drop (n + 1) bytes) (get_or bytes n 0) none is
+
+  -- where it is not
+  pub split_whole : (bytes : List ℕ) (n : ℕ) → length bytes ≤ n → list_all (λ x. not (p x)) (take n bytes) ≡ true → split_first p bytes ≡ (take n bytes, None)
+  split_whole bytes n all none =
+      let same : take n bytes ≡ bytes = take_all n bytes all in
+      split_never bytes (rw same at none) ∙ ap (λ t. (t, None)) (sym same)
+
+  -- what stands behind is shorter
+  pub split_shorter : (bytes piece rest : List ℕ) → split_first p bytes ≡ (piece, Some rest) → length rest < length bytes
+  split_shorter [] piece rest e = omega (arith, ap (λ (s : List ℕ × Option (List ℕ)). left_of s.1) e)
+  split_shorter (b ∷ bs) piece rest e =
+      elim (p b) as (λ t. cond t ([], Some bs) (lengthened b (split_first p bs)) ≡ (piece, Some rest) → length rest < suc (length bs)) [
+        | true ↦ λ f. omega (arith, ap (λ (s : List ℕ × Option (List ℕ)). left_of s.1) f)
+        | false ↦ λ f.
+            let behind : (split_first p bs).1 ≡ Some rest = ap (λ s. s.1) f in
+            let less = split_shorter bs (split_first p bs).0 rest (λ i. ((split_first p bs).0, behind i)) in
+            omega arith
+      ] e
+
+  pub split_leaves_less : (bytes piece : List ℕ) (behind : Option (List ℕ)) → split_first p bytes ≡ (piece, behind) → left_of behind < left_of (Some bytes)
+  split_leaves_less bytes piece None e = omega arith
+  split_leaves_less bytes piece (Some rest) e = omega (arith, split_shorter bytes piece rest e)

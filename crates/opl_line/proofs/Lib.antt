@@ -27,3 +27,8 @@ pub mod RawLaws
 pub mod MemoryLaws
 pub mod LaneLaws
 pub mod PlainLaws
+pub mod FrontLaws
+pub mod FrontTimeLaws
+pub mod FrontTagLaws
+pub mod LineEndLaws
+pub mod AsciiLaws

@@ -25,6 +25,12 @@ small_number i number few below =
     let power : 10 ^ i ≤ 10 ^ 18 = pow-le-pow_right some (let k : i ≤ 18 = omega arith in k) in
     omega arith
 
+pub below_power : (number count most : ℕ) → number < 10 ^ count → count ≤ most → number < 10 ^ most
+below_power number count most small few =
+    let some : 0 < 10 = omega arith in
+    let power : 10 ^ count ≤ 10 ^ most = pow-le-pow_right some few in
+    omega arith
+
 -- the value of few digits is small
 decimal_below : (digits : List ℕ) (n k : ℕ) → list_all is_ascii_digit digits ≡ true → n < 10 ^ k → fold with_digit n digits < 10 ^ (length digits + k)
 decimal_below [] n k all small = let none : 0 + k ≡ k = omega arith in rw none small

@@ -1,11 +1,12 @@
--- Texts without an escape, told by eight bytes at a time.
-use Rattle.std.proofs.Common.{◌≡◌, ℕ, ◌+◌, ◌-◌, ◌*◌, ◌%◌, ◌^◌, ◌≤◌, Bool, true, false, not, cond, eqb, leb, ◌&&◌, ◌||◌, bit_or, List, [], ◌∷◌, ◌++◌, length, take, drop, map, replicate, refl, sym, ap, ◌∙◌, arith, inl, inr, length-drop}
+-- Texts without an escape, told by several bytes at a time.
+use Rattle.std.proofs.Common.{◌≡◌, ℕ, ◌+◌, ◌-◌, ◌*◌, ◌%◌, ◌^◌, ◌<◌, ◌≤◌, ◌≢◌, Bool, true, false, not, cond, eqb, leb, ◌&&◌, ◌||◌, bit_or, List, [], ◌∷◌, ◌++◌, length, take, drop, map, replicate, refl, sym, ap, ◌∙◌, arith, inl, inr, length-drop}
 use Rattle.std.proofs.lemmas.Bool.{and_parts, cases_eq, ne_eqb}
 use Rattle.std.proofs.lemmas.Bool.Decides.{nat_tests}
 use Rattle.std.proofs.lemmas.List.{take-append-drop, take-take, drop-take, take_all}
 use Rattle.std.proofs.lemmas.List.Folds.{list_all-append}
-use Rattle.std.proofs.lemmas.Simd.{chunk-drop}
-use Rattle.std.specs.List.{list_all}
+use Rattle.std.proofs.lemmas.Simd.{chunk-drop, leading_from_mask_l, trailing_mask_l}
+use Rattle.std.specs.List.{list_all, prefix_len}
+use lib.Count.{count_trailing_zeros}
 use lib.Lanes.{chunk, zip2, mask_l, top}
 use Rattle.opl_line.specs.Text.{is_raw, is_plain}
 use Rattle.opl_line.proofs.ContentLaws.{all_weaker}
@@ -29,23 +30,37 @@ none_marked p (x ∷ xs) =
       | false ↦ twice (mask_l (map p xs)) ∙ none_marked p xs
     ]
 
--- eight bytes that are compared with others together
-module _ (v : List ℕ) (long : length v ≡ 8) where
+-- a byte that isn't plain
+abbrev pub is_marked : ℕ → Bool
+is_marked b = (((leb b 13 || eqb b 32) || eqb b 37) || eqb b 44) || eqb b 61
+
+-- several bytes that are compared with others together
+module _ (n : ℕ) (few : n ≤ 64) (v : List ℕ) (long : length v ≡ n) where
   abbrev equal : ℕ → List ℕ
-  equal b = zip2 (λ x y. cond (eqb x y) 255 0) v (replicate 8 b)
+  equal b = zip2 (λ x y. cond (eqb x y) 255 0) v (replicate n b)
 
   abbrev pub marks : ℕ
-  marks = mask_l (map (top 7) (zip2 bit_or (zip2 bit_or (zip2 bit_or (zip2 bit_or (zip2 (λ x y. cond (leb x y) 255 0) v (replicate 8 13)) (equal 32)) (equal 37)) (equal 44)) (equal 61))) % 2 ^ 64
+  marks = mask_l (map (top 7) (zip2 bit_or (zip2 bit_or (zip2 bit_or (zip2 bit_or (zip2 (λ x y. cond (leb x y) 255 0) v (replicate n 13)) (equal 32)) (equal 37)) (equal 44)) (equal 61))) % 2 ^ 64
 
-  pub unmarked_plain : eqb marks 0 ≡ list_all is_plain v
-  unmarked_plain =
-      let same = λ (b : ℕ). compared eqb v 8 b long in
-      let blanks = either (λ x. leb x 13) (λ x. eqb x 32) v (compared leb v 8 13 long) (same 32) in
+  marks_told : marks ≡ mask_l (map is_marked v)
+  marks_told =
+      let same = λ (b : ℕ). compared eqb v n b long in
+      let blanks = either (λ x. leb x 13) (λ x. eqb x 32) v (compared leb v n 13 long) (same 32) in
       let percents = either (λ x. leb x 13 || eqb x 32) (λ x. eqb x 37) v blanks (same 37) in
       let commas = either (λ x. (leb x 13 || eqb x 32) || eqb x 37) (λ x. eqb x 44) v percents (same 44) in
       let others = either (λ x. ((leb x 13 || eqb x 32) || eqb x 37) || eqb x 44) (λ x. eqb x 61) v commas (same 61) in
-      let is_marked = λ (x : ℕ). (((leb x 13 || eqb x 32) || eqb x 37) || eqb x 44) || eqb x 61 in
-      ap (λ m. eqb m 0) (marked is_marked v others (omega (arith, long))) ∙ none_marked is_marked v
+      marked is_marked v others (omega (arith, long, few))
+
+  pub unmarked_plain : eqb marks 0 ≡ list_all is_plain v
+  unmarked_plain = ap (λ m. eqb m 0) marks_told ∙ none_marked is_marked v
+
+  pub all_unmarked : marks ≡ 0 → n ≡ prefix_len is_plain v
+  all_unmarked none = sym (leading_from_mask_l is_marked v (sym marks_told ∙ none) ∙ long)
+
+  pub lowest_marked : marks ≢ 0 → count_trailing_zeros 64 marks ≡ prefix_len is_plain v
+  lowest_marked some =
+      let found : 0 < mask_l (map is_marked v) = omega (arith, marks_told, some) in
+      ap (count_trailing_zeros 64) marks_told ∙ trailing_mask_l is_marked 64 v (omega (arith, long, few)) found
 
 -- a text taken apart
 module _ (q : ℕ → Bool) (bytes : List ℕ) where

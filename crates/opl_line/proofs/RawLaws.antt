@@ -1,15 +1,20 @@
 -- Where the raw characters of a text end.
-use Rattle.std.proofs.Common.{◌≡◌, ℕ, ◌+◌, ◌<◌, Bool, true, false, not, cond, eqb, ◌&&◌, List, [], ◌∷◌, ◌++◌, length, take, drop, get_or, Some, None, position, refl, sym, ap, ◌∙◌, add-one}
+use Rattle.std.proofs.Common.{◌≡◌, ℕ, ◌+◌, ◌<◌, Bool, true, false, not, cond, eqb, ◌&&◌, List, [], ◌∷◌, ◌++◌, length, take, drop, get_or, Some, None, Ok, position, refl, sym, ap, ◌∙◌, add-one}
 use Rattle.std.proofs.lemmas.Bool.{and_parts}
 use Rattle.std.proofs.lemmas.List.{take-append-drop}
 use Rattle.std.proofs.Math.Seq.{drop-cons}
 use Rattle.std.specs.List.{list_all}
+use Rattle.std.specs.Option.{option_map, ok_or}
+use Rattle.std.specs.Str.{chars}
 use Rattle.opl_line.specs.declared.cut.Cut.TheVariants.{Percents}
 use Rattle.opl_line.specs.Cut.{is_end, lengthened, split_first}
-use Rattle.opl_line.specs.Text.{is_raw}
+use Rattle.opl_line.specs.declared.reason.OplReason.TheVariants.{BadText}
+use Rattle.opl_line.specs.Text.{is_raw, is_plain, text_from, text_of_pieces, reading_text}
 use Rattle.opl_line.proofs.BoolLaws.{not_true}
 use Rattle.opl_line.proofs.CutLaws.{split_at, split_nowhere, split_front, split_never}
 use Rattle.opl_line.proofs.ContentLaws.{all_weaker, raw_no_percent}
+use Rattle.opl_line.proofs.PlainLaws.{all_plain_raw}
+use Rattle.opl_line.proofs.TextLaws.{all_read}
 
 abbrev pub is_other : ℕ → Bool
 is_other b = not (is_raw b)
@@ -73,3 +78,14 @@ raw_alone bytes raw = (raw, split_never (is_end Percents) bytes (all_weaker is_r
 
 pub all_raw : (bytes : List ℕ) → position is_other bytes ≡ None → AllRaw bytes
 all_raw bytes none = raw_alone bytes (sym (ap (λ parts. list_all is_raw parts.0) (split_nowhere is_other bytes none)) ∙ front_raw bytes)
+
+-- the text that raw characters spell
+pub raw_text : (bytes : List ℕ) → list_all is_raw bytes ≡ true → ok_or (option_map chars (text_of_pieces (bytes, None))) BadText ≡ Ok (chars bytes)
+raw_text bytes raw =
+    ap (λ t. ok_or (option_map chars (cond t (text_from bytes []) None)) BadText) raw
+    ∙ ap (λ text. ok_or (option_map chars text) BadText) (all_read bytes [] refl)
+
+pub plain_text : (bytes : List ℕ) → list_all is_plain bytes ≡ true → reading_text bytes ≡ Ok (chars bytes)
+plain_text bytes plain =
+    let raw = all_plain_raw bytes plain in
+    ap (λ parts. ok_or (option_map chars (text_of_pieces parts)) BadText) (raw_alone bytes raw).1 ∙ raw_text bytes raw

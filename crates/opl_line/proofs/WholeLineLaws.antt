@@ -32,7 +32,7 @@ use Rattle.osm_model.proofs.EscapeLaws.{escape_char-raw, escape_char-other}
 use Rattle.opl_line.specs.declared.cut.Cut.TheVariants.{Blanks}
 use Rattle.opl_line.specs.declared.reason.OplReason.{OplReason}
 use Rattle.opl_line.specs.Answer.{as_value}
-use Rattle.opl_line.specs.Cut.{is_blank, is_end, cut}
+use Rattle.opl_line.specs.Cut.{is_blank, is_end, is_line_end, cut}
 use Rattle.opl_line.specs.Number.{reading_coordinate}
 use Rattle.opl_line.specs.Time.{reading_time}
 use Rattle.opl_line.specs.Field.{nothing_said, reading_number_32, reading_count, reading_deleted, reading_optional}
@@ -41,7 +41,6 @@ use Rattle.opl_line.specs.Part as part
 use Rattle.opl_line.specs.Part.{Part, SpellsPart}
 use Rattle.opl_line.specs.Content.{SpellsObject, Pairwise}
 use Rattle.opl_line.specs.Spells.{is_full, said_by, Spells}
-use Rattle.opl_line.specs.Cut.{is_line_end}
 use Rattle.opl_line.specs.Canonical.{LineSpellsItsVersion, LineIsReadBack, LineStandsInOne}
 use Rattle.opl_line.proofs.ContentLaws.{all_weaker}
 use Rattle.opl_line.proofs.PartLaws.{Different, distinct}

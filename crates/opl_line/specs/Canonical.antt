@@ -1,5 +1,5 @@
 -- Canonical lines are read back (laws).
-use Rattle.std.specs.Prelude.{◌≡◌, ◌≤◌, ◌<◌, ◌^◌, ℕ, ℤ, FitsSigned, Bool, true, false, not, ◌==◌, ◌||◌, List, Some, Ok}
+use Rattle.std.specs.Prelude.{◌≡◌, ◌≤◌, ◌<◌, ◌^◌, ℕ, ℤ, FitsSigned, true, false, not, List, Some, Ok}
 use Rattle.std.specs.Int.{w32}
 use Rattle.std.specs.List.{list_all}
 use Rattle.osm_model.specs.declared.tags.Tag.{Tag}
@@ -14,8 +14,8 @@ use Rattle.osm_model.specs.Escape.{escape}
 use Rattle.osm_model.specs.Coordinate.{coordinate_text}
 use Rattle.osm_model.specs.Time.{time_text}
 use Rattle.osm_model.specs.Id.{is_id}
-use Rattle.opl_line.specs.Cut.{is_line_end}
 use Rattle.osm_model.specs.Text.{is_text}
+use Rattle.opl_line.specs.Cut.{is_line_end}
 use Rattle.opl_line.specs.Number.{reading_number, reading_id, reading_coordinate}
 use Rattle.opl_line.specs.Time.{reading_time}
 use Rattle.opl_line.specs.Content.{SpellsCharacters, SpellsTag, SpellsReference, SpellsMember, SpellsList}

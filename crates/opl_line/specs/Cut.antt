@@ -1,7 +1,7 @@
 -- Texts cut at some of their bytes.
 use Rattle.std.specs.Prelude.{ℕ, Bool, ◌==◌, ◌||◌, List, [], ◌∷◌, Option, Some, None, if◌then◌else◌}
 use Rattle.opl_line.specs.declared.cut.Cut.{Cut}
-use Rattle.opl_line.specs.declared.cut.Cut.TheVariants.{Blanks, Commas, Equals, Ats, Percents, Points, LineEnds}
+use Rattle.opl_line.specs.declared.cut.Cut.TheVariants.{Blanks, Commas, Equals, Ats, Percents, Points}
 
 -- a space or a tab
 abbrev pub is_blank : ℕ → Bool
@@ -19,7 +19,6 @@ is_end Equals = λ b. b == 61
 is_end Ats = λ b. b == 64
 is_end Percents = λ b. b == 37
 is_end Points = λ b. b == 46
-is_end LineEnds = is_line_end
 
 -- one more byte at the front of the first piece
 abbrev pub lengthened : {X : Type 0} → ℕ → List ℕ × X → List ℕ × X

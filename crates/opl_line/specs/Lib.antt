@@ -12,3 +12,4 @@ pub mod Part
 pub mod Spells
 pub mod Canonical
 pub mod LineReason
+pub mod Front

@@ -1,4 +1,4 @@
-//! The contents of fields that take no memory.
+//! The contents of fields that take no memory, in any form; the usual ones are read by `front`.
 ghost use Rattle.std.specs.Prelude.{◌≡◌};
 ghost use Rattle.opl_line.specs.Number.{reading_coordinate};
 ghost use Rattle.opl_line.specs.Time.{reading_time};
@@ -9,9 +9,11 @@ use crate::number::{read_coordinate, read_number};
 use crate::time::read_time;
 
 /// The greatest version number, changeset and user id.
-const GREATEST_NUMBER: u64 = (1 << 32) - 1;
+pub(crate) const GREATEST_NUMBER: u64 = (1 << 32) - 1;
 
 /// A version number.
+#[cold]
+#[inline(never)]
 pub(crate) fn read_number_32(content: &[u8]) -> Result<u64, OplReason>
     ensures { result ≡ spec.reading_number_32 content.now }
 {
@@ -19,6 +21,8 @@ pub(crate) fn read_number_32(content: &[u8]) -> Result<u64, OplReason>
 }
 
 /// Whether an object was deleted: `D`, or `V` for visible.
+#[cold]
+#[inline(never)]
 pub(crate) fn read_deleted(content: &[u8]) -> Result<bool, OplReason>
     ensures { result ≡ spec.reading_deleted content.now }
 {
@@ -30,6 +34,8 @@ pub(crate) fn read_deleted(content: &[u8]) -> Result<bool, OplReason>
 }
 
 /// A changeset or a user id, 0 where there is none.
+#[cold]
+#[inline(never)]
 pub(crate) fn read_count(content: &[u8]) -> Result<u64, OplReason>
     ensures { result ≡ spec.reading_count content.now }
 {
@@ -40,6 +46,8 @@ pub(crate) fn read_count(content: &[u8]) -> Result<u64, OplReason>
 }
 
 /// A time, if there is one.
+#[cold]
+#[inline(never)]
 pub(crate) fn read_optional_time(content: &[u8]) -> Result<Option<u64>, OplReason>
     ensures { result ≡ spec.reading_optional reading_time content.now }
 {
@@ -50,6 +58,8 @@ pub(crate) fn read_optional_time(content: &[u8]) -> Result<Option<u64>, OplReaso
 }
 
 /// A coordinate, if there is one.
+#[cold]
+#[inline(never)]
 pub(crate) fn read_place(content: &[u8]) -> Result<Option<i32>, OplReason>
     ensures { result ≡ spec.reading_optional reading_coordinate content.now }
 {

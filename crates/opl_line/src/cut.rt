@@ -1,8 +1,8 @@
 //! Texts cut at some of their bytes.
-ghost use Rattle.std.specs.Prelude.{◌≡◌, ◌∷◌, ◌+◌, ◌<◌, ◌≤◌, ℕ, not, ◌||◌, ◌==◌, length, position, IfSome, option_copied};
-ghost use Rattle.std.specs.List.{prefix_len};
+ghost use Rattle.std.specs.Prelude.{◌≡◌, ◌∷◌, ◌+◌, ◌<◌, ◌≤◌, ℕ, not, ◌||◌, ◌==◌, true, length, take, position, IfSome, option_copied};
+ghost use Rattle.std.specs.List.{prefix_len, list_all};
 ghost use Rattle.std.specs.Simd.Lanes.{chunk};
-ghost use Rattle.opl_line.specs.Cut.{is_end, is_line_end, split_first, cut, pieces_of};
+ghost use Rattle.opl_line.specs.Cut.{is_end, split_first, cut, pieces_of};
 
 use std::simd::prelude::*;
 
@@ -24,15 +24,6 @@ pub(crate) enum Cut {
     Percents,
     /// At each point.
     Points,
-    /// At each line feed and each carriage return.
-    LineEnds,
-}
-
-/// Where a line ends: the place of the first line feed or carriage return.
-pub fn find_line_end(bytes: &[u8]) -> Option<usize>
-    ensures { result ≡ position is_line_end bytes.now }
-{
-    Cut::LineEnds.find(bytes)
 }
 
 impl Cut {
@@ -60,6 +51,24 @@ impl Cut {
             Some(end) => (&bytes[..end], Some(&bytes[end + 1..])),
             None => (bytes, None),
         }
+    }
+
+    /// The first piece and what stands behind it, where the piece has so many bytes; `None` where it has more. None of
+    /// these bytes is cut at.
+    #[inline(always)]
+    pub(crate) fn split_at(self, text: &str, end: usize) -> Option<(&str, Option<&str>)>
+        requires within { end ≤ length text.now }
+        requires whole { list_all (λ b. not (is_end self b)) (take end text.now) ≡ true }
+        ensures piece { IfSome result (λ parts. parts.0.now ≡ take end text.now) }
+        ensures split { IfSome result (λ parts. split_first (is_end self) text.now ≡ (take end text.now, option_copied parts.1)) }
+    {
+        if end == text.len() {
+            return Some((text, None));
+        }
+        if !self.is_end(text.as_bytes()[end]) {
+            return None;
+        }
+        Some((&text[..end], Some(&text[end + 1..])))
     }
 
     /// The place of the first byte that is cut at.
@@ -121,7 +130,6 @@ impl Cut {
             Cut::Ats => (b'@', b'@'),
             Cut::Percents => (b'%', b'%'),
             Cut::Points => (b'.', b'.'),
-            Cut::LineEnds => (b'\n', b'\r'),
         }
     }
 }

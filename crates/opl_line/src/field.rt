@@ -1,12 +1,16 @@
 //! What the fields of an OPL line say.
-ghost use Rattle.std.specs.Prelude.{◌≡◌, ◌⊎◌, Ok, Err, MatchResult, option_copied};
+ghost use Rattle.std.specs.Prelude.{◌≡◌, ◌⊎◌, ◌<◌, length, slice_index, Ok, Err, IfOk, IfSome, MatchOption, MatchResult, option_copied};
 ghost use Rattle.opl_line.specs.declared.cut.Cut.TheVariants.{Blanks};
 ghost use Rattle.opl_line.specs.declared.reason.OplReason.TheVariants.{Memory};
-ghost use Rattle.opl_line.specs.Cut.{is_end, pieces_of};
+ghost use Rattle.opl_line.specs.Cut.{is_end, split_first, pieces_of};
+ghost use Rattle.opl_line.specs.Front.{IsFront};
 
 use crate::OplReason;
 use crate::content::{read_count, read_deleted, read_number_32, read_optional_time, read_place};
 use crate::cut::Cut;
+use crate::front::{
+    behind_letter, front_deleted, front_number, front_place, front_text, front_time,
+};
 use crate::item::read_list;
 use crate::text::read_text;
 use osm_model::{Kind, Members, References, Tags, Text};
@@ -76,15 +80,118 @@ impl Fields {
             (λ _. spec.reading_fields kind (pieces_of (is_end Blanks) (option_copied text.entry)) self.old ≡ Ok self.new)
             (λ reason. (reason ≡ Memory) ⊎ (spec.reading_fields kind (pieces_of (is_end Blanks) (option_copied text.entry)) self.old ≡ Err reason)) }
     {
-        let mut rest = text;
-        'fields: while let Some(text) = rest {
-            let (field, behind) = Cut::Blanks.split(text);
-            match self.add(alloc, kind, field) {
-                Ok(()) => rest = behind,
+        let Some(mut text) = text else {
+            return Ok(());
+        };
+        'fields: loop {
+            match self.read_first(alloc, kind, text) {
+                Ok(None) => return Ok(()),
+                Ok(Some(behind)) => text = behind,
                 Err(reason) => return Err(reason),
             }
         }
-        Ok(())
+    }
+
+    /// Adds what the first field of a text says, and answers what stands behind its blank.
+    #[inline(always)]
+    fn read_first<'a>(
+        &mut self,
+        alloc: Global,
+        kind: Kind,
+        text: &'a str,
+    ) -> Result<Option<&'a str>, OplReason>
+        ensures read { MatchResult result
+            (λ behind. IsFront (λ field. spec.reading_field kind field self.old) text.now self.new (option_copied behind))
+            (λ reason. (reason ≡ Memory) ⊎ (spec.reading_field kind (split_first (is_end Blanks) text.now).0 self.old ≡ Err reason)) }
+        ensures shorter { IfOk result (λ behind. IfSome behind (λ rest. length rest.now < length text.now)) }
+    {
+        if let Some(behind) = self.read_usual(alloc, kind, text) {
+            return Ok(behind);
+        }
+        let (field, behind) = Cut::Blanks.split(text);
+        self.add(alloc, kind, field)?;
+        Ok(behind)
+    }
+
+    /// The same of a field that is in its usual form; `None` of another one, which isn't added.
+    #[inline(always)]
+    fn read_usual<'a>(
+        &mut self,
+        alloc: Global,
+        kind: Kind,
+        text: &'a str,
+    ) -> Option<Option<&'a str>>
+        ensures { MatchOption result
+            (self.new ≡ self.old)
+            (λ behind. IsFront (λ field. spec.reading_field kind field self.old) text.now self.new (option_copied behind)) }
+    {
+        match *text.as_bytes().first()? {
+            b'v' if self.number.is_none() => {
+                let (number, behind) = front_number(behind_letter(text))?;
+                self.number = Some(number);
+                Some(behind)
+            }
+            b'd' if self.deleted.is_none() => {
+                let (is_deleted, behind) = front_deleted(behind_letter(text))?;
+                self.deleted = Some(is_deleted);
+                Some(behind)
+            }
+            b'c' if self.changeset.is_none() => {
+                let (changeset, behind) = front_number(behind_letter(text))?;
+                self.changeset = Some(changeset);
+                Some(behind)
+            }
+            b't' if self.time.is_none() => {
+                let (time, behind) = front_time(behind_letter(text))?;
+                self.time = Some(time);
+                Some(behind)
+            }
+            b'i' if self.uid.is_none() => {
+                let (uid, behind) = front_number(behind_letter(text))?;
+                self.uid = Some(uid);
+                Some(behind)
+            }
+            b'u' if self.user.is_none() => {
+                let (user, behind) = front_text(alloc, behind_letter(text))?;
+                self.user = Some(user);
+                Some(behind)
+            }
+            b'T' if self.tags.is_none() => {
+                let (_, behind) = Cut::Blanks.split_at(behind_letter(text), 0)?;
+                self.tags = Some(Tags::from_vec(Vec::new(alloc)));
+                Some(behind)
+            }
+            letter => self.read_usual_place(kind, letter, text),
+        }
+    }
+
+    /// The same of a coordinate, which only a node has.
+    #[inline(always)]
+    fn read_usual_place<'a>(
+        &mut self,
+        kind: Kind,
+        letter: u8,
+        text: &'a str,
+    ) -> Option<Option<&'a str>>
+        requires some { 0 < length text.now }
+        requires first { slice_index text.now 0 ≡ letter }
+        ensures { MatchOption result
+            (self.new ≡ self.old)
+            (λ behind. IsFront (λ field. spec.reading_field kind field self.old) text.now self.new (option_copied behind)) }
+    {
+        match (kind, letter) {
+            (Kind::Node, b'x') if self.longitude.is_none() => {
+                let (longitude, behind) = front_place(behind_letter(text))?;
+                self.longitude = Some(longitude);
+                Some(behind)
+            }
+            (Kind::Node, b'y') if self.latitude.is_none() => {
+                let (latitude, behind) = front_place(behind_letter(text))?;
+                self.latitude = Some(latitude);
+                Some(behind)
+            }
+            _ => None,
+        }
     }
 
     /// Adds what one more field says. An empty one says nothing.

@@ -1,26 +1,28 @@
 //! The items of lists in OPL lines.
-ghost use Rattle.std.specs.Prelude.{◌≡◌, ◌⊎◌, Err, MatchResult, length};
-ghost use Rattle.opl_line.specs.declared.cut.Cut.TheVariants.{Commas};
+ghost use Rattle.std.specs.Prelude.{◌≡◌, ◌⊎◌, Err, MatchResult, option_copied};
 ghost use Rattle.opl_line.specs.declared.reason.OplReason.TheVariants.{Memory};
 ghost use Rattle.opl_line.specs.Answer.{Answers};
-ghost use Rattle.opl_line.specs.Cut.{is_end, cut};
 ghost use Rattle.opl_line.specs.Item as spec;
 
 use crate::OplReason;
 use crate::cut::Cut;
+use crate::front::{front_reference, front_tag};
 use crate::number::read_id;
 use crate::text::read_text;
 use osm_model::{Kind, Member, Tag};
 use std::alloc::Global;
 
-/// The most items that room is made for before they are read, as many as a way may have references today; so commas
-/// alone can't ask for much memory.
-const MOST_ROOM: usize = 2000;
+/// The bytes of a usual item and its comma, as `n123456789,`. Room is made for so many items as such have place in the
+/// content, so that commas alone can't ask for much memory.
+const USUAL_ITEM: usize = 11;
 
 /// What can stand in a list.
 pub(crate) trait Item: Drop + Sized {
     ghost use Rattle.std.specs.Prelude.{List, ℕ, Result};
     ghost use Rattle.opl_line.specs.declared.reason.OplReason.{OplReason};
+    ghost use Rattle.opl_line.specs.declared.cut.Cut.TheVariants.{Commas};
+    ghost use Rattle.opl_line.specs.Cut.{is_end, split_first};
+    ghost use Rattle.opl_line.specs.Front.{IsFrontAt};
 
     ghost reading: { List ℕ → Result Self OplReason };
 
@@ -32,6 +34,17 @@ pub(crate) trait Item: Drop + Sized {
     /// part of it is no text; `Memory`.
     fn read(alloc: Global, text: &str) -> Result<Self, OplReason>
         ensures { Answers (reading text.now) result };
+
+    /// The item that stands before the first comma of a text, and what stands behind that comma.
+    #[inline(always)]
+    fn read_first<'a>(alloc: Global, text: &'a str) -> Result<(Self, Option<&'a str>), OplReason>
+        ensures { MatchResult result
+            (λ front. IsFrontAt Commas reading text.now front.0 (option_copied front.1))
+            (λ reason. (reason ≡ Memory) ⊎ (reading (split_first (is_end Commas) text.now).0 ≡ Err reason)) }
+    {
+        let (item, behind) = Cut::Commas.split(text);
+        Ok((Self::read(alloc, item)?, behind))
+    }
 }
 
 /// The items of a list, which has a comma between each two.
@@ -47,25 +60,18 @@ pub(crate) fn read_list<T: Item>(alloc: Global, content: &str) -> Result<Vec<T>,
     if content.is_empty() {
         return Ok(Vec::new(alloc));
     }
-    let room = count_pieces(content.as_bytes()).min(MOST_ROOM);
-    let mut items: Vec<T> = Vec::with_capacity(alloc, room)?;
+    let mut items: Vec<T> = Vec::with_capacity(alloc, content.len() / USUAL_ITEM + 1)?;
     let mut rest = Some(content);
     'items: while let Some(text) = rest {
-        let (item, behind) = Cut::Commas.split(text);
-        match T::read(alloc, item) {
-            Ok(item) => items.push(item)?,
+        match T::read_first(alloc, text) {
+            Ok((item, behind)) => {
+                items.push(item)?;
+                rest = behind;
+            }
             Err(reason) => return Err(reason),
         }
-        rest = behind;
     }
     Ok(items)
-}
-
-/// How many pieces there are between commas.
-fn count_pieces(bytes: &[u8]) -> usize
-    ensures { result ≡ length (cut (is_end Commas) bytes.now) }
-{
-    bytes.iter().filter(|byte| **byte == b',').count() + 1
 }
 
 /// `key=value`.
@@ -84,6 +90,15 @@ impl Item for Tag {
         let value = read_text(alloc, value)?;
         Ok(Tag { key, value })
     }
+
+    #[inline(always)]
+    fn read_first<'a>(alloc: Global, text: &'a str) -> Result<(Tag, Option<&'a str>), OplReason> {
+        if let Some(front) = front_tag(alloc, text) {
+            return Ok(front);
+        }
+        let (item, behind) = Cut::Commas.split(text);
+        Ok((Tag::read(alloc, item)?, behind))
+    }
 }
 
 /// The id of a node behind its letter, as `n1`.
@@ -95,6 +110,15 @@ impl Item for i64 {
             Some((b'n', digits)) => read_item_id(digits),
             _ => Err(OplReason::BadList),
         }
+    }
+
+    #[inline(always)]
+    fn read_first<'a>(alloc: Global, text: &'a str) -> Result<(i64, Option<&'a str>), OplReason> {
+        if let Some(front) = front_reference(text) {
+            return Ok(front);
+        }
+        let (item, behind) = Cut::Commas.split(text);
+        Ok((i64::read(alloc, item)?, behind))
     }
 }
 

@@ -4,16 +4,19 @@
 mod content;
 mod cut;
 mod field;
+mod front;
 mod item;
 pub mod laws;
 mod line;
+mod line_end;
 mod number;
 mod reason;
 mod text;
 mod time;
+mod utf8;
 
-pub use cut::find_line_end;
 pub use line::{append_line, read_line, write_line};
+pub use line_end::find_line_end;
 pub use reason::OplReason;
 pub use time::read_time;
 

@@ -1,8 +1,11 @@
 //! OPL lines, read and written.
-ghost use Rattle.std.specs.Prelude.{◌≡◌, ◌⊎◌, ◌++◌, true, IfOk, IfErr, OnOk, MatchOption};
+ghost use Rattle.std.specs.Prelude.{◌≡◌, ◌⊎◌, ◌++◌, true, false, Err, IfOk, IfErr, OnOk, MatchOption, MatchResult, option_copied};
 ghost use Rattle.osm_model.specs.Line.{line};
 ghost use Rattle.osm_model.specs.New.{is_dated, version_or_fault};
+ghost use Rattle.opl_line.specs.declared.cut.Cut.TheVariants.{Blanks};
 ghost use Rattle.opl_line.specs.Answer.{Answers};
+ghost use Rattle.opl_line.specs.Cut.{is_end, split_first};
+ghost use Rattle.opl_line.specs.Front.{IsFront};
 ghost use Rattle.opl_line.specs.Reading as spec;
 ghost use Rattle.opl_line.specs.Spells.{Spells, SpellsNothing};
 ghost use Rattle.opl_line.specs.LineReason.{LineReason};
@@ -11,8 +14,10 @@ ghost use Rattle.opl_line.specs.declared.reason.OplReason.TheVariants as opl;
 use crate::OplReason;
 use crate::cut::Cut;
 use crate::field::Fields;
+use crate::front::front_object;
 use crate::item::kind_of_letter;
 use crate::number::read_id;
+use crate::utf8::to_str;
 use osm_model::{Body, Kind, Members, Memory, Meta, References, Tags, Text, ValueFault, Version};
 use std::alloc::Global;
 
@@ -32,7 +37,7 @@ pub fn read_line(alloc: Global, line: &[u8]) -> Result<Option<Version>, OplReaso
     if is_skipped(line) {
         return Ok(None);
     }
-    let Ok(text) = simdutf8::compat::from_utf8(line) else {
+    let Some(text) = to_str(line) else {
         return Err(OplReason::NotUtf8);
     };
     read_version(alloc, text).map(Some)
@@ -52,11 +57,24 @@ fn is_skipped(line: &[u8]) -> bool
 fn read_version(alloc: Global, line: &str) -> Result<Version, OplReason>
     ensures { Answers (spec.reading_version line.now) result }
 {
-    let (object, behind) = Cut::Blanks.split(line);
-    let (kind, id) = read_object(object.as_bytes())?;
+    let ((kind, id), behind) = read_first(line)?;
     let mut fields = Fields::nothing_said();
     fields.read(alloc, kind, behind)?;
     to_version(alloc, kind, id, &mut fields)
+}
+
+/// The kind and the id of a line's object, and what stands behind its blank.
+#[inline(always)]
+fn read_first(line: &str) -> Result<((Kind, i64), Option<&str>), OplReason>
+    ensures { MatchResult result
+        (λ front. IsFront spec.reading_object line.now front.0 (option_copied front.1))
+        (λ reason. spec.reading_object (split_first (is_end Blanks) line.now).0 ≡ Err reason) }
+{
+    if let Some(front) = front_object(line) {
+        return Ok(front);
+    }
+    let (object, behind) = Cut::Blanks.split(line);
+    Ok((read_object(object.as_bytes())?, behind))
 }
 
 /// The kind and the id of an object.
@@ -81,7 +99,7 @@ fn to_version(alloc: Global, kind: Kind, id: i64, fields: &mut Fields) -> Result
         time: fields.time.unwrap_or(None),
         changeset: fields.changeset.unwrap_or(0),
         uid: fields.uid.unwrap_or(0),
-        user: fields.user.take().unwrap_or(Text::new(alloc)),
+        user: fields.user.take().unwrap_or(Text::new()),
     };
     if meta.version == 0 {
         return Err(OplReason::NoVersion);

@@ -9,7 +9,7 @@ use crate::cut::Cut;
 const GREATEST_ID: u64 = (1 << 62) - 1;
 
 /// Units of a coordinate in a degree.
-const DEGREE: u64 = 10_000_000;
+pub(crate) const DEGREE: u64 = 10_000_000;
 
 /// So many digits are always a number of 64 bits.
 const FEW: usize = 19;
@@ -99,7 +99,7 @@ pub(crate) fn read_id(text: &[u8]) -> Result<i64, OplReason>
 }
 
 /// Whether there is a minus sign, and what stands behind it.
-fn split_sign(text: &[u8]) -> (bool, &[u8])
+pub(crate) fn split_sign(text: &[u8]) -> (bool, &[u8])
     ensures sign { result.0 ≡ spec.is_negative text.now }
     ensures behind { result.1.now ≡ spec.without_sign text.now }
 {
@@ -124,7 +124,7 @@ pub(crate) fn read_coordinate(text: &[u8]) -> Result<i32, OplReason>
 }
 
 /// The units with their sign.
-fn to_units(is_negative: bool, magnitude: u64) -> Result<i32, OplReason>
+pub(crate) fn to_units(is_negative: bool, magnitude: u64) -> Result<i32, OplReason>
     requires { magnitude < 2 ^ 48 }
     ensures { result ≡ spec.reading_units is_negative magnitude }
 {
@@ -160,7 +160,7 @@ fn read_short_numeral(digits: &[u8], most: usize) -> Result<u64, OplReason>
 }
 
 /// What the last of so many decimals counts, in units of 10^-7 degree.
-fn scale(decimals: usize) -> u64
+pub(crate) fn scale(decimals: usize) -> u64
     requires { decimals ≤ 7 }
     ensures value { result ≡ 10 ^ (7 - decimals) }
     ensures bound { result ≤ 10 ^ 7 }

@@ -1,6 +1,6 @@
 //! Texts in OPL lines, with their escapes.
-ghost use Rattle.std.specs.Prelude.{◌≡◌, ◌⊎◌, ◌+◌, ◌<◌, ◌≤◌, nat_le, ◌&&◌, true, false, not, None, length, position, string_bytes, option_copied, MatchOption, MatchResult, IfOk, IfSome};
-ghost use Rattle.std.specs.List.{list_all};
+ghost use Rattle.std.specs.Prelude.{◌≡◌, ◌⊎◌, ◌+◌, ◌<◌, ◌≤◌, nat_le, ◌&&◌, true, false, not, None, length, take, position, string_bytes, option_copied, MatchOption, MatchResult, IfOk, IfSome};
+ghost use Rattle.std.specs.List.{list_all, prefix_len};
 ghost use Rattle.std.specs.Simd.Lanes.{chunk};
 ghost use Rattle.opl_line.specs.declared.cut.Cut.TheVariants.{Percents};
 ghost use Rattle.opl_line.specs.declared.reason.OplReason.TheVariants.{Memory, BadText};
@@ -17,6 +17,9 @@ use std::simd::prelude::*;
 /// How many bytes are looked at together.
 const LANES: usize = 8;
 
+/// How many are looked at together in the search for the end of a text.
+const WIDE_LANES: usize = 16;
+
 /// The text that some bytes spell: raw characters and escapes.
 ///
 /// # Errors
@@ -25,9 +28,16 @@ const LANES: usize = 8;
 pub(crate) fn read_text(alloc: Global, text: &str) -> Result<Text, OplReason>
     ensures { Answers (spec.reading_text text.now) result }
 {
-    let Some((raw, mut escapes)) = split_raw(text) else {
+    let Some((raw, escapes)) = split_raw(text) else {
         return Err(OplReason::BadText);
     };
+    let Some(escape) = escapes else {
+        return match Text::from_str(alloc, raw) {
+            Ok(text) => Ok(text),
+            Err(_) => Err(OplReason::Memory),
+        };
+    };
+    let mut escapes = Some(escape);
     let mut out = String::from_str(alloc, raw)?;
     'escapes: while let Some(behind) = escapes {
         match append_escape(&mut out, behind) {
@@ -82,6 +92,56 @@ fn split_raw(text: &str) -> Option<(&str, Option<&str>)>
     Some((&text[..end], Some(&text[end + 1..])))
 }
 
+/// How many plain bytes a text begins with.
+#[inline(always)]
+pub(crate) fn plain_length(bytes: &[u8]) -> usize
+    ensures within { result ≤ length bytes.now }
+    ensures plain { list_all spec.is_plain (take result bytes.now) ≡ true }
+{
+    let mut seen = 0;
+    'lanes: while bytes.len() - seen >= WIDE_LANES {
+        let run = plain_run(bytes, seen);
+        if run < WIDE_LANES {
+            return seen + run;
+        }
+        seen += WIDE_LANES;
+    }
+    'rest: for place in seen..bytes.len() {
+        if !is_plain_byte(bytes[place]) {
+            return place;
+        }
+    }
+    bytes.len()
+}
+
+/// Whether a byte is plain.
+#[inline(always)]
+fn is_plain_byte(byte: u8) -> bool
+    ensures { result ≡ spec.is_plain byte }
+{
+    byte > b'=' || (byte > b'\r' && !matches!(byte, b' ' | b'%' | b',' | b'='))
+}
+
+/// How many of the 16 bytes from a place on stand before the first that isn't plain.
+#[inline(always)]
+fn plain_run(bytes: &[u8], from: usize) -> usize
+    requires { from + 16 ≤ length bytes.now }
+    ensures { result ≡ prefix_len spec.is_plain (chunk from 16 bytes.now) }
+{
+    let lanes = u8x16::from_slice(&bytes[from..]);
+    let controls = lanes.simd_le(u8x16::splat(b'\r'));
+    let blanks = controls | lanes.simd_eq(u8x16::splat(b' '));
+    let percents = blanks | lanes.simd_eq(u8x16::splat(b'%'));
+    let commas = percents | lanes.simd_eq(u8x16::splat(b','));
+    let others = commas | lanes.simd_eq(u8x16::splat(b'='));
+    let mask = others.to_bitmask();
+    if mask == 0 {
+        WIDE_LANES
+    } else {
+        mask.trailing_zeros() as usize
+    }
+}
+
 /// Whether there are 8 bytes at least, and all of them are plain.
 fn is_plain(bytes: &[u8]) -> bool
     ensures { result ≡ (nat_le 8 (length bytes.now) && list_all spec.is_plain bytes.now) }
@@ -125,7 +185,7 @@ fn find_other(bytes: &[u8]) -> Option<usize>
 fn is_raw_byte(byte: u8) -> bool
     ensures { result ≡ spec.is_raw byte }
 {
-    !matches!(byte, 0 | b'\t' | b'\n' | b'\r' | b' ' | b'%' | b',' | b'=')
+    byte > b'=' || !matches!(byte, 0 | b'\t' | b'\n' | b'\r' | b' ' | b'%' | b',' | b'=')
 }
 
 /// The character that 1 to 8 hexadecimal digits name, which is not U+0000.

@@ -20,6 +20,7 @@ const DAY: u64 = 86_400;
 ///
 /// `BadTime` where it doesn't stand so, where the calendar lacks the day, or where the hour is above 23, or the minute
 /// or the second above 59; `OutOfRange` where it is before 1970-01-01T00:00:01Z or after 2106-02-07T06:28:15Z.
+#[inline(never)]
 pub fn read_time(text: &[u8]) -> Result<u32, OplReason>
     ensures { result ≡ spec.reading_time text.now }
 {
@@ -32,6 +33,7 @@ pub fn read_time(text: &[u8]) -> Result<u32, OplReason>
 }
 
 /// A moment in seconds since 1970, where it is one from 1 to 4294967295.
+#[inline(always)]
 fn to_moment(seconds: u64) -> Result<u32, OplReason>
     ensures { result ≡ spec.reading_moment seconds }
 {
@@ -43,6 +45,7 @@ fn to_moment(seconds: u64) -> Result<u32, OplReason>
 }
 
 /// The days from 0000-01-01 to the date `yyyy-mm-dd` that a text begins with.
+#[inline(always)]
 fn read_date(text: &[u8]) -> Option<u32>
     requires { length text.now ≡ 20 }
     ensures { result ≡ spec.reading_date text.now }
@@ -58,6 +61,7 @@ fn read_date(text: &[u8]) -> Option<u32>
 }
 
 /// The second of the day, from the `Thh:mm:ssZ` that a text ends with.
+#[inline(always)]
 fn read_clock(text: &[u8]) -> Option<u32>
     requires { length text.now ≡ 20 }
     ensures { result ≡ spec.reading_clock text.now }
@@ -73,6 +77,7 @@ fn read_clock(text: &[u8]) -> Option<u32>
 }
 
 /// The second of the day, where there is such a time of day.
+#[inline(always)]
 fn second_of(hour: u16, minute: u16, second: u16) -> Option<u32>
     ensures { result ≡ spec.second_of hour minute second }
 {
@@ -84,6 +89,7 @@ fn second_of(hour: u16, minute: u16, second: u16) -> Option<u32>
 }
 
 /// The number that four digits from a place on write.
+#[inline(always)]
 fn four_digits_at(text: &[u8], from: usize) -> Option<u16>
     requires { from + 4 ≤ length text.now }
     ensures value { result ≡ spec.digits_at from 4 text.now }
@@ -97,6 +103,7 @@ fn four_digits_at(text: &[u8], from: usize) -> Option<u16>
 }
 
 /// The number that two digits from a place on write.
+#[inline(always)]
 fn two_digits_at(text: &[u8], from: usize) -> Option<u16>
     requires { from + 2 ≤ length text.now }
     ensures value { result ≡ spec.digits_at from 2 text.now }
@@ -108,6 +115,7 @@ fn two_digits_at(text: &[u8], from: usize) -> Option<u16>
 }
 
 /// The number that a digit writes.
+#[inline(always)]
 fn digit_of(byte: u8) -> Option<u16>
     ensures value { result ≡ spec.digit_of byte }
     ensures bound { IfSome result (λ digit. digit < 10) }
@@ -120,6 +128,7 @@ fn digit_of(byte: u8) -> Option<u16>
 }
 
 /// The days from 0000-01-01 to a date, where the calendar has it.
+#[inline(always)]
 fn day_of(year: u16, month: u8, day: u8) -> Option<u32>
     requires year_in { year < 10_000 }
     requires month_in { month < 100 }

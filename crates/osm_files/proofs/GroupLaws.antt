@@ -116,43 +116,43 @@ module _ (input : ℕ) where
   broken_by (Some s) group fault (inr h) = inr (ap (λ x. versions_then [] (groups input x.refusal x.list group)) h)
 
   -- ---- a whole group
-  module _ (start before after : Option (Still Placed Fault)) (first : VersionData) (others : List VersionData) (keeps : Keeps (gathered input start (first ∷ []) []) (gathered input before (first ∷ others) [])) where
+  module _ (start : Option (Still Placed Fault)) (begun : List VersionData) (before after : Option (Still Placed Fault)) (first : VersionData) (others : List VersionData) (keeps : Keeps (gathered input start (first ∷ begun) []) (gathered input before (first ∷ others) [])) where
     pub joins_group : (u : Placed) → Step before (Ok (Some u)) after → is_lt (key_cmp first u.version) ≡ false → is_gt (key_cmp first u.version) ≡ false
-        → Keeps (gathered input start (first ∷ []) []) (gathered input after (first ∷ (others ++ u.version ∷ [])) [])
+        → Keeps (gathered input start (first ∷ begun) []) (gathered input after (first ∷ (others ++ u.version ∷ [])) [])
     joins_group u h less greater =
-        keeps_on (gathered input start (first ∷ []) []) (gathered input before (first ∷ others) []) (gathered input after (first ∷ (others ++ u.version ∷ [])) []) keeps
+        keeps_on (gathered input start (first ∷ begun) []) (gathered input before (first ∷ others) []) (gathered input after (first ∷ (others ++ u.version ∷ [])) []) keeps
         (joined before after (first ∷ others) u h (ap is_eq (neither_joins (key_cmp first u.version) less greater)))
 
-    pub ends_group : IsGroup first others → Step before (Ok None) after → Gathers input start after first others None
+    pub ends_group : IsGroup first others → Step before (Ok None) after → Gathers input start begun after first others None
     ends_group group h = record {
-      keeps = keeps_on (gathered input start (first ∷ []) []) (gathered input before (first ∷ others) []) (gathered input after [] (ascending (first ∷ others))) keeps (finished before after (first ∷ others) h);
+      keeps = keeps_on (gathered input start (first ∷ begun) []) (gathered input before (first ∷ others) []) (gathered input after [] (ascending (first ∷ others))) keeps (finished before after (first ∷ others) h);
       group = group;
       above = tt;
       end = λ e. h.1;
     }
 
-    pub begins_next : IsGroup first others → (u : Placed) → Step before (Ok (Some u)) after → is_lt (key_cmp first u.version) ≡ true → Gathers input start after first others (Some u.version)
+    pub begins_next : IsGroup first others → (u : Placed) → Step before (Ok (Some u)) after → is_lt (key_cmp first u.version) ≡ true → Gathers input start begun after first others (Some u.version)
     begins_next group u h less = record {
       keeps =
-          keeps_on (gathered input start (first ∷ []) []) (gathered input before (first ∷ others) []) (gathered input after (u.version ∷ []) (ascending (first ∷ others))) keeps
+          keeps_on (gathered input start (first ∷ begun) []) (gathered input before (first ∷ others) []) (gathered input after (u.version ∷ []) (ascending (first ∷ others))) keeps
           (followed before after (first ∷ others) u h (less_follows (key_cmp first u.version) less) less);
       group = group;
       above = less;
       end = λ e. absurd (let f : Some u.version ≡ None = e in cc);
     }
 
-    told : (P : Still VersionData Fault → Type 0) → IfSome (gathered input before (first ∷ others) []) P → IfSome (gathered input start (first ∷ []) []) P
-    told P h = from_kept (gathered input start (first ∷ []) []) (gathered input before (first ∷ others) []) P keeps h
+    told : (P : Still VersionData Fault → Type 0) → IfSome (gathered input before (first ∷ others) []) P → IfSome (gathered input start (first ∷ begun) []) P
+    told P h = from_kept (gathered input start (first ∷ begun) []) (gathered input before (first ∷ others) []) P keeps h
 
-    told_or : (fault : Fault) → (fault ≡ memory_fault) ⊎ IfSome (gathered input before (first ∷ others) []) (λ s. s ≡ refused fault) → (fault ≡ memory_fault) ⊎ IfSome (gathered input start (first ∷ []) []) (λ s. s ≡ refused fault)
+    told_or : (fault : Fault) → (fault ≡ memory_fault) ⊎ IfSome (gathered input before (first ∷ others) []) (λ s. s ≡ refused fault) → (fault ≡ memory_fault) ⊎ IfSome (gathered input start (first ∷ begun) []) (λ s. s ≡ refused fault)
     told_or fault (inl e) = inl e
     told_or fault (inr h) = inr (told (λ s. s ≡ refused fault) h)
 
-    pub refuses_read : (fault : Fault) → Step before (Err fault) after → Refuses (gathered input start (first ∷ []) []) fault after
+    pub refuses_read : (fault : Fault) → Step before (Err fault) after → Refuses (gathered input start (first ∷ begun) []) fault after
     refuses_read fault h = (told_or fault (broken_by before (first ∷ others) fault h.0), h.1)
 
     pub refuses_unsorted : (u : Placed) (fault : Fault) (failed : Option (Still Placed Fault)) (number : ℕ) → Step before (Ok (Some u)) after → is_gt (key_cmp first u.version) ≡ true → fault ≡ fault_of input (verdict_at u.place Unsorted)
-        → failed ≡ Some (refused (failed_fault number)) → Refuses (gathered input start (first ∷ []) []) fault failed
+        → failed ≡ Some (refused (failed_fault number)) → Refuses (gathered input start (first ∷ begun) []) fault failed
     refuses_unsorted u fault failed number h greater is e =
         let falls = greater_falls (key_cmp first u.version) greater in
         (inr (told (λ s. s ≡ refused fault) (weaker (gathered input before (first ∷ others) []) _ _ (λ s k. k ∙ ap refused (sym is)) (fell before after (first ∷ others) u h falls.0 falls.1))), (number, e))
@@ -188,10 +188,10 @@ pub gives_ready : (input : ℕ) (units : Option (Still Placed Fault)) (group rea
 gives_ready input None group ready v = tt
 gives_ready input (Some w) group ready v = (versions_then ready (groups input w.refusal w.list group), refl, refl)
 
-pub gives_first : (input : ℕ) (before after : Option (Still Placed Fault)) (first : VersionData) (others : List VersionData) (next : Option VersionData) (v : VersionData) (ready : List VersionData) → Gathers input before after first others next → ascending (first ∷ others) ≡ v ∷ ready
-    → Step (gathered input before (first ∷ []) []) (Ok (Some v)) (gathered input after (option_to_list next) ready)
-gives_first input before after first others next v ready h e =
-    weaker (gathered input before (first ∷ []) []) _ _ (λ s k. first_of input after (option_to_list next) ready v s (ap (gathered input after (option_to_list next)) (sym e) ∙ k)) h.keeps
+pub gives_first : (input : ℕ) (before : Option (Still Placed Fault)) (begun : List VersionData) (after : Option (Still Placed Fault)) (first : VersionData) (others : List VersionData) (next : Option VersionData) (v : VersionData) (ready : List VersionData)
+    → Gathers input before begun after first others next → ascending (first ∷ others) ≡ v ∷ ready → Step (gathered input before (first ∷ begun) []) (Ok (Some v)) (gathered input after (option_to_list next) ready)
+gives_first input before begun after first others next v ready h e =
+    weaker (gathered input before (first ∷ begun) []) _ _ (λ s k. first_of input after (option_to_list next) ready v s (ap (gathered input after (option_to_list next)) (sym e) ∙ k)) h.keeps
 
 -- ---- the answer of a call, behind what was kept
 pub step_on : {A : Type 0} (start before after : Option (Still A Fault)) (r : Result (Option A) Fault) → Keeps start before → Step before r after → Step start r after
@@ -236,19 +236,29 @@ some_from None h = absurd (h refl)
 some_from (Some x) h = refl
 
 -- ---- a call that gathers a group
-module _ (input : ℕ) (start before : Option (Still Placed Fault)) (pending : Option VersionData) (first : VersionData) (keeps : Keeps (gathered input start (option_to_list pending) []) (gathered input before (first ∷ []) [])) where
-  pub refused_behind : (after : Option (Still Placed Fault)) (group : List VersionData) (fault : Fault) → Refuses (gathered input before (first ∷ []) []) fault after → Step (gathered input start (option_to_list pending) []) (Err fault) (gathered input after group [])
+module _ (input : ℕ) (start before : Option (Still Placed Fault)) (held : List VersionData) (first : VersionData) (begun : List VersionData) (keeps : Keeps (gathered input start held []) (gathered input before (first ∷ begun) [])) where
+  pub refused_behind : (after : Option (Still Placed Fault)) (group : List VersionData) (fault : Fault) → Refuses (gathered input before (first ∷ begun) []) fault after → Step (gathered input start held []) (Err fault) (gathered input after group [])
   refused_behind after group fault h =
-      step_on (gathered input start (option_to_list pending) []) (gathered input before (first ∷ []) []) (gathered input after group []) (Err fault) keeps (refused_step input (gathered input before (first ∷ []) []) after group fault h)
+      step_on (gathered input start held []) (gathered input before (first ∷ begun) []) (gathered input after group []) (Err fault) keeps (refused_step input (gathered input before (first ∷ begun) []) after group fault h)
 
   -- the first of the group is given, or memory was refused
-  pub given_step : (p q : Position) (others : List VersionData) (next : Option VersionData) (ready : List VersionData) (r : Result (Option VersionData) Fault) → Gathers input before (still_to_come p) first others next → OnOk r (q ≡ p) → IfOk r (λ given. is_some given ≡ true)
+  pub given_step : (p q : Position) (others : List VersionData) (next : Option VersionData) (ready : List VersionData) (r : Result (Option VersionData) Fault) → Gathers input before begun (still_to_come p) first others next → OnOk r (q ≡ p) → IfOk r (λ given. is_some given ≡ true)
       → IfOk r (λ given. ascending (first ∷ others) ≡ option_to_list given ++ ready) → IfErr r (λ fault. (fault ≡ memory_fault) × (q ≡ record p { failed = true }) × (ready ≡ []))
-      → Step (gathered input start (option_to_list pending) []) r (gathered input (still_to_come q) (option_to_list next) ready)
+      → Step (gathered input start held []) r (gathered input (still_to_come q) (option_to_list next) ready)
   given_step p q others next ready (Ok None) h same some given bad = absurd (false≢true some)
   given_step p q others next ready (Ok (Some v)) h same some given bad =
-      step_on (gathered input start (option_to_list pending) []) (gathered input before (first ∷ []) []) (gathered input (still_to_come q) (option_to_list next) ready) (Ok (Some v)) keeps
-      (gives_first input before (still_to_come q) first others next v ready (subst (λ (x : Position). Gathers input before (still_to_come x) first others next) (sym same) h) given)
+      step_on (gathered input start held []) (gathered input before (first ∷ begun) []) (gathered input (still_to_come q) (option_to_list next) ready) (Ok (Some v)) keeps
+      (gives_first input before begun (still_to_come q) first others next v ready (subst (λ (x : Position). Gathers input before begun (still_to_come x) first others next) (sym same) h) given)
   given_step p q others next ready (Err fault) h same some given (memory, failed, none) =
-      subst (λ (xs : List VersionData). Step (gathered input start (option_to_list pending) []) (Err fault) (gathered input (still_to_come q) (option_to_list next) xs)) (sym none)
+      subst (λ (xs : List VersionData). Step (gathered input start held []) (Err fault) (gathered input (still_to_come q) (option_to_list next) xs)) (sym none)
       (refused_behind (still_to_come q) (option_to_list next) fault (inl memory, (p.input, ap still_to_come failed)))
+
+-- a group of one version is given
+pub alone_given : (input : ℕ) (start before after : Option (Still Placed Fault)) (held : List VersionData) (first : VersionData) (next : Option VersionData) → Keeps (gathered input start held []) (gathered input before (first ∷ []) []) → Gathers input before [] after first [] next
+    → Step (gathered input start held []) (Ok (Some first)) (gathered input after (option_to_list next) [])
+alone_given input start before after held first next keeps h =
+    step_on (gathered input start held []) (gathered input before (first ∷ []) []) (gathered input after (option_to_list next) []) (Ok (Some first)) keeps (gives_first input before [] after first [] next first [] h (ascending_one first))
+
+pub fewer_still : (r : Result (Option VersionData) Fault) (few some most : ℕ) → IfOk r (λ given. is_some given ≡ true → few ≤ some) → some < most → IfOk r (λ given. is_some given ≡ true → few < most)
+fewer_still (Ok given) few some most h less = λ e. omega (arith, h e, less)
+fewer_still (Err fault) few some most h less = tt

@@ -6,7 +6,7 @@ use Rattle.osm_model.specs.declared.kind.Kind.{Kind}
 use Rattle.osm_model.specs.Data.{VersionData}
 use Rattle.o5_codec.specs.Body.{set_at}
 use Rattle.o5_codec.specs.Decoder.{new_segment}
-use Rattle.opl_line.specs.Cut.{split_first}
+use Rattle.opl_line.specs.Cut.{is_line_end, split_first}
 use Rattle.opl_line.specs.Reading.{reading_line}
 use Rattle.opl_line.specs.declared.reason.OplReason.{OplReason}
 use Rattle.opl_line.specs.declared.reason.OplReason.TheVariants as opl
@@ -16,7 +16,6 @@ use Rattle.o5_codec.specs.declared.segment.Segment.{Segment}
 use Rattle.osm_files.specs.declared.reason.Reason.{Reason}
 use Rattle.osm_files.specs.declared.reason.Reason.TheVariants.{Opl, O5, BadHeader, Unsorted, NoEnd, AfterEnd, TooLong, ReadFault, WriteFault, Memory, Failed}
 use Rattle.osm_files.specs.Reason.{of_line, of_data_set}
-use Rattle.opl_line.specs.Cut.{is_line_end}
 use Rattle.osm_files.specs.O5.{end_byte, reset_byte, is_lone, kind_of_type}
 use Rattle.osm_files.specs.Stream.{Verdict, verdict_at, Placed, Still, whole}
 use Rattle.osm_files.specs.Units.{Stand, InOpl, BeforeHeader, InSegment, BehindEnd, Found, FileUnit, unit, passes, line_found, line_unit, is_header, set_found, content_found, sized_unit, length_at, unit_at, last_at, found_then, closed, unit_then, units_within, units, start_of}

@@ -4,7 +4,7 @@ use Rattle.std.specs.List.{list_any}
 use Rattle.std.proofs.lemmas.Bool.{false≢true, ltb-true, ltb-false, leb-true, lt-ltb}
 use Rattle.std.proofs.lemmas.Bool.Decides.{nat_tests}
 use Rattle.std.proofs.lemmas.List.{take-append-le}
-use Rattle.opl_line.specs.Cut.{split_first, lengthened}
+use Rattle.opl_line.specs.Cut.{is_line_end, lengthened, split_first}
 use Rattle.o5_codec.specs.declared.reason.O5Reason.{O5Reason}
 use Rattle.o5_codec.specs.declared.reason.O5Reason.TheVariants.{BadNumber}
 use Rattle.o5_codec.specs.declared.segment.Segment.{Segment}
@@ -12,7 +12,6 @@ use Rattle.o5_codec.specs.Answer.{and_then}
 use Rattle.o5_codec.specs.Number.{groups_at, number_at, with_low, within_word}
 use Rattle.o5_codec.specs.Decoder.{new_segment}
 use Rattle.osm_files.specs.declared.reason.Reason.TheVariants.{BadHeader}
-use Rattle.opl_line.specs.Cut.{is_line_end}
 use Rattle.osm_files.specs.O5.{end_byte, reset_byte, is_lone, kind_of_type}
 use Rattle.osm_files.specs.Units.{Stand, InOpl, BeforeHeader, InSegment, BehindEnd, FileUnit, unit, passes, line_unit, header_unit, is_header, content_found, is_last, is_ended, length_at, sized_unit, segment_unit, behind_unit, unit_at}
 use Rattle.osm_files.proofs.UnitLaws.{some_is_not_none}

@@ -13,7 +13,8 @@ use Rattle.osm_files.specs.Fault.{memory_fault, failed_fault, fault_at}
 use Rattle.osm_files.specs.Input.{Coming}
 use Rattle.osm_files.specs.Stream.{verdict_at, Placed, placed, Still, whole, refused, front}
 use Rattle.osm_files.specs.Source.{Step}
-use Rattle.osm_files.specs.Units.{Stand, InOpl, BeforeHeader, InSegment, BehindEnd, Found, unit, unit_at, last_at, found_then, units}
+use Rattle.opl_line.specs.Cut.{is_line_end, split_first}
+use Rattle.osm_files.specs.Units.{Stand, InOpl, BeforeHeader, InSegment, BehindEnd, Found, unit, unit_at, line_unit, last_at, found_then, units}
 use Rattle.osm_files.specs.Reading.{Finds, FindsLast, stand_of, without_stand}
 use Rattle.osm_files.specs.Position.{Position, ahead, stand_in, closing, window, units_from, fault_of, named, to_come, still_to_come, Keeps, GoesOn, Advances, stand_at, seen, given, FindsHeld, progress}
 use Rattle.osm_files.proofs.FillLaws.{weaker, mapped, keeps_on}
@@ -147,6 +148,14 @@ held_progress p m q r u advance on h is gone =
     let few : progress advance ≤ u.size = subst (λ (a : Advance). progress a ≤ u.size) (sym is) (progress_given q.place u.size u.version size.0) in
     omega (arith, on.place, size.2, ap (λ x. x.place) gone, few)
 
+-- the line at the front of the bytes held
+pub held_line : (p : Position) (bytes : List ℕ) (answer : Option ReadUnit) (u : ReadUnit) → p.stand ≡ Some InOpl → bytes ≡ p.held → answer ≡ Some u → Finds (line_unit (split_first is_line_end bytes)) (Ok answer) InOpl
+    → FindsHeld p (Ok (Some u)) p
+unfolding unit_at
+held_line p bytes answer u in_opl held is found =
+    let there = subst (λ (o : Option ReadUnit). Finds (line_unit (split_first is_line_end bytes)) (Ok o) InOpl) is found in
+    (InOpl, (λ i. unit_at (stand_in (in_opl i) p.held) (sym held i)) ∙ there, (λ i. record p { stand = in_opl i }))
+
 -- what a step did after steps that gave nothing
 module _ (p m q : Position) (on : GoesOn p m) where
   pub stops_from : (fault : Fault) → (fault ≡ memory_fault) ⊎ IfSome (to_come m) (λ s. s ≡ refused fault) → (fault ≡ memory_fault) ⊎ IfSome (to_come p) (λ s. s ≡ refused fault)
@@ -269,6 +278,18 @@ module _ (p m q : Position) (on : GoesOn p m) (fine : p.failed ≡ false) where
     failed = same ∙ on.failed;
     keeps = advances_from p m q on Passed h;
   }
+
+given_by : (place : ℕ) (version : Option VersionData) (advance : Advance) → (advance ≡ Passed) ⊎ (advance ≡ Ended) → advance ≡ given place version → advance ≡ Passed
+given_by place version advance (inl e) is = e
+given_by place None advance (inr e) is = is
+given_by place (Some v) advance (inr e) is = absurd (let f : Gave (placed place v) ≡ Ended = sym is ∙ e in cc)
+
+-- a line that gave no version
+pub passed_line : (p q : Position) (u : ReadUnit) (advance : Advance) → p.place + length p.held < 2 ^ 62 → p.failed ≡ false → FindsHeld p (Ok (Some u)) p → (advance ≡ Passed) ⊎ (advance ≡ Ended) → advance ≡ given p.place u.version
+    → q ≡ record p { place = p.place + u.size; held = drop u.size p.held } → GoesOn p q
+passed_line p q u advance bound fine found passed is gone =
+    passed_next p p q (goes_on p) fine (held_advances p p q u Passed bound found (sym (given_by p.place u.version advance passed is) ∙ is) gone)
+    (ap (λ x. x.failed) gone) (ap (λ x. x.input) gone) (omega (arith, ap (λ x. x.place) gone))
 
 pub failed_already : (p : Position) (fault : Fault) → p.failed ≡ true → fault ≡ failed_fault p.input → Step {A = Placed} (still_to_come p) (Err fault) (still_to_come p)
 failed_already p fault bad is =

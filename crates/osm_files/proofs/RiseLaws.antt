@@ -20,7 +20,7 @@ use Rattle.osm_files.specs.Input.{Coming}
 use Rattle.osm_files.specs.Position.{Position, named, units_from, still_to_come}
 use Rattle.osm_files.specs.Source.{Ascends, Step}
 use Rattle.osm_files.specs.Stream.{Placed, Still, whole, refused}
-use Rattle.osm_files.proofs.GroupLaws.{has, has_ascending, ascending_is, ascending_nil}
+use Rattle.osm_files.proofs.GroupLaws.{has, has_ascending, ascending_is, ascending_nil, ascending_one}
 
 -- ---- keys
 less_first : (o p : Ordering) → o ≡ Less → ordering_then o p ≡ Less
@@ -163,12 +163,12 @@ less_is Equal h = absurd (false≢true h)
 less_is Greater h = absurd (false≢true h)
 
 -- groups rise behind a group of one key, also where nothing was known before
-pub gathers_rise : (input : ℕ) (before after : Option (Still Placed Fault)) (first : VersionData) (others : List VersionData) (next : Option VersionData) → Gathers input before after first others next
+pub gathers_rise : (input : ℕ) (before : Option (Still Placed Fault)) (begun : List VersionData) (after : Option (Still Placed Fault)) (first : VersionData) (others : List VersionData) (next : Option VersionData) → Gathers input before begun after first others next
     → IfSome (gathered input after (option_to_list next) (ascending (first ∷ others))) Ascends
-gathers_rise input before after first others None h =
+gathers_rise input before begun after first others None h =
     let P : Option (Still Placed Fault) → Type 0 = λ o. IfSome (gathered input o [] (ascending (first ∷ others))) Ascends in
     subst P (sym (h.end refl)) (end_given input first others h.group)
-gathers_rise input before after first others (Some v) h = next_rises input first others h.group after v (less_is (key_cmp first v) h.above)
+gathers_rise input before begun after first others (Some v) h = next_rises input first others h.group after v (less_is (key_cmp first v) h.above)
 
 pub ready_rises : (input : ℕ) (units : Option (Still Placed Fault)) (group ready : List VersionData) (v : VersionData) → IfSome (gathered input units group (v ∷ ready)) Ascends → IfSome (gathered input units group ready) Ascends
 ready_rises input None group ready v h = tt
@@ -184,13 +184,13 @@ pub whole_rises : (known : Option (Still VersionData Fault)) → known ≡ Some 
 whole_rises known e = let P : Option (Still VersionData Fault) → Type 0 = λ o. IfSome o Ascends in subst P (sym e) nothing_rises
 
 -- where the first of a group was given
-module _ (input : ℕ) (before : Option (Still Placed Fault)) (p q : Position) (first : VersionData) (others : List VersionData) (next : Option VersionData) (h : Gathers input before (still_to_come p) first others next) where
+module _ (input : ℕ) (before : Option (Still Placed Fault)) (begun : List VersionData) (p q : Position) (first : VersionData) (others : List VersionData) (next : Option VersionData) (h : Gathers input before begun (still_to_come p) first others next) where
   Rising : List VersionData → Type 0
   Rising ready = IfSome (gathered input (still_to_come q) (option_to_list next) ready) Ascends
 
   all_rises : q ≡ p → Rising (ascending (first ∷ others))
   unfolding Rising
-  all_rises same = let P : Position → Type 0 = λ x. IfSome (gathered input (still_to_come x) (option_to_list next) (ascending (first ∷ others))) Ascends in subst P (sym same) (gathers_rise input before (still_to_come p) first others next h)
+  all_rises same = let P : Position → Type 0 = λ x. IfSome (gathered input (still_to_come x) (option_to_list next) (ascending (first ∷ others))) Ascends in subst P (sym same) (gathers_rise input before begun (still_to_come p) first others next h)
 
   pub given_rises : (ready : List VersionData) (r : Result (Option VersionData) Fault) → OnOk r (q ≡ p) → IfOk r (λ given. ascending (first ∷ others) ≡ option_to_list given ++ ready) → IfErr r (λ fault. (fault ≡ memory_fault) × (q ≡ record p { failed = true }) × (ready ≡ []))
       → IfSome (gathered input (still_to_come q) (option_to_list next) ready) Ascends
@@ -198,6 +198,11 @@ module _ (input : ℕ) (before : Option (Still Placed Fault)) (p q : Position) (
   given_rises ready (Ok None) same given bad = subst Rising given (all_rises same)
   given_rises ready (Ok (Some v)) same given bad = ready_rises input (still_to_come q) (option_to_list next) ready v (subst Rising given (all_rises same))
   given_rises ready (Err fault) same given (memory, failed, none) = subst Rising (sym none) (refused_rises input (still_to_come q) (option_to_list next) (failed_fault p.input) (ap still_to_come failed))
+
+-- where a group of one version was given
+pub alone_rises : (input : ℕ) (before after : Option (Still Placed Fault)) (first : VersionData) (next : Option VersionData) → Gathers input before [] after first [] next → IfSome (gathered input after (option_to_list next) []) Ascends
+alone_rises input before after first next h =
+    ready_rises input after (option_to_list next) [] first (subst (λ (xs : List VersionData). IfSome (gathered input after (option_to_list next) xs) Ascends) (ascending_one first) (gathers_rise input before [] after first [] next h))
 
 -- a list that ascends is that of its set
 pub told_as_set : (known : Option (Still VersionData Fault)) → IfSome known Ascends → still_given (option_map as_set known) ≡ known

@@ -21,7 +21,7 @@ use Rattle.osm_model.specs.VersionSet.{VersionSet}
 use Rattle.osm_model.specs.Sets.{listed, from_list, union, empty, contains}
 use Rattle.osm_model.proofs.SetLaws.{contains-listed, contains-from_list, contains-union, same_set, strict-listed}
 use Rattle.osm_model.proofs.VersionLaws.{version_cmp-IsAntisymmetric, listed-view}
-use Rattle.opl_line.specs.Cut.{cut, split_first, pieces_of}
+use Rattle.opl_line.specs.Cut.{cut, is_line_end, pieces_of, split_first}
 use Rattle.opl_line.specs.Content.{Pairwise}
 use Rattle.opl_line.specs.Spells.{Spells}
 use Rattle.opl_line.proofs.CutLaws.{cut_split, split_front}
@@ -33,7 +33,6 @@ use Rattle.o5_codec.specs.WritingLaws.{segment_for, SetsStand, spelled_sets}
 use Rattle.o5_codec.proofs.WrittenLists.{lists_read}
 use Rattle.osm_files.specs.declared.format.Format.{Format}
 use Rattle.osm_files.specs.declared.format.Format.TheVariants.{Opl, O5m, O5c}
-use Rattle.opl_line.specs.Cut.{is_line_end}
 use Rattle.osm_files.specs.Opl.{is_read, OplFile}
 use Rattle.osm_files.specs.O5.{o5m_header, o5c_header, end_byte, reset_byte, type_byte, Part, Reset, Object, part_bytes, PartsSpell, O5File}
 use Rattle.osm_files.specs.Units.{Stand, InOpl, BeforeHeader, start_of}

@@ -1,7 +1,7 @@
 -- What units read as, and the units of lines.
 use Rattle.std.proofs.Common.{◌≡◌, ℕ, zero, suc, ◌+◌, ◌≤◌, Bool, true, false, not, cond, List, [], ◌∷◌, ◌++◌, length, drop, filter, refl, sym, ap, ◌∙◌, subst, arith, Option, Some, None, Result, Ok, Err, length-append}
 use Rattle.osm_model.specs.Data.{VersionData}
-use Rattle.opl_line.specs.Cut.{cut, split_first, lengthened, pieces_of}
+use Rattle.opl_line.specs.Cut.{cut, is_line_end, lengthened, pieces_of, split_first}
 use Rattle.opl_line.specs.Content.{Pairwise}
 use Rattle.opl_line.specs.Reading.{is_skipped, reading_line}
 use Rattle.opl_line.specs.Spells.{Spells}
@@ -9,7 +9,6 @@ use Rattle.opl_line.specs.declared.reason.OplReason.{OplReason}
 use Rattle.opl_line.proofs.CutLaws.{cut_split}
 use Rattle.opl_line.proofs.SpellsLaws.{read_is_spelled, one_reading, refused_spells_nothing, answer_spelled}
 use Rattle.osm_files.specs.Stream.{Verdict, Placed, Still, whole}
-use Rattle.opl_line.specs.Cut.{is_line_end}
 use Rattle.osm_files.specs.Opl.{is_read, OplFile}
 use Rattle.osm_files.specs.Units.{Stand, InOpl, line_found, line_unit, found_then, closed, unit_then, unit_at, last_at, units_within}
 use Rattle.osm_files.specs.Verdict.{versions_of}

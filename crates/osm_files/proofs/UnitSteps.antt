@@ -3,7 +3,7 @@ use Rattle.std.proofs.Common.{◌≡◌, ◌⊎◌, inl, inr, ℕ, ◌+◌, ◌�
 use Rattle.std.proofs.lemmas.Bool.{false≢true}
 use Rattle.std.proofs.lemmas.Bool.Decides.{nat_tests}
 use Rattle.osm_model.specs.Data.{VersionData}
-use Rattle.opl_line.specs.Cut.{split_first}
+use Rattle.opl_line.specs.Cut.{is_line_end, split_first}
 use Rattle.opl_line.specs.Reading.{reading_line}
 use Rattle.opl_line.specs.declared.reason.OplReason.{OplReason}
 use Rattle.opl_line.specs.declared.reason.OplReason.TheVariants as opl
@@ -15,7 +15,6 @@ use Rattle.o5_codec.specs.declared.segment.Segment.{Segment}
 use Rattle.o5_codec.specs.Number.{number_at}
 use Rattle.osm_files.specs.Reason.{of_line, of_data_set}
 use Rattle.osm_files.specs.O5.{kind_of_type}
-use Rattle.opl_line.specs.Cut.{is_line_end}
 use Rattle.osm_files.specs.Reading.{Finds, ends_at}
 use Rattle.osm_files.specs.Units.{Stand, BehindEnd, behind_unit, segment_unit, InOpl, is_ended, length_at, sized_unit, content_found, unit, line_unit, line_found, header_unit, is_header, passes}
 

@@ -99,9 +99,10 @@ given_ascends (Some (versions, refusal)) = strict-listed versions
 abbrev pub IsGroup : VersionData → List VersionData → Type 0
 IsGroup first others = AllByRecursion (λ v. key_cmp first v ≡ Equal) others
 
--- The rest of a group was read, and the version behind it, which has a key above, or there is none.
-pub record Gathers (input : ℕ) (before after : Option (Still Placed Fault)) (first : VersionData) (others : List VersionData) (next : Option VersionData) : Type 0 where
-  pub keeps : Keeps (gathered input before (first ∷ []) []) (gathered input after (option_to_list next) (ascending (first ∷ others)))
+-- The rest of a group was read, of which some versions had begun it, and the version behind it, which has a key above, or
+-- there is none.
+pub record Gathers (input : ℕ) (before : Option (Still Placed Fault)) (begun : List VersionData) (after : Option (Still Placed Fault)) (first : VersionData) (others : List VersionData) (next : Option VersionData) : Type 0 where
+  pub keeps : Keeps (gathered input before (first ∷ begun) []) (gathered input after (option_to_list next) (ascending (first ∷ others)))
   pub group : IsGroup first others
   pub above : IfSome next (λ v. follows (first ∷ others) v ≡ true)
   pub end : (next ≡ None) → after ≡ Some whole

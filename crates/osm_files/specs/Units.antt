@@ -3,7 +3,7 @@ use Rattle.std.specs.Prelude.{ℕ, zero, suc, ◌+◌, ◌-◌, ◌==◌, ◌||�
 use Rattle.std.specs.List.{list_any}
 use Rattle.osm_model.specs.declared.kind.Kind.{Kind}
 use Rattle.osm_model.specs.Data.{VersionData}
-use Rattle.opl_line.specs.Cut.{split_first}
+use Rattle.opl_line.specs.Cut.{is_line_end, split_first}
 use Rattle.opl_line.specs.Reading.{reading_line}
 use Rattle.opl_line.specs.declared.reason.OplReason.{OplReason}
 use Rattle.o5_codec.specs.declared.reason.O5Reason.{O5Reason}
@@ -15,7 +15,6 @@ use Rattle.o5_codec.specs.Decoder.{new_segment}
 use Rattle.osm_files.specs.declared.reason.Reason.{Reason}
 use Rattle.osm_files.specs.declared.reason.Reason.TheVariants.{BadHeader, NoEnd, AfterEnd, O5}
 use Rattle.osm_files.specs.Reason.{of_line, of_data_set}
-use Rattle.opl_line.specs.Cut.{is_line_end}
 use Rattle.osm_files.specs.O5.{o5m_header, o5c_header, end_byte, reset_byte, kind_of_type, is_lone}
 use Rattle.osm_files.specs.Stream.{Verdict, verdict_at, Placed, placed, Still, whole, refused, front}
 

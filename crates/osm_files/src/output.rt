@@ -1,6 +1,6 @@
 //! Outputs: where the bytes of a file go.
 ghost use Rattle.std.specs.Prelude.{◌≡◌, ◌+◌, ◌<◌, ◌≤◌, ◌^◌, ◌⊎◌, ◌↔◌, ℕ, Bool, true, false, Option, Some, List, [], length, take, IfOk, IsOk, OnErr, Err};
-ghost use Rattle.osm_files.specs.Fault.{too_long_fault};
+ghost use Rattle.osm_files.specs.Fault.{too_long_fault, write_fault};
 ghost use Rattle.osm_files.specs.Output.{Appended, WriteFails, FlushFails, Writes, Collected};
 
 use crate::Reason;
@@ -172,6 +172,7 @@ impl Output for VecOut {
 ///
 /// `TooLong` where the output would come to have 2^62 bytes or more, in which case none of the bytes is written;
 /// `WriteFault` where the output fails, at the number of bytes that it took in all. No write is tried again.
+#[inline(always)]
 pub fn write_all<W: Output>(
     out: &mut W,
     number: usize,
@@ -186,21 +187,45 @@ pub fn write_all<W: Output>(
     if bytes.len() as u64 >= LENGTH_LIMIT - written {
         return Err(Fault::too_long(number));
     }
+    match out.write(bytes) {
+        Ok(count) if count == bytes.len() => Ok(()),
+        Ok(count) if count > 0 => write_rest(out, number, written + count as u64, &bytes[count..]),
+        _ => Err(write_fault(number, written)),
+    }
+}
+
+/// Writes all of some bytes behind a write that took a front alone.
+#[inline(never)]
+fn write_rest<W: Output>(
+    out: &mut W,
+    number: usize,
+    written: u64,
+    bytes: &[u8],
+) -> Result<(), Fault>
+    requires some { 0 < length bytes.now }
+    requires short { written + length bytes.now < 2 ^ 62 }
+    ensures wrote { Writes number (W.contents out.old) (W.contents out.new) (W.failed out.new) written bytes.now result }
+{
     let mut done = 0;
     'writes: while done < bytes.len() {
         let count = match out.write(&bytes[done..]) {
             Ok(count) if count > 0 => count,
-            _ => {
-                return Err(Fault {
-                    input: number,
-                    place: written + done as u64,
-                    reason: Reason::WriteFault,
-                });
-            }
+            _ => return Err(write_fault(number, written + done as u64)),
         };
         done += count;
     }
     Ok(())
+}
+
+/// The output of this number failed, which took so many bytes.
+pub(crate) fn write_fault(number: usize, place: u64) -> Fault
+    ensures { result ≡ write_fault number place }
+{
+    Fault {
+        input: number,
+        place,
+        reason: Reason::WriteFault,
+    }
 }
 
 #[cfg(test)]

@@ -15,7 +15,7 @@ use crate::held::Held;
 use crate::input::Input;
 use crate::placed::Placed;
 use crate::reason::Reason;
-use crate::unit::{O5M_HEADER, Place, ReadUnit};
+use crate::unit::{O5M_HEADER, Place, ReadUnit, read_line_unit};
 use osm_model::Version;
 use std::alloc::Global;
 use std::marker::Model;
@@ -143,6 +143,7 @@ impl<R: Input> Reading<R> {
     }
 
     /// The unit that stands whole at the front of the bytes held, if there is one.
+    #[inline(always)]
     fn read_held(&mut self) -> Result<Option<ReadUnit>, Reason>
         requires { self.old.failed ≡ false }
         ensures found { FindsHeld self.old result self.new }
@@ -212,6 +213,7 @@ impl<R: Input> Reading<R> {
     }
 
     /// One unit further.
+    #[inline(always)]
     fn advance(&mut self) -> Result<Advance, Fault>
         requires { self.old.failed ≡ false }
         ensures advances { Advances self.old result self.new }
@@ -234,19 +236,49 @@ impl<R: Input> Reading<R> {
         }
     }
 
-    /// The next version; none at the end and ever after.
+    /// Whether the file is known to be an OPL file.
+    #[inline(always)]
+    fn is_among_lines(&self) -> bool
+        ensures { result ≡ true → self.now.stand ≡ Some spec.InOpl }
+    {
+        matches!(self.at, Some(Place::Lines))
+    }
+
+    /// The version of the line at the front of the bytes held, where they are an OPL file's. There is none if it doesn't
+    /// stand there whole, holds no version or can't be read.
+    #[inline(always)]
+    fn next_line(&mut self) -> Option<Placed>
+        requires { self.old.failed ≡ false }
+        ensures gave { IfSome result (λ unit. Step (still_to_come self.old) (Ok (Some unit)) (still_to_come self.new)) }
+        ensures further { IfSome result (λ _. self.old.place < self.new.place) }
+        ensures passed { result ≡ None → GoesOn self.old self.new }
+        ensures good { self.new.failed ≡ false }
+        ensures number { self.new.input ≡ self.old.input }
+    {
+        if !self.is_among_lines() {
+            return None;
+        }
+        match read_line_unit(self.alloc, self.held.as_slice()) {
+            Ok(Some(unit)) => match self.pass(unit) {
+                Advance::Gave(unit) => Some(unit),
+                Advance::Passed | Advance::Ended => None,
+            },
+            Ok(None) | Err(_) => None,
+        }
+    }
+
+    /// The next version, of whatever unit.
     ///
     /// # Errors
     ///
-    /// Why the next unit can't be read, or `Memory`; ever after `Failed`.
-    pub(crate) fn next(&mut self) -> Result<Option<Placed>, Fault>
+    /// Why the next unit can't be read, or `Memory`.
+    #[inline(never)]
+    fn next_unit(&mut self) -> Result<Option<Placed>, Fault>
+        requires { self.old.failed ≡ false }
         ensures step { Step (still_to_come self.old) result (still_to_come self.new) }
         ensures fewer { IfOk result (λ given. IsSome given → 2 ^ 62 - self.new.place < 2 ^ 62 - self.old.place) }
         ensures number { self.new.input ≡ self.old.input }
     {
-        if self.failed {
-            return Err(Fault::failed(self.input));
-        }
         'units: loop {
             match self.advance() {
                 Ok(Advance::Passed) => {}
@@ -257,6 +289,28 @@ impl<R: Input> Reading<R> {
                     return Err(fault);
                 }
             }
+        }
+    }
+
+    /// The next version; none at the end and ever after.
+    ///
+    /// Nearly always it is the version of a line that is held, of which the caller takes the code in.
+    ///
+    /// # Errors
+    ///
+    /// Why the next unit can't be read, or `Memory`; ever after `Failed`.
+    #[inline(always)]
+    pub(crate) fn next(&mut self) -> Result<Option<Placed>, Fault>
+        ensures step { Step (still_to_come self.old) result (still_to_come self.new) }
+        ensures fewer { IfOk result (λ given. IsSome given → 2 ^ 62 - self.new.place < 2 ^ 62 - self.old.place) }
+        ensures number { self.new.input ≡ self.old.input }
+    {
+        if self.failed {
+            return Err(Fault::failed(self.input));
+        }
+        match self.next_line() {
+            Some(unit) => Ok(Some(unit)),
+            None => self.next_unit(),
         }
     }
 
@@ -285,6 +339,16 @@ impl<R: Input> Reading<R> {
                 self.failed = true;
                 return Err(fault);
             }
+        }
+    }
+
+    /// Takes back a version that isn't needed any more, whose memory the next one may take.
+    #[inline(always)]
+    pub(crate) fn reuse(&mut self, version: Version)
+        ensures { self.new ≡ self.old }
+    {
+        if let Some(at) = &mut self.at {
+            at.reuse(version);
         }
     }
 

@@ -10,8 +10,7 @@ ghost use Rattle.osm_files.specs.Sink as spec;
 
 use crate::fault::Fault;
 use crate::format::Format;
-use crate::output::{Output, write_all};
-use crate::reason::Reason;
+use crate::output::{Output, write_all, write_fault};
 use crate::unit::{END, O5C_HEADER, O5M_HEADER};
 use o5_codec::Encoder;
 use opl_line::append_line;
@@ -211,6 +210,7 @@ impl Sink {
 }
 
 /// Writes bytes behind those written before, and counts them.
+#[inline(always)]
 fn send<W: Output>(out: &mut W, number: usize, written: &mut u64, bytes: &[u8]) -> Result<(), Fault>
     requires some { 0 < length bytes.now }
     requires below { written.old < 2 ^ 62 }
@@ -262,11 +262,7 @@ fn flush<W: Output>(out: &mut W, number: usize, written: u64) -> Result<(), Faul
 {
     match out.flush() {
         Ok(()) => Ok(()),
-        Err(_) => Err(Fault {
-            input: number,
-            place: written,
-            reason: Reason::WriteFault,
-        }),
+        Err(_) => Err(write_fault(number, written)),
     }
 }
 

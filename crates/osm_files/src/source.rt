@@ -1,13 +1,14 @@
 //! Sources: versions in ascending order, one after the other.
-ghost use Rattle.std.specs.Prelude.{◌≡◌, ℕ, ◌+◌, ◌-◌, ◌^◌, ◌<◌, ◌≤◌, [], ◌∷◌, ◌++◌, length, true, Option, option_map, option_to_list, IsSome, IfOk, IfErr, OnOk, IfSome};
+ghost use Rattle.std.specs.Prelude.{◌≡◌, ℕ, ◌+◌, ◌-◌, ◌^◌, ◌<◌, ◌≤◌, [], ◌∷◌, ◌++◌, length, true, Option, None, option_map, option_to_list, IsSome, IfOk, IfErr, OnOk, IfSome};
 ghost use Rattle.std.specs.Vec.Iter.{into_iter_items};
 ghost use Rattle.osm_model.specs.Data.{VersionData};
 ghost use Rattle.osm_files.specs.declared.fault.Fault.{Fault};
-ghost use Rattle.osm_files.specs.Fault.{memory_fault};
+ghost use Rattle.osm_files.specs.declared.reason.Reason.TheVariants.{Unsorted};
+ghost use Rattle.osm_files.specs.Fault.{memory_fault, fault_at};
 ghost use Rattle.osm_files.specs.Stream.{Still};
 ghost use Rattle.osm_files.specs.Source.{Ascends, Step};
 ghost use Rattle.osm_files.specs.Position.{still_to_come};
-ghost use Rattle.osm_files.specs.Groups.{ascending, gathered, units_left, sorted_source, still_given, given_ascends, Begins, Gathers, Refuses};
+ghost use Rattle.osm_files.specs.Groups.{ascending, gathered, units_left, sorted_source, still_given, given_ascends, IsGroup, Begins, Gathers, Refuses};
 
 use crate::fault::Fault;
 use crate::input::Input;
@@ -37,6 +38,18 @@ pub trait Source {
     fn next(&mut self) -> Result<Option<Version>, Fault>
         ensures step { Step (still self.old) result (still self.new) }
         ensures fewer { IfOk result (λ given. IsSome given → left self.new < left self.old) };
+
+    /// The same. It takes back a version that isn't needed any more, whose memory it may use.
+    ///
+    /// # Errors
+    ///
+    /// As for [`Source::next`].
+    fn next_reusing(&mut self, _spare: Option<Version>) -> Result<Option<Version>, Fault>
+        ensures step { Step (still self.old) result (still self.new) }
+        ensures fewer { IfOk result (λ given. IsSome given → left self.new < left self.old) }
+    {
+        self.next()
+    }
 }
 
 /// A sorted file: the versions of one key after the other, each key group ascending and without repeats.
@@ -87,6 +100,18 @@ impl<R: Input> FileSource<R> {
     }
 }
 
+impl<R: Input> FileSource<R> {
+    /// Takes back a version that isn't needed any more, whose memory the next one may take.
+    #[inline(always)]
+    fn reuse(&mut self, spare: Option<Version>)
+        ensures { self.new ≡ self.old }
+    {
+        if let Some(version) = spare {
+            self.units.reuse(version);
+        }
+    }
+}
+
 impl<R: Input> Source for FileSource<R> {
     ghost still = { λ s. still_given s.known };
 
@@ -94,6 +119,7 @@ impl<R: Input> Source for FileSource<R> {
 
     ghost ascends = { λ s. given_ascends s.known };
 
+    #[inline(always)]
     fn next(&mut self) -> Result<Option<Version>, Fault> {
         match self.ready.next() {
             Some(version) => Ok(Some(version)),
@@ -105,9 +131,16 @@ impl<R: Input> Source for FileSource<R> {
             ),
         }
     }
+
+    #[inline(always)]
+    fn next_reusing(&mut self, spare: Option<Version>) -> Result<Option<Version>, Fault> {
+        self.reuse(spare);
+        self.next()
+    }
 }
 
 /// The first version of the next group, of which the others are made ready; none at the end.
+#[inline(always)]
 fn next_group<R: Input>(
     alloc: Global,
     units: &mut Reading<R>,
@@ -125,7 +158,44 @@ fn next_group<R: Input>(
         Ok(None) => return Ok(None),
         Ok(Some(first)) => first,
     };
+    let second = match units.next() {
+        Err(fault) => return Err(fault),
+        Ok(None) => return Ok(Some(first)),
+        Ok(Some(second)) => second,
+    };
+    let order = first.key_cmp(&second.version);
+    if order.is_lt() {
+        *pending = Some(second.version);
+        return Ok(Some(first));
+    }
+    if order.is_gt() {
+        return Err(refuse_unsorted(units, second.place));
+    }
+    next_of_many(alloc, units, first, second.version, pending, ready)
+}
+
+/// The least version of a group that begins with two versions of one key, of which the others are made ready.
+#[inline(never)]
+fn next_of_many<R: Input>(
+    alloc: Global,
+    units: &mut Reading<R>,
+    first: Version,
+    second: Version,
+    pending: &mut Option<Version>,
+    ready: &mut IntoIter<Version>,
+) -> Result<Option<Version>, Fault>
+    requires nothing { into_iter_items ready.old ≡ [] }
+    requires group { IsGroup first (second ∷ []) }
+    ensures input { units.new.input ≡ units.old.input }
+    ensures step { Step (gathered units.old.input (still_to_come units.old) (first ∷ second ∷ []) []) result (gathered units.old.input (still_to_come units.new) (option_to_list pending.new) (into_iter_items ready.new)) }
+    ensures ascends { IfSome (gathered units.old.input (still_to_come units.new) (option_to_list pending.new) (into_iter_items ready.new)) Ascends }
+    ensures fewer { IfOk result (λ given. IsSome given → units_left (still_to_come units.new) (2 ^ 62 - units.new.place) + (length (option_to_list pending.new) + length (into_iter_items ready.new)) ≤ units_left (still_to_come units.old) (2 ^ 62 - units.old.place) + 1) }
+{
     let mut others = Vec::new(alloc);
+    if let Err(_) = others.push(second) {
+        units.fail();
+        return Err(Fault::memory());
+    }
     match gather(units, &first, &mut others) {
         Err(fault) => Err(fault),
         Ok(next) => {
@@ -135,7 +205,17 @@ fn next_group<R: Input>(
     }
 }
 
+/// Refuses the unit at this place, which stands behind one of a greater key, and every later call.
+fn refuse_unsorted<R: Input>(units: &mut Reading<R>, place: u64) -> Fault
+    ensures failed { units.new ≡ record units.old { failed = true } }
+    ensures fault { result ≡ fault_at units.old.input place Unsorted }
+{
+    units.fail();
+    Fault::at(units.number(), place, Reason::Unsorted)
+}
+
 /// The version that a group begins with: the one read before, or else the next one; none at the end.
+#[inline(always)]
 fn begin<R: Input>(
     units: &mut Reading<R>,
     pending: Option<Version>,
@@ -146,25 +226,36 @@ fn begin<R: Input>(
 {
     match pending {
         Some(first) => Ok(Some(first)),
-        None => match units.next() {
-            Err(fault) => Err(fault),
-            Ok(None) => Ok(None),
-            Ok(Some(unit)) => Ok(Some(unit.version)),
-        },
+        None => begin_next(units),
     }
 }
 
-/// Reads the others of a group, and the version behind it, which has a key above; none at the end.
+/// The next version, where none was read before; none at the end.
+#[inline(never)]
+fn begin_next<R: Input>(units: &mut Reading<R>) -> Result<Option<Version>, Fault>
+    ensures input { units.new.input ≡ units.old.input }
+    ensures begins { Begins units.old.input (still_to_come units.old) None result (still_to_come units.new) }
+    ensures left { IfOk result (λ first. IsSome first → units_left (still_to_come units.new) (2 ^ 62 - units.new.place) + 1 ≤ units_left (still_to_come units.old) (2 ^ 62 - units.old.place)) }
+{
+    match units.next() {
+        Err(fault) => Err(fault),
+        Ok(None) => Ok(None),
+        Ok(Some(unit)) => Ok(Some(unit.version)),
+    }
+}
+
+/// Reads the others of a group, behind those that were read, and the version behind it, which has a key above; none at the
+/// end.
 fn gather<R: Input>(
     units: &mut Reading<R>,
     first: &Version,
     others: &mut Vec<Version>,
 ) -> Result<Option<Version>, Fault>
-    requires nothing { others.old.items ≡ [] }
+    requires group { IsGroup first.now others.old.items }
     ensures input { units.new.input ≡ units.old.input }
-    ensures gathers { IfOk result (λ next. Gathers units.old.input (still_to_come units.old) (still_to_come units.new) first.now others.new.items next) }
-    ensures refuses { IfErr result (λ fault. Refuses (gathered units.old.input (still_to_come units.old) (first.now ∷ []) []) fault (still_to_come units.new)) }
-    ensures left { IfOk result (λ next. units_left (still_to_come units.new) (2 ^ 62 - units.new.place) + (length (option_to_list next) + length others.new.items) ≤ units_left (still_to_come units.old) (2 ^ 62 - units.old.place)) }
+    ensures gathers { IfOk result (λ next. Gathers units.old.input (still_to_come units.old) others.old.items (still_to_come units.new) first.now others.new.items next) }
+    ensures refuses { IfErr result (λ fault. Refuses (gathered units.old.input (still_to_come units.old) (first.now ∷ others.old.items) []) fault (still_to_come units.new)) }
+    ensures left { IfOk result (λ next. units_left (still_to_come units.new) (2 ^ 62 - units.new.place) + (length (option_to_list next) + length others.new.items) ≤ units_left (still_to_come units.old) (2 ^ 62 - units.old.place) + length others.old.items) }
 {
     'units: loop {
         let unit = match units.next() {
@@ -177,8 +268,7 @@ fn gather<R: Input>(
             return Ok(Some(unit.version));
         }
         if order.is_gt() {
-            units.fail();
-            return Err(Fault::at(units.number(), unit.place, Reason::Unsorted));
+            return Err(refuse_unsorted(units, unit.place));
         }
         if let Err(_) = others.push(unit.version) {
             units.fail();

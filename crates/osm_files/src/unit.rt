@@ -2,9 +2,8 @@
 ghost use Rattle.std.specs.Prelude.{◌≡◌, ◌⊎◌, ℕ, true, false, Option, None, Some, Ok, List, ◌∷◌, ◌≤◌, length, IfOk, IfSome, OnOk};
 ghost use Rattle.std.specs.List.{list_any};
 ghost use Rattle.o5_codec.specs.Decoder.{new_segment};
-ghost use Rattle.opl_line.specs.Cut.{split_first};
+ghost use Rattle.opl_line.specs.Cut.{is_line_end, split_first};
 ghost use Rattle.opl_line.specs.Reading.{reading_line};
-ghost use Rattle.opl_line.specs.Cut.{is_line_end};
 ghost use Rattle.osm_files.specs.O5 as o5;
 ghost use Rattle.osm_files.specs.Reading.{Finds, FindsContent, FindsLast, stand_of, IsGood, ends_at};
 ghost use Rattle.osm_files.specs.Units as spec;
@@ -63,7 +62,8 @@ fn passed(size: usize) -> Result<Option<ReadUnit>, Reason>
 }
 
 /// The line at the front of the bytes, if its end is there.
-fn read_line_unit(alloc: Global, bytes: &[u8]) -> Result<Option<ReadUnit>, Reason>
+#[inline(always)]
+pub(crate) fn read_line_unit(alloc: Global, bytes: &[u8]) -> Result<Option<ReadUnit>, Reason>
     ensures { Finds (spec.line_unit (split_first is_line_end bytes.now)) result spec.InOpl }
 {
     let Some(end) = find_line_end(bytes) else {
@@ -138,6 +138,7 @@ fn is_last(byte: u8) -> bool
 }
 
 /// The version of the content of a data set; one that is no object's is skipped.
+#[inline(always)]
 fn read_content(
     decoder: &mut Decoder,
     type_byte: u8,
@@ -156,6 +157,7 @@ fn read_content(
 }
 
 /// The data set of this type at the front of the bytes, behind its type byte, if all its bytes are there.
+#[inline(always)]
 fn read_sized(
     decoder: &mut Decoder,
     type_byte: u8,
@@ -187,6 +189,7 @@ fn read_sized(
 }
 
 /// The data set, reset or lone byte at the front of the bytes, if all its bytes are there.
+#[inline(always)]
 fn read_data_set(decoder: &mut Decoder, bytes: &[u8]) -> Result<Option<ReadUnit>, Reason>
     requires good { decoder.old.failed ≡ false }
     requires goes_on { ends_at bytes.now ≡ false }
@@ -251,6 +254,7 @@ impl Place {
     /// # Errors
     ///
     /// Why a unit that stands there whole can't be read, or `Memory`. The reading is at its end then.
+    #[inline(always)]
     pub(crate) fn read(&mut self, alloc: Global, bytes: &[u8]) -> Result<Option<ReadUnit>, Reason>
         requires good { IsGood self.old }
         ensures found { Finds (spec.unit_at (stand_of self.old) bytes.now) result (stand_of self.new) }
@@ -263,6 +267,7 @@ impl Place {
 
     /// The same, by the place.
     #[tactic(auto, using(crate::proofs::UnitSteps::end_first), unfolding(crate::specs::Units::unit_at))]
+    #[inline(always)]
     fn find(&mut self, alloc: Global, bytes: &[u8]) -> Result<Option<ReadUnit>, Reason>
         requires good { IsGood self.old }
         ensures found { Finds (spec.unit_at (stand_of self.old) bytes.now) result (stand_of self.new) }
@@ -280,6 +285,17 @@ impl Place {
                 read_data_set(decoder, bytes)
             }
             Place::End => read_behind(bytes),
+        }
+    }
+
+    /// Takes back a version that isn't needed any more, whose memory the next one may take.
+    #[inline(always)]
+    pub(crate) fn reuse(&mut self, version: Version)
+        ensures place { stand_of self.new ≡ stand_of self.old }
+        ensures good { IsGood self.old → IsGood self.new }
+    {
+        if let Place::DataSets(decoder) = self {
+            decoder.reuse(version);
         }
     }
 

@@ -68,6 +68,7 @@ pub fn merge_into<S: Source + Drop, W: Output>(
 }
 
 /// Writes the union of the heads and of what the sources give behind them, as one file.
+#[inline(never)]
 fn write_union<S: Source, W: Output>(
     sources: &mut [S],
     heads: &mut [Option<Version>],
@@ -104,10 +105,11 @@ fn write_union<S: Source, W: Output>(
             return end_file(counts, sink, out);
         };
         counts.read = counts.read.saturating_add(1);
-        if let Err(fault) = put_new(&mut last, version, &mut counts, sink, out) {
+        let mut spare = None;
+        if let Err(fault) = put_new(&mut last, version, &mut spare, &mut counts, sink, out) {
             return Err(fault);
         }
-        match sources[place].next() {
+        match sources[place].next_reusing(spare) {
             Ok(next) => heads[place] = next,
             Err(fault) => return Err(fault),
         }
@@ -115,10 +117,12 @@ fn write_union<S: Source, W: Output>(
     }
 }
 
-/// Puts a version that is greater than the one put last, and keeps it as that one. Any other was put before.
+/// Puts a version that is greater than the one put last, and keeps it as that one. Any other was put before. What isn't
+/// needed any more of the two is spare then.
 fn put_new<W: Output>(
     last: &mut Option<Version>,
     version: Version,
+    spare: &mut Option<Version>,
     counts: &mut Counts,
     sink: &mut Sink,
     out: &mut W,
@@ -134,13 +138,14 @@ fn put_new<W: Output>(
     ensures least { IfSome last.old (λ _. capped (counts.old.compared + 1) ≤ counts.new.compared) }
 {
     if !is_new(last, &version, &mut counts.compared) {
+        *spare = Some(version);
         return Ok(());
     }
     if let Err(fault) = sink.put(out, &version) {
         return Err(fault);
     }
     counts.written = counts.written.saturating_add(1);
-    *last = Some(version);
+    *spare = last.replace(version);
     Ok(())
 }
 

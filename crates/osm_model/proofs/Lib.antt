@@ -18,3 +18,4 @@ pub mod VersionLaws
 pub mod CursorLaws
 pub mod AppendLaws
 pub mod KindLaws
+pub mod PairLaws

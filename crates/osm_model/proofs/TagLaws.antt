@@ -1,5 +1,5 @@
 -- Tags that tie are equal, and the texts of tags.
-use Rattle.std.proofs.Common.{◌≡◌, ℕ, Bool, true, false, not, ◌||◌, ◌&&◌, List, [], ◌∷◌, refl, sym, ap, ◌∙◌, subst}
+use Rattle.std.proofs.Common.{arith, ◌≡◌, ℕ, ◌<◌, length, Bool, true, false, not, ◌||◌, ◌&&◌, List, [], ◌∷◌, refl, sym, ap, ◌∙◌, subst}
 use Rattle.std.specs.declared.cmp.Ordering.{Ordering}
 use Rattle.std.specs.declared.cmp.Ordering.TheVariants.{Less, Equal, Greater}
 use Rattle.std.specs.Bool.{OnTrue}
@@ -54,10 +54,15 @@ list_all-normal p ts =
     ∙ sym (list_all-texts_of_tags p ts ∙ list_all-none _ ts)
 
 -- what a test of each two neighbours tells
-pub ascending_from_test : (b : Bool) (xs ts : List Tag) → xs ≡ ts → IsAllAdjacentAnswer (λ x y a. a ≡ is_lt (tag_cmp x y)) xs b → OnTrue b (IsStrictlySortedBy tag_cmp ts)
+ascending_from_test : (b : Bool) (xs ts : List Tag) → xs ≡ ts → IsAllAdjacentAnswer (λ x y a. a ≡ is_lt (tag_cmp x y)) xs b → OnTrue b (IsStrictlySortedBy tag_cmp ts)
 ascending_from_test true xs ts e h = subst (IsStrictlySortedBy tag_cmp) e (strict_from_neighbours tag_cmp_total xs h)
 ascending_from_test false xs ts e h = tt
 
 -- tags that ascend are those of their set
-pub normal-ascending : (ts : List Tag) → IsStrictlySortedBy tag_cmp ts → ts ≡ normal ts
-normal-ascending ts up = sym (listed-from_list tag_cmp_total tag_cmp-IsAntisymmetric ts up)
+pub normal_from_test : (b : Bool) (xs ts : List Tag) → xs ≡ ts → IsAllAdjacentAnswer (λ x y a. a ≡ is_lt (tag_cmp x y)) xs b → OnTrue b (normal ts ≡ ts)
+normal_from_test true xs ts e h = listed-from_list tag_cmp_total tag_cmp-IsAntisymmetric ts (ascending_from_test true xs ts e h)
+normal_from_test false xs ts e h = tt
+
+-- one tag ascends, and so does none
+pub few_normal : (ts : List Tag) → length ts < 2 → normal ts ≡ ts
+few_normal ts few = normal_from_test true ts ts refl (λ k d below. absurd (omega (arith, few, below)))

@@ -1,5 +1,5 @@
 -- How the characters of a text stand in OPL. The form of an escape is that of the OPL manual; which characters are raw, and how many digits an escape has, are own rules of this project.
-use Rattle.std.specs.Prelude.{ℕ, Bool, nat_lt, ◌||◌, List, [], ◌∷◌, ◌++◌, length, encode_utf8, encode_utf8_all, if◌then◌else◌}
+use Rattle.std.specs.Prelude.{ℕ, Bool, nat_lt, ◌+◌, ◌&&◌, ◌||◌, List, [], ◌∷◌, ◌++◌, length, slice_index, encode_utf8, encode_utf8_all, if◌then◌else◌}
 use Rattle.std.specs.Char.{len_utf8}
 use Rattle.std.specs.Int.{is_in_range}
 use Rattle.std.specs.List.{flat_map, take_while}
@@ -10,6 +10,15 @@ abbrev pub is_raw : ℕ → Bool
 is_raw c =
     is_in_range 0x21 0x24 c || is_in_range 0x26 0x2B c || is_in_range 0x2D 0x3C c || is_in_range 0x3E 0x3F c
     || is_in_range 0x41 0x7E c || is_in_range 0xA1 0xAC c || is_in_range 0xAE 0x5FF c
+
+-- the bytes that are such a character by themselves
+abbrev pub is_raw_byte : ℕ → Bool
+is_raw_byte b = is_raw b && nat_lt b 0x80
+
+-- four of them, from a place on
+abbrev pub are_raw_bytes : List ℕ → ℕ → Bool
+are_raw_bytes bs n =
+    is_raw_byte (slice_index bs n) && (is_raw_byte (slice_index bs (n + 1)) && (is_raw_byte (slice_index bs (n + 2)) && is_raw_byte (slice_index bs (n + 3))))
 
 -- the least number of digits in an escape
 abbrev pub escape_width : ℕ → ℕ

@@ -1,5 +1,6 @@
 //! The bodies of versions.
 ghost use Rattle.std.specs.Prelude.{◌≡◌, IfOk};
+ghost use Rattle.std.specs.Bool.{OnTrue};
 ghost use Rattle.std.specs.List.{list_all};
 ghost use Rattle.osm_model.specs.Id.{is_id};
 ghost use Rattle.osm_model.specs.Text.{is_text};
@@ -76,26 +77,62 @@ impl Body {
         }
     }
 
+    /// Whether the body may hold memory.
+    #[inline(always)]
+    pub(crate) fn has_memory(&self) -> bool {
+        match self {
+            Body::Deleted(_) => false,
+            Body::Node { tags, .. } => tags.has_memory(),
+            Body::Way { .. } | Body::Relation { .. } => true,
+        }
+    }
+
+    /// Whether the tags ascend, each once.
+    #[inline(always)]
+    fn is_normal(&self) -> bool
+        ensures { OnTrue result (normal_body self.now ≡ self.now) }
+    {
+        match self {
+            Body::Deleted(_) => true,
+            Body::Node { tags, .. } | Body::Way { tags, .. } | Body::Relation { tags, .. } => {
+                tags.are_normal()
+            }
+        }
+    }
+
     /// The body with its tags ascending, each once.
+    #[inline(always)]
     pub(crate) fn normal(self) -> Body
+        ensures value { result ≡ normal_body self }
+        ensures location { IsInRange result }
+    {
+        if self.is_normal() {
+            return self;
+        }
+        self.sorted()
+    }
+
+    /// The same, whatever the order of the tags.
+    #[cold]
+    #[inline(never)]
+    fn sorted(self) -> Body
         ensures value { result ≡ normal_body self }
         ensures location { IsInRange result }
     {
         match self {
             Body::Deleted(kind) => Body::Deleted(kind),
-            Body::Node { lon, lat, tags } => Body::Node {
-                lon,
-                lat,
-                tags: tags.normal(),
-            },
-            Body::Way { refs, tags } => Body::Way {
-                refs,
-                tags: tags.normal(),
-            },
-            Body::Relation { members, tags } => Body::Relation {
-                members,
-                tags: tags.normal(),
-            },
+            Body::Node { lon, lat, mut tags } => {
+                tags.normalize();
+                Body::Node { lon, lat, tags }
+            }
+            Body::Way { refs, mut tags } => {
+                tags.normalize();
+                Body::Way { refs, tags }
+            }
+            Body::Relation { members, mut tags } => {
+                tags.normalize();
+                Body::Relation { members, tags }
+            }
         }
     }
 

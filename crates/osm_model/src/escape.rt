@@ -1,5 +1,5 @@
 //! The characters of a text in a line: raw ones, and escapes.
-ghost use Rattle.std.specs.Prelude.{◌≡◌, ◌++◌, ◌<◌, ◌≤◌, ◌&&◌, nat_lt, if◌then◌else◌, length, take, drop};
+ghost use Rattle.std.specs.Prelude.{◌≡◌, ◌++◌, ◌<◌, ◌≤◌, if◌then◌else◌, ◌+◌, length, take, drop};
 ghost use Rattle.std.specs.Str.{chars, IsUtf8, IsCharBoundary};
 ghost use Rattle.std.specs.Char.{digit_char};
 ghost use Rattle.std.specs.Int.{is_in_range};
@@ -51,7 +51,13 @@ pub fn plain_length(text: &str) -> usize
 {
     let bytes = text.as_bytes();
     let mut length = 0;
-    while length < bytes.len() {
+    'fours: while bytes.len() - length >= 4 {
+        if !are_raw_bytes(bytes, length) {
+            break 'fours;
+        }
+        length += 4;
+    }
+    'characters: while length < bytes.len() {
         let width = raw_width(&bytes[length..]);
         if width == 0 {
             return length;
@@ -87,9 +93,21 @@ static RAW_BYTES: [u8; 256] = [
     0, 0, 0, 0, 0, 0, 0, 0, 0, 0, 0, 0, 0, 0, 0, 0, 0, 0, 0, 0, 0, 0, 0, 0, 0, 0, 0, 0, 0, 0, 0, 0,
 ];
 
+/// Whether each of the four bytes from a place on is a raw character by itself.
+#[inline(always)]
+fn are_raw_bytes(bytes: &[u8], from: usize) -> bool
+    requires { from + 4 ≤ length bytes.now }
+    ensures { result ≡ spec.are_raw_bytes bytes.now from }
+{
+    is_raw_byte(bytes[from])
+        && is_raw_byte(bytes[from + 1])
+        && is_raw_byte(bytes[from + 2])
+        && is_raw_byte(bytes[from + 3])
+}
+
 /// Whether a byte is a raw character by itself.
 fn is_raw_byte(byte: u8) -> bool
-    ensures { result ≡ (spec.is_raw byte && nat_lt byte 0x80) }
+    ensures { result ≡ spec.is_raw_byte byte }
 {
     RAW_BYTES[usize::from(byte)] == 1
 }

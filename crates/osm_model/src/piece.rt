@@ -345,12 +345,20 @@ impl Piece {
     }
 }
 
+/// The two digits of each number below 100, one number after the other.
+static PAIRS: [u8; 200] = *b"\
+    00010203040506070809101112131415161718192021222324\
+    25262728293031323334353637383940414243444546474849\
+    50515253545556575859606162636465666768697071727374\
+    75767778798081828384858687888990919293949596979899\
+";
+
 /// The first digit of a number below 100.
 fn tens(number: u8) -> u8
     requires { number < 100 }
     ensures { result ≡ 48 + number / 10 }
 {
-    b'0' + number / 10
+    PAIRS[2 * usize::from(number)]
 }
 
 /// The last digit of a number below 100.
@@ -358,7 +366,7 @@ fn ones(number: u8) -> u8
     requires { number < 100 }
     ensures { result ≡ 48 + number % 10 }
 {
-    b'0' + number % 10
+    PAIRS[2 * usize::from(number) + 1]
 }
 
 #[cfg(test)]

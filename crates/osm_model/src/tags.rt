@@ -112,25 +112,30 @@ impl Tags {
         &self.tags
     }
 
-    /// The tags ascending by the bytes of the key and then of the value, each once. It takes no memory.
-    pub(crate) fn normal(self) -> Tags
-        ensures { result ≡ normal self }
-    {
-        if self.do_ascend() {
-            return self;
-        }
-        let mut tags = self.into_vec();
-        tags.sort_unstable();
-        tags.dedup();
-        Tags { tags }
+    /// Whether the tags may hold memory.
+    #[inline(always)]
+    pub(crate) fn has_memory(&self) -> bool {
+        self.tags.capacity() > 0
     }
 
-    /// Whether each tag stands below the next one.
-    fn do_ascend(&self) -> bool
-        ensures { OnTrue result (IsStrictlySortedBy tag_cmp self.now) }
+    /// Puts the tags in ascending order, by the bytes of the key and then of the value, each once. It takes no memory.
+    pub(crate) fn normalize(&mut self)
+        ensures { self.new ≡ normal self.old }
     {
-        self.tags
-            .is_sorted_by(|left, right| left.cmp(right).is_lt())
+        if self.are_normal() {
+            return;
+        }
+        self.tags.sort_unstable();
+        self.tags.dedup();
+    }
+
+    /// Whether each tag stands below the next one. A tag alone does.
+    #[tactic(auto, using(crate::proofs::TagLaws::few_normal))]
+    #[inline(always)]
+    pub(crate) fn are_normal(&self) -> bool
+        ensures { OnTrue result (normal self.now ≡ self.now) }
+    {
+        self.tags.len() < 2 || are_ascending(&self.tags)
     }
 
     /// Whether no key and no value holds the character U+0000.
@@ -152,6 +157,14 @@ impl Tags {
         }
         Ok(Tags { tags })
     }
+}
+
+/// Whether each tag stands below the next one.
+#[inline(never)]
+fn are_ascending(tags: &[Tag]) -> bool
+    ensures { OnTrue result (normal tags.now ≡ tags.now) }
+{
+    tags.is_sorted_by(|left, right| left.cmp(right).is_lt())
 }
 
 impl Same for Tag {

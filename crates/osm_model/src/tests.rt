@@ -1,4 +1,5 @@
 //! Each public call once, with values worked out by hand.
+use crate::version::first_fault;
 use crate::{
     Body, History, Kind, Member, Members, Memory, Meta, References, Tag, Tags, Text, ValueFault,
     Version, is_id,
@@ -7,7 +8,7 @@ use std::alloc::{AllocError, Global};
 use std::test::Fail;
 
 fn text(alloc: Global, characters: &str) -> Result<Text, Fail> {
-    Ok(Text::from_string(String::from_str(alloc, characters)?))
+    Ok(Text::from_str(alloc, characters)?)
 }
 
 fn tag(alloc: Global, key: &str, value: &str) -> Result<Tag, Fail> {
@@ -28,7 +29,7 @@ fn number(alloc: Global, version: u64) -> Meta {
         time: None,
         changeset: 0,
         uid: 0,
-        user: Text::new(alloc),
+        user: Text::new(),
     }
 }
 
@@ -149,10 +150,66 @@ fn a_version_tells_its_data(rt: HostRuntime) -> Result<(), Fail> {
 }
 
 #[test]
+fn texts_of_any_length(rt: HostRuntime) -> Result<(), Fail> {
+    let alloc = rt.alloc();
+    let texts = [
+        "",
+        "é",
+        "as many as lie within it",
+        "one more than lies within",
+        "Ein Text, der nicht in vierundzwanzig Bytes passt, mit größeren Zeichen: 東京",
+    ];
+    for characters in texts {
+        let short = Text::from_str(alloc, characters)?;
+        assert_eq!(rt; short.as_str(), characters);
+        assert_eq!(rt; short.copy()?.as_str(), characters);
+        assert_eq!(rt; short.is_empty(), characters.is_empty());
+        let string = Text::from_string(String::from_str(alloc, characters)?);
+        assert_eq!(rt; string.as_str(), characters);
+        assert_eq!(rt; string.copy()?.as_str(), characters);
+    }
+    Ok(())
+}
+
+#[test]
+fn sound_data(rt: HostRuntime) -> Result<(), Fail> {
+    let alloc = rt.alloc();
+    let meta = Meta {
+        version: 2,
+        time: None,
+        changeset: 0,
+        uid: 0,
+        user: Text::new(),
+    };
+    let sound = Version::of_sound_data(alloc, 7, meta, Body::Deleted(Kind::Way))?;
+    let same = Version::new(alloc, 7, number(alloc, 2), Body::Deleted(Kind::Way))?;
+    assert_eq!(rt; sound, same);
+    assert_eq!(rt; sound.kind(), Kind::Way);
+    Ok(())
+}
+
+#[test]
+fn memory_of_a_version_is_used_again(rt: HostRuntime) -> Result<(), Fail> {
+    let alloc = rt.alloc();
+    let refs = References::from_vec(vec![in alloc; 3, -1, 3]?);
+    let tags = Tags::from_vec(vec![in alloc; tag(alloc, "c", "d")?, tag(alloc, "a", "b")?]?);
+    let spare = Version::new(alloc, 7, number(alloc, 2), Body::Way { refs, tags })?;
+    let tags = Tags::from_vec(vec![in alloc; tag(alloc, "e", "f")?]?);
+    let (lon, lat) = (-5, 6);
+    let (meta, body) = (number(alloc, 1), Body::Node { lon, lat, tags });
+    assert!(rt; first_fault(9, &meta, &body).is_none());
+    let node = Version::of_sound_data_in(spare, 9, meta, body);
+    let tags = Tags::from_vec(vec![in alloc; tag(alloc, "e", "f")?]?);
+    let same = Version::new(alloc, 9, number(alloc, 1), Body::Node { lon, lat, tags })?;
+    assert_eq!(rt; node, same);
+    Ok(())
+}
+
+#[test]
 fn parts_are_lists(rt: HostRuntime) -> Result<(), Fail> {
     let alloc = rt.alloc();
-    assert_eq!(rt; text(alloc, "é")?.copy()?.into_string().as_str(), "é");
-    assert_eq!(rt; Text::new(alloc).as_str(), "");
+    assert_eq!(rt; text(alloc, "é")?.copy()?.as_str(), "é");
+    assert_eq!(rt; Text::new().as_str(), "");
     let refs = References::from_vec(vec![in alloc; 3, -1, 3]?);
     assert_eq!(rt; refs.as_slice(), [3, -1, 3].as_slice());
     assert_eq!(rt; refs.copy()?.into_vec().as_slice(), [3, -1, 3].as_slice());

@@ -1,35 +1,99 @@
 //! Texts.
 ghost use Rattle.std.specs.Prelude.{◌≡◌, [], IfOk, encode_utf8_all, string_bytes};
 ghost use Rattle.std.specs.Str.{chars};
+ghost use Rattle.osm_model.specs.Place.{bytes_at};
 ghost use Rattle.osm_model.specs.Text.{is_text, is_empty};
 
 use crate::Memory;
 use crate::same::Same;
+use arrayvec::ArrayString;
 use std::alloc::Global;
 use std::marker::Model;
 
-/// A text: a `String`, which contracts see as the list of its characters.
+/// The most bytes of a text that needs no memory of its own: most names of users, keys and values have fewer.
+const SHORT: usize = 24;
+
+/// A text, which contracts see as the list of its characters. A short one lies in the value itself.
 #[derive(Debug, Drop)]
 pub struct Text {
-    string: String,
+    place: Place,
+}
+
+/// Where the bytes of a text lie.
+#[derive(Debug, Drop)]
+enum Place {
+    /// In the value itself.
+    Within(ArrayString<SHORT>),
+    /// In memory of their own.
+    Apart(String),
+}
+
+impl Place {
+    /// The bytes as a slice.
+    #[inline(always)]
+    fn as_str(&self) -> &str
+        ensures { result.now ≡ bytes_at self.now }
+    {
+        match self {
+            Place::Within(string) => string.as_str(),
+            Place::Apart(string) => string.as_str(),
+        }
+    }
+
+    /// The same bytes again.
+    #[inline(always)]
+    fn copy(&self) -> Result<Place, Memory>
+        ensures { IfOk result (λ p. bytes_at p ≡ bytes_at self.now) }
+    {
+        match self {
+            Place::Within(string) => Ok(Place::Within(*string)),
+            Place::Apart(string) => Ok(Place::Apart(copy_apart(string)?)),
+        }
+    }
+}
+
+/// The same bytes again, out of the way of short texts.
+#[inline(never)]
+fn copy_apart(string: &String) -> Result<String, Memory>
+    ensures { IfOk result (λ copy. string_bytes copy ≡ string_bytes string.now) }
+{
+    Ok(string.clone()?)
 }
 
 impl Model for Text {
-    ghost use Rattle.std.specs.Prelude.{List, ℕ, string_bytes};
+    ghost use Rattle.std.specs.Prelude.{List, ℕ};
     ghost use Rattle.std.specs.Str.{chars};
+    ghost use Rattle.osm_model.specs.Place.{bytes_at};
 
     ghost Value = { List ℕ };
 
-    ghost view = { λ t. chars (string_bytes t.string) };
+    ghost view = { λ t. chars (bytes_at t.place) };
 }
 
 impl Text {
     /// The empty text.
-    pub fn new(alloc: Global) -> Text
+    pub fn new() -> Text
         ensures { result ≡ [] }
     {
         Text {
-            string: String::new(alloc),
+            place: Place::Within(ArrayString::new()),
+        }
+    }
+
+    /// The text of some characters, which are copied. A text of at most 24 bytes takes no memory.
+    ///
+    /// # Errors
+    ///
+    /// For want of memory alone.
+    pub fn from_str(alloc: Global, characters: &str) -> Result<Text, Memory>
+        ensures bytes { IfOk result (λ t. encode_utf8_all t ≡ characters.now) }
+        ensures characters { IfOk result (λ t. t ≡ chars characters.now) }
+    {
+        match ArrayString::from(characters) {
+            Ok(string) => Ok(Text {
+                place: Place::Within(string),
+            }),
+            Err(_) => Ok(Text::from_string(String::from_str(alloc, characters)?)),
         }
     }
 
@@ -38,47 +102,48 @@ impl Text {
         ensures bytes { encode_utf8_all result ≡ string_bytes string }
         ensures characters { result ≡ chars (string_bytes string) }
     {
-        Text { string }
-    }
-
-    /// The string of the text.
-    pub fn into_string(self) -> String
-        ensures bytes { string_bytes result ≡ encode_utf8_all self }
-        ensures characters { chars (string_bytes result) ≡ self }
-    {
-        let Text { string } = self;
-        string
+        Text {
+            place: Place::Apart(string),
+        }
     }
 
     /// The text as a slice.
+    #[inline(always)]
     pub fn as_str(&self) -> &str
         ensures bytes { result.now ≡ encode_utf8_all self.now }
         ensures characters { chars result.now ≡ self.now }
     {
-        self.string.as_str()
+        self.place.as_str()
     }
 
     /// An equal text.
+    #[inline(always)]
     pub fn copy(&self) -> Result<Text, Memory>
         ensures { IfOk result (λ t. t ≡ self.now) }
     {
         Ok(Text {
-            string: self.string.clone()?,
+            place: self.place.copy()?,
         })
+    }
+
+    /// Whether the text may hold memory of its own.
+    #[inline(always)]
+    pub(crate) fn has_memory(&self) -> bool {
+        matches!(self.place, Place::Apart(_))
     }
 
     /// Whether the text has no character.
     pub fn is_empty(&self) -> bool
         ensures { result ≡ is_empty self.now }
     {
-        self.string.as_str().is_empty()
+        self.as_str().is_empty()
     }
 
     /// Whether the text holds no character U+0000.
     pub(crate) fn is_text(&self) -> bool
         ensures { result ≡ is_text self.now }
     {
-        !self.string.as_bytes().contains(&0)
+        !self.as_str().as_bytes().contains(&0)
     }
 }
 

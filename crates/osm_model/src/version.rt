@@ -1,14 +1,14 @@
 //! Versions of objects.
-ghost use Rattle.std.specs.Prelude.{◌≡◌, ◌⊎◌, ◌<◌, ◌^◌, Some, Ok, Err, refl, IfOk, MatchResult};
+ghost use Rattle.std.specs.Prelude.{◌≡◌, ◌⊎◌, ◌<◌, ◌^◌, None, Some, Ok, Err, refl, IfOk, IfErr, MatchResult};
 ghost use Rattle.std.specs.Ordering.{eq_by_cmp, as_partial_cmp, nat_cmp};
 ghost use Rattle.std.specs.Cmp.{eq_by_cmp_equiv, partial_equiv_from_equiv, partial_order_from_agreeing_total};
 ghost use Rattle.std.specs.Cmp.Lexicographic.{slice_cmp};
 ghost use Rattle.std.specs.Option.{ForSome};
-ghost use Rattle.osm_model.specs.Data.{kind_of};
+ghost use Rattle.osm_model.specs.Data.{kind_of, normal_body, version_of};
 ghost use Rattle.osm_model.specs.Order.{object_cmp, key_cmp, data_cmp, version_cmp, version_cmp_total};
 ghost use Rattle.osm_model.specs.Line.{line};
 ghost use Rattle.osm_model.specs.New.{first_fault, version_or_fault};
-ghost use Rattle.osm_model.specs.Valid.{IsVersion};
+ghost use Rattle.osm_model.specs.Valid.{IsInRange, IsVersion};
 ghost use Rattle.osm_model.specs.declared.fault.ValueFault.TheVariants as fault;
 
 use crate::id::is_id;
@@ -17,6 +17,7 @@ use crate::{Body, Kind, Memory, Meta, Text, ValueFault};
 use std::alloc::Global;
 use std::cmp::Ordering;
 use std::marker::Model;
+use std::mem;
 
 /// A version of an object, within the ranges of all its parts.
 ///
@@ -34,6 +35,8 @@ pub struct Version {
 #[derive(Debug, Drop)]
 struct Parts {
     id: i64,
+    /// The kind of the body, which comparisons ask for.
+    kind: Kind,
     meta: Meta,
     body: Body,
 }
@@ -50,7 +53,7 @@ impl Model for Version {
 }
 
 /// The first fault of data, if it has one.
-fn first_fault(id: i64, meta: &Meta, body: &Body) -> Option<ValueFault>
+pub(crate) fn first_fault(id: i64, meta: &Meta, body: &Body) -> Option<ValueFault>
     ensures { result ≡ first_fault id meta.now body.now }
 {
     if !(is_id(id) && body.are_ids()) {
@@ -74,31 +77,85 @@ fn first_fault(id: i64, meta: &Meta, body: &Body) -> Option<ValueFault>
     None
 }
 
+impl Parts {
+    /// Lets go what memory the parts hold; most hold none.
+    #[inline(always)]
+    fn release(&mut self) {
+        if self.body.has_memory() {
+            self.body = Body::Deleted(Kind::Node);
+        }
+        if self.meta.user.has_memory() {
+            self.meta.user = Text::new();
+        }
+    }
+
+    /// The parts of a version of this data, its tags ascending, each once.
+    #[inline(always)]
+    fn normal(id: i64, meta: Meta, body: Body) -> Parts
+        ensures value { result ≡ record { id = id; kind = kind_of body; meta = meta; body = normal_body body } }
+        ensures location { IsInRange result.body }
+    {
+        Parts {
+            id,
+            kind: body.kind(),
+            meta,
+            body: body.normal(),
+        }
+    }
+}
+
 impl Version {
     /// The version of this data, its tags ascending by the bytes of key and value, exact repeats dropped.
     ///
     /// # Errors
     ///
-    /// The first fault in the order of `IdRange`, `NoVersion`, `NumberRange`, `TimeRange`, `NoTime`, `ZeroInText`; or
-    /// `Memory`.
+    /// The first fault in the order of `IdRange`, `NoVersion`, `NumberRange`, `TimeRange`, `NoTime`, `ZeroInText`. Where
+    /// there is none, `Memory`, if a growth was refused.
     pub fn new(alloc: Global, id: i64, meta: Meta, body: Body) -> Result<Version, ValueFault>
         ensures value { MatchResult result
             (λ version. version_or_fault id meta body ≡ Ok version)
             (λ refused. (refused ≡ fault.Memory) ⊎ (version_or_fault id meta body ≡ Err refused)) }
+        ensures faulty { IfErr (version_or_fault id meta body) (λ refused. result ≡ Err refused) }
         ensures valid { IfOk result IsVersion }
     {
         if let Some(fault) = first_fault(id, &meta, &body) {
             return Err(fault);
         }
-        let parts = Parts {
-            id,
-            meta,
-            body: body.normal(),
-        };
-        match Box::new(alloc, parts) {
-            Ok(parts) => Ok(Version { parts }),
+        match Version::of_sound_data(alloc, id, meta, body) {
+            Ok(version) => Ok(version),
             Err(_) => Err(ValueFault::Memory),
         }
+    }
+
+    /// The version of data that has no fault, as `Version::new` makes it, without its tests.
+    ///
+    /// # Errors
+    ///
+    /// For want of memory alone.
+    #[inline(always)]
+    pub fn of_sound_data(alloc: Global, id: i64, meta: Meta, body: Body) -> Result<Version, Memory>
+        requires { first_fault id meta body ≡ None }
+        ensures value { IfOk result (λ version. version ≡ version_of id meta body) }
+        ensures valid { IfOk result IsVersion }
+    {
+        let parts = Parts::normal(id, meta, body);
+        Ok(Version {
+            parts: Box::new(alloc, parts)?,
+        })
+    }
+
+    /// The same in the memory of a version that isn't needed any more, so that none is wanted.
+    #[inline(always)]
+    pub fn of_sound_data_in(mut spare: Version, id: i64, meta: Meta, body: Body) -> Version
+        requires { first_fault id meta body ≡ None }
+        ensures value { result ≡ version_of id meta body }
+        ensures valid { IsVersion result }
+    {
+        spare.parts.release();
+        // What is replaced holds no memory any more, so it is forgotten and not dropped.
+        let parts = Parts::normal(id, meta, body);
+        mem::forget(Box::replace(&mut spare.parts, parts));
+        spare
     }
 
     /// The id of the object, and that the version is within its ranges.
@@ -113,7 +170,7 @@ impl Version {
     pub fn kind(&self) -> Kind
         ensures { result ≡ kind_of self.now.body }
     {
-        self.parts.body.kind()
+        self.parts.kind
     }
 
     /// The version number, 1 to 4294967295.
@@ -164,18 +221,29 @@ impl Version {
         ensures { result ≡ object_cmp self.now other.now }
     {
         let kind = self.kind().rank().cmp(&other.kind().rank());
+        if kind != Ordering::Equal {
+            return kind;
+        }
         let (id, other_id) = (self.id(), other.id());
+        if id > 0 && other_id > 0 {
+            return id.cmp(&other_id);
+        }
         let positive = (id > 0).cmp(&(other_id > 0));
-        let size = id.unsigned_abs().cmp(&other_id.unsigned_abs());
-        kind.then(positive).then(size)
+        if positive != Ordering::Equal {
+            return positive;
+        }
+        id.unsigned_abs().cmp(&other_id.unsigned_abs())
     }
 
     /// The order of the keys: the object, then the version number.
     pub fn key_cmp(&self, other: &Version) -> Ordering
         ensures { result ≡ key_cmp self.now other.now }
     {
-        let number = self.number().cmp(&other.number());
-        self.object_cmp(other).then(number)
+        let object = self.object_cmp(other);
+        if object != Ordering::Equal {
+            return object;
+        }
+        self.number().cmp(&other.number())
     }
 
     /// An equal version.
@@ -184,6 +252,7 @@ impl Version {
     {
         let parts = Parts {
             id: self.parts.id,
+            kind: self.parts.kind,
             meta: self.parts.meta.copy()?,
             body: self.parts.body.copy()?,
         };
@@ -197,12 +266,17 @@ impl Version {
     fn data_cmp(&self, other: &Version) -> Ordering
         ensures { result ≡ data_cmp self.now other.now }
     {
+        let key = self.key_cmp(other);
+        if key != Ordering::Equal {
+            return key;
+        }
         let time = self.time().unwrap_or(0).cmp(&other.time().unwrap_or(0));
         let deleted = self.body().is_deleted().cmp(&other.body().is_deleted());
-        self.key_cmp(other).then(time).then(deleted)
+        time.then(deleted)
     }
 
     /// The order of the bytes of the lines.
+    #[inline(never)]
     fn line_cmp(&self, other: &Version) -> Ordering
         ensures { result ≡ slice_cmp nat_cmp (line self.now) (line other.now) }
     {

@@ -9,7 +9,7 @@ ghost use Rattle.o5_codec.specs.Appended.{Appended};
 ghost use Rattle.o5_codec.specs.Writing as spec;
 
 use crate::write::context::Context;
-use crate::write::number::append_number;
+use crate::write::draft::Draft;
 use osm_model::{Body, Member, Memory, Tag};
 
 impl Context {
@@ -17,12 +17,12 @@ impl Context {
     #[tactic(auto, unfolding(crate::specs::Writing::body_written))]
     pub(crate) fn append_body(
         &mut self,
-        out: &mut Vec<u8>,
-        section: &mut Vec<u8>,
+        out: &mut Draft,
+        section: &mut Draft,
         body: &Body,
     ) -> Result<(), Memory>
         requires { list_all is_id (ids_of body.now) ≡ true }
-        ensures { OnOk result (Appended out.old.items out.new.items self.new (spec.body_written body.now self.old)) }
+        ensures { OnOk result (Appended out.old out.new self.new (spec.body_written body.now self.old)) }
     {
         match body {
             Body::Deleted(_) => Ok(()),
@@ -45,9 +45,22 @@ impl Context {
         }
     }
 
+    /// Appends the tags.
+    #[inline(always)]
+    fn append_tags(&mut self, out: &mut Draft, tags: &[Tag]) -> Result<(), Memory>
+        ensures { OnOk result (Appended out.old out.new self.new (spec.tags_written tags.now self.old)) }
+    {
+        if tags.is_empty() {
+            return Ok(());
+        }
+        self.append_each_tag(out, tags)
+    }
+
+    /// The same where there are tags.
+    #[inline(never)]
     #[tactic(auto, unfolding(crate::specs::Writing::tags_written))]
-    fn append_tags(&mut self, out: &mut Vec<u8>, tags: &[Tag]) -> Result<(), Memory>
-        ensures { OnOk result (Appended out.old.items out.new.items self.new (spec.tags_written tags.now self.old)) }
+    fn append_each_tag(&mut self, out: &mut Draft, tags: &[Tag]) -> Result<(), Memory>
+        ensures { OnOk result (Appended out.old out.new self.new (spec.tags_written tags.now self.old)) }
     {
         for tag in tags {
             self.append_tag(out, tag)?;
@@ -59,12 +72,12 @@ impl Context {
     #[tactic(auto, unfolding(crate::specs::Writing::section_written))]
     fn append_references(
         &mut self,
-        out: &mut Vec<u8>,
-        section: &mut Vec<u8>,
+        out: &mut Draft,
+        section: &mut Draft,
         ids: &[i64],
     ) -> Result<(), Memory>
         requires { list_all is_id ids.now ≡ true }
-        ensures { OnOk result (Appended out.old.items out.new.items self.new (spec.section_written (spec.references_written ids.now) self.old)) }
+        ensures { OnOk result (Appended out.old out.new self.new (spec.section_written (spec.references_written ids.now) self.old)) }
     {
         section.clear();
         self.append_each_reference(section, ids)?;
@@ -72,9 +85,9 @@ impl Context {
     }
 
     #[tactic(auto, unfolding(crate::specs::Writing::references_written))]
-    fn append_each_reference(&mut self, out: &mut Vec<u8>, ids: &[i64]) -> Result<(), Memory>
+    fn append_each_reference(&mut self, out: &mut Draft, ids: &[i64]) -> Result<(), Memory>
         requires { list_all is_id ids.now ≡ true }
-        ensures { OnOk result (Appended out.old.items out.new.items self.new (spec.references_written ids.now self.old)) }
+        ensures { OnOk result (Appended out.old out.new self.new (spec.references_written ids.now self.old)) }
     {
         for id in ids {
             self.append_reference(out, *id)?;
@@ -86,12 +99,12 @@ impl Context {
     #[tactic(auto, unfolding(crate::specs::Writing::section_written))]
     fn append_members(
         &mut self,
-        out: &mut Vec<u8>,
-        section: &mut Vec<u8>,
+        out: &mut Draft,
+        section: &mut Draft,
         members: &[Member],
     ) -> Result<(), Memory>
         requires { list_all is_id (ids_of_members members.now) ≡ true }
-        ensures { OnOk result (Appended out.old.items out.new.items self.new (spec.section_written (spec.members_written members.now) self.old)) }
+        ensures { OnOk result (Appended out.old out.new self.new (spec.section_written (spec.members_written members.now) self.old)) }
     {
         section.clear();
         self.append_each_member(section, members)?;
@@ -99,9 +112,9 @@ impl Context {
     }
 
     #[tactic(auto, unfolding(crate::specs::Writing::members_written))]
-    fn append_each_member(&mut self, out: &mut Vec<u8>, members: &[Member]) -> Result<(), Memory>
+    fn append_each_member(&mut self, out: &mut Draft, members: &[Member]) -> Result<(), Memory>
         requires { list_all is_id (ids_of_members members.now) ≡ true }
-        ensures { OnOk result (Appended out.old.items out.new.items self.new (spec.members_written members.now self.old)) }
+        ensures { OnOk result (Appended out.old out.new self.new (spec.members_written members.now self.old)) }
     {
         for member in members {
             self.append_member(out, member)?;
@@ -110,9 +123,9 @@ impl Context {
     }
 
     #[tactic(auto, unfolding(crate::specs::Writing::member_written))]
-    fn append_member(&mut self, out: &mut Vec<u8>, member: &Member) -> Result<(), Memory>
+    fn append_member(&mut self, out: &mut Draft, member: &Member) -> Result<(), Memory>
         requires { is_id member.now.id ≡ true }
-        ensures { OnOk result (Appended out.old.items out.new.items self.new (spec.member_written member.now self.old)) }
+        ensures { OnOk result (Appended out.old out.new self.new (spec.member_written member.now self.old)) }
     {
         self.append_member_id(out, member.kind, member.id)?;
         self.append_role(out, member.kind, &member.role)?;
@@ -121,10 +134,9 @@ impl Context {
 }
 
 /// Appends a section with its length in front.
-pub(crate) fn append_section(out: &mut Vec<u8>, section: &[u8]) -> Result<(), Memory>
-    ensures { OnOk result (out.new.items ≡ out.old.items ++ (shortest_number (length section.now) ++ section.now)) }
+fn append_section(out: &mut Draft, section: &Draft) -> Result<(), Memory>
+    ensures { OnOk result (out.new ≡ out.old ++ (shortest_number (length section.now) ++ section.now)) }
 {
-    append_number(out, section.len() as u64)?;
-    out.extend_from_slice(section)?;
-    Ok(())
+    out.append_number(section.len())?;
+    out.append_draft(section)
 }

@@ -7,10 +7,12 @@ ghost use Rattle.o5_codec.specs.Appended.{Appended};
 ghost use Rattle.o5_codec.specs.Writing as spec;
 
 use crate::base::Bases;
+use crate::write::draft::Draft;
 use crate::write::entry::Entry;
 use crate::write::number::{
-    append_coordinate_difference, append_id_difference, append_number, append_number_difference,
+    append_coordinate_difference, append_id_difference, append_number_difference,
 };
+use crate::write::slot::Slot;
 use crate::write::table::Table;
 use osm_model::{Kind, Memory, Tag, Text, Version};
 use std::alloc::Global;
@@ -60,14 +62,14 @@ impl Context {
     #[tactic(auto, unfolding(crate::specs::Writing::content_written))]
     pub(crate) fn append_content(
         &mut self,
-        out: &mut Vec<u8>,
-        section: &mut Vec<u8>,
+        out: &mut Draft,
+        section: &mut Draft,
         v: &Version,
     ) -> Result<(), Memory>
-        ensures { OnOk result (Appended out.old.items out.new.items self.new (spec.content_written v.now self.old)) }
+        ensures { OnOk result (Appended out.old out.new self.new (spec.content_written v.now self.old)) }
     {
         self.append_id(out, v.id())?;
-        append_number(out, v.number())?;
+        out.append_number(v.number())?;
         self.append_time(out, v.time().unwrap_or(0) as u32)?;
         self.append_author(out, v)?;
         self.append_body(out, section, v.body())?;
@@ -76,9 +78,9 @@ impl Context {
 
     /// Appends the id of an object.
     #[tactic(auto, unfolding(crate::specs::Writing::id_written))]
-    fn append_id(&mut self, out: &mut Vec<u8>, id: i64) -> Result<(), Memory>
+    fn append_id(&mut self, out: &mut Draft, id: i64) -> Result<(), Memory>
         requires { is_id id ≡ true }
-        ensures { OnOk result (Appended out.old.items out.new.items self.new (spec.id_written id self.old)) }
+        ensures { OnOk result (Appended out.old out.new self.new (spec.id_written id self.old)) }
     {
         append_id_difference(out, self.bases.id, id)?;
         self.bases.id = id;
@@ -87,8 +89,8 @@ impl Context {
 
     /// Appends a time, 0 being none.
     #[tactic(auto, unfolding(crate::specs::Writing::time_written))]
-    fn append_time(&mut self, out: &mut Vec<u8>, time: u32) -> Result<(), Memory>
-        ensures { OnOk result (Appended out.old.items out.new.items self.new (spec.time_written time self.old)) }
+    fn append_time(&mut self, out: &mut Draft, time: u32) -> Result<(), Memory>
+        ensures { OnOk result (Appended out.old out.new self.new (spec.time_written time self.old)) }
     {
         append_number_difference(out, self.bases.time, time)?;
         self.bases.time = time;
@@ -97,9 +99,9 @@ impl Context {
 
     /// Appends changeset and user, where there is a time.
     #[tactic(auto, unfolding(crate::specs::Writing::author_written))]
-    fn append_author(&mut self, out: &mut Vec<u8>, v: &Version) -> Result<(), Memory>
+    fn append_author(&mut self, out: &mut Draft, v: &Version) -> Result<(), Memory>
         requires { v.now.changeset < 2 ^ 32 }
-        ensures { OnOk result (Appended out.old.items out.new.items self.new (spec.author_written v.now self.old)) }
+        ensures { OnOk result (Appended out.old out.new self.new (spec.author_written v.now self.old)) }
     {
         match v.time() {
             None => Ok(()),
@@ -112,8 +114,8 @@ impl Context {
     }
 
     #[tactic(auto, unfolding(crate::specs::Writing::changeset_written))]
-    fn append_changeset(&mut self, out: &mut Vec<u8>, changeset: u32) -> Result<(), Memory>
-        ensures { OnOk result (Appended out.old.items out.new.items self.new (spec.changeset_written changeset self.old)) }
+    fn append_changeset(&mut self, out: &mut Draft, changeset: u32) -> Result<(), Memory>
+        ensures { OnOk result (Appended out.old out.new self.new (spec.changeset_written changeset self.old)) }
     {
         append_number_difference(out, self.bases.changeset, changeset)?;
         self.bases.changeset = changeset;
@@ -121,46 +123,56 @@ impl Context {
     }
 
     #[tactic(auto, unfolding(crate::specs::Writing::strings_written))]
-    fn append_user(&mut self, out: &mut Vec<u8>, uid: u64, user: &Text) -> Result<(), Memory>
-        ensures { OnOk result (Appended out.old.items out.new.items self.new (spec.strings_written (spec.user_entry uid user.now) self.old)) }
+    fn append_user(&mut self, out: &mut Draft, uid: u64, user: &Text) -> Result<(), Memory>
+        ensures { OnOk result (Appended out.old out.new self.new (spec.strings_written (spec.user_entry uid user.now) self.old)) }
     {
+        let name = user.as_str().as_bytes();
+        if let Some(reference) = self.table.user_reference(uid, name) {
+            return out.append_number(reference);
+        }
         self.entry.fill_user(uid, user)?;
-        self.table.append(out, &self.entry)
+        self.table.append(out, Slot::of_user(uid), &self.entry)
     }
 
     /// Appends a tag.
     #[tactic(auto, unfolding(crate::specs::Writing::strings_written))]
-    pub(crate) fn append_tag(&mut self, out: &mut Vec<u8>, tag: &Tag) -> Result<(), Memory>
-        ensures { OnOk result (Appended out.old.items out.new.items self.new (spec.tag_written tag.now self.old)) }
+    pub(crate) fn append_tag(&mut self, out: &mut Draft, tag: &Tag) -> Result<(), Memory>
+        ensures { OnOk result (Appended out.old out.new self.new (spec.tag_written tag.now self.old)) }
     {
+        let (key, value) = (tag.key.as_str().as_bytes(), tag.value.as_str().as_bytes());
+        if let Some(reference) = self.table.tag_reference(key, value) {
+            return out.append_number(reference);
+        }
         self.entry.fill_tag(tag)?;
-        self.table.append(out, &self.entry)
+        self.table
+            .append(out, Slot::of_strings(key, value), &self.entry)
     }
 
     /// Appends the string of a member: its kind and its role.
     #[tactic(auto, unfolding(crate::specs::Writing::strings_written))]
     pub(crate) fn append_role(
         &mut self,
-        out: &mut Vec<u8>,
+        out: &mut Draft,
         kind: Kind,
         role: &Text,
     ) -> Result<(), Memory>
-        ensures { OnOk result (Appended out.old.items out.new.items self.new (spec.strings_written (spec.member_entry kind role.now) self.old)) }
+        ensures { OnOk result (Appended out.old out.new self.new (spec.strings_written (spec.member_entry kind role.now) self.old)) }
     {
         self.entry.fill_member(kind, role)?;
-        self.table.append(out, &self.entry)
+        let slot = Slot::of_strings(role.as_str().as_bytes(), &[]);
+        self.table.append(out, slot, &self.entry)
     }
 
     /// Appends the id of a member.
     #[tactic(auto, unfolding(crate::specs::Writing::member_id_written))]
     pub(crate) fn append_member_id(
         &mut self,
-        out: &mut Vec<u8>,
+        out: &mut Draft,
         kind: Kind,
         id: i64,
     ) -> Result<(), Memory>
         requires { is_id id ≡ true }
-        ensures { OnOk result (Appended out.old.items out.new.items self.new (spec.member_id_written kind id self.old)) }
+        ensures { OnOk result (Appended out.old out.new self.new (spec.member_id_written kind id self.old)) }
     {
         match kind {
             Kind::Node => {
@@ -181,9 +193,9 @@ impl Context {
 
     /// Appends the reference of a way.
     #[tactic(auto, unfolding(crate::specs::Writing::reference_written))]
-    pub(crate) fn append_reference(&mut self, out: &mut Vec<u8>, id: i64) -> Result<(), Memory>
+    pub(crate) fn append_reference(&mut self, out: &mut Draft, id: i64) -> Result<(), Memory>
         requires { is_id id ≡ true }
-        ensures { OnOk result (Appended out.old.items out.new.items self.new (spec.reference_written id self.old)) }
+        ensures { OnOk result (Appended out.old out.new self.new (spec.reference_written id self.old)) }
     {
         append_id_difference(out, self.bases.reference, id)?;
         self.bases.reference = id;
@@ -192,8 +204,8 @@ impl Context {
 
     /// Appends a longitude.
     #[tactic(auto, unfolding(crate::specs::Writing::longitude_written))]
-    pub(crate) fn append_longitude(&mut self, out: &mut Vec<u8>, lon: i32) -> Result<(), Memory>
-        ensures { OnOk result (Appended out.old.items out.new.items self.new (spec.longitude_written lon self.old)) }
+    pub(crate) fn append_longitude(&mut self, out: &mut Draft, lon: i32) -> Result<(), Memory>
+        ensures { OnOk result (Appended out.old out.new self.new (spec.longitude_written lon self.old)) }
     {
         append_coordinate_difference(out, self.bases.lon, lon)?;
         self.bases.lon = lon;
@@ -202,8 +214,8 @@ impl Context {
 
     /// Appends a latitude.
     #[tactic(auto, unfolding(crate::specs::Writing::latitude_written))]
-    pub(crate) fn append_latitude(&mut self, out: &mut Vec<u8>, lat: i32) -> Result<(), Memory>
-        ensures { OnOk result (Appended out.old.items out.new.items self.new (spec.latitude_written lat self.old)) }
+    pub(crate) fn append_latitude(&mut self, out: &mut Draft, lat: i32) -> Result<(), Memory>
+        ensures { OnOk result (Appended out.old out.new self.new (spec.latitude_written lat self.old)) }
     {
         append_coordinate_difference(out, self.bases.lat, lat)?;
         self.bases.lat = lat;

@@ -1,15 +1,18 @@
 //! Entries of the string table.
 ghost use Rattle.std.specs.Prelude.{◌≡◌, ◌++◌, ◌∷◌, [], IfOk, OnOk};
+ghost use Rattle.std.specs.Bool.{OnTrue};
+ghost use Rattle.o5_codec.specs.declared.strings.Form.TheVariants.{Pair};
 ghost use Rattle.std.specs.Cmp.{decided, partial_equiv_from_equiv};
 ghost use Rattle.std.proofs.Common.{ap};
 ghost use Rattle.o5_codec.specs.Table.{is_short};
 ghost use Rattle.o5_codec.specs.Shortest.{shortest_number};
 ghost use Rattle.o5_codec.specs.Formed.{formed, same_form, same_entry, inline_bytes};
-ghost use Rattle.o5_codec.specs.Writing.{user_entry, tag_entry, member_entry};
+ghost use Rattle.o5_codec.specs.Writing.{uid_string, user_entry, tag_entry, member_entry};
 ghost use Rattle.o5_codec.specs.SameEntry.{same_entry_decides};
 
 use crate::strings::{Form, Strings};
 use crate::table::{LONGEST, is_short};
+use crate::write::draft::Draft;
 use crate::write::number::append_number;
 use osm_model::{Kind, Memory, Tag, Text};
 use std::alloc::Global;
@@ -22,17 +25,20 @@ pub(crate) struct Entry {
     form: Form,
     bytes: Vec<u8>,
     split: usize,
+    /// The user id that the first string spells, where the entry was filled as a user's.
+    uid: Option<u64>,
 }
 
 impl Model for Entry {
-    ghost use Rattle.std.specs.Prelude.{take, drop, length, ◌≤◌};
+    ghost use Rattle.std.specs.Prelude.{take, drop};
     ghost use Rattle.o5_codec.specs.Formed.{FormedEntry, formed};
+    ghost use Rattle.o5_codec.specs.EntryInside.{IsEntry};
 
     ghost Value = { FormedEntry };
 
     ghost view = { λ e. formed e.form (take e.split e.bytes.items) (drop e.split e.bytes.items) };
 
-    ghost invariant = { λ e. e.split ≤ length e.bytes.items };
+    ghost invariant = { IsEntry };
 }
 
 impl Form {
@@ -78,6 +84,7 @@ impl Entry {
             form: Form::Pair,
             bytes: Vec::new(alloc),
             split: 0,
+            uid: None,
         }
     }
 
@@ -87,6 +94,7 @@ impl Entry {
             form: Form::Pair,
             bytes: Vec::with_capacity(alloc, LONGEST)?,
             split: 0,
+            uid: None,
         })
     }
 
@@ -97,6 +105,27 @@ impl Entry {
         Strings { first, second }
     }
 
+    /// Whether it is the pair of a user's id and name.
+    #[inline(always)]
+    pub(crate) fn is_user(&self, uid: u64, name: &[u8]) -> bool
+        ensures { OnTrue result (self.now ≡ formed Pair (uid_string uid) name.now) }
+    {
+        let is_its = match self.uid {
+            Some(known) => known == uid,
+            None => false,
+        };
+        is_its && self.form.is_same(Form::Pair) && self.strings().second == name
+    }
+
+    /// Whether it is the pair of these strings.
+    #[inline(always)]
+    pub(crate) fn is_pair(&self, first: &[u8], second: &[u8]) -> bool
+        ensures { OnTrue result (self.now ≡ formed Pair first.now second.now) }
+    {
+        let strings = self.strings();
+        self.form.is_same(Form::Pair) && strings.first == first && strings.second == second
+    }
+
     /// Whether the strings are few enough bytes to be stored.
     pub(crate) fn is_short(&self) -> bool
         ensures { result ≡ is_short self.now.strings }
@@ -105,16 +134,16 @@ impl Entry {
     }
 
     /// Appends the strings inline.
-    pub(crate) fn append_inline(&self, out: &mut Vec<u8>) -> Result<(), Memory>
-        ensures { OnOk result (out.new.items ≡ out.old.items ++ inline_bytes self.now.form self.now.strings) }
+    pub(crate) fn append_inline(&self, out: &mut Draft) -> Result<(), Memory>
+        ensures { OnOk result (out.new ≡ out.old ++ inline_bytes self.now.form self.now.strings) }
     {
         let strings = self.strings();
         out.push(0)?;
-        out.extend_from_slice(strings.first)?;
+        out.append(strings.first)?;
         out.push(0)?;
         match self.form {
             Form::Pair => {
-                out.extend_from_slice(strings.second)?;
+                out.append(strings.second)?;
                 out.push(0)?;
             }
             Form::Single => {}
@@ -130,6 +159,7 @@ impl Entry {
         self.clear(other.form);
         self.extend_first(strings.first)?;
         self.extend_second(strings.second)?;
+        self.uid = other.uid;
         Ok(self)
     }
 
@@ -141,7 +171,9 @@ impl Entry {
         if uid != 0 {
             self.extend_number(uid)?;
         }
-        self.extend_second(user.as_str().as_bytes())
+        self.extend_second(user.as_str().as_bytes())?;
+        self.uid = Some(uid);
+        Ok(())
     }
 
     /// Takes the pair of a tag.
@@ -168,6 +200,7 @@ impl Entry {
         self.form = form;
         self.bytes.clear();
         self.split = 0;
+        self.uid = None;
     }
 
     /// Appends bytes to the first string, the second one being empty.
@@ -175,6 +208,7 @@ impl Entry {
         requires { self.old.strings.second ≡ [] }
         ensures { OnOk result (self.new ≡ formed self.old.form (self.old.strings.first ++ more.now) []) }
     {
+        self.uid = None;
         self.bytes.extend_from_slice(more)?;
         self.split = self.bytes.len();
         Ok(())
@@ -185,6 +219,7 @@ impl Entry {
         requires { self.old.strings.second ≡ [] }
         ensures { OnOk result (self.new ≡ formed self.old.form (self.old.strings.first ++ shortest_number number) []) }
     {
+        self.uid = None;
         let appended = append_number(&mut self.bytes, number);
         self.split = self.bytes.len();
         appended

@@ -1,12 +1,15 @@
 //! The string table of a segment that is written.
-ghost use Rattle.std.specs.Prelude.{◌≡◌, ◌-◌, ◌<◌, ◌∷◌, ◌^◌, ◌++◌, [], length, take, IfOk, OnOk, None};
+ghost use Rattle.std.specs.Prelude.{◌≡◌, ◌-◌, ◌<◌, ◌∷◌, ◌^◌, ◌++◌, [], length, take, IfOk, OnOk, None, Some, IfSome};
 ghost use Rattle.o5_codec.specs.Table.{limit};
-ghost use Rattle.o5_codec.specs.Formed.{reference_to, kept, spelled_by, kept_by};
+ghost use Rattle.o5_codec.specs.declared.strings.Form.TheVariants.{Pair};
+ghost use Rattle.o5_codec.specs.Formed.{formed, reference_to, kept, spelled_by, kept_by};
 ghost use Rattle.o5_codec.specs.Indexed.{IsNext};
+ghost use Rattle.o5_codec.specs.Writing.{uid_string};
 
 use crate::table::LIMIT;
+use crate::write::draft::Draft;
 use crate::write::entry::Entry;
-use crate::write::number::append_number;
+use crate::write::slot::{SLOTS, Slot};
 use circular_buffer::HeapCircularBuffer;
 use osm_model::Memory;
 use std::alloc::Global;
@@ -19,6 +22,8 @@ pub(crate) struct Table {
     ring: HeapCircularBuffer<Entry>,
     numbers: HashMap<Entry, u64>,
     next: u64,
+    /// For each slot, the number of the storing of the entry that was written last of those of the slot. It may be gone: what stands there is compared.
+    remembered: Vec<u64>,
     alloc: Global,
 }
 
@@ -44,6 +49,7 @@ impl Table {
             ring: HeapCircularBuffer::with_capacity(alloc, LIMIT)?,
             numbers: HashMap::new(alloc),
             next: 0,
+            remembered: Vec::from_elem(alloc, 0, SLOTS)?,
             alloc,
         })
     }
@@ -57,21 +63,79 @@ impl Table {
         self.next = 0;
     }
 
-    /// Appends an entry: its reference where it stands in the table, else its strings inline, which are stored unless they are too long.
+    /// Appends an entry, and remembers it for the slot: its reference where it stands in the table, else its strings inline, which are stored unless they are too long.
     ///
     /// # Errors
     ///
     /// For want of memory alone.
-    pub(crate) fn append(&mut self, out: &mut Vec<u8>, entry: &Entry) -> Result<(), Memory>
-        ensures bytes { OnOk result (out.new.items ≡ out.old.items ++ spelled_by entry.now (reference_to entry.now self.old)) }
+    pub(crate) fn append(
+        &mut self,
+        out: &mut Draft,
+        slot: Slot,
+        entry: &Entry,
+    ) -> Result<(), Memory>
+        ensures bytes { OnOk result (out.new ≡ out.old ++ spelled_by entry.now (reference_to entry.now self.old)) }
         ensures table { OnOk result (self.new ≡ kept_by entry.now (reference_to entry.now self.old) self.old) }
     {
         match self.reference_to(entry) {
-            Some(reference) => append_number(out, reference),
+            Some(reference) => {
+                self.remember(slot, self.next.wrapping_sub(reference));
+                out.append_number(reference)
+            }
             None => {
+                self.remember(slot, self.next);
                 entry.append_inline(out)?;
                 self.store(entry)
             }
+        }
+    }
+
+    /// The reference that names a user's entry, where it is remembered.
+    #[inline(always)]
+    pub(crate) fn user_reference(&self, uid: u64, name: &[u8]) -> Option<u64>
+        ensures { IfSome result (λ n. reference_to (formed Pair (uid_string uid) name.now) self.now ≡ Some n) }
+    {
+        let (entry, reference) = self.remembered(Slot::of_user(uid))?;
+        if entry.is_user(uid, name) {
+            Some(reference)
+        } else {
+            None
+        }
+    }
+
+    /// The reference that names a tag's entry, where it is remembered.
+    #[inline(always)]
+    pub(crate) fn tag_reference(&self, key: &[u8], value: &[u8]) -> Option<u64>
+        ensures { IfSome result (λ n. reference_to (formed Pair key.now value.now) self.now ≡ Some n) }
+    {
+        let (entry, reference) = self.remembered(Slot::of_strings(key, value))?;
+        if entry.is_pair(key, value) {
+            Some(reference)
+        } else {
+            None
+        }
+    }
+
+    /// The entry that is remembered for a slot, if it stands in the table, and its reference.
+    #[inline(always)]
+    fn remembered(&self, slot: Slot) -> Option<(&Entry, u64)>
+        ensures { IfSome result (λ x. reference_to x.0.now self.now ≡ Some x.1) }
+    {
+        let number = *self.remembered.get(slot.place())?;
+        if number >= self.next {
+            return None;
+        }
+        let before = self.next - number - 1;
+        let entry = self.ring.get(before as usize)?;
+        Some((entry, before + 1))
+    }
+
+    /// Remembers the number of a storing for a slot.
+    fn remember(&mut self, slot: Slot, number: u64)
+        ensures { self.new ≡ self.old }
+    {
+        if let Some(place) = self.remembered.get_mut(slot.place()) {
+            *place = number;
         }
     }
 

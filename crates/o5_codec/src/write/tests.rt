@@ -2,8 +2,9 @@
 ghost use Rattle.std.specs.Prelude.{◌≡◌, false};
 
 use crate::number::read_number;
+use crate::write::draft::Draft;
 use crate::write::entry::Entry;
-use crate::write::number::append_number;
+use crate::write::slot::Slot;
 use crate::write::table::Table;
 use crate::{Decoder, Encoder};
 use osm_model::{Body, Kind, Meta, Tag, Tags, Text, Version};
@@ -184,7 +185,7 @@ fn node(alloc: Global, id: i64, tags: Vec<Tag>) -> Result<Version, Fail> {
         time: None,
         changeset: 0,
         uid: 0,
-        user: Text::new(alloc),
+        user: Text::new(),
     };
     let body = Body::Node {
         lon: 0,
@@ -242,10 +243,10 @@ struct Plain {
 }
 
 impl Plain {
-    fn append(&mut self, out: &mut Vec<u8>, number: u32, entry: &Entry) -> Result<(), Fail> {
+    fn append(&mut self, out: &mut Draft, number: u32, entry: &Entry) -> Result<(), Fail> {
         for (place, other) in self.stored.iter().enumerate() {
             if *other == number {
-                return Ok(append_number(out, (self.stored.len() - place) as u64)?);
+                return Ok(out.append_number((self.stored.len() - place) as u64)?);
             }
         }
         entry.append_inline(out)?;
@@ -257,6 +258,13 @@ impl Plain {
         }
         Ok(())
     }
+}
+
+/// The bytes of a draft.
+fn all_of(alloc: Global, draft: &Draft) -> Result<Vec<u8>, Fail> {
+    let mut bytes = Vec::new(alloc);
+    draft.append_to(&mut bytes)?;
+    Ok(bytes)
 }
 
 /// As many letters as an entry may have, but two.
@@ -301,11 +309,14 @@ fn refers_as_a_plain_search_does(rt: HostRuntime) -> Result<(), Fail> {
             .wrapping_add(1);
         let number = (random >> 33) as u32 % 60_000;
         fill(alloc, &mut entry, number)?;
-        let mut written = Vec::new(alloc);
-        table.append(&mut written, &entry)?;
-        let mut expected = Vec::new(alloc);
+        let mut written = Draft::new(alloc);
+        table.append(&mut written, Slot::of_user(u64::from(number)), &entry)?;
+        let mut expected = Draft::new(alloc);
         plain.append(&mut expected, number, &entry)?;
-        assert_eq!(rt; written.as_slice(), expected.as_slice());
+        assert_eq!(rt;
+            all_of(alloc, &written)?.as_slice(),
+            all_of(alloc, &expected)?.as_slice()
+        );
     }
     assert_eq!(rt; plain.stored.len(), 15_000);
     Ok(())

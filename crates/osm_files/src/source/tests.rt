@@ -72,3 +72,19 @@ fn node_of_o5m_is_given(rt: HostRuntime) -> Result<(), Fail> {
     assert!(rt; gives(alloc, &mut source, b"")?);
     Ok(())
 }
+
+#[test]
+fn memory_of_versions_is_used_again(rt: HostRuntime) -> Result<(), Fail> {
+    let alloc = rt.alloc();
+    let file =
+        b"\xff\xe0\x04o5m2\x10\x05\x02\x01\x00\x02\x04\x10\x05\x02\x01\x00\x02\x04\x10\x05\x02\x01\x00\x02\x04\xfe";
+    let mut source = FileSource::new(alloc, 2, SliceIn::new(file))?;
+    let first = source.next()?;
+    assert_eq!(rt; first, read_line(alloc, b"n1 v1 x0.0000001 y0.0000002")?);
+    let second = source.next_reusing(first)?;
+    assert_eq!(rt; second, read_line(alloc, b"n2 v1 x0.0000002 y0.0000004")?);
+    let third = source.next_reusing(second)?;
+    assert_eq!(rt; third, read_line(alloc, b"n3 v1 x0.0000003 y0.0000006")?);
+    assert!(rt; source.next_reusing(third)?.is_none());
+    Ok(())
+}

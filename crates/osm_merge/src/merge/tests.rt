@@ -79,7 +79,7 @@ fn version(alloc: Global, (id, number, lon): Node) -> Result<Version, Fail> {
         time: None,
         changeset: 0,
         uid: 0,
-        user: Text::new(alloc),
+        user: Text::new(),
     };
     let body = Body::Node {
         lon,

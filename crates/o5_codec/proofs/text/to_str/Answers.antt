@@ -1,10 +1,11 @@
 use Rattle.std.proofs.Common.{ap}
+use Rattle.std.proofs.lemmas.Str.{IsUtf8-from_ascii}
 use Rattle.std.specs.Str.{chars}
-use Rattle.o5_codec.proofs.TextSteps.{text_read, text_refused}
+use Rattle.o5_codec.proofs.TextSteps.{text_read}
 use Rattle.o5_codec.proofs.text.to_str.Goals as goal
 
-pub returns-in-Ok : goal.returns-in-Ok
-returns-in-Ok c = text_read _ _ c.in-Ok.ensures.1 (ap chars c.in-Ok.ensures.0)
+pub from_utf8_unchecked-requires : goal.from_utf8_unchecked-requires
+from_utf8_unchecked-requires c = IsUtf8-from_ascii _ c.if-is_ascii.ensures.cases
 
-pub returns-in-Err : goal.returns-in-Err
-returns-in-Err c = text_refused _ c.in-Err.ensures
+pub returns-then-is_ascii : goal.returns-then-is_ascii
+returns-then-is_ascii c = text_read _ _ (IsUtf8-from_ascii _ c.if-is_ascii.ensures.cases) (ap chars c.from_utf8_unchecked.ensures)

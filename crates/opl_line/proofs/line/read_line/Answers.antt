@@ -20,18 +20,18 @@ pub returns-in_default : goal.returns-in_default
 returns-in_default c =
     let kept : is_skipped c.args.line.now ≡ false = search rules in
     let answer : Result (Option VersionData) OplReason = Err NotUtf8 in
-    let reading : Answers (reading_line c.args.line.now) answer = inr (not_utf8 c.args.line.now kept c.in_default.ensures.cases.0) in
+    let reading : Answers (reading_line c.args.line.now) answer = inr (not_utf8 c.args.line.now kept c.in_default.ensures) in
     record { reading = reading; spelled = tt; refused = answer_refused c.args.line.now answer reading; reason = answer_reason c.args.line.now answer reading }
 
 pub returns : goal.returns
 returns c =
     let kept : is_skipped c.args.line.now ≡ false = search rules in
     let utf8 : IsUtf8 c.args.line.now = search rules in
-    let text : c.in-Ok.text.now ≡ c.args.line.now = search rules in
+    let text : c.in-Some.text.now ≡ c.args.line.now = search rules in
     let some : VersionData → Option VersionData = λ v. Some v in
     let mapped : c.map.result ≡ as_value some c.read_version.result = search rules in
     let P : Result (Option VersionData) OplReason → Type 0 = λ r. Answers r c.map.result in
-    let Q : Result (Option VersionData) OplReason → Type 0 = Answers (as_value some (reading_version c.in-Ok.text.now)) in
+    let Q : Result (Option VersionData) OplReason → Type 0 = Answers (as_value some (reading_version c.in-Some.text.now)) in
     let reading : Answers (reading_line c.args.line.now) c.map.result =
     subst P (ap (λ t. as_value some (reading_version t)) text ∙ sym (utf8_line c.args.line.now kept utf8))
     (subst Q (sym mapped) (as_answer some _ _ c.read_version.ensures)) in

@@ -1,19 +1,15 @@
-use Rattle.std.proofs.Common.{◌≡◌, ◌-◌, ◌≤◌, sym, subst, arith, take, drop, length, length-drop}
-use Rattle.std.proofs.Math.Seq.{take-add}
+use Rattle.std.proofs.Common.{◌≡◌, ◌+◌, ◌-◌, ◌<◌, ◌^◌, List, ℕ, subst, arith, take, drop, length, length-drop}
 use Rattle.std.proofs.lemmas.List.{take_all}
-use Rattle.osm_files.specs.Output.{Appended}
-use Rattle.osm_files.proofs.Appending.{appended_on}
+use Rattle.osm_files.specs.Output.{Writes}
+use Rattle.osm_files.proofs.Appending.{writes_on}
 use Rattle.osm_files.proofs.output.write_all.Goals as goal
 
-pub writes-preserved : goal.writes-preserved
-writes-preserved g c =
-    let bytes = c.args.bytes.now in let done = c.writes.done in let count = c.in-Ok.count in
-    let rest : take (length bytes - done) (drop done bytes) ≡ drop done bytes = take_all _ _ (omega (arith, length-drop done bytes)) in
-    let within : count ≤ length (drop done bytes) = rw rest at c.in-Ok.ensures.within in
-    record {
-      within = omega (arith, within, length-drop done bytes);
-      appended =
-          subst (Appended (g.W.Output.contents c.args.out.now) (g.W.Output.contents c.write.new.self)) (sym (take-add done count bytes))
-          (appended_on _ (g.W.Output.contents c.writes.out) _ (take done bytes) (take count (drop done bytes)) c.writes.invariant.appended (rw rest at c.in-Ok.ensures.taken));
-      good = λ _. c.in-Ok.ensures.fails.1 c.if-count-gt0.true;
-    }
+pub returns-in-Ok-2-clause-wrote : goal.returns-in-Ok-2-clause-wrote
+returns-in-Ok-2-clause-wrote g c =
+    let bytes = c.args.bytes.now in
+    let count = c.in-Ok.count in
+    let rest : take (length bytes - count) (drop count bytes) ≡ drop count bytes = take_all _ _ (omega (arith, length-drop count bytes)) in
+    let short : c.args.written + length bytes < 2 ^ 62 = omega arith in
+    let wrote = subst (λ (xs : List ℕ). Writes c.args.number (g.W.Output.contents c.write.new.self) (g.W.Output.contents c.write_rest.new.out) (g.W.Output.failed c.write_rest.new.out) (c.args.written + count) xs c.write_rest.result) rest c.write_rest.ensures.wrote in
+    writes_on c.args.number (g.W.Output.contents c.args.out.now) (g.W.Output.contents c.write.new.self) (g.W.Output.contents c.write_rest.new.out) (g.W.Output.failed c.write_rest.new.out) c.args.written count bytes c.write_rest.result
+    c.in-Ok.ensures.within short c.in-Ok.ensures.taken wrote

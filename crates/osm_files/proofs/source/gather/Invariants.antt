@@ -6,9 +6,9 @@ use Rattle.osm_files.proofs.source.gather.Given as goal
 abbrev pub invariant-units : goal.invariant-units
 invariant-units g l = record {
   input : l.units.input ≡ l.fn.units.input;
-  keeps : Keeps (gathered l.fn.units.input (still_to_come l.fn.units) (l.fn.first ∷ []) []) (gathered l.fn.units.input (still_to_come l.units) (l.fn.first ∷ l.others.items) []);
+  keeps : Keeps (gathered l.fn.units.input (still_to_come l.fn.units) (l.fn.first ∷ l.fn.others.items) []) (gathered l.fn.units.input (still_to_come l.units) (l.fn.first ∷ l.others.items) []);
   group : IsGroup l.fn.first l.others.items;
-  left : units_left (still_to_come l.units) (2 ^ 62 - l.units.place) + length l.others.items ≤ units_left (still_to_come l.fn.units) (2 ^ 62 - l.fn.units.place);
+  left : units_left (still_to_come l.units) (2 ^ 62 - l.units.place) + length l.others.items ≤ units_left (still_to_come l.fn.units) (2 ^ 62 - l.fn.units.place) + length l.fn.others.items;
 }
 
 abbrev pub decreases-units : goal.decreases-units

@@ -154,8 +154,8 @@ returns-in-Err-put_new-clause-fault g c = λ told size f.
     put_why c.versions.invariant w refl c.in-Some.version at_w
     c.put_new.new.sink (g.W.Output.contents c.put_new.new.out) (g.W.Output.failed c.put_new.new.out) c.in-Err-put_new.fault c.in-Err-put_new.ensures.puts told
 
-pub returns-in-Err-next-clause-fault : goal.returns-in-Err-next-clause-fault
-returns-in-Err-next-clause-fault g c = λ told size f.
+pub returns-in-Err-next_reusing-clause-fault : goal.returns-in-Err-next_reusing-clause-fault
+returns-in-Err-next_reusing-clause-fault g c = λ told size f.
     let w = get_or c.versions.nodes 1 0 in
     let within = inside c.versions.invariant w refl in
     let at_w = get_or_default c.versions.heads w None c.index-heads-place.result within ∙ sym c.take.ensures.value ∙ c.in-Some.is in
@@ -163,8 +163,8 @@ returns-in-Err-next-clause-fault g c = λ told size f.
     let less : w < length c.versions.sources = omega (arith, within, sizes) in
     let source_is = get_or-map g.S.Source.still c.versions.sources w c.index-sources-place.result None less in
     next_why c.versions.invariant w refl c.in-Some.version at_w
-    (g.W.Output.failed c.put_new.new.out) c.in-Err-next.fault (g.S.Source.still c.next.new.self)
-    (subst (λ o. Step {A = VersionData} o (Err c.in-Err-next.fault) (g.S.Source.still c.next.new.self)) (sym source_is) c.in-Err-next.ensures.step)
+    (g.W.Output.failed c.put_new.new.out) c.in-Err-next_reusing.fault (g.S.Source.still c.next_reusing.new.self)
+    (subst (λ o. Step {A = VersionData} o (Err c.in-Err-next_reusing.fault) (g.S.Source.still c.next_reusing.new.self)) (sym source_is) c.in-Err-next_reusing.ensures.step)
     told size (sym c.versions.auto.heads) f
 
 pub returns-in-Err-put_new-clause-kept : goal.returns-in-Err-put_new-clause-kept
@@ -174,15 +174,15 @@ returns-in-Err-put_new-clause-kept g c =
     put_kept c.versions.invariant w refl c.in-Some.version at_w
     c.put_new.new.sink (g.W.Output.contents c.put_new.new.out) (g.W.Output.failed c.put_new.new.out) c.in-Err-put_new.fault c.in-Err-put_new.ensures.puts
 
-pub returns-in-Err-next-clause-kept : goal.returns-in-Err-next-clause-kept
-returns-in-Err-next-clause-kept g c =
+pub returns-in-Err-next_reusing-clause-kept : goal.returns-in-Err-next_reusing-clause-kept
+returns-in-Err-next_reusing-clause-kept g c =
     let w = get_or c.versions.nodes 1 0 in
     let at_w = get_or_default c.versions.heads w None c.index-heads-place.result (inside c.versions.invariant w refl) ∙ sym c.take.ensures.value ∙ c.in-Some.is in
     next_kept c.versions.invariant w refl c.in-Some.version at_w
     c.put_new.new.sink (g.W.Output.contents c.put_new.new.out) (g.W.Output.failed c.put_new.new.out) c.in_default-put_new.ensures.puts
 
-pub returns-in-Err-next-clause-refused : goal.returns-in-Err-next-clause-refused
-returns-in-Err-next-clause-refused g c =
+pub returns-in-Err-next_reusing-clause-refused : goal.returns-in-Err-next_reusing-clause-refused
+returns-in-Err-next_reusing-clause-refused g c =
     let w = get_or c.versions.nodes 1 0 in
     let within = inside c.versions.invariant w refl in
     let at_w = get_or_default c.versions.heads w None c.index-heads-place.result within ∙ sym c.take.ensures.value ∙ c.in-Some.is in
@@ -190,8 +190,8 @@ returns-in-Err-next-clause-refused g c =
     let less : w < length c.versions.sources = omega (arith, within, size) in
     let source_is = get_or-map g.S.Source.still c.versions.sources w c.index-sources-place.result None less in
     source_refused c.versions.invariant w refl c.in-Some.version at_w
-    c.put_new.new.sink (g.W.Output.contents c.put_new.new.out) (g.W.Output.failed c.put_new.new.out) c.in-Err-next.fault (g.S.Source.still c.next.new.self) c.in_default-put_new.ensures.puts
-    (subst (λ o. Step {A = VersionData} o (Err c.in-Err-next.fault) (g.S.Source.still c.next.new.self)) (sym source_is) c.in-Err-next.ensures.step)
+    c.put_new.new.sink (g.W.Output.contents c.put_new.new.out) (g.W.Output.failed c.put_new.new.out) c.in-Err-next_reusing.fault (g.S.Source.still c.next_reusing.new.self) c.in_default-put_new.ensures.puts
+    (subst (λ o. Step {A = VersionData} o (Err c.in-Err-next_reusing.fault) (g.S.Source.still c.next_reusing.new.self)) (sym source_is) c.in-Err-next_reusing.ensures.step)
 
 pub replay-requires-clause-tree : goal.replay-requires-clause-tree
 replay-requires-clause-tree g c =
@@ -206,9 +206,9 @@ versions-smaller g c =
     let size : length c.versions.sources ≡ length c.versions.heads = rw length-map at c.versions.invariant.size in
     let less : w < length c.versions.sources = omega (arith, within, size) in
     let left_is = get_or-map g.S.Source.left c.versions.sources w c.index-sources-place.result 0 less in
-    rw (set-set c.versions.heads w c.take.new.self c.in-Ok.next, map-set g.S.Source.left c.versions.sources w c.next.new.self)
-    (less_work c.versions.heads (map g.S.Source.left c.versions.sources) w c.in-Some.version c.in-Ok.next (g.S.Source.left c.next.new.self) at_w (rw length-map less)
-    (λ some. subst (λ n. g.S.Source.left c.next.new.self < n) (sym left_is) (c.in-Ok.ensures.fewer some)))
+    rw (set-set c.versions.heads w c.take.new.self c.in-Ok.next, map-set g.S.Source.left c.versions.sources w c.next_reusing.new.self)
+    (less_work c.versions.heads (map g.S.Source.left c.versions.sources) w c.in-Some.version c.in-Ok.next (g.S.Source.left c.next_reusing.new.self) at_w (rw length-map less)
+    (λ some. subst (λ n. g.S.Source.left c.next_reusing.new.self < n) (sym left_is) (c.in-Ok.ensures.fewer some)))
 
 pub versions-preserved : goal.versions-preserved
 versions-preserved g c =
@@ -220,12 +220,12 @@ versions-preserved g c =
     let source_is = get_or-map g.S.Source.still c.versions.sources w c.index-sources-place.result None less in
     let once = set-set c.versions.heads w c.take.new.self c.in-Ok.next in
     let read : c.put_new.new.counts.read ≡ capped (c.versions.counts.read + 1) = c.put_new.ensures.read ∙ c.saturating_add.ensures in
-    rw (set-set c.versions.heads w c.take.new.self c.in-Ok.next, map-set g.S.Source.still c.versions.sources w c.next.new.self)
+    rw (set-set c.versions.heads w c.take.new.self c.in-Ok.next, map-set g.S.Source.still c.versions.sources w c.next_reusing.new.self)
     (run_more c.versions.invariant w refl c.in-Some.version at_w
-    c.replay.new.nodes c.put_new.new.sink (g.W.Output.contents c.put_new.new.out) (g.W.Output.failed c.put_new.new.out) c.put_new.new.last c.in-Ok.next (g.S.Source.still c.next.new.self)
+    c.replay.new.nodes c.put_new.new.sink (g.W.Output.contents c.put_new.new.out) (g.W.Output.failed c.put_new.new.out) c.put_new.new.last c.in-Ok.next (g.S.Source.still c.next_reusing.new.self)
     c.put_new.new.counts.read c.put_new.new.counts.written c.put_new.new.counts.compared c.replay.new.compared
     c.in_default-put_new.ensures.puts c.in_default-put_new.ensures.last
-    (subst (λ o. Step o (Ok c.in-Ok.next) (g.S.Source.still c.next.new.self)) (sym source_is) c.in-Ok.ensures.step)
+    (subst (λ o. Step o (Ok c.in-Ok.next) (g.S.Source.still c.next_reusing.new.self)) (sym source_is) c.in-Ok.ensures.step)
     (rw once at c.replay.ensures.tree)
     read
     c.in_default-put_new.ensures.written

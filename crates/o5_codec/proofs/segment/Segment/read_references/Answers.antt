@@ -8,11 +8,11 @@ use Rattle.o5_codec.proofs.ItemSteps.{items_begin, items_end, items_more, items_
 use Rattle.o5_codec.proofs.segment.Segment.read_references.Goals as goal
 
 pub loop-rest-init : goal.loop-rest-init
-loop-rest-init c = rw c.new-ids.ensures.items (items_begin reference_at c.args.self.now c.args.bytes.now)
+loop-rest-init c = rw c.in_ok-ids.ensures.items (items_begin reference_at c.args.self.now c.args.bytes.now)
 
 pub returns-in_err-id : goal.returns-in_err-id
 returns-in_err-id c =
-    let p = err_from_is_err_and c.from_residual.result c.from_residual.ensures.1 in
+    let p = err_from_is_err_and c.from_residual-in_err-id.result c.from_residual-in_err-id.ensures.1 in
     rw (p.1, p.2) (items_wanting reference_at _ _ _ _ _ _ c.loop-rest.invariant (filled_by_test _ c.loop-rest-test.ensures) (inr c.in_err-id.ensures.value))
 
 pub loop-rest-preserved : goal.loop-rest-preserved

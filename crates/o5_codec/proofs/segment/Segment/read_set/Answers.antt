@@ -1,28 +1,21 @@
-use Rattle.std.proofs.Common.{◌≡◌, ◌∙◌, ap, Ok, inl, inr, to_z, of_z, w64, rules}
-use Rattle.osm_model.specs.declared.fault.ValueFault.TheVariants as fault
-use Rattle.o5_codec.specs.Body.{set_at}
-use Rattle.o5_codec.proofs.AnswerSteps.{read_next, not_refused, one_value}
-use Rattle.o5_codec.proofs.SoundSets.{version_made}
+use Rattle.std.proofs.Common.{◌≡◌, sym, to_z, of_z, w64, rules}
+use Rattle.o5_codec.proofs.SoundSets.{set_faultless}
 use Rattle.o5_codec.proofs.segment.Segment.read_set.Goals as goal
 
-pub want_of_memory-requires : goal.want_of_memory-requires
-want_of_memory-requires c =
-    let made = version_made c.args.kind c.args.self.now c.args.content.now _ _ _ c.requires c.in_ok-id.ensures c.in_ok-meta.ensures c.in_ok-body.ensures in
+pub of_sound_data_in-requires : goal.of_sound_data_in-requires
+of_sound_data_in-requires c =
     let same : to_z w64 (of_z w64 c.in_ok-id.id) ≡ c.in_ok-id.id = search rules in
-    elim c.in-Err.ensures.value as (λ _. c.in-Err.fault ≡ fault.Memory) [
-      | inl memory ↦ memory
-      | inr refused ↦ absurd (not_refused _ _ _ made.0 (rw same at refused))
-    ]
+    rw (sym same) at (set_faultless c.args.kind c.args.self.now c.args.content.now _ _ _ c.requires c.in_ok-id.ensures c.in_ok-meta.ensures c.in_ok-body.ensures).0
 
-pub returns-in-Ok-clause-value : goal.returns-in-Ok-clause-value
-unfolding set_at
-returns-in-Ok-clause-value c =
-    let made = version_made c.args.kind c.args.self.now c.args.content.now _ _ _ c.requires c.in_ok-id.ensures c.in_ok-meta.ensures c.in_ok-body.ensures in
+pub of_sound_data-requires : goal.of_sound_data-requires
+of_sound_data-requires c =
     let same : to_z w64 (of_z w64 c.in_ok-id.id) ≡ c.in_ok-id.id = search rules in
-    let version = one_value _ _ _ made.0 (rw same at c.in-Ok.ensures.value) in
-    read_next _ _ _ c.in_ok-id.ensures ∙ read_next _ _ _ c.in_ok-meta.ensures ∙ read_next _ _ _ c.in_ok-body.ensures
-    ∙ ap (λ v. Ok (v, c.read_body.new.self)) version
+    rw (sym same) at (set_faultless c.args.kind c.args.self.now c.args.content.now _ _ _ c.requires c.in_ok-id.ensures c.in_ok-meta.ensures c.in_ok-body.ensures).0
 
-pub returns-in-Ok-clause-sound : goal.returns-in-Ok-clause-sound
-returns-in-Ok-clause-sound c =
-    (version_made c.args.kind c.args.self.now c.args.content.now _ _ _ c.requires c.in_ok-id.ensures c.in_ok-meta.ensures c.in_ok-body.ensures).1
+pub returns-in-Some-clause-sound : goal.returns-in-Some-clause-sound
+returns-in-Some-clause-sound c =
+    (set_faultless c.args.kind c.args.self.now c.args.content.now _ _ _ c.requires c.in_ok-id.ensures c.in_ok-meta.ensures c.in_ok-body.ensures).1
+
+pub returns-in_ok-of_sound_data-in-None-clause-sound : goal.returns-in_ok-of_sound_data-in-None-clause-sound
+returns-in_ok-of_sound_data-in-None-clause-sound c =
+    (set_faultless c.args.kind c.args.self.now c.args.content.now _ _ _ c.requires c.in_ok-id.ensures c.in_ok-meta.ensures c.in_ok-body.ensures).1

@@ -1,7 +1,7 @@
 use Rattle.std.proofs.Common.{ap, sym, ◌∙◌}
-use Rattle.std.specs.Str.{encode_utf8_all}
-use Rattle.osm_model.proofs.TextLaws.{text_bytes}
+use Rattle.std.specs.Str.{chars, encode_utf8_all}
+use Rattle.std.proofs.lemmas.Str.{encodes-chars}
 use Rattle.osm_model.proofs.text.Text.as_str.Goals as goal
 
 pub returns-clause-bytes : goal.returns-clause-bytes
-returns-clause-bytes c = c.as_str.ensures.value ∙ sym (text_bytes c.self.inside.string) ∙ ap encode_utf8_all c.self.view_is
+returns-clause-bytes c = sym (encodes-chars _ c.as_str.utf8) ∙ ap encode_utf8_all (ap chars c.as_str.ensures ∙ c.self.view_is)

@@ -4,4 +4,4 @@ use Rattle.o5_codec.proofs.TurnSteps.{Turns}
 use Rattle.o5_codec.proofs.write.context.Context.append_each_reference.Given as goal
 
 abbrev pub invariant-loop-id : goal.invariant-loop-id
-invariant-loop-id l = Turns reference_written l.ids (drop l.id-index l.ids) l.fn.out.items l.out.items l.fn.self l.self
+invariant-loop-id l = Turns reference_written l.ids (drop l.id-index l.ids) l.fn.out l.out l.fn.self l.self

@@ -1,0 +1,134 @@
+//! Bytes of a data set that are being written.
+ghost use Rattle.std.specs.Prelude.{◌≡◌, ◌++◌, ◌∷◌, [], length, OnOk, IfSome};
+ghost use Rattle.o5_codec.specs.Shortest.{shortest_number};
+
+use crate::write::piece::{Piece, ROOM};
+use osm_model::Memory;
+use std::alloc::Global;
+use std::marker::Model;
+
+/// The bytes that a number has at most.
+const LONGEST_NUMBER: usize = 10;
+
+/// Bytes that grow at their end, whose last ones stand in a piece. Contracts see all of them.
+#[derive(Drop)]
+pub(crate) struct Draft {
+    front: Vec<u8>,
+    piece: Piece,
+}
+
+impl Model for Draft {
+    ghost use Rattle.std.specs.Prelude.{List, ℕ, ◌++◌};
+    ghost use Rattle.o5_codec.specs.Piece.{filled};
+
+    ghost Value = { List ℕ };
+
+    ghost view = { λ d. d.front.items ++ filled d.piece };
+}
+
+impl Draft {
+    /// A draft without bytes.
+    pub(crate) fn new(alloc: Global) -> Draft
+        ensures { result ≡ [] }
+    {
+        Draft {
+            front: Vec::new(alloc),
+            piece: Piece::new(),
+        }
+    }
+
+    /// Lets all bytes go.
+    pub(crate) fn clear(&mut self)
+        ensures { self.new ≡ [] }
+    {
+        self.front.clear();
+        self.piece.clear();
+    }
+
+    /// How many bytes there are.
+    pub(crate) fn len(&self) -> u64
+        ensures { result ≡ length self.now }
+    {
+        self.front.len() as u64 + self.piece.len() as u64
+    }
+
+    /// All bytes, where they are few enough to stand in the piece alone.
+    pub(crate) fn as_piece(&self) -> Option<&[u8]>
+        ensures { IfSome result (λ bytes. bytes.now ≡ self.now) }
+    {
+        if self.front.is_empty() {
+            Some(self.piece.as_slice())
+        } else {
+            None
+        }
+    }
+
+    /// Appends all bytes to others.
+    ///
+    /// # Errors
+    ///
+    /// For want of memory alone; a part of them may then stand there.
+    pub(crate) fn append_to(&self, out: &mut Vec<u8>) -> Result<(), Memory>
+        ensures { OnOk result (out.new.items ≡ out.old.items ++ self.now) }
+    {
+        out.extend_from_slice(self.front.as_slice())?;
+        out.extend_from_slice(self.piece.as_slice())?;
+        Ok(())
+    }
+
+    /// Appends an unsigned number.
+    ///
+    /// # Errors
+    ///
+    /// For want of memory alone.
+    #[inline(always)]
+    pub(crate) fn append_number(&mut self, number: u64) -> Result<(), Memory>
+        ensures { OnOk result (self.new ≡ self.old ++ shortest_number number) }
+    {
+        self.piece.make_room(LONGEST_NUMBER, &mut self.front)?;
+        self.piece.append_number(number);
+        Ok(())
+    }
+
+    /// Appends a byte.
+    ///
+    /// # Errors
+    ///
+    /// For want of memory alone.
+    pub(crate) fn push(&mut self, byte: u8) -> Result<(), Memory>
+        ensures { OnOk result (self.new ≡ self.old ++ byte ∷ []) }
+    {
+        self.piece.make_room(1, &mut self.front)?;
+        self.piece.push(byte);
+        Ok(())
+    }
+
+    /// Appends bytes.
+    ///
+    /// # Errors
+    ///
+    /// For want of memory alone.
+    pub(crate) fn append(&mut self, bytes: &[u8]) -> Result<(), Memory>
+        ensures { OnOk result (self.new ≡ self.old ++ bytes.now) }
+    {
+        if bytes.len() <= ROOM - self.piece.len() {
+            self.piece.append(bytes);
+            return Ok(());
+        }
+        self.piece.flush(&mut self.front)?;
+        self.front.extend_from_slice(bytes)?;
+        Ok(())
+    }
+
+    /// Appends all bytes of another draft.
+    ///
+    /// # Errors
+    ///
+    /// For want of memory alone; a part of them may then stand there.
+    pub(crate) fn append_draft(&mut self, other: &Draft) -> Result<(), Memory>
+        ensures { OnOk result (self.new ≡ self.old ++ other.now) }
+    {
+        self.append(other.front.as_slice())?;
+        self.append(other.piece.as_slice())
+    }
+}

@@ -1,0 +1,43 @@
+-- Sixty-four bytes that are ASCII.
+use Rattle.std.proofs.Common.{◌≡◌, ℕ, zero, suc, ◌+◌, ◌-◌, ◌%◌, ◌^◌, ◌<◌, ◌≤◌, not, cond, leb, List, [], ◌∷◌, refl, length, get_or, map, replicate, sym, ap, ◌∙◌, arith, inl, inr}
+use Rattle.std.proofs.lemmas.Bool.{cases_lt, leb-false}
+use Rattle.std.proofs.lemmas.Simd.{leading_from_mask_l, run_in_chunk_fails}
+use Rattle.std.proofs.lemmas.Str.Ascii.{IsAscii-from_reads}
+use Rattle.std.specs.List.{prefix_len}
+use Rattle.std.specs.Str.{IsAscii}
+use lib.Lanes.{chunk, zip2, mask_l, top}
+use Rattle.opl_line.proofs.LaneLaws.{marked}
+
+-- each byte from a place on and below another is ASCII
+abbrev pub AsciiBetween : List ℕ → ℕ → ℕ → Type 0
+AsciiBetween bytes from end = (place : ℕ) → from ≤ place → place < end → get_or bytes place 0 < 128
+
+-- one value beside each of a list
+splat_left : {X Y : Type 0} (f : ℕ → X → Y) (c : ℕ) (v : List X) (n : ℕ) → length v ≡ n → zip2 f (replicate n c) v ≡ map (f c) v
+splat_left f c [] zero e = refl
+splat_left f c [] (suc n) e = absurd (omega (arith, e))
+splat_left f c (x ∷ xs) zero e = absurd (omega (arith, e))
+splat_left f c (x ∷ xs) (suc n) e = ap (λ rest. f c x ∷ rest) (splat_left f c xs n (omega (arith, e)))
+
+-- the mask of the bytes that aren't
+module _ (v : List ℕ) (long : length v ≡ 64) where
+  abbrev pub highs : ℕ
+  highs = mask_l (map (top 7) (zip2 (λ x y. cond (leb x y) 255 0) (replicate 64 128) v)) % 2 ^ 64
+
+  pub none_high : highs ≡ 0 → 64 ≡ prefix_len (λ b. not (leb 128 b)) v
+  none_high none =
+      let told : highs ≡ mask_l (map (leb 128) v) = marked (leb 128) v (splat_left (λ x y. cond (leb x y) 255 0) 128 v 64 long) (omega (arith, long)) in
+      sym (leading_from_mask_l (leb 128) v (sym told ∙ none) ∙ long)
+
+pub ascii_there : (bytes : List ℕ) (from : ℕ) → from + 64 ≤ length bytes → 64 ≡ prefix_len (λ b. not (leb 128 b)) (chunk from 64 bytes) → AsciiBetween bytes from (from + 64)
+ascii_there bytes from room counted place late less = leb-false 128 _ (run_in_chunk_fails (leb 128) bytes from 64 64 0 room counted place late less)
+
+pub ascii_more : (bytes : List ℕ) (seen : ℕ) → AsciiBetween bytes 0 seen → AsciiBetween bytes seen (seen + 64) → AsciiBetween bytes 0 (seen + 64)
+ascii_more bytes seen front more place low less = elim (cases_lt place seen) [ inl early ↦ front place low early | inr late ↦ more place late less ]
+
+pub ascii_whole : (bytes : List ℕ) (seen : ℕ) → 64 ≤ length bytes → length bytes ≤ seen + 64 → AsciiBetween bytes 0 seen → AsciiBetween bytes (length bytes - 64) (length bytes - 64 + 64) → IsAscii bytes
+ascii_whole bytes seen some few front last =
+    IsAscii-from_reads bytes (length bytes) (omega arith) (λ place less. elim (cases_lt place seen) [
+      | inl early ↦ front place (omega arith) early
+      | inr late ↦ last place (omega (arith, few, late)) (omega (arith, some, less))
+    ])

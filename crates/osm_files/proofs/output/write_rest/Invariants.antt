@@ -1,0 +1,13 @@
+use Rattle.std.proofs.Common.{◌≡◌, ◌-◌, ◌<◌, ◌≤◌, false, length, take}
+use Rattle.osm_files.specs.Output.{Appended}
+use Rattle.osm_files.proofs.output.write_rest.Given as goal
+
+abbrev pub invariant-writes : goal.invariant-writes
+invariant-writes g l = record {
+  within : l.done ≤ length l.bytes;
+  appended : Appended (g.W.Output.contents l.fn.out) (g.W.Output.contents l.out) (take l.done l.bytes);
+  good : 0 < l.done → g.W.Output.failed l.out ≡ false;
+}
+
+abbrev pub decreases-writes : goal.decreases-writes
+decreases-writes g l = length l.bytes - l.done

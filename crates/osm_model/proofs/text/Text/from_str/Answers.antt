@@ -1,0 +1,7 @@
+use Rattle.std.proofs.Common.{ap, ◌∙◌}
+use Rattle.std.specs.Str.{chars, encode_utf8_all}
+use Rattle.std.proofs.lemmas.Str.{encodes-chars}
+use Rattle.osm_model.proofs.text.Text.from_str.Goals as goal
+
+pub returns-in-Ok-clause-bytes : goal.returns-in-Ok-clause-bytes
+returns-in-Ok-clause-bytes c = ap (λ bytes. encode_utf8_all (chars bytes)) c.in-Ok.ensures.ok ∙ encodes-chars _ c.utf8.characters

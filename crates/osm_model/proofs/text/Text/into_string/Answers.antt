@@ -1,7 +1,0 @@
-use Rattle.std.proofs.Common.{ap, sym, ◌∙◌}
-use Rattle.std.specs.Str.{encode_utf8_all}
-use Rattle.osm_model.proofs.TextLaws.{text_bytes}
-use Rattle.osm_model.proofs.text.Text.into_string.Goals as goal
-
-pub returns-clause-bytes : goal.returns-clause-bytes
-returns-clause-bytes c = sym (text_bytes c.self.inside.string) ∙ ap encode_utf8_all c.self.view_is
