@@ -1,5 +1,5 @@
 -- The loops over lists that go to the end of some bytes.
-use Rattle.std.proofs.Common.{◌≡◌, ℕ, suc, ◌+◌, ◌-◌, ◌<◌, ◌≤◌, ◌⊎◌, inl, inr, List, [], ◌∷◌, ◌++◌, length, refl, ap, sym, ◌∙◌, arith, append_assoc, length-append, false, true, eqb, Result, Ok, Err}
+use Rattle.std.proofs.Common.{◌≡◌, ℕ, suc, ◌+◌, ◌-◌, ◌<◌, ◌≤◌, ◌⊎◌, inl, inr, List, [], ◌∷◌, ◌++◌, length, refl, ap, sym, subst, ◌∙◌, arith, append_assoc, length-append, false, true, eqb, Result, Ok, Err}
 use Rattle.std.proofs.lemmas.Bool.Decides.{nat_tests}
 use Rattle.std.proofs.lemmas.List.{append-nil}
 use Rattle.o5_codec.specs.declared.reason.O5Reason.{O5Reason}
@@ -7,7 +7,7 @@ use Rattle.o5_codec.specs.declared.reason.O5Reason.TheVariants.{Memory}
 use Rattle.o5_codec.specs.declared.segment.Segment.{Segment}
 use Rattle.o5_codec.specs.Answer.{and_then}
 use Rattle.o5_codec.specs.Segment.{Step}
-use Rattle.o5_codec.specs.Items.{items_up_to, items_at}
+use Rattle.o5_codec.specs.Items.{items_up_to, items_at, and_one_more}
 
 module _ {X : Type 0} where
   -- items behind those that were read
@@ -75,6 +75,35 @@ module _ {X : Type 0} (item_at : Segment → List ℕ → Step X) where
       (reason ≡ Memory) ⊎ (items_at item_at start bytes ≡ Err reason)
   items_wanting start bytes done s rest reason h some (inl memory) = inl memory
   items_wanting start bytes done s rest reason h some (inr is) = inr (items_refused start bytes done s rest reason h some is)
+
+  abbrev payload : {Y : Type 0} → Y → Result Y O5Reason → Y
+  payload y (Ok x) = x
+  payload y (Err reason) = y
+
+  -- what was read where a list has one item more
+  one_more : (done : List X) (reading : Result (X × Segment × List ℕ) O5Reason) (list : List X) (next : Segment) (after : List ℕ) →
+      and_one_more done reading ≡ Ok (list, next, after) → (x : X) × (reading ≡ Ok (x, next, after)) × (done ++ x ∷ [] ≡ list)
+  one_more done (Ok x) list next after e =
+      let same = ap (payload (done ++ x.0 ∷ [], x.1, x.2)) e in
+      (x.0, ap (λ (y : List X × Segment × List ℕ). Ok (x.0, y.1, y.2)) same, ap (λ (y : List X × Segment × List ℕ). y.0) same)
+  one_more done (Err reason) list next after e = cc
+
+  no_more : (done : List X) (reading : Result (X × Segment × List ℕ) O5Reason) (reason : O5Reason) → and_one_more done reading ≡ Err reason → reading ≡ Err reason
+  no_more done (Ok x) reason e = cc
+  no_more done (Err r) reason e = cc
+
+  pub items_added : (start : Segment) (bytes : List ℕ) (done : List X) (s : Segment) (rest : List ℕ) (list : List X) (next : Segment) (after : List ℕ) →
+      HasItems item_at start bytes done s rest → and_one_more done (item_at s rest) ≡ Ok (list, next, after) → length after < length rest →
+      HasItems item_at start bytes list next after
+  items_added start bytes done s rest list next after h is short =
+      let one = one_more done (item_at s rest) list next after is in
+      subst (λ (xs : List X). HasItems item_at start bytes xs next after) one.2 (items_more start bytes done s rest one.0 next after h one.1 short)
+
+  pub items_not_added : (start : Segment) (bytes : List ℕ) (done : List X) (s : Segment) (rest : List ℕ) (reason : O5Reason) →
+      HasItems item_at start bytes done s rest → (rest ≡ [] → ⊥) → (reason ≡ Memory) ⊎ (and_one_more done (item_at s rest) ≡ Err reason) →
+      (reason ≡ Memory) ⊎ (items_at item_at start bytes ≡ Err reason)
+  items_not_added start bytes done s rest reason h some (inl memory) = inl memory
+  items_not_added start bytes done s rest reason h some (inr is) = inr (items_refused start bytes done s rest reason h some (no_more done (item_at s rest) reason is))
 
 -- what the test of the loop says
 pub filled_by_test : {X : Type 0} (xs : List X) → false ≡ eqb (length xs) 0 → xs ≡ [] → ⊥

@@ -1,5 +1,5 @@
 -- Lists that go to the end of some bytes.
-use Rattle.std.specs.Prelude.{ℕ, zero, suc, List, [], ◌∷◌, length, Result, Ok, Err}
+use Rattle.std.specs.Prelude.{ℕ, zero, suc, List, [], ◌∷◌, ◌++◌, length, Result, Ok, Err}
 use Rattle.o5_codec.specs.declared.reason.O5Reason.{O5Reason}
 use Rattle.o5_codec.specs.declared.reason.O5Reason.TheVariants.{BadText}
 use Rattle.o5_codec.specs.declared.segment.Segment.{Segment}
@@ -16,3 +16,7 @@ module _ {X : Type 0} (item_at : Segment → List ℕ → Step X) where
   -- items to the end of the bytes, and the segment behind them
   unfoldable pub items_at : Segment → List ℕ → Result (List X × Segment) O5Reason
   items_at s bytes = items_up_to (length bytes) s bytes
+
+-- a list with one item more, and the segment and the bytes behind it
+abbrev pub and_one_more : {X : Type 0} → List X → Result (X × Segment × List ℕ) O5Reason → Result (List X × Segment × List ℕ) O5Reason
+and_one_more done reading = and_then reading (λ x. Ok (done ++ x.0 ∷ [], x.1, x.2))

@@ -76,9 +76,12 @@ user_entry uid user = formed Pair (uid_string uid) (encode_utf8_all user)
 abbrev pub tag_entry : Tag → FormedEntry
 tag_entry tag = formed Pair (encode_utf8_all tag.key) (encode_utf8_all tag.value)
 
--- the kind as a digit, and the role
+-- the digit of a member's kind, and behind it the bytes of its role
+abbrev pub member_string : Kind → List ℕ → List ℕ
+member_string k role = (48 + kind_rank k) ∷ role
+
 abbrev pub member_entry : Kind → List ℕ → FormedEntry
-member_entry k role = formed Single ((48 + kind_rank k) ∷ encode_utf8_all role) []
+member_entry k role = formed Single (member_string k (encode_utf8_all role)) []
 
 abbrev pub tag_written : Tag → Step
 tag_written tag = strings_written (tag_entry tag)

@@ -1,12 +1,12 @@
 //! The bodies of data sets.
 ghost use Rattle.std.specs.Prelude.{◌≡◌, ◌<◌, length, IfOk};
 ghost use Rattle.o5_codec.specs.Answer.{Gives, Answers};
-ghost use Rattle.o5_codec.specs.Items.{items_at};
+ghost use Rattle.o5_codec.specs.Items.{items_at, and_one_more};
 ghost use Rattle.o5_codec.specs.Body as spec;
 
 use crate::O5Reason;
 use crate::base::{Bases, moved_coordinate, moved_id};
-use crate::number::{read_number, read_signed};
+use crate::number::{count_ended, read_number, read_signed};
 use crate::segment::{ListsSeen, Segment};
 use crate::strings::{Form, read_spelled};
 use crate::text::to_text;
@@ -134,8 +134,7 @@ impl Segment {
     fn read_references(&mut self, bytes: &[u8]) -> Result<References, O5Reason>
         ensures { Answers (λ ids. (ids, self.new)) (items_at spec.reference_at self.old bytes.now) result }
     {
-        // Most references take two bytes or more; those that don't make the vector grow.
-        let mut ids = Vec::with_capacity(self.table.allocator(), bytes.len() / 2)?;
+        let mut ids = Vec::with_capacity(self.table.allocator(), count_ended(bytes))?;
         let mut rest = bytes;
         while !rest.is_empty() {
             let (id, behind) = self.read_reference(rest)?;
@@ -205,22 +204,22 @@ impl Segment {
         let mut tags = Vec::new(self.table.allocator());
         let mut rest = bytes;
         while !rest.is_empty() {
-            let (tag, behind) = self.read_tag(rest)?;
-            tags.push(tag)?;
-            rest = behind;
+            rest = self.add_tag(rest, &mut tags)?;
         }
         Ok(Tags::from_vec(tags))
     }
 
+    /// Adds a tag to a list, and answers the bytes behind it. Handed on by results, a tag was moved four times.
+    #[inline(always)]
     #[tactic(auto, unfolding(crate::specs::Body::tag_at, crate::specs::Strings::strings_at))]
-    fn read_tag<'a>(&mut self, bytes: &'a [u8]) -> Result<(Tag, &'a [u8]), O5Reason>
-        ensures value { Answers (λ x. (x.0, self.new, x.1.now)) (spec.tag_at self.old bytes.now) result }
-        ensures shorter { IfOk result (λ x. length x.1.now < length bytes.now) }
+    fn add_tag<'a>(&mut self, bytes: &'a [u8], tags: &mut Vec<Tag>) -> Result<&'a [u8], O5Reason>
+        ensures value { Answers (λ rest. (tags.new.items, self.new, rest.now)) (and_one_more tags.old.items (spec.tag_at self.old bytes.now)) result }
+        ensures shorter { IfOk result (λ rest. length rest.now < length bytes.now) }
     {
         let (spelled, rest) = read_spelled(Form::Pair, bytes)?;
         self.table.store(&spelled)?;
-        let tag = self.table.tag(&spelled)?;
-        Ok((tag, rest))
+        self.table.add_tag(&spelled, tags)?;
+        Ok(rest)
     }
 }
 

@@ -75,6 +75,7 @@ impl Decoder {
     }
 
     /// Takes back a version that isn't needed any more. The next one takes its memory, so that none is asked for.
+    #[inline(always)]
     pub fn reuse(&mut self, version: Version)
         ensures { self.new ≡ self.old }
     {
@@ -126,9 +127,7 @@ impl Segment {
         let (meta, rest) = self.read_meta(rest)?;
         let body = self.read_body(kind, rest)?;
         // What a data set says is within all ranges, so that memory alone can be wanting.
-        match spare.take() {
-            Some(spare) => Ok(Version::of_sound_data_in(spare, id, meta, body)),
-            None => Ok(Version::of_sound_data(self.table.allocator(), id, meta, body)?),
-        }
+        let alloc = self.table.allocator();
+        Ok(Version::of_sound_data_reusing(alloc, spare, id, meta, body)?)
     }
 }

@@ -114,6 +114,11 @@ fn read_groups(bytes: &[u8]) -> Result<(u64, &[u8]), O5Reason>
     Ok((value + last * weight, &bytes[10..]))
 }
 
+/// How many numbers end in these bytes.
+pub(crate) fn count_ended(bytes: &[u8]) -> usize {
+    bytes.iter().filter(|byte| **byte < 128).count()
+}
+
 /// The signed number at the front, and the bytes behind it.
 ///
 /// # Errors

@@ -1,13 +1,13 @@
 //! The string table of a segment.
 ghost use Rattle.std.specs.Prelude.{◌≡◌, [], ◌∷◌, take, IfOk, OnOk, IsTrue, option_copied};
-ghost use Rattle.o5_codec.specs.Answer.{Gives, Answers, and_then};
+ghost use Rattle.o5_codec.specs.Answer.{Gives, Answers, and_then, and_added};
 ghost use Rattle.o5_codec.specs.Table.{limit, is_short, stored, entry_at};
 ghost use Rattle.o5_codec.specs.Text.{tag_of, user_of};
 ghost use Rattle.o5_codec.specs.Strings.{entry_of, strings_of, table_after};
 
 use crate::O5Reason;
 use crate::strings::{Spelled, Strings};
-use crate::text::{known_text, known_uid, to_tag, to_user};
+use crate::text::{add_tag, known_text, known_uid, to_user};
 use circular_buffer::HeapCircularBuffer;
 use osm_model::{Memory, Tag, Text};
 use std::alloc::Global;
@@ -87,21 +87,21 @@ impl Stored {
         }
     }
 
-    /// The tag.
+    /// Adds the tag to a list.
     ///
     /// # Errors
     ///
-    /// As for [`to_tag`].
+    /// As for [`add_tag`].
     #[inline(always)]
-    fn tag(&self, alloc: Global) -> Result<Tag, O5Reason>
-        ensures { Answers (λ tag. tag) (tag_of self.now) result }
+    fn add_tag(&self, alloc: Global, tags: &mut Vec<Tag>) -> Result<(), O5Reason>
+        ensures { Answers (λ _. tags.new.items) (and_added tags.old.items (tag_of self.now)) result }
     {
         match (&self.first, &self.second) {
-            (Some(key), Some(value)) => Ok(Tag {
-                key: key.copy()?,
-                value: value.copy()?,
-            }),
-            _ => to_tag(alloc, &self.strings()),
+            (Some(key), Some(value)) => {
+                let (key, value) = (key.copy()?, value.copy()?);
+                Ok(tags.push(Tag { key, value })?)
+            }
+            _ => add_tag(alloc, &self.strings(), tags),
         }
     }
 }
@@ -213,19 +213,19 @@ impl Table {
         }
     }
 
-    /// The tag of strings that stand inline or that a reference names.
+    /// Adds the tag of strings that stand inline or that a reference names to a list.
     ///
     /// # Errors
     ///
-    /// `BadReference` where the table has no such entry, else as for [`to_tag`].
+    /// `BadReference` where the table has no such entry, else as for [`add_tag`].
     #[inline(always)]
-    pub(crate) fn tag(&self, spelled: &Spelled<'_>) -> Result<Tag, O5Reason>
-        ensures { Answers (λ tag. tag) (and_then (strings_of self.now spelled.now) tag_of) result }
+    pub(crate) fn add_tag(&self, spelled: &Spelled<'_>, tags: &mut Vec<Tag>) -> Result<(), O5Reason>
+        ensures { Answers (λ _. tags.new.items) (and_added tags.old.items (and_then (strings_of self.now spelled.now) tag_of)) result }
     {
         match spelled {
-            Spelled::Inline(strings) => to_tag(self.allocator(), strings),
+            Spelled::Inline(strings) => add_tag(self.allocator(), strings, tags),
             Spelled::Reference(reference) => match self.get(*reference) {
-                Some(entry) => entry.tag(self.allocator()),
+                Some(entry) => entry.add_tag(self.allocator(), tags),
                 None => Err(O5Reason::BadReference),
             },
         }

@@ -1,7 +1,7 @@
 //! Texts in the strings of data sets.
 ghost use Rattle.std.specs.Prelude.{◌≡◌, Ok, IfOk, IfSome};
 ghost use Rattle.std.specs.Str.{chars};
-ghost use Rattle.o5_codec.specs.Answer.{Gives, Answers};
+ghost use Rattle.o5_codec.specs.Answer.{Gives, Answers, and_added};
 ghost use Rattle.o5_codec.specs.Text.{text_of, tag_of, uid_of, user_of};
 
 use crate::O5Reason;
@@ -52,12 +52,29 @@ fn any_to_str(bytes: &[u8]) -> Result<&str, O5Reason>
 ///
 /// As for [`to_text`].
 #[tactic(auto, unfolding(crate::specs::Text::tag_of))]
-pub(crate) fn to_tag(alloc: Global, strings: &Strings<'_>) -> Result<Tag, O5Reason>
+fn to_tag(alloc: Global, strings: &Strings<'_>) -> Result<Tag, O5Reason>
     ensures { Answers (λ tag. tag) (tag_of strings.now) result }
 {
     let key = to_text(alloc, strings.first)?;
     let value = to_text(alloc, strings.second)?;
     Ok(Tag { key, value })
+}
+
+/// Adds the tag of a pair to a list.
+///
+/// # Errors
+///
+/// As for [`to_text`].
+#[inline(never)]
+pub(crate) fn add_tag(
+    alloc: Global,
+    strings: &Strings<'_>,
+    tags: &mut Vec<Tag>,
+) -> Result<(), O5Reason>
+    ensures { Answers (λ _. tags.new.items) (and_added tags.old.items (tag_of strings.now)) result }
+{
+    let tag = to_tag(alloc, strings)?;
+    Ok(tags.push(tag)?)
 }
 
 /// The user id and the user name of a pair.

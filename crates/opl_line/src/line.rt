@@ -34,13 +34,31 @@ pub fn read_line(alloc: Global, line: &[u8]) -> Result<Option<Version>, OplReaso
     ensures refused { IfErr result (λ reason. (reason ≡ opl.Memory) ⊎ SpellsNothing line.now) }
     ensures reason { IfErr result (λ reason. (reason ≡ opl.Memory) ⊎ LineReason line.now reason) }
 {
+    read_line_reusing(alloc, line, &mut None)
+}
+
+/// The same. The version is made in the memory of one that isn't needed any more, where one is given.
+///
+/// # Errors
+///
+/// As for [`read_line`].
+pub fn read_line_reusing(
+    alloc: Global,
+    line: &[u8],
+    spare: &mut Option<Version>,
+) -> Result<Option<Version>, OplReason>
+    ensures reading { Answers (spec.reading_line line.now) result }
+    ensures spelled { IfOk result (λ read. MatchOption read (spec.is_skipped line.now ≡ true) (Spells line.now)) }
+    ensures refused { IfErr result (λ reason. (reason ≡ opl.Memory) ⊎ SpellsNothing line.now) }
+    ensures reason { IfErr result (λ reason. (reason ≡ opl.Memory) ⊎ LineReason line.now reason) }
+{
     if is_skipped(line) {
         return Ok(None);
     }
     let Some(text) = to_str(line) else {
         return Err(OplReason::NotUtf8);
     };
-    read_version(alloc, text).map(Some)
+    read_version(alloc, text, spare).map(Some)
 }
 
 /// Whether a line is skipped.
@@ -54,13 +72,17 @@ fn is_skipped(line: &[u8]) -> bool
 }
 
 /// The version of a line that isn't skipped.
-fn read_version(alloc: Global, line: &str) -> Result<Version, OplReason>
+fn read_version(
+    alloc: Global,
+    line: &str,
+    spare: &mut Option<Version>,
+) -> Result<Version, OplReason>
     ensures { Answers (spec.reading_version line.now) result }
 {
     let ((kind, id), behind) = read_first(line)?;
     let mut fields = Fields::nothing_said();
     fields.read(alloc, kind, behind)?;
-    to_version(alloc, kind, id, &mut fields)
+    to_version(alloc, kind, id, &mut fields, spare)
 }
 
 /// The kind and the id of a line's object, and what stands behind its blank.
@@ -91,7 +113,13 @@ fn read_object(field: &[u8]) -> Result<(Kind, i64), OplReason>
 }
 
 /// The version of what the fields of a line say.
-fn to_version(alloc: Global, kind: Kind, id: i64, fields: &mut Fields) -> Result<Version, OplReason>
+fn to_version(
+    alloc: Global,
+    kind: Kind,
+    id: i64,
+    fields: &mut Fields,
+    spare: &mut Option<Version>,
+) -> Result<Version, OplReason>
     ensures { Answers (spec.reading_whole kind id fields.old) result }
 {
     let meta = Meta {
@@ -108,14 +136,20 @@ fn to_version(alloc: Global, kind: Kind, id: i64, fields: &mut Fields) -> Result
         return Err(OplReason::NoTime);
     }
     let body = to_body(alloc, kind, fields)?;
-    make_version(alloc, id, meta, body)
+    make_version(alloc, id, meta, body, spare)
 }
 
 /// The version of data.
-fn make_version(alloc: Global, id: i64, meta: Meta, body: Body) -> Result<Version, OplReason>
+fn make_version(
+    alloc: Global,
+    id: i64,
+    meta: Meta,
+    body: Body,
+    spare: &mut Option<Version>,
+) -> Result<Version, OplReason>
     ensures { Answers (spec.unless_fault (version_or_fault id meta body)) result }
 {
-    match Version::new(alloc, id, meta, body) {
+    match Version::new_reusing(alloc, spare, id, meta, body) {
         Ok(version) => Ok(version),
         Err(fault) => Err(reason_of(fault)),
     }

@@ -1,5 +1,7 @@
 //! Lines with their answers, worked out by hand from the rules of the format.
-use crate::{OplReason, append_line, find_line_end, read_line, read_time, write_line};
+use crate::{
+    OplReason, append_line, find_line_end, read_line, read_line_reusing, read_time, write_line,
+};
 use std::alloc::Global;
 use std::process::Abort;
 use std::str;
@@ -234,6 +236,18 @@ fn appends_a_line(rt: HostRuntime) -> Result<(), Fail> {
         str::from_utf8(&out)?,
         "w1 v1 dV c0 t i0 u T Nn1w1 v1 dV c0 t i0 u T Nn1"
     );
+    Ok(())
+}
+
+#[test]
+fn memory_of_a_version_is_used_again(rt: HostRuntime) -> Result<(), Fail> {
+    let alloc = rt.alloc();
+    let mut spare = read_line(alloc, b"w1 v1 Ta=b Nn1,n2")?;
+    assert!(rt; read_line_reusing(alloc, b"# a comment", &mut spare)?.is_none());
+    let line = b"n2 v1 dV c0 t i0 u Tc=d x1 y2";
+    let version = read_line_reusing(alloc, line, &mut spare)?.ok_or("skipped")?;
+    assert!(rt; spare.is_none());
+    assert_eq!(rt; write_line(alloc, &version)?.as_slice(), line.as_slice());
     Ok(())
 }
 

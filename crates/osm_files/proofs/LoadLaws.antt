@@ -75,6 +75,10 @@ module _ (all : Option (Still Placed Fault)) (versions : List VersionData) (now 
   pub load_stops : (fault : Fault) → Step {A = Placed} now (Err fault) after → (fault ≡ memory_fault) ⊎ IfSome all (λ s. s.refusal ≡ Some fault)
   load_stops fault step = ⊎_elim (λ e. inl e) (λ k. inr (weaker all _ _ (λ s h. h.3 ∙ ap (λ (x : Still Placed Fault). x.refusal) (known now _ h.0 h.1 k)) on)) step.0
 
+-- of which none was read yet
+pub stops_at_once : (now after : Option (Still Placed Fault)) (fault : Fault) → Step {A = Placed} now (Err fault) after → (fault ≡ memory_fault) ⊎ IfSome now (λ s. s.refusal ≡ Some fault)
+stops_at_once now after fault step = ⊎_elim (λ e. inl e) (λ k. inr (weaker now _ _ (λ s e. ap (λ (x : Still Placed Fault). x.refusal) e) k)) step.0
+
 -- ---- whether they are sorted
 module _ (versions : List VersionData) (v : VersionData) where
   front_at : (k : ℕ) (d : VersionData) → k < length versions → get_or (versions ++ v ∷ []) k d ≡ get_or versions k d

@@ -2,7 +2,8 @@
 ghost use Rattle.std.specs.Prelude.{◌≡◌, ◌+◌, ◌-◌, ◌<◌, ◌≤◌, ◌^◌, ◌⊎◌, true, false, Option, None, Some, Ok, Err, List, [], ◌∷◌, length, drop, IfOk, IfErr, IfSome, OnOk, IsSome, if◌then◌else◌};
 ghost use Rattle.osm_files.specs.Fault.{fault_at};
 ghost use Rattle.osm_files.specs.Units as spec;
-ghost use Rattle.osm_files.specs.Reading.{FindsLast, stand_of, IsGood};
+ghost use Rattle.opl_line.specs.Cut.{is_line_end, split_first};
+ghost use Rattle.osm_files.specs.Reading.{Finds, FindsLast, stand_of, IsGood};
 ghost use Rattle.osm_files.specs.Source.{Step};
 ghost use Rattle.osm_files.specs.Stream.{Placed};
 ghost use Rattle.osm_files.specs.Load.{format_of, tells_format, is_o5m};
@@ -48,6 +49,8 @@ pub(crate) struct Reading<R: Input> {
     at: Option<Place>,
     ended: bool,
     failed: bool,
+    /// A version that isn't needed any more, whose memory the next line's takes.
+    spare: Option<Version>,
 }
 
 impl<R: Input> Model for Reading<R> {
@@ -76,6 +79,7 @@ impl<R: Input> Reading<R> {
             at: None,
             ended: false,
             failed: false,
+            spare: None,
         }
     }
 
@@ -244,6 +248,16 @@ impl<R: Input> Reading<R> {
         matches!(self.at, Some(Place::Lines))
     }
 
+    /// The line at the front of the bytes held, if its end is there.
+    #[inline(always)]
+    fn read_held_line(&mut self) -> Result<Option<ReadUnit>, Reason>
+        ensures same { self.new ≡ self.old }
+        ensures bound { self.old.place + length self.old.held < 2 ^ 62 }
+        ensures found { Finds (spec.line_unit (split_first is_line_end self.old.held)) result spec.InOpl }
+    {
+        read_line_unit(self.alloc, self.held.as_slice(), &mut self.spare)
+    }
+
     /// The version of the line at the front of the bytes held, where they are an OPL file's. There is none if it doesn't
     /// stand there whole, holds no version or can't be read.
     #[inline(always)]
@@ -258,7 +272,7 @@ impl<R: Input> Reading<R> {
         if !self.is_among_lines() {
             return None;
         }
-        match read_line_unit(self.alloc, self.held.as_slice()) {
+        match self.read_held_line() {
             Ok(Some(unit)) => match self.pass(unit) {
                 Advance::Gave(unit) => Some(unit),
                 Advance::Passed | Advance::Ended => None,
@@ -347,8 +361,9 @@ impl<R: Input> Reading<R> {
     pub(crate) fn reuse(&mut self, version: Version)
         ensures { self.new ≡ self.old }
     {
-        if let Some(at) = &mut self.at {
-            at.reuse(version);
+        match &mut self.at {
+            Some(Place::DataSets(decoder)) => decoder.reuse(version),
+            _ => self.spare = Some(version),
         }
     }
 

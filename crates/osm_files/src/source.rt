@@ -98,9 +98,7 @@ impl<R: Input> FileSource<R> {
             ready: Vec::new(alloc).into_iter(),
         })
     }
-}
 
-impl<R: Input> FileSource<R> {
     /// Takes back a version that isn't needed any more, whose memory the next one may take.
     #[inline(always)]
     fn reuse(&mut self, spare: Option<Version>)

@@ -10,7 +10,7 @@ ghost use Rattle.osm_files.specs.Units as spec;
 
 use crate::reason::Reason;
 use o5_codec::{Decoder, O5Reason, read_number};
-use opl_line::{find_line_end, read_line};
+use opl_line::{find_line_end, read_line, read_line_reusing};
 use osm_model::{Kind, Version};
 use std::alloc::Global;
 
@@ -61,15 +61,20 @@ fn passed(size: usize) -> Result<Option<ReadUnit>, Reason>
     }))
 }
 
-/// The line at the front of the bytes, if its end is there.
+/// The line at the front of the bytes, if its end is there. Its version takes the memory of one that isn't needed any more,
+/// where one is given.
 #[inline(always)]
-pub(crate) fn read_line_unit(alloc: Global, bytes: &[u8]) -> Result<Option<ReadUnit>, Reason>
+pub(crate) fn read_line_unit(
+    alloc: Global,
+    bytes: &[u8],
+    spare: &mut Option<Version>,
+) -> Result<Option<ReadUnit>, Reason>
     ensures { Finds (spec.line_unit (split_first is_line_end bytes.now)) result spec.InOpl }
 {
     let Some(end) = find_line_end(bytes) else {
         return Ok(None);
     };
-    match read_line(alloc, &bytes[..end]) {
+    match read_line_reusing(alloc, &bytes[..end], spare) {
         Ok(version) => Ok(Some(ReadUnit {
             size: end + 1,
             version,
@@ -275,7 +280,7 @@ impl Place {
         ensures unmoved { result ≡ Ok None → stand_of self.new ≡ stand_of self.old }
     {
         match self {
-            Place::Lines => read_line_unit(alloc, bytes),
+            Place::Lines => read_line_unit(alloc, bytes, &mut None),
             Place::Header => self.read_header(alloc, bytes),
             Place::DataSets(decoder) => {
                 if ends_at(bytes) {
@@ -285,17 +290,6 @@ impl Place {
                 read_data_set(decoder, bytes)
             }
             Place::End => read_behind(bytes),
-        }
-    }
-
-    /// Takes back a version that isn't needed any more, whose memory the next one may take.
-    #[inline(always)]
-    pub(crate) fn reuse(&mut self, version: Version)
-        ensures place { stand_of self.new ≡ stand_of self.old }
-        ensures good { IsGood self.old → IsGood self.new }
-    {
-        if let Place::DataSets(decoder) = self {
-            decoder.reuse(version);
         }
     }
 

@@ -94,9 +94,10 @@ impl Body {
     {
         match self {
             Body::Deleted(_) => true,
-            Body::Node { tags, .. } | Body::Way { tags, .. } | Body::Relation { tags, .. } => {
-                tags.are_normal()
-            }
+            // One arm for each kind, so that the body need not lie in memory for it.
+            Body::Node { tags, .. } => tags.are_normal(),
+            Body::Way { tags, .. } => tags.are_normal(),
+            Body::Relation { tags, .. } => tags.are_normal(),
         }
     }
 

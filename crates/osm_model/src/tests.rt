@@ -206,6 +206,23 @@ fn memory_of_a_version_is_used_again(rt: HostRuntime) -> Result<(), Fail> {
 }
 
 #[test]
+fn memory_of_a_version_is_used_again_where_one_is_given(rt: HostRuntime) -> Result<(), Fail> {
+    let alloc = rt.alloc();
+    let mut spare = Some(texts(alloc)?);
+    let (meta, body) = (number(alloc, 2), Body::Deleted(Kind::Way));
+    assert!(rt; first_fault(1, &meta, &body).is_none());
+    let way = Version::of_sound_data_reusing(alloc, &mut spare, 1, meta, body)?;
+    assert!(rt; spare.is_none());
+    assert_eq!(rt; way, deleted(alloc, Kind::Way, 2)?);
+    spare = Some(way);
+    let node = Body::Deleted(Kind::Node);
+    let again = Version::new_reusing(alloc, &mut spare, 1, number(alloc, 1), node)?;
+    assert!(rt; spare.is_none());
+    assert_eq!(rt; again, deleted(alloc, Kind::Node, 1)?);
+    Ok(())
+}
+
+#[test]
 fn parts_are_lists(rt: HostRuntime) -> Result<(), Fail> {
     let alloc = rt.alloc();
     assert_eq!(rt; text(alloc, "é")?.copy()?.as_str(), "é");

@@ -158,9 +158,13 @@ impl Context {
     ) -> Result<(), Memory>
         ensures { OnOk result (Appended out.old out.new self.new (spec.strings_written (spec.member_entry kind role.now) self.old)) }
     {
+        let characters = role.as_str().as_bytes();
+        if let Some(reference) = self.table.member_reference(kind, characters) {
+            return out.append_number(reference);
+        }
         self.entry.fill_member(kind, role)?;
-        let slot = Slot::of_strings(role.as_str().as_bytes(), &[]);
-        self.table.append(out, slot, &self.entry)
+        self.table
+            .append(out, Slot::of_member(kind, characters), &self.entry)
     }
 
     /// Appends the id of a member.

@@ -1,13 +1,13 @@
 //! Entries of the string table.
 ghost use Rattle.std.specs.Prelude.{◌≡◌, ◌++◌, ◌∷◌, [], IfOk, OnOk};
 ghost use Rattle.std.specs.Bool.{OnTrue};
-ghost use Rattle.o5_codec.specs.declared.strings.Form.TheVariants.{Pair};
+ghost use Rattle.o5_codec.specs.declared.strings.Form.TheVariants.{Pair, Single};
 ghost use Rattle.std.specs.Cmp.{decided, partial_equiv_from_equiv};
 ghost use Rattle.std.proofs.Common.{ap};
 ghost use Rattle.o5_codec.specs.Table.{is_short};
 ghost use Rattle.o5_codec.specs.Shortest.{shortest_number};
 ghost use Rattle.o5_codec.specs.Formed.{formed, same_form, same_entry, inline_bytes};
-ghost use Rattle.o5_codec.specs.Writing.{uid_string, user_entry, tag_entry, member_entry};
+ghost use Rattle.o5_codec.specs.Writing.{uid_string, user_entry, tag_entry, member_string, member_entry};
 ghost use Rattle.o5_codec.specs.SameEntry.{same_entry_decides};
 
 use crate::strings::{Form, Strings};
@@ -126,6 +126,16 @@ impl Entry {
         self.form.is_same(Form::Pair) && strings.first == first && strings.second == second
     }
 
+    /// Whether it is the single string of a member: the digit of this kind, and this role.
+    #[inline(always)]
+    pub(crate) fn is_member(&self, kind: Kind, role: &[u8]) -> bool
+        ensures { OnTrue result (self.now ≡ formed Single (member_string kind role.now) []) }
+    {
+        let strings = self.strings();
+        let is_its = is_member_string(strings.first, kind, role);
+        is_its && self.form.is_same(Form::Single) && strings.second.is_empty()
+    }
+
     /// Whether the strings are few enough bytes to be stored.
     pub(crate) fn is_short(&self) -> bool
         ensures { result ≡ is_short self.now.strings }
@@ -231,5 +241,16 @@ impl Entry {
     {
         self.bytes.extend_from_slice(more)?;
         Ok(())
+    }
+}
+
+/// Whether a string is the digit of a member's kind, and behind it this role.
+#[inline(always)]
+fn is_member_string(string: &[u8], kind: Kind, role: &[u8]) -> bool
+    ensures { OnTrue result (string.now ≡ member_string kind role.now) }
+{
+    match string.split_first() {
+        Some((digit, behind)) => *digit == b'0' + kind.rank() && behind == role,
+        None => false,
     }
 }

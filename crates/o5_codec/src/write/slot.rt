@@ -1,4 +1,5 @@
 //! Slots, of which each remembers one entry of the string table.
+use osm_model::Kind;
 
 /// How many slots there are.
 pub(crate) const SLOTS: usize = 4096;
@@ -17,6 +18,16 @@ impl Slot {
     #[inline(always)]
     pub(crate) fn of_strings(first: &[u8], second: &[u8]) -> Slot {
         Slot(digest(first).wrapping_mul(31).wrapping_add(digest(second)))
+    }
+
+    /// The slot of a member's kind and role.
+    #[inline(always)]
+    pub(crate) fn of_member(kind: Kind, role: &[u8]) -> Slot {
+        Slot(
+            digest(role)
+                .wrapping_mul(31)
+                .wrapping_add(u64::from(kind.rank())),
+        )
     }
 
     /// Its place among the slots.

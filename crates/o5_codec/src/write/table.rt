@@ -1,17 +1,17 @@
 //! The string table of a segment that is written.
 ghost use Rattle.std.specs.Prelude.{◌≡◌, ◌-◌, ◌<◌, ◌∷◌, ◌^◌, ◌++◌, [], length, take, IfOk, OnOk, None, Some, IfSome};
 ghost use Rattle.o5_codec.specs.Table.{limit};
-ghost use Rattle.o5_codec.specs.declared.strings.Form.TheVariants.{Pair};
+ghost use Rattle.o5_codec.specs.declared.strings.Form.TheVariants.{Pair, Single};
 ghost use Rattle.o5_codec.specs.Formed.{formed, reference_to, kept, spelled_by, kept_by};
 ghost use Rattle.o5_codec.specs.Indexed.{IsNext};
-ghost use Rattle.o5_codec.specs.Writing.{uid_string};
+ghost use Rattle.o5_codec.specs.Writing.{uid_string, member_string};
 
 use crate::table::LIMIT;
 use crate::write::draft::Draft;
 use crate::write::entry::Entry;
 use crate::write::slot::{SLOTS, Slot};
 use circular_buffer::HeapCircularBuffer;
-use osm_model::Memory;
+use osm_model::{Kind, Memory};
 use std::alloc::Global;
 use std::collections::HashMap;
 use std::marker::Model;
@@ -110,6 +110,19 @@ impl Table {
     {
         let (entry, reference) = self.remembered(Slot::of_strings(key, value))?;
         if entry.is_pair(key, value) {
+            Some(reference)
+        } else {
+            None
+        }
+    }
+
+    /// The reference that names a member's entry, where it is remembered.
+    #[inline(always)]
+    pub(crate) fn member_reference(&self, kind: Kind, role: &[u8]) -> Option<u64>
+        ensures { IfSome result (λ n. reference_to (formed Single (member_string kind role.now) []) self.now ≡ Some n) }
+    {
+        let (entry, reference) = self.remembered(Slot::of_member(kind, role))?;
+        if entry.is_member(kind, role) {
             Some(reference)
         } else {
             None

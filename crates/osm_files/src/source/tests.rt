@@ -88,3 +88,18 @@ fn memory_of_versions_is_used_again(rt: HostRuntime) -> Result<(), Fail> {
     assert!(rt; source.next_reusing(third)?.is_none());
     Ok(())
 }
+
+#[test]
+fn memory_of_versions_is_used_again_among_lines(rt: HostRuntime) -> Result<(), Fail> {
+    let alloc = rt.alloc();
+    let file = b"n1 v1 Ta=b x1 y2\nn2 v1 x3 y4\n# a comment\nw1 v1 Nn1\n";
+    let mut source = FileSource::new(alloc, 2, SliceIn::new(file))?;
+    let first = source.next()?;
+    assert_eq!(rt; first, read_line(alloc, b"n1 v1 Ta=b x1 y2")?);
+    let second = source.next_reusing(first)?;
+    assert_eq!(rt; second, read_line(alloc, b"n2 v1 x3 y4")?);
+    let third = source.next_reusing(second)?;
+    assert_eq!(rt; third, read_line(alloc, b"w1 v1 Nn1")?);
+    assert!(rt; source.next_reusing(third)?.is_none());
+    Ok(())
+}

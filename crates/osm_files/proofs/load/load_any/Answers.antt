@@ -1,11 +1,13 @@
-use Rattle.std.proofs.Common.{◌≡◌, IfSome, ◌∷◌, ◌++◌, [], sym, subst, List, ◌↔◌, IsTrue}
+use Rattle.std.proofs.Common.{◌≡◌, Err, IfSome, ◌∷◌, ◌++◌, [], sym, subst, List, ◌↔◌, IsTrue}
 use Rattle.std.specs.List.Sorted.{IsSorted}
 use Rattle.std.proofs.lemmas.Result.{IfOk-weaker}
 use Rattle.osm_model.specs.Data.{VersionData}
 use Rattle.osm_model.specs.Order.{key_cmp}
 use Rattle.osm_files.specs.Load.{format_of}
+use Rattle.osm_files.specs.declared.placed.Placed.{Placed}
+use Rattle.osm_files.specs.Source.{Step}
 use Rattle.osm_files.specs.Position.{Position, ahead, still_to_come}
-use Rattle.osm_files.proofs.LoadLaws.{LoadsOn, fresh, load_step, load_ends, load_stops, sorted_on, loads, stops}
+use Rattle.osm_files.proofs.LoadLaws.{LoadsOn, fresh, load_step, load_ends, load_stops, sorted_on, loads, stops, stops_at_once}
 use Rattle.osm_files.proofs.load.load_any.Goals as goal
 
 pub units-preserved : goal.units-preserved
@@ -33,3 +35,8 @@ pub returns-in-Err-next-clause-refused : goal.returns-in-Err-next-clause-refused
 returns-in-Err-next-clause-refused g c =
     let p = fresh c.args.input (g.R.Input.coming c.args.reader) in
     stops c.args.input (g.R.Input.coming c.args.reader) c.in-Err-next.fault (load_stops (still_to_come p) c.units.versions.items (still_to_come c.units.reading) (still_to_come c.next.new.self) c.units.invariant.loads c.in-Err-next.fault c.in-Err-next.ensures.step)
+
+pub returns-in-Err-clause-refused : goal.returns-in-Err-clause-refused
+returns-in-Err-clause-refused g c =
+    let step = subst (λ (q : Position). Step {A = Placed} (still_to_come q) (Err c.in-Err.fault) (still_to_come c.format.new.self)) c.new-reading.ensures c.in-Err.ensures.refused in
+    stops c.args.input (g.R.Input.coming c.args.reader) c.in-Err.fault (stops_at_once _ _ c.in-Err.fault step)
