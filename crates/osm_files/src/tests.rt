@@ -15,6 +15,13 @@ use std::io::Read;
 use std::process::Abort;
 use std::test::Fail;
 
+/// A node and its deletion, in o5m.
+pub(crate) const NODE_THEN_DELETION: &[u8] =
+    b"\xff\xe0\x04o5m2\x10\x0b\x02\x01\x02\x02\x00\x01\x00a\x00\x00\x00\x10\x05\x00\x02\x02\x00\x01\xfe";
+
+/// Two nodes, of which the second has the lesser key.
+pub(crate) const UNSORTED: &[u8] = b"n2 v1 x1 y1\nn1 v1 x1 y1\n";
+
 /// A reader that gives so many bytes a read and counts them, and then ends or fails.
 #[derive(Drop)]
 struct Pieces<'a> {
@@ -119,7 +126,7 @@ fn lines_in_pieces(rt: HostRuntime) -> Result<(), Fail> {
     let alloc = rt.alloc();
     assert!(rt; is_one_answer(alloc, b"")?);
     assert!(rt; is_one_answer(alloc, b"n1 v1 dV x9 y1\nn1 v1 dV x10 y1\nn1 v1 dV x9 y1\n")?);
-    assert!(rt; is_one_answer(alloc, b"n2 v1 x1 y1\nn1 v1 x1 y1\n")?);
+    assert!(rt; is_one_answer(alloc, UNSORTED)?);
     assert!(rt; is_one_answer(alloc, b"# \xff\r\n\nn1 v1 dD\r\r\n\nw2 v1 Nn1\nr7 v2 Mn1@a")?);
     assert!(rt; is_one_answer(alloc, b"n1 v1 x1 y1\nn2 v1 q\nn3 v1 x1 y1\n")?);
     Ok(())
@@ -128,13 +135,8 @@ fn lines_in_pieces(rt: HostRuntime) -> Result<(), Fail> {
 #[test]
 fn data_sets_in_pieces(rt: HostRuntime) -> Result<(), Fail> {
     let alloc = rt.alloc();
-    // a node and its deletion, a way without references, skipped data sets, a deletion behind the changeset
-    assert!(rt;
-        is_one_answer(
-            alloc,
-            b"\xff\xe0\x04o5m2\x10\x0b\x02\x01\x02\x02\x00\x01\x00a\x00\x00\x00\x10\x05\x00\x02\x02\x00\x01\xfe"
-        )?
-    );
+    assert!(rt; is_one_answer(alloc, NODE_THEN_DELETION)?);
+    // a way without references, skipped data sets, a deletion behind the changeset
     assert!(rt;
         is_one_answer(
             alloc,
@@ -247,10 +249,8 @@ fn longitude_wrap_in_pieces(rt: HostRuntime) -> Result<(), Fail> {
 
 #[test]
 fn cut_files_in_pieces(rt: HostRuntime) -> Result<(), Fail> {
-    let file =
-        b"\xff\xe0\x04o5m2\x10\x0b\x02\x01\x02\x02\x00\x01\x00a\x00\x00\x00\x10\x05\x00\x02\x02\x00\x01\xfe";
-    for length in 0..28usize {
-        assert!(rt; is_one_answer(rt.alloc(), &file[..length])?);
+    for length in 0..NODE_THEN_DELETION.len() {
+        assert!(rt; is_one_answer(rt.alloc(), &NODE_THEN_DELETION[..length])?);
     }
     Ok(())
 }

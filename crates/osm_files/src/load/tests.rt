@@ -4,6 +4,7 @@ use crate::fault::Fault;
 use crate::format::Format;
 use crate::input::{Broken, Input, SliceIn};
 use crate::reason::Reason;
+use crate::tests::{NODE_THEN_DELETION, UNSORTED};
 use o5_codec::O5Reason;
 use opl_line::OplReason;
 use std::alloc::Global;
@@ -35,13 +36,6 @@ impl Input for Dripping<'_> {
     }
 }
 
-/// Two nodes, of which the second has the lesser key.
-const UNSORTED: &[u8] = b"n2 v1 x1 y1\nn1 v1 x1 y1\n";
-
-/// A node and its deletion, in o5m.
-const O5M: &[u8] =
-    b"\xff\xe0\x04o5m2\x10\x0b\x02\x01\x02\x02\x00\x01\x00a\x00\x00\x00\x10\x05\x00\x02\x02\x00\x01\xfe";
-
 /// A node in o5c.
 const O5C: &[u8] = b"\xff\xe0\x04o5c2\x10\x0b\x02\x01\x02\x02\x00\x01\x00a\x00\x00\x00\xfe";
 
@@ -69,7 +63,10 @@ fn refused(place: u64, reason: Reason) -> Option<Fault> {
 fn files_of_three_formats_are_loaded(rt: HostRuntime) -> Result<(), Fail> {
     assert_eq!(rt; loaded(rt.alloc(), b"")?, (Format::Opl, 0, true));
     assert_eq!(rt; loaded(rt.alloc(), UNSORTED)?, (Format::Opl, 2, false));
-    assert_eq!(rt; loaded(rt.alloc(), O5M)?, (Format::O5m, 2, true));
+    assert_eq!(rt;
+        loaded(rt.alloc(), NODE_THEN_DELETION)?,
+        (Format::O5m, 2, true)
+    );
     assert_eq!(rt; loaded(rt.alloc(), O5C)?, (Format::O5c, 1, true));
     Ok(())
 }
@@ -86,7 +83,7 @@ fn versions_stand_in_their_order(rt: HostRuntime) -> Result<(), Fail> {
 
 #[test]
 fn bytes_one_by_one_are_the_same_file(rt: HostRuntime) -> Result<(), Fail> {
-    let loaded = load_dripping(rt.alloc(), O5M, false)?;
+    let loaded = load_dripping(rt.alloc(), NODE_THEN_DELETION, false)?;
     assert_eq!(rt; loaded.format, Format::O5m);
     assert_eq!(rt; loaded.history.len(), 2);
     assert!(rt; loaded.sorted);
@@ -96,9 +93,9 @@ fn bytes_one_by_one_are_the_same_file(rt: HostRuntime) -> Result<(), Fail> {
 /// Sees that the file of a node and its deletion, cut to each of these lengths, is refused for this reason at this place.
 fn assert_cut<R: AllocGlobal + Abort>(rt: &R, lengths: &[usize], place: u64, reason: Reason) {
     for length in lengths {
-        if *length <= O5M.len() {
+        if *length <= NODE_THEN_DELETION.len() {
             assert_eq!(rt;
-                loaded(rt.alloc(), &O5M[..*length]).err(),
+                loaded(rt.alloc(), &NODE_THEN_DELETION[..*length]).err(),
                 refused(place, reason)
             );
         }
@@ -123,9 +120,9 @@ fn cut_files_are_refused_at_their_places(rt: HostRuntime) {
 
 #[test]
 fn failing_inputs_are_refused_at_their_places(rt: HostRuntime) {
-    for length in 0..O5M.len() + 1 {
+    for length in 0..NODE_THEN_DELETION.len() + 1 {
         assert_eq!(rt;
-            load_dripping(rt.alloc(), &O5M[..length], true).err(),
+            load_dripping(rt.alloc(), &NODE_THEN_DELETION[..length], true).err(),
             refused(length as u64, Reason::ReadFault)
         );
     }

@@ -4,16 +4,13 @@ ghost use Rattle.std.specs.Prelude.{◌<◌, ◌^◌, length};
 use super::read_sorted;
 use crate::fault::Fault;
 use crate::reason::Reason;
+use crate::tests::NODE_THEN_DELETION;
 use std::process::Abort;
 use std::test::Fail;
 
 /// A node, and its deletion, in OPL.
 const LINES: &[u8] =
     b"# a comment\nn1 v1 c1 t1970-01-01T00:00:01Z i1 ua x0 y0\r\n\nn1 v2 dD c1 t1970-01-01T00:00:02Z i1 ua";
-
-/// The same in o5m.
-const O5M: &[u8] =
-    b"\xff\xe0\x04o5m2\x10\x0b\x02\x01\x02\x02\x00\x01\x00a\x00\x00\x00\x10\x05\x00\x02\x02\x00\x01\xfe";
 
 /// The same in o5c, with a reset, a lone byte and a data set that is skipped.
 const O5C: &[u8] =
@@ -22,7 +19,7 @@ const O5C: &[u8] =
 #[test]
 fn three_formats_hold_the_same(rt: HostRuntime) -> Result<(), Fail> {
     let lines = read_sorted(rt.alloc(), 0, LINES)?;
-    let o5m = read_sorted(rt.alloc(), 0, O5M)?;
+    let o5m = read_sorted(rt.alloc(), 0, NODE_THEN_DELETION)?;
     let o5c = read_sorted(rt.alloc(), 0, O5C)?;
     assert_eq!(rt; lines.len(), 2);
     assert_eq!(rt; lines[0].number(), 1);

@@ -1,0 +1,116 @@
+//! A file's units read alone, through a `FileSource` to its end, and by `load_any`.
+use crate::rate::megabytes;
+use anyhow::{Result, bail};
+use o5_codec::{Decoder, read_number};
+use opl_line::{find_line_end, read_line};
+use osm_files::{FileSource, Format, SliceIn, Source, load_any};
+use osm_model::Kind;
+use std::alloc::Global;
+use std::rt::Clock;
+use std::time::Instant;
+
+/// The bytes of the header of o5 files.
+const HEADER: usize = 7;
+
+/// Reads each line by itself, and answers how many versions they hold.
+fn read_lines(alloc: Global, bytes: &[u8]) -> Result<u64> {
+    let mut versions: u64 = 0;
+    let mut rest = bytes;
+    for _ in 0..bytes.len() {
+        let end = find_line_end(rest).unwrap_or(rest.len());
+        if read_line(alloc, &rest[..end])?.is_some() {
+            versions = versions.saturating_add(1);
+        }
+        match rest[end..].split_first() {
+            Some((_, behind)) => rest = behind,
+            None => break,
+        }
+    }
+    Ok(versions)
+}
+
+/// The kind of object of a type byte.
+fn kind_of(byte: u8) -> Option<Kind> {
+    match byte {
+        0x10 => Some(Kind::Node),
+        0x11 => Some(Kind::Way),
+        0x12 => Some(Kind::Relation),
+        _ => None,
+    }
+}
+
+/// Reads each data set by itself, and answers how many versions they hold.
+fn read_data_sets(alloc: Global, bytes: &[u8]) -> Result<u64> {
+    let mut decoder = Decoder::new(alloc)?;
+    let mut versions: u64 = 0;
+    let mut rest = bytes;
+    for _ in 0..bytes.len() {
+        let Some((byte, behind)) = rest.split_first() else {
+            break;
+        };
+        if *byte == 0xff {
+            decoder.reset();
+        }
+        if *byte >= 0xf0 {
+            rest = behind;
+            continue;
+        }
+        let (size, content) = read_number(behind)?;
+        if size > content.len() as u64 {
+            bail!("a data set is cut");
+        }
+        let (content, next) = content.split_at(size as usize);
+        if let Some(kind) = kind_of(*byte) {
+            decoder.read_set(kind, content)?;
+            versions = versions.saturating_add(1);
+        }
+        rest = next;
+    }
+    Ok(versions)
+}
+
+/// Reads the units of a file alone.
+fn read_units(alloc: Global, bytes: &[u8], format: Format) -> Result<u64> {
+    match format {
+        Format::Opl => read_lines(alloc, bytes),
+        Format::O5m | Format::O5c => read_data_sets(alloc, &bytes[HEADER.min(bytes.len())..]),
+    }
+}
+
+/// Reads a source to its end, and answers how many versions it gave.
+fn read_source(alloc: Global, bytes: &[u8]) -> Result<u64> {
+    let mut source = FileSource::new(alloc, 0, SliceIn::new(bytes))?;
+    let mut versions: u64 = 0;
+    'versions: loop {
+        match source.next() {
+            Ok(Some(_)) => versions = versions.saturating_add(1),
+            Ok(None) => return Ok(versions),
+            Err(fault) => bail!("the file is refused: {fault}"),
+        }
+    }
+}
+
+/// Measures how fast a file with these bytes is read.
+pub fn measure<R: Clock + AllocGlobal>(rt: &R, bytes: &[u8]) -> Result<String> {
+    let alloc = rt.alloc();
+    let size = bytes.len() as u64;
+
+    let start = Instant::now(rt)?;
+    let loaded = load_any(alloc, 0, SliceIn::new(bytes))?;
+    let loading = start.elapsed(rt)?;
+
+    let start = Instant::now(rt)?;
+    let units = read_units(alloc, bytes, loaded.format)?;
+    let alone = start.elapsed(rt)?;
+
+    let start = Instant::now(rt)?;
+    let distinct = read_source(alloc, bytes)?;
+    let through = start.elapsed(rt)?;
+
+    Ok(format!(in alloc;
+        "{size} bytes, {units} versions, {distinct} of them distinct\nunits alone: {} MB/s\nthrough a source: {} MB/s\nby load_any: {} MB/s\n",
+        megabytes(size, alone),
+        megabytes(size, through),
+        megabytes(size, loading)
+    )?)
+}

@@ -1,4 +1,0 @@
-use Rattle.files_bench.proofs.read_source.Given as goal
-
-abbrev pub decreases-versions : goal.decreases-versions
-decreases-versions l = l.source.left
