@@ -4,6 +4,7 @@ use Rattle.std.specs.List.{flat_map}
 use Rattle.std.specs.List.Sorted.{IsSorted}
 use Rattle.std.specs.Ordering.{is_lt}
 use Rattle.std.proofs.lemmas.Bool.{false≢true, lt-ltb, ltb-true}
+use Rattle.std.specs.Prelude.{unwrap_or}
 use Rattle.std.proofs.lemmas.Bool.Decides.{Decides-or}
 use Rattle.std.proofs.lemmas.Slice.Eq.{bytes_eq-Decides}
 use Rattle.osm_model.specs.Data.{VersionData}
@@ -15,7 +16,7 @@ use Rattle.osm_files.specs.O5.{o5m_header, o5c_header, end_byte, reset_byte, par
 use Rattle.osm_files.specs.Units.{Stand, InOpl, BeforeHeader, InSegment, Found, FileUnit, unit, passes, found_then, closed, unit_then, unit_at, last_at, units_within, units, header_unit, is_header, start_of}
 use Rattle.osm_files.specs.Held.{IsFile, IsFileOf}
 use Rattle.osm_files.specs.Verdict.{length_limit, too_long, file_units, versions_of, verdict, is_below, sorted_verdict}
-use Rattle.osm_files.specs.Laws.{OneList, FilesAreRead, AcceptedWithoutVerdict, SortedFilesAreRead, SortedWithoutVerdict}
+use Rattle.osm_files.specs.Laws.{OneList, FilesAreRead, AcceptedWithoutVerdict, SortedFilesAreRead, SortedWithoutVerdict, VerdictBesideOrder}
 use Rattle.osm_files.proofs.UnitLaws.{ReadsAs, some_is_not_none, opl_reads}
 use Rattle.osm_files.proofs.PartLaws.{PartsFile, reads_parts, through, nothing_reads}
 
@@ -187,6 +188,18 @@ sorted_without_verdict bytes none =
     let units = file_units bytes in
     let k = rises_without units.refusal None units.list none in
     (k.0, rises_sorted (versions_of units.list) k.1)
+
+-- a verdict on the order that isn't Unsorted is what ends the units
+other_ends : (v : Verdict) → (v.reason ≡ Unsorted → ⊥) → (close : Option Verdict) (before : Option VersionData) (us : List Placed) → sorted_verdict close before us ≡ Some v → close ≡ Some v
+other_ends v other close before [] e = e
+other_ends v other close before (u ∷ us) e =
+    elim (is_below u.version before) as (λ t. cond t (Some (verdict_at u.place Unsorted)) (sorted_verdict close (Some u.version) us) ≡ Some v → close ≡ Some v) [
+      | true ↦ λ h. absurd (other (ap (λ (found : Option Verdict). (unwrap_or found v).reason) (sym h)))
+      | false ↦ λ h. other_ends v other close (Some u.version) us h
+    ] e
+
+pub verdict_beside_order : VerdictBesideOrder
+verdict_beside_order bytes v e other = let units = file_units bytes in other_ends v other units.refusal None units.list e
 
 pub sorted_files_are_read : SortedFilesAreRead
 sorted_files_are_read bytes versions short file sorted =

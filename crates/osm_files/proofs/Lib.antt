@@ -9,6 +9,7 @@ mod HeldBytes
 mod FillLaws
 mod PositionLaws
 mod ReadingLaws
+mod GivenLaws
 mod GroupLaws
 mod LoadLaws
 mod LoadFaults

@@ -95,6 +95,13 @@ pub given_ascends : (known : Option StillSet) → IfSome (still_given known) Asc
 given_ascends None = tt
 given_ascends (Some (versions, refusal)) = strict-listed versions
 
+-- a set is given whole, its members one by one, ascending
+abbrev pub set_given : VersionSet → Still VersionData Fault
+set_given versions = record { list = listed versions; refusal = None }
+
+pub set_ascends : (versions : VersionSet) → Ascends (set_given versions)
+set_ascends versions = strict-listed versions
+
 -- each version has the key of the first
 abbrev pub IsGroup : VersionData → List VersionData → Type 0
 IsGroup first others = AllByRecursion (λ v. key_cmp first v ≡ Equal) others

@@ -1,9 +1,11 @@
 -- Laws of the definitions: a file has one reading, and its verdict tells whether it has one.
-use Rattle.std.specs.Prelude.{◌≡◌, ℕ, ◌<◌, ◌^◌, List, length, None}
+use Rattle.std.specs.Prelude.{◌≡◌, ℕ, ◌<◌, ◌^◌, List, length, None, Some}
 use Rattle.std.specs.List.Sorted.{IsSorted}
 use Rattle.osm_model.specs.Data.{VersionData}
 use Rattle.osm_model.specs.Order.{key_cmp}
+use Rattle.osm_files.specs.declared.reason.Reason.TheVariants.{Unsorted}
 use Rattle.osm_files.specs.Held.{IsFile}
+use Rattle.osm_files.specs.Stream.{Verdict}
 use Rattle.osm_files.specs.Verdict.{file_units, versions_of, verdict, verdict_sorted}
 
 -- a file spells at most one list of versions
@@ -25,3 +27,7 @@ SortedFilesAreRead = (bytes : List ℕ) (versions : List VersionData) → length
 -- bytes without a verdict on their order have none at all, and the versions of their units are sorted
 abbrev pub SortedWithoutVerdict : Type 0
 SortedWithoutVerdict = (bytes : List ℕ) → verdict_sorted bytes ≡ None → (verdict bytes ≡ None) × IsSorted key_cmp (versions_of (file_units bytes).list)
+
+-- a verdict on the order of some bytes that isn't Unsorted is their verdict
+abbrev pub VerdictBesideOrder : Type 0
+VerdictBesideOrder = (bytes : List ℕ) (v : Verdict) → verdict_sorted bytes ≡ Some v → (v.reason ≡ Unsorted → ⊥) → verdict bytes ≡ Some v

@@ -30,6 +30,11 @@ pub fn sorted_without_verdict()
     ensures { law.SortedWithoutVerdict }
 {}
 
+/// A verdict on the order of some bytes that isn't Unsorted is their verdict.
+pub fn verdict_beside_order()
+    ensures { law.VerdictBesideOrder }
+{}
+
 /// The file that is written for a set of versions, if it is shorter than 2^62 bytes, is sorted and holds the set.
 pub fn spell_holds_its_set()
     ensures { spelling.SpellHoldsItsSet }

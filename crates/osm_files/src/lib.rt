@@ -4,6 +4,7 @@
 mod fault;
 mod format;
 mod held;
+mod history_source;
 mod input;
 pub mod laws;
 mod load;
@@ -18,6 +19,7 @@ mod whole;
 
 pub use fault::{Fault, LENGTH_LIMIT};
 pub use format::Format;
+pub use history_source::HistorySource;
 pub use input::{Broken, FromRead, Input, SliceIn, read_all};
 pub use load::{Loaded, load_any};
 pub use output::{Output, ToWrite, VecOut, write_all};

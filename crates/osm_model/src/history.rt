@@ -87,6 +87,14 @@ impl History {
         &self.versions[place]
     }
 
+    /// The versions, ascending. They are given away, so nothing is copied.
+    pub fn into_versions(self) -> Vec<Version>
+        ensures { result.items ≡ set.listed self }
+    {
+        let History { versions } = self;
+        versions
+    }
+
     /// An equal history.
     pub fn copy(&self) -> Result<History, Memory>
         ensures { IfOk result (λ h. h ≡ self.now) }

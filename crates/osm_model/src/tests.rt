@@ -436,6 +436,9 @@ fn a_history_is_a_set(rt: HostRuntime) -> Result<(), Fail> {
     let second = b">n1 v1 dV c0 t i0 u T x9 y0.0000001";
     assert_eq!(rt; line(alloc, again.get(1))?.as_slice(), second.as_slice());
     assert_eq!(rt; again.get(2).number(), 2);
+    let given = again.into_versions();
+    assert_eq!(rt; given.len(), 3);
+    assert_eq!(rt; line(alloc, &given[0])?.as_slice(), first.as_slice());
     Ok(())
 }
 
