@@ -1,5 +1,5 @@
 -- What groups give ascends, whatever was known before.
-use Rattle.std.proofs.Common.{◌≡◌, ℕ, Bool, true, false, ◌||◌, List, [], ◌∷◌, ◌++◌, refl, ap, sym, ◌∙◌, subst, Option, Some, None, option_map, option_to_list, IfSome, IfOk, IfErr, OnOk, Result, Ok, Err}
+use Rattle.std.proofs.Common.{◌≡◌, ◌⊎◌, ⊎_elim, inl, inr, ℕ, Bool, true, false, cond, ◌||◌, List, [], ◌∷◌, ◌++◌, refl, ap, sym, ◌∙◌, subst, Option, Some, None, option_map, option_to_list, IfSome, IfOk, IfErr, OnOk, Result, Ok, Err}
 use Rattle.std.proofs.lemmas.Bool.{false≢true}
 use Rattle.std.proofs.lemmas.List.{append-nil}
 use Rattle.std.specs.declared.cmp.Ordering.{Ordering}
@@ -15,11 +15,13 @@ use Rattle.osm_model.proofs.SetLaws.{strict-listed, listed-from_list}
 use Rattle.osm_model.proofs.VersionLaws.{version_cmp-IsAntisymmetric}
 use Rattle.osm_files.specs.declared.fault.Fault.{Fault}
 use Rattle.osm_files.specs.Fault.{memory_fault, failed_fault}
-use Rattle.osm_files.specs.Groups.{ascending, last_group, groups, sorted_source, gathered, IsGroup, Gathers, StillSet, as_set, still_given}
+use Rattle.osm_files.specs.Groups.{ascending, last_group, groups, versions_then, sorted_source, gathered, IsGroup, Gathers, StillSet, as_set, still_given}
 use Rattle.osm_files.specs.Input.{Coming}
-use Rattle.osm_files.specs.Position.{Position, named, units_from, still_to_come}
+use Rattle.osm_files.specs.Position.{Position, named, units_from, to_come, still_to_come, GoesOn}
 use Rattle.osm_files.specs.Source.{Ascends, Step}
 use Rattle.osm_files.specs.Stream.{Placed, Still, whole, refused}
+use Rattle.osm_files.proofs.FillLaws.{weaker, mapped}
+use Rattle.osm_files.proofs.PositionLaws.{with_each}
 use Rattle.osm_files.proofs.GroupLaws.{has, has_ascending, ascending_is, ascending_nil, ascending_one}
 
 -- ---- keys
@@ -240,6 +242,30 @@ module _ (p : Position) (ready : List VersionData) (input : ℕ) (coming : Optio
 
   pub source_begins_told : still_given (option_map as_set (gathered p.input (still_to_come p) [] ready)) ≡ option_map (sorted_source input) coming
   source_begins_told = told_as_set (gathered p.input (still_to_come p) [] ready) source_begins_rising ∙ source_begins
+
+-- a reading that read on before it gave anything
+opens_so : (input : ℕ) (coming : Option Coming) (q : Position) → GoesOn (beginning input coming) q → IfSome coming (λ c. gathered q.input (still_to_come q) [] [] ≡ Some (sorted_source input c))
+opens_so input None q on = tt
+opens_so input (Some c) q on =
+    let fine : still_to_come q ≡ to_come q = ap (λ b. cond b (Some (refused (failed_fault q.input))) (to_come q)) on.failed in
+    (λ i. gathered (on.input i) ((fine ∙ on.keeps) i) [] []) ∙ ap Some (sym (source_is input c))
+
+module _ (p q : Position) (ready : List VersionData) (input : ℕ) (coming : Option Coming) (begins : p ≡ beginning input coming) (on : GoesOn p q) (nothing : ready ≡ []) where
+  pub source_opens_rising : IfSome (gathered q.input (still_to_come q) [] ready) Ascends
+  source_opens_rising =
+      subst (λ (xs : List VersionData). IfSome (gathered q.input (still_to_come q) [] xs) Ascends) (sym nothing)
+      (mapped (still_to_come q) (λ s. versions_then [] (groups q.input s.refusal s.list [])) Ascends (with_each (still_to_come q) _ (λ s e. groups_rise q.input s.refusal s.list)))
+
+  pub source_opens_told : IfSome coming (λ c. still_given (option_map as_set (gathered q.input (still_to_come q) [] ready)) ≡ Some (sorted_source input c))
+  source_opens_told =
+      weaker coming _ _ (λ c e. told_as_set (gathered q.input (still_to_come q) [] ready) source_opens_rising ∙ (λ i. gathered q.input (still_to_come q) [] (nothing i)) ∙ e)
+      (opens_so input coming q (subst (λ (x : Position). GoesOn x q) begins on))
+
+pub opens_refused : (input : ℕ) (coming : Option Coming) (fault : Fault) (after : Option (Still Placed Fault)) → Step {A = Placed} (still_to_come (beginning input coming)) (Err fault) after
+    → (fault ≡ memory_fault) ⊎ IfSome coming (λ c. (sorted_source input c).refusal ≡ Some fault)
+opens_refused input None fault after step = ⊎_elim (λ e. inl e) (λ k. inr tt) step.0
+opens_refused input (Some c) fault after step =
+    ⊎_elim (λ e. inl e) (λ k. inr (ap (λ (s : Still VersionData Fault). s.refusal) (source_is input c) ∙ ap (λ (s : Still Placed Fault). (groups input s.refusal s.list []).refusal) k)) step.0
 
 -- a call, told of sets
 pub step_told : (value : Option StillSet) (before after : Option (Still VersionData Fault)) (r : Result (Option VersionData) Fault) → option_map as_set before ≡ value → IfSome before Ascends → IfSome after Ascends → Step before r after

@@ -1,5 +1,5 @@
 //! Sources: versions in ascending order, one after the other.
-ghost use Rattle.std.specs.Prelude.{◌≡◌, ℕ, ◌+◌, ◌-◌, ◌^◌, ◌<◌, ◌≤◌, [], ◌∷◌, ◌++◌, length, true, Option, None, option_map, option_to_list, IsSome, IfOk, IfErr, OnOk, IfSome};
+ghost use Rattle.std.specs.Prelude.{◌≡◌, ◌⊎◌, ℕ, ◌+◌, ◌-◌, ◌^◌, ◌<◌, ◌≤◌, [], ◌∷◌, ◌++◌, length, true, Option, None, Some, option_map, option_to_list, IsSome, IfOk, IfErr, OnOk, IfSome};
 ghost use Rattle.std.specs.Vec.Iter.{into_iter_items};
 ghost use Rattle.osm_model.specs.Data.{VersionData};
 ghost use Rattle.osm_files.specs.declared.fault.Fault.{Fault};
@@ -8,9 +8,11 @@ ghost use Rattle.osm_files.specs.Fault.{memory_fault, fault_at};
 ghost use Rattle.osm_files.specs.Stream.{Still};
 ghost use Rattle.osm_files.specs.Source.{Ascends, Step};
 ghost use Rattle.osm_files.specs.Position.{still_to_come};
+ghost use Rattle.osm_files.specs.Load.{format_of};
 ghost use Rattle.osm_files.specs.Groups.{ascending, gathered, units_left, sorted_source, still_given, given_ascends, IsGroup, Begins, Gathers, Refuses};
 
 use crate::fault::Fault;
+use crate::format::Format;
 use crate::input::Input;
 use crate::reading::Reading;
 use crate::reason::Reason;
@@ -106,6 +108,38 @@ impl<R: Input> FileSource<R> {
     {
         if let Some(version) = spare {
             self.units.reuse(version);
+        }
+    }
+}
+
+impl<R: Input + Drop> FileSource<R> {
+    /// A source of the versions of a sorted file, and the file's format, which its first bytes tell. These are read, and no
+    /// version is gone over.
+    ///
+    /// # Errors
+    ///
+    /// Why the bytes that tell the format can't be read, or `Memory`.
+    pub fn open(alloc: Global, input: usize, reader: R) -> Result<(Format, FileSource<R>), Fault>
+        ensures format { IfOk result (λ opened. IfSome (R.coming reader) (λ c. opened.0 ≡ format_of c.bytes)) }
+        ensures still { IfOk result (λ opened. IfSome (R.coming reader) (λ c. still_given (opened.1).known ≡ Some (sorted_source input c))) }
+        ensures refused { IfErr result (λ fault. (fault ≡ memory_fault) ⊎ IfSome (R.coming reader) (λ c. (sorted_source input c).refusal ≡ Some fault)) }
+    {
+        let mut units = Reading::new(alloc, input, reader);
+        match units.format() {
+            Ok(format) => {
+                let ready = Vec::new(alloc).into_iter();
+                let pending = None;
+                Ok((
+                    format,
+                    FileSource {
+                        alloc,
+                        units,
+                        pending,
+                        ready,
+                    },
+                ))
+            }
+            Err(fault) => Err(fault),
         }
     }
 }

@@ -1,8 +1,10 @@
 //! Sources of small files.
 use super::{FileSource, Source};
 use crate::fault::Fault;
+use crate::format::Format;
 use crate::input::SliceIn;
 use crate::reason::Reason;
+use crate::tests::NODE_THEN_DELETION;
 use opl_line::read_line;
 use std::alloc::Global;
 use std::test::Fail;
@@ -32,6 +34,29 @@ fn group_is_sorted_without_repeats(rt: HostRuntime) -> Result<(), Fail> {
     assert!(rt; gives(alloc, &mut source, b"n1 v1 x2 y1")?);
     assert!(rt; gives(alloc, &mut source, b"n2 v1 x1 y1")?);
     assert!(rt; gives(alloc, &mut source, b"")?);
+    assert!(rt; gives(alloc, &mut source, b"")?);
+    Ok(())
+}
+
+#[test]
+fn opened_source_tells_its_format(rt: HostRuntime) -> Result<(), Fail> {
+    let alloc = rt.alloc();
+    let (format, mut source) = FileSource::open(alloc, 2, SliceIn::new(NODE_THEN_DELETION))?;
+    assert_eq!(rt; format, Format::O5m);
+    assert!(rt;
+        gives(
+            alloc,
+            &mut source,
+            b"n1 v1 c1 t1970-01-01T00:00:01Z i1 ua x0 y0"
+        )?
+    );
+    assert!(rt;
+        gives(
+            alloc,
+            &mut source,
+            b"n1 v2 dD c1 t1970-01-01T00:00:02Z i1 ua"
+        )?
+    );
     assert!(rt; gives(alloc, &mut source, b"")?);
     Ok(())
 }
