@@ -2,7 +2,13 @@ mod OrderLaws
 mod AscendingLaws
 mod TreeLaws
 mod Asking
+mod PassLaws
+mod ObjectLaws
+mod SelectedLaws
+mod Choosing
 mod State
+mod Settling
 mod MergeLaws
 pub mod UnionLaws
 mod Running
+pub mod SnapLaws

@@ -4,7 +4,7 @@ use Rattle.std.proofs.Math.Nat.{add-mul}
 use Rattle.std.proofs.Math.ListN.{set, length-set}
 use Rattle.std.specs.List.{All}
 use Rattle.std.specs.List.Sorted.{IsStrictlySortedBy}
-use Rattle.std.proofs.lemmas.Bool.{cases_eq, cases_lt}
+use Rattle.std.proofs.lemmas.Bool.{false≢true, cases_eq, cases_lt}
 use Rattle.std.proofs.lemmas.List.{get_or_past, get_or_default, map-set, length-map}
 use Rattle.osm_model.specs.Data.{VersionData}
 use Rattle.osm_model.specs.Order.{version_cmp}
@@ -19,67 +19,75 @@ use Rattle.osm_files.specs.Spell.{spelled_open, spell_list, spell}
 use Rattle.osm_files.specs.Sink.{SinkState, IsOpen, CutShort, HasPut, MayFollow}
 use Rattle.osm_files.proofs.SpellLaws.{kinds_dont_fall, list_spelled}
 use Rattle.osm_merge.specs.declared.merge.Counts.{Counts}
-use Rattle.osm_merge.specs.Coming.{Coming, AllTell, first, rest, head, behind_head, coming_at, AllAscend, AllStand, AllFollow, Follows}
+use Rattle.osm_merge.specs.Coming.{Coming, AllTell, rest, head, behind_head, coming_at, AllAscend, AllStand, AllFollow, Follows}
+use Rattle.osm_merge.specs.Members.{first}
 use Rattle.osm_merge.specs.Union.{versions_of, union_of, capped}
-use Rattle.osm_merge.specs.Put.{is_new, put_next, last_next, TakesNew, PutsNext, EndsFile}
+use Rattle.osm_merge.specs.declared.selection.Selection.{Selection}
+use Rattle.osm_merge.specs.declared.selection.Selection.TheVariants as selections
+use Rattle.osm_merge.specs.Selected.{selected}
+use Rattle.osm_merge.specs.Pass.{passes, passing, passes_all, put_of, put_at, put_at_end, puts, puts_at_once, keeps, is_met, held_next, met_next}
+use Rattle.osm_merge.specs.Put.{TakesEach, PutsMore, EndsFile}
 use Rattle.osm_merge.specs.Tree.{IsHeadUpTo, IsTree}
-use Rattle.osm_merge.specs.Merged.{IsWhole, IsBounded, IsMerged, WritesSet, Grows, last_of, up_to, written_so_far, IsRefused, WhyRefused}
+use Rattle.osm_merge.specs.Merged.{IsWhole, IsBoundedFrom, few_of, IsMergedAs, WritesSet, Grows, last_of, up_to, written_so_far, written_before, IsRefusedAs, WhyRefused}
 use Rattle.osm_merge.proofs.OrderLaws.{none_up_to}
 use Rattle.osm_merge.proofs.AscendingLaws.{nothing_ascends}
 use Rattle.osm_merge.proofs.TreeLaws.{winner_is_least}
 use Rattle.osm_merge.proofs.Asking.{told_gives, told_refuses, refusal_first, follows_next, told_at, map_set_some, all_whole}
 use Rattle.osm_merge.proofs.State.{Ends, IsMerging}
-use Rattle.osm_merge.proofs.MergeLaws.{without_head, merge_more, split_first, ascends_next, ascends_with, ends_next}
-use Rattle.osm_merge.proofs.UnionLaws.{union_list, put_in_front, put_up_to, all_put, all_taken, last_of_end, cut_in_file, memory_refused, why_cut_open, why_cut_whole, why_source}
+use Rattle.osm_merge.proofs.MergeLaws.{without_head, merge_more, split_first, ascends_next, ascends_with, ends_next, met_is_new}
+use Rattle.osm_merge.proofs.Settling.{AscendBehind, may_put, may_end, put_next, put_all, put_nothing, put_ascends, kept_ascends}
+use Rattle.osm_merge.proofs.UnionLaws.{union_list, chosen, InFront, passing_nothing, put_in_front, met_up_to, all_put, all_taken, last_of_end, cut_in_file, memory_refused, why_cut_open, why_cut_whole, why_source}
 
 -- where all sources told what was to come: what is still to come, the heads included
-pub record IsStanding (all : List Coming) (heads : List (Option VersionData)) (told : List (Option Coming)) (put : List VersionData) (last : Option VersionData) (taken : ℕ) : Type 0 where
+pub record IsStanding (selection : Selection) (all : List Coming) (heads : List (Option VersionData)) (told : List (Option Coming)) (met : List VersionData) (last top : Option VersionData) (taken : ℕ) : Type 0 where
   pub states : List Coming
   pub stand : AllStand states heads told
-  pub merging : IsMerging all states put last taken
+  pub merging : IsMerging selection all states met last top taken
 
--- Of sources that stood with these heads at first, so many versions were taken, and these were put, in a file of this format
--- to the output of this number. What rests on knowing what is to come is said under that.
-pub record IsRunning (heads0 : List (Option VersionData)) (told0 : List (Option Coming)) (format : Format) (number : ℕ) (before : Option (List ℕ))
+-- Of sources that stood with these heads at first, so many versions were taken, those that pass were met, and what is put of
+-- these was put, in a file of this format to the output of this number. What rests on knowing what is to come is said under that.
+pub record IsRunning (selection : Selection) (heads0 : List (Option VersionData)) (told0 : List (Option Coming)) (format : Format) (number : ℕ) (before : Option (List ℕ))
     (heads : List (Option VersionData)) (nodes : List ℕ) (told : List (Option Coming)) (sink : SinkState) (now : Option (List ℕ)) (last : Option VersionData) (read written compared : ℕ) : Type 0 where
-  pub put : List VersionData
+  pub met : List VersionData
+  pub top : Option VersionData
   pub taken : ℕ
-  pub has : HasPut format number put before sink now
-  pub ends : Ends last put
-  pub ascends : IsStrictlySortedBy version_cmp put
+  pub has : HasPut format number (put_of selection met) before sink now
+  pub ends : Ends last met
+  pub ascends : IsStrictlySortedBy version_cmp met
   pub tree : IsTree heads nodes 1 0
   pub some : 0 < length heads
   pub size : length told ≡ length heads
   pub read_is : read ≡ capped taken
-  pub written_is : written ≡ capped (length put)
+  pub written_is : written ≡ capped (length (put_of selection met))
   pub most : (depth : ℕ) → length heads ≤ 2 ^ depth → compared ≤ (length heads - 1) + taken * (depth + 1)
-  pub least : capped (taken - 1) ≤ compared
-  pub fresh : last ≡ None → taken ≡ 0
+  pub least : passes_all selection ≡ true → capped (taken - 1) ≤ compared
+  pub fresh : passes_all selection ≡ true → last ≡ None → taken ≡ 0
   pub follow : (first : List (Option Coming)) → AllFollow first heads0 told0 → AllFollow first heads told
-  pub standing : (all : List Coming) → AllAscend all → AllStand all heads0 told0 → IsStanding all heads told put last taken
+  pub standing : (all : List Coming) → AllAscend all → AllStand all heads0 told0 → IsStanding selection all heads told met last top taken
 
-none_put : (all : List Coming) → AllAscend all → IsMerging all all [] None 0
-none_put all up = record { size = refl; ascends = nothing_ascends version_cmp; queues = up; came = λ i. ([], refl); refusals = λ i. refl; same = λ q. refl; ends = refl; floor = λ i. tt; count = omega arith }
+none_met : (selection : Selection) (all : List Coming) → AllAscend all → IsMerging selection all all [] None None 0
+none_met selection all up = record { size = refl; ascends = nothing_ascends version_cmp; queues = up; came = λ i. ([], refl); refusals = λ i. refl; same = λ q. refl; ends = refl; floor = λ i. tt; under = tt; reached = tt; count = omega arith }
 
-pub run_start : (heads : List (Option VersionData)) (told : List (Option Coming)) (format : Format) (number : ℕ) (before : Option (List ℕ)) (nodes : List ℕ) (sink : SinkState) (now : Option (List ℕ)) (read written compared : ℕ)
+pub run_start : (selection : Selection) (heads : List (Option VersionData)) (told : List (Option Coming)) (format : Format) (number : ℕ) (before : Option (List ℕ)) (nodes : List ℕ) (sink : SinkState) (now : Option (List ℕ)) (read written compared : ℕ)
     → HasPut format number [] before sink now → IsTree heads nodes 1 0 → 0 < length heads → length told ≡ length heads → read ≡ 0 → written ≡ 0 → compared ≤ length heads - 1
-    → IsRunning heads told format number before heads nodes told sink now None read written compared
-run_start heads told format number before nodes sink now read written compared has tree some size none_read none_written few = record {
-  put = [];
+    → IsRunning selection heads told format number before heads nodes told sink now None read written compared
+run_start selection heads told format number before nodes sink now read written compared has tree some size none_read none_written few = record {
+  met = [];
+  top = None;
   taken = 0;
-  has = has;
+  has = subst (λ (vs : List VersionData). HasPut format number vs before sink now) (sym (put_nothing selection)) has;
   ends = refl;
   ascends = nothing_ascends version_cmp;
   tree = tree;
   some = some;
   size = size;
   read_is = none_read;
-  written_is = none_written;
+  written_is = none_written ∙ ap (λ (vs : List VersionData). capped (length vs)) (sym (put_nothing selection));
   most = λ depth high. omega (arith, few);
-  least = omega arith;
-  fresh = λ e. refl;
+  least = λ p. omega arith;
+  fresh = λ p e. refl;
   follow = λ first f. f;
-  standing = λ all up stand. record { states = all; stand = stand; merging = none_put all up };
+  standing = λ all up stand. record { states = all; stand = stand; merging = none_met selection all up };
 }
 
 -- ---- heads and what the sources give
@@ -155,46 +163,129 @@ least_next (Some l) t c0 c1 c2 a f b d = least_more (2 ^ 64 - 1) t c0 c1 c2 a b 
 capped_more : (M n r : ℕ) → r ≡ min n M → min (r + 1) M ≡ min (n + 1) M
 capped_more M n r h = omega arith
 
-some_last : (last : Option VersionData) (v : VersionData) → last_next last v ≡ None → ⊥
-some_last None v e = cc
-some_last (Some l) v e =
-    elim (is_new (Some l) v) as (λ b. cond b (Some v) (Some l) ≡ None → ⊥) [
+all_pass : (selection : Selection) → passes_all selection ≡ true → (v : VersionData) → passes selection v ≡ true
+all_pass selections.All h v = refl
+all_pass selections.Visible h v = absurd (false≢true h)
+all_pass selections.Newest h v = refl
+all_pass selections.NewestVisible h v = refl
+all_pass (selections.State t) h v = absurd (false≢true h)
+all_pass (selections.StateVisible t) h v = absurd (false≢true h)
+all_pass (selections.Between from to) h v = refl
+
+at_once_pass : (selection : Selection) → puts_at_once selection ≡ true → (v : VersionData) → passes selection v ≡ true
+at_once_pass selections.All h v = refl
+at_once_pass selections.Visible h v = absurd (false≢true h)
+at_once_pass selections.Newest h v = absurd (false≢true h)
+at_once_pass selections.NewestVisible h v = absurd (false≢true h)
+at_once_pass (selections.State t) h v = absurd (false≢true h)
+at_once_pass (selections.StateVisible t) h v = absurd (false≢true h)
+at_once_pass (selections.Between from to) h v = absurd (false≢true h)
+
+some_held : (selection : Selection) (last : Option VersionData) (v : VersionData) → passes selection v ≡ true → held_next selection last v ≡ None → ⊥
+some_held selection None v pass e =
+    elim (passes selection v) as (λ b. b ≡ true → cond b (Some v) None ≡ None → ⊥) [
+      | true ↦ λ h e. cc
+      | false ↦ λ h e. absurd (false≢true h)
+    ] pass e
+some_held selection (Some l) v pass e =
+    elim (is_met selection (Some l) v) as (λ b. cond b (Some v) (Some l) ≡ None → ⊥) [
       | true ↦ λ e. cc
       | false ↦ λ e. cc
     ] e
 
+few_least : (selection : Selection) (t c : ℕ) → (passes_all selection ≡ true → capped (t - 1) ≤ c) → capped (few_of selection t) ≤ c
+few_least selection t c f =
+    elim (passes_all selection) as (λ b. (b ≡ true → capped (t - 1) ≤ c) → capped (cond b (t - 1) 0) ≤ c) [
+      | true ↦ λ f. f refl
+      | false ↦ λ f. omega arith
+    ] f
+
+takes_each : (format : Format) (number : ℕ) (put : List VersionData) (before : Option (List ℕ)) (sink : SinkState) (now : Option (List ℕ)) → HasPut format number put before sink now → (versions : List VersionData) → AscendBehind put versions → TakesEach versions sink
+takes_each format number put before sink now has [] h = tt
+takes_each format number put before sink now has (v ∷ vs) h =
+    ((λ going. subst (λ (s : SinkState). MayFollow v s.encoder) (sym has.state) (kinds_dont_fall format put [] v h.0)), takes_each format number put before sink now has vs h.1)
+
+-- a list of some versions
+abbrev IsFull : List VersionData → Type 0
+IsFull [] = ⊥
+IsFull (v ∷ vs) = Unit {0}
+
+is_full : (versions : List VersionData) → (versions ≡ [] → ⊥) → IsFull versions
+is_full [] h = h refl
+is_full (v ∷ vs) h = tt
+
+so_far : (format : Format) (versions : List VersionData) → IsFull versions → written_so_far format versions ≡ spelled_open format versions
+so_far format [] h = absurd h
+so_far format (v ∷ vs) h = refl
+
+before_is : (selection : Selection) (format : Format) (v : VersionData) (versions : List VersionData) → (puts_at_once selection ≡ true → IsFull (up_to (Some v) versions)) → written_before selection format (Some v) versions ≡ spelled_open format (put_of selection (passing selection (up_to (Some v) versions)))
+before_is selections.All format v versions f = so_far format (up_to (Some v) versions) (f refl)
+before_is selections.Visible format v versions f = refl
+before_is selections.Newest format v versions f = refl
+before_is selections.NewestVisible format v versions f = refl
+before_is (selections.State t) format v versions f = refl
+before_is (selections.StateVisible t) format v versions f = refl
+before_is (selections.Between from to) format v versions f = refl
+
+not_nothing : (front : List VersionData) (v : VersionData) → front ++ v ∷ [] ≡ [] → ⊥
+not_nothing [] v e = cc
+not_nothing (u ∷ us) v e = cc
+
 -- ---- one turn
-module _ {heads0 : List (Option VersionData)} {told0 : List (Option Coming)} {format : Format} {number : ℕ} {before : Option (List ℕ)}
+module _ {selection : Selection} {heads0 : List (Option VersionData)} {told0 : List (Option Coming)} {format : Format} {number : ℕ} {before : Option (List ℕ)}
     {heads : List (Option VersionData)} {nodes : List ℕ} {told : List (Option Coming)} {sink : SinkState} {now : Option (List ℕ)} {last : Option VersionData} {read written compared : ℕ}
-    (r : IsRunning heads0 told0 format number before heads nodes told sink now last read written compared) (w : ℕ) (top : w ≡ get_or nodes 1 0) where
+    (r : IsRunning selection heads0 told0 format number before heads nodes told sink now last read written compared) (w : ℕ) (top : w ≡ get_or nodes 1 0) where
   pub inside : w < length heads
   inside = subst (λ q. q < length heads) (sym top) (r.tree.below 1 (omega arith) (let s = r.some in omega arith))
 
   pub is_open : IsOpen sink
   is_open = (ap (λ s. s.begun) r.has.state, ap (λ s. s.ended) r.has.state)
 
-  -- what is new is of no lower kind, since what was put ascends
-  pub takes_new : TakesNew last sink
-  takes_new = λ v is going. subst (λ (s : SinkState). MayFollow v s.encoder) (sym r.has.state) (kinds_dont_fall format r.put [] v (ascends_with last v r.put r.ends is r.ascends))
+  pub takes : (v : VersionData) → is_met selection last v ≡ true → TakesEach (put_at selection last v) sink
+  takes v is =
+      takes_each format number (put_of selection r.met) before sink now r.has (put_at selection last v)
+      (may_put selection last v r.met r.ends r.ascends (ascends_with last v r.met r.ends (met_is_new selection last v is) r.ascends))
+
+  pub takes_last : TakesEach (put_at_end selection last) sink
+  takes_last = takes_each format number (put_of selection r.met) before sink now r.has (put_at_end selection last) (may_end selection last r.met r.ends r.ascends)
 
   module _ (v : VersionData) (at_w : get_or heads w None ≡ Some v) where
-    taken_head : (all : List Coming) (s : IsStanding all heads told r.put last r.taken) →
-        IsMerging all (without_head s.states w) (put_next last v r.put) (last_next last v) (r.taken + 1) × (last_next last v ≡ Some v)
+    abbrev met2 : List VersionData
+    met2 = met_next selection last v r.met
+
+    abbrev put2 : List VersionData
+    put2 = put_of selection met2
+
+    next_is : put_of selection r.met ++ puts selection last v ≡ put2
+    next_is = put_next selection last v r.met r.ends
+
+    taken_head : (all : List Coming) (s : IsStanding selection all heads told r.met last r.top r.taken) →
+        IsMerging selection all (without_head s.states w) met2 (held_next selection last v) (Some v) (r.taken + 1)
     taken_head all s =
-        merge_more all s.states r.put last r.taken w v s.merging (subst (λ n. w < n) (length_heads s.states heads s.stand.heads_are) inside) (sym (head_at s.states heads w s.stand.heads_are) ∙ at_w)
+        merge_more selection all s.states r.met last r.top r.taken w v s.merging (subst (λ n. w < n) (length_heads s.states heads s.stand.heads_are) inside) (sym (head_at s.states heads w s.stand.heads_are) ∙ at_w)
         (least_head s.states heads nodes w (Some v) s.stand.heads_are r.tree top at_w)
 
-    -- the sink refused the version
-    pub put_refused : (sink2 : SinkState) (now2 : Option (List ℕ)) (failed : Bool) (fault : Fault) → PutsNext last v sink sink2 now now2 failed (Err fault)
-        → (all : List Coming) → AllAscend all → AllStand all heads0 told0 → IsRefused all format number before now2 failed fault
-    put_refused sink2 now2 failed fault p all up st =
-        let s = r.standing all up st in
-        let m = taken_head all s in
-        inl (cut_in_file all format number before now2 (put_next last v r.put) failed fault (put_in_front all (without_head s.states w) (put_next last v r.put) (last_next last v) (r.taken + 1) m.0) (p format number r.put before r.has))
+    in_front : (all : List Coming) (s : IsStanding selection all heads told r.met last r.top r.taken) → InFront put2 (selected selection (union_of all))
+    in_front all s = put_in_front selection all (without_head s.states w) met2 (held_next selection last v) (Some v) (r.taken + 1) (taken_head all s)
 
-    pub put_why : (sink2 : SinkState) (now2 : Option (List ℕ)) (failed : Bool) (fault : Fault) → PutsNext last v sink sink2 now now2 failed (Err fault)
+    ascends2 : IsStrictlySortedBy version_cmp put2
+    ascends2 = put_ascends selection met2 (ascends_next selection last v r.met r.ends r.ascends)
+
+    has2 : (sink2 : SinkState) (now2 : Option (List ℕ)) (failed : Bool) → PutsMore (puts selection last v) sink sink2 now now2 failed (Ok tt) → HasPut format number put2 before sink2 now2
+    has2 sink2 now2 failed p = subst (λ (vs : List VersionData). HasPut format number vs before sink2 now2) next_is (p format number (put_of selection r.met) before r.has)
+
+    cut2 : (sink2 : SinkState) (now2 : Option (List ℕ)) (failed : Bool) (fault : Fault) → PutsMore (puts selection last v) sink sink2 now now2 failed (Err fault) → CutShort number before now2 failed (spelled_open format put2) fault
+    cut2 sink2 now2 failed fault p = subst (λ (vs : List VersionData). CutShort number before now2 failed (spelled_open format vs) fault) next_is (p format number (put_of selection r.met) before r.has)
+
+    -- the sink refused a version
+    pub put_refused : (sink2 : SinkState) (now2 : Option (List ℕ)) (failed : Bool) (fault : Fault) → PutsMore (puts selection last v) sink sink2 now now2 failed (Err fault)
+        → (all : List Coming) → AllAscend all → AllStand all heads0 told0 → IsRefusedAs selection all format number before now2 failed fault
+    put_refused sink2 now2 failed fault p all up st =
+        inl (cut_in_file (selected selection (union_of all)) format number before now2 put2 failed fault (in_front all (r.standing all up st)) (cut2 sink2 now2 failed fault p))
+
+    pub put_why : (sink2 : SinkState) (now2 : Option (List ℕ)) (failed : Bool) (fault : Fault) → PutsMore (puts selection last v) sink sink2 now now2 failed (Err fault)
         → (first : List (Option Coming)) → WhyRefused first format number failed fault
-    put_why sink2 now2 failed fault p first = why_cut_open first format number before now2 failed fault (put_next last v r.put) (ascends_next last v r.put r.ends r.ascends) (p format number r.put before r.has)
+    put_why sink2 now2 failed fault p first = why_cut_open first format number before now2 failed fault put2 ascends2 (cut2 sink2 now2 failed fault p)
 
     pub next_why : (failed : Bool) (fault : Fault) (after : Option Coming) → Step {A = VersionData} (get_or told w None) (Err fault) after
         → (first : List (Option Coming)) → length first ≡ length heads0 → length heads0 ≡ length heads → AllFollow first heads0 told0 → WhyRefused first format number failed fault
@@ -205,105 +296,105 @@ module _ {heads0 : List (Option VersionData)} {told0 : List (Option Coming)} {fo
           | inr is ↦ inr (w, (let i = inside in omega (arith, i, size0, size)), is)
         ])
 
-    pub put_kept : (sink2 : SinkState) (now2 : Option (List ℕ)) (failed : Bool) (fault : Fault) → PutsNext last v sink sink2 now now2 failed (Err fault) → Grows before now2
-    put_kept sink2 now2 failed fault p = let cut = p format number r.put before r.has in (take cut.count (spelled_open format (put_next last v r.put)), cut.appended)
+    pub put_kept : (sink2 : SinkState) (now2 : Option (List ℕ)) (failed : Bool) (fault : Fault) → PutsMore (puts selection last v) sink sink2 now now2 failed (Err fault) → Grows before now2
+    put_kept sink2 now2 failed fault p = let cut = cut2 sink2 now2 failed fault p in (take cut.count (spelled_open format put2), cut.appended)
 
-    pub next_kept : (sink2 : SinkState) (now2 : Option (List ℕ)) (failed : Bool) → PutsNext last v sink sink2 now now2 failed (Ok tt) → Grows before now2
-    next_kept sink2 now2 failed p = let has = p format number r.put before r.has in (spelled_open format (put_next last v r.put), has.sent.appended)
+    pub next_kept : (sink2 : SinkState) (now2 : Option (List ℕ)) (failed : Bool) → PutsMore (puts selection last v) sink sink2 now now2 failed (Ok tt) → Grows before now2
+    next_kept sink2 now2 failed p = let has = has2 sink2 now2 failed p in (spelled_open format put2, has.sent.appended)
 
     only_one : (vs : List VersionData) → first vs ≡ Some v → rest vs ≡ [] → vs ≡ v ∷ []
     only_one vs h k = split_first v vs h ∙ ap (λ t. v ∷ t) k
 
-    so_far_on : (front : List VersionData) → written_so_far format (front ++ v ∷ []) ≡ spelled_open format (front ++ v ∷ [])
-    so_far_on [] = refl
-    so_far_on (u ∷ us) = refl
-
-    so_far : (put : List VersionData) → Ends (Some v) put → written_so_far format put ≡ spelled_open format put
-    so_far put e = subst (λ (vs : List VersionData). written_so_far format vs ≡ spelled_open format vs) (sym e.1) (so_far_on (e.0))
-
     -- the source of the version was refused, once the version was put
-    pub source_refused : (sink2 : SinkState) (now2 : Option (List ℕ)) (failed : Bool) (fault : Fault) (after : Option Coming) → PutsNext last v sink sink2 now now2 failed (Ok tt) → Step {A = VersionData} (get_or told w None) (Err fault) after
-        → (all : List Coming) → AllAscend all → AllStand all heads0 told0 → IsRefused all format number before now2 failed fault
+    pub source_refused : (sink2 : SinkState) (now2 : Option (List ℕ)) (failed : Bool) (fault : Fault) (after : Option Coming) → PutsMore (puts selection last v) sink sink2 now now2 failed (Ok tt) → Step {A = VersionData} (get_or told w None) (Err fault) after
+        → (all : List Coming) → AllAscend all → AllStand all heads0 told0 → IsRefusedAs selection all format number before now2 failed fault
     source_refused sink2 now2 failed fault after p step all up st =
         let s = r.standing all up st in
         let here : Coming = coming_at s.states w in
-        let put2 : List VersionData = put_next last v r.put in
         let states2 : List Coming = without_head s.states w in
         let m = taken_head all s in
-        let at_v : IsMerging all states2 put2 (Some v) (r.taken + 1) = subst (λ (l : Option VersionData). IsMerging all states2 put2 l (r.taken + 1)) m.1 m.0 in
-        let sent : Appended before now2 (spelled_open format put2) = (p format number r.put before r.has).sent.appended in
+        let sent : Appended before now2 (spelled_open format put2) = (has2 sink2 now2 failed p).sent.appended in
         let less : w < length s.states = subst (λ n. w < n) (length_heads s.states heads s.stand.heads_are) inside in
         let tells : get_or told w None ≡ Some (behind_head here) = told_at told (map behind_head s.states) w s.stand.behind (let e = r.size in let i = inside in omega arith) ∙ ap Some (behind_at s.states w) in
         elim (told_refuses (behind_head here) fault after (subst (λ o. Step {A = VersionData} o (Err fault) after) tells step)) [
-          | inl wanting ↦ inl (subst (λ (f : Fault). CutShort number before now2 failed (spell format (union_of all)) f) (sym wanting) (memory_refused all format number before now2 put2 failed (put_in_front all states2 put2 (Some v) (r.taken + 1) at_v) sent))
+          | inl wanting ↦ inl (subst (λ (f : Fault). CutShort number before now2 failed (spell format (selected selection (union_of all))) f) (sym wanting) (memory_refused (selected selection (union_of all)) format number before now2 put2 failed (in_front all s) sent))
           | inr end ↦ (
               let list_is : (coming_at all w).list ≡ (s.merging.came w).0 ++ v ∷ [] =
               (s.merging.came w).1 ∙ ap (λ t. (s.merging.came w).0 ++ t) (only_one here.list (sym (head_at s.states heads w s.stand.heads_are) ∙ at_w) end.0) in
               let last_v : last_of (coming_at all w).list ≡ Some v = ap last_of list_is ∙ last_of_end ((s.merging.came w).0) v in
-              let put_is : put2 ≡ up_to (last_of (coming_at all w).list) (union_list all) = put_up_to all states2 put2 v (r.taken + 1) at_v ∙ ap (λ l. up_to l (union_list all)) (sym last_v) in
+              let met_is : met2 ≡ passing selection (up_to (Some v) (union_list all)) = met_up_to m v refl in
+              let full : puts_at_once selection ≡ true → IsFull (up_to (Some v) (union_list all)) = λ once.
+              is_full (up_to (Some v) (union_list all)) (λ none.
+              let e : Ends (Some v) met2 = subst (λ (h : Option VersionData). Ends h met2) (m.reached (at_once_pass selection once v)) m.ends in
+              not_nothing (e.0) v (sym e.1 ∙ met_is ∙ ap (passing selection) none ∙ passing_nothing selection)) in
+              let bytes : written_before selection format (last_of (coming_at all w).list) (union_list all) ≡ spelled_open format put2 =
+              ap (λ (l : Option VersionData). written_before selection format l (union_list all)) last_v ∙ before_is selection format v (union_list all) full ∙ ap (λ (vs : List VersionData). spelled_open format (put_of selection vs)) (sym met_is) in
               inr (record {
                 place = w;
                 within = subst (λ n. w < n) s.merging.size less;
                 refusal = s.merging.refusals w ∙ end.1;
-                appended = subst (λ (vs : List VersionData). Appended before now2 (written_so_far format vs)) put_is (subst (Appended before now2) (sym (so_far put2 at_v.ends)) sent);
+                appended = subst (Appended before now2) (sym bytes) sent;
               }))
         ]
 
     -- the loop goes on
     pub run_more : (nodes2 : List ℕ) (sink2 : SinkState) (now2 : Option (List ℕ)) (failed2 : Bool) (last2 : Option VersionData) (given : Option VersionData) (after : Option Coming) (read2 written2 compared1 compared2 : ℕ)
-        → PutsNext last v sink sink2 now now2 failed2 (Ok tt) → last2 ≡ last_next last v → Step (get_or told w None) (Ok given) after
+        → PutsMore (puts selection last v) sink sink2 now now2 failed2 (Ok tt) → last2 ≡ held_next selection last v → Step (get_or told w None) (Ok given) after
         → IsTree (set heads w given) nodes2 1 0
         → read2 ≡ capped (read + 1)
-        → ((put : List VersionData) → written ≡ capped (length put) → written2 ≡ capped (length (put_next last v put)))
+        → ((put : List VersionData) → written ≡ capped (length put) → written2 ≡ capped (length (put ++ puts selection last v)))
         → compared1 ≤ compared + 1 → IfSome last (λ _. capped (compared + 1) ≤ compared1)
         → compared1 ≤ compared2 → ((depth : ℕ) → length (set heads w given) ≤ 2 ^ depth → compared2 ≤ compared1 + depth)
-        → IsRunning heads0 told0 format number before (set heads w given) nodes2 (set told w after) sink2 now2 last2 read2 written2 compared2
+        → IsRunning selection heads0 told0 format number before (set heads w given) nodes2 (set told w after) sink2 now2 last2 read2 written2 compared2
     run_more nodes2 sink2 now2 failed2 last2 given after read2 written2 compared1 compared2 p last_is step tree read_is writes most least grows replayed =
         let size : length (set heads w given) ≡ length heads = length-set heads w given in
         let sizes : length (set told w after) ≡ length told = length-set told w after in
         record {
-          put = put_next last v r.put;
+          met = met2;
+          top = Some v;
           taken = r.taken + 1;
-          has = p format number r.put before r.has;
-          ends = subst (λ (l : Option VersionData). Ends l (put_next last v r.put)) (sym last_is) (ends_next last v r.put r.ends);
-          ascends = ascends_next last v r.put r.ends r.ascends;
+          has = has2 sink2 now2 failed2 p;
+          ends = subst (λ (l : Option VersionData). Ends l met2) (sym last_is) (ends_next selection last v r.met r.ends);
+          ascends = ascends_next selection last v r.met r.ends r.ascends;
           tree = tree;
           some = subst (λ n. 0 < n) (sym size) r.some;
           size = sizes ∙ r.size ∙ sym size;
           read_is = read_is ∙ capped_more (2 ^ 64 - 1) r.taken read r.read_is;
-          written_is = writes r.put r.written_is;
+          written_is = writes (put_of selection r.met) r.written_is ∙ ap (λ (vs : List VersionData). capped (length vs)) next_is;
           most = λ depth high.
               let old = r.most depth (subst (λ n. n ≤ 2 ^ depth) size high) in
               let later = replayed depth high in
               let times : (r.taken + 1) * (depth + 1) ≡ r.taken * (depth + 1) + 1 * (depth + 1) = add-mul r.taken 1 (depth + 1) in
               omega (arith, old, later, times, size);
-          least = least_next last r.taken compared compared1 compared2 r.least r.fresh least grows;
-          fresh = λ e. absurd (some_last last v (sym last_is ∙ e));
+          least = λ p. least_next last r.taken compared compared1 compared2 (r.least p) (r.fresh p) least grows;
+          fresh = λ p e. absurd (some_held selection last v (all_pass selection p v) (sym last_is ∙ e));
           follow = λ first f. follow_more first heads told w given after (r.follow first f) inside r.size step;
           standing = λ all up st.
               let s = r.standing all up st in
               record {
                 states = without_head s.states w;
                 stand = stand_more s.states heads told w given after s.stand inside r.size step;
-                merging = subst (λ (l : Option VersionData). IsMerging all (without_head s.states w) (put_next last v r.put) l (r.taken + 1)) (sym last_is) (taken_head all s).0;
+                merging = subst (λ (l : Option VersionData). IsMerging selection all (without_head s.states w) met2 l (Some v) (r.taken + 1)) (sym last_is) (taken_head all s);
               };
         }
 
 -- ---- the end
--- where all sources told what was to come, all of it was taken, and the union was put
-pub record IsToldDone (all : List Coming) (put : List VersionData) (read compared : ℕ) : Type 0 where
-  pub union_is : union_list all ≡ put
+-- where all sources told what was to come, all of it was taken, and what is selected of the union was put
+pub record IsToldDone (selection : Selection) (all : List Coming) (put : List VersionData) (read compared : ℕ) : Type 0 where
+  pub union_is : chosen selection all ≡ put
   pub ends_whole : All (λ c. c.refusal ≡ None) all
   pub read_is : read ≡ capped (length (versions_of all))
-  pub bounded : IsBounded (length all) (length (versions_of all)) compared
+  pub bounded : IsBoundedFrom (few_of selection (length (versions_of all))) (length all) (length (versions_of all)) compared
 
 -- before the file is ended
-pub record IsDone (heads0 : List (Option VersionData)) (told0 : List (Option Coming)) (format : Format) (number : ℕ) (before : Option (List ℕ)) (sink : SinkState) (now : Option (List ℕ)) (counts : Counts) : Type 0 where
+pub record IsDone (selection : Selection) (last : Option VersionData) (heads0 : List (Option VersionData)) (told0 : List (Option Coming)) (format : Format) (number : ℕ) (before : Option (List ℕ)) (sink : SinkState) (now : Option (List ℕ)) (counts : Counts) : Type 0 where
+  pub so_far : List VersionData
   pub put : List VersionData
-  pub has : HasPut format number put before sink now
+  pub put_is : so_far ++ put_at_end selection last ≡ put
+  pub has : HasPut format number so_far before sink now
   pub ascends : IsStrictlySortedBy version_cmp put
-  pub written_is : counts.written ≡ capped (length put)
-  pub told : (all : List Coming) → AllAscend all → AllStand all heads0 told0 → IsToldDone all put counts.read counts.compared
+  pub written_is : counts.written ≡ capped (length so_far)
+  pub told : (all : List Coming) → AllAscend all → AllStand all heads0 told0 → IsToldDone selection all put counts.read counts.compared
   pub each_whole : (first : List (Option Coming)) → AllFollow first heads0 told0 → All IsWhole first
 
 none_left : (heads : List (Option VersionData)) (nodes : List ℕ) (w : ℕ) → IsTree heads nodes 1 0 → w ≡ get_or nodes 1 0 → get_or heads w None ≡ None → (i : ℕ) → get_or heads i None ≡ None
@@ -313,25 +404,27 @@ none_left heads nodes w t top at_w i =
       | inr more ↦ get_or_past heads i None more
     ]
 
-pub run_done : {heads0 : List (Option VersionData)} {told0 : List (Option Coming)} {format : Format} {number : ℕ} {before : Option (List ℕ)}
+pub run_done : {selection : Selection} {heads0 : List (Option VersionData)} {told0 : List (Option Coming)} {format : Format} {number : ℕ} {before : Option (List ℕ)}
     {heads : List (Option VersionData)} {nodes : List ℕ} {told : List (Option Coming)} {sink : SinkState} {now : Option (List ℕ)} {last : Option VersionData} (counts : Counts) (w : ℕ)
-    → IsRunning heads0 told0 format number before heads nodes told sink now last counts.read counts.written counts.compared
+    → IsRunning selection heads0 told0 format number before heads nodes told sink now last counts.read counts.written counts.compared
     → w ≡ get_or nodes 1 0 → get_or heads w None ≡ None
-    → IsDone heads0 told0 format number before sink now counts
-run_done {heads = heads} {nodes = nodes} {told = told} {last = last} counts w r top at_w =
+    → IsDone selection last heads0 told0 format number before sink now counts
+run_done {selection = selection} {heads = heads} {nodes = nodes} {told = told} {last = last} counts w r top at_w =
     let none = none_left heads nodes w r.tree top at_w in
     record {
-      put = r.put;
+      so_far = put_of selection r.met;
+      put = put_of selection r.met ++ put_at_end selection last;
+      put_is = refl;
       has = r.has;
-      ascends = r.ascends;
+      ascends = subst (IsStrictlySortedBy version_cmp) (sym (put_all selection last r.met r.ends)) (kept_ascends (keeps selection) r.met r.ascends);
       written_is = r.written_is;
       told = λ all up st.
           let s = r.standing all up st in
           let no_head : (i : ℕ) → i < length s.states → head (coming_at s.states i) ≡ None = λ i low. sym (head_at s.states heads i s.stand.heads_are) ∙ none i in
-          let taken_is : r.taken ≡ length (versions_of all) = all_taken all s.states r.put last r.taken s.merging no_head in
+          let taken_is : r.taken ≡ length (versions_of all) = all_taken s.merging no_head in
           let sources : length heads ≡ length all = length_heads s.states heads s.stand.heads_are ∙ s.merging.size in
           record {
-            union_is = all_put all s.states r.put last r.taken s.merging no_head;
+            union_is = all_put s.merging no_head;
             ends_whole = λ i d low.
                 let within : i < length s.states = subst (λ n. i < n) (sym s.merging.size) low in
                 subst (λ c. c.refusal ≡ None) (get_or_default all i whole d low) (s.merging.refusals i ∙ s.stand.settled i within (no_head i within));
@@ -340,75 +433,86 @@ run_done {heads = heads} {nodes = nodes} {told = told} {last = last} counts w r 
               most = λ depth high.
                   let old = r.most depth (subst (λ n. n ≤ 2 ^ depth) (sym sources) high) in
                   subst (λ t. counts.compared ≤ (length all - 1) + t * (depth + 1)) taken_is (subst (λ k. counts.compared ≤ (k - 1) + r.taken * (depth + 1)) sources old);
-              least = subst (λ t. capped (t - 1) ≤ counts.compared) taken_is r.least;
+              least = few_least selection (length (versions_of all)) counts.compared (λ p. subst (λ t. capped (t - 1) ≤ counts.compared) taken_is (r.least p));
             };
           };
       each_whole = λ first f. all_whole first heads told (r.follow first f) none;
     }
 
 -- of no sources
-pub none_done : (heads : List (Option VersionData)) (told : List (Option Coming)) (format : Format) (number : ℕ) (before : Option (List ℕ)) (sink : SinkState) (now : Option (List ℕ)) (counts : Counts)
+pub none_done : (selection : Selection) (heads : List (Option VersionData)) (told : List (Option Coming)) (format : Format) (number : ℕ) (before : Option (List ℕ)) (sink : SinkState) (now : Option (List ℕ)) (counts : Counts)
     → length heads ≡ 0 → HasPut format number [] before sink now → counts.read ≡ 0 → counts.written ≡ 0 → counts.compared ≤ length heads - 1
-    → IsDone heads told format number before sink now counts
-none_done heads told format number before sink now counts empty has none_read none_written few = record {
-  put = [];
+    → IsDone selection None heads told format number before sink now counts
+none_done selection heads told format number before sink now counts empty has none_read none_written few = record {
+  so_far = [];
+  put = put_of selection [] ++ put_at_end selection None;
+  put_is = ap (λ (vs : List VersionData). vs ++ put_at_end selection None) (sym (put_nothing selection));
   has = has;
-  ascends = nothing_ascends version_cmp;
+  ascends = subst (IsStrictlySortedBy version_cmp) (sym (put_all selection None [] refl)) (nothing_ascends version_cmp);
   written_is = none_written;
   told = λ all up st.
       let size : length heads ≡ length all = length_heads all heads st.heads_are in
       let no_head : (i : ℕ) → i < length all → head (coming_at all i) ≡ None = λ i low. absurd (omega arith) in
-      let taken_is : 0 ≡ length (versions_of all) = all_taken all all [] None 0 (none_put all up) no_head in
+      let taken_is : 0 ≡ length (versions_of all) = all_taken (none_met selection all up) no_head in
       record {
-        union_is = all_put all all [] None 0 (none_put all up) no_head;
+        union_is = all_put (none_met selection all up) no_head;
         ends_whole = λ i d low. absurd (omega arith);
         read_is = none_read ∙ ap capped taken_is;
-        bounded = record { most = λ depth high. omega arith; least = subst (λ t. capped (t - 1) ≤ counts.compared) taken_is (omega arith) };
+        bounded = record { most = λ depth high. omega arith; least = few_least selection (length (versions_of all)) counts.compared (λ p. subst (λ t. capped (t - 1) ≤ counts.compared) taken_is (omega arith)) };
       };
   each_whole = λ first f. all_whole first heads told f (λ i. get_or_past heads i None (omega arith));
 }
 
-module _ {heads0 : List (Option VersionData)} {told0 : List (Option Coming)} {format : Format} {number : ℕ} {before : Option (List ℕ)} {sink : SinkState} {now : Option (List ℕ)} {counts : Counts}
-    (d : IsDone heads0 told0 format number before sink now counts) (after : Option (List ℕ)) (failed : Bool) where
-  pub end_merged : (result : Result Counts Fault) → EndsFile sink now after failed result → IfOk result (λ done. done ≡ counts)
-      → IfOk result (λ done. (all : List Coming) → AllAscend all → AllStand all heads0 told0 → IsMerged all format before after done)
+module _ {selection : Selection} {last : Option VersionData} {heads0 : List (Option VersionData)} {told0 : List (Option Coming)} {format : Format} {number : ℕ} {before : Option (List ℕ)} {sink : SinkState} {now : Option (List ℕ)} {counts : Counts}
+    (d : IsDone selection last heads0 told0 format number before sink now counts) (after : Option (List ℕ)) (failed : Bool) where
+  abbrev more : List VersionData
+  more = put_at_end selection last
+
+  -- the counts at the end
+  abbrev pub Counted : Result Counts Fault → Type 0
+  Counted result =
+      IfOk result (λ done. done.read ≡ counts.read)
+      × IfOk result (λ done. (put : List VersionData) → counts.written ≡ capped (length put) → done.written ≡ capped (length (put ++ more)))
+      × IfOk result (λ done. done.compared ≡ counts.compared)
+
+  pub end_merged : (result : Result Counts Fault) → EndsFile more sink now after failed result → Counted result
+      → IfOk result (λ done. (all : List Coming) → AllAscend all → AllStand all heads0 told0 → IsMergedAs selection all format before after done)
   end_merged (Ok done) ends is = λ all up st.
       let t = d.told all up st in
-      let sent = ends format number d.put before d.has in
-      subst (λ (k : Counts). IsMerged all format before after k) (sym is)
-      (record {
+      let sent = ends format number d.so_far before d.has in
+      let all_is : d.so_far ++ more ≡ chosen selection all = d.put_is ∙ sym t.union_is in
+      record {
         whole = t.ends_whole;
-        appended = subst (λ (vs : List VersionData). Appended before after (spell_list format vs)) (sym t.union_is) sent.appended;
-        read = t.read_is;
-        written = d.written_is ∙ ap (λ vs. capped (length vs)) (sym t.union_is);
-        compared = t.bounded;
-      })
+        appended = subst (λ (vs : List VersionData). Appended before after (spell_list format vs)) all_is sent.appended;
+        read = is.0 ∙ t.read_is;
+        written = is.1 d.so_far d.written_is ∙ ap (λ vs. capped (length vs)) all_is;
+        compared = subst (λ (n : ℕ). IsBoundedFrom (few_of selection (length (versions_of all))) (length all) (length (versions_of all)) n) (sym is.2) t.bounded;
+      }
   end_merged (Err fault) ends is = tt
 
-  pub end_refused : (result : Result Counts Fault) → EndsFile sink now after failed result
-      → IfErr result (λ fault. (all : List Coming) → AllAscend all → AllStand all heads0 told0 → IsRefused all format number before after failed fault)
+  pub end_refused : (result : Result Counts Fault) → EndsFile more sink now after failed result
+      → IfErr result (λ fault. (all : List Coming) → AllAscend all → AllStand all heads0 told0 → IsRefusedAs selection all format number before after failed fault)
   end_refused (Ok done) ends = tt
   end_refused (Err fault) ends = λ all up st.
-      inl (subst (λ (vs : List VersionData). CutShort number before after failed (spell_list format vs) fault) (sym (d.told all up st).union_is) (ends format number d.put before d.has))
+      inl (subst (λ (vs : List VersionData). CutShort number before after failed (spell_list format vs) fault) (d.put_is ∙ sym (d.told all up st).union_is) (ends format number d.so_far before d.has))
 
-  pub end_kept : (result : Result Counts Fault) → EndsFile sink now after failed result → Grows before after
-  end_kept (Ok done) ends = (spell_list format d.put, (ends format number d.put before d.has).appended)
-  end_kept (Err fault) ends = let cut = ends format number d.put before d.has in (take cut.count (spell_list format d.put), cut.appended)
+  pub end_kept : (result : Result Counts Fault) → EndsFile more sink now after failed result → Grows before after
+  end_kept (Ok done) ends = (spell_list format (d.so_far ++ more), (ends format number d.so_far before d.has).appended)
+  end_kept (Err fault) ends = let cut = ends format number d.so_far before d.has in (take cut.count (spell_list format (d.so_far ++ more)), cut.appended)
 
-  pub end_set : (result : Result Counts Fault) → EndsFile sink now after failed result → IfOk result (λ done. done ≡ counts) → IfOk result (WritesSet format before after)
+  pub end_set : (result : Result Counts Fault) → EndsFile more sink now after failed result → Counted result → IfOk result (WritesSet format before after)
   end_set (Ok done) ends is =
-      let sent = ends format number d.put before d.has in
-      subst (λ (k : Counts). WritesSet format before after k) (sym is)
-      (record {
+      let sent = ends format number d.so_far before d.has in
+      record {
         set = from_list d.put;
-        appended = subst (λ (bytes : List ℕ). Appended before after bytes) (list_spelled format d.put d.ascends) sent.appended;
-        written = d.written_is ∙ ap (λ vs. capped (length vs)) (sym (listed-view d.put d.ascends));
-      })
+        appended = subst (λ (bytes : List ℕ). Appended before after bytes) (ap (spell_list format) d.put_is ∙ list_spelled format d.put d.ascends) sent.appended;
+        written = is.1 d.so_far d.written_is ∙ ap (λ vs. capped (length vs)) (d.put_is ∙ sym (listed-view d.put d.ascends));
+      }
   end_set (Err fault) ends is = tt
 
-  pub end_why : (result : Result Counts Fault) → EndsFile sink now after failed result → IfErr result (λ fault. (first : List (Option Coming)) → length first ≡ length heads0 → AllFollow first heads0 told0 → WhyRefused first format number failed fault)
+  pub end_why : (result : Result Counts Fault) → EndsFile more sink now after failed result → IfErr result (λ fault. (first : List (Option Coming)) → length first ≡ length heads0 → AllFollow first heads0 told0 → WhyRefused first format number failed fault)
   end_why (Ok done) ends = tt
-  end_why (Err fault) ends = λ first size f. why_cut_whole first format number before after failed fault d.put d.ascends (ends format number d.put before d.has)
+  end_why (Err fault) ends = λ first size f. why_cut_whole first format number before after failed fault d.put d.ascends (subst (λ (vs : List VersionData). CutShort number before after failed (spell_list format vs) fault) d.put_is (ends format number d.so_far before d.has))
 
   pub end_whole : (result : Result Counts Fault) → OnOk result ((first : List (Option Coming)) → AllFollow first heads0 told0 → All IsWhole first)
   end_whole (Ok done) = d.each_whole

@@ -1,33 +1,43 @@
 -- What a merge has done, and what is still to do.
-use Rattle.std.proofs.Common.{◌≡◌, ℕ, ◌+◌, false, ◌||◌, List, [], ◌∷◌, ◌++◌, length, Option, Some, None}
+use Rattle.std.proofs.Common.{◌≡◌, ℕ, ◌+◌, true, false, ◌||◌, ◌&&◌, IfSome, List, [], ◌∷◌, ◌++◌, length, Option, Some, None}
 use Rattle.std.specs.List.{AllByRecursion}
 use Rattle.std.specs.List.Sorted.{IsStrictlySortedBy}
 use Rattle.std.specs.Ordering.{is_gt}
 use Rattle.osm_model.specs.Data.{VersionData}
 use Rattle.osm_model.specs.Order.{version_cmp}
+use Rattle.osm_merge.specs.declared.selection.Selection.{Selection}
+use Rattle.osm_merge.specs.Pass.{passes}
 use Rattle.osm_merge.specs.Coming.{Coming, coming_at}
 use Rattle.osm_merge.specs.Union.{versions_of}
 use Rattle.osm_merge.proofs.AscendingLaws.{among}
 
--- what was put ends with the one put last, where there is one
+-- what was met ends with the version held back, where there is one
 abbrev pub Ends : Option VersionData → List VersionData → Type 0
-Ends None put = put ≡ []
-Ends (Some last) put = (front : List VersionData) × (put ≡ front ++ last ∷ [])
+Ends None met = met ≡ []
+Ends (Some held) met = (front : List VersionData) × (met ≡ front ++ held ∷ [])
 
--- the one put last is not greater than any of these
+-- a version is not greater than any of these
 abbrev pub Floor : Option VersionData → List VersionData → Type 0
 Floor None versions = Unit {0}
-Floor (Some last) versions = AllByRecursion (λ v. is_gt (version_cmp last v) ≡ false) versions
+Floor (Some low) versions = AllByRecursion (λ v. is_gt (version_cmp low v) ≡ false) versions
 
--- Of what the sources gave at first, so many versions were taken, and these were put, the last one last; `states` is still
--- to come, the heads included.
-pub record IsMerging (all states : List Coming) (put : List VersionData) (last : Option VersionData) (taken : ℕ) : Type 0 where
+-- the version held back is not greater than the one taken last
+abbrev pub IsUnder : Option VersionData → Option VersionData → Type 0
+IsUnder None top = Unit {0}
+IsUnder (Some held) None = ⊥
+IsUnder (Some held) (Some top) = is_gt (version_cmp held top) ≡ false
+
+-- Of what the sources gave at first, so many versions were taken, the greatest one last; those that pass were met, each once,
+-- and the last of them is held back; `states` is still to come, the heads included.
+pub record IsMerging (selection : Selection) (all states : List Coming) (met : List VersionData) (held top : Option VersionData) (taken : ℕ) : Type 0 where
   pub size : length states ≡ length all
-  pub ascends : IsStrictlySortedBy version_cmp put
+  pub ascends : IsStrictlySortedBy version_cmp met
   pub queues : (i : ℕ) → IsStrictlySortedBy version_cmp (coming_at states i).list
   pub came : (i : ℕ) → (gone : List VersionData) × ((coming_at all i).list ≡ gone ++ (coming_at states i).list)
   pub refusals : (i : ℕ) → (coming_at all i).refusal ≡ (coming_at states i).refusal
-  pub same : (q : VersionData) → among q (versions_of all) ≡ (among q put || among q (versions_of states))
-  pub ends : Ends last put
-  pub floor : (i : ℕ) → Floor last (coming_at states i).list
+  pub same : (q : VersionData) → (among q (versions_of all) && passes selection q) ≡ (among q met || (among q (versions_of states) && passes selection q))
+  pub ends : Ends held met
+  pub floor : (i : ℕ) → Floor top (coming_at states i).list
+  pub under : IsUnder held top
+  pub reached : IfSome top (λ t. passes selection t ≡ true → held ≡ Some t)
   pub count : taken + length (versions_of states) ≡ length (versions_of all)

@@ -1,11 +1,12 @@
 -- What was put, against the union, and the file of it.
-use Rattle.std.proofs.Common.{◌≡◌, ◌⊎◌, ℕ, suc, ◌<◌, ◌≤◌, Bool, true, false, not, ◌||◌, ◌&&◌, cond, List, [], ◌∷◌, ◌++◌, length, take, refl, sym, ap, ◌∙◌, subst, arith, Option, Some, None, inl, inr, length-append}
+use Rattle.std.proofs.Common.{◌≡◌, ◌⊎◌, ℕ, suc, ◌<◌, ◌≤◌, Bool, true, false, not, ◌||◌, ◌&&◌, cond, List, [], ◌∷◌, ◌++◌, length, take, refl, sym, ap, ◌∙◌, subst, arith, Option, Some, None, IfSome, inl, inr, length-append}
 use Rattle.std.specs.Ordering.{is_gt, eq_by_cmp}
 use Rattle.std.specs.declared.cmp.Ordering.TheVariants.{Less}
-use Rattle.std.specs.Cmp.{tied_itself}
+use Rattle.std.specs.Cmp.{tied_itself, upto}
 use Rattle.std.specs.List.{AllByRecursion, filter}
 use Rattle.std.specs.List.Sorted.{IsStrictlySortedBy}
 use Rattle.std.proofs.lemmas.List.Folds.{list_any-append}
+use Rattle.std.proofs.lemmas.List.Elements.{filter-append}
 use Rattle.std.proofs.lemmas.List.Kept.{IsStrictlySortedBy-filter}
 use Rattle.std.proofs.lemmas.List.{append-nil}
 use Rattle.std.proofs.Math.Seq.{take-append_seam}
@@ -23,13 +24,20 @@ use Rattle.osm_files.specs.Spell.{ended, spelled_open, spell_list, spell}
 use Rattle.osm_files.specs.Sink.{CutShort}
 use Rattle.osm_files.proofs.SpellLaws.{first_in_front, list_spelled}
 use Rattle.osm_files.proofs.SinkLaws.{cut_before_end}
-use Rattle.osm_merge.specs.Coming.{Coming, first, head, coming_at, IsFirstFault, IsFaultOfOne}
+use Rattle.osm_merge.specs.Coming.{Coming, head, coming_at, IsFirstFault, IsFaultOfOne}
+use Rattle.osm_merge.specs.Members.{first}
 use Rattle.osm_merge.specs.Union.{versions_of, union_of}
-use Rattle.osm_merge.specs.Merged.{last_of, up_to, written_so_far, IsRefused, WhyRefused, HasBegun}
+use Rattle.osm_merge.specs.declared.selection.Selection.{Selection}
+use Rattle.osm_merge.specs.declared.selection.Selection.TheVariants.{All, Visible, Newest, NewestVisible, State, StateVisible, Between}
+use Rattle.osm_merge.specs.Selected.{selected}
+use Rattle.osm_merge.specs.Pass.{passes, passing, keeps, kept, put_of, put_at_end}
+use Rattle.osm_merge.specs.Merged.{last_of, up_to, written_so_far, written_before, IsRefusedAs, WhyRefused, HasBegunIn}
+use Rattle.osm_merge.proofs.SelectedLaws.{passing_is, pass_of_set}
+use Rattle.osm_merge.proofs.Settling.{put_all, put_front, put_nothing}
 use Rattle.osm_merge.proofs.OrderLaws.{equal_versions, equal_both_ways, greater_on}
 use Rattle.osm_merge.proofs.AscendingLaws.{first_below, rest_ascends, among, same_list, among_listed}
-use Rattle.osm_merge.proofs.MergeLaws.{among_end}
-use Rattle.osm_merge.proofs.State.{Floor, IsMerging}
+use Rattle.osm_merge.proofs.MergeLaws.{among_ends, both_so}
+use Rattle.osm_merge.proofs.State.{Ends, Floor, IsUnder, IsMerging}
 
 -- the members of the union, ascending
 abbrev pub union_list : List Coming → List VersionData
@@ -55,20 +63,10 @@ none_to_come : (states : List Coming) → ((i : ℕ) → i < length states → h
 none_to_come [] h = refl
 none_to_come (c ∷ cs) h = ap (λ t. t ++ versions_of cs) (no_first c.list (h 0 (omega arith))) ∙ none_to_come cs (λ i less. h (suc i) (omega arith))
 
-module _ (all states : List Coming) (put : List VersionData) (last : Option VersionData) (taken : ℕ) (m : IsMerging all states put last taken) where
-  -- where no head is left, the union was put
-  pub all_put : ((i : ℕ) → i < length states → head (coming_at states i) ≡ None) → union_list all ≡ put
-  all_put none =
-      same_list (union_list all) put (union_ascends all) m.ascends
-      (λ q. among_union all q ∙ m.same q ∙ ap (λ t. among q put || among q t) (none_to_come states none) ∙ or_none (among q put))
-
-  pub all_taken : ((i : ℕ) → i < length states → head (coming_at states i) ≡ None) → taken ≡ length (versions_of all)
-  all_taken none = let e : length (versions_of states) ≡ 0 = ap length (none_to_come states none) in omega (arith, m.count, e)
-
 -- ---- what a filter keeps
-kept : (a b c : Bool) → (a ≡ true → c ≡ true) → (a || (b && c)) ≡ ((a || b) && c)
-kept true b c h = sym (h refl)
-kept false b c h = refl
+held_by : (a b c : Bool) → (a ≡ true → c ≡ true) → (a || (b && c)) ≡ ((a || b) && c)
+held_by true b c h = sym (h refl)
+held_by false b c h = refl
 
 left_out : (a b c : Bool) → (a ≡ true → c ≡ false) → (b && c) ≡ ((a || b) && c)
 left_out true true c h = refl
@@ -79,7 +77,7 @@ among_filter : (p : VersionData → Bool) (q : VersionData) (vs : List VersionDa
 among_filter p q [] = refl
 among_filter p q (v ∷ vs) =
     elim (p v) as (λ b. p v ≡ b → among q (cond b (v ∷ filter p vs) (filter p vs)) ≡ ((eq_by_cmp version_cmp q v || among q vs) && p q)) [
-      | true ↦ λ is. ap (λ t. eq_by_cmp version_cmp q v || t) (among_filter p q vs) ∙ kept (eq_by_cmp version_cmp q v) (among q vs) (p q) (λ e. ap p (equal_versions q v e) ∙ is)
+      | true ↦ λ is. ap (λ t. eq_by_cmp version_cmp q v || t) (among_filter p q vs) ∙ held_by (eq_by_cmp version_cmp q v) (among q vs) (p q) (λ e. ap p (equal_versions q v e) ∙ is)
       | false ↦ λ is. among_filter p q vs ∙ left_out (eq_by_cmp version_cmp q v) (among q vs) (p q) (λ e. ap p (equal_versions q v e) ∙ is)
     ] refl
 
@@ -125,16 +123,71 @@ not_true : (b : Bool) → not b ≡ true → b ≡ false
 not_true true h = absurd (false≢true h)
 not_true false h = refl
 
--- what was put is the union up to the one put last
-pub put_up_to : (all states : List Coming) (put : List VersionData) (v : VersionData) (taken : ℕ) → IsMerging all states put (Some v) taken → put ≡ up_to (Some v) (union_list all)
-put_up_to all states put v taken m =
-    let p : VersionData → Bool = λ w. not (is_gt (version_cmp w v)) in
-    same_list put (filter p (union_list all)) m.ascends (IsStrictlySortedBy-filter version_cmp p (union_list all) (union_ascends all))
-    (λ q. sym (among_filter p q (union_list all) ∙ ap (λ t. t && p q) (among_union all q ∙ m.same q)
-    ∙ narrow (among q put) (among q (versions_of states)) (p q)
-    (λ h. ap not (below_last (m.ends.0) q v (subst (IsStrictlySortedBy version_cmp) m.ends.1 m.ascends) (sym (ap (among q) m.ends.1) ∙ h)))
-    (λ h k. ap (among q) m.ends.1 ∙ among_end q v (m.ends.0)
-    (equal_both_ways q v (not_true (is_gt (version_cmp q v)) k) (all_floor v q states m.floor h)))))
+and_turn : (a p b : Bool) → ((a && p) && b) ≡ ((a && b) && p)
+and_turn true true true = refl
+and_turn true true false = refl
+and_turn true false true = refl
+and_turn true false false = refl
+and_turn false p b = refl
+
+-- the members that pass, ascending
+among_passing : (selection : Selection) (q : VersionData) (vs : List VersionData) → among q (passing selection vs) ≡ (among q vs && passes selection q)
+among_passing selection q vs = ap (among q) (passing_is selection vs) ∙ among_filter (passes selection) q vs
+
+passing_ascends : (selection : Selection) (vs : List VersionData) → IsStrictlySortedBy version_cmp vs → IsStrictlySortedBy version_cmp (passing selection vs)
+passing_ascends selection vs h = subst (IsStrictlySortedBy version_cmp) (sym (passing_is selection vs)) (IsStrictlySortedBy-filter version_cmp (passes selection) vs h)
+
+passing_append : (selection : Selection) (xs ys : List VersionData) → passing selection (xs ++ ys) ≡ passing selection xs ++ passing selection ys
+passing_append selection xs ys = passing_is selection (xs ++ ys) ∙ filter-append (passes selection) xs ys ∙ (λ i. sym (passing_is selection xs) i ++ sym (passing_is selection ys) i)
+
+pub passing_nothing : (selection : Selection) → passing selection [] ≡ []
+passing_nothing selection = passing_is selection []
+
+-- the list of what is selected of the union
+abbrev pub chosen : Selection → List Coming → List VersionData
+chosen selection all = listed (selected selection (union_of all))
+
+chosen_is : (selection : Selection) (all : List Coming) → chosen selection all ≡ kept (keeps selection) (passing selection (union_list all))
+chosen_is selection all = sym (pass_of_set selection (union_of all))
+
+module _ {selection : Selection} {all states : List Coming} {met : List VersionData} {held top : Option VersionData} {taken : ℕ} (m : IsMerging selection all states met held top taken) where
+  -- where no head is left, all that pass were met
+  pub all_met : ((i : ℕ) → i < length states → head (coming_at states i) ≡ None) → passing selection (union_list all) ≡ met
+  all_met none =
+      same_list (passing selection (union_list all)) met (passing_ascends selection (union_list all) (union_ascends all)) m.ascends
+      (λ q. among_passing selection q (union_list all) ∙ ap (λ t. t && passes selection q) (among_union all q) ∙ m.same q
+      ∙ ap (λ t. among q met || (among q t && passes selection q)) (none_to_come states none) ∙ or_none (among q met))
+
+  pub all_put : ((i : ℕ) → i < length states → head (coming_at states i) ≡ None) → chosen selection all ≡ put_of selection met ++ put_at_end selection held
+  all_put none = chosen_is selection all ∙ ap (kept (keeps selection)) (all_met none) ∙ sym (put_all selection held met m.ends)
+
+  pub all_taken : ((i : ℕ) → i < length states → head (coming_at states i) ≡ None) → taken ≡ length (versions_of all)
+  all_taken none = let e : length (versions_of states) ≡ 0 = ap length (none_to_come states none) in omega (arith, m.count, e)
+
+  under_top : (v q : VersionData) (h : Option VersionData) → Ends h met → IsUnder h (Some v) → among q met ≡ true → is_gt (version_cmp q v) ≡ false
+  under_top v q None e u is = absurd (false≢true (sym (ap (among q) e) ∙ is))
+  under_top v q (Some l) e u is =
+      upto version_cmp_total q l v
+      (below_last (e.0) q l (subst (IsStrictlySortedBy version_cmp) e.1 m.ascends) (sym (ap (among q) e.1) ∙ is)) u
+
+  -- what was met is what passes of the union up to the one taken last
+  pub met_up_to : (v : VersionData) → top ≡ Some v → met ≡ passing selection (up_to (Some v) (union_list all))
+  met_up_to v at =
+      let p : VersionData → Bool = λ w. not (is_gt (version_cmp w v)) in
+      let u : IsUnder held (Some v) = subst (λ (t : Option VersionData). IsUnder held t) at m.under in
+      let reached : passes selection v ≡ true → held ≡ Some v = subst (λ (t : Option VersionData). IfSome t (λ w. passes selection w ≡ true → held ≡ Some w)) at m.reached in
+      same_list met (passing selection (filter p (union_list all))) m.ascends
+      (passing_ascends selection (filter p (union_list all)) (IsStrictlySortedBy-filter version_cmp p (union_list all) (union_ascends all)))
+      (λ q. sym (among_passing selection q (filter p (union_list all))
+      ∙ ap (λ t. t && passes selection q) (among_filter p q (union_list all) ∙ ap (λ t. t && p q) (among_union all q))
+      ∙ and_turn (among q (versions_of all)) (p q) (passes selection q)
+      ∙ ap (λ t. t && p q) (m.same q)
+      ∙ narrow (among q met) (among q (versions_of states) && passes selection q) (p q)
+      (λ h. ap not (under_top v q held m.ends u h))
+      (λ h k.
+      let both = both_so (among q (versions_of states)) (passes selection q) h in
+      let tied : eq_by_cmp version_cmp q v ≡ true = equal_both_ways q v (not_true (is_gt (version_cmp q v)) k) (all_floor v q states (λ i. subst (λ (t : Option VersionData). Floor t (coming_at states i).list) at (m.floor i)) both.0) in
+      among_ends q v met (subst (λ (t : Option VersionData). Ends t met) (reached (ap (passes selection) (sym (equal_versions q v tied)) ∙ both.1)) m.ends) tied)))
 
 pub last_of_end : (front : List VersionData) (v : VersionData) → last_of (front ++ v ∷ []) ≡ Some v
 last_of_end [] v = refl
@@ -166,38 +219,50 @@ split_at v (w ∷ ws) s =
       | true ↦ λ is. sym (all_above v w ws is (first_below version_cmp w ws s))
     ] refl
 
--- a list stands in front of the union
-abbrev pub InFront : List VersionData → List Coming → Type 0
-InFront put all = (more : List VersionData) × (put ++ more ≡ union_list all)
+-- a list stands in front of the members of a set
+abbrev pub InFront : List VersionData → VersionSet → Type 0
+InFront put set = (more : List VersionData) × (put ++ more ≡ listed set)
 
-up_to_in_front : (last : Option VersionData) (all : List Coming) → InFront (up_to last (union_list all)) all
-up_to_in_front None all = (union_list all, refl)
-up_to_in_front (Some v) all = (above v (union_list all), sym (split_at v (union_list all) (union_ascends all)))
+pub nothing_in_front : (set : VersionSet) → InFront [] set
+nothing_in_front set = (listed set, refl)
 
-pub nothing_in_front : (all : List Coming) → InFront [] all
-nothing_in_front all = (union_list all, refl)
+-- what is put once the first of those that pass were met stands in front of what is selected
+front_of : (selection : Selection) (all : List Coming) (xs more : List VersionData) → passing selection (union_list all) ≡ xs ++ more → InFront (put_of selection xs) (selected selection (union_of all))
+front_of selection all xs more e = let part = put_front selection xs more in (part.0, sym (chosen_is selection all ∙ ap (kept (keeps selection)) e ∙ part.1))
 
--- what was put stands in front of the union
-pub put_in_front : (all states : List Coming) (put : List VersionData) (last : Option VersionData) (taken : ℕ) → IsMerging all states put last taken → InFront put all
-put_in_front all states put None taken m = subst (λ (vs : List VersionData). InFront vs all) (sym m.ends) (nothing_in_front all)
-put_in_front all states put (Some v) taken m = subst (λ (vs : List VersionData). InFront vs all) (sym (put_up_to all states put v taken m)) (up_to_in_front (Some v) all)
+up_to_in_front : (selection : Selection) (v : VersionData) (all : List Coming) → InFront (put_of selection (passing selection (up_to (Some v) (union_list all)))) (selected selection (union_of all))
+up_to_in_front selection v all =
+    front_of selection all (passing selection (up_to (Some v) (union_list all))) (passing selection (above v (union_list all)))
+    (ap (passing selection) (split_at v (union_list all) (union_ascends all)) ∙ passing_append selection (up_to (Some v) (union_list all)) (above v (union_list all)))
+
+none_under : (held : Option VersionData) → IsUnder held None → held ≡ None
+none_under None u = refl
+none_under (Some h) u = absurd u
+
+-- what was put stands in front of what is selected of the union
+pub put_in_front : (selection : Selection) (all states : List Coming) (met : List VersionData) (held top : Option VersionData) (taken : ℕ) → IsMerging selection all states met held top taken → InFront (put_of selection met) (selected selection (union_of all))
+put_in_front selection all states met held None taken m =
+    let none : met ≡ [] = subst (λ (h : Option VersionData). Ends h met) (none_under held m.under) m.ends in
+    subst (λ (vs : List VersionData). InFront vs (selected selection (union_of all))) (sym (ap (put_of selection) none ∙ put_nothing selection)) (nothing_in_front (selected selection (union_of all)))
+put_in_front selection all states met held (Some v) taken m =
+    subst (λ (vs : List VersionData). InFront (put_of selection vs) (selected selection (union_of all))) (sym (met_up_to m v refl)) (up_to_in_front selection v all)
 
 -- ---- the file of the union
-module _ (all : List Coming) (format : Format) (number : ℕ) (before after : Option (List ℕ)) where
+module _ (set : VersionSet) (format : Format) (number : ℕ) (before after : Option (List ℕ)) where
   abbrev pub whole_file : List ℕ
-  whole_file = spell format (union_of all)
+  whole_file = spell format set
 
   -- the rest of the file behind a front of the union
-  file_split : (put : List VersionData) → InFront put all → (more : List ℕ) × (whole_file ≡ spelled_open format put ++ more)
+  file_split : (put : List VersionData) → InFront put set → (more : List ℕ) × (whole_file ≡ spelled_open format put ++ more)
   file_split put front = let part = first_in_front format put (front.0) in (part.0, ap (spell_list format) (sym front.1) ∙ part.1)
 
   -- calls that were cut short in a front of the union were cut short in its file
-  pub cut_in_file : (put : List VersionData) (failed : Bool) (fault : Fault) → InFront put all → CutShort number before after failed (spelled_open format put) fault → CutShort number before after failed whole_file fault
+  pub cut_in_file : (put : List VersionData) (failed : Bool) (fault : Fault) → InFront put set → CutShort number before after failed (spelled_open format put) fault → CutShort number before after failed whole_file fault
   cut_in_file put failed fault front h =
       subst (λ (vs : List VersionData). CutShort number before after failed (spell_list format vs) fault) front.1
       (cut_before_end format number put (front.0) before after failed fault h)
 
-  begun_at : (bytes : List ℕ) → (more : List ℕ) × (whole_file ≡ bytes ++ more) → Appended before after bytes → HasBegun all format before after
+  begun_at : (bytes : List ℕ) → (more : List ℕ) × (whole_file ≡ bytes ++ more) → Appended before after bytes → HasBegunIn set format before after
   begun_at bytes part h = record {
     count = length bytes;
     within = let e = part.1 in subst (λ (x : List ℕ). length bytes ≤ length x) (sym e) (omega (arith, length-append bytes (part.0)));
@@ -205,35 +270,64 @@ module _ (all : List Coming) (format : Format) (number : ℕ) (before after : Op
   }
 
   -- want of memory, where no call of the sink was cut short
-  pub memory_refused : (put : List VersionData) (failed : Bool) → InFront put all → Appended before after (spelled_open format put) → CutShort number before after failed whole_file memory_fault
+  pub memory_refused : (put : List VersionData) (failed : Bool) → InFront put set → Appended before after (spelled_open format put) → CutShort number before after failed whole_file memory_fault
   memory_refused put failed front h =
       let b = begun_at (spelled_open format put) (file_split put front) h in
       record { count = b.count; within = b.within; appended = b.appended; why = inl refl }
 
-  so_far_split : (put : List VersionData) → InFront put all → (more : List ℕ) × (whole_file ≡ written_so_far format put ++ more)
-  so_far_split [] front = (whole_file, refl)
-  so_far_split (v ∷ vs) front = file_split (v ∷ vs) front
+all_up_to : (last : Option VersionData) (all : List Coming) → InFront (up_to last (union_list all)) (union_of all)
+all_up_to None all = (union_list all, refl)
+all_up_to (Some v) all = (above v (union_list all), sym (split_at v (union_list all) (union_ascends all)))
 
-  -- after any refusal a front of the file was appended
-  pub begun_refused : (failed : Bool) (fault : Fault) → IsRefused all format number before after failed fault → HasBegun all format before after
-  begun_refused failed fault (inl cut) = record { count = cut.count; within = cut.within; appended = cut.appended }
-  begun_refused failed fault (inr source) =
-      let last : Option VersionData = last_of (coming_at all source.place).list in
-      begun_at (written_so_far format (up_to last (union_list all))) (so_far_split (up_to last (union_list all)) (up_to_in_front last all)) source.appended
+so_far_split : (all : List Coming) (format : Format) (put : List VersionData) → InFront put (union_of all) → (more : List ℕ) × (spell format (union_of all) ≡ written_so_far format put ++ more)
+so_far_split all format [] front = (spell format (union_of all), refl)
+so_far_split all format (v ∷ vs) front = file_split (union_of all) format 0 None None (v ∷ vs) front
+
+-- what is written before a source's refusal stands in front of the file
+before_split : (selection : Selection) (all : List Coming) (format : Format) (last : Option VersionData) → (more : List ℕ) × (spell format (selected selection (union_of all)) ≡ written_before selection format last (union_list all) ++ more)
+before_split All all format last = so_far_split all format (up_to last (union_list all)) (all_up_to last all)
+before_split Visible all format None = (spell format (selected Visible (union_of all)), refl)
+before_split Newest all format None = (spell format (selected Newest (union_of all)), refl)
+before_split NewestVisible all format None = (spell format (selected NewestVisible (union_of all)), refl)
+before_split (State t) all format None = (spell format (selected (State t) (union_of all)), refl)
+before_split (StateVisible t) all format None = (spell format (selected (StateVisible t) (union_of all)), refl)
+before_split (Between from to) all format None = (spell format (selected (Between from to) (union_of all)), refl)
+before_split Visible all format (Some v) = file_split (selected Visible (union_of all)) format 0 None None _ (up_to_in_front Visible v all)
+before_split Newest all format (Some v) = file_split (selected Newest (union_of all)) format 0 None None _ (up_to_in_front Newest v all)
+before_split NewestVisible all format (Some v) = file_split (selected NewestVisible (union_of all)) format 0 None None _ (up_to_in_front NewestVisible v all)
+before_split (State t) all format (Some v) = file_split (selected (State t) (union_of all)) format 0 None None _ (up_to_in_front (State t) v all)
+before_split (StateVisible t) all format (Some v) = file_split (selected (StateVisible t) (union_of all)) format 0 None None _ (up_to_in_front (StateVisible t) v all)
+before_split (Between from to) all format (Some v) = file_split (selected (Between from to) (union_of all)) format 0 None None _ (up_to_in_front (Between from to) v all)
+
+-- after any refusal a front of the file was appended
+pub begun_refused : (selection : Selection) (all : List Coming) (format : Format) (number : ℕ) (before after : Option (List ℕ)) (failed : Bool) (fault : Fault) → IsRefusedAs selection all format number before after failed fault → HasBegunIn (selected selection (union_of all)) format before after
+begun_refused selection all format number before after failed fault (inl cut) = record { count = cut.count; within = cut.within; appended = cut.appended }
+begun_refused selection all format number before after failed fault (inr source) =
+    let last : Option VersionData = last_of (coming_at all source.place).list in
+    begun_at (selected selection (union_of all)) format number before after (written_before selection format last (union_list all)) (before_split selection all format last) source.appended
 
 -- an output that nothing was written to
 pub nothing_appended : (held : Option (List ℕ)) → Appended held held []
 nothing_appended None = tt
 nothing_appended (Some bytes) = ap Some (sym (append-nil bytes))
 
+before_nothing : (selection : Selection) (format : Format) (versions : List VersionData) → written_before selection format None versions ≡ []
+before_nothing All format versions = refl
+before_nothing Visible format versions = refl
+before_nothing Newest format versions = refl
+before_nothing NewestVisible format versions = refl
+before_nothing (State t) format versions = refl
+before_nothing (StateVisible t) format versions = refl
+before_nothing (Between from to) format versions = refl
+
 -- where the first versions can't be had, nothing is written
-pub refused_at_first : (all : List Coming) (format : Format) (number : ℕ) (held : Option (List ℕ)) (failed : Bool) (fault : Fault) → IsFirstFault all fault → IsRefused all format number held held failed fault
-refused_at_first all format number held failed fault (inl wanting) = inl (record { count = 0; within = omega arith; appended = nothing_appended held; why = inl wanting })
-refused_at_first all format number held failed fault (inr source) = inr (record {
+pub refused_at_first : (selection : Selection) (all : List Coming) (format : Format) (number : ℕ) (held : Option (List ℕ)) (failed : Bool) (fault : Fault) → IsFirstFault all fault → IsRefusedAs selection all format number held held failed fault
+refused_at_first selection all format number held failed fault (inl wanting) = inl (record { count = 0; within = omega arith; appended = nothing_appended held; why = inl wanting })
+refused_at_first selection all format number held failed fault (inr source) = inr (record {
   place = source.0;
   within = source.1;
   refusal = source.3;
-  appended = subst (λ (vs : List VersionData). Appended held held (written_so_far format (up_to (last_of vs) (union_list all)))) (sym source.2) (nothing_appended held);
+  appended = subst (Appended held held) (sym (ap (λ (vs : List VersionData). written_before selection format (last_of vs) (union_list all)) source.2 ∙ before_nothing selection format (union_list all))) (nothing_appended held);
 })
 
 -- ---- whatever the sources tell

@@ -1,6 +1,10 @@
+pub mod Members
 pub mod Coming
 pub mod Union
 pub mod Tree
+pub mod Selected
+pub mod Pass
 pub mod Put
 pub mod Merged
+pub mod Laws
 pub mod Rest

@@ -1,6 +1,7 @@
 -- What a merge of sources writes, answers and counts.
-use Rattle.std.specs.Prelude.{◌≡◌, ◌⊎◌, ℕ, ◌+◌, ◌-◌, ◌*◌, ◌^◌, ◌<◌, ◌≤◌, Bool, true, not, List, [], ◌∷◌, length, take, Option, Some, None, IfSome}
-use Rattle.std.specs.List.{All, filter}
+use Rattle.std.specs.Prelude.{◌≡◌, ◌⊎◌, ℕ, ◌+◌, ◌-◌, ◌*◌, ◌^◌, ◌<◌, ◌≤◌, Bool, true, not, if◌then◌else◌, List, [], ◌∷◌, length, take, Option, Some, None, IfSome}
+use Rattle.std.specs.List as list
+use Rattle.std.specs.List.{filter}
 use Rattle.std.specs.Ordering.{is_gt}
 use Rattle.osm_model.specs.Data.{VersionData}
 use Rattle.osm_model.specs.Order.{version_cmp}
@@ -13,6 +14,10 @@ use Rattle.osm_files.specs.Output.{Appended}
 use Rattle.osm_files.specs.Spell.{spelled_open, spell}
 use Rattle.osm_files.specs.Sink.{CutShort}
 use Rattle.osm_merge.specs.declared.merge.Counts.{Counts}
+use Rattle.osm_merge.specs.declared.selection.Selection.{Selection}
+use Rattle.osm_merge.specs.declared.selection.Selection.TheVariants.{All}
+use Rattle.osm_merge.specs.Selected.{selected}
+use Rattle.osm_merge.specs.Pass.{put_of, passing, passes_all}
 use Rattle.osm_merge.specs.Coming.{Coming, coming_at, IsFaultOfOne}
 use Rattle.osm_merge.specs.Union.{versions_of, union_of, capped}
 
@@ -20,20 +25,32 @@ use Rattle.osm_merge.specs.Union.{versions_of, union_of, capped}
 abbrev pub IsWhole : Option Coming → Type 0
 IsWhole told = IfSome told (λ c. c.refusal ≡ None)
 
--- What `compared` may be, of k sources that gave n versions: between n - 1 and k - 1 + n * (depth + 1), for the least depth
--- with k up to 2^depth, and for each greater one. Of no source it is 0.
-pub record IsBounded (sources given compared : ℕ) : Type 0 where
+-- What `compared` may be, of k sources that gave n versions: at most k - 1 + n * (depth + 1), for the least depth with k up to
+-- 2^depth, and for each greater one; and at least so few. Of no source it is 0.
+pub record IsBoundedFrom (few sources given compared : ℕ) : Type 0 where
   pub most : (depth : ℕ) → sources ≤ 2 ^ depth → compared ≤ (sources - 1) + given * (depth + 1)
-  pub least : capped (given - 1) ≤ compared
+  pub least : capped few ≤ compared
 
--- A merge of sources that give this, to an output with these bytes before and after: each is whole, and the file of the
--- union was appended.
-pub record IsMerged (all : List Coming) (format : Format) (before after : Option (List ℕ)) (counts : Counts) : Type 0 where
-  pub whole : All (λ c. c.refusal ≡ None) all
-  pub appended : Appended before after (spell format (union_of all))
+-- where each version but the first is compared with the one before it, it is at least n - 1
+abbrev pub IsBounded : (sources given compared : ℕ) → Type 0
+IsBounded sources given compared = IsBoundedFrom (given - 1) sources given compared
+
+-- where versions are left out before all else, perhaps none is compared with the one held back
+abbrev pub few_of : Selection → ℕ → ℕ
+few_of selection given = if passes_all selection then given - 1 else 0
+
+-- A merge of sources that give this, to an output with these bytes before and after: each is whole, and the file of what is
+-- selected of the union was appended.
+pub record IsMergedAs (selection : Selection) (all : List Coming) (format : Format) (before after : Option (List ℕ)) (counts : Counts) : Type 0 where
+  pub whole : list.All (λ c. c.refusal ≡ None) all
+  pub appended : Appended before after (spell format (selected selection (union_of all)))
   pub read : counts.read ≡ capped (length (versions_of all))
-  pub written : counts.written ≡ capped (size (union_of all))
-  pub compared : IsBounded (length all) (length (versions_of all)) counts.compared
+  pub written : counts.written ≡ capped (size (selected selection (union_of all)))
+  pub compared : IsBoundedFrom (few_of selection (length (versions_of all))) (length all) (length (versions_of all)) counts.compared
+
+-- the same, where all versions are selected: the file of the union was appended
+abbrev pub IsMerged : List Coming → Format → Option (List ℕ) → Option (List ℕ) → Counts → Type 0
+IsMerged = IsMergedAs All
 
 -- What was written is the one file of a set, with as many versions as were counted.
 pub record WritesSet (format : Format) (before after : Option (List ℕ)) (counts : Counts) : Type 0 where
@@ -57,18 +74,29 @@ abbrev pub written_so_far : Format → List VersionData → List ℕ
 written_so_far format [] = []
 written_so_far format (v ∷ versions) = spelled_open format (v ∷ versions)
 
+-- what is written of these versions where a source is refused behind its last one: what is put once those up to it are met;
+-- nothing, where the source gives none
+abbrev pub written_before : Selection → Format → Option VersionData → List VersionData → List ℕ
+written_before All format last versions = written_so_far format (up_to last versions)
+written_before selection format None versions = []
+written_before selection format (Some last) versions = spelled_open format (put_of selection (passing selection (up_to (Some last) versions)))
+
 -- The fault is that of a source, and all that the merge puts up to that source's last version was written.
-pub record IsSourceFault (all : List Coming) (format : Format) (before after : Option (List ℕ)) (fault : Fault) : Type 0 where
+pub record IsSourceFaultAs (selection : Selection) (all : List Coming) (format : Format) (before after : Option (List ℕ)) (fault : Fault) : Type 0 where
   pub place : ℕ
   pub within : place < length all
   pub refusal : (coming_at all place).refusal ≡ Some fault
-  pub appended : Appended before after (written_so_far format (up_to (last_of (coming_at all place).list) (listed (union_of all))))
+  pub appended : Appended before after (written_before selection format (last_of (coming_at all place).list) (listed (union_of all)))
 
--- Why a merge was refused: memory was refused, or the output failed, or the file of the union has 2^62 bytes or more, in each
--- of which cases a front of that file was written; or a source is refused.
+-- Why a merge was refused: memory was refused, or the output failed, or the file of what is selected has 2^62 bytes or more, in
+-- each of which cases a front of that file was written; or a source is refused.
+abbrev pub IsRefusedAs : Selection → List Coming → Format → ℕ → Option (List ℕ) → Option (List ℕ) → Bool → Fault → Type 0
+IsRefusedAs selection all format output before after failed fault =
+    CutShort output before after failed (spell format (selected selection (union_of all))) fault ⊎ IsSourceFaultAs selection all format before after fault
+
+-- the same, where all versions are selected
 abbrev pub IsRefused : List Coming → Format → ℕ → Option (List ℕ) → Option (List ℕ) → Bool → Fault → Type 0
-IsRefused all format output before after failed fault =
-    CutShort output before after failed (spell format (union_of all)) fault ⊎ IsSourceFault all format before after fault
+IsRefused = IsRefusedAs All
 
 -- Why a merge was refused, whatever the sources tell: memory was refused, or the output failed, or the file of a set has
 -- 2^62 bytes or more; or a source is refused.
@@ -83,8 +111,12 @@ WhyRefused told format output failed fault =
 abbrev pub Grows : Option (List ℕ) → Option (List ℕ) → Type 0
 Grows before after = (bytes : List ℕ) × Appended before after bytes
 
--- After any refusal a front of the file of the union was appended.
-pub record HasBegun (all : List Coming) (format : Format) (before after : Option (List ℕ)) : Type 0 where
+-- After any refusal a front of the file of a set was appended.
+pub record HasBegunIn (set : VersionSet) (format : Format) (before after : Option (List ℕ)) : Type 0 where
   pub count : ℕ
-  pub within : count ≤ length (spell format (union_of all))
-  pub appended : Appended before after (take count (spell format (union_of all)))
+  pub within : count ≤ length (spell format set)
+  pub appended : Appended before after (take count (spell format set))
+
+-- of the union
+abbrev pub HasBegun : List Coming → Format → Option (List ℕ) → Option (List ℕ) → Type 0
+HasBegun all = HasBegunIn (union_of all)

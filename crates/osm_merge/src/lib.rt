@@ -1,9 +1,18 @@
-//! The streaming merge: the union of what sources give, written by a tournament over one version of each.
+//! The streaming merge: what is selected of the union of what sources give, written by a tournament over one version of each;
+//! and what is selected of a history.
 #![tactic(auto)]
 
+mod chosen;
 mod compare;
 mod heads;
+pub mod laws;
 mod merge;
+mod selection;
 mod tree;
 
-pub use merge::{Counts, merge_into};
+pub use chosen::{at, between, snapshot, visible};
+pub use merge::{Counts, merge_into, merge_selected};
+pub use selection::Selection;
+
+#[cfg(test)]
+mod rows;

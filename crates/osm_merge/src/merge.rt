@@ -1,16 +1,19 @@
 //! The merge.
-ghost use Rattle.std.specs.Prelude.{◌≡◌, ◌≤◌, ◌<◌, ◌+◌, ◌-◌, ℕ, false, true, [], List, Option, map, length, IfOk, IfErr, IfSome, OnOk, OnErr};
+ghost use Rattle.std.specs.Prelude.{◌≡◌, ◌≤◌, ◌<◌, ◌+◌, ◌-◌, ◌++◌, ℕ, false, true, [], List, Option, map, length, IfOk, IfErr, IfSome, OnOk, OnErr};
 ghost use Rattle.std.specs.List.{All};
 ghost use Rattle.osm_model.specs.Data.{VersionData};
 ghost use Rattle.osm_files.specs.Sink.{IsOpen, new_sink};
 ghost use Rattle.osm_merge.specs.Coming.{Coming, AllTell, AllAscend, AllStand, AllFollow};
-ghost use Rattle.osm_merge.specs.Union.{capped};
+ghost use Rattle.osm_merge.specs.Union.{capped, union_of};
 ghost use Rattle.osm_merge.specs.Tree.{IsTree};
-ghost use Rattle.osm_merge.specs.Put.{is_new, put_next, last_next, TakesNew, PutsNext, EndsFile};
-ghost use Rattle.osm_merge.specs.Merged.{IsWhole, IsMerged, WritesSet, IsRefused, WhyRefused, Grows, HasBegun};
+ghost use Rattle.osm_merge.specs.Selected.{selected};
+ghost use Rattle.osm_merge.specs.Pass.{is_new, is_met, held_next, puts, put_at, put_at_end, only};
+ghost use Rattle.osm_merge.specs.Put.{TakesEach, PutsMore, EndsFile, CountsMore};
+ghost use Rattle.osm_merge.specs.Merged.{IsWhole, IsMerged, IsMergedAs, WritesSet, IsRefused, IsRefusedAs, WhyRefused, Grows, HasBegun, HasBegunIn};
 
 use crate::compare::compare;
 use crate::heads::first_versions;
+use crate::selection::{Selection, keeps, passes, puts_at_once, stays};
 use crate::tree::{build, replay};
 use osm_files::{Fault, Output, Sink, Source};
 use osm_model::Version;
@@ -39,7 +42,7 @@ pub struct Counts {
 /// file.
 pub fn merge_into<S: Source + Drop, W: Output>(
     alloc: Global,
-    mut sources: Vec<S>,
+    sources: Vec<S>,
     sink: &mut Sink,
     out: &mut W,
 ) -> Result<Counts, Fault>
@@ -56,6 +59,38 @@ pub fn merge_into<S: Source + Drop, W: Output>(
     ensures good { OnOk result (W.failed out.new ≡ false) }
     ensures ended { OnOk result (sink.new.ended ≡ true) }
 {
+    merge_selected(alloc, Selection::All, sources, sink, out)
+}
+
+/// Writes what is selected of the union of what the sources still give as one file, each version once.
+///
+/// It keeps one version of each source and the last one that may be selected, which is put once the version behind it is
+/// known; where all are selected, each is put as soon as it comes. `read` counts what the sources gave, selected or not.
+///
+/// # Errors
+///
+/// The fault of a source; the faults of the sink, with its number; or `Memory`. What was written then is a front of the
+/// file of what is selected.
+pub fn merge_selected<S: Source + Drop, W: Output>(
+    alloc: Global,
+    selection: Selection,
+    mut sources: Vec<S>,
+    sink: &mut Sink,
+    out: &mut W,
+) -> Result<Counts, Fault>
+    requires { sink.old ≡ new_sink sink.old.format sink.old.number }
+    // Where all sources tell what is to come.
+    ensures merged { IfOk result (λ counts. (all : List Coming) → AllTell (map S.still sources.items) all → IsMergedAs selection all sink.old.format (W.contents out.old) (W.contents out.new) counts) }
+    ensures refused { IfErr result (λ fault. (all : List Coming) → AllTell (map S.still sources.items) all → IsRefusedAs selection all sink.old.format sink.old.number (W.contents out.old) (W.contents out.new) (W.failed out.new) fault) }
+    ensures begun { OnErr result ((all : List Coming) → AllTell (map S.still sources.items) all → HasBegunIn (selected selection (union_of all)) sink.old.format (W.contents out.old) (W.contents out.new)) }
+    // Whatever they tell.
+    ensures file { IfOk result (WritesSet sink.old.format (W.contents out.old) (W.contents out.new)) }
+    ensures whole { OnOk result (All IsWhole (map S.still sources.items)) }
+    ensures fault { IfErr result (WhyRefused (map S.still sources.items) sink.old.format sink.old.number (W.failed out.new)) }
+    ensures kept { Grows (W.contents out.old) (W.contents out.new) }
+    ensures good { OnOk result (W.failed out.new ≡ false) }
+    ensures ended { OnOk result (sink.new.ended ≡ true) }
+{
     let mut counts = Counts {
         read: 0,
         written: 0,
@@ -64,12 +99,13 @@ pub fn merge_into<S: Source + Drop, W: Output>(
     let inputs: &mut [S] = &mut sources;
     let mut heads = first_versions(alloc, inputs)?;
     let mut nodes = build(alloc, &heads, &mut counts.compared)?;
-    write_union(inputs, &mut heads, &mut nodes, counts, sink, out)
+    write_union(selection, inputs, &mut heads, &mut nodes, counts, sink, out)
 }
 
-/// Writes the union of the heads and of what the sources give behind them, as one file.
+/// Writes what is selected of the union of the heads and of what the sources give behind them, as one file.
 #[inline(never)]
 fn write_union<S: Source, W: Output>(
+    selection: Selection,
     sources: &mut [S],
     heads: &mut [Option<Version>],
     nodes: &mut [usize],
@@ -83,8 +119,8 @@ fn write_union<S: Source, W: Output>(
     requires read { counts.read ≡ 0 }
     requires written { counts.written ≡ 0 }
     requires compared { counts.compared ≤ length heads.old - 1 }
-    ensures merged { IfOk result (λ counts. (all : List Coming) → AllAscend all → AllStand all heads.old (map S.still sources.old) → IsMerged all sink.old.format (W.contents out.old) (W.contents out.new) counts) }
-    ensures refused { IfErr result (λ fault. (all : List Coming) → AllAscend all → AllStand all heads.old (map S.still sources.old) → IsRefused all sink.old.format sink.old.number (W.contents out.old) (W.contents out.new) (W.failed out.new) fault) }
+    ensures merged { IfOk result (λ counts. (all : List Coming) → AllAscend all → AllStand all heads.old (map S.still sources.old) → IsMergedAs selection all sink.old.format (W.contents out.old) (W.contents out.new) counts) }
+    ensures refused { IfErr result (λ fault. (all : List Coming) → AllAscend all → AllStand all heads.old (map S.still sources.old) → IsRefusedAs selection all sink.old.format sink.old.number (W.contents out.old) (W.contents out.new) (W.failed out.new) fault) }
     ensures file { IfOk result (WritesSet sink.old.format (W.contents out.old) (W.contents out.new)) }
     ensures whole { OnOk result ((told : List (Option Coming)) → AllFollow told heads.old (map S.still sources.old) → All IsWhole told) }
     ensures fault { IfErr result (λ fault. (told : List (Option Coming)) → length told ≡ length heads.old → AllFollow told heads.old (map S.still sources.old) → WhyRefused told sink.old.format sink.old.number (W.failed out.new) fault) }
@@ -95,18 +131,26 @@ fn write_union<S: Source, W: Output>(
     if let Err(fault) = sink.begin(out) {
         return Err(fault);
     }
-    if heads.is_empty() {
-        return end_file(counts, sink, out);
-    }
     let mut last: Option<Version> = None;
+    if heads.is_empty() {
+        return end_file(selection, &last, counts, sink, out);
+    }
     'versions: loop {
         let place = nodes[1];
         let Some(version) = heads[place].take() else {
-            return end_file(counts, sink, out);
+            return end_file(selection, &last, counts, sink, out);
         };
         counts.read = counts.read.saturating_add(1);
         let mut spare = None;
-        if let Err(fault) = put_new(&mut last, version, &mut spare, &mut counts, sink, out) {
+        if let Err(fault) = meet(
+            selection,
+            &mut last,
+            version,
+            &mut spare,
+            &mut counts,
+            sink,
+            out,
+        ) {
             return Err(fault);
         }
         match sources[place].next_reusing(spare) {
@@ -117,9 +161,10 @@ fn write_union<S: Source, W: Output>(
     }
 }
 
-/// Puts a version that is greater than the one put last, and keeps it as that one. Any other was put before. What isn't
-/// needed any more of the two is spare then.
-fn put_new<W: Output>(
+/// Meets the next version. One that passes and is greater than the one held back decides what is put, and is held back then;
+/// any other one is let go. What isn't needed any more of the two is spare then.
+fn meet<W: Output>(
+    selection: Selection,
     last: &mut Option<Version>,
     version: Version,
     spare: &mut Option<Version>,
@@ -128,28 +173,93 @@ fn put_new<W: Output>(
     out: &mut W,
 ) -> Result<(), Fault>
     requires open { IsOpen sink.old }
-    requires takes { TakesNew last.old sink.old }
-    ensures puts { PutsNext last.old version sink.old sink.new (W.contents out.old) (W.contents out.new) (W.failed out.new) result }
-    ensures last { OnOk result (last.new ≡ last_next last.old version) }
+    requires takes { is_met selection last.old version ≡ true → TakesEach (put_at selection last.old version) sink.old }
+    ensures puts { PutsMore (puts selection last.old version) sink.old sink.new (W.contents out.old) (W.contents out.new) (W.failed out.new) result }
+    ensures last { OnOk result (last.new ≡ held_next selection last.old version) }
     ensures read { counts.new.read ≡ counts.old.read }
-    ensures written { OnOk result ((put : List VersionData) → counts.old.written ≡ capped (length put) → counts.new.written ≡ capped (length (put_next last.old version put))) }
+    ensures written { OnOk result (CountsMore (puts selection last.old version) counts.old.written counts.new.written) }
     ensures grows { counts.old.compared ≤ counts.new.compared }
     ensures most { counts.new.compared ≤ counts.old.compared + 1 }
     ensures least { IfSome last.old (λ _. capped (counts.old.compared + 1) ≤ counts.new.compared) }
 {
-    if !is_new(last, &version, &mut counts.compared) {
+    if !is_met(selection, last, &version, &mut counts.compared) {
         *spare = Some(version);
         return Ok(());
     }
-    if let Err(fault) = sink.put(out, &version) {
+    if let Err(fault) = put_decided(selection, last, &version, counts, sink, out) {
         return Err(fault);
     }
-    counts.written = counts.written.saturating_add(1);
     *spare = last.replace(version);
     Ok(())
 }
 
-/// Whether a version is greater than the one put last.
+/// Whether a version passes and is greater than the one held back.
+fn is_met(
+    selection: Selection,
+    last: &Option<Version>,
+    version: &Version,
+    compared: &mut u64,
+) -> bool
+    ensures met { result ≡ is_met selection last.now version.now }
+    ensures grows { compared.old ≤ compared.new }
+    ensures most { compared.new ≤ compared.old + 1 }
+    ensures least { IfSome last.now (λ _. capped (compared.old + 1) ≤ compared.new) }
+{
+    is_new(last, version, compared) && passes(selection, version)
+}
+
+/// Puts what a version decides that comes behind the one held back.
+fn put_decided<W: Output>(
+    selection: Selection,
+    last: &Option<Version>,
+    version: &Version,
+    counts: &mut Counts,
+    sink: &mut Sink,
+    out: &mut W,
+) -> Result<(), Fault>
+    requires open { IsOpen sink.old }
+    requires takes { TakesEach (put_at selection last.now version.now) sink.old }
+    ensures puts { PutsMore (put_at selection last.now version.now) sink.old sink.new (W.contents out.old) (W.contents out.new) (W.failed out.new) result }
+    ensures read { counts.new.read ≡ counts.old.read }
+    ensures written { OnOk result (CountsMore (put_at selection last.now version.now) counts.old.written counts.new.written) }
+    ensures compared { counts.new.compared ≡ counts.old.compared }
+{
+    if puts_at_once(selection) {
+        return put_if(true, version, counts, sink, out);
+    }
+    match last {
+        None => Ok(()),
+        Some(held) => put_if(keeps(selection, held, version), held, counts, sink, out),
+    }
+}
+
+/// Puts a version, if it stays, and counts it.
+fn put_if<W: Output>(
+    stays: bool,
+    version: &Version,
+    counts: &mut Counts,
+    sink: &mut Sink,
+    out: &mut W,
+) -> Result<(), Fault>
+    requires open { IsOpen sink.old }
+    requires takes { TakesEach (only stays version.now) sink.old }
+    ensures puts { PutsMore (only stays version.now) sink.old sink.new (W.contents out.old) (W.contents out.new) (W.failed out.new) result }
+    ensures open { OnOk result (IsOpen sink.new) }
+    ensures read { counts.new.read ≡ counts.old.read }
+    ensures written { OnOk result (CountsMore (only stays version.now) counts.old.written counts.new.written) }
+    ensures compared { counts.new.compared ≡ counts.old.compared }
+{
+    if !stays {
+        return Ok(());
+    }
+    if let Err(fault) = sink.put(out, version) {
+        return Err(fault);
+    }
+    counts.written = counts.written.saturating_add(1);
+    Ok(())
+}
+
+/// Whether a version is greater than the one held back.
 fn is_new(last: &Option<Version>, version: &Version, compared: &mut u64) -> bool
     ensures new { result ≡ is_new last.now version.now }
     ensures grows { compared.old ≤ compared.new }
@@ -162,17 +272,54 @@ fn is_new(last: &Option<Version>, version: &Version, compared: &mut u64) -> bool
     }
 }
 
-/// Ends the file, and answers the counts.
-fn end_file<W: Output>(counts: Counts, sink: &mut Sink, out: &mut W) -> Result<Counts, Fault>
-    requires { IsOpen sink.old }
-    ensures counts { IfOk result (λ done. done ≡ counts) }
-    ensures file { EndsFile sink.old (W.contents out.old) (W.contents out.new) (W.failed out.new) result }
+/// Puts the version held back, if it stays, ends the file, and answers the counts.
+fn end_file<W: Output>(
+    selection: Selection,
+    last: &Option<Version>,
+    mut counts: Counts,
+    sink: &mut Sink,
+    out: &mut W,
+) -> Result<Counts, Fault>
+    requires open { IsOpen sink.old }
+    requires takes { TakesEach (put_at_end selection last.now) sink.old }
+    ensures read { IfOk result (λ done. done.read ≡ counts.read) }
+    ensures written { IfOk result (λ done. CountsMore (put_at_end selection last.now) counts.written done.written) }
+    ensures compared { IfOk result (λ done. done.compared ≡ counts.compared) }
+    ensures file { EndsFile (put_at_end selection last.now) sink.old (W.contents out.old) (W.contents out.new) (W.failed out.new) result }
     ensures good { OnOk result (W.failed out.new ≡ false) }
     ensures ended { OnOk result (sink.new.ended ≡ true) }
 {
+    if let Err(fault) = put_last(selection, last, &mut counts, sink, out) {
+        return Err(fault);
+    }
     match sink.end(out) {
         Ok(()) => Ok(counts),
         Err(fault) => Err(fault),
+    }
+}
+
+/// Puts the version held back at the end, if it stays.
+fn put_last<W: Output>(
+    selection: Selection,
+    last: &Option<Version>,
+    counts: &mut Counts,
+    sink: &mut Sink,
+    out: &mut W,
+) -> Result<(), Fault>
+    requires open { IsOpen sink.old }
+    requires takes { TakesEach (put_at_end selection last.now) sink.old }
+    ensures puts { PutsMore (put_at_end selection last.now) sink.old sink.new (W.contents out.old) (W.contents out.new) (W.failed out.new) result }
+    ensures open { OnOk result (IsOpen sink.new) }
+    ensures read { counts.new.read ≡ counts.old.read }
+    ensures written { OnOk result (CountsMore (put_at_end selection last.now) counts.old.written counts.new.written) }
+    ensures compared { counts.new.compared ≡ counts.old.compared }
+{
+    if puts_at_once(selection) {
+        return Ok(());
+    }
+    match last {
+        None => Ok(()),
+        Some(held) => put_if(stays(selection, held, None), held, counts, sink, out),
     }
 }
 

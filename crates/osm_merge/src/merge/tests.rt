@@ -1,9 +1,14 @@
 //! Merges of sources in memory, with what is written worked out by hand.
-use super::{Counts, merge_into};
+use super::{Counts, Selection, merge_into, merge_selected};
+use crate::rows::{
+    CAME_AT_10, DELETED_AT_30, DELETED_NEXT, DELETED_TOO, MOVED_AT_5, MOVED_AT_20, OTHER_AT_20,
+    OTHER_MOVED_AT_20, VISIBLE, WAY, history, text,
+};
 use osm_files::{Broken, Fault, Format, Output, Reason, Sink, Source, VecOut};
 use osm_model::{Body, History, Meta, Tags, Text, Version};
-use std::alloc::Global;
+use std::alloc::{AllocGlobal, Global};
 use std::cell::Cell;
+use std::process::Abort;
 use std::test::Fail;
 
 /// A node's id, its version number and its longitude; it stands at latitude 1.
@@ -258,5 +263,167 @@ fn merge_reads_one_version_ahead_of_each_source(rt: HostRuntime) -> Result<(), F
     let counts = merge_into(rt.alloc(), inputs, &mut sink, &mut out)?;
     assert_eq!(rt; (counts.read, counts.written), (300, 300));
     assert_eq!(rt; (count.get(), most.get()), (300, 3));
+    Ok(())
+}
+
+/// What a merge of the newest versions of these sources answers, each with its fault if it has one, and what it wrote.
+fn merge_newest(
+    alloc: Global,
+    sources: &[(&[Node], Option<Fault>)],
+) -> Result<(Result<Counts, Fault>, Vec<u8>), Fail> {
+    let count = Cell::new(0);
+    let mut inputs = Vec::new(alloc);
+    for (nodes, fault) in sources {
+        inputs.push(source_of(alloc, nodes, *fault, &count)?)?;
+    }
+    let mut sink = Sink::new(alloc, Format::Opl, sources.len())?;
+    let mut out = VecOut::new(alloc);
+    let answer = merge_selected(alloc, Selection::Newest, inputs, &mut sink, &mut out);
+    Ok((answer, out.into_vec()))
+}
+
+/// What a merge of sources of these lines counts, and what it writes of what is selected.
+fn merge_of(
+    alloc: Global,
+    selection: Selection,
+    sources: &[&[&[u8]]],
+) -> Result<(Counts, Vec<u8>), Fail> {
+    let count = Cell::new(0);
+    let mut inputs = Vec::new(alloc);
+    for lines in sources {
+        inputs.push(Held {
+            history: history(alloc, lines)?,
+            place: 0,
+            fault: None,
+            given: &count,
+        })?;
+    }
+    let mut sink = Sink::new(alloc, Format::Opl, sources.len())?;
+    let mut out = VecOut::new(alloc);
+    let counts = merge_selected(alloc, selection, inputs, &mut sink, &mut out)?;
+    Ok((counts, out.into_vec()))
+}
+
+/// Sources of these lines, what is selected of their union, and the lines that are written.
+type Row = (
+    &'static [&'static [&'static [u8]]],
+    Selection,
+    &'static [&'static [u8]],
+);
+
+/// Sees that the merges of these rows write their lines, and count them.
+fn assert_rows<R: AllocGlobal + Abort>(rt: &R, rows: &[Row]) -> Result<(), Fail> {
+    for (sources, selection, lines) in rows {
+        let (counts, written) = merge_of(rt.alloc(), *selection, sources)?;
+        assert_eq!(rt; written, text(rt.alloc(), lines)?);
+        assert_eq!(rt; counts.written, lines.len() as u64);
+    }
+    Ok(())
+}
+
+const MOVED: &[&[&[u8]]] = &[&[CAME_AT_10, DELETED_AT_30], &[MOVED_AT_20, DELETED_AT_30]];
+
+const OTHER: &[&[&[u8]]] = &[&[OTHER_MOVED_AT_20], &[OTHER_AT_20]];
+
+const TURNED: &[&[&[u8]]] = &[&[MOVED_AT_5, WAY], &[CAME_AT_10, WAY]];
+
+const PERIODS: &[Row] = &[
+    (
+        MOVED,
+        Selection::Between { from: 20, to: 30 },
+        &[MOVED_AT_20],
+    ),
+    (
+        MOVED,
+        Selection::Between { from: 15, to: 31 },
+        &[CAME_AT_10, MOVED_AT_20, DELETED_AT_30],
+    ),
+    (
+        MOVED,
+        Selection::Between { from: 31, to: 40 },
+        &[DELETED_AT_30],
+    ),
+    (MOVED, Selection::Between { from: 5, to: 10 }, &[]),
+    (
+        OTHER,
+        Selection::Between { from: 20, to: 21 },
+        &[OTHER_AT_20, OTHER_MOVED_AT_20],
+    ),
+    (
+        OTHER,
+        Selection::Between { from: 21, to: 22 },
+        &[OTHER_MOVED_AT_20],
+    ),
+    (
+        TURNED,
+        Selection::Between { from: 6, to: 11 },
+        &[MOVED_AT_5, WAY],
+    ),
+];
+
+#[test]
+fn periods_of_two_sources(rt: HostRuntime) -> Result<(), Fail> {
+    assert_rows(&rt, PERIODS)
+}
+
+const STATES: &[Row] = &[
+    (TURNED, Selection::StateVisible(4), &[WAY]),
+    (TURNED, Selection::StateVisible(7), &[MOVED_AT_5, WAY]),
+    (TURNED, Selection::StateVisible(10), &[MOVED_AT_5, WAY]),
+    (MOVED, Selection::State(29), &[MOVED_AT_20]),
+    (MOVED, Selection::State(30), &[DELETED_AT_30]),
+    (MOVED, Selection::StateVisible(29), &[MOVED_AT_20]),
+    (MOVED, Selection::StateVisible(30), &[]),
+];
+
+#[test]
+fn states_of_two_sources(rt: HostRuntime) -> Result<(), Fail> {
+    assert_rows(&rt, STATES)
+}
+
+const APART: &[&[&[u8]]] = &[&[VISIBLE, WAY], &[DELETED_NEXT]];
+
+const TIED: &[&[&[u8]]] = &[&[DELETED_TOO], &[VISIBLE, WAY]];
+
+const NEWEST: &[Row] = &[
+    (APART, Selection::All, &[VISIBLE, DELETED_NEXT, WAY]),
+    (APART, Selection::Visible, &[VISIBLE, WAY]),
+    (APART, Selection::Newest, &[DELETED_NEXT, WAY]),
+    (APART, Selection::NewestVisible, &[WAY]),
+    (TIED, Selection::All, &[VISIBLE, DELETED_TOO, WAY]),
+    (TIED, Selection::Visible, &[VISIBLE, WAY]),
+    (TIED, Selection::Newest, &[DELETED_TOO, WAY]),
+    (TIED, Selection::NewestVisible, &[WAY]),
+    (&[], Selection::Newest, &[]),
+];
+
+#[test]
+fn newest_versions_of_two_sources(rt: HostRuntime) -> Result<(), Fail> {
+    assert_rows(&rt, NEWEST)
+}
+
+#[test]
+fn what_is_left_out_is_read(rt: HostRuntime) -> Result<(), Fail> {
+    let (counts, written) = merge_of(rt.alloc(), Selection::NewestVisible, MOVED)?;
+    assert!(rt; written.is_empty());
+    assert_eq!(rt; (counts.read, counts.written), (4, 0));
+    Ok(())
+}
+
+#[test]
+fn newest_versions_before_a_fault(rt: HostRuntime) -> Result<(), Fail> {
+    let fault = Fault {
+        input: 1,
+        place: 40,
+        reason: Reason::NoEnd,
+    };
+    let sources: [(&[Node], Option<Fault>); 2] = [
+        (&[(1, 1, 10_000_000), (4, 1, 10_000_000)], None),
+        (&[(1, 2, 10_000_000), (3, 1, 10_000_000)], Some(fault)),
+    ];
+    let (answer, text) = merge_newest(rt.alloc(), &sources)?;
+    assert_eq!(rt; answer, Err(fault));
+    // The version of node 3 is held back, since the one behind it isn't known.
+    assert_eq!(rt; text.as_slice(), b"n1 v2 dV c0 t i0 u T x1 y1\n".as_slice());
     Ok(())
 }

@@ -1,0 +1,26 @@
+-- Laws of the definitions: what stays of an object is decided by what stays of it in each part.
+use Rattle.std.specs.Prelude.{◌≡◌, ℕ, List, map}
+use Rattle.osm_model.specs.Sets.{union}
+use Rattle.osm_model.specs.VersionSet.{VersionSet}
+use Rattle.osm_merge.specs.Members.{union_all}
+use Rattle.osm_merge.specs.Selected.{snapshot, at}
+
+-- the snapshot of two histories joined is that of their snapshots joined
+abbrev pub SnapshotOfUnion : Type 0
+SnapshotOfUnion = (s t : VersionSet) → snapshot (union s t) ≡ snapshot (union (snapshot s) (snapshot t))
+
+-- and so for any number of histories
+abbrev pub SnapshotOfUnions : Type 0
+SnapshotOfUnions = (sets : List VersionSet) → snapshot (union_all sets) ≡ snapshot (union_all (map snapshot sets))
+
+-- a snapshot is its own snapshot
+abbrev pub SnapshotOfSnapshot : Type 0
+SnapshotOfSnapshot = (s : VersionSet) → snapshot (snapshot s) ≡ snapshot s
+
+-- the state of two histories joined is the snapshot of their states joined
+abbrev pub StateOfUnion : Type 0
+StateOfUnion = (s t : VersionSet) (time : ℕ) → at (union s t) time ≡ snapshot (union (at s time) (at t time))
+
+-- and so for any number of histories
+abbrev pub StateOfUnions : Type 0
+StateOfUnions = (sets : List VersionSet) (time : ℕ) → at (union_all sets) time ≡ snapshot (union_all (map (λ s. at s time) sets))

@@ -1,0 +1,73 @@
+//! What is selected of a history.
+ghost use Rattle.std.specs.Prelude.{◌≡◌, ◌++◌, IfOk, OnOk};
+ghost use Rattle.osm_merge.specs.Selected as set;
+ghost use Rattle.osm_merge.specs.Pass.{only};
+
+use crate::selection::{Selection, keeps, passes, stays};
+use osm_model::{History, Memory, Version};
+use std::alloc::Global;
+
+/// The newest version of each object, deletions too.
+pub fn snapshot(alloc: Global, history: &History) -> Result<History, Memory>
+    ensures { IfOk result (λ h. h ≡ set.snapshot history.now) }
+{
+    choose(alloc, Selection::Newest, history)
+}
+
+/// The versions that aren't deletions.
+pub fn visible(alloc: Global, history: &History) -> Result<History, Memory>
+    ensures { IfOk result (λ h. h ≡ set.visible history.now) }
+{
+    choose(alloc, Selection::Visible, history)
+}
+
+/// Of the versions without a time or with a time of at most `time` the newest one of each object, deletions too.
+pub fn at(alloc: Global, history: &History, time: u32) -> Result<History, Memory>
+    ensures { IfOk result (λ h. h ≡ set.at history.now time) }
+{
+    choose(alloc, Selection::State(time), history)
+}
+
+/// The versions, deletions too, that came before `to` and stood at `from` or later. A version stands until the next one of
+/// its object; without a time it came at 0.
+pub fn between(alloc: Global, history: &History, from: u32, to: u32) -> Result<History, Memory>
+    ensures { IfOk result (λ h. h ≡ set.between history.now from to) }
+{
+    choose(alloc, Selection::Between { from, to }, history)
+}
+
+/// What is selected of a history.
+fn choose(alloc: Global, selection: Selection, history: &History) -> Result<History, Memory>
+    ensures { IfOk result (λ h. h ≡ set.selected selection history.now) }
+{
+    let mut chosen = Vec::new(alloc);
+    let mut held: Option<usize> = None;
+    for place in 0..history.len() {
+        let version = history.get(place);
+        if passes(selection, version) {
+            if let Some(before) = held {
+                let before = history.get(before);
+                copy_if(keeps(selection, before, version), before, &mut chosen)?;
+            }
+            held = Some(place);
+        }
+    }
+    if let Some(last) = held {
+        let last = history.get(last);
+        copy_if(stays(selection, last, None), last, &mut chosen)?;
+    }
+    History::from_versions(chosen)
+}
+
+/// A copy of a version behind those that are chosen, if it stays.
+fn copy_if(stays: bool, version: &Version, chosen: &mut Vec<Version>) -> Result<(), Memory>
+    ensures { OnOk result (chosen.new.items ≡ chosen.old.items ++ only stays version.now) }
+{
+    if stays {
+        chosen.push(version.copy()?)?;
+    }
+    Ok(())
+}
+
+#[cfg(test)]
+mod tests;

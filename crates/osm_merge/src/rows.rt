@@ -1,0 +1,63 @@
+//! Versions as lines, for the tests, and histories of them.
+use osm_files::{Format, SliceIn, VecOut, load_any, write_history};
+use osm_model::History;
+use std::alloc::Global;
+use std::test::Fail;
+
+/// A node that came after 10 seconds.
+pub const CAME_AT_10: &[u8] = b"n1 v1 dV c0 t1970-01-01T00:00:10Z i0 u T x1 y1\n";
+
+/// It was moved after 20 seconds.
+pub const MOVED_AT_20: &[u8] = b"n1 v2 dV c0 t1970-01-01T00:00:20Z i0 u T x2 y1\n";
+
+/// It was deleted after 30 seconds.
+pub const DELETED_AT_30: &[u8] = b"n1 v3 dD c0 t1970-01-01T00:00:30Z i0 u T x y\n";
+
+/// Its second version, if that has the lesser time of the two.
+pub const MOVED_AT_5: &[u8] = b"n1 v2 dV c0 t1970-01-01T00:00:05Z i0 u T x2 y1\n";
+
+/// Another node, of which two versions came after 20 seconds.
+pub const OTHER_AT_20: &[u8] = b"n2 v1 dV c0 t1970-01-01T00:00:20Z i0 u T x1 y1\n";
+
+/// The second of these.
+pub const OTHER_MOVED_AT_20: &[u8] = b"n2 v2 dV c0 t1970-01-01T00:00:20Z i0 u T x2 y1\n";
+
+/// A node without a time.
+pub const VISIBLE: &[u8] = b"n1 v1 dV c0 t i0 u T x1 y1\n";
+
+/// Its deletion, as its second version.
+pub const DELETED_NEXT: &[u8] = b"n1 v2 dD c0 t i0 u T x y\n";
+
+/// Its deletion, as another version of the same number.
+pub const DELETED_TOO: &[u8] = b"n1 v1 dD c0 t i0 u T x y\n";
+
+/// Two versions of one number without a time.
+pub const AT_10_EAST: &[u8] = b"n1 v1 dV c0 t i0 u T x10 y1\n";
+
+/// The greater of these, since its line has the greater byte.
+pub const AT_9_EAST: &[u8] = b"n1 v1 dV c0 t i0 u T x9 y1\n";
+
+/// A way that has the id of the node.
+pub const WAY: &[u8] = b"w1 v1 dV c0 t i0 u T N\n";
+
+/// These lines, one after the other.
+pub fn text(alloc: Global, lines: &[&[u8]]) -> Result<Vec<u8>, Fail> {
+    let mut text = Vec::new(alloc);
+    for line in lines {
+        text.extend_from_slice(line)?;
+    }
+    Ok(text)
+}
+
+/// The history of the versions that these lines spell.
+pub fn history(alloc: Global, lines: &[&[u8]]) -> Result<History, Fail> {
+    let text = text(alloc, lines)?;
+    Ok(load_any(alloc, 0, SliceIn::new(&text))?.history)
+}
+
+/// The lines of the versions of a history.
+pub fn lines_of(alloc: Global, history: &History) -> Result<Vec<u8>, Fail> {
+    let mut out = VecOut::new(alloc);
+    write_history(alloc, 0, Format::Opl, history, &mut out)?;
+    Ok(out.into_vec())
+}
