@@ -1,7 +1,7 @@
 mod Appending
 mod UnitLaws
 mod PartLaws
-mod FileLaws
+pub mod FileLaws
 mod UnitSteps
 mod StepLaws
 mod MoreLaws
@@ -11,8 +11,8 @@ mod PositionLaws
 mod ReadingLaws
 mod GivenLaws
 mod GroupLaws
-mod LoadLaws
-mod LoadFaults
+pub mod LoadLaws
+pub mod LoadFaults
 mod LoadFormats
 pub mod RiseLaws
 pub mod HoldLaws

@@ -22,7 +22,7 @@ use Rattle.osm_files.specs.Source.{Step}
 use Rattle.osm_files.specs.O5.{reset_byte}
 use Rattle.osm_files.specs.Units.{InOpl, unit_at, units, start_of}
 use Rattle.osm_files.specs.Verdict.{length_limit, too_long, file_units, versions_of, verdict, is_below}
-use Rattle.osm_files.specs.Held.{IsFile, HoldsSorted}
+use Rattle.osm_files.specs.Held.{IsFile, Holds, HoldsSorted}
 use Rattle.osm_files.specs.Position.{Position, ahead, units_from, named, still_to_come, ReadsOn, stand_at, stand_in, fault_of, StopsFilling}
 use Rattle.osm_files.specs.Whole.{is_below_last}
 use Rattle.osm_files.specs.Load.{format_of, tells_format, Loads, StopsLoading}
@@ -166,6 +166,9 @@ module _ (input : ℕ) (c : Coming) (versions : List VersionData) (none : (named
 
   is_file : IsFile c.bytes versions
   is_file = subst (IsFile c.bytes) file_versions (accepted_without_verdict c.bytes no_verdict).1
+
+  pub gives_file : (c.broken ≡ false) × Holds c.bytes (from_list {R = version_cmp} versions)
+  gives_file = (ends, record { short = (accepted_without_verdict c.bytes no_verdict).0; versions = versions; file = is_file; members = refl })
 
   loads_sorted : IsSorted key_cmp versions → HoldsSorted c.bytes (from_list {R = version_cmp} versions)
   loads_sorted sorted = record { short = (accepted_without_verdict c.bytes no_verdict).0; versions = versions; file = is_file; sorted = sorted; members = refl }

@@ -1,1 +1,6 @@
 mod MergeLaws
+mod SourceLaws
+mod RunLaws
+mod CommandLaws
+mod ObjectLaws
+mod CheckLaws

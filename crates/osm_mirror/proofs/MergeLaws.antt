@@ -60,14 +60,14 @@ has_union before (s ∷ all) v =
     ∙ ap (λ b. contains before v || b) (sym (list_any-append (eq_by_cmp version_cmp v) s.list (merged.versions_of all)))
 
 -- the union of what sources give is the union of the sets
-union_given : (all : List source.Coming) → merged.union_of all ≡ union_of (map set_given all)
+pub union_given : (all : List source.Coming) → merged.union_of all ≡ union_of (map set_given all)
 unfolding merged.union_of
 union_given all =
     same_set version_cmp_total version_cmp-IsAntisymmetric (from_list (merged.versions_of all)) (union_of (map set_given all))
     (λ v. contains-from_list version_cmp_total (merged.versions_of all) v ∙ sym (has_union empty all v ∙ ap (λ b. b || among v (merged.versions_of all)) (ap is_some (get-empty {X = Unit {0}} version_cmp v))))
 
 -- ---- one input
-source_sorted : (number : ℕ) (c : Coming) (held : VersionSet) → c.broken ≡ false → HoldsSorted c.bytes held → sorted_source number c ≡ record { list = listed held; refusal = None }
+pub source_sorted : (number : ℕ) (c : Coming) (held : VersionSet) → c.broken ≡ false → HoldsSorted c.bytes held → sorted_source number c ≡ record { list = listed held; refusal = None }
 source_sorted number c held unbroken file = (λ i. sorted_source number (record { bytes = c.bytes; broken = unbroken i })) ∙ source_gives_held number c.bytes held file
 
 source_whole : (number : ℕ) (bytes : List ℕ) (broken : Bool) → (sorted_source number (record { bytes = bytes; broken = broken })).refusal ≡ None
@@ -75,17 +75,17 @@ source_whole : (number : ℕ) (bytes : List ℕ) (broken : Bool) → (sorted_sou
 source_whole number bytes true whole = absurd (broken_is_refused number bytes whole)
 source_whole number bytes false whole = record { unbroken = refl; file = whole_source_is_held number bytes whole }
 
-gives : (number : ℕ) (c : Coming) → (sorted_source number c).refusal ≡ None → GivesSorted c (set_given (sorted_source number c))
+pub gives : (number : ℕ) (c : Coming) → (sorted_source number c).refusal ≡ None → GivesSorted c (set_given (sorted_source number c))
 gives number c whole = source_whole number c.bytes c.broken whole
 
 -- ---- all inputs
-All-first : {X : Type 0} (P : X → Type 0) (x : X) (xs : List X) → All P (x ∷ xs) → P x
+pub All-first : {X : Type 0} (P : X → Type 0) (x : X) (xs : List X) → All P (x ∷ xs) → P x
 All-first P x xs h = h 0 x (omega arith)
 
-All-others : {X : Type 0} (P : X → Type 0) (x : X) (xs : List X) → All P (x ∷ xs) → All P xs
+pub All-others : {X : Type 0} (P : X → Type 0) (x : X) (xs : List X) → All P (x ∷ xs) → All P xs
 All-others P x xs h = λ k d below. h (suc k) d (omega (arith, below))
 
-abbrev AreWhole : List source.Coming → Type 0
+abbrev pub AreWhole : List source.Coming → Type 0
 AreWhole all = All (λ s. s.refusal ≡ None) all
 
 all_give : (number : ℕ) (inputs : List Coming) → AreWhole (sources number inputs) → Pairwise GivesSorted inputs (map set_given (sources number inputs))

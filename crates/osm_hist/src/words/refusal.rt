@@ -14,6 +14,16 @@ pub(crate) enum Refusal<'a> {
     /// The words aren't UTF-8.
     #[error("the words are not UTF-8")]
     WordsNotUtf8,
+    /// A time isn't an OPL time within the range of times.
+    #[error("{time}: not a moment")]
+    NotMoment {
+        time: &'a str,
+    },
+    /// The end of a period isn't after its beginning.
+    #[error("{time}: not after the first")]
+    NotAfterFirst {
+        time: &'a str,
+    },
     /// A file to be read is the one that is written before it is renamed.
     #[error("{name}: input is the output")]
     InputIsOutput {
@@ -83,7 +93,11 @@ impl<'a> Refusal<'a> {
 
     fn status(&self) -> u8 {
         match self {
-            Refusal::Words(_) | Refusal::WordsNotUtf8 | Refusal::InputIsOutput { .. } => 2,
+            Refusal::Words(_)
+            | Refusal::WordsNotUtf8
+            | Refusal::NotMoment { .. }
+            | Refusal::NotAfterFirst { .. }
+            | Refusal::InputIsOutput { .. } => 2,
             _ => 1,
         }
     }

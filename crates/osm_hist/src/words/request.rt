@@ -1,31 +1,47 @@
 //! What the words of a command ask for.
+use super::command::command;
+use super::refusal::Refusal;
 use clap::error::ErrorKind;
-use clap::{Arg, ArgAction, ArgMatches, Command, Error};
+use clap::{ArgMatches, Error};
 use osm_files::Format;
-use std::alloc::{AllocError, Global};
+use osm_merge::Selection;
+use osm_mirror::read_moment;
+use std::alloc::Global;
 use std::convert::AsStr;
-
-/// The names of the formats in which a file can be written.
-static FORMATS: [&str; 3] = ["opl", "o5m", "o5c"];
 
 /// What the words ask for.
 #[derive(Drop)]
 pub(super) enum Request<'a> {
     /// Standard input, merged to standard output.
     StandardInput,
-    /// Files, merged into one.
-    Merge(FileMerge<'a>),
+    /// Files, of which one is made.
+    Files(FileRun<'a>),
+    /// A file, checked.
+    Check(FileCheck<'a>),
+    /// Help, which is this text.
+    Help(Error),
 }
 
-/// A merge of files.
+/// A run over files that makes one.
 #[derive(Drop)]
-pub(super) struct FileMerge<'a> {
+pub(super) struct FileRun<'a> {
     /// The name of the file to be written.
     pub(super) output: &'a str,
     /// Its format.
     pub(super) format: Format,
     /// The names of the files to be read.
     pub(super) files: Vec<&'a str>,
+    /// Which of the versions that they hold are written.
+    pub(super) selection: Selection,
+    /// Whether each of them has to be sorted.
+    pub(super) sorted: bool,
+}
+
+/// A check of a file.
+#[derive(Drop)]
+pub(super) struct FileCheck<'a> {
+    /// Its name.
+    pub(super) file: &'a str,
 }
 
 impl<'a> Request<'a> {
@@ -33,16 +49,26 @@ impl<'a> Request<'a> {
     ///
     /// # Errors
     ///
-    /// What `clap` answers in place of matches: help, a mistake in the words, or want of memory.
-    pub(super) fn parse<S: AsStr>(alloc: Global, words: &'a [S]) -> Result<Request<'a>, Error> {
+    /// A mistake in the words, times included, or want of memory.
+    pub(super) fn parse<S: AsStr>(
+        alloc: Global,
+        words: &'a [S],
+    ) -> Result<Request<'a>, Refusal<'a>> {
         if words.is_empty() {
             return Ok(Request::StandardInput);
         }
         let mut command = command(alloc)?;
-        let matches = command.try_get_matches_from_mut(words)?;
+        let matches = match command.try_get_matches_from_mut(words) {
+            Ok(matches) => matches,
+            Err(error) if error.use_stderr() => return Err(Refusal::of_words(error)),
+            Err(help) => return Ok(Request::Help(help)),
+        };
         match Request::of_matches(alloc, &matches)? {
             Some(request) => Ok(request),
-            None => Err(command.error(ErrorKind::MissingSubcommand, "a command is missing")?),
+            None => {
+                let missing = command.error(ErrorKind::MissingSubcommand, "a command is missing")?;
+                Err(Refusal::of_words(missing))
+            }
         }
     }
 
@@ -51,31 +77,38 @@ impl<'a> Request<'a> {
     fn of_matches(
         alloc: Global,
         matches: &ArgMatches<'a>,
-    ) -> Result<Option<Request<'a>>, AllocError> {
+    ) -> Result<Option<Request<'a>>, Refusal<'a>> {
         match matches.subcommand() {
-            Some(("merge", merge)) => {
-                Ok(FileMerge::of_matches(alloc, merge)?.map(|request| Request::Merge(request)))
+            Some(("check", words)) => Ok(
+                words
+                    .get_str("file")
+                    .map(|file| Request::Check(FileCheck { file })),
+            ),
+            Some((name, words)) => {
+                Ok(FileRun::of_matches(alloc, name, words)?.map(|run| Request::Files(run)))
             }
-            _ => Ok(None),
+            None => Ok(None),
         }
     }
 }
 
-impl<'a> FileMerge<'a> {
+impl<'a> FileRun<'a> {
+    /// The run for which the words after a command of this name ask.
     fn of_matches(
         alloc: Global,
-        matches: &ArgMatches<'a>,
-    ) -> Result<Option<FileMerge<'a>>, AllocError> {
-        let output = matches.get_str("output");
-        let format = matches
-            .get_str("format")
-            .and_then(|name| format_named(name));
-        let files = matches.get_strs("files");
-        match (output, format, files) {
-            (Some(output), Some(format), Some(files)) => Ok(Some(FileMerge {
+        name: &str,
+        words: &ArgMatches<'a>,
+    ) -> Result<Option<FileRun<'a>>, Refusal<'a>> {
+        let output = words.get_str("output");
+        let format = words.get_str("format").and_then(|name| format_named(name));
+        let files = words.get_strs("files");
+        match (output, format, files, selection(name, words)?) {
+            (Some(output), Some(format), Some(files), Some(selection)) => Ok(Some(FileRun {
                 output,
                 format,
                 files: Vec::from_slice(alloc, files)?,
+                selection,
+                sorted: name == "merge" || words.get_flag("sorted"),
             })),
             _ => Ok(None),
         }
@@ -84,48 +117,36 @@ impl<'a> FileMerge<'a> {
 
 /// The format that the words call so.
 fn format_named(name: &str) -> Option<Format> {
+    [Format::Opl, Format::O5m, Format::O5c]
+        .into_iter()
+        .find(|format| format.name() == name)
+}
+
+/// Which versions a command of this name writes.
+fn selection<'a>(name: &str, words: &ArgMatches<'a>) -> Result<Option<Selection>, Refusal<'a>> {
     match name {
-        "opl" => Some(Format::Opl),
-        "o5m" => Some(Format::O5m),
-        "o5c" => Some(Format::O5c),
-        _ => None,
+        "merge" | "sort" => Ok(Some(Selection::All)),
+        "apply" if words.get_flag("with-history") => Ok(Some(Selection::All)),
+        "apply" => Ok(Some(Selection::NewestVisible)),
+        _ => match (words.get_str("time"), words.get_str("end")) {
+            (Some(time), None) => Ok(Some(Selection::StateVisible(moment(time)?))),
+            (Some(from), Some(to)) => Ok(Some(period(from, to)?)),
+            (None, _) => Ok(None),
+        },
     }
 }
 
-/// The command that reads the words.
-fn command<'a>(alloc: Global) -> Result<Command<'a>, AllocError> {
-    Command::new(alloc, "osm_hist")
-        .about("Merges files of OpenStreetMap histories")
-        .after_help("Without a command, standard input is merged to standard output.")
-        .bin_name("osm_hist")?
-        .no_binary_name(true)
-        .subcommand_required(true)
-        .subcommand(merge_command(alloc)?)
+/// What stood in the period between two moments.
+fn period<'a>(first: &'a str, second: &'a str) -> Result<Selection, Refusal<'a>> {
+    let from = moment(first)?;
+    let to = moment(second)?;
+    if to <= from {
+        return Err(Refusal::NotAfterFirst { time: second });
+    }
+    Ok(Selection::Between { from, to })
 }
 
-fn merge_command<'a>(alloc: Global) -> Result<Command<'a>, AllocError> {
-    let output = Arg::new(alloc, "output")
-        .long("output")
-        .value_name("OUT")
-        .required(true)
-        .action(ArgAction::Set)
-        .help("The file to be written");
-    let format = Arg::new(alloc, "format")
-        .long("format")
-        .value_name("FORMAT")
-        .value_parser(FORMATS.as_slice())
-        .default_value("opl")
-        .action(ArgAction::Set)
-        .help("Its format");
-    let files = Arg::new(alloc, "files")
-        .value_name("FILE")
-        .required(true)
-        .num_args(1..)
-        .action(ArgAction::Append)
-        .help("The files to be merged, each sorted, in OPL, o5m or o5c");
-    Command::new(alloc, "merge")
-        .about("Merges sorted files into one")
-        .arg(output)?
-        .arg(format)?
-        .arg(files)
+/// The moment that a word spells.
+fn moment<'a>(time: &'a str) -> Result<u32, Refusal<'a>> {
+    read_moment(time.as_bytes()).ok_or(Refusal::NotMoment { time })
 }

@@ -1,20 +1,16 @@
 //! Running what the words ask for, over files or standard input and output.
+use super::checking::{is_out_of_order, is_unsorted};
+use super::files::{buffered, buffered_out, can_be_read_again, open_all};
 use super::refusal::Refusal;
-use super::request::FileMerge;
-use osm_files::{Fault, Format, FromRead, ToWrite};
-use osm_merge::Counts;
-use osm_mirror::run_merge;
+use super::request::FileRun;
+use osm_files::{Fault, Format};
+use osm_merge::{Counts, Selection};
+use osm_mirror::{InputFile, Order, run_merge, run_selected};
 use std::alloc::{AllocError, Global};
 use std::fs;
-use std::fs::File;
-use std::io::{BufReader, BufWriter, Read, Write};
+use std::fs::{File, OpenFile};
+use std::io::{Read, Write};
 use std::rt::Files;
-
-/// The bytes of the buffer before each file.
-const BUFFER: usize = 65536;
-
-/// A reader as an input, through a buffer.
-type Buffered<R> = FromRead<BufReader<R>>;
 
 /// Merges standard input to standard output.
 pub(super) fn merge_standard_input<'a, I: Read + Drop, O: Write + Drop>(
@@ -25,29 +21,26 @@ pub(super) fn merge_standard_input<'a, I: Read + Drop, O: Write + Drop>(
     let names = ["standard input"];
     let mut inputs = Vec::new(alloc);
     inputs.push(buffered(alloc, input)?)?;
-    match merge_to(alloc, inputs, Format::Opl, &mut *out) {
+    let mut output = buffered_out(alloc, &mut *out)?;
+    match run_merge(alloc, inputs, Format::Opl, &mut output) {
         Ok(_) => Ok(()),
         Err(fault) => Err(Refusal::of_fault(fault, &names, "standard output")),
     }
 }
 
-/// Merges files into OUT. They are written to OUT.part, which becomes OUT at the end, or goes at a refusal.
-pub(super) fn merge_files<'a, R: Files + AllocGlobal>(
+/// Makes OUT of files. It is written to OUT.part, which becomes OUT at the end, or goes at a refusal.
+pub(super) fn run_files<'a, R: Files + AllocGlobal>(
     rt: &R,
-    request: &FileMerge<'a>,
+    run: &FileRun<'a>,
 ) -> Result<(), Refusal<'a>> {
-    let part = format!(in rt.alloc(); "{}.part", request.output)?;
-    let mut names = request.files.iter().copied();
+    let part = format!(in rt.alloc(); "{}.part", run.output)?;
+    let mut names = run.files.iter().copied();
     if let Some(name) = names.find(|name| *name == part.as_str()) {
         return Err(Refusal::InputIsOutput { name });
     }
-    let inputs = open_files(rt, request.files.as_slice())?;
-    let Ok(file) = File::create(rt, part.as_str()) else {
-        return Err(Refusal::CannotCreate {
-            output: request.output,
-        });
-    };
-    let outcome = finish(rt, request, inputs, file, part.as_str());
+    let files = open_all(rt, run.files.as_slice())?;
+    let file = create(rt, run, part.as_str())?;
+    let outcome = finish(rt, run, part.as_str(), files, file);
     if outcome.is_err() {
         // A file that can't be removed stays, and the refusal is the same.
         let _ = fs::remove_file(rt, part.as_str());
@@ -55,57 +48,141 @@ pub(super) fn merge_files<'a, R: Files + AllocGlobal>(
     outcome
 }
 
+/// OUT.part, made empty.
+fn create<'a, R: Files>(rt: &R, run: &FileRun<'a>, part: &str) -> Result<R::File, Refusal<'a>> {
+    match File::create(rt, part) {
+        Ok(file) => Ok(file),
+        Err(_) => Err(Refusal::CannotCreate { output: run.output }),
+    }
+}
+
 /// Writes OUT.part and renames it.
 fn finish<'a, R: Files + AllocGlobal>(
     rt: &R,
-    request: &FileMerge<'a>,
-    inputs: Vec<Buffered<R::File>>,
-    file: R::File,
+    run: &FileRun<'a>,
     part: &str,
+    files: Vec<R::File>,
+    file: R::File,
 ) -> Result<(), Refusal<'a>> {
-    if let Err(fault) = merge_to(rt.alloc(), inputs, request.format, file) {
-        return Err(Refusal::of_fault(fault, request.files.as_slice(), request.output));
+    if let Err(fault) = write_by_turns(rt, run, part, files, file)? {
+        return Err(Refusal::of_fault(fault, run.files.as_slice(), run.output));
     }
-    match fs::rename(rt, part, request.output) {
+    match fs::rename(rt, part, run.output) {
         Ok(()) => Ok(()),
-        Err(_) => Err(Refusal::CannotRename {
-            output: request.output,
-        }),
+        Err(_) => Err(Refusal::CannotRename { output: run.output }),
     }
 }
 
-/// The files, opened in this order.
-fn open_files<'a, R: Files + AllocGlobal>(
+/// Writes OUT.part: at first with all files as sorted ones that can be read again, and where one of them turns out not
+/// to be sorted, anew with that file held. Where that happens again, the others are looked through before the next
+/// turn, so that there are few turns, however many files there are.
+fn write_by_turns<'a, R: Files + AllocGlobal>(
     rt: &R,
-    names: &[&'a str],
-) -> Result<Vec<Buffered<R::File>>, Refusal<'a>> {
-    let mut inputs = Vec::new(rt.alloc());
-    for name in names {
-        let Ok(file) = File::open(rt, *name) else {
-            return Err(Refusal::CannotRead { name: *name });
-        };
-        inputs.push(buffered(rt.alloc(), file)?)?;
+    run: &FileRun<'a>,
+    part: &str,
+    files: Vec<R::File>,
+    file: R::File,
+) -> Result<Result<Counts, Fault>, Refusal<'a>> {
+    let mut orders = first_orders(rt.alloc(), run, files.as_slice())?;
+    if orders.contains(&Order::Any) {
+        // A file that can't be read again allows one turn only.
+        hold_unsorted(rt, run, orders.as_mut_slice())?;
+        return Ok(write(rt.alloc(), run, files, orders.as_slice(), file));
     }
-    Ok(inputs)
+    let mut outcome = write(rt.alloc(), run, files, orders.as_slice(), file);
+    for turn in 0..run.files.len() {
+        if run.sorted || !hold_refused(orders.as_mut_slice(), &outcome) {
+            break;
+        }
+        if turn > 0 {
+            hold_unsorted(rt, run, orders.as_mut_slice())?;
+        }
+        let files = open_all(rt, run.files.as_slice())?;
+        let file = create(rt, run, part)?;
+        outcome = write(rt.alloc(), run, files, orders.as_slice(), file);
+    }
+    Ok(outcome)
 }
 
-/// Merges the inputs to a writer, through a buffer. What a refused merge has written goes to the writer as well, when
-/// the buffer is dropped.
-fn merge_to<R: Read + Drop, W: Write + Drop>(
+/// How the files are taken at first: those that can't be read again are held.
+fn first_orders<'a, F: OpenFile>(
     alloc: Global,
-    inputs: Vec<Buffered<R>>,
-    format: Format,
-    writer: W,
-) -> Result<Counts, Fault> {
-    let Ok(buffer) = BufWriter::with_capacity(alloc, BUFFER, writer) else {
-        return Err(Fault::memory());
-    };
-    run_merge(alloc, inputs, format, &mut ToWrite::new(buffer))
+    run: &FileRun<'a>,
+    files: &[F],
+) -> Result<Vec<Order>, AllocError> {
+    let mut orders = Vec::new(alloc);
+    for file in files {
+        let order = if run.sorted || can_be_read_again(file) {
+            Order::Sorted
+        } else {
+            Order::Any
+        };
+        orders.push(order)?;
+    }
+    Ok(orders)
 }
 
-fn buffered<R: Read + Drop>(alloc: Global, reader: R) -> Result<Buffered<R>, AllocError> {
-    match BufReader::with_capacity(alloc, BUFFER, reader) {
-        Ok(reader) => Ok(FromRead::new(reader)),
-        Err(_) => Err(AllocError),
+/// Looks through the files that are taken as sorted, and holds those from now on that aren't.
+fn hold_unsorted<'a, R: Files + AllocGlobal>(
+    rt: &R,
+    run: &FileRun<'a>,
+    orders: &mut [Order],
+) -> Result<(), Refusal<'a>> {
+    for (name, order) in run.files.iter().zip(orders.iter_mut()) {
+        if *order == Order::Sorted && is_out_of_order(rt, *name)? {
+            *order = Order::Any;
+        }
     }
+    Ok(())
+}
+
+/// Holds the file from now on that was refused because it isn't sorted, and answers whether there is one.
+fn hold_refused(orders: &mut [Order], outcome: &Result<Counts, Fault>) -> bool {
+    let Err(fault) = outcome else {
+        return false;
+    };
+    match orders.get_mut(fault.input) {
+        Some(order) if is_unsorted(fault) => {
+            *order = Order::Any;
+            true
+        }
+        _ => false,
+    }
+}
+
+/// Writes the versions that are selected of the files, each taken in its order.
+fn write<'a, F: Read + Write + Drop>(
+    alloc: Global,
+    run: &FileRun<'a>,
+    files: Vec<F>,
+    orders: &[Order],
+    file: F,
+) -> Result<Counts, Fault> {
+    if run.selection == Selection::All && !orders.contains(&Order::Any) {
+        return merge(alloc, run.format, files, file);
+    }
+    let mut inputs = Vec::new(alloc);
+    for (file, order) in files.into_iter().zip(orders) {
+        inputs.push(InputFile {
+            reader: buffered(alloc, file)?,
+            order: *order,
+        })?;
+    }
+    let mut output = buffered_out(alloc, file)?;
+    run_selected(alloc, run.selection, inputs, run.format, &mut output)
+}
+
+/// Merges files that are all taken as sorted.
+fn merge<F: Read + Write + Drop>(
+    alloc: Global,
+    format: Format,
+    files: Vec<F>,
+    file: F,
+) -> Result<Counts, Fault> {
+    let mut inputs = Vec::new(alloc);
+    for file in files {
+        inputs.push(buffered(alloc, file)?)?;
+    }
+    let mut output = buffered_out(alloc, file)?;
+    run_merge(alloc, inputs, format, &mut output)
 }

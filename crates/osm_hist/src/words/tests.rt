@@ -6,6 +6,12 @@ use std::rt::Files;
 use std::test::Fail;
 use std::{env, fs, io};
 
+mod apply;
+mod check;
+mod order;
+mod sort;
+mod time_filter;
+
 /// The line of a version.
 const FIRST: &str = "n1 v1 dV x1.5 y2\n";
 
@@ -14,6 +20,13 @@ const SECOND: &str = "n1 v2 dV x1.5 y3\n";
 
 /// What a merge of both writes.
 const MERGED: &str = "n1 v1 dV c0 t i0 u T x1.5 y2\nn1 v2 dV c0 t i0 u T x1.5 y3\n";
+
+/// The file of a node and its deletion.
+const NODE_THEN_DELETION: &[u8] =
+    b"\xff\xe0\x04o5m2\x10\x0b\x02\x01\x02\x02\x00\x01\x00a\x00\x00\x00\x10\x05\x00\x02\x02\x00\x01\xfe";
+
+/// Two nodes, of which the second has the lesser id.
+const UNSORTED: &str = "n2 v1 x1 y1\nn1 v1 x1 y1\n";
 
 /// A device that answers an error to every call.
 #[derive(Drop)]
@@ -74,6 +87,21 @@ fn assert_refused<R: Files + AllocGlobal + Abort>(rt: &R, words: &[&str], status
     assert!(rt; answer.out.is_empty());
 }
 
+/// Sees that a command makes o.opl with this text, says nothing, and leaves no o.opl.part.
+fn assert_makes<R: Files + AllocGlobal + Abort>(
+    rt: &R,
+    words: &[&str],
+    text: &str,
+) -> Result<(), Fail> {
+    let answer = run(rt, words);
+    assert_eq!(rt; answer.err.as_slice(), b"".as_slice());
+    assert_eq!(rt; answer.status, 0);
+    assert!(rt; answer.out.is_empty());
+    assert_eq!(rt; fs::read_to_string(rt, "o.opl")?.as_str(), text);
+    assert!(rt; !fs::exists(rt, "o.opl.part")?);
+    Ok(())
+}
+
 /// Makes a folder of this name and works in it.
 fn enter(rt: &HostRuntime, folder: &str) -> io::Result<()> {
     let _ = fs::remove_dir_all(rt, folder);
@@ -95,12 +123,7 @@ fn files_are_merged(rt: HostRuntime) -> Result<(), Fail> {
     let words = [
         "merge", "--output", "o.opl", "--format", "opl", "a.opl", "b.opl",
     ];
-    let answer = run(&rt, &words);
-    assert_eq!(rt; answer.status, 0);
-    assert!(rt; answer.out.is_empty());
-    assert!(rt; answer.err.is_empty());
-    assert_eq!(rt; fs::read_to_string(&rt, "o.opl")?.as_str(), MERGED);
-    assert!(rt; !fs::exists(&rt, "o.opl.part")?);
+    assert_makes(&rt, &words, MERGED)?;
     leave(&rt, "files_are_merged")?;
     Ok(())
 }
@@ -112,17 +135,35 @@ fn refused_files_leave_the_output_as_it_was(rt: HostRuntime) -> Result<(), Fail>
     fs::write(&rt, "o.opl", SECOND)?;
     fs::write(&rt, "bad.opl", "# a node without a location\nn1 v1 x1\n")?;
     fs::create_dir(&rt, "folder")?;
-    let merge = ["merge", "--output", "o.opl", "a.opl", "bad.opl"];
-    assert_refused(&rt, &merge, 1, "bad.opl: 28: NoLocation\n");
-    let merge = ["merge", "--output", "o.opl", "a.opl", "gone.opl"];
-    assert_refused(&rt, &merge, 1, "gone.opl: cannot read\n");
-    let merge = ["merge", "--output", "o.opl", "a.opl", "folder"];
-    assert_refused(&rt, &merge, 1, "folder: 0: ReadFault\n");
-    let merge = ["merge", "--output", "o.opl", "gone.opl", "o.opl.part"];
-    assert_refused(&rt, &merge, 2, "o.opl.part: input is the output\n");
+    for command in ["merge", "apply", "sort"] {
+        for (name, line) in [
+            ("bad.opl", "bad.opl: 28: NoLocation\n"),
+            ("gone.opl", "gone.opl: cannot read\n"),
+            ("folder", "folder: 0: ReadFault\n"),
+        ] {
+            let words = [command, "--output", "o.opl", "a.opl", name];
+            assert_refused(&rt, &words, 1, line);
+        }
+        let words = [command, "--output", "o.opl", "gone.opl", "o.opl.part"];
+        assert_refused(&rt, &words, 2, "o.opl.part: input is the output\n");
+    }
     assert_eq!(rt; fs::read_to_string(&rt, "o.opl")?.as_str(), SECOND);
     assert!(rt; !fs::exists(&rt, "o.opl.part")?);
     leave(&rt, "refused_files")?;
+    Ok(())
+}
+
+#[test]
+fn an_earlier_part_stays_until_it_is_made_anew(rt: HostRuntime) -> Result<(), Fail> {
+    enter(&rt, "an_earlier_part")?;
+    fs::write(&rt, "o.opl.part", FIRST)?;
+    let words = ["sort", "--output", "o.opl", "gone.opl"];
+    assert_refused(&rt, &words, 1, "gone.opl: cannot read\n");
+    assert_eq!(rt; fs::read_to_string(&rt, "o.opl.part")?.as_str(), FIRST);
+    fs::write(&rt, "a.opl", SECOND)?;
+    let words = ["sort", "--output", "o.opl", "a.opl"];
+    assert_makes(&rt, &words, "n1 v2 dV c0 t i0 u T x1.5 y3\n")?;
+    leave(&rt, "an_earlier_part")?;
     Ok(())
 }
 
@@ -142,9 +183,18 @@ fn outputs_that_cannot_be_made_are_refused(rt: HostRuntime) -> Result<(), Fail> 
 
 #[test]
 fn mistaken_words_are_refused(rt: HostRuntime) {
-    let missing = ["merge", "a.opl"];
-    let unknown = ["merge", "--output", "o.opl", "--format", "xml", "a.opl"];
-    for words in [missing.as_slice(), unknown.as_slice()] {
+    for words in [
+        ["merge", "a.opl"].as_slice(),
+        &["merge", "--output", "o.opl", "--format", "xml", "a.opl"],
+        &["merge", "--output", "o.opl", "--sorted", "a.opl"],
+        &["apply", "--output", "o.opl"],
+        &["sort", "--output", "o.opl", "--with-history", "a.opl"],
+        &["time-filter", "--output", "o.opl", "a.opl"],
+        &["time-filter", "--output", "o.opl", "a.opl", "1", "2", "3"],
+        &["check", "a.opl", "b.opl"],
+        &["--output", "o.opl"],
+        &["mend", "a.opl"],
+    ] {
         let answer = run(&rt, words);
         assert_eq!(rt; answer.status, 2);
         assert!(rt; answer.out.is_empty());
@@ -153,12 +203,14 @@ fn mistaken_words_are_refused(rt: HostRuntime) {
 }
 
 #[test]
-fn help_is_printed(rt: HostRuntime) {
-    for words in [["--help"].as_slice(), ["merge", "--help"].as_slice()] {
-        let answer = run(&rt, words);
+fn help_is_printed(rt: HostRuntime) -> Result<(), Fail> {
+    assert_eq!(rt; run(&rt, &["--help"]).status, 0);
+    for command in ["merge", "apply", "time-filter", "sort", "check"] {
+        let answer = run(&rt, &[command, "--help"]);
         assert_eq!(rt; answer.status, 0);
         assert!(rt; answer.err.is_empty());
-        assert!(rt; !answer.out.is_empty());
+        let usage = format!(in rt.alloc(); "Usage: osm_hist {command} ")?;
+        assert!(rt; String::from_utf8(answer.out)?.contains(usage.as_str()));
     }
     let mut err = Vec::new(rt.alloc());
     let status = run_words(&rt, &["--help"], b"".as_slice(), Broken, &mut err);
@@ -167,6 +219,7 @@ fn help_is_printed(rt: HostRuntime) {
         err.as_slice(),
         b"standard output: cannot write\n".as_slice()
     );
+    Ok(())
 }
 
 #[test]
@@ -263,9 +316,7 @@ fn three_formats_by_file_and_by_standard_input(rt: HostRuntime) -> Result<(), Fa
 #[test]
 fn a_cut_file_is_refused(rt: HostRuntime) -> Result<(), Fail> {
     enter(&rt, "a_cut_file")?;
-    let cut =
-        b"\xff\xe0\x04o5m2\x10\x0b\x02\x01\x02\x02\x00\x01\x00a\x00\x00\x00\x10\x05\x00\x02\x02\x00\x01";
-    fs::write(&rt, "cut.o5m", cut)?;
+    fs::write(&rt, "cut.o5m", &NODE_THEN_DELETION[..27])?;
     let merge = ["merge", "--output", "o.opl", "cut.o5m"];
     assert_refused(&rt, &merge, 1, "cut.o5m: 27: NoEnd\n");
     assert!(rt; !fs::exists(&rt, "o.opl")?);

@@ -1,0 +1,75 @@
+//! Checking a file.
+use super::files::{buffered, can_be_read_again, open};
+use super::print;
+use super::refusal::Refusal;
+use super::request::FileCheck;
+use osm_files::{Fault, Reason};
+use osm_mirror::{CheckReport, run_check, run_check_sorted};
+use std::alloc::Global;
+use std::io::{Read, Write};
+use std::rt::Files;
+
+/// Prints what a file holds, and whether it is sorted.
+pub(super) fn check_file<'a, R: Files + AllocGlobal, O: Write>(
+    rt: &R,
+    check: &FileCheck<'a>,
+    out: &mut O,
+) -> Result<(), Refusal<'a>> {
+    let report = report_of(rt, check.file)?;
+    let order = if report.sorted { "sorted" } else { "unsorted" };
+    let format = report.format.name();
+    let (versions, objects) = (report.versions, report.objects);
+    let line = format!(in rt.alloc();
+        "{format}: {versions} versions, {objects} objects, {order}\n"
+    )?;
+    print(out, &line)
+}
+
+/// What a check tells of a file. It is held only where it isn't sorted or can't be read again.
+fn report_of<'a, R: Files + AllocGlobal>(
+    rt: &R,
+    name: &'a str,
+) -> Result<CheckReport, Refusal<'a>> {
+    let file = open(rt, name)?;
+    if !can_be_read_again(&file) {
+        return report_of_held(rt.alloc(), name, file);
+    }
+    match run_check_sorted(rt.alloc(), buffered(rt.alloc(), file)?) {
+        Ok(report) => Ok(report),
+        Err(fault) if is_unsorted(&fault) => report_of_held(rt.alloc(), name, open(rt, name)?),
+        Err(fault) => Err(refused(name, fault)),
+    }
+}
+
+/// What a check tells of a file in any order.
+fn report_of_held<'a, F: Read + Drop>(
+    alloc: Global,
+    name: &'a str,
+    file: F,
+) -> Result<CheckReport, Refusal<'a>> {
+    match run_check(alloc, buffered(alloc, file)?) {
+        Ok(report) => Ok(report),
+        Err(fault) => Err(refused(name, fault)),
+    }
+}
+
+/// Whether a file of this name, which can be read again, isn't sorted.
+pub(super) fn is_out_of_order<'a, R: Files + AllocGlobal>(
+    rt: &R,
+    name: &'a str,
+) -> Result<bool, Refusal<'a>> {
+    match run_check_sorted(rt.alloc(), buffered(rt.alloc(), open(rt, name)?)?) {
+        Ok(_) => Ok(false),
+        Err(fault) => Ok(is_unsorted(&fault)),
+    }
+}
+
+/// Whether a file is refused for its order alone.
+pub(super) fn is_unsorted(fault: &Fault) -> bool {
+    fault.reason == Reason::Unsorted
+}
+
+/// The refusal of a file.
+fn refused<'a>(name: &'a str, fault: Fault) -> Refusal<'a> {
+    Refusal::of_fault(fault, &[name], name)
+}

@@ -1,0 +1,127 @@
+//! The words that the program knows, with their help.
+use clap::{Arg, ArgAction, Command};
+use std::alloc::{AllocError, Global};
+
+/// The names of the formats in which a file can be written, which `clap` takes as a list.
+static FORMAT_NAMES: [&str; 3] = ["opl", "o5m", "o5c"];
+
+/// What the help of a command that takes files in any order says of memory.
+const MEMORY: &str =
+    "A sorted file is read one version at a time. A file that isn't sorted is held in memory, and so is a \
+    pipe, which can't be read twice.";
+
+/// The command that reads the words.
+pub(super) fn command<'a>(alloc: Global) -> Result<Command<'a>, AllocError> {
+    Command::new(alloc, "osm_hist")
+        .about("Merges, cuts and checks files of OpenStreetMap histories")
+        .after_help("Without a command, standard input is merged to standard output.")
+        .bin_name("osm_hist")?
+        .no_binary_name(true)
+        .subcommand_required(true)
+        .subcommand(merge_command(alloc)?)?
+        .subcommand(apply_command(alloc)?)?
+        .subcommand(time_filter_command(alloc)?)?
+        .subcommand(sort_command(alloc)?)?
+        .subcommand(check_command(alloc)?)
+}
+
+fn merge_command<'a>(alloc: Global) -> Result<Command<'a>, AllocError> {
+    writing_command(alloc, "merge")?
+        .about("Merges sorted files into one")
+        .after_help("Each file is read one version at a time.")
+        .arg(files_arg(
+            alloc,
+            "The files to be merged, each sorted, in OPL, o5m or o5c",
+        ))
+}
+
+fn apply_command<'a>(alloc: Global) -> Result<Command<'a>, AllocError> {
+    let with_history = Arg::new(alloc, "with-history")
+        .long("with-history")
+        .action(ArgAction::SetTrue)
+        .help("Writes all versions, deletions included");
+    writing_command(alloc, "apply")?
+        .about("Applies changes: writes the newest version of each object that isn't deleted")
+        .after_help(MEMORY)
+        .arg(with_history)?
+        .arg(sorted_arg(alloc))?
+        .arg(files_arg(alloc, "The files and changes, in OPL, o5m or o5c"))
+}
+
+fn time_filter_command<'a>(alloc: Global) -> Result<Command<'a>, AllocError> {
+    let file = Arg::new(alloc, "files")
+        .value_name("FILE")
+        .required(true)
+        .action(ArgAction::Set)
+        .help("The file of a history, in OPL, o5m or o5c");
+    let time = Arg::new(alloc, "time")
+        .value_name("TIME")
+        .required(true)
+        .action(ArgAction::Set)
+        .help("The moment, as 2014-05-06T07:08:09Z");
+    let end = Arg::new(alloc, "end")
+        .value_name("TIME")
+        .action(ArgAction::Set)
+        .help("The end of the period that begins then: all versions of that period are written");
+    writing_command(alloc, "time-filter")?
+        .about("Writes the objects as they stood at a moment, or their versions of a period")
+        .after_help(MEMORY)
+        .arg(sorted_arg(alloc))?
+        .arg(file)?
+        .arg(time)?
+        .arg(end)
+}
+
+fn sort_command<'a>(alloc: Global) -> Result<Command<'a>, AllocError> {
+    writing_command(alloc, "sort")?
+        .about("Sorts files in any order into one")
+        .after_help(MEMORY)
+        .arg(sorted_arg(alloc))?
+        .arg(files_arg(alloc, "The files to be sorted, in OPL, o5m or o5c"))
+}
+
+fn check_command<'a>(alloc: Global) -> Result<Command<'a>, AllocError> {
+    let file = Arg::new(alloc, "file")
+        .value_name("FILE")
+        .required(true)
+        .action(ArgAction::Set)
+        .help("The file to be checked, in OPL, o5m or o5c");
+    Command::new(alloc, "check")
+        .about("Prints a file's format, its versions and objects, and whether it is sorted")
+        .after_help(MEMORY)
+        .arg(file)
+}
+
+/// A command of this name that writes a file.
+fn writing_command<'a>(alloc: Global, name: &'a str) -> Result<Command<'a>, AllocError> {
+    let output = Arg::new(alloc, "output")
+        .long("output")
+        .value_name("OUT")
+        .required(true)
+        .action(ArgAction::Set)
+        .help("The file to be written");
+    let format = Arg::new(alloc, "format")
+        .long("format")
+        .value_name("FORMAT")
+        .value_parser(FORMAT_NAMES.as_slice())
+        .default_value("opl")
+        .action(ArgAction::Set)
+        .help("Its format");
+    Command::new(alloc, name).arg(output)?.arg(format)
+}
+
+fn files_arg<'a>(alloc: Global, help: &'a str) -> Arg<'a> {
+    Arg::new(alloc, "files")
+        .value_name("FILE")
+        .required(true)
+        .num_args(1..)
+        .action(ArgAction::Append)
+        .help(help)
+}
+
+fn sorted_arg<'a>(alloc: Global) -> Arg<'a> {
+    Arg::new(alloc, "sorted")
+        .long("sorted")
+        .action(ArgAction::SetTrue)
+        .help("Refuses a file that isn't sorted, so that none is held in memory")
+}

@@ -1,0 +1,135 @@
+-- How much a source gives, counted one version after the other.
+use Rattle.std.proofs.Common.{◌≡◌, ◌⊎◌, inl, inr, ⊎_elim, ℕ, suc, ◌+◌, List, [], ◌∷◌, length, true, refl, sym, ap, ◌∙◌, subst, arith, Option, Some, None, IfSome, Ok, Err}
+use Rattle.osm_model.specs.Data.{VersionData}
+use Rattle.osm_model.specs.Order.{version_cmp}
+use Rattle.osm_model.specs.VersionSet.{VersionSet}
+use Rattle.osm_model.specs.Sets.{size, listed, from_list}
+use Rattle.osm_model.proofs.VersionLaws.{listed-view}
+use Rattle.osm_files.specs.declared.fault.Fault.{Fault}
+use Rattle.osm_files.specs.declared.load.Loaded.{Loaded}
+use Rattle.osm_files.specs.Groups.{sorted_source, set_given}
+use Rattle.osm_files.specs.Input.{Coming}
+use Rattle.osm_files.specs.declared.format.Format.{Format}
+use Rattle.osm_files.specs.Load.{Loads, StopsLoading, format_of}
+use Rattle.osm_files.proofs.RiseLaws.{source_rises}
+use Rattle.osm_files.specs.Fault.{memory_fault}
+use Rattle.osm_files.specs.Source.{Step}
+use Rattle.osm_merge.specs.Coming as source
+use Rattle.osm_merge.specs.Union.{capped}
+use Rattle.osm_mirror.specs.declared.check.Sizes.{Sizes}
+use Rattle.osm_mirror.specs.declared.check.CheckReport.{CheckReport}
+use Rattle.osm_mirror.specs.Check.{begins, begun_behind, IsCounted, object_count, Reports}
+use Rattle.osm_mirror.specs.Merge.{GivesSorted}
+use Rattle.osm_mirror.proofs.MergeLaws.{gives}
+use Rattle.osm_mirror.proofs.ObjectLaws.{objects_begun}
+
+-- one more where the numbers stay at the limit
+capped_more : (n more : ℕ) → capped (capped n + more) ≡ capped (n + more)
+capped_more n more = omega arith
+
+-- so many versions and objects were counted of what was to come, the last of them this, and this is still to come
+pub record Counted (all now : source.Coming) (last : Option VersionData) (sizes : Sizes) : Type 0 where
+  pub refusal : now.refusal ≡ all.refusal
+  pub given : ℕ
+  pub begun : ℕ
+  pub versions : sizes.versions ≡ capped given
+  pub objects : sizes.objects ≡ capped begun
+  pub others : given + length now.list ≡ length all.list
+  pub other_objects : begun + begun_behind last now.list ≡ begun_behind None all.list
+
+abbrev pub Counting : Option source.Coming → Option source.Coming → Option VersionData → Sizes → Type 0
+Counting all now last sizes = IfSome all (λ s. (t : source.Coming) × (now ≡ Some t) × Counted s t last sizes)
+
+pub count_none : (all : Option source.Coming) → Counting all all None (record { versions = 0; objects = 0 })
+count_none None = tt
+count_none (Some s) = (s, refl, record { refusal = refl; given = 0; begun = 0; versions = omega arith; objects = omega arith; others = omega arith; other_objects = omega arith })
+
+one_more : (s t u : source.Coming) (last : Option VersionData) (v : VersionData) (sizes after : Sizes) → Counted s t last sizes → t ≡ record { list = v ∷ u.list; refusal = u.refusal } → after.versions ≡ capped (sizes.versions + 1) → after.objects ≡ capped (sizes.objects + begins last v) → Counted s u (Some v) after
+one_more s t u last v sizes after h is versions objects =
+    let list : length t.list ≡ suc (length u.list) = ap (λ x. length x.list) is in
+    let begun : begun_behind last t.list ≡ begins last v + begun_behind (Some v) u.list = ap (λ x. begun_behind last x.list) is in
+    let before : h.given + length t.list ≡ length s.list = h.others in
+    let objects_before : h.begun + begun_behind last t.list ≡ begun_behind None s.list = h.other_objects in
+    record {
+      refusal = ap (λ x. x.refusal) (sym is) ∙ h.refusal;
+      given = h.given + 1;
+      begun = h.begun + begins last v;
+      versions = versions ∙ ap (λ n. capped (n + 1)) h.versions ∙ capped_more h.given 1;
+      objects = objects ∙ ap (λ n. capped (n + begins last v)) h.objects ∙ capped_more h.begun (begins last v);
+      others = omega (arith, list, before);
+      other_objects = omega (arith, begun, objects_before);
+    }
+
+pub count_more : (all now after : Option source.Coming) (last : Option VersionData) (v : VersionData) (sizes more : Sizes) → Counting all now last sizes → Step now (Ok (Some v)) after → more.versions ≡ capped (sizes.versions + 1) → more.objects ≡ capped (sizes.objects + begins last v)
+    → Counting all after (Some v) more
+count_more None now after last v sizes more h step versions objects = tt
+count_more (Some s) now after last v sizes more h step versions objects =
+    let k = subst (λ (n : Option source.Coming). Step n (Ok (Some v)) after) h.1 step in
+    (k.0, k.2, one_more s h.0 k.0 last v sizes more h.2 k.1 versions objects)
+
+pub count_ends : (all now after : Option source.Coming) (last : Option VersionData) (sizes : Sizes) → Counting all now last sizes → Step {A = VersionData} now (Ok None) after → IfSome all (λ s. IsCounted s sizes)
+count_ends None now after last sizes h step = tt
+count_ends (Some s) now after last sizes h step =
+    let k = subst (λ (n : Option source.Coming). Step {A = VersionData} n (Ok None) after) h.1 step in
+    let d : Counted s h.0 last sizes = h.2 in
+    let list : length (h.0).list ≡ 0 = ap (λ x. length x.list) k.0 in
+    let none : begun_behind last (h.0).list ≡ 0 = ap (λ x. begun_behind last x.list) k.0 in
+    let all_given : d.given ≡ length s.list = omega (arith, list, d.others) in
+    let all_begun : d.begun ≡ begun_behind None s.list = omega (arith, none, d.other_objects) in
+    record {
+      whole = sym d.refusal ∙ ap (λ x. x.refusal) k.0;
+      versions = d.versions ∙ ap capped all_given;
+      objects = d.objects ∙ ap capped all_begun;
+    }
+
+pub count_stops : (all now after : Option source.Coming) (last : Option VersionData) (sizes : Sizes) (fault : Fault) → Counting all now last sizes → Step {A = VersionData} now (Err fault) after → (fault ≡ memory_fault) ⊎ IfSome all (λ s. s.refusal ≡ Some fault)
+count_stops None now after last sizes fault h step = inr tt
+count_stops (Some s) now after last sizes fault h step =
+    let k = subst (λ (n : Option source.Coming). Step {A = VersionData} n (Err fault) after) h.1 step in
+    ⊎_elim (λ e. inl e) (λ e. inr (sym h.2.refusal ∙ ap (λ x. x.refusal) e)) k.0
+
+-- ---- what is reported
+pub report_is : (c : Coming) (loaded : Loaded) (set : VersionSet) (sizes : Sizes) (report : CheckReport) → Loads c loaded → set ≡ loaded.history → IsCounted (set_given set) sizes → report ≡ record { format = loaded.format; versions = sizes.versions; objects = sizes.objects; sorted = loaded.sorted } → Reports c report
+report_is c loaded set sizes report h is n e =
+    subst (Reports c) (sym e) (record {
+      held = loaded.history;
+      file = record { unbroken = h.unbroken; file = h.holds };
+      format = h.format;
+      versions = n.versions ∙ ap (λ (s : VersionSet). capped (size s)) is;
+      objects = n.objects ∙ ap capped (objects_begun set) ∙ ap (λ (s : VersionSet). capped (object_count s)) is;
+      sorted = h.sorted;
+    })
+
+pub reported : (told : Option Coming) (loaded : Loaded) (set : VersionSet) (sizes : Sizes) → IfSome told (λ c. Loads c loaded) → set ≡ loaded.history → IsCounted (set_given set) sizes → IfSome told (λ c. Reports c (record { format = loaded.format; versions = sizes.versions; objects = sizes.objects; sorted = loaded.sorted }))
+reported None loaded set sizes h is n = tt
+reported (Some c) loaded set sizes h is n = report_is c loaded set sizes (record { format = loaded.format; versions = sizes.versions; objects = sizes.objects; sorted = loaded.sorted }) h is n refl
+
+sorted_report_is : (c : Coming) (format : Format) (sizes : Sizes) → format ≡ format_of c.bytes → IsCounted (sorted_source 0 c) sizes → Reports c (record { format = format; versions = sizes.versions; objects = sizes.objects; sorted = true })
+sorted_report_is c format sizes f n =
+    let list : listed (from_list {R = version_cmp} (sorted_source 0 c).list) ≡ (sorted_source 0 c).list = listed-view (sorted_source 0 c).list (source_rises 0 c) in
+    let set : VersionSet = from_list {R = version_cmp} (sorted_source 0 c).list in
+    let given : GivesSorted c set = gives 0 c n.whole in
+    record {
+      held = set;
+      file = record { unbroken = given.unbroken; file = record { short = given.file.short; versions = given.file.versions; file = given.file.file; members = given.file.members } };
+      format = f;
+      versions = n.versions ∙ ap (λ l. capped (length l)) (sym list);
+      objects = n.objects ∙ ap (λ l. capped (begun_behind None l)) (sym list) ∙ ap capped (objects_begun set);
+      sorted = (λ t. given.file, λ h. refl);
+    }
+
+-- of a source that was opened
+pub sorted_report : (told : Option Coming) (still : Option source.Coming) (format : Format) (sizes : Sizes) → IfSome told (λ c. format ≡ format_of c.bytes) → IfSome told (λ c. still ≡ Some (sorted_source 0 c)) → IfSome still (λ s. IsCounted s sizes)
+    → IfSome told (λ c. Reports c (record { format = format; versions = sizes.versions; objects = sizes.objects; sorted = true }))
+sorted_report None still format sizes f is h = tt
+sorted_report (Some c) still format sizes f is h = sorted_report_is c format sizes f (subst (λ (s : Option source.Coming). IfSome s (λ x. IsCounted x sizes)) is h)
+
+pub sorted_refused : (told : Option Coming) (still : Option source.Coming) (fault : Fault) → IfSome told (λ c. still ≡ Some (sorted_source 0 c)) → (fault ≡ memory_fault) ⊎ IfSome still (λ s. s.refusal ≡ Some fault)
+    → (fault ≡ memory_fault) ⊎ IfSome told (λ c. (sorted_source 0 c).refusal ≡ Some fault)
+sorted_refused None still fault is h = ⊎_elim (λ e. inl e) (λ e. inr tt) h
+sorted_refused (Some c) still fault is h = subst (λ (s : Option source.Coming). (fault ≡ memory_fault) ⊎ IfSome s (λ x. x.refusal ≡ Some fault)) is h
+
+-- a whole set isn't refused
+pub no_refusal : (told : Option Coming) (fault : Fault) → (fault ≡ memory_fault) ⊎ (None ≡ Some fault) → StopsLoading 0 told fault
+no_refusal told fault (inl e) = inl e
+no_refusal told fault (inr e) = absurd (let f : None ≡ Some fault = e in cc)

@@ -1,0 +1,62 @@
+-- What the commands write that read all of their inputs first, and why they are refused: an own rule of this project.
+use Rattle.std.specs.Prelude.{◌≡◌, ◌⊎◌, ℕ, Bool, true, false, List, length, map, sum_by, Option, Some, IfSome}
+use Rattle.osm_model.specs.VersionSet.{VersionSet}
+use Rattle.osm_model.specs.Sets.{size}
+use Rattle.opl_line.specs.Content.{Pairwise}
+use Rattle.osm_files.specs.declared.fault.Fault.{Fault}
+use Rattle.osm_files.specs.declared.format.Format.{Format}
+use Rattle.osm_files.specs.Fault.{memory_fault}
+use Rattle.osm_files.specs.Input.{Coming}
+use Rattle.osm_files.specs.Output.{Appended}
+use Rattle.osm_files.specs.Spell.{spell}
+use Rattle.osm_files.specs.Sink.{CutShort}
+use Rattle.osm_merge.specs.declared.merge.Counts.{Counts}
+use Rattle.osm_merge.specs.Selected.{snapshot, visible}
+use Rattle.osm_merge.specs.Union.{capped}
+use Rattle.osm_mirror.specs.declared.input.InputFile.{InputFile}
+use Rattle.osm_mirror.specs.declared.input.Order.{Order}
+use Rattle.osm_mirror.specs.declared.input.Order.TheVariants.{Any}
+use Rattle.osm_mirror.specs.Merge.{union_of}
+use Rattle.osm_mirror.specs.Given.{GivesFile, IsUnread}
+use Rattle.osm_mirror.specs.Run.{WhyRefused}
+
+-- A command over these inputs, to an output with these bytes before and after: each input gave a file, and the one spelling of
+-- what was chosen of the union of the sets that they hold was appended.
+pub record IsWritten (choice : VersionSet → VersionSet) (inputs : List Coming) (format : Format) (before after : Option (List ℕ)) (counts : Counts) : Type 0 where
+  pub held : List VersionSet
+  pub files : Pairwise GivesFile inputs held
+  pub written : Appended before after (spell format (choice (union_of held)))
+  pub read_count : counts.read ≡ capped (sum_by size held)
+  pub written_count : counts.written ≡ capped (size (choice (union_of held)))
+  pub compared_count : counts.compared ≡ 0
+
+-- a reader of a file, as one whose versions stand in any order
+abbrev pub in_any_order : {X : Type 0} → X → InputFile X
+in_any_order reader = record { reader = reader; order = Any }
+
+-- an input of any order, of which this is known
+abbrev pub unsorted : Option Coming → Order × Option Coming
+unsorted told = (Any, told)
+
+-- Why a command was refused: memory was refused before anything was written; or an input can't be read, and nothing was written;
+-- or all inputs are files, and a front of the one spelling of what was chosen of the union of the sets that they hold was
+-- appended: as many bytes as the place says, where the output failed.
+abbrev pub IsNotWritten : (VersionSet → VersionSet) → List Coming → Format → Option (List ℕ) → Option (List ℕ) → Bool → Fault → Type 0
+IsNotWritten choice inputs format before after failed fault =
+    ((fault ≡ memory_fault) × (after ≡ before))
+    ⊎ (IsUnread 0 (map (λ c. unsorted (Some c)) inputs) fault × (after ≡ before))
+    ⊎ ((held : List VersionSet) × Pairwise GivesFile inputs held × CutShort (length inputs) before after failed (spell format (choice (union_of held))) fault)
+
+-- Why a command was refused, whatever the inputs tell: memory was refused, the output failed, the file would be too long, or an
+-- input can't be read.
+abbrev pub WhyNotWritten : List (Option Coming) → Format → Bool → Fault → Type 0
+WhyNotWritten told format failed fault = WhyRefused (map unsorted told) format failed fault
+
+-- an input that tells its bytes gives a file
+abbrev pub IsFile : Option Coming → Type 0
+IsFile told = IfSome told (λ c. (held : VersionSet) × GivesFile c held)
+
+-- what is left once changes are applied: with history all versions, else the newest one of each object, if it isn't a deletion
+abbrev pub applied : Bool → VersionSet → VersionSet
+applied true set = set
+applied false set = visible (snapshot set)

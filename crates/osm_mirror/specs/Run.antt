@@ -1,0 +1,54 @@
+-- What a run over files writes, and why it is refused: an own rule of this project.
+use Rattle.std.specs.Prelude.{◌≡◌, ◌⊎◌, ℕ, Bool, List, length, map, sum_by, Option, Some, IfSome}
+use Rattle.std.specs.List as list
+use Rattle.osm_model.specs.VersionSet.{VersionSet}
+use Rattle.osm_model.specs.Sets.{size}
+use Rattle.opl_line.specs.Content.{Pairwise}
+use Rattle.osm_files.specs.declared.fault.Fault.{Fault}
+use Rattle.osm_files.specs.declared.format.Format.{Format}
+use Rattle.osm_files.specs.Fault.{memory_fault}
+use Rattle.osm_files.specs.Input.{Coming}
+use Rattle.osm_files.specs.Output.{Appended}
+use Rattle.osm_files.specs.Spell.{spell}
+use Rattle.osm_files.specs.Sink.{CutShort}
+use Rattle.osm_merge.specs.declared.merge.Counts.{Counts}
+use Rattle.osm_merge.specs.declared.selection.Selection.{Selection}
+use Rattle.osm_merge.specs.Selected.{selected}
+use Rattle.osm_merge.specs.Union.{capped}
+use Rattle.osm_merge.specs.Merged as merged
+use Rattle.osm_mirror.specs.declared.input.Order.{Order}
+use Rattle.osm_mirror.specs.Merge.{union_of}
+use Rattle.osm_mirror.specs.Given.{GivesAs, telling, sources, sources_told, IsRead, IsUnread}
+
+-- A run over these inputs, to an output with these bytes before and after: each input gave a file of its order, and the one
+-- spelling of what is selected of the union of the sets that they hold was appended.
+pub record IsRun (selection : Selection) (inputs : List (Order × Coming)) (format : Format) (before after : Option (List ℕ)) (counts : Counts) : Type 0 where
+  pub held : List VersionSet
+  pub files : Pairwise GivesAs inputs held
+  pub written : Appended before after (spell format (selected selection (union_of held)))
+  pub read_count : counts.read ≡ capped (sum_by size held)
+  pub written_count : counts.written ≡ capped (size (selected selection (union_of held)))
+  pub compared_count : merged.IsBoundedFrom (merged.few_of selection (sum_by size held)) (length inputs) (sum_by size held) counts.compared
+
+-- Why a run was refused: memory was refused before anything was written; or an input of any order can't be read, and nothing
+-- was written; or all of those were read, and then the merge was refused.
+abbrev pub IsRefused : Selection → List (Order × Coming) → Format → Option (List ℕ) → Option (List ℕ) → Bool → Fault → Type 0
+IsRefused selection inputs format before after failed fault =
+    ((fault ≡ memory_fault) × (after ≡ before))
+    ⊎ (IsUnread 0 (map telling inputs) fault × (after ≡ before))
+    ⊎ (list.All IsRead inputs × merged.IsRefusedAs selection (sources 0 inputs) format (length inputs) before after failed fault)
+
+-- Of files of the order that was asked for no input is refused, and a front of the one spelling of what is selected of the
+-- union of the sets that they hold was appended: as many bytes as the place says, where the output failed.
+abbrev pub IsCutShort : Selection → List (Order × Coming) → Format → Option (List ℕ) → Option (List ℕ) → Bool → Fault → Type 0
+IsCutShort selection inputs format before after failed fault =
+    (held : List VersionSet) → Pairwise GivesAs inputs held → CutShort (length inputs) before after failed (spell format (selected selection (union_of held))) fault
+
+-- Why a run was refused, whatever the inputs tell: memory was refused, the output failed, the file would be too long, or an
+-- input is refused.
+abbrev pub WhyRefused : List (Order × Option Coming) → Format → Bool → Fault → Type 0
+WhyRefused told format failed fault = merged.WhyRefused (sources_told 0 told) format (length told) failed fault
+
+-- an input that tells its bytes gives a file of the order that is asked for
+abbrev pub IsAccepted : Order × Option Coming → Type 0
+IsAccepted (order, told) = IfSome told (λ c. (held : VersionSet) × GivesAs (order, c) held)

@@ -1,0 +1,128 @@
+//! The check of a file: what it is and how much it holds.
+ghost use Rattle.std.specs.Prelude.{◌≡◌, ◌⊎◌, ◌+◌, true, Some, IfOk, IfErr, IfSome};
+ghost use Rattle.osm_files.specs.Fault.{memory_fault};
+ghost use Rattle.osm_files.specs.Groups.{sorted_source};
+ghost use Rattle.osm_files.specs.Load.{StopsLoading};
+ghost use Rattle.osm_merge.specs.Union.{capped};
+ghost use Rattle.osm_mirror.specs.Check.{Reports, IsCounted, begins};
+
+use osm_files::{Fault, FileSource, Format, HistorySource, Input, Source, load_any};
+use osm_model::Version;
+use std::alloc::Global;
+
+/// What a file is and how much it holds. A number that would pass 2^64 - 1 stays there.
+#[derive(Clone, Copy, Debug, PartialEq, Eq)]
+pub struct CheckReport {
+    /// The file's format.
+    pub format: Format,
+    /// The number of its versions, each counted once.
+    pub versions: u64,
+    /// The number of objects of which it holds versions.
+    pub objects: u64,
+    /// Whether it is sorted: no version's key is below that of the version before it.
+    pub sorted: bool,
+}
+
+/// How much a file holds. A number that would pass 2^64 - 1 stays there.
+#[derive(Clone, Copy, Debug, PartialEq, Eq)]
+pub(crate) struct Sizes {
+    /// The number of its versions, each counted once.
+    pub(crate) versions: u64,
+    /// The number of objects of which it holds versions.
+    pub(crate) objects: u64,
+}
+
+/// Checks a file whose versions stand in any order. All that it holds is kept until it is counted.
+///
+/// # Errors
+///
+/// The place and the reason of the first faulty unit, ReadFault where the input fails, or Memory.
+pub fn run_check<R: Input + Drop>(alloc: Global, input: R) -> Result<CheckReport, Fault>
+    ensures report { IfOk result (λ report. IfSome (R.coming input) (λ c. Reports c report)) }
+    ensures refused { IfErr result (StopsLoading 0 (R.coming input)) }
+{
+    let loaded = match load_any(alloc, 0, input) {
+        Ok(loaded) => loaded,
+        Err(fault) => return Err(fault),
+    };
+    let mut source = HistorySource::new(loaded.history);
+    match count(&mut source) {
+        Ok(sizes) => Ok(CheckReport {
+            format: loaded.format,
+            versions: sizes.versions,
+            objects: sizes.objects,
+            sorted: loaded.sorted,
+        }),
+        Err(fault) => Err(fault),
+    }
+}
+
+/// Checks a sorted file in one pass over it: no more is kept than one key's versions. It tells what [`run_check`] tells.
+///
+/// # Errors
+///
+/// The place and the reason of the first unit that is faulty or whose key is below that of the one before it, ReadFault where
+/// the input fails, or Memory.
+pub fn run_check_sorted<R: Input + Drop>(alloc: Global, input: R) -> Result<CheckReport, Fault>
+    ensures report { IfOk result (λ report. IfSome (R.coming input) (λ c. Reports c report)) }
+    ensures sorted { IfOk result (λ report. report.sorted ≡ true) }
+    ensures refused { IfErr result (λ fault. (fault ≡ memory_fault) ⊎ IfSome (R.coming input) (λ c. (sorted_source 0 c).refusal ≡ Some fault)) }
+{
+    let (format, mut source) = match FileSource::open(alloc, 0, input) {
+        Ok(opened) => opened,
+        Err(fault) => return Err(fault),
+    };
+    match count(&mut source) {
+        Ok(sizes) => Ok(CheckReport {
+            format,
+            versions: sizes.versions,
+            objects: sizes.objects,
+            sorted: true,
+        }),
+        Err(fault) => Err(fault),
+    }
+}
+
+/// How many versions a source gives, and of how many objects.
+fn count<S: Source>(source: &mut S) -> Result<Sizes, Fault>
+    ensures sizes { IfOk result (λ sizes. IfSome (S.still source.old) (λ still. IsCounted still sizes)) }
+    ensures refused { IfErr result (λ fault. (fault ≡ memory_fault) ⊎ IfSome (S.still source.old) (λ still. still.refusal ≡ Some fault)) }
+{
+    let mut sizes = Sizes {
+        versions: 0,
+        objects: 0,
+    };
+    let mut last: Option<Version> = None;
+    let mut spare: Option<Version> = None;
+    'versions: loop {
+        match source.next_reusing(spare) {
+            Ok(Some(version)) => {
+                sizes = count_one(sizes, &last, &version);
+                spare = last.replace(version);
+            }
+            Ok(None) => return Ok(sizes),
+            Err(fault) => return Err(fault),
+        }
+    }
+}
+
+/// The sizes with one more version, behind the last one before it.
+fn count_one(sizes: Sizes, last: &Option<Version>, version: &Version) -> Sizes
+    ensures versions { result.versions ≡ capped (sizes.versions + 1) }
+    ensures objects { result.objects ≡ capped (sizes.objects + begins last.now version.now) }
+{
+    Sizes {
+        versions: sizes.versions.saturating_add(1),
+        objects: sizes.objects.saturating_add(begins(last, version)),
+    }
+}
+
+/// 1 where a version begins an object, 0 where it is of the object of the last one.
+fn begins(last: &Option<Version>, version: &Version) -> u64
+    ensures { result ≡ begins last.now version.now }
+{
+    match last {
+        None => 1,
+        Some(last) => u64::from(!last.object_cmp(version).is_eq()),
+    }
+}

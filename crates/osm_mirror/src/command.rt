@@ -1,0 +1,207 @@
+//! The commands that read all of their inputs before they write.
+ghost use Rattle.std.specs.Prelude.{◌≡◌, Some, false, List, [], ◌∷◌, map, IfOk, IfErr, OnOk};
+ghost use Rattle.std.specs.List.{All};
+ghost use Rattle.osm_files.specs.Input.{Coming};
+ghost use Rattle.osm_files.specs.Fault.{memory_fault};
+ghost use Rattle.osm_merge.specs.Selected.{selected, visible, at, between};
+ghost use Rattle.osm_merge.specs.Merged.{WritesSet, Grows};
+ghost use Rattle.osm_mirror.specs.Merge.{Tell};
+ghost use Rattle.osm_mirror.specs.Command.{IsWritten, IsNotWritten, WhyNotWritten, IsFile, applied, in_any_order};
+
+use crate::input::{InputFile, Order};
+use crate::run::run_selected;
+use osm_files::{Fault, Format, Input, Output};
+use osm_merge::{Counts, Selection};
+use std::alloc::Global;
+
+/// Sorts and merges files whose versions stand in any order: appends the one file of this format that holds the versions of all
+/// inputs, each once.
+///
+/// `read` is the sum of the numbers of versions that the inputs hold, `written` counts those written, `compared` is 0.
+///
+/// # Errors
+///
+/// The inputs are numbered from 0, and the output has the number of the inputs. An input that can't be read is named with the
+/// reason and its place, where several are, one of them, and nothing was written then. WriteFault where the output failed,
+/// TooLong where a file has 2^62 bytes or more, Memory where a growth was refused. What was written then is a front of the
+/// file.
+pub fn run_sort<R: Input + Drop, W: Output>(
+    alloc: Global,
+    inputs: Vec<R>,
+    format: Format,
+    out: &mut W,
+) -> Result<Counts, Fault>
+    // Where all inputs tell their bytes.
+    ensures written { IfOk result (λ counts. (all : List Coming) → Tell (map R.coming inputs.items) all → IsWritten (λ set. set) all format (W.contents out.old) (W.contents out.new) counts) }
+    ensures refused { IfErr result (λ fault. (all : List Coming) → Tell (map R.coming inputs.items) all → IsNotWritten (λ set. set) all format (W.contents out.old) (W.contents out.new) (W.failed out.new) fault) }
+    // Whatever they tell.
+    ensures why { IfErr result (WhyNotWritten (map R.coming inputs.items) format (W.failed out.new)) }
+    ensures accepted { OnOk result (All IsFile (map R.coming inputs.items)) }
+    ensures file { IfOk result (WritesSet format (W.contents out.old) (W.contents out.new)) }
+    ensures kept { Grows (W.contents out.old) (W.contents out.new) }
+    ensures good { OnOk result (W.failed out.new ≡ false) }
+{
+    run_held(alloc, Selection::All, inputs, format, out)
+}
+
+/// Applies changes: appends the one file of this format that holds, of the versions of all inputs, the newest one of each object,
+/// if it isn't a deletion; with history, all versions. Which input has which versions makes no difference.
+///
+/// `read` is the sum of the numbers of versions that the inputs hold, `written` counts those written, `compared` is 0.
+///
+/// # Errors
+///
+/// The inputs are numbered from 0, and the output has the number of the inputs. An input that can't be read is named with the
+/// reason and its place, where several are, one of them, and nothing was written then. WriteFault where the output failed,
+/// TooLong where a file has 2^62 bytes or more, Memory where a growth was refused. What was written then is a front of the
+/// file.
+pub fn run_apply<R: Input + Drop, W: Output>(
+    alloc: Global,
+    inputs: Vec<R>,
+    with_history: bool,
+    format: Format,
+    out: &mut W,
+) -> Result<Counts, Fault>
+    // Where all inputs tell their bytes.
+    ensures written { IfOk result (λ counts. (all : List Coming) → Tell (map R.coming inputs.items) all → IsWritten (applied with_history) all format (W.contents out.old) (W.contents out.new) counts) }
+    ensures refused { IfErr result (λ fault. (all : List Coming) → Tell (map R.coming inputs.items) all → IsNotWritten (applied with_history) all format (W.contents out.old) (W.contents out.new) (W.failed out.new) fault) }
+    // Whatever they tell.
+    ensures why { IfErr result (WhyNotWritten (map R.coming inputs.items) format (W.failed out.new)) }
+    ensures accepted { OnOk result (All IsFile (map R.coming inputs.items)) }
+    ensures file { IfOk result (WritesSet format (W.contents out.old) (W.contents out.new)) }
+    ensures kept { Grows (W.contents out.old) (W.contents out.new) }
+    ensures good { OnOk result (W.failed out.new ≡ false) }
+{
+    if with_history {
+        run_held(alloc, Selection::All, inputs, format, out)
+    } else {
+        run_held(alloc, Selection::NewestVisible, inputs, format, out)
+    }
+}
+
+/// The map at a moment: appends the one file of this format that holds, of the versions up to the moment, the newest one of each
+/// object, if it isn't a deletion.
+///
+/// `read` is the number of versions that the input holds, `written` counts those written, `compared` is 0.
+///
+/// # Errors
+///
+/// The input has the number 0 and the output 1. The input's reason and its place where it can't be read, and nothing was written
+/// then. WriteFault where the output failed, TooLong where a file has 2^62 bytes or more, Memory where a growth was refused.
+/// What was written then is a front of the file.
+pub fn run_time_filter<R: Input + Drop, W: Output>(
+    alloc: Global,
+    input: R,
+    time: u32,
+    format: Format,
+    out: &mut W,
+) -> Result<Counts, Fault>
+    // Where the input tells its bytes.
+    ensures written { IfOk result (λ counts. (c : Coming) → R.coming input ≡ Some c → IsWritten (λ set. visible (at set time)) (c ∷ []) format (W.contents out.old) (W.contents out.new) counts) }
+    ensures refused { IfErr result (λ fault. (c : Coming) → R.coming input ≡ Some c → IsNotWritten (λ set. visible (at set time)) (c ∷ []) format (W.contents out.old) (W.contents out.new) (W.failed out.new) fault) }
+    // Whatever it tells.
+    ensures why { IfErr result (WhyNotWritten (R.coming input ∷ []) format (W.failed out.new)) }
+    ensures accepted { OnOk result (All IsFile (R.coming input ∷ [])) }
+    ensures file { IfOk result (WritesSet format (W.contents out.old) (W.contents out.new)) }
+    ensures kept { Grows (W.contents out.old) (W.contents out.new) }
+    ensures good { OnOk result (W.failed out.new ≡ false) }
+{
+    run_one(alloc, Selection::StateVisible(time), input, format, out)
+}
+
+/// The history of a period: appends the one file of this format that holds the versions, deletions too, that came before `to` and
+/// stood at `from` or later.
+///
+/// `read` is the number of versions that the input holds, `written` counts those written, `compared` is 0.
+///
+/// # Errors
+///
+/// The input has the number 0 and the output 1. The input's reason and its place where it can't be read, and nothing was written
+/// then. WriteFault where the output failed, TooLong where a file has 2^62 bytes or more, Memory where a growth was refused.
+/// What was written then is a front of the file.
+pub fn run_period_filter<R: Input + Drop, W: Output>(
+    alloc: Global,
+    input: R,
+    from: u32,
+    to: u32,
+    format: Format,
+    out: &mut W,
+) -> Result<Counts, Fault>
+    // Where the input tells its bytes.
+    ensures written { IfOk result (λ counts. (c : Coming) → R.coming input ≡ Some c → IsWritten (λ set. between set from to) (c ∷ []) format (W.contents out.old) (W.contents out.new) counts) }
+    ensures refused { IfErr result (λ fault. (c : Coming) → R.coming input ≡ Some c → IsNotWritten (λ set. between set from to) (c ∷ []) format (W.contents out.old) (W.contents out.new) (W.failed out.new) fault) }
+    // Whatever it tells.
+    ensures why { IfErr result (WhyNotWritten (R.coming input ∷ []) format (W.failed out.new)) }
+    ensures accepted { OnOk result (All IsFile (R.coming input ∷ [])) }
+    ensures file { IfOk result (WritesSet format (W.contents out.old) (W.contents out.new)) }
+    ensures kept { Grows (W.contents out.old) (W.contents out.new) }
+    ensures good { OnOk result (W.failed out.new ≡ false) }
+{
+    run_one(alloc, Selection::Between { from, to }, input, format, out)
+}
+
+/// What is selected of the versions of one file, whose versions stand in any order.
+fn run_one<R: Input + Drop, W: Output>(
+    alloc: Global,
+    selection: Selection,
+    input: R,
+    format: Format,
+    out: &mut W,
+) -> Result<Counts, Fault>
+    // Where the input tells its bytes.
+    ensures written { IfOk result (λ counts. (c : Coming) → R.coming input ≡ Some c → IsWritten (selected selection) (c ∷ []) format (W.contents out.old) (W.contents out.new) counts) }
+    ensures refused { IfErr result (λ fault. (c : Coming) → R.coming input ≡ Some c → IsNotWritten (selected selection) (c ∷ []) format (W.contents out.old) (W.contents out.new) (W.failed out.new) fault) }
+    // Whatever it tells.
+    ensures why { IfErr result (WhyNotWritten (R.coming input ∷ []) format (W.failed out.new)) }
+    ensures accepted { OnOk result (All IsFile (R.coming input ∷ [])) }
+    ensures file { IfOk result (WritesSet format (W.contents out.old) (W.contents out.new)) }
+    ensures kept { Grows (W.contents out.old) (W.contents out.new) }
+    ensures good { OnOk result (W.failed out.new ≡ false) }
+{
+    let mut inputs = Vec::new(alloc);
+    inputs.push(input)?;
+    run_held(alloc, selection, inputs, format, out)
+}
+
+/// What is selected of the versions of files, whose versions stand in any order.
+fn run_held<R: Input + Drop, W: Output>(
+    alloc: Global,
+    selection: Selection,
+    inputs: Vec<R>,
+    format: Format,
+    out: &mut W,
+) -> Result<Counts, Fault>
+    // Where all inputs tell their bytes.
+    ensures written { IfOk result (λ counts. (all : List Coming) → Tell (map R.coming inputs.items) all → IsWritten (selected selection) all format (W.contents out.old) (W.contents out.new) counts) }
+    ensures refused { IfErr result (λ fault. (all : List Coming) → Tell (map R.coming inputs.items) all → IsNotWritten (selected selection) all format (W.contents out.old) (W.contents out.new) (W.failed out.new) fault) }
+    // Whatever they tell.
+    ensures why { IfErr result (WhyNotWritten (map R.coming inputs.items) format (W.failed out.new)) }
+    ensures accepted { OnOk result (All IsFile (map R.coming inputs.items)) }
+    ensures file { IfOk result (WritesSet format (W.contents out.old) (W.contents out.new)) }
+    ensures kept { Grows (W.contents out.old) (W.contents out.new) }
+    ensures good { OnOk result (W.failed out.new ≡ false) }
+{
+    let files = of_any_order(alloc, inputs)?;
+    match run_selected(alloc, selection, files, format, out) {
+        Ok(counts) => Ok(Counts {
+            compared: 0,
+            ..counts
+        }),
+        Err(fault) => Err(fault),
+    }
+}
+
+/// The readers as files whose versions stand in any order.
+fn of_any_order<R: Drop>(alloc: Global, inputs: Vec<R>) -> Result<Vec<InputFile<R>>, Fault>
+    ensures files { IfOk result (λ files. files.items ≡ map in_any_order inputs.items) }
+    ensures memory { IfErr result (λ fault. fault ≡ memory_fault) }
+{
+    let mut files = Vec::new(alloc);
+    'inputs: for reader in inputs {
+        files.push(InputFile {
+            reader,
+            order: Order::Any,
+        })?;
+    }
+    Ok(files)
+}

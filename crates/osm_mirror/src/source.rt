@@ -1,0 +1,104 @@
+//! What files give: streams of those that are sorted, and histories of the others.
+ghost use Rattle.std.specs.Prelude.{◌≡◌, ◌⊎◌, map, [], ◌∷◌, IfOk, IfErr};
+ghost use Rattle.osm_files.specs.Fault.{memory_fault};
+ghost use Rattle.osm_mirror.specs.Given.{IsOpened, AreOpened, IsUnread};
+ghost use Rattle.osm_mirror.specs.Still.{still_of};
+
+use crate::input::{InputFile, Order};
+use osm_files::{Fault, FileSource, HistorySource, Input, Source, load_any};
+use osm_model::Version;
+use std::alloc::Global;
+
+/// The versions of a file, ascending.
+#[derive(Drop)]
+pub enum RunSource<R: Input> {
+    /// Of a sorted file, which is read on as it is needed.
+    Streamed(FileSource<R>),
+    /// Of a file that was read to its end.
+    Held(HistorySource),
+}
+
+impl<R: Input> Source for RunSource<R> {
+    ghost use Rattle.osm_mirror.specs.Still.{still_of, left_of, still_ascends};
+
+    ghost still = { still_of };
+
+    ghost left = { left_of };
+
+    ghost ascends = { still_ascends };
+
+    #[inline(always)]
+    fn next(&mut self) -> Result<Option<Version>, Fault> {
+        match self {
+            RunSource::Streamed(source) => source.next(),
+            RunSource::Held(source) => source.next(),
+        }
+    }
+
+    #[inline(always)]
+    fn next_reusing(&mut self, spare: Option<Version>) -> Result<Option<Version>, Fault> {
+        match self {
+            RunSource::Streamed(source) => source.next_reusing(spare),
+            RunSource::Held(source) => source.next_reusing(spare),
+        }
+    }
+}
+
+/// The files as sources, numbered from 0. Those of any order were read to their ends; of the others nothing was read yet.
+///
+/// # Errors
+///
+/// Why a file of any order can't be read; or `Memory`.
+pub fn open_inputs<R: Input + Drop>(
+    alloc: Global,
+    inputs: Vec<InputFile<R>>,
+) -> Result<Vec<RunSource<R>>, Fault>
+    ensures opened { IfOk result (λ sources. AreOpened 0 (map (λ f. (f.order, R.coming f.reader)) inputs.items) (map still_of sources.items)) }
+    ensures refused { IfErr result (λ fault. (fault ≡ memory_fault) ⊎ IsUnread 0 (map (λ f. (f.order, R.coming f.reader)) inputs.items) fault) }
+{
+    let mut sources = Vec::new(alloc);
+    'files: for file in inputs {
+        match open_input(alloc, sources.len(), file) {
+            Ok(source) => sources.push(source)?,
+            Err(fault) => return Err(fault),
+        }
+    }
+    Ok(sources)
+}
+
+/// The file as a source, which is the input of this number.
+fn open_input<R: Input + Drop>(
+    alloc: Global,
+    number: usize,
+    file: InputFile<R>,
+) -> Result<RunSource<R>, Fault>
+    ensures opened { IfOk result (λ source. IsOpened number (file.order, R.coming file.reader) (still_of source)) }
+    ensures refused { IfErr result (λ fault. (fault ≡ memory_fault) ⊎ IsUnread number ((file.order, R.coming file.reader) ∷ []) fault) }
+{
+    match file.order {
+        Order::Sorted => stream(alloc, number, file.reader),
+        Order::Any => load(alloc, number, file.reader),
+    }
+}
+
+/// A sorted file as a source. Nothing is read yet.
+fn stream<R: Input + Drop>(alloc: Global, number: usize, reader: R) -> Result<RunSource<R>, Fault>
+    ensures opened { IfOk result (λ source. IsOpened number (Order.Sorted, R.coming reader) (still_of source)) }
+    ensures memory { IfErr result (λ fault. fault ≡ memory_fault) }
+{
+    match FileSource::new(alloc, number, reader) {
+        Ok(source) => Ok(RunSource::Streamed(source)),
+        Err(fault) => Err(fault),
+    }
+}
+
+/// A file of any order as a source. It is read to its end.
+fn load<R: Input + Drop>(alloc: Global, number: usize, reader: R) -> Result<RunSource<R>, Fault>
+    ensures opened { IfOk result (λ source. IsOpened number (Order.Any, R.coming reader) (still_of source)) }
+    ensures refused { IfErr result (λ fault. (fault ≡ memory_fault) ⊎ IsUnread number ((Order.Any, R.coming reader) ∷ []) fault) }
+{
+    match load_any(alloc, number, reader) {
+        Ok(loaded) => Ok(RunSource::Held(HistorySource::new(loaded.history))),
+        Err(fault) => Err(fault),
+    }
+}
