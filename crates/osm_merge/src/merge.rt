@@ -163,6 +163,7 @@ fn write_union<S: Source, W: Output>(
 
 /// Meets the next version. One that passes and is greater than the one held back decides what is put, and is held back then;
 /// any other one is let go. What isn't needed any more of the two is spare then.
+#[inline(always)]
 fn meet<W: Output>(
     selection: Selection,
     last: &mut Option<Version>,
@@ -194,6 +195,7 @@ fn meet<W: Output>(
 }
 
 /// Whether a version passes and is greater than the one held back.
+#[inline(always)]
 fn is_met(
     selection: Selection,
     last: &Option<Version>,
@@ -209,6 +211,7 @@ fn is_met(
 }
 
 /// Puts what a version decides that comes behind the one held back.
+#[inline(always)]
 fn put_decided<W: Output>(
     selection: Selection,
     last: &Option<Version>,
@@ -234,6 +237,7 @@ fn put_decided<W: Output>(
 }
 
 /// Puts a version, if it stays, and counts it.
+#[inline(always)]
 fn put_if<W: Output>(
     stays: bool,
     version: &Version,
@@ -260,6 +264,7 @@ fn put_if<W: Output>(
 }
 
 /// Whether a version is greater than the one held back.
+#[inline(always)]
 fn is_new(last: &Option<Version>, version: &Version, compared: &mut u64) -> bool
     ensures new { result ≡ is_new last.now version.now }
     ensures grows { compared.old ≤ compared.new }

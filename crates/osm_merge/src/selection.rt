@@ -30,6 +30,7 @@ pub enum Selection {
 }
 
 /// Whether all versions are selected, so that each is put as soon as it comes.
+#[inline(always)]
 pub fn puts_at_once(selection: Selection) -> bool
     ensures { result ≡ puts_at_once selection }
 {
@@ -45,6 +46,7 @@ pub fn puts_at_once(selection: Selection) -> bool
 }
 
 /// Whether a version isn't left out before all else.
+#[inline(always)]
 pub fn passes(selection: Selection, version: &Version) -> bool
     ensures { result ≡ passes selection version.now }
 {

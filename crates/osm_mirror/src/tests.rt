@@ -3,7 +3,7 @@ use crate::{
     CheckReport, InputFile, Order, read_moment, run_apply, run_check, run_check_sorted, run_merge,
     run_period_filter, run_selected, run_sort, run_time_filter,
 };
-use osm_files::{Fault, Format, Reason, SliceIn, VecOut};
+use osm_files::{Broken, Fault, Format, Input, Reason, SliceIn, VecOut};
 use osm_merge::{Counts, Selection};
 use std::alloc::Global;
 use std::process::Abort;
@@ -473,6 +473,96 @@ fn nothing_is_written_before_all_are_read(rt: HostRuntime) -> Result<(), Fail> {
         assert_eq!(rt; mixed.err(), fault);
         assert!(rt; out.into_vec().is_empty());
     }
+    Ok(())
+}
+
+#[test]
+fn little_is_made_of_little(rt: HostRuntime) -> Result<(), Fail> {
+    let alloc = rt.alloc();
+    let gone = Command::Apply {
+        with_history: false,
+    };
+    let state = Command::TimeFilter(7);
+    let period = Command::PeriodFilter { from: 1, to: 7 };
+    for command in [Command::Sort, gone, state, period] {
+        assert_made(&rt, alloc, command, &[b"", b""], b"")?;
+    }
+    // without a time a version came before every moment
+    let first = b"n1 v1 dV c0 t i0 u T x1 y1\n";
+    let deletion = b"n1 v2 dD c0 t i0 u T x y\n";
+    assert_made(&rt, alloc, gone, &[CREATED, b""], first)?;
+    assert_made(&rt, alloc, gone, &[DELETED], b"")?;
+    assert_made(&rt, alloc, state, &[CREATED], first)?;
+    assert_made(&rt, alloc, state, &[DELETED], b"")?;
+    assert_made(&rt, alloc, period, &[DELETED], deletion)?;
+    Ok(())
+}
+
+/// An input that gives one byte a read, and then ends or fails.
+#[derive(Drop)]
+struct Dripping<'a> {
+    rest: &'a [u8],
+    fails: bool,
+}
+
+impl Input for Dripping<'_> {
+    ghost use Rattle.std.specs.Prelude.{Some};
+
+    ghost coming = { λ s. Some (record { bytes = s.rest.now; broken = s.fails }) };
+
+    fn read(&mut self, buffer: &mut [u8]) -> Result<usize, Broken> {
+        let Some((first, rest)) = self.rest.split_first() else {
+            return if self.fails { Err(Broken) } else { Ok(0) };
+        };
+        let Some(place) = buffer.first_mut() else {
+            return Ok(0);
+        };
+        *place = *first;
+        self.rest = rest;
+        Ok(1)
+    }
+}
+
+/// A file that fails behind its last byte.
+fn failing<'a>() -> Dripping<'a> {
+    Dripping {
+        rest: DELETED,
+        fails: true,
+    }
+}
+
+/// A file that ends, and one that fails behind its last byte.
+fn one_fails<'a>(alloc: Global) -> Result<Vec<Dripping<'a>>, Fault> {
+    let mut inputs = Vec::new(alloc);
+    inputs.push(Dripping {
+        rest: CREATED,
+        fails: false,
+    })?;
+    inputs.push(failing())?;
+    Ok(inputs)
+}
+
+#[test]
+fn an_input_that_fails_is_named(rt: HostRuntime) -> Result<(), Fail> {
+    let alloc = rt.alloc();
+    let mut out = VecOut::new(alloc);
+    let fault = Fault {
+        input: 1,
+        place: 9,
+        reason: Reason::ReadFault,
+    };
+    let sorted = run_sort(alloc, one_fails(alloc)?, Format::Opl, &mut out);
+    assert_eq!(rt; sorted.err(), Some(fault));
+    let applied = run_apply(alloc, one_fails(alloc)?, true, Format::O5m, &mut out);
+    assert_eq!(rt; applied.err(), Some(fault));
+    let alone = Some(Fault { input: 0, ..fault });
+    assert_eq!(rt; run_check(alloc, failing()).err(), alone);
+    assert_eq!(rt; run_check_sorted(alloc, failing()).err(), alone);
+    let state = run_time_filter(alloc, failing(), 7, Format::O5c, &mut out);
+    assert_eq!(rt; state.err(), alone);
+    let period = run_period_filter(alloc, failing(), 1, 7, Format::Opl, &mut out);
+    assert_eq!(rt; period.err(), alone);
+    assert!(rt; out.into_vec().is_empty());
     Ok(())
 }
 

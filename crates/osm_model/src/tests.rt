@@ -129,24 +129,40 @@ fn line(alloc: Global, version: &Version) -> Result<Vec<u8>, Fail> {
 
 #[test]
 fn a_version_tells_its_data(rt: HostRuntime) -> Result<(), Fail> {
-    let alloc = rt.alloc();
-    let v = texts(alloc)?;
-    assert_eq!(rt; v.id(), 7);
-    assert_eq!(rt; v.kind(), Kind::Relation);
-    assert_eq!(rt; v.kind().rank(), 2);
-    assert_eq!(rt; v.kind().letter(), b'r');
-    assert_eq!(rt; v.number(), 1);
-    assert_eq!(rt; v.time(), Some(1));
-    assert_eq!(rt; v.changeset(), 1);
-    assert_eq!(rt; v.uid(), 1);
+    let v = texts(rt.alloc())?;
+    assert_eq!(rt; (v.id(), v.number(), v.changeset(), v.uid()), (7, 1, 1, 1));
+    assert_eq!(rt; (v.kind(), v.time()), (Kind::Relation, Some(1)));
     assert_eq!(rt; v.user().as_str(), "a b");
-    assert!(rt; !v.user().is_empty());
-    assert!(rt; !v.body().is_deleted());
-    assert_eq!(rt; v.body().kind(), Kind::Relation);
-    assert_eq!(rt; v.body().tags().len(), 2);
-    assert_eq!(rt; v.copy()?, v);
-    assert!(rt; deleted(alloc, Kind::Way, 1)?.body().is_deleted());
     Ok(())
+}
+
+#[test]
+fn a_version_tells_its_body(rt: HostRuntime) -> Result<(), Fail> {
+    let v = texts(rt.alloc())?;
+    assert_eq!(rt;
+        (v.body().kind(), v.body().is_deleted()),
+        (Kind::Relation, false)
+    );
+    assert_eq!(rt; v.body().tags().len(), 2);
+    Ok(())
+}
+
+#[test]
+fn a_copy_is_equal(rt: HostRuntime) -> Result<(), Fail> {
+    let v = texts(rt.alloc())?;
+    assert_eq!(rt; v.copy()?, v);
+    Ok(())
+}
+
+#[test]
+fn kinds_have_ranks_and_letters(rt: HostRuntime) {
+    for (kind, rank, letter) in [
+        (Kind::Node, 0, b'n'),
+        (Kind::Way, 1, b'w'),
+        (Kind::Relation, 2, b'r'),
+    ] {
+        assert_eq!(rt; (kind.rank(), kind.letter()), (rank, letter));
+    }
 }
 
 #[test]
@@ -223,33 +239,51 @@ fn memory_of_a_version_is_used_again_where_one_is_given(rt: HostRuntime) -> Resu
 }
 
 #[test]
-fn parts_are_lists(rt: HostRuntime) -> Result<(), Fail> {
+fn references_are_a_list(rt: HostRuntime) -> Result<(), Fail> {
     let alloc = rt.alloc();
-    assert_eq!(rt; text(alloc, "é")?.copy()?.as_str(), "é");
-    assert_eq!(rt; Text::new().as_str(), "");
     let refs = References::from_vec(vec![in alloc; 3, -1, 3]?);
     assert_eq!(rt; refs.as_slice(), [3, -1, 3].as_slice());
     assert_eq!(rt; refs.copy()?.into_vec().as_slice(), [3, -1, 3].as_slice());
+    Ok(())
+}
+
+#[test]
+fn tags_are_a_list(rt: HostRuntime) -> Result<(), Fail> {
+    let alloc = rt.alloc();
     let tags = Tags::from_vec(vec![in alloc; tag(alloc, "a", "b")?]?);
     assert_eq!(rt; tags.as_slice().len(), 1);
     for tag in tags.copy()?.into_vec().as_slice() {
         assert_eq!(rt; tag.copy()?.value.as_str(), "b");
     }
-    let member = Member {
-        kind: Kind::Way,
-        id: 5,
-        role: text(alloc, "outer")?,
-    };
-    let members = Members::from_vec(vec![in alloc; member]?);
+    Ok(())
+}
+
+#[test]
+fn members_are_a_list(rt: HostRuntime) -> Result<(), Fail> {
+    let members = members(rt.alloc(), 5, "outer")?;
     assert_eq!(rt; members.as_slice().len(), 1);
     for member in members.copy()?.into_vec().as_slice() {
         assert_eq!(rt; member.copy()?.role.as_str(), "outer");
     }
-    assert_eq!(rt; author(alloc, Some(1), "ada")?.copy()?.user.as_str(), "ada");
-    assert!(rt; matches!(Body::Deleted(Kind::Way).copy()?, Body::Deleted(Kind::Way)));
-    assert!(rt; is_id(4_611_686_018_427_387_903));
-    assert!(rt; !is_id(-4_611_686_018_427_387_904));
     Ok(())
+}
+
+#[test]
+fn small_parts_are_copied(rt: HostRuntime) -> Result<(), Fail> {
+    let ada = author(rt.alloc(), Some(1), "ada")?;
+    assert_eq!(rt; ada.copy()?.user.as_str(), "ada");
+    assert!(rt; matches!(Body::Deleted(Kind::Way).copy()?, Body::Deleted(Kind::Way)));
+    Ok(())
+}
+
+#[test]
+fn ids_have_limits(rt: HostRuntime) {
+    for (id, is_one) in [
+        (4_611_686_018_427_387_903, true),
+        (-4_611_686_018_427_387_904, false),
+    ] {
+        assert_eq!(rt; is_id(id), is_one);
+    }
 }
 
 #[test]
@@ -350,35 +384,62 @@ fn a_deleted_version_has_all_fields(rt: HostRuntime) -> Result<(), Fail> {
     Ok(())
 }
 
+/// The nodes of the examples of ties and others, ascending.
+fn ascending_nodes(alloc: Global) -> Result<Vec<Version>, Fail> {
+    let mut versions = Vec::new(alloc);
+    for (id, lon, lat) in [
+        (-1, 0, 0),
+        // 0 and negative ids come before the others, then the absolute value decides
+        (-3, 0, 0),
+        // a space is below a point
+        (1, 10_000_000, 10_000_000),
+        (1, 15_000_000, 10_000_000),
+        // `x10` comes before `x9`
+        (1, 100_000_000, 10_000_000),
+        (1, 90_000_000, 10_000_000),
+    ] {
+        versions.push(node(alloc, id, 1, lon, lat)?)?;
+    }
+    // the line's `%` is below the bytes of `é`
+    for key in ["\u{1f600}", "é"] {
+        versions.push(tagged_node(alloc, key)?)?;
+    }
+    Ok(versions)
+}
+
+/// Adds ways and relations, ascending.
+fn add_others(alloc: Global, versions: &mut Vec<Version>) -> Result<(), Fail> {
+    // a line comes before its extensions
+    versions.push(way(alloc, 1, Vec::new(alloc))?)?;
+    versions.push(way(alloc, 1, vec![in alloc; 1]?)?)?;
+    versions.push(deleted(alloc, Kind::Way, 1)?)?;
+    versions.push(relation(alloc, members(alloc, 1, "")?)?)?;
+    versions.push(texts(alloc)?)?;
+    Ok(())
+}
+
 /// The versions of the examples of ties and others, ascending.
 fn ascending(alloc: Global) -> Result<Vec<Version>, Fail> {
+    let mut versions = ascending_nodes(alloc)?;
+    // a visible version comes before a deleted one
+    versions.push(deleted(alloc, Kind::Node, 1)?)?;
+    // but not before an earlier one
     let timed = author(alloc, Some(1), "")?;
-    Ok(vec![in alloc;
-        node(alloc, -1, 1, 0, 0)?,
-        // 0 and negative ids come before the others, then the absolute value decides
-        node(alloc, -3, 1, 0, 0)?,
-        // a space is below a point
-        node(alloc, 1, 1, 10_000_000, 10_000_000)?,
-        node(alloc, 1, 1, 15_000_000, 10_000_000)?,
-        // `x10` comes before `x9`
-        node(alloc, 1, 1, 100_000_000, 10_000_000)?,
-        node(alloc, 1, 1, 90_000_000, 10_000_000)?,
-        // the line's `%` is below the bytes of `é`
-        tagged_node(alloc, "\u{1f600}")?,
-        tagged_node(alloc, "é")?,
-        // a visible version comes before a deleted one
-        deleted(alloc, Kind::Node, 1)?,
-        // but not before an earlier one
-        Version::new(alloc, 1, timed, Body::Node { lon: 0, lat: 0, tags: no_tags(alloc) })?,
-        node(alloc, 1, 2, 0, 0)?,
-        node(alloc, 3, 1, 0, 0)?,
-        // a line comes before its extensions
-        way(alloc, 1, Vec::new(alloc))?,
-        way(alloc, 1, vec![in alloc; 1]?)?,
-        deleted(alloc, Kind::Way, 1)?,
-        relation(alloc, members(alloc, 1, "")?)?,
-        texts(alloc)?,
-    ]?)
+    let tags = no_tags(alloc);
+    versions.push(Version::new(
+        alloc,
+        1,
+        timed,
+        Body::Node {
+            lon: 0,
+            lat: 0,
+            tags,
+        },
+    )?)?;
+    versions.push(node(alloc, 1, 2, 0, 0)?)?;
+    versions.push(node(alloc, 3, 1, 0, 0)?)?;
+    add_others(alloc, &mut versions)?;
+    Ok(versions)
 }
 
 /// Comparisons take no memory: with each allocation refused behind those that make the versions this test passes too.
@@ -406,38 +467,47 @@ fn objects_and_keys_are_ordered(rt: HostRuntime) -> Result<(), Fail> {
     Ok(())
 }
 
+/// The history of version 1 at this longitude and of version 2, twice, of one node.
+fn history(alloc: Global, lon: i32) -> Result<History, Fail> {
+    let versions = vec![in alloc;
+        node(alloc, 1, 2, 0, 0)?,
+        node(alloc, 1, 1, lon, 1)?,
+        node(alloc, 1, 2, 0, 0)?,
+    ]?;
+    Ok(History::from_versions(versions)?)
+}
+
 #[test]
 fn a_history_is_a_set(rt: HostRuntime) -> Result<(), Fail> {
     let alloc = rt.alloc();
     assert!(rt; History::new(alloc).is_empty());
-    let list = vec![in alloc;
-        node(alloc, 1, 2, 0, 0)?,
-        node(alloc, 1, 1, 90_000_000, 1)?,
-        node(alloc, 1, 2, 0, 0)?,
-    ]?;
-    let a = History::from_versions(list)?;
-    assert_eq!(rt; a.len(), 2);
-    assert!(rt; !a.is_empty());
-    let more = vec![in alloc;
-        node(alloc, 1, 1, 100_000_000, 1)?,
-        node(alloc, 1, 2, 0, 0)?,
-    ]?;
-    let b = History::from_versions(more)?;
-    let both = a.join(&b)?;
-    assert_eq!(rt; both.len(), 3);
-    assert!(rt; both.contains(&node(alloc, 1, 1, 100_000_000, 1)?));
+    let a = history(alloc, 90_000_000)?;
+    assert_eq!(rt; (a.len(), a.is_empty()), (2, false));
     assert!(rt; !a.contains(&node(alloc, 1, 1, 100_000_000, 1)?));
-    assert_eq!(rt; a.len(), 2);
-    assert_eq!(rt; b.len(), 2);
-    let again = both.copy()?;
-    assert_eq!(rt; again.len(), 3);
+    Ok(())
+}
+
+#[test]
+fn histories_are_joined(rt: HostRuntime) -> Result<(), Fail> {
+    let alloc = rt.alloc();
+    let a = history(alloc, 90_000_000)?;
+    let b = history(alloc, 100_000_000)?;
+    let both = a.join(&b)?;
+    assert_eq!(rt; (a.len(), b.len(), both.len()), (2, 2, 3));
+    assert!(rt; both.contains(&node(alloc, 1, 1, 100_000_000, 1)?));
+    Ok(())
+}
+
+#[test]
+fn a_history_is_listed(rt: HostRuntime) -> Result<(), Fail> {
+    let alloc = rt.alloc();
+    let again = history(alloc, 100_000_000)?.copy()?;
+    assert_eq!(rt; again.len(), 2);
     let first = b">n1 v1 dV c0 t i0 u T x10 y0.0000001";
     assert_eq!(rt; line(alloc, again.get(0))?.as_slice(), first.as_slice());
-    let second = b">n1 v1 dV c0 t i0 u T x9 y0.0000001";
-    assert_eq!(rt; line(alloc, again.get(1))?.as_slice(), second.as_slice());
-    assert_eq!(rt; again.get(2).number(), 2);
+    assert_eq!(rt; again.get(1).number(), 2);
     let given = again.into_versions();
-    assert_eq!(rt; given.len(), 3);
+    assert_eq!(rt; given.len(), 2);
     assert_eq!(rt; line(alloc, &given[0])?.as_slice(), first.as_slice());
     Ok(())
 }

@@ -78,27 +78,30 @@ fn writes_times(rt: HostRuntime) {
 #[test]
 fn writes_numbers(rt: HostRuntime) {
     let mut piece = Piece::new();
-    piece.set_number(b" v", 18_446_744_073_709_551_615);
-    assert_eq!(rt; piece.as_slice(), b" v18446744073709551615".as_slice());
-    piece.set_number(b" i", 0);
-    assert_eq!(rt; piece.as_slice(), b" i0".as_slice());
-    piece.set_integer(b"n", -9_223_372_036_854_775_808);
-    assert_eq!(rt; piece.as_slice(), b"n-9223372036854775808".as_slice());
-    piece.set_integer(b"", 7);
-    assert_eq!(rt; piece.as_slice(), b"7".as_slice());
+    for (number, text) in [
+        (18_446_744_073_709_551_615, " v18446744073709551615"),
+        (0, " v0"),
+    ] {
+        piece.set_number(b" v", number);
+        assert_eq!(rt; piece.as_slice(), text.as_bytes());
+    }
+    for (integer, text) in [
+        (-9_223_372_036_854_775_808, "n-9223372036854775808"),
+        (7, "n7"),
+    ] {
+        piece.set_integer(b"n", integer);
+        assert_eq!(rt; piece.as_slice(), text.as_bytes());
+    }
 }
 
 #[test]
 fn gives_its_bytes(rt: HostRuntime) {
     let mut piece = Piece::new();
-    assert_eq!(rt; piece.take(), None);
     piece.set_bytes(b"dV");
-    assert_eq!(rt; piece.take(), Some(b'd'));
-    assert_eq!(rt; piece.as_slice(), b"V".as_slice());
-    assert_eq!(rt; piece.take(), Some(b'V'));
-    assert_eq!(rt; piece.take(), None);
-    piece.set_bytes(b"01234567890123456789012345678901");
-    assert_eq!(rt; piece.as_slice().len(), 32);
+    for byte in [Some(b'd'), Some(b'V'), None] {
+        assert_eq!(rt; piece.take(), byte);
+    }
+    piece.set_bytes(b"dV");
     piece.clear();
-    assert_eq!(rt; piece.take(), None);
+    assert!(rt; piece.as_slice().is_empty());
 }
