@@ -156,3 +156,19 @@ fn pipes_are_read_once(rt: HostRuntime) -> Result<(), Fail> {
     leave(&rt, "pipes")?;
     Ok(())
 }
+
+#[test]
+fn pipes_are_streamed_where_it_is_asked_for(rt: HostRuntime) -> Result<(), Fail> {
+    enter(&rt, "streamed_pipes")?;
+    let pipe = pipe_of(&rt, SORTED)?;
+    let name = name_of(&rt, &pipe)?;
+    let words = ["sort", "--sorted", "--output", "o.opl", name.as_str()];
+    assert_makes(&rt, &words, SORTED)?;
+    let pipe = pipe_of(&rt, UNSORTED)?;
+    let name = name_of(&rt, &pipe)?;
+    let words = ["apply", "--sorted", "--output", "o.opl", name.as_str()];
+    let line = format!(in rt.alloc(); "{}: 12: Unsorted\n", name.as_str())?;
+    assert_refused(&rt, &words, 1, line.as_str());
+    leave(&rt, "streamed_pipes")?;
+    Ok(())
+}
