@@ -6,6 +6,7 @@
 //! - `bench lines 100`: megabytes of OPL lines, read and written, beside a plain pass over them.
 //! - `bench read-sets 1000000`: nodes read from data sets.
 //! - `bench write-sets 1000000`: nodes, and a fifth as many ways, written as data sets.
+//! - `bench take 1000000`: a file of 10,000 changes taken by mirrors that hold so many versions, and runs of a fleet.
 //! - `bench file map.opl`: the units of a file alone, through a source, and by `load_any`.
 //!
 //! Without words it takes a little of each, and prints nothing.
@@ -20,6 +21,7 @@ mod lines;
 mod rate;
 mod read_sets;
 mod sample;
+mod take;
 mod versions;
 mod write_sets;
 
@@ -46,6 +48,7 @@ fn measure(rt: &HostRuntime, measurement: &str, amount: &str) -> Result<String> 
         "lines" => lines::measure(rt, amount.parse::<u64>()?.saturating_mul(lines::MEGABYTE)),
         "read-sets" => read_sets::measure(rt, amount.parse::<u32>()?),
         "write-sets" => write_sets::measure(rt, amount.parse::<u32>()?),
+        "take" => take::measure(rt, amount.parse::<u32>()?),
         "file" => file::measure(rt, &fs::read(rt, amount)?),
         _ => bail!("there is no such measurement"),
     }
@@ -57,6 +60,7 @@ fn take_a_little<R: Clock + AllocGlobal>(rt: &R) -> Result<()> {
     lines::measure(rt, 2_000)?;
     read_sets::measure(rt, 200)?;
     write_sets::measure(rt, 200)?;
+    take::measure(rt, 200)?;
     file::measure(rt, SAMPLE)?;
     Ok(())
 }

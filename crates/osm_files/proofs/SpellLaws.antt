@@ -1,5 +1,5 @@
 -- The file of a set is read as the set.
-use Rattle.std.proofs.Common.{◌≡◌, ℕ, suc, ◌+◌, ◌<◌, ◌^◌, Bool, true, false, not, cond, ◌||◌, ◌==◌, ◌⊎◌, List, [], ◌∷◌, ◌++◌, length, take, filter, get_or, refl, sym, ap, subst, ◌∙◌, arith, append_assoc, length-append, inl, inr, Some, is_some}
+use Rattle.std.proofs.Common.{◌≡◌, ℕ, suc, ◌+◌, ◌<◌, ◌^◌, Bool, true, false, not, cond, ◌||◌, ◌==◌, ◌⊎◌, List, [], ◌∷◌, ◌++◌, length, take, filter, get_or, refl, sym, ap, subst, ◌∙◌, arith, append_assoc, length-append, inl, inr, Some, None, is_some}
 use Rattle.std.proofs.lemmas.List.{append-nil}
 use Rattle.std.proofs.Math.Seq.{take-append_seam, get_or-append_seam}
 use Rattle.std.specs.List.{All, Any, flat_map, list_all, list_any}
@@ -39,8 +39,9 @@ use Rattle.osm_files.specs.Units.{Stand, InOpl, BeforeHeader, start_of}
 use Rattle.osm_files.specs.Held.{IsFile, IsFileOf, Holds}
 use Rattle.osm_files.specs.Spell.{behind, behind_all, ended, spelled_versions, spell_list, spell}
 use Rattle.osm_files.specs.Sink.{MayFollow}
-use Rattle.osm_files.specs.SpellLaws.{AreVersions, SpellHoldsItsSet, HeldIsOneSet, joined_file, JoinInAnyOrder, JoinRepeated, JoinInAnyGrouping, FilesJoinInAnyGrouping, HeldAreVersions, KindsDontFall, ListIsSpelledAsItsSet, FirstVersionsStandInFront}
-use Rattle.osm_files.proofs.FileLaws.{one_list}
+use Rattle.osm_files.specs.Verdict.{file_units, versions_of, held_by, verdict}
+use Rattle.osm_files.specs.SpellLaws.{AreVersions, SpellHoldsItsSet, HeldWithoutVerdict, SpellHasNoVerdict, HeldIsOneSet, SpelledIsHeld, joined_file, JoinInAnyOrder, JoinRepeated, JoinInAnyGrouping, FilesJoinInAnyGrouping, HeldAreVersions, UnionsAreVersions, KindsDontFall, ListIsSpelledAsItsSet, FirstVersionsStandInFront}
+use Rattle.osm_files.proofs.FileLaws.{one_list, files_are_read, accepted_without_verdict}
 use Rattle.osm_files.proofs.HeldLaws.{files_hold_versions}
 use Rattle.osm_files.proofs.SpellSteps.{first_so, then_greater, may_follow, list_split}
 
@@ -214,25 +215,34 @@ contains_itself s k d within =
     let tied : eq_by_cmp version_cmp x x ≡ true = ap is_eq (tied_itself version_cmp_total x) in
     contains-listed s x ∙ list_any_at (eq_by_cmp version_cmp x) (listed s) k d within tied
 
+pub are_versions : (s : VersionSet) → ((q : VersionData) → contains s q ≡ true → IsVersion q) → AreVersions s
+are_versions s members = λ k d within. members (get_or (listed s) k d) (contains_itself s k d within)
+
 either : (a b : Bool) → (a || b) ≡ true → (a ≡ true) ⊎ (b ≡ true)
 either true b h = inl refl
 either false b h = inr h
 
-are_both : (a b : VersionSet) → AreVersions a → AreVersions b → AreVersions (union a b)
-are_both a b valid others = λ k d within.
-    let x : VersionData = get_or (listed (union a b)) k d in
-    elim (either (holds_one a x) (holds_one b x) (sym (in_both a b x) ∙ contains_itself (union a b) k d within)) [ inl left ↦ member_is a x valid left | inr right ↦ member_is b x others right ]
+pub unions_are_versions : UnionsAreVersions
+unions_are_versions a b valid others =
+    are_versions (union a b) (λ x h. elim (either (holds_one a x) (holds_one b x) (sym (in_both a b x) ∙ h)) [ inl left ↦ member_is a x valid left | inr right ↦ member_is b x others right ])
+
+-- and so are those of a part
+pub are_fewer : (a b : VersionSet) → AreVersions a → ((q : VersionData) → contains b q ≡ true → contains a q ≡ true) → AreVersions b
+are_fewer a b valid part = are_versions b (λ x h. member_is a x valid (part x h))
 
 pub held_are_versions : HeldAreVersions
-held_are_versions bytes s h = λ k d within.
-    let x : VersionData = get_or (listed s) k d in
-    let among : list_any (eq_by_cmp version_cmp x) h.versions ≡ true = sym (contains-from_list version_cmp_total h.versions x) ∙ ap (λ t. contains t x) (sym h.members) ∙ contains_itself s k d within in
-    member_of_list h.versions x (files_hold_versions bytes h.versions h.file) among
+held_are_versions bytes s h =
+    are_versions s (λ x has.
+    member_of_list h.versions x (files_hold_versions bytes h.versions h.file)
+    (sym (contains-from_list version_cmp_total h.versions x) ∙ ap (λ t. contains t x) (sym h.members) ∙ has))
+
+pub spelled_is_held : SpelledIsHeld
+spelled_is_held f set held valid h =
+    let own = spell_holds f set valid h.short in
+    held_is_one_set (spell f set) held set h (record { short = own.short; versions = own.versions; file = own.file; members = own.members })
 
 is_union : (f : Format) (a b held : VersionSet) → AreVersions a → AreVersions b → Holds (joined_file f a b) held → held ≡ union a b
-is_union f a b held valid others h =
-    let own = spell_holds f (union a b) (are_both a b valid others) h.short in
-    held_is_one_set (joined_file f a b) held (union a b) h (record { short = own.short; versions = own.versions; file = own.file; members = own.members })
+is_union f a b held valid others h = spelled_is_held f (union a b) held (unions_are_versions a b valid others) h
 
 pub join_in_any_grouping : JoinInAnyGrouping
 join_in_any_grouping f g h a b c ab bc valid_a valid_b valid_c left right =
@@ -259,3 +269,23 @@ first_in_front f versions others = (spelled_versions f (behind_all f nothing_wri
 pub files_join : FilesJoinInAnyGrouping
 files_join f g h first second third a b c ab bc one two three =
     join_in_any_grouping f g h a b c ab bc (held_are_versions first a one) (held_are_versions second b two) (held_are_versions third c three)
+
+-- ---- files without a verdict
+holds_reading : (bytes : List ℕ) (s : VersionSet) → Holds bytes s → (verdict bytes ≡ None) × (s ≡ held_by bytes)
+holds_reading bytes s h =
+    let read = files_are_read bytes h.versions h.short h.file in
+    (read.0, h.members ∙ ap (λ xs. from_list {R = version_cmp} xs) (sym read.1))
+
+reading_holds : (bytes : List ℕ) (s : VersionSet) → (verdict bytes ≡ None) × (s ≡ held_by bytes) → Holds bytes s
+reading_holds bytes s h =
+    let file = accepted_without_verdict bytes h.0 in
+    record { short = file.0; versions = versions_of (file_units bytes).list; file = file.1; members = h.1 }
+
+pub held_without_verdict : HeldWithoutVerdict
+held_without_verdict bytes s = (holds_reading bytes s, reading_holds bytes s)
+
+pub spell_has_no_verdict : SpellHasNoVerdict
+spell_has_no_verdict f s valid short =
+    let own = spell_holds f s valid short in
+    let read = holds_reading (spell f s) s (record { short = own.short; versions = own.versions; file = own.file; members = own.members }) in
+    (read.0, sym read.1)

@@ -1,6 +1,6 @@
 -- What an output holds, whether it has failed, and what is written to it. That a write may take a front of the bytes
 -- is the rule of Rust's `std::io::Write`; the rest is an own rule of this project.
-use Rattle.std.specs.Prelude.{◌≡◌, ◌≢◌, ℕ, ◌+◌, ◌<◌, ◌≤◌, ◌^◌, ◌⊎◌, Bool, true, false, List, [], ◌++◌, length, take, Option, Some, IfSome, Result, Ok, Err}
+use Rattle.std.specs.Prelude.{◌≡◌, ◌≢◌, ℕ, ◌+◌, ◌<◌, ◌≤◌, ◌^◌, ◌⊎◌, Bool, true, false, List, [], ◌++◌, length, take, Result, Ok, Err}
 use Rattle.osm_files.specs.declared.fault.Fault.{Fault}
 use Rattle.osm_files.specs.Fault.{too_long_fault, write_fault}
 
@@ -10,9 +10,14 @@ pub record Collected : Type 0 where
   pub capacity : ℕ
   pub failed : Bool
 
--- these bytes were appended to what is held, where that is known
-abbrev pub Appended : Option (List ℕ) → Option (List ℕ) → List ℕ → Type 0
-Appended before after bytes = IfSome before (λ held. after ≡ Some (held ++ bytes))
+-- What an output may hold: a predicate of bytes. Of an output that tells its bytes it is an equation. Of one that tells nothing
+-- it is known only by what was held before and was written since.
+abbrev pub Content : Type 1
+Content = List ℕ → Type 0
+
+-- These bytes were appended: whatever was held before, that and these bytes behind it are held after.
+abbrev pub Appended : Content → Content → List ℕ → Type 0
+Appended before after bytes = (held : List ℕ) → before held → after (held ++ bytes)
 
 -- A write of these bytes fails the output where it answers an error, or takes none of some bytes. An output that had
 -- failed before answers an error.
@@ -26,7 +31,7 @@ FlushFails old (Ok done) new = (old ≡ false) × (new ≡ false)
 FlushFails old (Err error) new = new ≡ true
 
 -- all these bytes were appended, after so many written before, and the output has not failed
-pub record WroteAll (before after : Option (List ℕ)) (failed : Bool) (written : ℕ) (bytes : List ℕ) : Type 0 where
+pub record WroteAll (before after : Content) (failed : Bool) (written : ℕ) (bytes : List ℕ) : Type 0 where
   pub appended : Appended before after bytes
   pub short : written + length bytes < 2 ^ 62
   pub good : failed ≡ false
@@ -38,13 +43,13 @@ WhyStopped output written bytes count failed fault =
     ⊎ ((fault ≡ too_long_fault output) × (2 ^ 62 ≤ written + length bytes))
 
 -- a front of these bytes was appended, and why no more
-pub record StoppedWriting (output : ℕ) (before after : Option (List ℕ)) (failed : Bool) (written : ℕ) (bytes : List ℕ) (fault : Fault) : Type 0 where
+pub record StoppedWriting (output : ℕ) (before after : Content) (failed : Bool) (written : ℕ) (bytes : List ℕ) (fault : Fault) : Type 0 where
   pub count : ℕ
   pub within : count ≤ length bytes
   pub appended : Appended before after (take count bytes)
   pub why : WhyStopped output written bytes count failed fault
 
 -- what writing all these bytes did, after so many written before to the output of this number
-abbrev pub Writes : {A : Type 0} → ℕ → Option (List ℕ) → Option (List ℕ) → Bool → ℕ → List ℕ → Result A Fault → Type 0
+abbrev pub Writes : {A : Type 0} → ℕ → Content → Content → Bool → ℕ → List ℕ → Result A Fault → Type 0
 Writes output before after failed written bytes (Ok done) = WroteAll before after failed written bytes
 Writes output before after failed written bytes (Err fault) = StoppedWriting output before after failed written bytes fault

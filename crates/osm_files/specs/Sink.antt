@@ -1,5 +1,5 @@
 -- What a sink keeps between two calls, and what a call of it does: an own rule of this project.
-use Rattle.std.specs.Prelude.{◌≡◌, ℕ, ◌+◌, ◌<◌, ◌≤◌, ◌^◌, ◌⊎◌, Bool, true, false, List, [], length, take, Option, Result, Ok, Err, MatchBool}
+use Rattle.std.specs.Prelude.{◌≡◌, ℕ, ◌+◌, ◌<◌, ◌≤◌, ◌^◌, ◌⊎◌, Bool, true, false, List, [], length, take, Result, Ok, Err, MatchBool}
 use Rattle.osm_model.specs.Kind.{kind_rank}
 use Rattle.osm_model.specs.Data.{VersionData, kind_of}
 use Rattle.o5_codec.specs.Encoder.{Written, nothing_written, new_context}
@@ -9,7 +9,7 @@ use Rattle.osm_files.specs.declared.format.Format.TheVariants.{Opl, O5m, O5c}
 use Rattle.osm_files.specs.declared.sink.Units.{Units}
 use Rattle.osm_files.specs.declared.sink.Units.TheVariants.{Lines, DataSets}
 use Rattle.osm_files.specs.Fault.{memory_fault, failed_fault, too_long_fault, write_fault}
-use Rattle.osm_files.specs.Output.{Appended, StoppedWriting}
+use Rattle.osm_files.specs.Output.{Content, Appended, StoppedWriting}
 use Rattle.osm_files.specs.Spell.{behind, behind_all, spelled_open}
 
 -- what versions are written relative to
@@ -59,16 +59,16 @@ abbrev pub Takes : VersionData → SinkState → Type 0
 Takes v s = s.failed ≡ false → MayFollow v s.encoder
 
 -- all these bytes were appended, after so many written before, to less than 2^62 bytes in all
-pub record Sent (before after : Option (List ℕ)) (written : ℕ) (bytes : List ℕ) : Type 0 where
+pub record Sent (before after : Content) (written : ℕ) (bytes : List ℕ) : Type 0 where
   pub appended : Appended before after bytes
   pub short : written + length bytes < 2 ^ 62
 
 -- why not all these bytes were appended: memory was refused, and then none was, or writing them stopped
-abbrev pub NotSent : ℕ → Option (List ℕ) → Option (List ℕ) → Bool → ℕ → List ℕ → Fault → Type 0
+abbrev pub NotSent : ℕ → Content → Content → Bool → ℕ → List ℕ → Fault → Type 0
 NotSent output before after failed written bytes fault = ((fault ≡ memory_fault) × Appended before after []) ⊎ StoppedWriting output before after failed written bytes fault
 
 -- what a call that sends these bytes did, after so many written before to the output of this number
-abbrev pub Sends : {A : Type 0} → ℕ → Option (List ℕ) → Option (List ℕ) → Bool → ℕ → List ℕ → Result A Fault → Type 0
+abbrev pub Sends : {A : Type 0} → ℕ → Content → Content → Bool → ℕ → List ℕ → Result A Fault → Type 0
 Sends output before after failed written bytes (Ok done) = Sent before after written bytes
 Sends output before after failed written bytes (Err fault) = NotSent output before after failed written bytes fault
 
@@ -78,21 +78,21 @@ Leaves old new next bytes (Ok done) = new ≡ next (record old { written = old.w
 Leaves old new next bytes (Err fault) = (new.failed ≡ true) × (new.number ≡ old.number) × (new.begun ≡ old.begun) × (new.ended ≡ old.ended)
 
 -- A call of a sink that has not failed sends these bytes and leaves it so; any other answers Failed and changes nothing.
-abbrev pub Calls : {A : Type 0} → SinkState → SinkState → (SinkState → SinkState) → Option (List ℕ) → Option (List ℕ) → Bool → List ℕ → Result A Fault → Type 0
+abbrev pub Calls : {A : Type 0} → SinkState → SinkState → (SinkState → SinkState) → Content → Content → Bool → List ℕ → Result A Fault → Type 0
 Calls old new next before after failed bytes result = MatchBool old.failed
     ((result ≡ Err (failed_fault old.number)) × (new ≡ old) × Appended before after [])
     (Sends old.number before after failed old.written bytes result × Leaves old new next bytes result)
 
 -- calls that together were to append these bytes appended a front of them: memory was refused, the output failed when it
 -- had taken so many, or these are 2^62 bytes or more
-pub record CutShort (output : ℕ) (before after : Option (List ℕ)) (failed : Bool) (bytes : List ℕ) (fault : Fault) : Type 0 where
+pub record CutShort (output : ℕ) (before after : Content) (failed : Bool) (bytes : List ℕ) (fault : Fault) : Type 0 where
   pub count : ℕ
   pub within : count ≤ length bytes
   pub appended : Appended before after (take count bytes)
   pub why : (fault ≡ memory_fault) ⊎ ((fault ≡ write_fault output count) × (failed ≡ true)) ⊎ ((fault ≡ too_long_fault output) × (2 ^ 62 ≤ length bytes))
 
 -- what calls did that together were to append these bytes to the output of this number
-abbrev pub WritesFile : {A : Type 0} → ℕ → Option (List ℕ) → Option (List ℕ) → Bool → List ℕ → Result A Fault → Type 0
+abbrev pub WritesFile : {A : Type 0} → ℕ → Content → Content → Bool → List ℕ → Result A Fault → Type 0
 WritesFile output before after failed bytes (Ok done) = Sent before after 0 bytes
 WritesFile output before after failed bytes (Err fault) = CutShort output before after failed bytes fault
 
@@ -126,6 +126,6 @@ having_put format number versions = record {
 }
 
 -- a sink has put these versions, and their file up to the mark of its end was appended
-pub record HasPut (format : Format) (number : ℕ) (versions : List VersionData) (before : Option (List ℕ)) (s : SinkState) (now : Option (List ℕ)) : Type 0 where
+pub record HasPut (format : Format) (number : ℕ) (versions : List VersionData) (before : Content) (s : SinkState) (now : Content) : Type 0 where
   pub state : s ≡ having_put format number versions
   pub sent : Sent before now 0 (spelled_open format versions)

@@ -1,5 +1,5 @@
 -- Laws of the one spelling of a set, and of what a sink writes.
-use Rattle.std.specs.Prelude.{◌≡◌, ℕ, ◌<◌, ◌^◌, Bool, List, [], ◌∷◌, ◌++◌, length, Option, Result, Ok, Err}
+use Rattle.std.specs.Prelude.{◌≡◌, ◌↔◌, ℕ, ◌<◌, ◌^◌, Bool, List, [], ◌∷◌, ◌++◌, length, None, Result, Ok, Err}
 use Rattle.std.specs.List.{All}
 use Rattle.std.specs.List.Sorted.{IsStrictlySortedBy}
 use Rattle.osm_model.specs.Data.{VersionData}
@@ -11,6 +11,8 @@ use Rattle.o5_codec.specs.Encoder.{nothing_written}
 use Rattle.osm_files.specs.declared.fault.Fault.{Fault}
 use Rattle.osm_files.specs.declared.format.Format.{Format}
 use Rattle.osm_files.specs.Held.{IsFile, Holds, HoldsSorted}
+use Rattle.osm_files.specs.Output.{Content}
+use Rattle.osm_files.specs.Verdict.{verdict, held_by}
 use Rattle.osm_files.specs.Spell.{begun, ended, spelled_in, behind_all, spelled_open, spell_list, spell}
 use Rattle.osm_files.specs.Sink.{SinkState, new_sink, MayFollow, Calls, CutShort, WritesFile, begins, puts, ends, stays, HasPut}
 
@@ -25,6 +27,10 @@ SpellHoldsItsSet = (format : Format) (set : VersionSet) → AreVersions set → 
 -- a file holds at most one set
 abbrev pub HeldIsOneSet : Type 0
 HeldIsOneSet = (bytes : List ℕ) (one other : VersionSet) → Holds bytes one → Holds bytes other → one ≡ other
+
+-- the file of a set of versions holds no other
+abbrev pub SpelledIsHeld : Type 0
+SpelledIsHeld = (format : Format) (set held : VersionSet) → AreVersions set → Holds (spell format set) held → held ≡ set
 
 -- the file of what two sets hold together
 abbrev pub joined_file : Format → VersionSet → VersionSet → List ℕ
@@ -56,20 +62,20 @@ abbrev pub FirstVersionsStandInFront : Type 0
 FirstVersionsStandInFront = (format : Format) (versions others : List VersionData) → (rest : List ℕ) × (spell_list format (versions ++ others) ≡ spelled_open format versions ++ rest)
 
 -- what a call makes of the versions put so far: they are put, or a front of their file was appended
-abbrev pub Puts : {A : Type 0} → Format → ℕ → List VersionData → Option (List ℕ) → SinkState → Option (List ℕ) → Bool → Result A Fault → Type 0
+abbrev pub Puts : {A : Type 0} → Format → ℕ → List VersionData → Content → SinkState → Content → Bool → Result A Fault → Type 0
 Puts format number versions before s now failed (Ok done) = HasPut format number versions before s now
 Puts format number versions before s now failed (Err fault) = CutShort number before now failed (spelled_open format versions) fault
 
 -- The calls of a sink, one after the other: what they append is the file of what was put, to its end after `end` and
 -- without it before; after a refusal it is a front of the file of what was put, with the version in hand, and after a
 -- failure of the output it has as many bytes as the place of the fault says.
-pub record CallsAreSpelled : Type 0 where
-  pub begin : (format : Format) (number : ℕ) (s : SinkState) (before now : Option (List ℕ)) (failed : Bool) (result : Result (Unit {0}) Fault) →
-      Calls (begins (new_sink format number)) s stays before now failed (begun format) result → Puts format number [] before s now failed result
-  pub put : (format : Format) (number : ℕ) (versions : List VersionData) (v : VersionData) (s t : SinkState) (before mid now : Option (List ℕ)) (failed : Bool) (result : Result (Unit {0}) Fault) →
-      HasPut format number versions before s mid → Calls s t (puts v) mid now failed (spelled_in s.format s.encoder v) result → Puts format number (versions ++ v ∷ []) before t now failed result
-  pub end : (format : Format) (number : ℕ) (versions : List VersionData) (s t : SinkState) (before mid now : Option (List ℕ)) (failed : Bool) (result : Result (Unit {0}) Fault) →
-      HasPut format number versions before s mid → Calls (ends s) t stays mid now failed (ended s.format) result → WritesFile number before now failed (spell_list format versions) result
+pub record CallsAreSpelled {O : Type 0} (holds : O → Content) : Type 0 where
+  pub begin : (format : Format) (number : ℕ) (s : SinkState) (before now : O) (failed : Bool) (result : Result (Unit {0}) Fault) →
+      Calls (begins (new_sink format number)) s stays (holds before) (holds now) failed (begun format) result → Puts format number [] (holds before) s (holds now) failed result
+  pub put : (format : Format) (number : ℕ) (versions : List VersionData) (v : VersionData) (s t : SinkState) (before mid now : O) (failed : Bool) (result : Result (Unit {0}) Fault) →
+      HasPut format number versions (holds before) s (holds mid) → Calls s t (puts v) (holds mid) (holds now) failed (spelled_in s.format s.encoder v) result → Puts format number (versions ++ v ∷ []) (holds before) t (holds now) failed result
+  pub end : (format : Format) (number : ℕ) (versions : List VersionData) (s t : SinkState) (before mid now : O) (failed : Bool) (result : Result (Unit {0}) Fault) →
+      HasPut format number versions (holds before) s (holds mid) → Calls (ends s) t stays (holds mid) (holds now) failed (ended s.format) result → WritesFile number (holds before) (holds now) failed (spell_list format versions) result
 
 -- what a file spells is within the ranges of versions, and so are the members of the set that it holds
 abbrev pub FilesHoldVersions : Type 0
@@ -78,8 +84,20 @@ FilesHoldVersions = (bytes : List ℕ) (versions : List VersionData) → IsFile 
 abbrev pub HeldAreVersions : Type 0
 HeldAreVersions = (bytes : List ℕ) (set : VersionSet) → Holds bytes set → AreVersions set
 
+-- and so are the members of the union of two such sets
+abbrev pub UnionsAreVersions : Type 0
+UnionsAreVersions = (a b : VersionSet) → AreVersions a → AreVersions b → AreVersions (union a b)
+
 -- the same of the sets that three files hold
 abbrev pub FilesJoinInAnyGrouping : Type 0
 FilesJoinInAnyGrouping = (format left right : Format) (first second third : List ℕ) (a b c ab bc : VersionSet) → Holds first a → Holds second b → Holds third c →
     Holds (joined_file left a b) ab → Holds (joined_file right b c) bc →
     joined_file format ab c ≡ joined_file format a bc
+
+-- bytes hold a set exactly where they have no verdict and it is the set of the versions of their units
+abbrev pub HeldWithoutVerdict : Type 0
+HeldWithoutVerdict = (bytes : List ℕ) (set : VersionSet) → Holds bytes set ↔ ((verdict bytes ≡ None) × (set ≡ held_by bytes))
+
+-- the file of a set of versions, if it is shorter than 2^62 bytes, has no verdict, and holds the set
+abbrev pub SpellHasNoVerdict : Type 0
+SpellHasNoVerdict = (format : Format) (set : VersionSet) → AreVersions set → length (spell format set) < 2 ^ 62 → (verdict (spell format set) ≡ None) × (held_by (spell format set) ≡ set)

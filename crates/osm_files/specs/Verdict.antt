@@ -2,7 +2,9 @@
 use Rattle.std.specs.Prelude.{ℕ, ◌-◌, ◌^◌, nat_lt, Bool, false, List, [], ◌∷◌, length, take, map, Option, Some, None, if◌then◌else◌}
 use Rattle.std.specs.Ordering.{is_lt}
 use Rattle.osm_model.specs.Data.{VersionData}
-use Rattle.osm_model.specs.Order.{key_cmp}
+use Rattle.osm_model.specs.Order.{version_cmp, key_cmp}
+use Rattle.osm_model.specs.VersionSet.{VersionSet}
+use Rattle.osm_model.specs.Sets.{from_list}
 use Rattle.osm_files.specs.declared.reason.Reason.TheVariants.{TooLong, Unsorted}
 use Rattle.osm_files.specs.Stream.{Verdict, verdict_at, Placed, Still}
 use Rattle.osm_files.specs.Units.{units, start_of}
@@ -22,6 +24,10 @@ file_units bytes =
 
 abbrev pub versions_of : List Placed → List VersionData
 versions_of = map (λ unit. unit.version)
+
+-- the set that a file holds; of bytes that are no file, what stands before the first faulty unit
+abbrev pub held_by : List ℕ → VersionSet
+held_by bytes = from_list {R = version_cmp} (versions_of (file_units bytes).list)
 
 -- the place and the reason of the first faulty unit
 abbrev pub verdict : List ℕ → Option Verdict

@@ -5,6 +5,8 @@ ghost use Rattle.osm_files.specs.SpellLaws as spelling;
 ghost use Rattle.osm_files.specs.LoadLaws as loading;
 ghost use Rattle.osm_files.specs.SourceLaws as source;
 
+use crate::Output;
+
 /// A file spells at most one list of versions.
 pub fn one_list()
     ensures { law.OneList }
@@ -40,9 +42,24 @@ pub fn spell_holds_its_set()
     ensures { spelling.SpellHoldsItsSet }
 {}
 
+/// The file that is written for a set of versions, if it is shorter than 2^62 bytes, is accepted: it has no verdict.
+pub fn spell_has_no_verdict()
+    ensures { spelling.SpellHasNoVerdict }
+{}
+
+/// Bytes hold a set exactly where they have no verdict and it is the set of their units' versions.
+pub fn held_without_verdict()
+    ensures { spelling.HeldWithoutVerdict }
+{}
+
 /// A file holds at most one set.
 pub fn held_is_one_set()
     ensures { spelling.HeldIsOneSet }
+{}
+
+/// The file that is written for a set of versions holds no other set.
+pub fn spelled_is_held()
+    ensures { spelling.SpelledIsHeld }
 {}
 
 /// Two sets make the same file in either order.
@@ -75,9 +92,9 @@ pub fn first_versions_stand_in_front()
     ensures { spelling.FirstVersionsStandInFront }
 {}
 
-/// What the calls of a sink append together is the file of what was put, or a front of it after a refusal.
-pub fn calls_are_spelled()
-    ensures { spelling.CallsAreSpelled }
+/// What the calls of a sink append together to an output is the file of what was put, or a front of it after a refusal.
+pub fn calls_are_spelled<W: Output>(_out: &W)
+    ensures { spelling.CallsAreSpelled W.holds }
 {}
 
 /// What a file spells is within the ranges of versions.
@@ -88,6 +105,11 @@ pub fn files_hold_versions()
 /// The members of the set that a file holds are within the ranges of versions.
 pub fn held_are_versions()
     ensures { spelling.HeldAreVersions }
+{}
+
+/// The union of two sets within the ranges of versions is within them.
+pub fn unions_are_versions()
+    ensures { spelling.UnionsAreVersions }
 {}
 
 /// What three files hold makes the same file whichever two were joined first and written, in any formats.

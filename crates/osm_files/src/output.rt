@@ -1,7 +1,7 @@
 //! Outputs: where the bytes of a file go.
-ghost use Rattle.std.specs.Prelude.{◌≡◌, ◌+◌, ◌<◌, ◌≤◌, ◌^◌, ◌⊎◌, ◌↔◌, ℕ, Bool, true, false, Option, Some, List, [], length, take, IfOk, IsOk, OnErr, Err};
+ghost use Rattle.std.specs.Prelude.{◌≡◌, ◌+◌, ◌<◌, ◌≤◌, ◌^◌, ◌⊎◌, ◌↔◌, ℕ, Bool, true, false, Some, List, [], length, take, IfOk, IsOk, OnErr, Err};
 ghost use Rattle.osm_files.specs.Fault.{too_long_fault, write_fault};
-ghost use Rattle.osm_files.specs.Output.{Appended, WriteFails, FlushFails, Writes, Collected};
+ghost use Rattle.osm_files.specs.Output.{Content, Appended, WriteFails, FlushFails, Writes, Collected};
 
 use crate::Reason;
 use crate::fault::{Fault, LENGTH_LIMIT};
@@ -14,8 +14,9 @@ use std::marker::Model;
 ///
 /// An output has failed once it answered an error, or took none of some bytes. It answers errors from then on.
 pub trait Output {
-    /// The bytes that it holds, where that is known.
-    ghost contents: { Self → Option (List ℕ) };
+    /// The bytes that it may hold. Of an output that tells its bytes these are the ones; what one that tells nothing holds is
+    /// known only by what it held before and was written since.
+    ghost holds: { Self → Content };
 
     /// Whether it has failed.
     ghost failed: { Self → Bool };
@@ -27,8 +28,8 @@ pub trait Output {
     /// `Broken` where the output fails or has failed, in which case no byte was taken.
     fn write(&mut self, bytes: &[u8]) -> Result<usize, Broken>
         ensures within { IfOk result (λ count. count ≤ length bytes.now) }
-        ensures taken { IfOk result (λ count. Appended (contents self.old) (contents self.new) (take count bytes.now)) }
-        ensures refused { OnErr result (Appended (contents self.old) (contents self.new) []) }
+        ensures taken { IfOk result (λ count. Appended (holds self.old) (holds self.new) (take count bytes.now)) }
+        ensures refused { OnErr result (Appended (holds self.old) (holds self.new) []) }
         ensures fails { WriteFails (failed self.old) bytes.now result (failed self.new) };
 
     /// Sees that the bytes taken so far reach the place that they are meant for.
@@ -37,11 +38,11 @@ pub trait Output {
     ///
     /// `Broken` where the output fails or has failed.
     fn flush(&mut self) -> Result<(), Broken>
-        ensures same { Appended (contents self.old) (contents self.new) [] }
+        ensures same { Appended (holds self.old) (holds self.new) [] }
         ensures fails { FlushFails (failed self.old) result (failed self.new) };
 }
 
-/// A writer of std as an output, which holds what the writer tells.
+/// A writer of std as an output, which holds what the writer tells that it holds.
 #[derive(Drop)]
 pub struct ToWrite<W: Write> {
     writer: W,
@@ -51,7 +52,7 @@ pub struct ToWrite<W: Write> {
 impl<W: Write + Drop> ToWrite<W> {
     /// An output that hands its bytes to the writer.
     pub fn new(writer: W) -> ToWrite<W>
-        ensures contents { ⟦<ToWrite<W> as Output>⟧.contents result ≡ W.contents writer }
+        ensures holds { (held : List ℕ) → ⟦<ToWrite<W> as Output>⟧.holds result held ↔ (W.contents writer ≡ Some held) }
         ensures good { ⟦<ToWrite<W> as Output>⟧.failed result ≡ false }
     {
         ToWrite {
@@ -62,7 +63,7 @@ impl<W: Write + Drop> ToWrite<W> {
 }
 
 impl<W: Write + Drop> Output for ToWrite<W> {
-    ghost contents = { λ s. W.contents s.writer };
+    ghost holds = { λ s held. W.contents s.writer ≡ Some held };
 
     ghost failed = { λ s. s.failed };
 
@@ -133,14 +134,14 @@ impl VecOut {
 }
 
 impl Output for VecOut {
-    ghost contents = { λ s. Some s.bytes };
+    ghost holds = { λ s held. s.bytes ≡ held };
 
     ghost failed = { λ s. s.failed };
 
     fn write(&mut self, bytes: &[u8]) -> Result<usize, Broken>
         ensures within { IfOk result (λ count. count ≤ length bytes.now) }
-        ensures taken { IfOk result (λ count. Appended (Some self.old.bytes) (Some self.new.bytes) (take count bytes.now)) }
-        ensures refused { OnErr result (Appended (Some self.old.bytes) (Some self.new.bytes) []) }
+        ensures taken { IfOk result (λ count. Appended (λ held. self.old.bytes ≡ held) (λ held. self.new.bytes ≡ held) (take count bytes.now)) }
+        ensures refused { OnErr result (Appended (λ held. self.old.bytes ≡ held) (λ held. self.new.bytes ≡ held) []) }
         ensures fails { WriteFails self.old.failed bytes.now result self.new.failed }
         ensures all { IfOk result (λ count. count ≡ length bytes.now) }
         ensures no_room { OnErr result ((self.old.failed ≡ true) ⊎ (self.old.capacity < length self.old.bytes + length bytes.now)) }
@@ -156,7 +157,7 @@ impl Output for VecOut {
     }
 
     fn flush(&mut self) -> Result<(), Broken>
-        ensures same { Appended (Some self.old.bytes) (Some self.new.bytes) [] }
+        ensures same { Appended (λ held. self.old.bytes ≡ held) (λ held. self.new.bytes ≡ held) [] }
         ensures fails { FlushFails self.old.failed result self.new.failed }
         ensures unchanged { self.new ≡ self.old }
         ensures only_failed { IsOk result ↔ (self.old.failed ≡ false) }
@@ -181,7 +182,7 @@ pub fn write_all<W: Output>(
 ) -> Result<(), Fault>
     requires some { 0 < length bytes.now }
     requires below { written < 2 ^ 62 }
-    ensures wrote { Writes number (W.contents out.old) (W.contents out.new) (W.failed out.new) written bytes.now result }
+    ensures wrote { Writes number (W.holds out.old) (W.holds out.new) (W.failed out.new) written bytes.now result }
     ensures untouched { result ≡ Err (too_long_fault number) → out.new ≡ out.old }
 {
     if bytes.len() as u64 >= LENGTH_LIMIT - written {
@@ -204,7 +205,7 @@ fn write_rest<W: Output>(
 ) -> Result<(), Fault>
     requires some { 0 < length bytes.now }
     requires short { written + length bytes.now < 2 ^ 62 }
-    ensures wrote { Writes number (W.contents out.old) (W.contents out.new) (W.failed out.new) written bytes.now result }
+    ensures wrote { Writes number (W.holds out.old) (W.holds out.new) (W.failed out.new) written bytes.now result }
 {
     let mut done = 0;
     'writes: while done < bytes.len() {

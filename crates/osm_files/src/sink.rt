@@ -128,7 +128,7 @@ impl Sink {
     /// refused. A sink of lines has nothing to write here, and leaves the output as it is.
     pub fn begin<W: Output>(&mut self, out: &mut W) -> Result<(), Fault>
         requires { self.old.begun ≡ false }
-        ensures calls { spec.Calls (spec.begins self.old) self.new spec.stays (W.contents out.old) (W.contents out.new) (W.failed out.new) (spelling.begun self.old.format) result }
+        ensures calls { spec.Calls (spec.begins self.old) self.new spec.stays (W.holds out.old) (W.holds out.new) (W.failed out.new) (spelling.begun self.old.format) result }
         ensures memory { result ≢ Err memory_fault }
         ensures lines { self.old.failed ≡ false → self.old.format ≡ format.Opl → (result ≡ Ok tt) × (out.new ≡ out.old) }
         ensures good { OnOk result (self.old.format ≢ format.Opl → W.failed out.new ≡ false) }
@@ -159,10 +159,11 @@ impl Sink {
     /// `Memory`, and `TooLong` where the file would come to have 2^62 bytes or more, in which cases nothing is written;
     /// `WriteFault` where the output fails, at the number of bytes that it took in all; `Failed` where an earlier call
     /// was refused.
+    #[inline(always)]
     pub fn put<W: Output>(&mut self, out: &mut W, v: &Version) -> Result<(), Fault>
         requires open { spec.IsOpen self.old }
         requires follows { spec.Takes v.now self.old }
-        ensures calls { spec.Calls self.old self.new (spec.puts v.now) (W.contents out.old) (W.contents out.new) (W.failed out.new) (spelling.spelled_in self.old.format self.old.encoder v.now) result }
+        ensures calls { spec.Calls self.old self.new (spec.puts v.now) (W.holds out.old) (W.holds out.new) (W.failed out.new) (spelling.spelled_in self.old.format self.old.encoder v.now) result }
         ensures good { OnOk result (W.failed out.new ≡ false) }
         ensures untouched { spec.IsBeforeWriting self.old.number result → out.new ≡ out.old }
     {
@@ -190,7 +191,7 @@ impl Sink {
     /// As for [`Sink::put`], but never `Memory`. A flush that fails is a `WriteFault` at the number of bytes written.
     pub fn end<W: Output>(&mut self, out: &mut W) -> Result<(), Fault>
         requires { spec.IsOpen self.old }
-        ensures calls { spec.Calls (spec.ends self.old) self.new spec.stays (W.contents out.old) (W.contents out.new) (W.failed out.new) (spelling.ended self.old.format) result }
+        ensures calls { spec.Calls (spec.ends self.old) self.new spec.stays (W.holds out.old) (W.holds out.new) (W.failed out.new) (spelling.ended self.old.format) result }
         ensures memory { result ≢ Err memory_fault }
         ensures good { OnOk result (W.failed out.new ≡ false) }
         ensures untouched { spec.IsBeforeWriting self.old.number result → out.new ≡ out.old }
@@ -214,7 +215,7 @@ impl Sink {
 fn send<W: Output>(out: &mut W, number: usize, written: &mut u64, bytes: &[u8]) -> Result<(), Fault>
     requires some { 0 < length bytes.now }
     requires below { written.old < 2 ^ 62 }
-    ensures sent { spec.Sends number (W.contents out.old) (W.contents out.new) (W.failed out.new) written.old bytes.now result }
+    ensures sent { spec.Sends number (W.holds out.old) (W.holds out.new) (W.failed out.new) written.old bytes.now result }
     ensures counted { OnOk result (written.new ≡ written.old + length bytes.now) }
     ensures uncounted { OnErr result (written.new ≡ written.old) }
     ensures good { OnOk result (W.failed out.new ≡ false) }
@@ -238,7 +239,7 @@ fn finish<W: Output>(
     format: Format,
 ) -> Result<(), Fault>
     requires { written.old < 2 ^ 62 }
-    ensures sent { spec.Sends number (W.contents out.old) (W.contents out.new) (W.failed out.new) written.old (spelling.ended format) result }
+    ensures sent { spec.Sends number (W.holds out.old) (W.holds out.new) (W.failed out.new) written.old (spelling.ended format) result }
     ensures counted { OnOk result (written.new ≡ written.old + length (spelling.ended format)) }
     ensures below { written.new < 2 ^ 62 }
     ensures good { OnOk result (W.failed out.new ≡ false) }
@@ -256,7 +257,7 @@ fn finish<W: Output>(
 
 /// Flushes the output, to which so many bytes were written.
 fn flush<W: Output>(out: &mut W, number: usize, written: u64) -> Result<(), Fault>
-    ensures same { Appended (W.contents out.old) (W.contents out.new) [] }
+    ensures same { Appended (W.holds out.old) (W.holds out.new) [] }
     ensures good { OnOk result (W.failed out.new ≡ false) }
     ensures failed { IfErr result (λ fault. (fault ≡ write_fault number written) × (W.failed out.new ≡ true)) }
 {
@@ -279,7 +280,7 @@ pub fn write_history<W: Output>(
     history: &History,
     out: &mut W,
 ) -> Result<(), Fault>
-    ensures written { spec.WritesFile number (W.contents out.old) (W.contents out.new) (W.failed out.new) (spelling.spell format history.now) result }
+    ensures written { spec.WritesFile number (W.holds out.old) (W.holds out.new) (W.failed out.new) (spelling.spell format history.now) result }
     ensures good { OnOk result (W.failed out.new ≡ false) }
 {
     let mut sink = match Sink::new(alloc, format, number) {

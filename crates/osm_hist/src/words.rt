@@ -2,6 +2,7 @@
 mod checking;
 mod command;
 mod files;
+mod planning;
 mod refusal;
 mod request;
 mod running;
@@ -16,7 +17,7 @@ use std::rt::Files;
 /// Runs one command and answers the exit status.
 ///
 /// `rt` is the runtime in whose folder the files of the words lie, and `words` are the words after the program's
-/// name. Without any words, `input` is merged to `out`. Help and what a check tells go to `out`, and the line of a refusal
+/// name. Without any words, `input` is merged to `out`. Help, what a check tells and what a plan's events get go to `out`, and the line of a refusal
 /// to `err`. The status is 0 for success and help, 1 where a file, memory or `out` fails, and 2 where the words are refused.
 pub fn run_words<R, S, I, O, E>(rt: &R, words: &[S], input: I, mut out: O, err: E) -> u8
 where
@@ -44,6 +45,7 @@ where
         Request::StandardInput => running::merge_standard_input(rt.alloc(), input, out),
         Request::Files(run) => running::run_files(rt, &run),
         Request::Check(check) => checking::check_file(rt, &check, out),
+        Request::Plan(run) => planning::run_plan(rt, &run, out),
         Request::Help(text) => print(out, &text),
     }
 }

@@ -95,7 +95,7 @@ module _ (selection : Selection) (list : List VersionData) (place : ℕ) (w : Ve
   choose_next held held2 before v chosen chosen2 i pass some is now more =
       rw (now, more) (next_passes before v chosen (subst (λ (h : Option ℕ). IsChoosing selection list place h chosen) some i) pass is)
 
-set_listed : (s : VersionSet) → from_list {R = version_cmp} (listed s) ≡ s
+pub set_listed : (s : VersionSet) → from_list {R = version_cmp} (listed s) ≡ s
 set_listed s = same_set version_cmp_total version_cmp-IsAntisymmetric (from_list (listed s)) s (λ v. contains-from_list version_cmp_total (listed s) v ∙ sym (contains-listed {R = version_cmp} s v))
 
 -- all versions were read

@@ -6,9 +6,11 @@ mod PassLaws
 mod ObjectLaws
 mod SelectedLaws
 mod Choosing
+mod NewestLaws
 mod State
 mod Settling
 mod MergeLaws
 pub mod UnionLaws
 mod Running
 pub mod SnapLaws
+pub mod UnionAllLaws

@@ -12,7 +12,7 @@ use Rattle.osm_model.specs.Sets.{size, from_list}
 use Rattle.osm_model.proofs.VersionLaws.{listed-view}
 use Rattle.osm_files.specs.declared.fault.Fault.{Fault}
 use Rattle.osm_files.specs.declared.format.Format.{Format}
-use Rattle.osm_files.specs.Output.{Appended}
+use Rattle.osm_files.specs.Output.{Content, Appended}
 use Rattle.osm_files.specs.Source.{Step, Ascends}
 use Rattle.osm_files.specs.Stream.{whole}
 use Rattle.osm_files.specs.Spell.{spelled_open, spell_list, spell}
@@ -46,12 +46,12 @@ pub record IsStanding (selection : Selection) (all : List Coming) (heads : List 
 
 -- Of sources that stood with these heads at first, so many versions were taken, those that pass were met, and what is put of
 -- these was put, in a file of this format to the output of this number. What rests on knowing what is to come is said under that.
-pub record IsRunning (selection : Selection) (heads0 : List (Option VersionData)) (told0 : List (Option Coming)) (format : Format) (number : ℕ) (before : Option (List ℕ))
-    (heads : List (Option VersionData)) (nodes : List ℕ) (told : List (Option Coming)) (sink : SinkState) (now : Option (List ℕ)) (last : Option VersionData) (read written compared : ℕ) : Type 0 where
+pub record IsRunning (selection : Selection) (heads0 : List (Option VersionData)) (told0 : List (Option Coming)) (format : Format) (number : ℕ) {O : Type 0} (holds : O → Content) (before : O)
+    (heads : List (Option VersionData)) (nodes : List ℕ) (told : List (Option Coming)) (sink : SinkState) (now : O) (last : Option VersionData) (read written compared : ℕ) : Type 0 where
   pub met : List VersionData
   pub top : Option VersionData
   pub taken : ℕ
-  pub has : HasPut format number (put_of selection met) before sink now
+  pub has : HasPut format number (put_of selection met) (holds before) sink (holds now)
   pub ends : Ends last met
   pub ascends : IsStrictlySortedBy version_cmp met
   pub tree : IsTree heads nodes 1 0
@@ -68,14 +68,14 @@ pub record IsRunning (selection : Selection) (heads0 : List (Option VersionData)
 none_met : (selection : Selection) (all : List Coming) → AllAscend all → IsMerging selection all all [] None None 0
 none_met selection all up = record { size = refl; ascends = nothing_ascends version_cmp; queues = up; came = λ i. ([], refl); refusals = λ i. refl; same = λ q. refl; ends = refl; floor = λ i. tt; under = tt; reached = tt; count = omega arith }
 
-pub run_start : (selection : Selection) (heads : List (Option VersionData)) (told : List (Option Coming)) (format : Format) (number : ℕ) (before : Option (List ℕ)) (nodes : List ℕ) (sink : SinkState) (now : Option (List ℕ)) (read written compared : ℕ)
-    → HasPut format number [] before sink now → IsTree heads nodes 1 0 → 0 < length heads → length told ≡ length heads → read ≡ 0 → written ≡ 0 → compared ≤ length heads - 1
-    → IsRunning selection heads told format number before heads nodes told sink now None read written compared
-run_start selection heads told format number before nodes sink now read written compared has tree some size none_read none_written few = record {
+pub run_start : (selection : Selection) (heads : List (Option VersionData)) (told : List (Option Coming)) (format : Format) (number : ℕ) {O : Type 0} (holds : O → Content) (before : O) (nodes : List ℕ) (sink : SinkState) (now : O) (read written compared : ℕ)
+    → HasPut format number [] (holds before) sink (holds now) → IsTree heads nodes 1 0 → 0 < length heads → length told ≡ length heads → read ≡ 0 → written ≡ 0 → compared ≤ length heads - 1
+    → IsRunning selection heads told format number holds before heads nodes told sink now None read written compared
+run_start selection heads told format number holds before nodes sink now read written compared has tree some size none_read none_written few = record {
   met = [];
   top = None;
   taken = 0;
-  has = subst (λ (vs : List VersionData). HasPut format number vs before sink now) (sym (put_nothing selection)) has;
+  has = subst (λ (vs : List VersionData). HasPut format number vs (holds before) sink (holds now)) (sym (put_nothing selection)) has;
   ends = refl;
   ascends = nothing_ascends version_cmp;
   tree = tree;
@@ -200,7 +200,7 @@ few_least selection t c f =
       | false ↦ λ f. omega arith
     ] f
 
-takes_each : (format : Format) (number : ℕ) (put : List VersionData) (before : Option (List ℕ)) (sink : SinkState) (now : Option (List ℕ)) → HasPut format number put before sink now → (versions : List VersionData) → AscendBehind put versions → TakesEach versions sink
+takes_each : (format : Format) (number : ℕ) (put : List VersionData) (before : Content) (sink : SinkState) (now : Content) → HasPut format number put before sink now → (versions : List VersionData) → AscendBehind put versions → TakesEach versions sink
 takes_each format number put before sink now has [] h = tt
 takes_each format number put before sink now has (v ∷ vs) h =
     ((λ going. subst (λ (s : SinkState). MayFollow v s.encoder) (sym has.state) (kinds_dont_fall format put [] v h.0)), takes_each format number put before sink now has vs h.1)
@@ -232,9 +232,9 @@ not_nothing [] v e = cc
 not_nothing (u ∷ us) v e = cc
 
 -- ---- one turn
-module _ {selection : Selection} {heads0 : List (Option VersionData)} {told0 : List (Option Coming)} {format : Format} {number : ℕ} {before : Option (List ℕ)}
-    {heads : List (Option VersionData)} {nodes : List ℕ} {told : List (Option Coming)} {sink : SinkState} {now : Option (List ℕ)} {last : Option VersionData} {read written compared : ℕ}
-    (r : IsRunning selection heads0 told0 format number before heads nodes told sink now last read written compared) (w : ℕ) (top : w ≡ get_or nodes 1 0) where
+module _ {selection : Selection} {heads0 : List (Option VersionData)} {told0 : List (Option Coming)} {format : Format} {number : ℕ} {O : Type 0} {holds : O → Content} {before : O}
+    {heads : List (Option VersionData)} {nodes : List ℕ} {told : List (Option Coming)} {sink : SinkState} {now : O} {last : Option VersionData} {read written compared : ℕ}
+    (r : IsRunning selection heads0 told0 format number holds before heads nodes told sink now last read written compared) (w : ℕ) (top : w ≡ get_or nodes 1 0) where
   pub inside : w < length heads
   inside = subst (λ q. q < length heads) (sym top) (r.tree.below 1 (omega arith) (let s = r.some in omega arith))
 
@@ -243,11 +243,11 @@ module _ {selection : Selection} {heads0 : List (Option VersionData)} {told0 : L
 
   pub takes : (v : VersionData) → is_met selection last v ≡ true → TakesEach (put_at selection last v) sink
   takes v is =
-      takes_each format number (put_of selection r.met) before sink now r.has (put_at selection last v)
+      takes_each format number (put_of selection r.met) (holds before) sink (holds now) r.has (put_at selection last v)
       (may_put selection last v r.met r.ends r.ascends (ascends_with last v r.met r.ends (met_is_new selection last v is) r.ascends))
 
   pub takes_last : TakesEach (put_at_end selection last) sink
-  takes_last = takes_each format number (put_of selection r.met) before sink now r.has (put_at_end selection last) (may_end selection last r.met r.ends r.ascends)
+  takes_last = takes_each format number (put_of selection r.met) (holds before) sink (holds now) r.has (put_at_end selection last) (may_end selection last r.met r.ends r.ascends)
 
   module _ (v : VersionData) (at_w : get_or heads w None ≡ Some v) where
     abbrev met2 : List VersionData
@@ -271,53 +271,53 @@ module _ {selection : Selection} {heads0 : List (Option VersionData)} {told0 : L
     ascends2 : IsStrictlySortedBy version_cmp put2
     ascends2 = put_ascends selection met2 (ascends_next selection last v r.met r.ends r.ascends)
 
-    has2 : (sink2 : SinkState) (now2 : Option (List ℕ)) (failed : Bool) → PutsMore (puts selection last v) sink sink2 now now2 failed (Ok tt) → HasPut format number put2 before sink2 now2
-    has2 sink2 now2 failed p = subst (λ (vs : List VersionData). HasPut format number vs before sink2 now2) next_is (p format number (put_of selection r.met) before r.has)
+    has2 : (sink2 : SinkState) (now2 : O) (failed : Bool) → PutsMore holds (puts selection last v) sink sink2 now now2 failed (Ok tt) → HasPut format number put2 (holds before) sink2 (holds now2)
+    has2 sink2 now2 failed p = subst (λ (vs : List VersionData). HasPut format number vs (holds before) sink2 (holds now2)) next_is (p format number (put_of selection r.met) before r.has)
 
-    cut2 : (sink2 : SinkState) (now2 : Option (List ℕ)) (failed : Bool) (fault : Fault) → PutsMore (puts selection last v) sink sink2 now now2 failed (Err fault) → CutShort number before now2 failed (spelled_open format put2) fault
-    cut2 sink2 now2 failed fault p = subst (λ (vs : List VersionData). CutShort number before now2 failed (spelled_open format vs) fault) next_is (p format number (put_of selection r.met) before r.has)
+    cut2 : (sink2 : SinkState) (now2 : O) (failed : Bool) (fault : Fault) → PutsMore holds (puts selection last v) sink sink2 now now2 failed (Err fault) → CutShort number (holds before) (holds now2) failed (spelled_open format put2) fault
+    cut2 sink2 now2 failed fault p = subst (λ (vs : List VersionData). CutShort number (holds before) (holds now2) failed (spelled_open format vs) fault) next_is (p format number (put_of selection r.met) before r.has)
 
     -- the sink refused a version
-    pub put_refused : (sink2 : SinkState) (now2 : Option (List ℕ)) (failed : Bool) (fault : Fault) → PutsMore (puts selection last v) sink sink2 now now2 failed (Err fault)
-        → (all : List Coming) → AllAscend all → AllStand all heads0 told0 → IsRefusedAs selection all format number before now2 failed fault
+    pub put_refused : (sink2 : SinkState) (now2 : O) (failed : Bool) (fault : Fault) → PutsMore holds (puts selection last v) sink sink2 now now2 failed (Err fault)
+        → (all : List Coming) → AllAscend all → AllStand all heads0 told0 → IsRefusedAs selection all format number (holds before) (holds now2) failed fault
     put_refused sink2 now2 failed fault p all up st =
-        inl (cut_in_file (selected selection (union_of all)) format number before now2 put2 failed fault (in_front all (r.standing all up st)) (cut2 sink2 now2 failed fault p))
+        inl (cut_in_file (selected selection (union_of all)) format number (holds before) (holds now2) put2 failed fault (in_front all (r.standing all up st)) (cut2 sink2 now2 failed fault p))
 
-    pub put_why : (sink2 : SinkState) (now2 : Option (List ℕ)) (failed : Bool) (fault : Fault) → PutsMore (puts selection last v) sink sink2 now now2 failed (Err fault)
+    pub put_why : (sink2 : SinkState) (now2 : O) (failed : Bool) (fault : Fault) → PutsMore holds (puts selection last v) sink sink2 now now2 failed (Err fault)
         → (first : List (Option Coming)) → WhyRefused first format number failed fault
-    put_why sink2 now2 failed fault p first = why_cut_open first format number before now2 failed fault put2 ascends2 (cut2 sink2 now2 failed fault p)
+    put_why sink2 now2 failed fault p first = why_cut_open first format number (holds before) (holds now2) failed fault put2 ascends2 (cut2 sink2 now2 failed fault p)
 
     pub next_why : (failed : Bool) (fault : Fault) (after : Option Coming) → Step {A = VersionData} (get_or told w None) (Err fault) after
         → (first : List (Option Coming)) → length first ≡ length heads0 → length heads0 ≡ length heads → AllFollow first heads0 told0 → WhyRefused first format number failed fault
     next_why failed fault after step first size0 size f =
-        why_source first format number before now failed fault
+        why_source first format number (holds before) (holds now) failed fault
         (elim (refusal_first (get_or first w None) (get_or told w None) (get_or heads w None) fault after (r.follow first f w) step) [
           | inl wanting ↦ inl wanting
           | inr is ↦ inr (w, (let i = inside in omega (arith, i, size0, size)), is)
         ])
 
-    pub put_kept : (sink2 : SinkState) (now2 : Option (List ℕ)) (failed : Bool) (fault : Fault) → PutsMore (puts selection last v) sink sink2 now now2 failed (Err fault) → Grows before now2
+    pub put_kept : (sink2 : SinkState) (now2 : O) (failed : Bool) (fault : Fault) → PutsMore holds (puts selection last v) sink sink2 now now2 failed (Err fault) → Grows (holds before) (holds now2)
     put_kept sink2 now2 failed fault p = let cut = cut2 sink2 now2 failed fault p in (take cut.count (spelled_open format put2), cut.appended)
 
-    pub next_kept : (sink2 : SinkState) (now2 : Option (List ℕ)) (failed : Bool) → PutsMore (puts selection last v) sink sink2 now now2 failed (Ok tt) → Grows before now2
+    pub next_kept : (sink2 : SinkState) (now2 : O) (failed : Bool) → PutsMore holds (puts selection last v) sink sink2 now now2 failed (Ok tt) → Grows (holds before) (holds now2)
     next_kept sink2 now2 failed p = let has = has2 sink2 now2 failed p in (spelled_open format put2, has.sent.appended)
 
     only_one : (vs : List VersionData) → first vs ≡ Some v → rest vs ≡ [] → vs ≡ v ∷ []
     only_one vs h k = split_first v vs h ∙ ap (λ t. v ∷ t) k
 
     -- the source of the version was refused, once the version was put
-    pub source_refused : (sink2 : SinkState) (now2 : Option (List ℕ)) (failed : Bool) (fault : Fault) (after : Option Coming) → PutsMore (puts selection last v) sink sink2 now now2 failed (Ok tt) → Step {A = VersionData} (get_or told w None) (Err fault) after
-        → (all : List Coming) → AllAscend all → AllStand all heads0 told0 → IsRefusedAs selection all format number before now2 failed fault
+    pub source_refused : (sink2 : SinkState) (now2 : O) (failed : Bool) (fault : Fault) (after : Option Coming) → PutsMore holds (puts selection last v) sink sink2 now now2 failed (Ok tt) → Step {A = VersionData} (get_or told w None) (Err fault) after
+        → (all : List Coming) → AllAscend all → AllStand all heads0 told0 → IsRefusedAs selection all format number (holds before) (holds now2) failed fault
     source_refused sink2 now2 failed fault after p step all up st =
         let s = r.standing all up st in
         let here : Coming = coming_at s.states w in
         let states2 : List Coming = without_head s.states w in
         let m = taken_head all s in
-        let sent : Appended before now2 (spelled_open format put2) = (has2 sink2 now2 failed p).sent.appended in
+        let sent : Appended (holds before) (holds now2) (spelled_open format put2) = (has2 sink2 now2 failed p).sent.appended in
         let less : w < length s.states = subst (λ n. w < n) (length_heads s.states heads s.stand.heads_are) inside in
         let tells : get_or told w None ≡ Some (behind_head here) = told_at told (map behind_head s.states) w s.stand.behind (let e = r.size in let i = inside in omega arith) ∙ ap Some (behind_at s.states w) in
         elim (told_refuses (behind_head here) fault after (subst (λ o. Step {A = VersionData} o (Err fault) after) tells step)) [
-          | inl wanting ↦ inl (subst (λ (f : Fault). CutShort number before now2 failed (spell format (selected selection (union_of all))) f) (sym wanting) (memory_refused (selected selection (union_of all)) format number before now2 put2 failed (in_front all s) sent))
+          | inl wanting ↦ inl (subst (λ (f : Fault). CutShort number (holds before) (holds now2) failed (spell format (selected selection (union_of all))) f) (sym wanting) (memory_refused (selected selection (union_of all)) format number (holds before) (holds now2) put2 failed (in_front all s) sent))
           | inr end ↦ (
               let list_is : (coming_at all w).list ≡ (s.merging.came w).0 ++ v ∷ [] =
               (s.merging.came w).1 ∙ ap (λ t. (s.merging.came w).0 ++ t) (only_one here.list (sym (head_at s.states heads w s.stand.heads_are) ∙ at_w) end.0) in
@@ -333,19 +333,19 @@ module _ {selection : Selection} {heads0 : List (Option VersionData)} {told0 : L
                 place = w;
                 within = subst (λ n. w < n) s.merging.size less;
                 refusal = s.merging.refusals w ∙ end.1;
-                appended = subst (Appended before now2) (sym bytes) sent;
+                appended = subst (Appended (holds before) (holds now2)) (sym bytes) sent;
               }))
         ]
 
     -- the loop goes on
-    pub run_more : (nodes2 : List ℕ) (sink2 : SinkState) (now2 : Option (List ℕ)) (failed2 : Bool) (last2 : Option VersionData) (given : Option VersionData) (after : Option Coming) (read2 written2 compared1 compared2 : ℕ)
-        → PutsMore (puts selection last v) sink sink2 now now2 failed2 (Ok tt) → last2 ≡ held_next selection last v → Step (get_or told w None) (Ok given) after
+    pub run_more : (nodes2 : List ℕ) (sink2 : SinkState) (now2 : O) (failed2 : Bool) (last2 : Option VersionData) (given : Option VersionData) (after : Option Coming) (read2 written2 compared1 compared2 : ℕ)
+        → PutsMore holds (puts selection last v) sink sink2 now now2 failed2 (Ok tt) → last2 ≡ held_next selection last v → Step (get_or told w None) (Ok given) after
         → IsTree (set heads w given) nodes2 1 0
         → read2 ≡ capped (read + 1)
         → ((put : List VersionData) → written ≡ capped (length put) → written2 ≡ capped (length (put ++ puts selection last v)))
         → compared1 ≤ compared + 1 → IfSome last (λ _. capped (compared + 1) ≤ compared1)
         → compared1 ≤ compared2 → ((depth : ℕ) → length (set heads w given) ≤ 2 ^ depth → compared2 ≤ compared1 + depth)
-        → IsRunning selection heads0 told0 format number before (set heads w given) nodes2 (set told w after) sink2 now2 last2 read2 written2 compared2
+        → IsRunning selection heads0 told0 format number holds before (set heads w given) nodes2 (set told w after) sink2 now2 last2 read2 written2 compared2
     run_more nodes2 sink2 now2 failed2 last2 given after read2 written2 compared1 compared2 p last_is step tree read_is writes most least grows replayed =
         let size : length (set heads w given) ≡ length heads = length-set heads w given in
         let sizes : length (set told w after) ≡ length told = length-set told w after in
@@ -387,11 +387,11 @@ pub record IsToldDone (selection : Selection) (all : List Coming) (put : List Ve
   pub bounded : IsBoundedFrom (few_of selection (length (versions_of all))) (length all) (length (versions_of all)) compared
 
 -- before the file is ended
-pub record IsDone (selection : Selection) (last : Option VersionData) (heads0 : List (Option VersionData)) (told0 : List (Option Coming)) (format : Format) (number : ℕ) (before : Option (List ℕ)) (sink : SinkState) (now : Option (List ℕ)) (counts : Counts) : Type 0 where
+pub record IsDone (selection : Selection) (last : Option VersionData) (heads0 : List (Option VersionData)) (told0 : List (Option Coming)) (format : Format) (number : ℕ) {O : Type 0} (holds : O → Content) (before : O) (sink : SinkState) (now : O) (counts : Counts) : Type 0 where
   pub so_far : List VersionData
   pub put : List VersionData
   pub put_is : so_far ++ put_at_end selection last ≡ put
-  pub has : HasPut format number so_far before sink now
+  pub has : HasPut format number so_far (holds before) sink (holds now)
   pub ascends : IsStrictlySortedBy version_cmp put
   pub written_is : counts.written ≡ capped (length so_far)
   pub told : (all : List Coming) → AllAscend all → AllStand all heads0 told0 → IsToldDone selection all put counts.read counts.compared
@@ -404,11 +404,11 @@ none_left heads nodes w t top at_w i =
       | inr more ↦ get_or_past heads i None more
     ]
 
-pub run_done : {selection : Selection} {heads0 : List (Option VersionData)} {told0 : List (Option Coming)} {format : Format} {number : ℕ} {before : Option (List ℕ)}
-    {heads : List (Option VersionData)} {nodes : List ℕ} {told : List (Option Coming)} {sink : SinkState} {now : Option (List ℕ)} {last : Option VersionData} (counts : Counts) (w : ℕ)
-    → IsRunning selection heads0 told0 format number before heads nodes told sink now last counts.read counts.written counts.compared
+pub run_done : {selection : Selection} {heads0 : List (Option VersionData)} {told0 : List (Option Coming)} {format : Format} {number : ℕ} {O : Type 0} {holds : O → Content} {before : O}
+    {heads : List (Option VersionData)} {nodes : List ℕ} {told : List (Option Coming)} {sink : SinkState} {now : O} {last : Option VersionData} (counts : Counts) (w : ℕ)
+    → IsRunning selection heads0 told0 format number holds before heads nodes told sink now last counts.read counts.written counts.compared
     → w ≡ get_or nodes 1 0 → get_or heads w None ≡ None
-    → IsDone selection last heads0 told0 format number before sink now counts
+    → IsDone selection last heads0 told0 format number holds before sink now counts
 run_done {selection = selection} {heads = heads} {nodes = nodes} {told = told} {last = last} counts w r top at_w =
     let none = none_left heads nodes w r.tree top at_w in
     record {
@@ -440,10 +440,10 @@ run_done {selection = selection} {heads = heads} {nodes = nodes} {told = told} {
     }
 
 -- of no sources
-pub none_done : (selection : Selection) (heads : List (Option VersionData)) (told : List (Option Coming)) (format : Format) (number : ℕ) (before : Option (List ℕ)) (sink : SinkState) (now : Option (List ℕ)) (counts : Counts)
-    → length heads ≡ 0 → HasPut format number [] before sink now → counts.read ≡ 0 → counts.written ≡ 0 → counts.compared ≤ length heads - 1
-    → IsDone selection None heads told format number before sink now counts
-none_done selection heads told format number before sink now counts empty has none_read none_written few = record {
+pub none_done : (selection : Selection) (heads : List (Option VersionData)) (told : List (Option Coming)) (format : Format) (number : ℕ) {O : Type 0} (holds : O → Content) (before : O) (sink : SinkState) (now : O) (counts : Counts)
+    → length heads ≡ 0 → HasPut format number [] (holds before) sink (holds now) → counts.read ≡ 0 → counts.written ≡ 0 → counts.compared ≤ length heads - 1
+    → IsDone selection None heads told format number holds before sink now counts
+none_done selection heads told format number holds before sink now counts empty has none_read none_written few = record {
   so_far = [];
   put = put_of selection [] ++ put_at_end selection None;
   put_is = ap (λ (vs : List VersionData). vs ++ put_at_end selection None) (sym (put_nothing selection));
@@ -463,8 +463,8 @@ none_done selection heads told format number before sink now counts empty has no
   each_whole = λ first f. all_whole first heads told f (λ i. get_or_past heads i None (omega arith));
 }
 
-module _ {selection : Selection} {last : Option VersionData} {heads0 : List (Option VersionData)} {told0 : List (Option Coming)} {format : Format} {number : ℕ} {before : Option (List ℕ)} {sink : SinkState} {now : Option (List ℕ)} {counts : Counts}
-    (d : IsDone selection last heads0 told0 format number before sink now counts) (after : Option (List ℕ)) (failed : Bool) where
+module _ {selection : Selection} {last : Option VersionData} {heads0 : List (Option VersionData)} {told0 : List (Option Coming)} {format : Format} {number : ℕ} {O : Type 0} {holds : O → Content} {before : O} {sink : SinkState} {now : O} {counts : Counts}
+    (d : IsDone selection last heads0 told0 format number holds before sink now counts) (after : O) (failed : Bool) where
   abbrev more : List VersionData
   more = put_at_end selection last
 
@@ -475,44 +475,44 @@ module _ {selection : Selection} {last : Option VersionData} {heads0 : List (Opt
       × IfOk result (λ done. (put : List VersionData) → counts.written ≡ capped (length put) → done.written ≡ capped (length (put ++ more)))
       × IfOk result (λ done. done.compared ≡ counts.compared)
 
-  pub end_merged : (result : Result Counts Fault) → EndsFile more sink now after failed result → Counted result
-      → IfOk result (λ done. (all : List Coming) → AllAscend all → AllStand all heads0 told0 → IsMergedAs selection all format before after done)
+  pub end_merged : (result : Result Counts Fault) → EndsFile holds more sink now after failed result → Counted result
+      → IfOk result (λ done. (all : List Coming) → AllAscend all → AllStand all heads0 told0 → IsMergedAs selection all format (holds before) (holds after) done)
   end_merged (Ok done) ends is = λ all up st.
       let t = d.told all up st in
       let sent = ends format number d.so_far before d.has in
       let all_is : d.so_far ++ more ≡ chosen selection all = d.put_is ∙ sym t.union_is in
       record {
         whole = t.ends_whole;
-        appended = subst (λ (vs : List VersionData). Appended before after (spell_list format vs)) all_is sent.appended;
+        appended = subst (λ (vs : List VersionData). Appended (holds before) (holds after) (spell_list format vs)) all_is sent.appended;
         read = is.0 ∙ t.read_is;
         written = is.1 d.so_far d.written_is ∙ ap (λ vs. capped (length vs)) all_is;
         compared = subst (λ (n : ℕ). IsBoundedFrom (few_of selection (length (versions_of all))) (length all) (length (versions_of all)) n) (sym is.2) t.bounded;
       }
   end_merged (Err fault) ends is = tt
 
-  pub end_refused : (result : Result Counts Fault) → EndsFile more sink now after failed result
-      → IfErr result (λ fault. (all : List Coming) → AllAscend all → AllStand all heads0 told0 → IsRefusedAs selection all format number before after failed fault)
+  pub end_refused : (result : Result Counts Fault) → EndsFile holds more sink now after failed result
+      → IfErr result (λ fault. (all : List Coming) → AllAscend all → AllStand all heads0 told0 → IsRefusedAs selection all format number (holds before) (holds after) failed fault)
   end_refused (Ok done) ends = tt
   end_refused (Err fault) ends = λ all up st.
-      inl (subst (λ (vs : List VersionData). CutShort number before after failed (spell_list format vs) fault) (d.put_is ∙ sym (d.told all up st).union_is) (ends format number d.so_far before d.has))
+      inl (subst (λ (vs : List VersionData). CutShort number (holds before) (holds after) failed (spell_list format vs) fault) (d.put_is ∙ sym (d.told all up st).union_is) (ends format number d.so_far before d.has))
 
-  pub end_kept : (result : Result Counts Fault) → EndsFile more sink now after failed result → Grows before after
+  pub end_kept : (result : Result Counts Fault) → EndsFile holds more sink now after failed result → Grows (holds before) (holds after)
   end_kept (Ok done) ends = (spell_list format (d.so_far ++ more), (ends format number d.so_far before d.has).appended)
   end_kept (Err fault) ends = let cut = ends format number d.so_far before d.has in (take cut.count (spell_list format (d.so_far ++ more)), cut.appended)
 
-  pub end_set : (result : Result Counts Fault) → EndsFile more sink now after failed result → Counted result → IfOk result (WritesSet format before after)
+  pub end_set : (result : Result Counts Fault) → EndsFile holds more sink now after failed result → Counted result → IfOk result (WritesSet format (holds before) (holds after))
   end_set (Ok done) ends is =
       let sent = ends format number d.so_far before d.has in
       record {
         set = from_list d.put;
-        appended = subst (λ (bytes : List ℕ). Appended before after bytes) (ap (spell_list format) d.put_is ∙ list_spelled format d.put d.ascends) sent.appended;
+        appended = subst (λ (bytes : List ℕ). Appended (holds before) (holds after) bytes) (ap (spell_list format) d.put_is ∙ list_spelled format d.put d.ascends) sent.appended;
         written = is.1 d.so_far d.written_is ∙ ap (λ vs. capped (length vs)) (d.put_is ∙ sym (listed-view d.put d.ascends));
       }
   end_set (Err fault) ends is = tt
 
-  pub end_why : (result : Result Counts Fault) → EndsFile more sink now after failed result → IfErr result (λ fault. (first : List (Option Coming)) → length first ≡ length heads0 → AllFollow first heads0 told0 → WhyRefused first format number failed fault)
+  pub end_why : (result : Result Counts Fault) → EndsFile holds more sink now after failed result → IfErr result (λ fault. (first : List (Option Coming)) → length first ≡ length heads0 → AllFollow first heads0 told0 → WhyRefused first format number failed fault)
   end_why (Ok done) ends = tt
-  end_why (Err fault) ends = λ first size f. why_cut_whole first format number before after failed fault d.put d.ascends (subst (λ (vs : List VersionData). CutShort number before after failed (spell_list format vs) fault) d.put_is (ends format number d.so_far before d.has))
+  end_why (Err fault) ends = λ first size f. why_cut_whole first format number (holds before) (holds after) failed fault d.put d.ascends (subst (λ (vs : List VersionData). CutShort number (holds before) (holds after) failed (spell_list format vs) fault) d.put_is (ends format number d.so_far before d.has))
 
   pub end_whole : (result : Result Counts Fault) → OnOk result ((first : List (Option Coming)) → AllFollow first heads0 told0 → All IsWhole first)
   end_whole (Ok done) = d.each_whole

@@ -19,7 +19,7 @@ use Rattle.osm_model.proofs.SetLaws.{strict-listed}
 use Rattle.osm_files.specs.declared.fault.Fault.{Fault}
 use Rattle.osm_files.specs.declared.format.Format.{Format}
 use Rattle.osm_files.specs.Fault.{memory_fault}
-use Rattle.osm_files.specs.Output.{Appended}
+use Rattle.osm_files.specs.Output.{Content, Appended}
 use Rattle.osm_files.specs.Spell.{ended, spelled_open, spell_list, spell}
 use Rattle.osm_files.specs.Sink.{CutShort}
 use Rattle.osm_files.proofs.SpellLaws.{first_in_front, list_spelled}
@@ -248,13 +248,13 @@ put_in_front selection all states met held (Some v) taken m =
     subst (λ (vs : List VersionData). InFront (put_of selection vs) (selected selection (union_of all))) (sym (met_up_to m v refl)) (up_to_in_front selection v all)
 
 -- ---- the file of the union
-module _ (set : VersionSet) (format : Format) (number : ℕ) (before after : Option (List ℕ)) where
+-- the rest of the file behind a front of the union
+file_split : (set : VersionSet) (format : Format) (put : List VersionData) → InFront put set → (more : List ℕ) × (spell format set ≡ spelled_open format put ++ more)
+file_split set format put front = let part = first_in_front format put (front.0) in (part.0, ap (spell_list format) (sym front.1) ∙ part.1)
+
+module _ (set : VersionSet) (format : Format) (number : ℕ) (before after : Content) where
   abbrev pub whole_file : List ℕ
   whole_file = spell format set
-
-  -- the rest of the file behind a front of the union
-  file_split : (put : List VersionData) → InFront put set → (more : List ℕ) × (whole_file ≡ spelled_open format put ++ more)
-  file_split put front = let part = first_in_front format put (front.0) in (part.0, ap (spell_list format) (sym front.1) ∙ part.1)
 
   -- calls that were cut short in a front of the union were cut short in its file
   pub cut_in_file : (put : List VersionData) (failed : Bool) (fault : Fault) → InFront put set → CutShort number before after failed (spelled_open format put) fault → CutShort number before after failed whole_file fault
@@ -272,7 +272,7 @@ module _ (set : VersionSet) (format : Format) (number : ℕ) (before after : Opt
   -- want of memory, where no call of the sink was cut short
   pub memory_refused : (put : List VersionData) (failed : Bool) → InFront put set → Appended before after (spelled_open format put) → CutShort number before after failed whole_file memory_fault
   memory_refused put failed front h =
-      let b = begun_at (spelled_open format put) (file_split put front) h in
+      let b = begun_at (spelled_open format put) (file_split set format put front) h in
       record { count = b.count; within = b.within; appended = b.appended; why = inl refl }
 
 all_up_to : (last : Option VersionData) (all : List Coming) → InFront (up_to last (union_list all)) (union_of all)
@@ -281,7 +281,7 @@ all_up_to (Some v) all = (above v (union_list all), sym (split_at v (union_list 
 
 so_far_split : (all : List Coming) (format : Format) (put : List VersionData) → InFront put (union_of all) → (more : List ℕ) × (spell format (union_of all) ≡ written_so_far format put ++ more)
 so_far_split all format [] front = (spell format (union_of all), refl)
-so_far_split all format (v ∷ vs) front = file_split (union_of all) format 0 None None (v ∷ vs) front
+so_far_split all format (v ∷ vs) front = file_split (union_of all) format (v ∷ vs) front
 
 -- what is written before a source's refusal stands in front of the file
 before_split : (selection : Selection) (all : List Coming) (format : Format) (last : Option VersionData) → (more : List ℕ) × (spell format (selected selection (union_of all)) ≡ written_before selection format last (union_list all) ++ more)
@@ -292,24 +292,23 @@ before_split NewestVisible all format None = (spell format (selected NewestVisib
 before_split (State t) all format None = (spell format (selected (State t) (union_of all)), refl)
 before_split (StateVisible t) all format None = (spell format (selected (StateVisible t) (union_of all)), refl)
 before_split (Between from to) all format None = (spell format (selected (Between from to) (union_of all)), refl)
-before_split Visible all format (Some v) = file_split (selected Visible (union_of all)) format 0 None None _ (up_to_in_front Visible v all)
-before_split Newest all format (Some v) = file_split (selected Newest (union_of all)) format 0 None None _ (up_to_in_front Newest v all)
-before_split NewestVisible all format (Some v) = file_split (selected NewestVisible (union_of all)) format 0 None None _ (up_to_in_front NewestVisible v all)
-before_split (State t) all format (Some v) = file_split (selected (State t) (union_of all)) format 0 None None _ (up_to_in_front (State t) v all)
-before_split (StateVisible t) all format (Some v) = file_split (selected (StateVisible t) (union_of all)) format 0 None None _ (up_to_in_front (StateVisible t) v all)
-before_split (Between from to) all format (Some v) = file_split (selected (Between from to) (union_of all)) format 0 None None _ (up_to_in_front (Between from to) v all)
+before_split Visible all format (Some v) = file_split (selected Visible (union_of all)) format _ (up_to_in_front Visible v all)
+before_split Newest all format (Some v) = file_split (selected Newest (union_of all)) format _ (up_to_in_front Newest v all)
+before_split NewestVisible all format (Some v) = file_split (selected NewestVisible (union_of all)) format _ (up_to_in_front NewestVisible v all)
+before_split (State t) all format (Some v) = file_split (selected (State t) (union_of all)) format _ (up_to_in_front (State t) v all)
+before_split (StateVisible t) all format (Some v) = file_split (selected (StateVisible t) (union_of all)) format _ (up_to_in_front (StateVisible t) v all)
+before_split (Between from to) all format (Some v) = file_split (selected (Between from to) (union_of all)) format _ (up_to_in_front (Between from to) v all)
 
 -- after any refusal a front of the file was appended
-pub begun_refused : (selection : Selection) (all : List Coming) (format : Format) (number : ℕ) (before after : Option (List ℕ)) (failed : Bool) (fault : Fault) → IsRefusedAs selection all format number before after failed fault → HasBegunIn (selected selection (union_of all)) format before after
+pub begun_refused : (selection : Selection) (all : List Coming) (format : Format) (number : ℕ) (before after : Content) (failed : Bool) (fault : Fault) → IsRefusedAs selection all format number before after failed fault → HasBegunIn (selected selection (union_of all)) format before after
 begun_refused selection all format number before after failed fault (inl cut) = record { count = cut.count; within = cut.within; appended = cut.appended }
 begun_refused selection all format number before after failed fault (inr source) =
     let last : Option VersionData = last_of (coming_at all source.place).list in
     begun_at (selected selection (union_of all)) format number before after (written_before selection format last (union_list all)) (before_split selection all format last) source.appended
 
 -- an output that nothing was written to
-pub nothing_appended : (held : Option (List ℕ)) → Appended held held []
-nothing_appended None = tt
-nothing_appended (Some bytes) = ap Some (sym (append-nil bytes))
+pub nothing_appended : (content : Content) → Appended content content []
+nothing_appended content held h = subst content (sym (append-nil held)) h
 
 before_nothing : (selection : Selection) (format : Format) (versions : List VersionData) → written_before selection format None versions ≡ []
 before_nothing All format versions = refl
@@ -321,7 +320,7 @@ before_nothing (StateVisible t) format versions = refl
 before_nothing (Between from to) format versions = refl
 
 -- where the first versions can't be had, nothing is written
-pub refused_at_first : (selection : Selection) (all : List Coming) (format : Format) (number : ℕ) (held : Option (List ℕ)) (failed : Bool) (fault : Fault) → IsFirstFault all fault → IsRefusedAs selection all format number held held failed fault
+pub refused_at_first : (selection : Selection) (all : List Coming) (format : Format) (number : ℕ) (held : Content) (failed : Bool) (fault : Fault) → IsFirstFault all fault → IsRefusedAs selection all format number held held failed fault
 refused_at_first selection all format number held failed fault (inl wanting) = inl (record { count = 0; within = omega arith; appended = nothing_appended held; why = inl wanting })
 refused_at_first selection all format number held failed fault (inr source) = inr (record {
   place = source.0;
@@ -341,7 +340,7 @@ open_of format put up =
     let low = w.1 in
     (w.0, omega (arith, length-append (spelled_open format put) (ended format), low))
 
-module _ (told : List (Option Coming)) (format : Format) (number : ℕ) (before after : Option (List ℕ)) (failed : Bool) (fault : Fault) where
+module _ (told : List (Option Coming)) (format : Format) (number : ℕ) (before after : Content) (failed : Bool) (fault : Fault) where
   why_cut : (bytes : List ℕ) → (set : VersionSet) × (length bytes ≤ length (spell format set)) → CutShort number before after failed bytes fault → WhyRefused told format number failed fault
   why_cut bytes w cut = elim cut.why [
     | inl wanting ↦ inl wanting

@@ -1,7 +1,9 @@
 -- Laws of the definitions: what stays of an object is decided by what stays of it in each part.
-use Rattle.std.specs.Prelude.{◌≡◌, ℕ, List, map}
-use Rattle.osm_model.specs.Sets.{union}
+use Rattle.std.specs.Prelude.{◌≡◌, ◌↔◌, ℕ, List, map}
+use Rattle.std.specs.List.{flat_map, All, Contains}
+use Rattle.osm_model.specs.Sets.{union, empty}
 use Rattle.osm_model.specs.VersionSet.{VersionSet}
+use Rattle.osm_files.specs.SpellLaws.{AreVersions}
 use Rattle.osm_merge.specs.Members.{union_all}
 use Rattle.osm_merge.specs.Selected.{snapshot, at}
 
@@ -24,3 +26,19 @@ StateOfUnion = (s t : VersionSet) (time : ℕ) → at (union s t) time ≡ snaps
 -- and so for any number of histories
 abbrev pub StateOfUnions : Type 0
 StateOfUnions = (sets : List VersionSet) (time : ℕ) → at (union_all sets) time ≡ snapshot (union_all (map (λ s. at s time) sets))
+
+-- the union of some sets changes neither with their order nor with how often each is among them
+abbrev pub UnionOfTheSame : Type 0
+UnionOfTheSame = (sets others : List VersionSet) → ((s : VersionSet) → Contains sets s ↔ Contains others s) → union_all sets ≡ union_all others
+
+-- nor with how they are grouped
+abbrev pub UnionOfGroups : Type 0
+UnionOfGroups = (groups : List (List VersionSet)) → union_all (map union_all groups) ≡ union_all (flat_map (λ group. group) groups)
+
+-- the empty set adds nothing
+abbrev pub UnionWithEmpty : Type 0
+UnionWithEmpty = (s : VersionSet) → union empty s ≡ s
+
+-- the union of sets that are within the ranges of versions is within them
+abbrev pub UnionStaysInRange : Type 0
+UnionStaysInRange = (sets : List VersionSet) → All AreVersions sets → AreVersions (union_all sets)

@@ -10,7 +10,7 @@ use Rattle.osm_model.specs.Sets.{listed, size}
 use Rattle.osm_files.specs.declared.fault.Fault.{Fault}
 use Rattle.osm_files.specs.declared.format.Format.{Format}
 use Rattle.osm_files.specs.Fault.{memory_fault, too_long_fault, write_fault}
-use Rattle.osm_files.specs.Output.{Appended}
+use Rattle.osm_files.specs.Output.{Content, Appended}
 use Rattle.osm_files.specs.Spell.{spelled_open, spell}
 use Rattle.osm_files.specs.Sink.{CutShort}
 use Rattle.osm_merge.specs.declared.merge.Counts.{Counts}
@@ -39,9 +39,9 @@ IsBounded sources given compared = IsBoundedFrom (given - 1) sources given compa
 abbrev pub few_of : Selection → ℕ → ℕ
 few_of selection given = if passes_all selection then given - 1 else 0
 
--- A merge of sources that give this, to an output with these bytes before and after: each is whole, and the file of what is
+-- A merge of sources that give this, to an output that held and holds this: each is whole, and the file of what is
 -- selected of the union was appended.
-pub record IsMergedAs (selection : Selection) (all : List Coming) (format : Format) (before after : Option (List ℕ)) (counts : Counts) : Type 0 where
+pub record IsMergedAs (selection : Selection) (all : List Coming) (format : Format) (before after : Content) (counts : Counts) : Type 0 where
   pub whole : list.All (λ c. c.refusal ≡ None) all
   pub appended : Appended before after (spell format (selected selection (union_of all)))
   pub read : counts.read ≡ capped (length (versions_of all))
@@ -49,11 +49,11 @@ pub record IsMergedAs (selection : Selection) (all : List Coming) (format : Form
   pub compared : IsBoundedFrom (few_of selection (length (versions_of all))) (length all) (length (versions_of all)) counts.compared
 
 -- the same, where all versions are selected: the file of the union was appended
-abbrev pub IsMerged : List Coming → Format → Option (List ℕ) → Option (List ℕ) → Counts → Type 0
+abbrev pub IsMerged : List Coming → Format → Content → Content → Counts → Type 0
 IsMerged = IsMergedAs All
 
 -- What was written is the one file of a set, with as many versions as were counted.
-pub record WritesSet (format : Format) (before after : Option (List ℕ)) (counts : Counts) : Type 0 where
+pub record WritesSet (format : Format) (before after : Content) (counts : Counts) : Type 0 where
   pub set : VersionSet
   pub appended : Appended before after (spell format set)
   pub written : counts.written ≡ capped (size set)
@@ -82,7 +82,7 @@ written_before selection format None versions = []
 written_before selection format (Some last) versions = spelled_open format (put_of selection (passing selection (up_to (Some last) versions)))
 
 -- The fault is that of a source, and all that the merge puts up to that source's last version was written.
-pub record IsSourceFaultAs (selection : Selection) (all : List Coming) (format : Format) (before after : Option (List ℕ)) (fault : Fault) : Type 0 where
+pub record IsSourceFaultAs (selection : Selection) (all : List Coming) (format : Format) (before after : Content) (fault : Fault) : Type 0 where
   pub place : ℕ
   pub within : place < length all
   pub refusal : (coming_at all place).refusal ≡ Some fault
@@ -90,12 +90,12 @@ pub record IsSourceFaultAs (selection : Selection) (all : List Coming) (format :
 
 -- Why a merge was refused: memory was refused, or the output failed, or the file of what is selected has 2^62 bytes or more, in
 -- each of which cases a front of that file was written; or a source is refused.
-abbrev pub IsRefusedAs : Selection → List Coming → Format → ℕ → Option (List ℕ) → Option (List ℕ) → Bool → Fault → Type 0
+abbrev pub IsRefusedAs : Selection → List Coming → Format → ℕ → Content → Content → Bool → Fault → Type 0
 IsRefusedAs selection all format output before after failed fault =
     CutShort output before after failed (spell format (selected selection (union_of all))) fault ⊎ IsSourceFaultAs selection all format before after fault
 
 -- the same, where all versions are selected
-abbrev pub IsRefused : List Coming → Format → ℕ → Option (List ℕ) → Option (List ℕ) → Bool → Fault → Type 0
+abbrev pub IsRefused : List Coming → Format → ℕ → Content → Content → Bool → Fault → Type 0
 IsRefused = IsRefusedAs All
 
 -- Why a merge was refused, whatever the sources tell: memory was refused, or the output failed, or the file of a set has
@@ -108,15 +108,15 @@ WhyRefused told format output failed fault =
     ⊎ IsFaultOfOne told fault
 
 -- the bytes from before are still held, and some more
-abbrev pub Grows : Option (List ℕ) → Option (List ℕ) → Type 0
+abbrev pub Grows : Content → Content → Type 0
 Grows before after = (bytes : List ℕ) × Appended before after bytes
 
 -- After any refusal a front of the file of a set was appended.
-pub record HasBegunIn (set : VersionSet) (format : Format) (before after : Option (List ℕ)) : Type 0 where
+pub record HasBegunIn (set : VersionSet) (format : Format) (before after : Content) : Type 0 where
   pub count : ℕ
   pub within : count ≤ length (spell format set)
   pub appended : Appended before after (take count (spell format set))
 
 -- of the union
-abbrev pub HasBegun : List Coming → Format → Option (List ℕ) → Option (List ℕ) → Type 0
+abbrev pub HasBegun : List Coming → Format → Content → Content → Type 0
 HasBegun all = HasBegunIn (union_of all)

@@ -1,9 +1,10 @@
 -- What calls of a sink make of the versions put so far.
-use Rattle.std.specs.Prelude.{◌≡◌, ℕ, Bool, List, ◌++◌, length, Option, Result}
+use Rattle.std.specs.Prelude.{◌≡◌, ℕ, Bool, List, ◌++◌, length, Result}
 use Rattle.std.specs.List.{AllByRecursion}
 use Rattle.osm_model.specs.Data.{VersionData}
 use Rattle.osm_files.specs.declared.fault.Fault.{Fault}
 use Rattle.osm_files.specs.declared.format.Format.{Format}
+use Rattle.osm_files.specs.Output.{Content}
 use Rattle.osm_files.specs.Spell.{spell_list}
 use Rattle.osm_files.specs.Sink.{SinkState, Takes, HasPut, WritesFile}
 use Rattle.osm_files.specs.SpellLaws.{Puts}
@@ -14,15 +15,17 @@ abbrev pub TakesEach : List VersionData → SinkState → Type 0
 TakesEach versions sink = AllByRecursion (λ v. Takes v sink) versions
 
 -- a sink that has put some versions puts these besides
-abbrev pub PutsMore : List VersionData → SinkState → SinkState → Option (List ℕ) → Option (List ℕ) → Bool → Result (Unit {0}) Fault → Type 0
-PutsMore more old new mid now failed result =
-    (format : Format) (number : ℕ) (put : List VersionData) (before : Option (List ℕ)) → HasPut format number put before old mid → Puts format number (put ++ more) before new now failed result
+abbrev pub PutsMore : {O : Type 0} → (O → Content) → List VersionData → SinkState → SinkState → O → O → Bool → Result (Unit {0}) Fault → Type 0
+PutsMore {O} holds more old new mid now failed result =
+    (format : Format) (number : ℕ) (put : List VersionData) (before : O) →
+    HasPut format number put (holds before) old (holds mid) → Puts format number (put ++ more) (holds before) new (holds now) failed result
 
 -- a count of the versions that were put counts these besides
 abbrev pub CountsMore : List VersionData → ℕ → ℕ → Type 0
 CountsMore more old new = (put : List VersionData) → old ≡ capped (length put) → new ≡ capped (length (put ++ more))
 
 -- the end of a file of some versions, and of these besides
-abbrev pub EndsFile : {A : Type 0} → List VersionData → SinkState → Option (List ℕ) → Option (List ℕ) → Bool → Result A Fault → Type 0
-EndsFile more old mid now failed result =
-    (format : Format) (number : ℕ) (put : List VersionData) (before : Option (List ℕ)) → HasPut format number put before old mid → WritesFile number before now failed (spell_list format (put ++ more)) result
+abbrev pub EndsFile : {A O : Type 0} → (O → Content) → List VersionData → SinkState → O → O → Bool → Result A Fault → Type 0
+EndsFile {O = O} holds more old mid now failed result =
+    (format : Format) (number : ℕ) (put : List VersionData) (before : O) →
+    HasPut format number put (holds before) old (holds mid) → WritesFile number (holds before) (holds now) failed (spell_list format (put ++ more)) result

@@ -1,5 +1,25 @@
-//! Laws of snapshots and states, each the contract of a function with an empty body. Nothing is run to use them.
-ghost use Rattle.osm_merge.specs.Laws.{SnapshotOfUnion, SnapshotOfUnions, SnapshotOfSnapshot, StateOfUnion, StateOfUnions};
+//! Laws of unions, snapshots and states, each the contract of a function with an empty body. Nothing is run to use them.
+ghost use Rattle.osm_merge.specs.Laws.{SnapshotOfUnion, SnapshotOfUnions, SnapshotOfSnapshot, StateOfUnion, StateOfUnions, UnionOfTheSame, UnionOfGroups, UnionWithEmpty, UnionStaysInRange};
+
+/// The union of some sets changes neither with their order nor with how often each is among them.
+pub fn union_of_the_same()
+    ensures { UnionOfTheSame }
+{}
+
+/// The union of some sets doesn't change with how they are grouped.
+pub fn union_of_groups()
+    ensures { UnionOfGroups }
+{}
+
+/// The empty set adds nothing to a union.
+pub fn union_with_empty()
+    ensures { UnionWithEmpty }
+{}
+
+/// The union of sets that are within the ranges of versions is within them.
+pub fn union_stays_in_range()
+    ensures { UnionStaysInRange }
+{}
 
 /// The snapshot of two histories joined is that of their snapshots joined.
 pub fn snapshot_of_union()

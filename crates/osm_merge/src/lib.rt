@@ -7,11 +7,13 @@ mod compare;
 mod heads;
 pub mod laws;
 mod merge;
+mod newest;
 mod selection;
 mod tree;
 
 pub use chosen::{at, between, snapshot, visible};
 pub use merge::{Counts, merge_into, merge_selected};
+pub use newest::into_snapshot;
 pub use selection::Selection;
 
 #[cfg(test)]

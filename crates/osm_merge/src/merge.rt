@@ -48,14 +48,14 @@ pub fn merge_into<S: Source + Drop, W: Output>(
 ) -> Result<Counts, Fault>
     requires { sink.old ≡ new_sink sink.old.format sink.old.number }
     // Where all sources tell what is to come.
-    ensures merged { IfOk result (λ counts. (all : List Coming) → AllTell (map S.still sources.items) all → IsMerged all sink.old.format (W.contents out.old) (W.contents out.new) counts) }
-    ensures refused { IfErr result (λ fault. (all : List Coming) → AllTell (map S.still sources.items) all → IsRefused all sink.old.format sink.old.number (W.contents out.old) (W.contents out.new) (W.failed out.new) fault) }
-    ensures begun { OnErr result ((all : List Coming) → AllTell (map S.still sources.items) all → HasBegun all sink.old.format (W.contents out.old) (W.contents out.new)) }
+    ensures merged { IfOk result (λ counts. (all : List Coming) → AllTell (map S.still sources.items) all → IsMerged all sink.old.format (W.holds out.old) (W.holds out.new) counts) }
+    ensures refused { IfErr result (λ fault. (all : List Coming) → AllTell (map S.still sources.items) all → IsRefused all sink.old.format sink.old.number (W.holds out.old) (W.holds out.new) (W.failed out.new) fault) }
+    ensures begun { OnErr result ((all : List Coming) → AllTell (map S.still sources.items) all → HasBegun all sink.old.format (W.holds out.old) (W.holds out.new)) }
     // Whatever they tell.
-    ensures file { IfOk result (WritesSet sink.old.format (W.contents out.old) (W.contents out.new)) }
+    ensures file { IfOk result (WritesSet sink.old.format (W.holds out.old) (W.holds out.new)) }
     ensures whole { OnOk result (All IsWhole (map S.still sources.items)) }
     ensures fault { IfErr result (WhyRefused (map S.still sources.items) sink.old.format sink.old.number (W.failed out.new)) }
-    ensures kept { Grows (W.contents out.old) (W.contents out.new) }
+    ensures kept { Grows (W.holds out.old) (W.holds out.new) }
     ensures good { OnOk result (W.failed out.new ≡ false) }
     ensures ended { OnOk result (sink.new.ended ≡ true) }
 {
@@ -80,14 +80,14 @@ pub fn merge_selected<S: Source + Drop, W: Output>(
 ) -> Result<Counts, Fault>
     requires { sink.old ≡ new_sink sink.old.format sink.old.number }
     // Where all sources tell what is to come.
-    ensures merged { IfOk result (λ counts. (all : List Coming) → AllTell (map S.still sources.items) all → IsMergedAs selection all sink.old.format (W.contents out.old) (W.contents out.new) counts) }
-    ensures refused { IfErr result (λ fault. (all : List Coming) → AllTell (map S.still sources.items) all → IsRefusedAs selection all sink.old.format sink.old.number (W.contents out.old) (W.contents out.new) (W.failed out.new) fault) }
-    ensures begun { OnErr result ((all : List Coming) → AllTell (map S.still sources.items) all → HasBegunIn (selected selection (union_of all)) sink.old.format (W.contents out.old) (W.contents out.new)) }
+    ensures merged { IfOk result (λ counts. (all : List Coming) → AllTell (map S.still sources.items) all → IsMergedAs selection all sink.old.format (W.holds out.old) (W.holds out.new) counts) }
+    ensures refused { IfErr result (λ fault. (all : List Coming) → AllTell (map S.still sources.items) all → IsRefusedAs selection all sink.old.format sink.old.number (W.holds out.old) (W.holds out.new) (W.failed out.new) fault) }
+    ensures begun { OnErr result ((all : List Coming) → AllTell (map S.still sources.items) all → HasBegunIn (selected selection (union_of all)) sink.old.format (W.holds out.old) (W.holds out.new)) }
     // Whatever they tell.
-    ensures file { IfOk result (WritesSet sink.old.format (W.contents out.old) (W.contents out.new)) }
+    ensures file { IfOk result (WritesSet sink.old.format (W.holds out.old) (W.holds out.new)) }
     ensures whole { OnOk result (All IsWhole (map S.still sources.items)) }
     ensures fault { IfErr result (WhyRefused (map S.still sources.items) sink.old.format sink.old.number (W.failed out.new)) }
-    ensures kept { Grows (W.contents out.old) (W.contents out.new) }
+    ensures kept { Grows (W.holds out.old) (W.holds out.new) }
     ensures good { OnOk result (W.failed out.new ≡ false) }
     ensures ended { OnOk result (sink.new.ended ≡ true) }
 {
@@ -119,12 +119,12 @@ fn write_union<S: Source, W: Output>(
     requires read { counts.read ≡ 0 }
     requires written { counts.written ≡ 0 }
     requires compared { counts.compared ≤ length heads.old - 1 }
-    ensures merged { IfOk result (λ counts. (all : List Coming) → AllAscend all → AllStand all heads.old (map S.still sources.old) → IsMergedAs selection all sink.old.format (W.contents out.old) (W.contents out.new) counts) }
-    ensures refused { IfErr result (λ fault. (all : List Coming) → AllAscend all → AllStand all heads.old (map S.still sources.old) → IsRefusedAs selection all sink.old.format sink.old.number (W.contents out.old) (W.contents out.new) (W.failed out.new) fault) }
-    ensures file { IfOk result (WritesSet sink.old.format (W.contents out.old) (W.contents out.new)) }
+    ensures merged { IfOk result (λ counts. (all : List Coming) → AllAscend all → AllStand all heads.old (map S.still sources.old) → IsMergedAs selection all sink.old.format (W.holds out.old) (W.holds out.new) counts) }
+    ensures refused { IfErr result (λ fault. (all : List Coming) → AllAscend all → AllStand all heads.old (map S.still sources.old) → IsRefusedAs selection all sink.old.format sink.old.number (W.holds out.old) (W.holds out.new) (W.failed out.new) fault) }
+    ensures file { IfOk result (WritesSet sink.old.format (W.holds out.old) (W.holds out.new)) }
     ensures whole { OnOk result ((told : List (Option Coming)) → AllFollow told heads.old (map S.still sources.old) → All IsWhole told) }
     ensures fault { IfErr result (λ fault. (told : List (Option Coming)) → length told ≡ length heads.old → AllFollow told heads.old (map S.still sources.old) → WhyRefused told sink.old.format sink.old.number (W.failed out.new) fault) }
-    ensures kept { Grows (W.contents out.old) (W.contents out.new) }
+    ensures kept { Grows (W.holds out.old) (W.holds out.new) }
     ensures good { OnOk result (W.failed out.new ≡ false) }
     ensures ended { OnOk result (sink.new.ended ≡ true) }
 {
@@ -175,7 +175,7 @@ fn meet<W: Output>(
 ) -> Result<(), Fault>
     requires open { IsOpen sink.old }
     requires takes { is_met selection last.old version ≡ true → TakesEach (put_at selection last.old version) sink.old }
-    ensures puts { PutsMore (puts selection last.old version) sink.old sink.new (W.contents out.old) (W.contents out.new) (W.failed out.new) result }
+    ensures puts { PutsMore W.holds (puts selection last.old version) sink.old sink.new out.old out.new (W.failed out.new) result }
     ensures last { OnOk result (last.new ≡ held_next selection last.old version) }
     ensures read { counts.new.read ≡ counts.old.read }
     ensures written { OnOk result (CountsMore (puts selection last.old version) counts.old.written counts.new.written) }
@@ -222,7 +222,7 @@ fn put_decided<W: Output>(
 ) -> Result<(), Fault>
     requires open { IsOpen sink.old }
     requires takes { TakesEach (put_at selection last.now version.now) sink.old }
-    ensures puts { PutsMore (put_at selection last.now version.now) sink.old sink.new (W.contents out.old) (W.contents out.new) (W.failed out.new) result }
+    ensures puts { PutsMore W.holds (put_at selection last.now version.now) sink.old sink.new out.old out.new (W.failed out.new) result }
     ensures read { counts.new.read ≡ counts.old.read }
     ensures written { OnOk result (CountsMore (put_at selection last.now version.now) counts.old.written counts.new.written) }
     ensures compared { counts.new.compared ≡ counts.old.compared }
@@ -247,7 +247,7 @@ fn put_if<W: Output>(
 ) -> Result<(), Fault>
     requires open { IsOpen sink.old }
     requires takes { TakesEach (only stays version.now) sink.old }
-    ensures puts { PutsMore (only stays version.now) sink.old sink.new (W.contents out.old) (W.contents out.new) (W.failed out.new) result }
+    ensures puts { PutsMore W.holds (only stays version.now) sink.old sink.new out.old out.new (W.failed out.new) result }
     ensures open { OnOk result (IsOpen sink.new) }
     ensures read { counts.new.read ≡ counts.old.read }
     ensures written { OnOk result (CountsMore (only stays version.now) counts.old.written counts.new.written) }
@@ -290,7 +290,7 @@ fn end_file<W: Output>(
     ensures read { IfOk result (λ done. done.read ≡ counts.read) }
     ensures written { IfOk result (λ done. CountsMore (put_at_end selection last.now) counts.written done.written) }
     ensures compared { IfOk result (λ done. done.compared ≡ counts.compared) }
-    ensures file { EndsFile (put_at_end selection last.now) sink.old (W.contents out.old) (W.contents out.new) (W.failed out.new) result }
+    ensures file { EndsFile W.holds (put_at_end selection last.now) sink.old out.old out.new (W.failed out.new) result }
     ensures good { OnOk result (W.failed out.new ≡ false) }
     ensures ended { OnOk result (sink.new.ended ≡ true) }
 {
@@ -313,7 +313,7 @@ fn put_last<W: Output>(
 ) -> Result<(), Fault>
     requires open { IsOpen sink.old }
     requires takes { TakesEach (put_at_end selection last.now) sink.old }
-    ensures puts { PutsMore (put_at_end selection last.now) sink.old sink.new (W.contents out.old) (W.contents out.new) (W.failed out.new) result }
+    ensures puts { PutsMore W.holds (put_at_end selection last.now) sink.old sink.new out.old out.new (W.failed out.new) result }
     ensures open { OnOk result (IsOpen sink.new) }
     ensures read { counts.new.read ≡ counts.old.read }
     ensures written { OnOk result (CountsMore (put_at_end selection last.now) counts.old.written counts.new.written) }

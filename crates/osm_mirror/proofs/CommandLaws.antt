@@ -8,6 +8,7 @@ use Rattle.opl_line.specs.Content.{Pairwise}
 use Rattle.osm_files.specs.declared.fault.Fault.{Fault}
 use Rattle.osm_files.specs.declared.format.Format.{Format}
 use Rattle.osm_files.specs.Input.{Coming}
+use Rattle.osm_files.specs.Output.{Content}
 use Rattle.osm_files.specs.Spell.{spell}
 use Rattle.osm_files.specs.Sink.{CutShort}
 use Rattle.osm_merge.specs.declared.merge.Counts.{Counts}
@@ -69,8 +70,8 @@ each_file [] h = All-nil IsFile
 each_file (t ∷ told) h = All-cons IsFile t told (All-first IsAccepted (unsorted t) (map unsorted told) h) (each_file told (All-others IsAccepted (unsorted t) (map unsorted told) h))
 
 -- ---- what the run answers
-module _ (selection : Selection) (format : Format) (before after : Option (List ℕ)) (all : List Coming) where
-  written_is : (counts : Counts) → IsRun selection (map any all) format before after counts → IsWritten (selected selection) all format before after (record { read = counts.read; written = counts.written; compared = 0 })
+module _ {O : Type 0} (holds : O → Content) (selection : Selection) (format : Format) (before after : O) (all : List Coming) where
+  written_is : (counts : Counts) → IsRun selection (map any all) format (holds before) (holds after) counts → IsWritten (selected selection) all format (holds before) (holds after) (record { read = counts.read; written = counts.written; compared = 0 })
   written_is counts r = record {
     held = r.held;
     files = are_files all r.held r.files;
@@ -80,7 +81,7 @@ module _ (selection : Selection) (format : Format) (before after : Option (List 
     compared_count = refl;
   }
 
-  not_written_is : (failed : Bool) (fault : Fault) → IsRefused selection (map any all) format before after failed fault → IsNotWritten (selected selection) all format before after failed fault
+  not_written_is : (failed : Bool) (fault : Fault) → IsRefused holds selection (map any all) format before after failed fault → IsNotWritten holds (selected selection) all format before after failed fault
   not_written_is failed fault (inl memory) = inl memory
   not_written_is failed fault (inr (inl (unread, same))) = inr (inl (subst (λ (t : List (Order × Option Coming)). IsUnread 0 t fault) (told_some all) unread, same))
   not_written_is failed fault (inr (inr (read, r))) =
@@ -88,21 +89,21 @@ module _ (selection : Selection) (format : Format) (before after : Option (List 
       inr (inr (
         held.0,
         held.1,
-        subst (λ (n : ℕ). CutShort n before after failed (spell format (selected selection (union_of held.0))) fault) (length-map all any)
-            (cut_is selection format before after failed (map any all) fault (inr (inr (read, r))) held.0 (as_any all held.0 held.1)),
+        subst (λ (n : ℕ). CutShort n (holds before) (holds after) failed (spell format (selected selection (union_of held.0))) fault) (length-map all any)
+            (cut_is holds selection format before after failed (map any all) fault (inr (inr (read, r))) held.0 (as_any all held.0 held.1)),
       ))
 
-module _ (selection : Selection) (format : Format) (before after : Option (List ℕ)) (failed : Bool) (asks : List (Order × Option Coming)) (told : List (Option Coming)) (are : asks ≡ map unsorted told) where
+module _ {O : Type 0} (holds : O → Content) (selection : Selection) (format : Format) (before after : O) (failed : Bool) (asks : List (Order × Option Coming)) (told : List (Option Coming)) (are : asks ≡ map unsorted told) where
   tells_any : (all : List Coming) → merge.Tell told all → Tell asks (map any all)
   tells_any all is = are ∙ ap (map unsorted) is ∙ told_any all
 
-  pub held_written : (counts : Counts) → ((inputs : List (Order × Coming)) → Tell asks inputs → IsRun selection inputs format before after counts)
-      → (all : List Coming) → merge.Tell told all → IsWritten (selected selection) all format before after (record { read = counts.read; written = counts.written; compared = 0 })
-  held_written counts h = λ all is. written_is selection format before after all counts (h (map any all) (tells_any all is))
+  pub held_written : (counts : Counts) → ((inputs : List (Order × Coming)) → Tell asks inputs → IsRun selection inputs format (holds before) (holds after) counts)
+      → (all : List Coming) → merge.Tell told all → IsWritten (selected selection) all format (holds before) (holds after) (record { read = counts.read; written = counts.written; compared = 0 })
+  held_written counts h = λ all is. written_is holds selection format before after all counts (h (map any all) (tells_any all is))
 
-  pub held_refused : (fault : Fault) → ((inputs : List (Order × Coming)) → Tell asks inputs → IsRefused selection inputs format before after failed fault)
-      → (all : List Coming) → merge.Tell told all → IsNotWritten (selected selection) all format before after failed fault
-  held_refused fault h = λ all is. not_written_is selection format before after all failed fault (h (map any all) (tells_any all is))
+  pub held_refused : (fault : Fault) → ((inputs : List (Order × Coming)) → Tell asks inputs → IsRefused holds selection inputs format before after failed fault)
+      → (all : List Coming) → merge.Tell told all → IsNotWritten holds (selected selection) all format before after failed fault
+  held_refused fault h = λ all is. not_written_is holds selection format before after all failed fault (h (map any all) (tells_any all is))
 
   pub held_why : (fault : Fault) → WhyRefused asks format failed fault → WhyNotWritten told format failed fault
   held_why fault h = subst (λ (t : List (Order × Option Coming)). WhyRefused t format failed fault) are h

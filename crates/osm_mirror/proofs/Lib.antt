@@ -4,3 +4,9 @@ mod RunLaws
 mod CommandLaws
 mod ObjectLaws
 mod CheckLaws
+mod FleetLaws
+mod AgreeLaws
+mod MirrorLaws
+mod PlanLineLaws
+mod PlanTextLaws
+mod MergesLaws

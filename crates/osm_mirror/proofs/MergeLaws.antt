@@ -19,7 +19,7 @@ use Rattle.osm_files.specs.declared.fault.Fault.{Fault}
 use Rattle.osm_files.specs.declared.format.Format.{Format}
 use Rattle.osm_files.specs.Fault.{memory_fault}
 use Rattle.osm_files.specs.Input.{Coming}
-use Rattle.osm_files.specs.Output.{Appended}
+use Rattle.osm_files.specs.Output.{Content, Appended}
 use Rattle.osm_files.specs.Held.{HoldsSorted}
 use Rattle.osm_files.specs.Spell.{spell}
 use Rattle.osm_files.specs.Sink.{CutShort}
@@ -108,7 +108,7 @@ so_many : (number : ℕ) (inputs : List Coming) → length (sources number input
 so_many number [] = refl
 so_many number (c ∷ inputs) = ap suc (so_many (number + 1) inputs)
 
-merged_files : (inputs : List Coming) (format : Format) (before after : Option (List ℕ)) (counts : Counts) → merge.IsMerged (sources 0 inputs) format before after counts → IsMerged inputs format before after counts
+merged_files : (inputs : List Coming) (format : Format) (before after : Content) (counts : Counts) → merge.IsMerged (sources 0 inputs) format before after counts → IsMerged inputs format before after counts
 merged_files inputs format before after counts m =
     let held : List VersionSet = map set_given (sources 0 inputs) in
     let same : merged.union_of (sources 0 inputs) ≡ union_of held = union_given (sources 0 inputs) in
@@ -131,7 +131,7 @@ sorted_sources number (c ∷ inputs) (s ∷ held) h =
     let others = sorted_sources (number + 1) inputs held h.1 in
     ((λ i. (ap set_given is ∙ sym (listed_members s)) i ∷ others.0 i), All-cons (λ s. s.refusal ≡ None) (sorted_source number c) (sources (number + 1) inputs) (ap (λ x. x.refusal) is) others.1)
 
-cut_files : (inputs : List Coming) (format : Format) (before after : Option (List ℕ)) (failed : Bool) (fault : Fault) → IsRefused inputs format before after failed fault → IsCutShort inputs format before after failed fault
+cut_files : (inputs : List Coming) (format : Format) (before after : Content) (failed : Bool) (fault : Fault) → IsRefused inputs format before after failed fault → IsCutShort inputs format before after failed fault
 cut_files inputs format before after failed fault (inl cut) = λ held h.
     subst (λ (s : VersionSet). CutShort (length inputs) before after failed (spell format s) fault) (union_given (sources 0 inputs) ∙ ap union_of (sorted_sources 0 inputs held h).0) cut
 cut_files inputs format before after failed fault (inr f) = λ held h.
@@ -177,7 +177,7 @@ opened_more f h items x ys y n is count opened =
     ∙ ap (sources_told 0) (sym (map-append h ys (y ∷ [])))
 
 -- ---- what the merge of the sources answers, said of the inputs
-module _ (told : List (Option Coming)) (stills : List (Option source.Coming)) (format given : Format) (before after : Option (List ℕ)) (failed : Bool) (opened : stills ≡ sources_told 0 told) (same : given ≡ format) where
+module _ (told : List (Option Coming)) (stills : List (Option source.Coming)) (format given : Format) (before after : Content) (failed : Bool) (opened : stills ≡ sources_told 0 told) (same : given ≡ format) where
   all_tell : (inputs : List Coming) → Tell told inputs → source.AllTell stills (sources 0 inputs)
   all_tell inputs is = opened ∙ sources_tell told inputs is
 
@@ -218,10 +218,9 @@ module _ (told : List (Option Coming)) (stills : List (Option source.Coming)) (f
   run_sorted (Ok counts) h = each_sorted 0 told (subst (λ (t : List (Option source.Coming)). All merge.IsWhole t) opened h)
   run_sorted (Err fault) h = tt
 
-at_first : (held : Option (List ℕ)) → Appended held held []
-at_first None = tt
-at_first (Some bytes) = ap Some (sym (append-nil bytes))
+at_first : (content : Content) → Appended content content []
+at_first content held h = subst content (sym (append-nil held)) h
 
 -- want of memory before anything was written
-pub cut_at_once : (output : ℕ) (held : Option (List ℕ)) (failed : Bool) (bytes : List ℕ) (fault : Fault) → fault ≡ memory_fault → CutShort output held held failed bytes fault
-cut_at_once output held failed bytes fault memory = record { count = 0; within = omega arith; appended = at_first held; why = inl memory }
+pub cut_at_once : (output : ℕ) (content : Content) (failed : Bool) (bytes : List ℕ) (fault : Fault) → fault ≡ memory_fault → CutShort output content content failed bytes fault
+cut_at_once output content failed bytes fault memory = record { count = 0; within = omega arith; appended = at_first content; why = inl memory }

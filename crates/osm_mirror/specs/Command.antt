@@ -7,7 +7,7 @@ use Rattle.osm_files.specs.declared.fault.Fault.{Fault}
 use Rattle.osm_files.specs.declared.format.Format.{Format}
 use Rattle.osm_files.specs.Fault.{memory_fault}
 use Rattle.osm_files.specs.Input.{Coming}
-use Rattle.osm_files.specs.Output.{Appended}
+use Rattle.osm_files.specs.Output.{Content, Appended}
 use Rattle.osm_files.specs.Spell.{spell}
 use Rattle.osm_files.specs.Sink.{CutShort}
 use Rattle.osm_merge.specs.declared.merge.Counts.{Counts}
@@ -20,9 +20,9 @@ use Rattle.osm_mirror.specs.Merge.{union_of}
 use Rattle.osm_mirror.specs.Given.{GivesFile, IsUnread}
 use Rattle.osm_mirror.specs.Run.{WhyRefused}
 
--- A command over these inputs, to an output with these bytes before and after: each input gave a file, and the one spelling of
+-- A command over these inputs, to an output that held and holds this: each input gave a file, and the one spelling of
 -- what was chosen of the union of the sets that they hold was appended.
-pub record IsWritten (choice : VersionSet → VersionSet) (inputs : List Coming) (format : Format) (before after : Option (List ℕ)) (counts : Counts) : Type 0 where
+pub record IsWritten (choice : VersionSet → VersionSet) (inputs : List Coming) (format : Format) (before after : Content) (counts : Counts) : Type 0 where
   pub held : List VersionSet
   pub files : Pairwise GivesFile inputs held
   pub written : Appended before after (spell format (choice (union_of held)))
@@ -41,11 +41,11 @@ unsorted told = (Any, told)
 -- Why a command was refused: memory was refused before anything was written; or an input can't be read, and nothing was written;
 -- or all inputs are files, and a front of the one spelling of what was chosen of the union of the sets that they hold was
 -- appended: as many bytes as the place says, where the output failed.
-abbrev pub IsNotWritten : (VersionSet → VersionSet) → List Coming → Format → Option (List ℕ) → Option (List ℕ) → Bool → Fault → Type 0
-IsNotWritten choice inputs format before after failed fault =
+abbrev pub IsNotWritten : {O : Type 0} → (O → Content) → (VersionSet → VersionSet) → List Coming → Format → O → O → Bool → Fault → Type 0
+IsNotWritten holds choice inputs format before after failed fault =
     ((fault ≡ memory_fault) × (after ≡ before))
     ⊎ (IsUnread 0 (map (λ c. unsorted (Some c)) inputs) fault × (after ≡ before))
-    ⊎ ((held : List VersionSet) × Pairwise GivesFile inputs held × CutShort (length inputs) before after failed (spell format (choice (union_of held))) fault)
+    ⊎ ((held : List VersionSet) × Pairwise GivesFile inputs held × CutShort (length inputs) (holds before) (holds after) failed (spell format (choice (union_of held))) fault)
 
 -- Why a command was refused, whatever the inputs tell: memory was refused, the output failed, the file would be too long, or an
 -- input can't be read.

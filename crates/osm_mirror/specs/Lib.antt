@@ -4,3 +4,11 @@ pub mod Still
 pub mod Run
 pub mod Command
 pub mod Check
+pub mod Mirror
+pub mod Fleet
+pub mod FleetLaws
+pub mod PlanFault
+pub mod PlanLine
+pub mod Plan
+pub mod PlanLaws
+pub mod Merges

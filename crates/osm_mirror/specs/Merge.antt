@@ -6,7 +6,7 @@ use Rattle.opl_line.specs.Content.{Pairwise}
 use Rattle.osm_files.specs.declared.fault.Fault.{Fault}
 use Rattle.osm_files.specs.declared.format.Format.{Format}
 use Rattle.osm_files.specs.Input.{Coming}
-use Rattle.osm_files.specs.Output.{Appended}
+use Rattle.osm_files.specs.Output.{Content, Appended}
 use Rattle.osm_files.specs.Held.{HoldsSorted}
 use Rattle.osm_files.specs.Spell.{spell}
 use Rattle.osm_files.specs.Sink.{CutShort}
@@ -33,9 +33,9 @@ IsSorted told = IfSome told (λ input. (held : VersionSet) × GivesSorted input 
 abbrev pub union_of : List VersionSet → VersionSet
 union_of = fold union empty
 
--- A merge of these inputs, in this format, to an output with these bytes before and after: each input gave a sorted file,
+-- A merge of these inputs, in this format, to an output that held and holds this: each input gave a sorted file,
 -- and the one spelling of the union of the sets that they hold was appended.
-pub record IsMerged (inputs : List Coming) (format : Format) (before after : Option (List ℕ)) (counts : Counts) : Type 0 where
+pub record IsMerged (inputs : List Coming) (format : Format) (before after : Content) (counts : Counts) : Type 0 where
   pub held : List VersionSet
   pub sorted_files : Pairwise GivesSorted inputs held
   pub written : Appended before after (spell format (union_of held))
@@ -55,12 +55,12 @@ sources_told number (told ∷ others) = option_map (sorted_source number) told �
 
 -- Why a merge was refused: memory was refused, the output failed, or the file would be too long, with a front of the file
 -- appended; or it is the refusal of an input, and what stands before it was written.
-abbrev pub IsRefused : List Coming → Format → Option (List ℕ) → Option (List ℕ) → Bool → Fault → Type 0
+abbrev pub IsRefused : List Coming → Format → Content → Content → Bool → Fault → Type 0
 IsRefused inputs format before after failed fault = merged.IsRefused (sources 0 inputs) format (length inputs) before after failed fault
 
 -- Of sorted files no input is refused, and a front of the one spelling of the union of the sets that they hold was
 -- appended: as many bytes as the place says, where the output failed.
-abbrev pub IsCutShort : List Coming → Format → Option (List ℕ) → Option (List ℕ) → Bool → Fault → Type 0
+abbrev pub IsCutShort : List Coming → Format → Content → Content → Bool → Fault → Type 0
 IsCutShort inputs format before after failed fault =
     (held : List VersionSet) → Pairwise GivesSorted inputs held → CutShort (length inputs) before after failed (spell format (union_of held)) fault
 

@@ -8,7 +8,7 @@ use Rattle.osm_files.specs.declared.fault.Fault.{Fault}
 use Rattle.osm_files.specs.declared.format.Format.{Format}
 use Rattle.osm_files.specs.Fault.{memory_fault}
 use Rattle.osm_files.specs.Input.{Coming}
-use Rattle.osm_files.specs.Output.{Appended}
+use Rattle.osm_files.specs.Output.{Content, Appended}
 use Rattle.osm_files.specs.Spell.{spell}
 use Rattle.osm_files.specs.Sink.{CutShort}
 use Rattle.osm_merge.specs.declared.merge.Counts.{Counts}
@@ -20,9 +20,9 @@ use Rattle.osm_mirror.specs.declared.input.Order.{Order}
 use Rattle.osm_mirror.specs.Merge.{union_of}
 use Rattle.osm_mirror.specs.Given.{GivesAs, telling, sources, sources_told, IsRead, IsUnread}
 
--- A run over these inputs, to an output with these bytes before and after: each input gave a file of its order, and the one
+-- A run over these inputs, to an output that held and holds this: each input gave a file of its order, and the one
 -- spelling of what is selected of the union of the sets that they hold was appended.
-pub record IsRun (selection : Selection) (inputs : List (Order × Coming)) (format : Format) (before after : Option (List ℕ)) (counts : Counts) : Type 0 where
+pub record IsRun (selection : Selection) (inputs : List (Order × Coming)) (format : Format) (before after : Content) (counts : Counts) : Type 0 where
   pub held : List VersionSet
   pub files : Pairwise GivesAs inputs held
   pub written : Appended before after (spell format (selected selection (union_of held)))
@@ -31,16 +31,16 @@ pub record IsRun (selection : Selection) (inputs : List (Order × Coming)) (form
   pub compared_count : merged.IsBoundedFrom (merged.few_of selection (sum_by size held)) (length inputs) (sum_by size held) counts.compared
 
 -- Why a run was refused: memory was refused before anything was written; or an input of any order can't be read, and nothing
--- was written; or all of those were read, and then the merge was refused.
-abbrev pub IsRefused : Selection → List (Order × Coming) → Format → Option (List ℕ) → Option (List ℕ) → Bool → Fault → Type 0
-IsRefused selection inputs format before after failed fault =
+-- was written; or all of those were read, and then the merge was refused. Where nothing was written, the output is as it was.
+abbrev pub IsRefused : {O : Type 0} → (O → Content) → Selection → List (Order × Coming) → Format → O → O → Bool → Fault → Type 0
+IsRefused holds selection inputs format before after failed fault =
     ((fault ≡ memory_fault) × (after ≡ before))
     ⊎ (IsUnread 0 (map telling inputs) fault × (after ≡ before))
-    ⊎ (list.All IsRead inputs × merged.IsRefusedAs selection (sources 0 inputs) format (length inputs) before after failed fault)
+    ⊎ (list.All IsRead inputs × merged.IsRefusedAs selection (sources 0 inputs) format (length inputs) (holds before) (holds after) failed fault)
 
 -- Of files of the order that was asked for no input is refused, and a front of the one spelling of what is selected of the
 -- union of the sets that they hold was appended: as many bytes as the place says, where the output failed.
-abbrev pub IsCutShort : Selection → List (Order × Coming) → Format → Option (List ℕ) → Option (List ℕ) → Bool → Fault → Type 0
+abbrev pub IsCutShort : Selection → List (Order × Coming) → Format → Content → Content → Bool → Fault → Type 0
 IsCutShort selection inputs format before after failed fault =
     (held : List VersionSet) → Pairwise GivesAs inputs held → CutShort (length inputs) before after failed (spell format (selected selection (union_of held))) fault
 

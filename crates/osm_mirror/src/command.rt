@@ -32,13 +32,13 @@ pub fn run_sort<R: Input + Drop, W: Output>(
     out: &mut W,
 ) -> Result<Counts, Fault>
     // Where all inputs tell their bytes.
-    ensures written { IfOk result (λ counts. (all : List Coming) → Tell (map R.coming inputs.items) all → IsWritten (λ set. set) all format (W.contents out.old) (W.contents out.new) counts) }
-    ensures refused { IfErr result (λ fault. (all : List Coming) → Tell (map R.coming inputs.items) all → IsNotWritten (λ set. set) all format (W.contents out.old) (W.contents out.new) (W.failed out.new) fault) }
+    ensures written { IfOk result (λ counts. (all : List Coming) → Tell (map R.coming inputs.items) all → IsWritten (λ set. set) all format (W.holds out.old) (W.holds out.new) counts) }
+    ensures refused { IfErr result (λ fault. (all : List Coming) → Tell (map R.coming inputs.items) all → IsNotWritten W.holds (λ set. set) all format out.old out.new (W.failed out.new) fault) }
     // Whatever they tell.
     ensures why { IfErr result (WhyNotWritten (map R.coming inputs.items) format (W.failed out.new)) }
     ensures accepted { OnOk result (All IsFile (map R.coming inputs.items)) }
-    ensures file { IfOk result (WritesSet format (W.contents out.old) (W.contents out.new)) }
-    ensures kept { Grows (W.contents out.old) (W.contents out.new) }
+    ensures file { IfOk result (WritesSet format (W.holds out.old) (W.holds out.new)) }
+    ensures kept { Grows (W.holds out.old) (W.holds out.new) }
     ensures good { OnOk result (W.failed out.new ≡ false) }
 {
     run_held(alloc, Selection::All, inputs, format, out)
@@ -63,13 +63,13 @@ pub fn run_apply<R: Input + Drop, W: Output>(
     out: &mut W,
 ) -> Result<Counts, Fault>
     // Where all inputs tell their bytes.
-    ensures written { IfOk result (λ counts. (all : List Coming) → Tell (map R.coming inputs.items) all → IsWritten (applied with_history) all format (W.contents out.old) (W.contents out.new) counts) }
-    ensures refused { IfErr result (λ fault. (all : List Coming) → Tell (map R.coming inputs.items) all → IsNotWritten (applied with_history) all format (W.contents out.old) (W.contents out.new) (W.failed out.new) fault) }
+    ensures written { IfOk result (λ counts. (all : List Coming) → Tell (map R.coming inputs.items) all → IsWritten (applied with_history) all format (W.holds out.old) (W.holds out.new) counts) }
+    ensures refused { IfErr result (λ fault. (all : List Coming) → Tell (map R.coming inputs.items) all → IsNotWritten W.holds (applied with_history) all format out.old out.new (W.failed out.new) fault) }
     // Whatever they tell.
     ensures why { IfErr result (WhyNotWritten (map R.coming inputs.items) format (W.failed out.new)) }
     ensures accepted { OnOk result (All IsFile (map R.coming inputs.items)) }
-    ensures file { IfOk result (WritesSet format (W.contents out.old) (W.contents out.new)) }
-    ensures kept { Grows (W.contents out.old) (W.contents out.new) }
+    ensures file { IfOk result (WritesSet format (W.holds out.old) (W.holds out.new)) }
+    ensures kept { Grows (W.holds out.old) (W.holds out.new) }
     ensures good { OnOk result (W.failed out.new ≡ false) }
 {
     if with_history {
@@ -97,13 +97,13 @@ pub fn run_time_filter<R: Input + Drop, W: Output>(
     out: &mut W,
 ) -> Result<Counts, Fault>
     // Where the input tells its bytes.
-    ensures written { IfOk result (λ counts. (c : Coming) → R.coming input ≡ Some c → IsWritten (λ set. visible (at set time)) (c ∷ []) format (W.contents out.old) (W.contents out.new) counts) }
-    ensures refused { IfErr result (λ fault. (c : Coming) → R.coming input ≡ Some c → IsNotWritten (λ set. visible (at set time)) (c ∷ []) format (W.contents out.old) (W.contents out.new) (W.failed out.new) fault) }
+    ensures written { IfOk result (λ counts. (c : Coming) → R.coming input ≡ Some c → IsWritten (λ set. visible (at set time)) (c ∷ []) format (W.holds out.old) (W.holds out.new) counts) }
+    ensures refused { IfErr result (λ fault. (c : Coming) → R.coming input ≡ Some c → IsNotWritten W.holds (λ set. visible (at set time)) (c ∷ []) format out.old out.new (W.failed out.new) fault) }
     // Whatever it tells.
     ensures why { IfErr result (WhyNotWritten (R.coming input ∷ []) format (W.failed out.new)) }
     ensures accepted { OnOk result (All IsFile (R.coming input ∷ [])) }
-    ensures file { IfOk result (WritesSet format (W.contents out.old) (W.contents out.new)) }
-    ensures kept { Grows (W.contents out.old) (W.contents out.new) }
+    ensures file { IfOk result (WritesSet format (W.holds out.old) (W.holds out.new)) }
+    ensures kept { Grows (W.holds out.old) (W.holds out.new) }
     ensures good { OnOk result (W.failed out.new ≡ false) }
 {
     run_one(alloc, Selection::StateVisible(time), input, format, out)
@@ -128,13 +128,13 @@ pub fn run_period_filter<R: Input + Drop, W: Output>(
     out: &mut W,
 ) -> Result<Counts, Fault>
     // Where the input tells its bytes.
-    ensures written { IfOk result (λ counts. (c : Coming) → R.coming input ≡ Some c → IsWritten (λ set. between set from to) (c ∷ []) format (W.contents out.old) (W.contents out.new) counts) }
-    ensures refused { IfErr result (λ fault. (c : Coming) → R.coming input ≡ Some c → IsNotWritten (λ set. between set from to) (c ∷ []) format (W.contents out.old) (W.contents out.new) (W.failed out.new) fault) }
+    ensures written { IfOk result (λ counts. (c : Coming) → R.coming input ≡ Some c → IsWritten (λ set. between set from to) (c ∷ []) format (W.holds out.old) (W.holds out.new) counts) }
+    ensures refused { IfErr result (λ fault. (c : Coming) → R.coming input ≡ Some c → IsNotWritten W.holds (λ set. between set from to) (c ∷ []) format out.old out.new (W.failed out.new) fault) }
     // Whatever it tells.
     ensures why { IfErr result (WhyNotWritten (R.coming input ∷ []) format (W.failed out.new)) }
     ensures accepted { OnOk result (All IsFile (R.coming input ∷ [])) }
-    ensures file { IfOk result (WritesSet format (W.contents out.old) (W.contents out.new)) }
-    ensures kept { Grows (W.contents out.old) (W.contents out.new) }
+    ensures file { IfOk result (WritesSet format (W.holds out.old) (W.holds out.new)) }
+    ensures kept { Grows (W.holds out.old) (W.holds out.new) }
     ensures good { OnOk result (W.failed out.new ≡ false) }
 {
     run_one(alloc, Selection::Between { from, to }, input, format, out)
@@ -149,13 +149,13 @@ fn run_one<R: Input + Drop, W: Output>(
     out: &mut W,
 ) -> Result<Counts, Fault>
     // Where the input tells its bytes.
-    ensures written { IfOk result (λ counts. (c : Coming) → R.coming input ≡ Some c → IsWritten (selected selection) (c ∷ []) format (W.contents out.old) (W.contents out.new) counts) }
-    ensures refused { IfErr result (λ fault. (c : Coming) → R.coming input ≡ Some c → IsNotWritten (selected selection) (c ∷ []) format (W.contents out.old) (W.contents out.new) (W.failed out.new) fault) }
+    ensures written { IfOk result (λ counts. (c : Coming) → R.coming input ≡ Some c → IsWritten (selected selection) (c ∷ []) format (W.holds out.old) (W.holds out.new) counts) }
+    ensures refused { IfErr result (λ fault. (c : Coming) → R.coming input ≡ Some c → IsNotWritten W.holds (selected selection) (c ∷ []) format out.old out.new (W.failed out.new) fault) }
     // Whatever it tells.
     ensures why { IfErr result (WhyNotWritten (R.coming input ∷ []) format (W.failed out.new)) }
     ensures accepted { OnOk result (All IsFile (R.coming input ∷ [])) }
-    ensures file { IfOk result (WritesSet format (W.contents out.old) (W.contents out.new)) }
-    ensures kept { Grows (W.contents out.old) (W.contents out.new) }
+    ensures file { IfOk result (WritesSet format (W.holds out.old) (W.holds out.new)) }
+    ensures kept { Grows (W.holds out.old) (W.holds out.new) }
     ensures good { OnOk result (W.failed out.new ≡ false) }
 {
     let mut inputs = Vec::new(alloc);
@@ -172,13 +172,13 @@ fn run_held<R: Input + Drop, W: Output>(
     out: &mut W,
 ) -> Result<Counts, Fault>
     // Where all inputs tell their bytes.
-    ensures written { IfOk result (λ counts. (all : List Coming) → Tell (map R.coming inputs.items) all → IsWritten (selected selection) all format (W.contents out.old) (W.contents out.new) counts) }
-    ensures refused { IfErr result (λ fault. (all : List Coming) → Tell (map R.coming inputs.items) all → IsNotWritten (selected selection) all format (W.contents out.old) (W.contents out.new) (W.failed out.new) fault) }
+    ensures written { IfOk result (λ counts. (all : List Coming) → Tell (map R.coming inputs.items) all → IsWritten (selected selection) all format (W.holds out.old) (W.holds out.new) counts) }
+    ensures refused { IfErr result (λ fault. (all : List Coming) → Tell (map R.coming inputs.items) all → IsNotWritten W.holds (selected selection) all format out.old out.new (W.failed out.new) fault) }
     // Whatever they tell.
     ensures why { IfErr result (WhyNotWritten (map R.coming inputs.items) format (W.failed out.new)) }
     ensures accepted { OnOk result (All IsFile (map R.coming inputs.items)) }
-    ensures file { IfOk result (WritesSet format (W.contents out.old) (W.contents out.new)) }
-    ensures kept { Grows (W.contents out.old) (W.contents out.new) }
+    ensures file { IfOk result (WritesSet format (W.holds out.old) (W.holds out.new)) }
+    ensures kept { Grows (W.holds out.old) (W.holds out.new) }
     ensures good { OnOk result (W.failed out.new ≡ false) }
 {
     let files = of_any_order(alloc, inputs)?;

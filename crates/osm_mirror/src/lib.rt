@@ -1,19 +1,35 @@
-//! The runs over whole files of OpenStreetMap histories.
+//! The runs over whole files of OpenStreetMap histories, and mirrors that take and pass such files.
 #![tactic(auto)]
 
 mod check;
 mod command;
+mod event;
+mod fleet;
 mod input;
+mod keep;
+pub mod laws;
 mod merge;
+mod mirror;
 mod moment;
+mod plan;
+mod plan_fault;
+pub mod plan_laws;
+mod plan_line;
 mod run;
 mod source;
 
 pub use check::{CheckReport, run_check, run_check_sorted};
 pub use command::{run_apply, run_period_filter, run_sort, run_time_filter};
+pub use event::{Event, Reply};
+pub use fleet::Fleet;
 pub use input::{InputFile, Order};
+pub use keep::{Keep, Taken};
 pub use merge::run_merge;
+pub use mirror::Mirror;
 pub use moment::read_moment;
+pub use plan::{Plan, read_plan};
+pub use plan_fault::{PlanFault, PlanReason};
+pub use plan_line::{PlanWrite, Step};
 pub use run::run_selected;
 
 #[cfg(test)]

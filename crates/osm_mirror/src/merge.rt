@@ -30,14 +30,14 @@ pub fn run_merge<R: Input + Drop, W: Output>(
     out: &mut W,
 ) -> Result<Counts, Fault>
     // Where all inputs tell their bytes.
-    ensures merged { IfOk result (λ counts. (all : List Coming) → Tell (map R.coming inputs.items) all → IsMerged all format (W.contents out.old) (W.contents out.new) counts) }
-    ensures refused { IfErr result (λ fault. (all : List Coming) → Tell (map R.coming inputs.items) all → IsRefused all format (W.contents out.old) (W.contents out.new) (W.failed out.new) fault) }
-    ensures cut { IfErr result (λ fault. (all : List Coming) → Tell (map R.coming inputs.items) all → IsCutShort all format (W.contents out.old) (W.contents out.new) (W.failed out.new) fault) }
+    ensures merged { IfOk result (λ counts. (all : List Coming) → Tell (map R.coming inputs.items) all → IsMerged all format (W.holds out.old) (W.holds out.new) counts) }
+    ensures refused { IfErr result (λ fault. (all : List Coming) → Tell (map R.coming inputs.items) all → IsRefused all format (W.holds out.old) (W.holds out.new) (W.failed out.new) fault) }
+    ensures cut { IfErr result (λ fault. (all : List Coming) → Tell (map R.coming inputs.items) all → IsCutShort all format (W.holds out.old) (W.holds out.new) (W.failed out.new) fault) }
     // Whatever they tell.
     ensures why { IfErr result (WhyRefused (map R.coming inputs.items) format (W.failed out.new)) }
     ensures sorted { OnOk result (All IsSorted (map R.coming inputs.items)) }
-    ensures file { IfOk result (WritesSet format (W.contents out.old) (W.contents out.new)) }
-    ensures kept { Grows (W.contents out.old) (W.contents out.new) }
+    ensures file { IfOk result (WritesSet format (W.holds out.old) (W.holds out.new)) }
+    ensures kept { Grows (W.holds out.old) (W.holds out.new) }
     ensures good { OnOk result (W.failed out.new ≡ false) }
 {
     let output = inputs.len();

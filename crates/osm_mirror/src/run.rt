@@ -32,14 +32,14 @@ pub fn run_selected<R: Input + Drop, W: Output>(
     out: &mut W,
 ) -> Result<Counts, Fault>
     // Where all inputs tell their bytes.
-    ensures written { IfOk result (λ counts. (all : List (Order × Coming)) → Tell (map (λ f. (f.order, R.coming f.reader)) inputs.items) all → IsRun selection all format (W.contents out.old) (W.contents out.new) counts) }
-    ensures refused { IfErr result (λ fault. (all : List (Order × Coming)) → Tell (map (λ f. (f.order, R.coming f.reader)) inputs.items) all → IsRefused selection all format (W.contents out.old) (W.contents out.new) (W.failed out.new) fault) }
-    ensures cut { IfErr result (λ fault. (all : List (Order × Coming)) → Tell (map (λ f. (f.order, R.coming f.reader)) inputs.items) all → IsCutShort selection all format (W.contents out.old) (W.contents out.new) (W.failed out.new) fault) }
+    ensures written { IfOk result (λ counts. (all : List (Order × Coming)) → Tell (map (λ f. (f.order, R.coming f.reader)) inputs.items) all → IsRun selection all format (W.holds out.old) (W.holds out.new) counts) }
+    ensures refused { IfErr result (λ fault. (all : List (Order × Coming)) → Tell (map (λ f. (f.order, R.coming f.reader)) inputs.items) all → IsRefused W.holds selection all format out.old out.new (W.failed out.new) fault) }
+    ensures cut { IfErr result (λ fault. (all : List (Order × Coming)) → Tell (map (λ f. (f.order, R.coming f.reader)) inputs.items) all → IsCutShort selection all format (W.holds out.old) (W.holds out.new) (W.failed out.new) fault) }
     // Whatever they tell.
     ensures why { IfErr result (WhyRefused (map (λ f. (f.order, R.coming f.reader)) inputs.items) format (W.failed out.new)) }
     ensures accepted { OnOk result (All IsAccepted (map (λ f. (f.order, R.coming f.reader)) inputs.items)) }
-    ensures file { IfOk result (WritesSet format (W.contents out.old) (W.contents out.new)) }
-    ensures kept { Grows (W.contents out.old) (W.contents out.new) }
+    ensures file { IfOk result (WritesSet format (W.holds out.old) (W.holds out.new)) }
+    ensures kept { Grows (W.holds out.old) (W.holds out.new) }
     ensures good { OnOk result (W.failed out.new ≡ false) }
 {
     let output = inputs.len();

@@ -8,13 +8,24 @@ use std::alloc::AllocError;
 use std::test::Fail;
 
 #[test]
-fn names_and_text(rt: HostRuntime) -> Result<(), Fail> {
-    assert_eq!(rt; Format::Opl.name(), "opl");
-    assert_eq!(rt; Format::O5m.name(), "o5m");
-    assert_eq!(rt; Format::O5c.name(), "o5c");
+fn formats_have_their_names(rt: HostRuntime) {
+    for (format, name) in [
+        (Format::Opl, "opl"),
+        (Format::O5m, "o5m"),
+        (Format::O5c, "o5c"),
+    ] {
+        assert_eq!(rt; format.name(), name);
+    }
+}
+
+#[test]
+fn reasons_have_their_names(rt: HostRuntime) {
     assert_eq!(rt; Reason::Unsorted.name(), "Unsorted");
     assert_eq!(rt; Reason::O5(O5Reason::MixedSegment).name(), "MixedSegment");
-    assert_eq!(rt; Fault::from(AllocError), Fault::memory());
+}
+
+#[test]
+fn fault_is_said_with_its_place(rt: HostRuntime) -> Result<(), Fail> {
     let fault = Fault {
         input: 1,
         place: 4,
@@ -23,6 +34,11 @@ fn names_and_text(rt: HostRuntime) -> Result<(), Fail> {
     let text = format!(in rt.alloc(); "{fault}")?;
     assert_eq!(rt; text.as_str(), "file 1, byte 4: NoLocation");
     Ok(())
+}
+
+#[test]
+fn want_of_memory_is_a_fault_without_a_place(rt: HostRuntime) {
+    assert!(rt; Fault::from(AllocError) == Fault::memory());
 }
 
 #[test]

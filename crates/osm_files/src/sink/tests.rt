@@ -170,38 +170,48 @@ fn flush_that_fails_is_a_write_fault(rt: HostRuntime) -> Result<(), Fail> {
     Ok(())
 }
 
-#[test]
-fn calls_write_at_once(rt: HostRuntime) -> Result<(), Fail> {
-    let version = read_line(rt.alloc(), b"n1 v2 dD")?.expect(&rt, "a version");
-    let mut out = VecOut::new(rt.alloc());
-    let mut sink = Sink::new(rt.alloc(), Format::Opl, 0)?;
+/// What the calls of a sink write of one version.
+fn put_alone(alloc: Global, version: &Version) -> Result<Vec<u8>, Fault> {
+    let mut out = VecOut::new(alloc);
+    let mut sink = Sink::new(alloc, Format::Opl, 0)?;
     sink.begin(&mut out)?;
-    sink.put(&mut out, &version)?;
+    sink.put(&mut out, version)?;
     sink.end(&mut out)?;
-    assert_eq!(rt;
-        out.into_vec().as_slice(),
-        b"n1 v2 dD c0 t i0 u T x y\n".as_slice()
-    );
-    Ok(())
+    Ok(out.into_vec())
 }
 
 #[test]
-fn refused_sink_answers_failed(rt: HostRuntime) -> Result<(), Fail> {
+fn calls_write_at_once(rt: HostRuntime) -> Result<(), Fail> {
     let version = read_line(rt.alloc(), b"n1 v2 dD")?.expect(&rt, "a version");
-    let mut taken = Vec::new(rt.alloc());
+    let written = put_alone(rt.alloc(), &version)?;
+    assert!(rt; written.as_slice() == b"n1 v2 dD c0 t i0 u T x y\n".as_slice());
+    Ok(())
+}
+
+/// What a sink answers to a version that doesn't fit on its device, and then to its end; and what the device took.
+fn put_on_a_full_device(
+    alloc: Global,
+    version: &Version,
+) -> Result<([Result<(), Fault>; 2], Vec<u8>), Fault> {
+    let mut taken = Vec::new(alloc);
     let mut out = ToWrite::new(Device {
         taken: &mut taken,
         room: 9,
         full: Full::TakesNothing,
         flushes: true,
     });
-    let mut sink = Sink::new(rt.alloc(), Format::O5c, 2)?;
+    let mut sink = Sink::new(alloc, Format::O5c, 2)?;
     sink.begin(&mut out)?;
-    let Err(fault) = sink.put(&mut out, &version) else {
-        panic!(rt; "a full device took a version");
-    };
-    assert_eq!(rt; Err(fault), write_fault(9));
-    assert_eq!(rt; sink.end(&mut out), Err(Fault::failed(2)));
-    assert_eq!(rt; taken.as_slice(), b"\xff\xe0\x04o5c2\x10\x03".as_slice());
+    let put = sink.put(&mut out, version);
+    let end = sink.end(&mut out);
+    Ok(([put, end], taken))
+}
+
+#[test]
+fn refused_sink_answers_failed(rt: HostRuntime) -> Result<(), Fail> {
+    let version = read_line(rt.alloc(), b"n1 v2 dD")?.expect(&rt, "a version");
+    let (answers, taken) = put_on_a_full_device(rt.alloc(), &version)?;
+    assert!(rt; answers == [write_fault(9), Err(Fault::failed(2))]);
+    assert!(rt; taken.as_slice() == b"\xff\xe0\x04o5c2\x10\x03".as_slice());
     Ok(())
 }

@@ -10,6 +10,12 @@ const MEMORY: &str =
     "A sorted file is read one version at a time. A file that isn't sorted is held in memory, and so is a \
     pipe, which can't be read twice.";
 
+/// What the help of `plan` says of the lines of a plan.
+const PLAN: &str =
+    "PLAN is a text of lines. The lines `full` and `latest` stand first, one for each mirror, numbered from 0; \
+    then `take M FILE`, `pass M N FORMAT` and `restart M FORMAT`; then `write M FORMAT FILE`. For example, two mirrors of which \
+    one takes a file and passes it on:\n\nlatest\nfull\ntake 0 a.opl\npass 0 1 o5c\nwrite 1 opl x.opl";
+
 /// The command that reads the words.
 pub(super) fn command<'a>(alloc: Global) -> Result<Command<'a>, AllocError> {
     Command::new(alloc, "osm_hist")
@@ -22,7 +28,8 @@ pub(super) fn command<'a>(alloc: Global) -> Result<Command<'a>, AllocError> {
         .subcommand(apply_command(alloc)?)?
         .subcommand(time_filter_command(alloc)?)?
         .subcommand(sort_command(alloc)?)?
-        .subcommand(check_command(alloc)?)
+        .subcommand(check_command(alloc)?)?
+        .subcommand(plan_command(alloc)?)
 }
 
 fn merge_command<'a>(alloc: Global) -> Result<Command<'a>, AllocError> {
@@ -90,6 +97,20 @@ fn check_command<'a>(alloc: Global) -> Result<Command<'a>, AllocError> {
         .about("Prints a file's format, its versions and objects, and whether it is sorted")
         .after_help(MEMORY)
         .arg(file)
+}
+
+fn plan_command<'a>(alloc: Global) -> Result<Command<'a>, AllocError> {
+    let plan = Arg::new(alloc, "plan")
+        .value_name("PLAN")
+        .required(true)
+        .action(ArgAction::Set)
+        .help("The file of the plan");
+    Command::new(alloc, "plan")
+        .about(
+            "Runs a plan: mirrors take files and pass them on, and what they hold in the end is written",
+        )
+        .after_help(PLAN)
+        .arg(plan)
 }
 
 /// A command of this name that writes a file.

@@ -2,8 +2,9 @@
 use super::refusal::Refusal;
 use osm_files::{FromRead, ToWrite};
 use std::alloc::{AllocError, Global};
+use std::fs;
 use std::fs::{File, OpenFile};
-use std::io::{BufReader, BufWriter, Read, Write};
+use std::io::{BufReader, BufWriter, ErrorKind, Read, Write};
 use std::rt::Files;
 
 /// The bytes of the buffer before each file.
@@ -33,6 +34,50 @@ pub(super) fn open_all<'a, R: Files + AllocGlobal>(
         files.push(open(rt, *name)?)?;
     }
     Ok(files)
+}
+
+/// The bytes of the file of this name.
+pub(super) fn read<'a, R: Files + AllocGlobal>(
+    rt: &R,
+    name: &'a str,
+) -> Result<Vec<u8>, Refusal<'a>> {
+    match fs::read(rt, name) {
+        Ok(bytes) => Ok(bytes),
+        Err(error) if error.kind() == ErrorKind::OutOfMemory => Err(Refusal::Memory),
+        Err(_) => Err(Refusal::CannotRead { name }),
+    }
+}
+
+/// OUT.part, made empty.
+pub(super) fn create<'a, R: Files>(
+    rt: &R,
+    output: &'a str,
+    part: &str,
+) -> Result<R::File, Refusal<'a>> {
+    match File::create(rt, part) {
+        Ok(file) => Ok(file),
+        Err(_) => Err(Refusal::CannotCreate { output }),
+    }
+}
+
+/// Renames OUT.part to OUT.
+pub(super) fn rename<'a, R: Files>(rt: &R, part: &str, output: &'a str) -> Result<(), Refusal<'a>> {
+    match fs::rename(rt, part, output) {
+        Ok(()) => Ok(()),
+        Err(_) => Err(Refusal::CannotRename { output }),
+    }
+}
+
+/// Removes OUT.part at a refusal. Where it can't be removed it stays, and the refusal is the same.
+pub(super) fn remove_refused<'a, R: Files>(
+    rt: &R,
+    part: &str,
+    outcome: Result<(), Refusal<'a>>,
+) -> Result<(), Refusal<'a>> {
+    if outcome.is_err() {
+        let _ = fs::remove_file(rt, part);
+    }
+    outcome
 }
 
 /// Whether a file can be read again from its start: a pipe or a device can't.

@@ -1,7 +1,9 @@
 //! Why a command is refused, with the line and the exit status that it gets.
 use clap::error::ErrorKind;
 use osm_files::{Fault, Reason};
-use std::alloc::{AllocError, AllocFailed};
+use osm_mirror::{PlanFault, PlanReason};
+use osm_model::Memory;
+use std::alloc::{AllocError, AllocFailed, Global};
 use std::io::Write;
 use thiserror::Error;
 
@@ -51,6 +53,18 @@ pub(crate) enum Refusal<'a> {
         place: u64,
         reason: Reason,
     },
+    /// A plan is refused, at this line of it.
+    #[error("{name}: line {line}: {}", .reason.name())]
+    Plan {
+        name: &'a str,
+        line: u64,
+        reason: PlanReason,
+    },
+    /// Something that a plan names is refused, with this line.
+    #[error("{line}")]
+    InPlan {
+        line: String,
+    },
     /// Memory was refused.
     #[error("out of memory")]
     Memory,
@@ -80,6 +94,26 @@ impl<'a> Refusal<'a> {
         }
     }
 
+    /// The refusal of the plan in a file of this name.
+    pub(crate) fn of_plan(fault: PlanFault, name: &'a str) -> Refusal<'a> {
+        match fault.reason {
+            PlanReason::Memory => Refusal::Memory,
+            reason => Refusal::Plan {
+                name,
+                line: fault.line,
+                reason,
+            },
+        }
+    }
+
+    /// The same refusal, of what a plan names. It holds no name of the plan, which may be dropped.
+    pub(crate) fn in_plan<'b>(self, alloc: Global) -> Refusal<'b> {
+        match format!(in alloc; "{self}") {
+            Ok(line) => Refusal::InPlan { line },
+            Err(_) => Refusal::Memory,
+        }
+    }
+
     /// Writes the line, and answers the exit status.
     pub(crate) fn report<E: Write + Drop>(&self, mut err: E) -> u8 {
         // Where standard error fails, nobody can be told.
@@ -97,7 +131,8 @@ impl<'a> Refusal<'a> {
             | Refusal::WordsNotUtf8
             | Refusal::NotMoment { .. }
             | Refusal::NotAfterFirst { .. }
-            | Refusal::InputIsOutput { .. } => 2,
+            | Refusal::InputIsOutput { .. }
+            | Refusal::Plan { .. } => 2,
             _ => 1,
         }
     }
@@ -105,6 +140,12 @@ impl<'a> Refusal<'a> {
 
 impl<'a> From<AllocError> for Refusal<'a> {
     fn from(_error: AllocError) -> Refusal<'a> {
+        Refusal::Memory
+    }
+}
+
+impl<'a> From<Memory> for Refusal<'a> {
+    fn from(_error: Memory) -> Refusal<'a> {
         Refusal::Memory
     }
 }

@@ -18,6 +18,8 @@ pub(super) enum Request<'a> {
     Files(FileRun<'a>),
     /// A file, checked.
     Check(FileCheck<'a>),
+    /// A plan, run.
+    Plan(PlanRun<'a>),
     /// Help, which is this text.
     Help(Error),
 }
@@ -42,6 +44,13 @@ pub(super) struct FileRun<'a> {
 pub(super) struct FileCheck<'a> {
     /// Its name.
     pub(super) file: &'a str,
+}
+
+/// A run of a plan.
+#[derive(Drop)]
+pub(super) struct PlanRun<'a> {
+    /// The name of the plan's file.
+    pub(super) plan: &'a str,
 }
 
 impl<'a> Request<'a> {
@@ -83,6 +92,11 @@ impl<'a> Request<'a> {
                 words
                     .get_str("file")
                     .map(|file| Request::Check(FileCheck { file })),
+            ),
+            Some(("plan", words)) => Ok(
+                words
+                    .get_str("plan")
+                    .map(|plan| Request::Plan(PlanRun { plan })),
             ),
             Some((name, words)) => {
                 Ok(FileRun::of_matches(alloc, name, words)?.map(|run| Request::Files(run)))

@@ -1,14 +1,15 @@
 //! Running what the words ask for, over files or standard input and output.
 use super::checking::{is_out_of_order, is_unsorted};
-use super::files::{buffered, buffered_out, can_be_read_again, open_all};
+use super::files::{
+    buffered, buffered_out, can_be_read_again, create, open_all, remove_refused, rename,
+};
 use super::refusal::Refusal;
 use super::request::FileRun;
 use osm_files::{Fault, Format};
 use osm_merge::{Counts, Selection};
 use osm_mirror::{InputFile, Order, run_merge, run_selected};
 use std::alloc::{AllocError, Global};
-use std::fs;
-use std::fs::{File, OpenFile};
+use std::fs::OpenFile;
 use std::io::{Read, Write};
 use std::rt::Files;
 
@@ -39,21 +40,9 @@ pub(super) fn run_files<'a, R: Files + AllocGlobal>(
         return Err(Refusal::InputIsOutput { name });
     }
     let files = open_all(rt, run.files.as_slice())?;
-    let file = create(rt, run, part.as_str())?;
+    let file = create(rt, run.output, part.as_str())?;
     let outcome = finish(rt, run, part.as_str(), files, file);
-    if outcome.is_err() {
-        // A file that can't be removed stays, and the refusal is the same.
-        let _ = fs::remove_file(rt, part.as_str());
-    }
-    outcome
-}
-
-/// OUT.part, made empty.
-fn create<'a, R: Files>(rt: &R, run: &FileRun<'a>, part: &str) -> Result<R::File, Refusal<'a>> {
-    match File::create(rt, part) {
-        Ok(file) => Ok(file),
-        Err(_) => Err(Refusal::CannotCreate { output: run.output }),
-    }
+    remove_refused(rt, part.as_str(), outcome)
 }
 
 /// Writes OUT.part and renames it.
@@ -67,10 +56,7 @@ fn finish<'a, R: Files + AllocGlobal>(
     if let Err(fault) = write_by_turns(rt, run, part, files, file)? {
         return Err(Refusal::of_fault(fault, run.files.as_slice(), run.output));
     }
-    match fs::rename(rt, part, run.output) {
-        Ok(()) => Ok(()),
-        Err(_) => Err(Refusal::CannotRename { output: run.output }),
-    }
+    rename(rt, part, run.output)
 }
 
 /// Writes OUT.part: at first with all files as sorted ones that can be read again, and where one of them turns out not
@@ -98,7 +84,7 @@ fn write_by_turns<'a, R: Files + AllocGlobal>(
             hold_unsorted(rt, run, orders.as_mut_slice())?;
         }
         let files = open_all(rt, run.files.as_slice())?;
-        let file = create(rt, run, part)?;
+        let file = create(rt, run.output, part)?;
         outcome = write(rt.alloc(), run, files, orders.as_slice(), file);
     }
     Ok(outcome)

@@ -9,6 +9,7 @@ use std::{env, fs, io};
 mod apply;
 mod check;
 mod order;
+mod plan;
 mod sort;
 mod time_filter;
 
@@ -192,6 +193,7 @@ fn mistaken_words_are_refused(rt: HostRuntime) {
         &["time-filter", "--output", "o.opl", "a.opl"],
         &["time-filter", "--output", "o.opl", "a.opl", "1", "2", "3"],
         &["check", "a.opl", "b.opl"],
+        &["plan", "a.plan", "b.plan"],
         &["--output", "o.opl"],
         &["mend", "a.opl"],
     ] {
@@ -205,7 +207,7 @@ fn mistaken_words_are_refused(rt: HostRuntime) {
 #[test]
 fn help_is_printed(rt: HostRuntime) -> Result<(), Fail> {
     assert_eq!(rt; run(&rt, &["--help"]).status, 0);
-    for command in ["merge", "apply", "time-filter", "sort", "check"] {
+    for command in ["merge", "apply", "time-filter", "sort", "check", "plan"] {
         let answer = run(&rt, &[command, "--help"]);
         assert_eq!(rt; answer.status, 0);
         assert!(rt; answer.err.is_empty());

@@ -216,9 +216,9 @@ struct Ahead<'a> {
 }
 
 impl Output for Ahead<'_> {
-    ghost use Rattle.std.specs.Prelude.{None, false};
+    ghost use Rattle.std.specs.Prelude.{false};
 
-    ghost contents = { λ _. None };
+    ghost holds = { λ _ _. Unit {0} };
 
     ghost failed = { λ _. false };
 

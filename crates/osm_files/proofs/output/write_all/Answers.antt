@@ -10,6 +10,6 @@ returns-in-Ok-2-clause-wrote g c =
     let count = c.in-Ok.count in
     let rest : take (length bytes - count) (drop count bytes) ≡ drop count bytes = take_all _ _ (omega (arith, length-drop count bytes)) in
     let short : c.args.written + length bytes < 2 ^ 62 = omega arith in
-    let wrote = subst (λ (xs : List ℕ). Writes c.args.number (g.W.Output.contents c.write.new.self) (g.W.Output.contents c.write_rest.new.out) (g.W.Output.failed c.write_rest.new.out) (c.args.written + count) xs c.write_rest.result) rest c.write_rest.ensures.wrote in
-    writes_on c.args.number (g.W.Output.contents c.args.out.now) (g.W.Output.contents c.write.new.self) (g.W.Output.contents c.write_rest.new.out) (g.W.Output.failed c.write_rest.new.out) c.args.written count bytes c.write_rest.result
+    let wrote = subst (λ (xs : List ℕ). Writes c.args.number (g.W.Output.holds c.write.new.self) (g.W.Output.holds c.write_rest.new.out) (g.W.Output.failed c.write_rest.new.out) (c.args.written + count) xs c.write_rest.result) rest c.write_rest.ensures.wrote in
+    writes_on c.args.number (g.W.Output.holds c.args.out.now) (g.W.Output.holds c.write.new.self) (g.W.Output.holds c.write_rest.new.out) (g.W.Output.failed c.write_rest.new.out) c.args.written count bytes c.write_rest.result
     c.in-Ok.ensures.within short c.in-Ok.ensures.taken wrote

@@ -13,7 +13,7 @@ writes-preserved g c =
     record {
       within = omega (arith, within, length-drop done bytes);
       appended =
-          subst (Appended (g.W.Output.contents c.args.out.now) (g.W.Output.contents c.write.new.self)) (sym (take-add done count bytes))
-          (appended_on _ (g.W.Output.contents c.writes.out) _ (take done bytes) (take count (drop done bytes)) c.writes.invariant.appended (rw rest at c.in-Ok.ensures.taken));
+          subst (Appended (g.W.Output.holds c.args.out.now) (g.W.Output.holds c.write.new.self)) (sym (take-add done count bytes))
+          (appended_on (g.W.Output.holds c.args.out.now) (g.W.Output.holds c.writes.out) (g.W.Output.holds c.write.new.self) (take done bytes) (take count (drop done bytes)) c.writes.invariant.appended (rw rest at c.in-Ok.ensures.taken));
       good = λ _. c.in-Ok.ensures.fails.1 c.if-count-gt0.true;
     }

@@ -5,7 +5,7 @@ use Rattle.osm_files.proofs.output.write_rest.Given as goal
 abbrev pub invariant-writes : goal.invariant-writes
 invariant-writes g l = record {
   within : l.done ≤ length l.bytes;
-  appended : Appended (g.W.Output.contents l.fn.out) (g.W.Output.contents l.out) (take l.done l.bytes);
+  appended : Appended (g.W.Output.holds l.fn.out) (g.W.Output.holds l.out) (take l.done l.bytes);
   good : 0 < l.done → g.W.Output.failed l.out ≡ false;
 }
 

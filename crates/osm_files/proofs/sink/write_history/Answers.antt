@@ -12,15 +12,15 @@ pub returns-in-Err-begin-clause-written : goal.returns-in-Err-begin-clause-writt
 returns-in-Err-begin-clause-written g c =
     let f = c.args.format in
     let n = c.args.number in
-    let before = g.W.Output.contents c.args.out.now in
-    let now = g.W.Output.contents c.begin.new.out in
+    let before = g.W.Output.holds c.args.out.now in
+    let now = g.W.Output.holds c.begin.new.out in
     let failed = g.W.Output.failed c.begin.new.out in
     cut_before_end f n [] (listed c.args.history.now) before now failed c.in-Err-begin.fault
     (begin_err f n c.in-Ok.sink c.in-Ok.ensures.ok c.begin.new.self before now failed c.in-Err-begin.fault c.in-Err-begin.ensures.calls)
 
 pub puts-init : goal.puts-init
 puts-init g c =
-    begin_ok c.args.format c.args.number c.in-Ok.sink c.in-Ok.ensures.ok c.begin.new.self (g.W.Output.contents c.args.out.now) (g.W.Output.contents c.begin.new.out) (g.W.Output.failed c.begin.new.out) c.in_default.ensures.calls
+    begin_ok c.args.format c.args.number c.in-Ok.sink c.in-Ok.ensures.ok c.begin.new.self (g.W.Output.holds c.args.out.now) (g.W.Output.holds c.begin.new.out) (g.W.Output.failed c.begin.new.out) c.in_default.ensures.calls
 
 pub put-requires-clause-open : goal.put-requires-clause-open
 put-requires-clause-open g c = (ap (λ s. s.begun) c.puts.invariant.state, ap (λ s. s.ended) c.puts.invariant.state)
@@ -31,7 +31,7 @@ put-requires-clause-follows g c = λ going.
     let i = c.puts.place in
     let v = c.get.result.now in
     let within : i < length xs = omega (arith, c.puts-test.true, c.len-place-end.ensures) in
-    may_put c.args.format c.args.number xs i v (g.W.Output.contents c.args.out.now) (g.W.Output.contents c.puts.out) c.puts.sink (strict-listed c.args.history.now) within c.get.ensures c.puts.invariant
+    may_put c.args.format c.args.number xs i v (g.W.Output.holds c.args.out.now) (g.W.Output.holds c.puts.out) c.puts.sink (strict-listed c.args.history.now) within c.get.ensures c.puts.invariant
 
 pub returns-in-Err-put-clause-written : goal.returns-in-Err-put-clause-written
 returns-in-Err-put-clause-written g c =
@@ -40,9 +40,9 @@ returns-in-Err-put-clause-written g c =
     let xs = listed c.args.history.now in
     let i = c.puts.place in
     let v = c.get.result.now in
-    let before = g.W.Output.contents c.args.out.now in
-    let mid = g.W.Output.contents c.puts.out in
-    let now = g.W.Output.contents c.put.new.out in
+    let before = g.W.Output.holds c.args.out.now in
+    let mid = g.W.Output.holds c.puts.out in
+    let now = g.W.Output.holds c.put.new.out in
     let failed = g.W.Output.failed c.put.new.out in
     let fault = c.in-Err-put.fault in
     let within : i < length xs = omega (arith, c.puts-test.true, c.len-place-end.ensures) in
@@ -57,9 +57,9 @@ puts-preserved g c =
     let xs = listed c.args.history.now in
     let i = c.puts.place in
     let v = c.get.result.now in
-    let before = g.W.Output.contents c.args.out.now in
-    let mid = g.W.Output.contents c.puts.out in
-    let now = g.W.Output.contents c.put.new.out in
+    let before = g.W.Output.holds c.args.out.now in
+    let mid = g.W.Output.holds c.puts.out in
+    let now = g.W.Output.holds c.put.new.out in
     let failed = g.W.Output.failed c.put.new.out in
     let within : i < length xs = omega (arith, c.puts-test.true, c.len-place-end.ensures) in
     subst (λ (x : List VersionData). HasPut f n x before c.put.new.self now) (front_at xs i v within c.get.ensures)
@@ -74,9 +74,9 @@ returns-clause-written g c =
     let n = c.args.number in
     let xs = listed c.args.history.now in
     let i = c.puts.place in
-    let before = g.W.Output.contents c.args.out.now in
-    let mid = g.W.Output.contents c.puts.out in
-    let now = g.W.Output.contents c.end.new.out in
+    let before = g.W.Output.holds c.args.out.now in
+    let mid = g.W.Output.holds c.puts.out in
+    let now = g.W.Output.holds c.end.new.out in
     let failed = g.W.Output.failed c.end.new.out in
     let all : take i xs ≡ xs = take_all i xs (omega (arith, c.puts-test.false, c.len-place-end.ensures)) in
     subst (λ (x : List VersionData). WritesFile n before now failed (spell_list f x) c.end.result) all

@@ -6,13 +6,13 @@ use Rattle.osm_merge.proofs.merge.put_decided.Goals as goal
 
 pub returns-then-puts_at_once-clause-puts : goal.returns-then-puts_at_once-clause-puts
 returns-then-puts_at_once-clause-puts g c =
-    subst (λ (more : List VersionData). PutsMore more c.args.sink.now c.put_if.new.sink (g.W.Output.contents c.args.out.now) (g.W.Output.contents c.put_if.new.out) (g.W.Output.failed c.put_if.new.out) c.put_if.result)
+    subst (λ (more : List VersionData). PutsMore g.W.Output.holds more c.args.sink.now c.put_if.new.sink c.args.out.now c.put_if.new.out (g.W.Output.failed c.put_if.new.out) c.put_if.result)
     (ap (λ b. cond b (c.args.version.now ∷ []) (leaves c.args.selection c.args.last.now (Some c.args.version.now))) c.if-puts_at_once.ensures)
     c.put_if.ensures.puts
 
 pub returns-in-Some-clause-puts : goal.returns-in-Some-clause-puts
 returns-in-Some-clause-puts g c =
-    subst (λ (more : List VersionData). PutsMore more c.args.sink.now c.put_if-in-Some.new.sink (g.W.Output.contents c.args.out.now) (g.W.Output.contents c.put_if-in-Some.new.out) (g.W.Output.failed c.put_if-in-Some.new.out) c.put_if-in-Some.result)
+    subst (λ (more : List VersionData). PutsMore g.W.Output.holds more c.args.sink.now c.put_if-in-Some.new.sink c.args.out.now c.put_if-in-Some.new.out (g.W.Output.failed c.put_if-in-Some.new.out) c.put_if-in-Some.result)
     (ap (λ b. only b c.in-Some.held) c.keeps.ensures
     ∙ ap (λ h. leaves c.args.selection h (Some c.args.version.now)) (sym c.in-Some.is)
     ∙ ap (λ b. cond b (c.args.version.now ∷ []) (leaves c.args.selection c.args.last.now (Some c.args.version.now))) c.if-puts_at_once.ensures)

@@ -6,7 +6,7 @@ use Rattle.osm_merge.proofs.merge.put_last.Goals as goal
 
 pub returns-in-Some-clause-puts : goal.returns-in-Some-clause-puts
 returns-in-Some-clause-puts g c =
-    subst (λ (more : List VersionData). PutsMore more c.args.sink.now c.put_if.new.sink (g.W.Output.contents c.args.out.now) (g.W.Output.contents c.put_if.new.out) (g.W.Output.failed c.put_if.new.out) c.put_if.result)
+    subst (λ (more : List VersionData). PutsMore g.W.Output.holds more c.args.sink.now c.put_if.new.sink c.args.out.now c.put_if.new.out (g.W.Output.failed c.put_if.new.out) c.put_if.result)
     (ap (λ b. only b c.in-Some.held) c.stays.ensures
     ∙ ap (λ h. leaves c.args.selection h None) (sym c.in-Some.is)
     ∙ ap (λ b. cond b [] (leaves c.args.selection c.args.last.now None)) c.if-puts_at_once.ensures)

@@ -8,5 +8,5 @@ pub returns-clause-refused : goal.returns-clause-refused
 returns-clause-refused g c =
     let one : c.push.new.self.items ≡ c.args.input ∷ [] = search rules in
     one_refused g.R.Input.coming c.push.new.self.items c.args.input one
-    (λ all fault. IsNotWritten (selected c.args.selection) all c.args.format (g.W.Output.contents c.args.out.now) (g.W.Output.contents c.run_held.new.out) (g.W.Output.failed c.run_held.new.out) fault)
+    (λ all fault. IsNotWritten g.W.Output.holds (selected c.args.selection) all c.args.format c.args.out.now c.run_held.new.out (g.W.Output.failed c.run_held.new.out) fault)
     c.run_held.result c.run_held.ensures.refused

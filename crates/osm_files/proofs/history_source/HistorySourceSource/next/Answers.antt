@@ -1,4 +1,3 @@
-use Rattle.std.proofs.Common.{sym}
 use Rattle.std.specs.Vec.Iter.{into_iter_items}
 use Rattle.osm_files.proofs.GivenLaws.{given_rises, given_step, given_fewer}
 use Rattle.osm_files.proofs.history_source.HistorySourceSource.next.Goals as goal

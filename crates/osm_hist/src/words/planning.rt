@@ -1,0 +1,168 @@
+//! Running a plan: its mirrors take files and pass on what they hold, and what they hold in the end is written.
+ghost use Rattle.std.specs.Prelude.{ℕ, ◌<◌, length, IfOk};
+ghost use Rattle.std.specs.List.{All};
+ghost use Rattle.osm_mirror.specs.Fleet.{IsWithin};
+ghost use Rattle.osm_mirror.specs.Plan.{NamesItsMirrors};
+ghost use Rattle.osm_mirror.specs.PlanLine.{StepNames};
+
+use super::files::{create, read, remove_refused, rename};
+use super::print;
+use super::refusal::Refusal;
+use super::request::PlanRun;
+use osm_files::{Fault, Output, Reason, ToWrite, write_all};
+use osm_mirror::{Event, Fleet, Plan, PlanWrite, Reply, Step, read_plan};
+use std::alloc::{AllocError, Global};
+use std::io::Write;
+use std::rt::Files;
+
+/// Runs a plan: prints what each of its steps gets, and then makes the files of its write lines.
+pub(super) fn run_plan<'a, R: Files + AllocGlobal, O: Write>(
+    rt: &R,
+    run: &PlanRun<'a>,
+    out: &mut O,
+) -> Result<(), Refusal<'a>> {
+    let text = read(rt, run.plan)?;
+    match read_plan(rt.alloc(), text.as_slice()) {
+        Ok(plan) => match run_lines(rt, &plan, out) {
+            Ok(()) => Ok(()),
+            Err(refusal) => Err(refusal.in_plan(rt.alloc())),
+        },
+        Err(fault) => Err(Refusal::of_plan(fault, run.plan)),
+    }
+}
+
+/// Runs what the lines of a plan say. All files that it takes are read before the first step.
+fn run_lines<'p, R: Files + AllocGlobal, O: Write>(
+    rt: &R,
+    plan: &'p Plan,
+    out: &mut O,
+) -> Result<(), Refusal<'p>>
+    requires { NamesItsMirrors plan.now }
+{
+    let files = read_taken(rt, plan.steps.as_slice())?;
+    let mut fleet = Fleet::new(rt.alloc(), plan.mirrors.as_slice())?;
+    let events = events_of(
+        rt.alloc(),
+        plan.mirrors.len(),
+        plan.steps.as_slice(),
+        files.as_slice(),
+    )?;
+    let replies = fleet.run(events.as_slice())?;
+    print(out, &lines_of(rt.alloc(), replies.as_slice())?)?;
+    write_files(rt, &fleet, plan.writes.as_slice())
+}
+
+/// What is taken in each step: the bytes of its file, or nothing in a step that takes none.
+fn read_taken<'p, R: Files + AllocGlobal>(
+    rt: &R,
+    steps: &'p [Step],
+) -> Result<Vec<Vec<u8>>, Refusal<'p>> {
+    let mut files = Vec::new(rt.alloc());
+    for step in steps {
+        let bytes = match step {
+            Step::Take { file, .. } => read(rt, file.as_str())?,
+            _ => Vec::new(rt.alloc()),
+        };
+        files.push(bytes)?;
+    }
+    Ok(files)
+}
+
+/// The events of steps, with what is taken in each.
+fn events_of<'f>(
+    alloc: Global,
+    mirrors: usize,
+    steps: &[Step],
+    files: &'f [Vec<u8>],
+) -> Result<Vec<Event<'f>>, AllocError>
+    requires { All (StepNames mirrors) steps.now }
+    ensures { IfOk result (λ events. All (IsWithin mirrors) events.items) }
+{
+    let mut events = Vec::new(alloc);
+    'steps: for (step, file) in steps.iter().zip(files) {
+        events.push(event_of(step, file.as_slice()))?;
+    }
+    Ok(events)
+}
+
+/// The event of a step, with what is taken in it.
+fn event_of<'f>(step: &Step, file: &'f [u8]) -> Event<'f>
+    ensures { (mirrors : ℕ) → StepNames mirrors step.now → IsWithin mirrors result }
+{
+    match step {
+        Step::Take { mirror, .. } => Event::Take {
+            mirror: *mirror,
+            file,
+        },
+        Step::Pass { from, to, format } => Event::Pass {
+            from: *from,
+            to: *to,
+            format: *format,
+        },
+        Step::Restart { mirror, format } => Event::Restart {
+            mirror: *mirror,
+            format: *format,
+        },
+    }
+}
+
+/// The lines that tell what each event got, numbered from 1.
+fn lines_of(alloc: Global, replies: &[Reply]) -> Result<String, AllocError> {
+    let mut lines = String::new(alloc);
+    for (place, reply) in replies.iter().enumerate() {
+        let number = place + 1;
+        match reply {
+            Reply::Taken => writeln!(lines, "{number} Taken")?,
+            Reply::Refused(fault) => match fault.reason {
+                Reason::Memory => writeln!(lines, "{number} Refused out of memory")?,
+                reason => writeln!(lines, "{number} Refused {} {}", fault.place, reason.name())?,
+            },
+        }
+    }
+    Ok(lines)
+}
+
+/// Makes the files of write lines, in their order.
+fn write_files<'p, R: Files + AllocGlobal>(
+    rt: &R,
+    fleet: &Fleet,
+    writes: &'p [PlanWrite],
+) -> Result<(), Refusal<'p>>
+    requires { All (λ write. write.mirror < length fleet.now) writes.now }
+{
+    'writes: for write in writes {
+        let output = write.file.as_str();
+        match fleet.mirror(write.mirror).write(write.format) {
+            Ok(bytes) => make_file(rt, output, bytes.as_slice())?,
+            Err(fault) => return Err(Refusal::of_fault(fault, &[], output)),
+        }
+    }
+    Ok(())
+}
+
+/// Makes OUT of bytes. They are written to OUT.part, which becomes OUT at the end, or goes at a refusal.
+fn make_file<'p, R: Files + AllocGlobal>(
+    rt: &R,
+    output: &'p str,
+    bytes: &[u8],
+) -> Result<(), Refusal<'p>> {
+    let part = format!(in rt.alloc(); "{output}.part")?;
+    let file = create(rt, output, part.as_str())?;
+    let outcome = match write_bytes(bytes, file) {
+        Ok(()) => rename(rt, part.as_str(), output),
+        Err(fault) => Err(Refusal::of_fault(fault, &[], output)),
+    };
+    remove_refused(rt, part.as_str(), outcome)
+}
+
+/// Writes bytes to a file that is made with them.
+fn write_bytes<F: Write + Drop>(bytes: &[u8], file: F) -> Result<(), Fault> {
+    let mut output = ToWrite::new(file);
+    if !bytes.is_empty() {
+        write_all(&mut output, 0, 0, bytes)?;
+    }
+    match output.flush() {
+        Ok(()) => Ok(()),
+        Err(_) => Err(Fault::at(0, bytes.len() as u64, Reason::WriteFault)),
+    }
+}

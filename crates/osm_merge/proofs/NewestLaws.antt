@@ -1,0 +1,97 @@
+-- What stays of the list of a history where the newest version of each object is moved to the front in place.
+use Rattle.std.proofs.Common.{◌≡◌, ℕ, zero, suc, ◌+◌, ◌<◌, ◌≤◌, Bool, true, false, List, [], ◌∷◌, ◌++◌, length, take, drop, get_or, set, refl, sym, ap, ◌∙◌, subst, arith, append_assoc, Option, Some, None, length-drop}
+use Rattle.std.specs.Prelude.{slice_get}
+use Rattle.std.specs.List.{SwappedAt}
+use Rattle.std.specs.List.Sorted.{IsStrictlySortedBy}
+use Rattle.std.proofs.lemmas.List.{take_more, take-set-le, drop-set-lt, drop_more, length-set, append-nil, nil_from_length}
+use Rattle.osm_model.specs.Data.{VersionData}
+use Rattle.osm_model.specs.Order.{version_cmp}
+use Rattle.osm_model.specs.VersionSet.{VersionSet}
+use Rattle.osm_model.specs.Sets.{listed, from_list}
+use Rattle.osm_model.proofs.SetLaws.{strict-listed}
+use Rattle.osm_merge.specs.declared.selection.Selection.TheVariants.{Newest}
+use Rattle.osm_merge.specs.Members.{first}
+use Rattle.osm_merge.specs.Pass.{only, keeps, kept}
+use Rattle.osm_merge.specs.Selected.{snapshot}
+use Rattle.osm_merge.proofs.SelectedLaws.{pass_of_set}
+use Rattle.osm_merge.proofs.Choosing.{set_listed}
+
+abbrev newest_of : List VersionData → List VersionData
+newest_of = kept (keeps Newest)
+
+-- So many versions of a list were looked at, and those of them that stay were moved to its front.
+pub record IsSettling (list items : List VersionData) (place count : ℕ) : Type 0 where
+  pub same_length : length items ≡ length list
+  pub behind : count ≤ place
+  pub rest : drop place items ≡ drop place list
+  pub chosen : take count items ++ newest_of (drop place list) ≡ newest_of list
+
+pub settling_begins : (list items : List VersionData) → items ≡ list → IsSettling list items 0 0
+settling_begins list items is = record { same_length = ap length is; behind = omega arith; rest = is; chosen = refl }
+
+-- an item of a list that has some
+pub some_item : (xs : List VersionData) (n : ℕ) → n < length xs → VersionData
+some_item [] n h = absurd (omega (arith, h))
+some_item (x ∷ xs) n h = x
+
+first_left : (xs : List VersionData) (n : ℕ) → first (drop n xs) ≡ slice_get xs n
+first_left [] zero = refl
+first_left [] (suc n) = refl
+first_left (x ∷ xs) zero = refl
+first_left (x ∷ xs) (suc n) = first_left xs n
+
+module _ (list items : List VersionData) (place count : ℕ) (h : IsSettling list items place count) (inside : place < length items) (d : VersionData) (stays : Bool) (is : stays ≡ keeps Newest (get_or items place d) (slice_get items (place + 1))) where
+  abbrev v : VersionData
+  v = get_or items place d
+
+  from_here : v ∷ drop (place + 1) items ≡ drop place list
+  from_here = sym (drop_more items place d inside) ∙ h.rest
+
+  rest_next : drop (place + 1) items ≡ drop (place + 1) list
+  rest_next = ap (drop 1) (from_here ∙ drop_more list place d (omega (arith, inside, h.same_length)))
+
+  stays_is : keeps Newest v (first (drop (place + 1) items)) ≡ stays
+  stays_is = ap (keeps Newest v) (first_left items (place + 1)) ∙ sym is
+
+  newest_here : newest_of (drop place list) ≡ only stays v ++ newest_of (drop (place + 1) list)
+  newest_here =
+      ap newest_of (sym from_here)
+      ∙ (λ i. only (stays_is i) v ++ newest_of (rest_next i))
+
+  pub settling_skips : (items2 : List VersionData) (count2 : ℕ) → stays ≡ false → items2 ≡ items → count2 ≡ count → IsSettling list items2 (place + 1) count2
+  settling_skips items2 count2 out same fixed = rw (same, fixed) (record {
+    same_length = h.same_length;
+    behind = omega (arith, h.behind);
+    rest = rest_next;
+    chosen = ap (λ (t : List VersionData). take count items ++ t) (sym (newest_here ∙ ap (λ (b : Bool). only b v ++ newest_of (drop (place + 1) list)) out)) ∙ h.chosen;
+  })
+
+  pub settling_moves : (items2 items3 : List VersionData) (count2 : ℕ) → stays ≡ true → SwappedAt items items2 count place → items3 ≡ items2 → count2 ≡ count + 1 → IsSettling list items3 (place + 1) count2
+  settling_moves items2 items3 count2 stayed swapped same more =
+      let sets = swapped.3 d in
+      let long : length items2 ≡ length items = ap length sets ∙ length-set _ place _ ∙ length-set items count _ in
+      let front : take count items2 ≡ take count items = ap (take count) sets ∙ take-set-le count _ place _ h.behind ∙ take-set-le count items count _ (omega arith) in
+      let back : drop (place + 1) items2 ≡ drop (place + 1) items = ap (drop (place + 1)) sets ∙ drop-set-lt (place + 1) _ place _ (omega arith) ∙ drop-set-lt (place + 1) items count _ (omega (arith, h.behind)) in
+      let taken : take (count + 1) items2 ≡ take count items ++ v ∷ [] =
+      take_more items2 count d (omega (arith, long, inside, h.behind)) ∙ (λ i. front i ++ swapped.0 d i ∷ []) in
+      rw (same, more) (record {
+        same_length = long ∙ h.same_length;
+        behind = omega (arith, h.behind);
+        rest = back ∙ rest_next;
+        chosen =
+            ap (λ (t : List VersionData). t ++ newest_of (drop (place + 1) list)) taken
+            ∙ append_assoc (take count items) (v ∷ []) (newest_of (drop (place + 1) list))
+            ∙ ap (λ (t : List VersionData). take count items ++ t) (sym (newest_here ∙ ap (λ (b : Bool). only b v ++ newest_of (drop (place + 1) list)) stayed))
+            ∙ h.chosen;
+      })
+
+pub settled_list : (set : VersionSet) (items : List VersionData) (place count : ℕ) → IsSettling (listed set) items place count → length (listed set) ≤ place → take count items ≡ listed (snapshot set)
+settled_list set items place count h end =
+    let none : drop place (listed set) ≡ [] = nil_from_length _ (omega (arith, end, length-drop place (listed set))) in
+    sym (append-nil (take count items)) ∙ ap (λ (t : List VersionData). take count items ++ newest_of t) (sym none) ∙ h.chosen ∙ pass_of_set Newest set
+
+pub settled_ascends : (set : VersionSet) (items : List VersionData) → items ≡ listed (snapshot set) → IsStrictlySortedBy version_cmp items
+settled_ascends set items is = subst (IsStrictlySortedBy version_cmp) (sym is) (strict-listed (snapshot set))
+
+pub settled_set : (set : VersionSet) (items : List VersionData) → items ≡ listed (snapshot set) → from_list {R = version_cmp} items ≡ snapshot set
+settled_set set items is = ap (from_list {R = version_cmp}) is ∙ set_listed (snapshot set)

@@ -1,0 +1,37 @@
+//! The snapshot of a history that isn't needed any more.
+ghost use Rattle.std.specs.Prelude.{◌≡◌, ◌+◌, ◌<◌, length, slice_get, slice_index_or};
+ghost use Rattle.osm_model.specs.Data.{VersionData};
+ghost use Rattle.osm_merge.specs.declared.selection.Selection.TheVariants as selection;
+ghost use Rattle.osm_merge.specs.Selected as set;
+ghost use Rattle.osm_merge.specs.Pass.{keeps};
+
+use crate::selection::{Selection, keeps};
+use osm_model::{History, Version};
+
+/// The newest version of each object, deletions too, of a history that is given away. It takes no memory: the versions that
+/// stay are moved, and the others let go.
+pub fn into_snapshot(history: History) -> History
+    ensures { result ≡ set.snapshot history }
+{
+    let mut versions = history.into_versions();
+    let mut kept = 0;
+    'versions: for place in 0..versions.len() {
+        if is_newest(&versions, place) {
+            versions.swap(kept, place);
+            kept += 1;
+        }
+    }
+    versions.truncate(kept);
+    History::from_ascending(versions)
+}
+
+/// Whether the version at this place of an ascending list is the newest one of its object: the next one is of another.
+fn is_newest(versions: &[Version], place: usize) -> bool
+    requires { place < length versions.now }
+    ensures { (d : VersionData) → result ≡ keeps selection.Newest (slice_index_or versions.now place d) (slice_get versions.now (place + 1)) }
+{
+    match versions.get(place + 1) {
+        None => true,
+        Some(behind) => keeps(Selection::Newest, &versions[place], behind),
+    }
+}

@@ -1,0 +1,158 @@
+-- What mirrors hold stays within the ranges of versions, and what they write is accepted.
+use Rattle.std.proofs.Common.{◌≡◌, ◌⊎◌, ℕ, ◌<◌, ◌≤◌, ◌^◌, Bool, true, false, ◌||◌, ◌-◌, List, [], ◌++◌, length, get_or, Option, Some, None, IfSome, option_map, Result, Ok, Err, MatchResult, refl, sym, ap, ◌∙◌, subst, arith, inl, inr}
+use Rattle.std.specs.List.Sorted.{IsStrictlySortedBy}
+use Rattle.osm_model.specs.Order.{version_cmp, version_cmp_total}
+use Rattle.osm_model.specs.VersionSet.{VersionSet}
+use Rattle.osm_model.specs.Sets.{union, empty, from_list, listed, size}
+use Rattle.osm_model.proofs.SetLaws.{contains-from_list}
+use Rattle.osm_model.proofs.VersionLaws.{listed-view}
+use Rattle.osm_files.specs.declared.fault.Fault.{Fault}
+use Rattle.osm_files.specs.declared.format.Format.{Format}
+use Rattle.osm_files.specs.declared.load.Loaded.{Loaded}
+use Rattle.osm_files.specs.declared.reason.Reason.TheVariants.{TooLong, Memory, WriteFault}
+use Rattle.osm_files.specs.Fault.{memory_fault, too_long_fault, write_fault}
+use Rattle.osm_files.specs.Held.{Holds, HoldsSorted}
+use Rattle.osm_files.specs.Input.{whole}
+use Rattle.osm_files.specs.Load.{Loads, StopsLoading}
+use Rattle.osm_files.specs.Output.{Content, Appended}
+use Rattle.osm_files.specs.Position.{fault_of}
+use Rattle.osm_files.specs.Sink.{CutShort}
+use Rattle.osm_files.specs.Spell.{spell}
+use Rattle.osm_files.specs.SpellLaws.{AreVersions}
+use Rattle.osm_files.specs.Stream.{Verdict}
+use Rattle.osm_files.specs.Verdict.{verdict, held_by}
+use Rattle.osm_files.proofs.LoadFaults.{inputs_are_files}
+use Rattle.osm_files.proofs.SpellLaws.{held_are_versions, held_without_verdict, spell_holds, unions_are_versions, are_fewer}
+use Rattle.osm_merge.specs.Selected.{snapshot}
+use Rattle.osm_merge.specs.Union.{capped}
+use Rattle.osm_merge.proofs.SnapLaws.{snapshot_of_snapshot}
+use Rattle.osm_mirror.specs.declared.keep.Keep.{Keep}
+use Rattle.osm_mirror.specs.declared.keep.Keep.TheVariants.{Full, Latest}
+use Rattle.osm_mirror.specs.Mirror.{MirrorData, kept, took, fresh, IsSound, TakesFile, WhyNotTaken, WhyNotSpelled}
+use Rattle.std.specs.Prelude.{slice_set}
+use Rattle.osm_mirror.specs.Fleet.{at, IsShort}
+use Rattle.osm_mirror.proofs.FleetLaws.{full_latest, snapshot_part, took_kept, fresh_kept, in_none, equal_sets}
+
+within_limit : (count n : ℕ) → count ≡ n → count < 2 ^ 64 → count ≡ capped n
+within_limit count n is below = omega (arith, is, below)
+
+none_some : {A : Type 0} {x : A} → None ≡ Some x → ⊥
+none_some e = cc
+
+some_same : {A : Type 0} {x y : A} → Some x ≡ Some y → x ≡ y
+some_same e = cc
+
+is_memory : Memory ≡ TooLong → ⊥
+is_memory e = cc
+
+is_write : WriteFault ≡ TooLong → ⊥
+is_write e = cc
+
+-- ---- within the ranges of versions
+none_listed : length (listed (from_list {R = version_cmp} [])) ≡ 0
+unfolding IsStrictlySortedBy
+none_listed = ap length (listed-view [] tt)
+
+none_valid : AreVersions empty
+none_valid =
+    let same : from_list {R = version_cmp} [] ≡ empty = equal_sets _ _ (λ v. contains-from_list version_cmp_total [] v ∙ sym (in_none v)) in
+    subst AreVersions same (λ k d within. absurd (omega (arith, within, none_listed)))
+
+kept_valid : (keep : Keep) (set : VersionSet) → AreVersions set → AreVersions (kept keep set)
+kept_valid Full set h = h
+kept_valid Latest set h = are_fewer set (snapshot set) h (snapshot_part set)
+
+pub took_sound : (m : MirrorData) (set : VersionSet) → IsSound m → AreVersions set → IsSound (took m set)
+took_sound m set h valid = record { is_kept = took_kept m set; versions = kept_valid m.keep (union m.held set) (unions_are_versions m.held set h.versions valid) }
+
+pub fresh_sound : (keep : Keep) → IsSound (fresh keep)
+fresh_sound keep = record { is_kept = fresh_kept keep; versions = none_valid }
+
+-- what a mirror of each kind holds, once it took a set in
+pub absorbed_full : (m : MirrorData) (set now : VersionSet) → IsSound m → AreVersions set → m.keep ≡ Full → now ≡ union m.held set → IsSound (record { keep = m.keep; held = now })
+absorbed_full m set now h valid full is = record {
+  is_kept = λ latest. absurd (full_latest (sym full ∙ latest));
+  versions = subst AreVersions (sym is) (unions_are_versions m.held set h.versions valid);
+}
+
+pub absorbed_latest : (m : MirrorData) (set all now : VersionSet) → IsSound m → AreVersions set → all ≡ union m.held set → now ≡ snapshot all → IsSound (record { keep = m.keep; held = now })
+absorbed_latest m set all now h valid both is = record {
+  is_kept = λ _. is ∙ sym (snapshot_of_snapshot all) ∙ ap snapshot (sym is);
+  versions = subst AreVersions (sym is) (are_fewer all (snapshot all) (subst AreVersions (sym both) (unions_are_versions m.held set h.versions valid)) (snapshot_part all));
+}
+
+-- ---- what a mirror takes
+-- a file that is loaded is accepted, and what was loaded is what it holds
+pub loaded_holds : (bytes : List ℕ) (loaded : Loaded) → Loads (whole bytes) loaded → Holds bytes (held_by bytes) × (loaded.history ≡ held_by bytes)
+loaded_holds bytes loaded h =
+    let same = ((held_without_verdict bytes loaded.history).0 h.holds).1 in
+    (subst (Holds bytes) same h.holds, same)
+
+pub loaded_valid : (bytes : List ℕ) (loaded : Loaded) → Loads (whole bytes) loaded → AreVersions loaded.history
+loaded_valid bytes loaded h = held_are_versions bytes loaded.history h.holds
+
+pub takes_file : (bytes given : List ℕ) (old new : MirrorData) (loaded : Loaded) (count : ℕ) → given ≡ bytes → Loads (whole given) loaded → new ≡ took old loaded.history → count ≡ size loaded.history → count < 2 ^ 64
+    → TakesFile bytes old new (record { versions = count })
+takes_file bytes given old new loaded count same h is counted below =
+    let held = loaded_holds bytes loaded (subst (λ (b : List ℕ). Loads (whole b) loaded) same h) in
+    let whole_count : count ≡ size (held_by bytes) = counted ∙ ap size held.1 in
+    record { accepted = held.0; holds = is ∙ ap (took old) held.1; told = within_limit count (size (held_by bytes)) whole_count below }
+
+-- one that isn't is refused with its verdict
+some_fault : (input : ℕ) (v : Option Verdict) (fault : Fault) → option_map (fault_of input) v ≡ Some fault → (w : Verdict) × (v ≡ Some w) × (fault ≡ fault_of input w)
+some_fault input None fault e = absurd cc
+some_fault input (Some w) fault e = (w, refl, sym (some_same e))
+
+pub not_loaded : (bytes : List ℕ) (fault : Fault) → StopsLoading 0 (Some (whole bytes)) fault → WhyNotTaken bytes fault
+not_loaded bytes fault (inl memory) = inl memory
+not_loaded bytes fault (inr stops) = inr (some_fault 0 (verdict bytes) fault (sym (inputs_are_files 0 bytes).1 ∙ stops))
+
+-- what a mirror wrote is taken, unless memory is refused
+pub written_is_held : (bytes : List ℕ) (set : VersionSet) → HoldsSorted bytes set → held_by bytes ≡ set
+written_is_held bytes set h =
+    sym ((held_without_verdict bytes set).0 (record { short = h.short; versions = h.versions; file = h.file; members = h.members })).1
+
+pub written_not_taken : (bytes : List ℕ) (format : Format) (set : VersionSet) (fault : Fault) → HoldsSorted bytes set → WhyNotTaken bytes fault → WhyNotSpelled format set fault
+written_not_taken bytes format set fault h (inl memory) = inl memory
+written_not_taken bytes format set fault h (inr refused) =
+    let none = ((held_without_verdict bytes set).0 (record { short = h.short; versions = h.versions; file = h.file; members = h.members })).0 in
+    absurd (none_some (sym none ∙ refused.1))
+
+-- a mirror that is handed it refuses it for memory alone, or takes just what the writer holds
+pub written_answer : {A : Type 0} (bytes given : List ℕ) (format : Format) (set : VersionSet) (r : Result A Fault) → given ≡ bytes → HoldsSorted bytes set → bytes ≡ spell format set
+    → MatchResult r (λ _. Holds given (held_by given)) (WhyNotTaken given) → MatchResult r (λ _. IsShort format set) (WhyNotSpelled format set)
+written_answer bytes given format set (Ok done) same h spelled answer = subst (λ (b : List ℕ). length b < 2 ^ 62) spelled h.short
+written_answer bytes given format set (Err fault) same h spelled answer = written_not_taken bytes format set fault h (subst (λ (b : List ℕ). WhyNotTaken b fault) same answer)
+
+pub given_set : (bytes given : List ℕ) (set : VersionSet) → given ≡ bytes → HoldsSorted bytes set → held_by given ≡ set
+given_set bytes given set same h = ap held_by same ∙ written_is_held bytes set h
+
+pub written_behind : {A : Type 0} (bytes given : List ℕ) (set : VersionSet) (r : Result A Fault) (old new : List MirrorData) (to : ℕ) → given ≡ bytes → HoldsSorted bytes set
+    → MatchResult r (λ _. new ≡ slice_set old to (took (at old to) (held_by given))) (λ _. new ≡ old) → MatchResult r (λ _. new ≡ slice_set old to (took (at old to) set)) (λ _. new ≡ old)
+written_behind bytes given set (Ok done) old new to same h is = is ∙ ap (λ (s : VersionSet). slice_set old to (took (at old to) s)) (given_set bytes given set same h)
+written_behind bytes given set (Err fault) old new to same h is = is
+
+pub given_not_taken : (bytes given : List ℕ) (format : Format) (set : VersionSet) (fault : Fault) → given ≡ bytes → HoldsSorted bytes set → WhyNotTaken given fault → WhyNotSpelled format set fault
+given_not_taken bytes given format set fault same h why = written_not_taken bytes format set fault h (subst (λ (b : List ℕ). WhyNotTaken b fault) same why)
+
+pub restarted : (bytes given : List ℕ) (x blank new : MirrorData) → given ≡ bytes → HoldsSorted bytes x.held → blank ≡ fresh x.keep → new ≡ took blank (held_by given) → new ≡ took (fresh x.keep) x.held
+restarted bytes given x blank new same h is took_it = took_it ∙ (λ i. took (is i) (given_set bytes given x.held same h i))
+
+-- ---- what a mirror writes
+pub spelling_holds : (format : Format) (set : VersionSet) (bytes : List ℕ) → AreVersions set → bytes ≡ spell format set → length (spell format set) < 2 ^ 62 → HoldsSorted bytes set
+spelling_holds format set bytes valid is short = subst (λ (b : List ℕ). HoldsSorted b set) (sym is) (spell_holds format set valid short)
+
+-- what was appended to nothing
+pub appended_alone : (old new bytes file : List ℕ) → Appended (λ held. old ≡ held) (λ held. new ≡ held) bytes → old ≡ [] → file ≡ new → file ≡ bytes
+appended_alone old new bytes file h none is = is ∙ h [] none
+
+-- why the file of a set isn't written to memory, in the words of a mirror
+unwritten_cases : (format : Format) (set : VersionSet) (count : ℕ) (failed : Bool) (fault told : Fault) → (fault.reason ≡ TooLong → told ≡ fault) → ((fault.reason ≡ TooLong → ⊥) → told ≡ memory_fault)
+    → (fault ≡ memory_fault) ⊎ ((fault ≡ write_fault 1 count) × (failed ≡ true)) ⊎ ((fault ≡ too_long_fault 1) × (2 ^ 62 ≤ length (spell format set))) → WhyNotSpelled format set told
+unwritten_cases format set count failed fault told long other (inl memory) = inl (other (λ e. is_memory (sym (ap (λ (f : Fault). f.reason) memory) ∙ e)))
+unwritten_cases format set count failed fault told long other (inr (inl broken)) = inl (other (λ e. is_write (sym (ap (λ (f : Fault). f.reason) (broken.0)) ∙ e)))
+unwritten_cases format set count failed fault told long other (inr (inr big)) = inr (long (ap (λ (f : Fault). f.reason) (big.0)) ∙ big.0, big.1)
+
+pub unwritten_why : (before after : Content) (failed : Bool) (format : Format) (set : VersionSet) (fault told : Fault) → CutShort 1 before after failed (spell format set) fault
+    → (fault.reason ≡ TooLong → told ≡ fault) → ((fault.reason ≡ TooLong → ⊥) → told ≡ memory_fault) → WhyNotSpelled format set told
+unwritten_why before after failed format set fault told cut long other = unwritten_cases format set cut.count failed fault told long other cut.why

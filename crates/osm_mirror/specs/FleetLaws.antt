@@ -1,0 +1,37 @@
+-- Laws of fleets: mirrors of one kind that the same files reached are equal, and so is what they write.
+use Rattle.std.specs.Prelude.{◌≡◌, ◌↔◌, ℕ, ◌<◌, true, List, length}
+use Rattle.std.specs.List.{Contains}
+use Rattle.osm_model.specs.Sets.{empty}
+use Rattle.osm_files.specs.declared.format.Format.{Format}
+use Rattle.osm_files.specs.Spell.{spell}
+use Rattle.osm_mirror.specs.declared.keep.Keep.TheVariants.{Latest}
+use Rattle.osm_mirror.specs.declared.event.Event.{Event}
+use Rattle.osm_mirror.specs.declared.event.Reply.{Reply}
+use Rattle.osm_mirror.specs.Mirror.{MirrorData}
+use Rattle.osm_mirror.specs.Fleet.{Source, File, at, tracks, Converges}
+
+-- the same files are among the sources
+abbrev pub SameFiles : List Source → List Source → Type 0
+SameFiles some others = (bytes : List ℕ) → Contains some (File bytes) ↔ Contains others (File bytes)
+
+-- mirrors of a new fleet hold nothing
+abbrev pub AreEmpty : List MirrorData → Type 0
+AreEmpty mirrors = (m : ℕ) → (at mirrors m).held ≡ empty
+
+-- Two latest mirrors of a new fleet that the same files reached, whichever mirrors these came through and however often,
+-- hold the same after the run, and write the same bytes in each format.
+abbrev pub LatestMirrorsAgree : Type 0
+LatestMirrorsAgree =
+    (old new : List MirrorData) (events : List Event) (replies : List Reply) → Converges old events replies new → AreEmpty old
+    → (m n : ℕ) → m < length new → n < length new → (at new m).keep ≡ Latest → (at new n).keep ≡ Latest
+    → SameFiles (tracks old events replies m).reach (tracks old events replies n).reach
+    → ((at new m).held ≡ (at new n).held) × ((format : Format) → spell format (at new m).held ≡ spell format (at new n).held)
+
+-- Two full mirrors of a new fleet that the same files reached, through full ones alone, hold the same after the run, and write
+-- the same bytes in each format.
+abbrev pub FullMirrorsAgree : Type 0
+FullMirrorsAgree =
+    (old new : List MirrorData) (events : List Event) (replies : List Reply) → Converges old events replies new → AreEmpty old
+    → (m n : ℕ) → m < length new → n < length new → (tracks old events replies m).pure ≡ true → (tracks old events replies n).pure ≡ true
+    → SameFiles (tracks old events replies m).reach (tracks old events replies n).reach
+    → ((at new m).held ≡ (at new n).held) × ((format : Format) → spell format (at new m).held ≡ spell format (at new n).held)

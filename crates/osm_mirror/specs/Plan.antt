@@ -1,0 +1,101 @@
+-- The texts of plans: an own rule of this project.
+use Rattle.std.specs.Prelude.{◌≡◌, ◌⊎◌, ℕ, ◌+◌, ◌<◌, ◌==◌, true, List, [], ◌∷◌, ◌++◌, length, map, filter, IsUtf8}
+use Rattle.std.specs.List.{slice_split, All}
+use Rattle.opl_line.specs.Content.{Pairwise}
+use Rattle.opl_line.specs.Spells.{is_full}
+use Rattle.osm_mirror.specs.declared.keep.Keep.{Keep}
+use Rattle.osm_mirror.specs.declared.plan.Plan.{Plan}
+use Rattle.osm_mirror.specs.declared.plan_fault.PlanFault.{PlanFault}
+use Rattle.osm_mirror.specs.declared.plan_fault.PlanReason.{PlanReason}
+use Rattle.osm_mirror.specs.declared.plan_fault.PlanReason.TheVariants.{NotUtf8, BadWord, BadOrder, NoMirror}
+use Rattle.osm_mirror.specs.declared.plan_line.Step as step
+use Rattle.osm_mirror.specs.declared.plan_line.PlanWrite.{PlanWrite}
+use Rattle.osm_mirror.specs.declared.plan_line.PlanLine.{PlanLine}
+use Rattle.osm_mirror.specs.declared.plan_line.PlanLine.TheVariants.{Mirror, Step, Write}
+use Rattle.osm_mirror.specs.PlanLine.{LineSays, StepNames, NamesMirrors}
+
+-- the parts of a plan, as lists
+pub record Parts : Type 0 where
+  pub mirrors : List Keep
+  pub steps : List step.Step
+  pub writes : List PlanWrite
+
+abbrev pub parts_of : Plan → Parts
+parts_of plan = record { mirrors = plan.mirrors.items; steps = plan.steps.items; writes = plan.writes.items }
+
+-- what the lines of a plan say: the mirrors first, then the steps, then the writes
+abbrev pub in_order : Parts → List PlanLine
+in_order parts = map Mirror parts.mirrors ++ (map Step parts.steps ++ map Write parts.writes)
+
+-- the lines of a text, which end at LF; where the last one ends so, an empty one follows
+abbrev pub lines_of : List ℕ → List (List ℕ)
+lines_of text = slice_split (λ b. b == 10) text
+
+-- Lines spell a plan: those that aren't empty say its parts in their order, one for one, and name its mirrors alone.
+pub record LinesSpell (lines : List (List ℕ)) (parts : Parts) : Type 0 where
+  pub said : Pairwise LineSays (filter is_full lines) (in_order parts)
+  pub named : All (NamesMirrors (length parts.mirrors)) (in_order parts)
+
+-- a text spells a plan
+pub record PlanSpells (text : List ℕ) (plan : Plan) : Type 0 where
+  pub utf8 : IsUtf8 text
+  pub spelled : LinesSpell (lines_of text) (parts_of plan)
+
+-- the steps and the writes of a plan name its mirrors alone
+pub record NamesItsMirrors (plan : Plan) : Type 0 where
+  pub steps : All (StepNames (length plan.mirrors.items)) plan.steps.items
+  pub writes : All (λ w. w.mirror < length plan.mirrors.items) plan.writes.items
+
+-- a text spells no plan at all
+abbrev pub SpellsNoPlan : List ℕ → Type 0
+SpellsNoPlan text = (plan : Plan) → ¬ PlanSpells text plan
+
+-- a line stands where it may, behind lines that spell these parts: a mirror line before all others, a step before the writes
+abbrev pub IsInTurn : Parts → PlanLine → Type 0
+IsInTurn before (Mirror keep) = (before.steps ≡ []) × (before.writes ≡ [])
+IsInTurn before (Step s) = before.writes ≡ []
+IsInTurn before (Write w) = Unit {0}
+
+-- why what a line says is refused behind lines that spell these parts: its order first, then the mirrors that it names
+abbrev pub IsRefused : Parts → PlanLine → PlanReason → Type 0
+IsRefused before said BadOrder = ¬ IsInTurn before said
+IsRefused before said NoMirror = IsInTurn before said × (¬ NamesMirrors (length before.mirrors) said)
+IsRefused before said _ = ⊥
+
+-- why a line is faulty behind lines that spell these parts: it says nothing, or what it says is refused
+abbrev pub LineFault : Parts → List ℕ → PlanReason → Type 0
+LineFault before line BadWord = (is_full line ≡ true) × ((said : PlanLine) → ¬ LineSays line said)
+LineFault before line reason = (said : PlanLine) × LineSays line said × IsRefused before said reason
+
+-- the first faulty line of a text, and why it is faulty: the lines before it spell a plan
+pub record IsFirstFault (text : List ℕ) (fault : PlanFault) : Type 0 where
+  pub front : List (List ℕ)
+  pub faulty : List ℕ
+  pub rest : List (List ℕ)
+  pub before : Parts
+  pub lines : lines_of text ≡ front ++ faulty ∷ rest
+  pub spelled : LinesSpell front before
+  pub refused : LineFault before faulty fault.reason
+  pub numbered : fault.line ≡ length front + 1
+
+-- why a text is refused: it isn't UTF-8, which no line is to blame for; or else its first faulty line
+abbrev pub PlanFaultOf : List ℕ → PlanFault → Type 0
+PlanFaultOf text fault =
+    ((¬ IsUtf8 text) × (fault ≡ record { line = 0; reason = NotUtf8 })) ⊎ (IsUtf8 text × IsFirstFault text fault)
+
+-- a line's part at the end of those before it
+abbrev pub with_line : Parts → PlanLine → Parts
+with_line before (Mirror keep) = record before { mirrors = before.mirrors ++ keep ∷ [] }
+with_line before (Step s) = record before { steps = before.steps ++ s ∷ [] }
+with_line before (Write w) = record before { writes = before.writes ++ w ∷ [] }
+
+-- what a line says is added to the parts before it
+pub record IsAdded (before : Parts) (said : PlanLine) (after : Parts) : Type 0 where
+  pub in_turn : IsInTurn before said
+  pub named : NamesMirrors (length before.mirrors) said
+  pub added : after ≡ with_line before said
+
+-- a line is added: an empty one says nothing
+abbrev pub IsLineAdded : List ℕ → Parts → Parts → Type 0
+IsLineAdded line before after =
+    ((line ≡ []) × (after ≡ before)) ⊎ ((said : PlanLine) × LineSays line said × IsAdded before said after)

@@ -1,0 +1,191 @@
+//! Fleets: mirrors that exchange files.
+ghost use Rattle.std.specs.Prelude.{◌≡◌, ◌↔◌, ◌<◌, length, map, slice_set, IfOk, IsTrue, MatchResult, OnErr};
+ghost use Rattle.std.specs.List.{All};
+ghost use Rattle.osm_files.specs.Held.{Holds};
+ghost use Rattle.osm_files.specs.Verdict.{held_by};
+ghost use Rattle.osm_mirror.specs.Mirror.{fresh, took, WhyNotTaken, WhyNotSpelled};
+ghost use Rattle.osm_mirror.specs.Fleet.{at, IsWithin, IsShort, IsAnswer, behind, Converges};
+
+use crate::event::{Event, Reply};
+use crate::keep::Keep;
+use crate::mirror::Mirror;
+use osm_files::{Fault, Format};
+use osm_model::Memory;
+use std::alloc::Global;
+use std::marker::Model;
+
+/// Mirrors that take files and pass files to each other. They are numbered from 0.
+#[derive(Drop)]
+pub struct Fleet {
+    mirrors: Vec<Mirror>,
+}
+
+impl Model for Fleet {
+    ghost use Rattle.std.specs.Prelude.{List};
+    ghost use Rattle.osm_mirror.specs.Mirror.{MirrorData, mirrors_code};
+    ghost use Rattle.osm_mirror.specs.Fleet.{AreKept};
+
+    ghost Value = { List MirrorData };
+
+    ghost coded = { mirrors_code };
+
+    ghost view = { λ f. f.mirrors.items };
+
+    ghost invariant = { λ f. AreKept f.mirrors.items };
+}
+
+impl Fleet {
+    /// A new mirror of each of these kinds, in this order. They hold nothing yet.
+    ///
+    /// # Errors
+    ///
+    /// For want of memory alone.
+    pub fn new(alloc: Global, kinds: &[Keep]) -> Result<Fleet, Memory>
+        ensures { IfOk result (λ fleet. fleet ≡ map fresh kinds.now) }
+    {
+        let mut mirrors = Vec::new(alloc);
+        for keep in kinds {
+            mirrors.push(Mirror::new(alloc, *keep))?;
+        }
+        Ok(Fleet { mirrors })
+    }
+
+    /// The number of mirrors.
+    pub fn len(&self) -> usize
+        ensures { result ≡ length self.now }
+    {
+        self.mirrors.len()
+    }
+
+    /// The mirror of this number, which is below the number of mirrors.
+    pub fn mirror(&self, place: usize) -> &Mirror
+        requires { place < length self.now }
+        ensures { result.now ≡ at self.now place }
+    {
+        &self.mirrors[place]
+    }
+
+    /// Whether these events may be run: each mirror number is below the number of mirrors.
+    pub fn may_run(&self, events: &[Event]) -> bool
+        ensures { IsTrue result ↔ All (IsWithin (length self.now)) events.now }
+    {
+        are_within(self.mirrors.len(), events)
+    }
+
+    /// Lets these events happen, one after the other, and answers a reply for each. Every mirror number is below the number
+    /// of mirrors.
+    ///
+    /// Whatever the events are, in any order, with repeats and refusals: afterwards each mirror's snapshot is that of all
+    /// that reached it. A latest mirror holds that snapshot exactly, and a full one all that reached it, as long as no latest
+    /// one passed to it. A Pass and a Restart go through the bytes of the format, as between machines.
+    ///
+    /// # Errors
+    ///
+    /// Memory, where there is none for the replies, before anything happens. Want of memory later is a reply.
+    pub fn run(&mut self, events: &[Event]) -> Result<Vec<Reply>, Memory>
+        requires { All (IsWithin (length self.old)) events.now }
+        ensures run { IfOk result (λ replies. Converges self.old events.now replies.items self.new) }
+        ensures unchanged { OnErr result (self.new ≡ self.old) }
+    {
+        let alloc = *self.mirrors.allocator();
+        let mut replies = Vec::with_capacity(alloc, events.len())?;
+        for event in events {
+            let reply = self.answer(event);
+            replies.push_reserved(reply);
+        }
+        Ok(replies)
+    }
+
+    /// Lets one event happen.
+    fn answer(&mut self, event: &Event) -> Reply
+        requires { IsWithin (length self.old) event.now }
+        ensures answer { IsAnswer self.old event.now result }
+        ensures behind { self.new ≡ behind self.old event.now result }
+    {
+        match *event {
+            Event::Take { mirror, file } => match self.take(mirror, file) {
+                Ok(()) => Reply::Taken,
+                Err(fault) => Reply::Refused(fault),
+            },
+            Event::Pass { from, to, format } => match self.pass(from, to, format) {
+                Ok(()) => Reply::Taken,
+                Err(fault) => Reply::Refused(fault),
+            },
+            Event::Restart { mirror, format } => match self.restart(mirror, format) {
+                Ok(()) => Reply::Taken,
+                Err(fault) => Reply::Refused(fault),
+            },
+        }
+    }
+
+    /// A mirror takes a file.
+    fn take(&mut self, mirror: usize, file: &[u8]) -> Result<(), Fault>
+        requires { mirror < length self.old }
+        ensures answer { MatchResult result (λ _. Holds file.now (held_by file.now)) (WhyNotTaken file.now) }
+        ensures behind { MatchResult result (λ _. self.new ≡ slice_set self.old mirror (took (at self.old mirror) (held_by file.now))) (λ _. self.new ≡ self.old) }
+    {
+        let mirror = &mut self.mirrors[mirror];
+        match mirror.take(file) {
+            Ok(_) => Ok(()),
+            Err(fault) => Err(fault),
+        }
+    }
+
+    /// A mirror takes what another one writes, or it itself.
+    fn pass(&mut self, from: usize, to: usize, format: Format) -> Result<(), Fault>
+        requires { (from < length self.old) × (to < length self.old) }
+        ensures answer { MatchResult result (λ _. IsShort format (at self.old from).held) (WhyNotSpelled format (at self.old from).held) }
+        ensures behind { MatchResult result (λ _. self.new ≡ slice_set self.old to (took (at self.old to) (at self.old from).held)) (λ _. self.new ≡ self.old) }
+    {
+        let file = match self.mirrors[from].write(format) {
+            Ok(file) => file,
+            Err(fault) => return Err(fault),
+        };
+        self.take(to, &file)
+    }
+
+    /// A new mirror takes what the old one writes, and then its place.
+    fn restart(&mut self, mirror: usize, format: Format) -> Result<(), Fault>
+        requires { mirror < length self.old }
+        ensures answer { MatchResult result (λ _. IsShort format (at self.old mirror).held) (WhyNotSpelled format (at self.old mirror).held) }
+        ensures behind { MatchResult result (λ _. self.new ≡ slice_set self.old mirror (took (fresh (at self.old mirror).keep) (at self.old mirror).held)) (λ _. self.new ≡ self.old) }
+    {
+        let old = &self.mirrors[mirror];
+        let file = match old.write(format) {
+            Ok(file) => file,
+            Err(fault) => return Err(fault),
+        };
+        let mut new = old.new_like();
+        if let Err(fault) = new.take(&file) {
+            return Err(fault);
+        }
+        self.mirrors[mirror] = new;
+        Ok(())
+    }
+}
+
+/// Whether all of these events name mirrors below this number alone.
+fn are_within(count: usize, events: &[Event]) -> bool
+    ensures { IsTrue result ↔ All (IsWithin count) events.now }
+{
+    for event in events {
+        if !is_within(count, event) {
+            return false;
+        }
+    }
+    true
+}
+
+/// Whether an event names mirrors below this number alone.
+fn is_within(count: usize, event: &Event) -> bool
+    ensures { IsTrue result ↔ IsWithin count event.now }
+{
+    match *event {
+        Event::Take { mirror, .. } => mirror < count,
+        Event::Pass { from, to, .. } => from < count && to < count,
+        Event::Restart { mirror, .. } => mirror < count,
+    }
+}
+
+#[cfg(test)]
+mod tests;

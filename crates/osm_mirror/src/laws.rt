@@ -1,0 +1,21 @@
+//! Laws of merges and fleets, each the contract of a function with an empty body. Nothing is run to use them.
+ghost use Rattle.osm_mirror.specs.FleetLaws.{LatestMirrorsAgree, FullMirrorsAgree};
+ghost use Rattle.osm_mirror.specs.Merges.{MergesOfTheSameFiles};
+
+/// Merges of the same files write the same bytes, in whatever order the files come, in whatever groups they are merged first, in
+/// whatever formats, and however often each is among them.
+pub fn merges_of_the_same_files()
+    ensures { MergesOfTheSameFiles }
+{}
+
+/// Two latest mirrors of a new fleet that the same files reached hold the same, and write the same bytes in one format,
+/// whichever kinds of mirror the files came through.
+pub fn latest_mirrors_agree()
+    ensures { LatestMirrorsAgree }
+{}
+
+/// Two full mirrors of a new fleet that the same files reached, through full ones alone, hold the same, and write the same bytes
+/// in one format.
+pub fn full_mirrors_agree()
+    ensures { FullMirrorsAgree }
+{}

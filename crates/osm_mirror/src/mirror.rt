@@ -1,0 +1,173 @@
+//! Mirrors: copies of the map that take files and write files.
+ghost use Rattle.std.specs.Prelude.{◌≡◌, IfOk, IfErr, MatchResult, OnErr};
+ghost use Rattle.osm_files.specs.Fault.{memory_fault};
+ghost use Rattle.osm_files.specs.Held.{HoldsSorted};
+ghost use Rattle.osm_files.specs.Spell.{spell};
+ghost use Rattle.osm_files.specs.SpellLaws.{AreVersions};
+ghost use Rattle.osm_files.specs.declared.reason.Reason.TheVariants as reason;
+ghost use Rattle.osm_merge.specs.Selected.{snapshot};
+ghost use Rattle.osm_mirror.specs.declared.keep.Keep.TheVariants as keep;
+ghost use Rattle.osm_mirror.specs.Mirror as spec;
+
+use crate::keep::{Keep, Taken};
+use osm_files::{Fault, Format, Reason, SliceIn, VecOut, load_any, write_history};
+use osm_merge::into_snapshot;
+use osm_model::{History, Memory};
+use std::alloc::Global;
+use std::marker::Model;
+use std::mem;
+
+/// A copy of the map, in memory: a full one holds the whole history that reached it, a latest one the newest version of each
+/// object.
+///
+/// Whatever files mirrors take, in any order and however often, each mirror's snapshot is that of all that reached it.
+#[derive(Drop)]
+pub struct Mirror {
+    alloc: Global,
+    keep: Keep,
+    held: History,
+}
+
+impl Model for Mirror {
+    ghost use Rattle.osm_mirror.specs.Mirror.{MirrorData, mirror_code, IsSound};
+
+    ghost Value = { MirrorData };
+
+    ghost coded = { mirror_code };
+
+    ghost view = { λ m. record { keep = m.keep; held = m.held } };
+
+    ghost invariant = { λ m. IsSound (record { keep = m.keep; held = m.held }) };
+}
+
+impl Mirror {
+    /// A full mirror that holds nothing yet.
+    pub fn new_full(alloc: Global) -> Mirror
+        ensures { result ≡ spec.fresh keep.Full }
+    {
+        Mirror::new(alloc, Keep::Full)
+    }
+
+    /// A latest mirror that holds nothing yet.
+    pub fn new_latest(alloc: Global) -> Mirror
+        ensures { result ≡ spec.fresh keep.Latest }
+    {
+        Mirror::new(alloc, Keep::Latest)
+    }
+
+    /// A mirror that keeps this, and holds nothing yet.
+    pub(crate) fn new(alloc: Global, keep: Keep) -> Mirror
+        ensures { result ≡ spec.fresh keep }
+    {
+        Mirror {
+            alloc,
+            keep,
+            held: History::new(alloc),
+        }
+    }
+
+    /// A new mirror of the same kind.
+    pub(crate) fn new_like(&self) -> Mirror
+        ensures { result ≡ spec.fresh self.now.keep }
+    {
+        Mirror::new(self.alloc, self.keep)
+    }
+
+    /// What it holds.
+    pub fn held(&self) -> &History
+        ensures value { result.now ≡ self.now.held }
+        ensures latest { spec.IsKept self.now }
+    {
+        &self.held
+    }
+
+    /// An equal mirror.
+    ///
+    /// # Errors
+    ///
+    /// For want of memory alone.
+    pub fn copy(&self) -> Result<Mirror, Memory>
+        ensures { IfOk result (λ mirror. mirror ≡ self.now) }
+    {
+        Ok(Mirror {
+            alloc: self.alloc,
+            keep: self.keep,
+            held: self.held.copy()?,
+        })
+    }
+
+    /// Takes what a file holds, which may be of any format, its versions in any order. A full mirror then holds the union
+    /// of what it held and what the file holds, a latest one the snapshot of that union.
+    ///
+    /// What is held already isn't copied. The file is read first, and all memory taken, so that a refusal changes nothing.
+    ///
+    /// # Errors
+    ///
+    /// The place and the reason of the file's first faulty unit, the file being the input 0; or Memory. The mirror stays
+    /// as it was.
+    pub fn take(&mut self, file: &[u8]) -> Result<Taken, Fault>
+        ensures taken { IfOk result (spec.TakesFile file.now self.old self.new) }
+        ensures refused { IfErr result (spec.WhyNotTaken file.now) }
+        ensures unchanged { OnErr result (self.new ≡ self.old) }
+    {
+        let loaded = match load_any(self.alloc, 0, SliceIn::new(file)) {
+            Ok(loaded) => loaded,
+            Err(fault) => return Err(fault),
+        };
+        let versions = loaded.history.len() as u64;
+        self.absorb(loaded.history)?;
+        Ok(Taken { versions })
+    }
+
+    /// Takes the versions of a history.
+    fn absorb(&mut self, history: History) -> Result<(), Memory>
+        requires { AreVersions history }
+        ensures { MatchResult result (λ _. self.new ≡ spec.took self.old history) (λ _. self.new ≡ self.old) }
+    {
+        self.held.absorb(history)?;
+        match self.keep {
+            Keep::Full => {}
+            Keep::Latest => keep_newest(self.alloc, &mut self.held),
+        }
+        Ok(())
+    }
+
+    /// The one file of this format that holds what the mirror holds.
+    ///
+    /// # Errors
+    ///
+    /// Memory; or TooLong where that file would have 2^62 bytes or more, as the output 1.
+    pub fn write(&self, format: Format) -> Result<Vec<u8>, Fault>
+        ensures written { IfOk result (λ file. file.items ≡ spell format self.now.held) }
+        ensures accepted { IfOk result (λ file. HoldsSorted file.items self.now.held) }
+        ensures refused { IfErr result (spec.WhyNotSpelled format self.now.held) }
+    {
+        let mut out = VecOut::new(self.alloc);
+        match write_history(self.alloc, 1, format, &self.held, &mut out) {
+            Ok(()) => Ok(out.into_vec()),
+            Err(fault) => Err(unwritten(fault)),
+        }
+    }
+}
+
+/// Leaves a history the newest version of each object.
+fn keep_newest(alloc: Global, history: &mut History)
+    ensures { history.new ≡ snapshot history.old }
+{
+    let all = mem::replace(history, History::new(alloc));
+    *history = into_snapshot(all);
+}
+
+/// Why nothing was written to memory: the file would be too long, or memory was refused, by which the output fails too.
+fn unwritten(fault: Fault) -> Fault
+    ensures long { fault.reason ≡ reason.TooLong → result ≡ fault }
+    ensures other { (fault.reason ≡ reason.TooLong → ⊥) → result ≡ memory_fault }
+{
+    match fault.reason {
+        Reason::TooLong => fault,
+        _ => Fault::memory(),
+    }
+}
+
+#[cfg(test)]
+mod tests;

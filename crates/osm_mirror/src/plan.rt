@@ -1,0 +1,126 @@
+//! Plans: the mirrors of a fleet, what happens to them, and the files that are made in the end.
+ghost use Rattle.std.specs.Prelude.{◌≡◌, ◌⊎◌, OnOk, IfOk, IfErr};
+ghost use Rattle.osm_mirror.specs.declared.plan_line.PlanLine.TheVariants as line;
+ghost use Rattle.osm_mirror.specs.declared.plan_fault.PlanReason.TheVariants as why;
+ghost use Rattle.osm_mirror.specs.PlanFault.{memory_fault};
+ghost use Rattle.osm_mirror.specs.Plan.{PlanSpells, NamesItsMirrors, SpellsNoPlan, PlanFaultOf, LinesSpell, IsFirstFault, lines_of, parts_of, IsAdded, IsLineAdded, IsRefused, LineFault};
+
+use crate::keep::Keep;
+use crate::plan_fault::{PlanFault, PlanReason};
+use crate::plan_line::{PlanLine, PlanWrite, Step, read_plan_line};
+use std::alloc::Global;
+use std::str;
+
+/// The mirrors of a fleet, what happens to them, and the files that are made in the end.
+#[derive(Debug, Drop)]
+pub struct Plan {
+    /// What each mirror keeps. The mirrors are numbered from 0, in this order.
+    pub mirrors: Vec<Keep>,
+    /// What happens, one after the other.
+    pub steps: Vec<Step>,
+    /// The files that are made once all steps are done, one after the other.
+    pub writes: Vec<PlanWrite>,
+}
+
+/// The plan that a text spells. Its mirror numbers are below the number of its mirrors.
+///
+/// # Errors
+///
+/// `NotUtf8` where the text isn't UTF-8; else the first faulty line and what is wrong with it: `BadWord`, `BadOrder` or
+/// `NoMirror`, whichever comes first in this order; `Memory` where a growth was refused.
+pub fn read_plan(alloc: Global, text: &[u8]) -> Result<Plan, PlanFault>
+    ensures plan { IfOk result (PlanSpells text.now) }
+    ensures named { IfOk result NamesItsMirrors }
+    ensures fault { IfErr result (λ fault. (fault ≡ memory_fault) ⊎ PlanFaultOf text.now fault) }
+    ensures none { IfErr result (λ fault. (fault ≡ memory_fault) ⊎ SpellsNoPlan text.now) }
+{
+    match str::from_utf8(text) {
+        Ok(text) => read_lines(alloc, text),
+        Err(_) => Err(PlanFault::at(0, PlanReason::NotUtf8)),
+    }
+}
+
+/// The plan that the lines of a text spell.
+///
+/// # Errors
+///
+/// The first faulty line and what is wrong with it; `Memory`.
+fn read_lines(alloc: Global, text: &str) -> Result<Plan, PlanFault>
+    ensures plan { IfOk result (λ plan. LinesSpell (lines_of text.now) (parts_of plan)) }
+    ensures named { IfOk result NamesItsMirrors }
+    ensures fault { IfErr result (λ fault. (fault ≡ memory_fault) ⊎ IsFirstFault text.now fault) }
+{
+    let mut plan = Plan {
+        mirrors: Vec::new(alloc),
+        steps: Vec::new(alloc),
+        writes: Vec::new(alloc),
+    };
+    let mut number: u64 = 0;
+    'lines: for line in text.split('\n') {
+        number += 1;
+        if let Err(reason) = plan.add_line(alloc, line) {
+            return Err(PlanFault::at(number, reason));
+        }
+    }
+    Ok(plan)
+}
+
+impl Plan {
+    /// Adds what a line says; an empty one says nothing.
+    ///
+    /// # Errors
+    ///
+    /// What is wrong with the line; `Memory`.
+    fn add_line(&mut self, alloc: Global, line: &str) -> Result<(), PlanReason>
+        ensures added { OnOk result (IsLineAdded line.now (parts_of self.old) (parts_of self.new)) }
+        ensures refused { IfErr result (λ reason. (reason ≡ why.Memory) ⊎ LineFault (parts_of self.old) line.now reason) }
+    {
+        if line.is_empty() {
+            return Ok(());
+        }
+        match read_plan_line(alloc, line)? {
+            PlanLine::Mirror(keep) => self.add_mirror(keep),
+            PlanLine::Step(step) => self.add_step(step),
+            PlanLine::Write(write) => self.add_write(write),
+        }
+    }
+
+    /// Adds a mirror.
+    fn add_mirror(&mut self, keep: Keep) -> Result<(), PlanReason>
+        ensures added { OnOk result (IsAdded (parts_of self.old) (line.Mirror keep) (parts_of self.new)) }
+        ensures refused { IfErr result (λ reason. (reason ≡ why.Memory) ⊎ IsRefused (parts_of self.old) (line.Mirror keep) reason) }
+    {
+        if !self.steps.is_empty() || !self.writes.is_empty() {
+            return Err(PlanReason::BadOrder);
+        }
+        Ok(self.mirrors.push(keep)?)
+    }
+
+    /// Adds a step.
+    fn add_step(&mut self, step: Step) -> Result<(), PlanReason>
+        ensures added { OnOk result (IsAdded (parts_of self.old) (line.Step step) (parts_of self.new)) }
+        ensures refused { IfErr result (λ reason. (reason ≡ why.Memory) ⊎ IsRefused (parts_of self.old) (line.Step step) reason) }
+    {
+        if !self.writes.is_empty() {
+            return Err(PlanReason::BadOrder);
+        }
+        if !step.names_mirrors(self.mirrors.len()) {
+            return Err(PlanReason::NoMirror);
+        }
+        Ok(self.steps.push(step)?)
+    }
+
+    /// Adds a file that is made in the end.
+    fn add_write(&mut self, write: PlanWrite) -> Result<(), PlanReason>
+        ensures added { OnOk result (IsAdded (parts_of self.old) (line.Write write) (parts_of self.new)) }
+        ensures refused { IfErr result (λ reason. (reason ≡ why.Memory) ⊎ IsRefused (parts_of self.old) (line.Write write) reason) }
+    {
+        if write.mirror >= self.mirrors.len() {
+            return Err(PlanReason::NoMirror);
+        }
+        Ok(self.writes.push(write)?)
+    }
+}
+
+#[cfg(test)]
+mod tests;

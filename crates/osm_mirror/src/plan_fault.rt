@@ -1,0 +1,98 @@
+//! Why plans are refused.
+ghost use Rattle.std.specs.Prelude.{◌≡◌};
+ghost use Rattle.osm_mirror.specs.PlanFault.{plan_reason_name, fault_at};
+
+use osm_model::Memory;
+use std::alloc::{AllocError, AllocFailed};
+use thiserror::Error;
+
+/// The refusal of a plan: at which line, and why.
+#[derive(Clone, Copy, Debug, PartialEq, Eq, Error)]
+#[error("line {line}: {}", .reason.name())]
+pub struct PlanFault {
+    /// The number of the line, from 1, empty lines counted too; 0 where no line is to blame.
+    pub line: u64,
+    /// Why.
+    pub reason: PlanReason,
+}
+
+impl PlanFault {
+    /// This reason at the line of this number; want of memory has line 0.
+    pub(crate) fn at(line: u64, reason: PlanReason) -> PlanFault
+        ensures { result ≡ fault_at line reason }
+    {
+        match reason {
+            PlanReason::Memory => PlanFault { line: 0, reason },
+            _ => PlanFault { line, reason },
+        }
+    }
+}
+
+/// Why a plan is refused.
+#[derive(Clone, Copy, Debug, PartialEq, Eq, Error)]
+pub enum PlanReason {
+    /// The text isn't UTF-8. No line is to blame.
+    #[error("not UTF-8")]
+    NotUtf8,
+    /// A line has an unknown first word, a wrong number of words, an empty word, or a word that isn't the number or the
+    /// format that should stand there.
+    #[error("ill-formed line")]
+    BadWord,
+    /// A mirror line stands after another line, or a step after a write line.
+    #[error("line out of order")]
+    BadOrder,
+    /// A line names a mirror that no line before it has made.
+    #[error("no such mirror")]
+    NoMirror,
+    /// Memory was refused. No line is to blame.
+    #[error("out of memory")]
+    Memory,
+}
+
+impl PlanReason {
+    /// The reason's name, which is that of its variant.
+    pub fn name(&self) -> &'static str
+        ensures { result.now ≡ plan_reason_name self.now }
+    {
+        match self {
+            PlanReason::NotUtf8 => "NotUtf8",
+            PlanReason::BadWord => "BadWord",
+            PlanReason::BadOrder => "BadOrder",
+            PlanReason::NoMirror => "NoMirror",
+            PlanReason::Memory => "Memory",
+        }
+    }
+}
+
+impl From<AllocError> for PlanReason {
+    ghost use Rattle.std.specs.Prelude.{◌≡◌};
+    ghost use Rattle.osm_mirror.specs.declared.plan_fault.PlanReason.TheVariants as why;
+
+    ghost from_gives = { λ _ reason. reason ≡ why.Memory };
+
+    fn from(_error: AllocError) -> PlanReason {
+        PlanReason::Memory
+    }
+}
+
+impl<T: Drop> From<AllocFailed<T>> for PlanReason {
+    ghost use Rattle.std.specs.Prelude.{◌≡◌};
+    ghost use Rattle.osm_mirror.specs.declared.plan_fault.PlanReason.TheVariants as why;
+
+    ghost from_gives = { λ _ reason. reason ≡ why.Memory };
+
+    fn from(_error: AllocFailed<T>) -> PlanReason {
+        PlanReason::Memory
+    }
+}
+
+impl From<Memory> for PlanReason {
+    ghost use Rattle.std.specs.Prelude.{◌≡◌};
+    ghost use Rattle.osm_mirror.specs.declared.plan_fault.PlanReason.TheVariants as why;
+
+    ghost from_gives = { λ _ reason. reason ≡ why.Memory };
+
+    fn from(_error: Memory) -> PlanReason {
+        PlanReason::Memory
+    }
+}

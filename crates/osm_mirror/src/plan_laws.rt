@@ -1,0 +1,12 @@
+//! Laws of plan files, each the contract of a function with an empty body. Nothing is run to use them.
+ghost use Rattle.osm_mirror.specs.PlanLaws.{OnePlan, FaultySpellsNothing};
+
+/// A text spells at most one plan.
+pub fn one_plan()
+    ensures { OnePlan }
+{}
+
+/// A text that has a fault spells no plan.
+pub fn faulty_spells_nothing()
+    ensures { FaultySpellsNothing }
+{}

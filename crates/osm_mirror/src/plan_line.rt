@@ -1,0 +1,212 @@
+//! The lines of plans.
+ghost use Rattle.std.specs.Prelude.{◌≡◌, [], ◌∷◌, map, IfOk, IfErr, MatchBool};
+ghost use Rattle.std.specs.Str.{all_ascii_digits};
+ghost use Rattle.osm_files.specs.Format.{format_name};
+ghost use Rattle.osm_mirror.specs.PlanLine.{WordsSay, LineSays, StepNames, IsNumber, IsName};
+ghost use Rattle.osm_mirror.specs.PlanFault.{IsNone, IsNoneOrMemory};
+
+use crate::keep::Keep;
+use crate::plan_fault::PlanReason;
+use osm_files::Format;
+use osm_model::Text;
+use std::alloc::Global;
+
+/// The most digits of a mirror's number.
+const MOST_DIGITS: usize = 9;
+
+/// What happens to a plan's mirrors. Their numbers count from 0, in the order of the plan's mirror lines.
+#[derive(Debug, Drop)]
+pub enum Step {
+    /// A mirror takes a file.
+    Take {
+        /// The mirror's number.
+        mirror: usize,
+        /// The file's name.
+        file: Text,
+    },
+    /// A mirror takes what a mirror writes.
+    Pass {
+        /// The number of the mirror that writes.
+        from: usize,
+        /// The number of the mirror that takes.
+        to: usize,
+        /// The format of what is written.
+        format: Format,
+    },
+    /// A mirror is written and read again.
+    Restart {
+        /// The mirror's number.
+        mirror: usize,
+        /// The format of what is written.
+        format: Format,
+    },
+}
+
+impl Step {
+    /// Whether all mirrors that the step names are among the first so many.
+    pub(crate) fn names_mirrors(&self, mirrors: usize) -> bool
+        ensures { MatchBool result (StepNames mirrors self.now) (¬ StepNames mirrors self.now) }
+    {
+        match self {
+            Step::Take { mirror, .. } | Step::Restart { mirror, .. } => *mirror < mirrors,
+            Step::Pass { from, to, .. } => *from < mirrors && *to < mirrors,
+        }
+    }
+}
+
+/// A file that is made once all steps are done.
+#[derive(Debug, Drop)]
+pub struct PlanWrite {
+    /// The number of the mirror that is written, from 0.
+    pub mirror: usize,
+    /// The file's format.
+    pub format: Format,
+    /// The file's name.
+    pub file: Text,
+}
+
+/// What a line of a plan says.
+#[derive(Drop)]
+pub(crate) enum PlanLine {
+    /// There is one more mirror.
+    Mirror(Keep),
+    /// A step.
+    Step(Step),
+    /// A file that is made in the end.
+    Write(PlanWrite),
+}
+
+/// What a line that isn't empty says.
+///
+/// # Errors
+///
+/// `BadWord` where it says nothing; `Memory`.
+pub(crate) fn read_plan_line(alloc: Global, line: &str) -> Result<PlanLine, PlanReason>
+    ensures says { IfOk result (LineSays line.now) }
+    ensures nothing { IfErr result (IsNoneOrMemory (LineSays line.now)) }
+{
+    let words: Vec<&str> = line.split(' ').collect(alloc)?;
+    read_words(alloc, words.as_slice())
+}
+
+/// What the words of a line say.
+fn read_words(alloc: Global, words: &[&str]) -> Result<PlanLine, PlanReason>
+    ensures says { IfOk result (WordsSay (map (λ word. word.now) words.now)) }
+    ensures nothing { IfErr result (IsNoneOrMemory (WordsSay (map (λ word. word.now) words.now))) }
+{
+    match words {
+        [word] => read_one_word(*word),
+        [word, number, last] => read_three_words(alloc, *word, *number, *last),
+        [word, number, third, last] => read_four_words(alloc, *word, *number, *third, *last),
+        _ => Err(PlanReason::BadWord),
+    }
+}
+
+/// What a line of one word says: `full` or `latest`.
+fn read_one_word(word: &str) -> Result<PlanLine, PlanReason>
+    ensures says { IfOk result (WordsSay (word.now ∷ [])) }
+    ensures nothing { IfErr result (IsNone (WordsSay (word.now ∷ []))) }
+{
+    match word {
+        "full" => Ok(PlanLine::Mirror(Keep::Full)),
+        "latest" => Ok(PlanLine::Mirror(Keep::Latest)),
+        _ => Err(PlanReason::BadWord),
+    }
+}
+
+/// What a line of three words says: `take M FILE` or `restart M FORMAT`.
+fn read_three_words(
+    alloc: Global,
+    word: &str,
+    number: &str,
+    last: &str,
+) -> Result<PlanLine, PlanReason>
+    ensures says { IfOk result (WordsSay (word.now ∷ number.now ∷ last.now ∷ [])) }
+    ensures nothing { IfErr result (IsNoneOrMemory (WordsSay (word.now ∷ number.now ∷ last.now ∷ []))) }
+{
+    let mirror = read_number(number)?;
+    let step = match word {
+        "take" => Step::Take {
+            mirror,
+            file: read_name(alloc, last)?,
+        },
+        "restart" => Step::Restart {
+            mirror,
+            format: read_format(last)?,
+        },
+        _ => return Err(PlanReason::BadWord),
+    };
+    Ok(PlanLine::Step(step))
+}
+
+/// What a line of four words says: `pass M N FORMAT` or `write M FORMAT FILE`.
+fn read_four_words(
+    alloc: Global,
+    word: &str,
+    number: &str,
+    third: &str,
+    last: &str,
+) -> Result<PlanLine, PlanReason>
+    ensures says { IfOk result (WordsSay (word.now ∷ number.now ∷ third.now ∷ last.now ∷ [])) }
+    ensures nothing { IfErr result (IsNoneOrMemory (WordsSay (word.now ∷ number.now ∷ third.now ∷ last.now ∷ []))) }
+{
+    let mirror = read_number(number)?;
+    match word {
+        "pass" => Ok(PlanLine::Step(Step::Pass {
+            from: mirror,
+            to: read_number(third)?,
+            format: read_format(last)?,
+        })),
+        "write" => Ok(PlanLine::Write(PlanWrite {
+            mirror,
+            format: read_format(third)?,
+            file: read_name(alloc, last)?,
+        })),
+        _ => Err(PlanReason::BadWord),
+    }
+}
+
+/// The number of a mirror: 1 to 9 decimal digits.
+fn read_number(word: &str) -> Result<usize, PlanReason>
+    ensures number { IfOk result (IsNumber word.now) }
+    ensures none { IfErr result (IsNone (IsNumber word.now)) }
+{
+    if word.len() > MOST_DIGITS || !are_digits(word) {
+        return Err(PlanReason::BadWord);
+    }
+    match word.parse::<usize>() {
+        Ok(number) => Ok(number),
+        Err(_) => Err(PlanReason::BadWord),
+    }
+}
+
+/// Whether all characters of a word are decimal digits.
+fn are_digits(word: &str) -> bool
+    ensures { result ≡ all_ascii_digits word.now }
+{
+    word.bytes().all(|byte| byte.is_ascii_digit())
+}
+
+/// The format of this name.
+fn read_format(word: &str) -> Result<Format, PlanReason>
+    ensures format { IfOk result (λ format. word.now ≡ format_name format) }
+    ensures none { IfErr result (IsNone (λ format. word.now ≡ format_name format)) }
+{
+    match word {
+        "opl" => Ok(Format::Opl),
+        "o5m" => Ok(Format::O5m),
+        "o5c" => Ok(Format::O5c),
+        _ => Err(PlanReason::BadWord),
+    }
+}
+
+/// The name of a file: a word that isn't empty.
+fn read_name(alloc: Global, word: &str) -> Result<Text, PlanReason>
+    ensures name { IfOk result (IsName word.now) }
+    ensures none { IfErr result (IsNoneOrMemory (IsName word.now)) }
+{
+    if word.is_empty() {
+        return Err(PlanReason::BadWord);
+    }
+    Ok(Text::from_str(alloc, word)?)
+}

@@ -1,0 +1,15 @@
+use Rattle.std.proofs.Common.{rules, ◌≡◌}
+use Rattle.osm_model.specs.Order.{version_cmp, version_cmp_total}
+use Rattle.osm_model.specs.Merged.{merged}
+use Rattle.osm_model.proofs.MergedLaws.{sorted_merged}
+use Rattle.osm_model.proofs.VersionLaws.{union-view}
+use Rattle.osm_model.proofs.history.History.absorb.Goals as goal
+
+pub invariant_of-self : goal.invariant_of-self
+invariant_of-self c =
+    let is : c.move_merged.new.versions.items ≡ merged version_cmp c.self.inside.versions.items c.other.inside.versions.items = search rules in
+    rw is (sorted_merged version_cmp_total _ _ c.self.invariant c.other.invariant)
+
+pub returns : goal.returns
+returns c =
+    rw (← c.self.view_is, ← c.other.view_is, union-view _ _ c.self.invariant c.other.invariant) (search rules)
