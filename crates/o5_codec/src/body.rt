@@ -196,7 +196,7 @@ impl Segment {
         self.read_each_tag(bytes)
     }
 
-    /// The same where there are tags.
+    /// Tags to the end of the bytes, of which there are some.
     #[inline(never)]
     fn read_each_tag(&mut self, bytes: &[u8]) -> Result<Tags, O5Reason>
         ensures { Answers (λ tags. (tags, self.new)) (items_at spec.tag_at self.old bytes.now) result }

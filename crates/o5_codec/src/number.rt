@@ -30,7 +30,7 @@ pub fn read_number(bytes: &[u8]) -> Result<(u64, &[u8]), O5Reason>
     }
 }
 
-/// The same of a number of five groups at most, which is ended.
+/// The unsigned number at the front, and the bytes behind it, where it is ended and has five groups at most.
 #[inline(always)]
 fn read_few_groups(bytes: &[u8]) -> Option<(u64, &[u8])>
     ensures value { IfSome result (λ x. number_at bytes.now ≡ Ok (x.0, x.1.now)) }
@@ -74,7 +74,8 @@ fn read_few_groups(bytes: &[u8]) -> Option<(u64, &[u8])>
     None
 }
 
-/// The same of any number. Its answer is taken apart here, so that no room for it is cleared where it isn't asked for.
+/// The unsigned number of any length at the front, and the bytes behind it. The answer is taken apart here, so that no
+/// room for it is cleared where it isn't asked for.
 #[inline(always)]
 fn read_any_groups(bytes: &[u8]) -> Result<(u64, &[u8]), O5Reason>
     ensures value { Gives (λ x. (x.0, x.1.now)) (number_at bytes.now) result }
@@ -84,7 +85,7 @@ fn read_any_groups(bytes: &[u8]) -> Result<(u64, &[u8]), O5Reason>
     Ok((number, rest))
 }
 
-/// The same of any number, group by group.
+/// The unsigned number of any length at the front, read group by group, and the bytes behind it.
 #[cold]
 #[inline(never)]
 fn read_groups(bytes: &[u8]) -> Result<(u64, &[u8]), O5Reason>

@@ -427,36 +427,68 @@ fn reads_texts(rt: HostRuntime) -> Result<(), Fail> {
     read_all(&rt, rt.alloc(), rows)
 }
 
-/// The content of a node with one tag, whose key is `k` and whose value is so many letters `a`.
-fn long_tag(alloc: Global, length: usize) -> Result<Vec<u8>, Fail> {
-    let mut content = Vec::from_slice(alloc, b"\x02\x01\x00\x00\x00\x00k\x00")?;
-    for _ in 0..length {
-        content.push(b'a')?;
+/// A decoder behind a node with this content.
+fn decoder_behind(alloc: Global, content: &[u8]) -> Result<Decoder, Fail> {
+    let mut decoder = Decoder::new(alloc)?;
+    let version = decoder.read_set(Kind::Node, content)?;
+    decoder.reuse(version);
+    Ok(decoder)
+}
+
+/// Reads a content behind a node with the first one, as `read` does.
+fn read_behind(
+    rt: &impl Abort,
+    alloc: Global,
+    first: &[u8],
+    content: &str,
+    expected: &str,
+) -> Result<(), Fail> {
+    let mut decoder = decoder_behind(alloc, first)?;
+    read(rt, alloc, &mut decoder, content, expected)
+}
+
+/// So many letters `a`.
+fn letters(alloc: Global, count: usize) -> Result<String, Fail> {
+    let mut text = String::new(alloc);
+    for _ in 0..count {
+        text.push('a')?;
     }
+    Ok(text)
+}
+
+/// The content of a node with one tag, whose key is `k`.
+fn tagged(alloc: Global, value: &str) -> Result<Vec<u8>, Fail> {
+    let mut content = Vec::from_slice(alloc, b"\x02\x01\x00\x00\x00\x00k\x00")?;
+    content.extend_from_slice(value.as_bytes())?;
     content.push(0)?;
     Ok(content)
 }
 
 #[test]
-fn stores_pairs_of_250_bytes(rt: HostRuntime) -> Result<(), Fail> {
-    let alloc = rt.alloc();
-    let content = long_tag(alloc, 249)?;
-    let mut decoder = Decoder::new(alloc)?;
-    let _ = decoder.read_set(Kind::Node, &content)?;
-    let version = decoder.read_set(Kind::Node, b"\x02\x01\x00\x00\x00\x01")?;
-    assert_eq!(rt; version.id(), 2);
-    assert_eq!(rt; version.body().tags().len(), 1);
-    let content = long_tag(alloc, 250)?;
-    let mut decoder = Decoder::new(alloc)?;
-    let _ = decoder.read_set(Kind::Node, &content)?;
-    read(
+fn stores_a_pair_of_250_bytes(rt: HostRuntime) -> Result<(), Fail> {
+    let value = letters(rt.alloc(), 249)?;
+    let line = format!(in rt.alloc(); "n2 v1 dV c0 t i0 u Tk={value} x0 y0")?;
+    let content = tagged(rt.alloc(), value.as_str())?;
+    read_behind(
         &rt,
-        alloc,
-        &mut decoder,
+        rt.alloc(),
+        &content,
+        "02 01 00 00 00 01",
+        line.as_str(),
+    )
+}
+
+#[test]
+fn stores_no_pair_of_251_bytes(rt: HostRuntime) -> Result<(), Fail> {
+    let value = letters(rt.alloc(), 250)?;
+    let content = tagged(rt.alloc(), value.as_str())?;
+    read_behind(
+        &rt,
+        rt.alloc(),
+        &content,
         "02 01 00 00 00 01",
         "BadReference",
-    )?;
-    Ok(())
+    )
 }
 
 /// The content of a node with tags whose keys are the numbers from 1 on, and whose values are empty.
@@ -473,25 +505,16 @@ fn many_tags(alloc: Global, count: usize) -> Result<Vec<u8>, Fail> {
 
 #[test]
 fn stores_the_last_15000_pairs(rt: HostRuntime) -> Result<(), Fail> {
-    let alloc = rt.alloc();
-    let content = many_tags(alloc, 15_001)?;
-    let mut decoder = Decoder::new(alloc)?;
-    let _ = decoder.read_set(Kind::Node, &content)?;
-    read(
+    let content = many_tags(rt.alloc(), 15_001)?;
+    let line = "n2 v1 dV c0 t i0 u T2= x0 y0";
+    read_behind(&rt, rt.alloc(), &content, "02 01 00 00 00 98 75", line)?;
+    read_behind(
         &rt,
-        alloc,
-        &mut decoder,
-        "02 01 00 00 00 98 75",
-        "n2 v1 dV c0 t i0 u T2= x0 y0",
-    )?;
-    read(
-        &rt,
-        alloc,
-        &mut decoder,
+        rt.alloc(),
+        &content,
         "02 01 00 00 00 99 75",
         "BadReference",
-    )?;
-    Ok(())
+    )
 }
 
 #[test]

@@ -35,7 +35,7 @@ fn to_str(bytes: &[u8]) -> Result<&str, O5Reason>
     any_to_str(bytes)
 }
 
-/// The same of a string with characters of any kind.
+/// A string with characters of any kind as a slice of a text.
 #[inline(never)]
 fn any_to_str(bytes: &[u8]) -> Result<&str, O5Reason>
     ensures { Gives (λ text. chars text.now) (text_of bytes.now) result }
@@ -90,7 +90,7 @@ pub(crate) fn to_user(alloc: Global, strings: &Strings<'_>) -> Result<(u32, Text
     Ok((uid, name))
 }
 
-/// The same, out of the way of users that are known.
+/// The user id and the user name of any pair, out of the way of users that are known.
 #[inline(never)]
 #[tactic(auto, unfolding(crate::specs::Text::user_of))]
 fn to_any_user(alloc: Global, strings: &Strings<'_>) -> Result<(u32, Text), O5Reason>

@@ -41,7 +41,7 @@ impl Cut {
         }
     }
 
-    /// The same of bytes.
+    /// The bytes before the first one that is cut at, and those behind it, if there is one.
     #[inline(always)]
     pub(crate) fn split_bytes(self, bytes: &[u8]) -> (&[u8], Option<&[u8]>)
         ensures first { result.0.now ≡ (split_first (is_end self) bytes.now).0 }

@@ -113,7 +113,8 @@ impl Fields {
         Ok(behind)
     }
 
-    /// The same of a field that is in its usual form; `None` of another one, which isn't added.
+    /// Adds what the first field of a text says, where it is in its usual form, and answers what stands behind its
+    /// blank; `None` of another field, which isn't added.
     #[inline(always)]
     fn read_usual<'a>(
         &mut self,
@@ -165,7 +166,8 @@ impl Fields {
         }
     }
 
-    /// The same of a coordinate, which only a node has.
+    /// Adds a coordinate in its usual form, which only a node has, and answers what stands behind its blank; `None` of
+    /// another field.
     #[inline(always)]
     fn read_usual_place<'a>(
         &mut self,
@@ -257,7 +259,7 @@ impl Fields {
         Ok(())
     }
 
-    /// The same of a letter that not every kind has.
+    /// Adds the content of a field whose letter not every kind has.
     fn add_body_content(
         &mut self,
         alloc: Global,

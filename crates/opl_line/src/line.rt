@@ -37,7 +37,8 @@ pub fn read_line(alloc: Global, line: &[u8]) -> Result<Option<Version>, OplReaso
     read_line_reusing(alloc, line, &mut None)
 }
 
-/// The same. The version is made in the memory of one that isn't needed any more, where one is given.
+/// What a line says, as [`read_line`] answers it. The version is made in the memory of one that isn't needed any more,
+/// where one is given.
 ///
 /// # Errors
 ///

@@ -62,7 +62,7 @@ fn value_of_few(digits: &[u8]) -> Option<u64>
     Some(number)
 }
 
-/// The same as `read_number`, for any length.
+/// The number that digits of any length write, up to a bound, digit by digit.
 #[cold]
 #[inline(never)]
 fn read_long_number(digits: &[u8], most: u64) -> Result<u64, OplReason>

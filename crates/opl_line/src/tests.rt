@@ -20,7 +20,7 @@ fn check(rt: &impl Abort, alloc: Global, line: &[u8], answer: &str) -> Result<()
     Ok(())
 }
 
-/// The same of rows of a line and its answer.
+/// Checks rows of a line and its answer.
 fn check_rows(rt: &impl Abort, alloc: Global, rows: &str) -> Result<(), Fail> {
     for row in rows.lines() {
         let (line, answer) = row.split_once(" => ").ok_or("no answer")?;

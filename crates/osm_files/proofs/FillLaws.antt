@@ -2,9 +2,9 @@
 use Rattle.std.proofs.Common.{◌≡◌, inr, ℕ, ◌+◌, ◌<◌, ◌^◌, false, List, [], ◌∷◌, ◌++◌, length, refl, sym, ap, ◌∙◌, subst, arith, Option, Some, None, option_map, IfSome}
 use Rattle.osm_files.specs.declared.fault.Fault.{Fault}
 use Rattle.osm_files.specs.Fault.{too_long_fault}
-use Rattle.osm_files.specs.Input.{Coming, preceded_by, Gave}
+use Rattle.osm_files.specs.Input.{Coming, preceded_by}
 use Rattle.osm_files.specs.Verdict.{too_long, length_limit}
-use Rattle.osm_files.specs.Position.{Position, ahead, fault_of, Keeps, Halts, StopsFilling}
+use Rattle.osm_files.specs.Position.{Told, ahead, fault_of, Keeps, Halts, StopsFilling}
 
 pub weaker : {A : Type 0} (o : Option A) (P Q : A → Type 0) → ((x : A) → P x → Q x) → IfSome o P → IfSome o Q
 weaker None P Q f h = tt
@@ -22,7 +22,7 @@ pub keeps_on : {A : Type 0} (a b c : Option A) → Keeps a b → Keeps b c → K
 keeps_on None b c h k = tt
 keeps_on {A} (Some x) b c h k = let P : Option A → Type 0 = λ o. IfSome o (λ y. c ≡ Some y) in subst P h k
 
-ahead_open : (p : Position) → p.ended ≡ false → ahead p ≡ option_map (preceded_by p.held) p.coming
+pub ahead_open : (p : Told) → p.ended ≡ false → ahead p ≡ option_map (preceded_by p.held) p.coming
 ahead_open p unended = rw unended refl
 
 too_long_is : (input : ℕ) → too_long_fault input ≡ fault_of input too_long
@@ -34,12 +34,12 @@ more_there : (held front : List ℕ) (t : Coming) → 0 < length front → (b : 
 more_there held [] t some = absurd (omega (arith, some))
 more_there held (b ∷ front) t some = (b, front ++ t.bytes, refl)
 
-from_mapped : (p : Position) (fault : Fault) (front : List ℕ) (coming : Option Coming) → 0 < length front → p.place + length p.held + 1 ≡ 2 ^ 62 → fault ≡ too_long_fault p.input
+from_mapped : (p : Told) (fault : Fault) (front : List ℕ) (coming : Option Coming) → 0 < length front → p.place + length p.held + 1 ≡ 2 ^ 62 → fault ≡ too_long_fault p.input
     → IfSome (option_map (preceded_by p.held) (option_map (preceded_by front) coming)) (λ c. Halts p c fault)
 from_mapped p fault front None some full is = tt
 from_mapped p fault front (Some t) some full is = inr (full, more_there p.held front t some, is ∙ too_long_is p.input)
 
-pub fill_full : (p : Position) (coming : Option Coming) (front : List ℕ) (fault : Fault) → p.ended ≡ false → Gave p.coming coming front → 0 < length front → p.place + length p.held + 1 ≡ 2 ^ 62 → fault ≡ too_long_fault p.input → StopsFilling p fault
+pub fill_full : (p : Told) (coming : Option Coming) (front : List ℕ) (fault : Fault) → p.ended ≡ false → p.coming ≡ option_map (preceded_by front) coming → 0 < length front → p.place + length p.held + 1 ≡ 2 ^ 62 → fault ≡ too_long_fault p.input → StopsFilling p fault
 fill_full p coming front fault unended gave some full is =
     inr (subst (λ (o : Option Coming). IfSome o (λ c. Halts p c fault)) (sym (ahead_open p unended ∙ ap (option_map (preceded_by p.held)) gave))
     (from_mapped p fault front coming some full is))

@@ -1,5 +1,5 @@
 -- Key groups, one unit at a time.
-use Rattle.std.proofs.Common.{◌≡◌, ℕ, ◌+◌, ◌<◌, ◌≤◌, ◌⊎◌, inl, inr, Bool, true, false, ◌||◌, List, [], ◌∷◌, ◌++◌, refl, ap, sym, ◌∙◌, subst, arith, Option, Some, None, option_to_list, is_some, IfSome, IfOk, IfErr, OnOk, Result, Ok, Err}
+use Rattle.std.proofs.Common.{◌≡◌, ℕ, ◌<◌, ◌≤◌, ◌⊎◌, inl, inr, Bool, true, false, ◌||◌, List, [], ◌∷◌, ◌++◌, refl, ap, sym, ◌∙◌, subst, arith, Option, Some, None, option_to_list, is_some, IfSome, IfOk, IfErr, OnOk, Result, Ok, Err}
 use Rattle.std.proofs.lemmas.Bool.{false≢true}
 use Rattle.std.proofs.lemmas.List.{append-nil}
 use Rattle.std.specs.declared.cmp.Ordering.{Ordering}
@@ -17,8 +17,8 @@ use Rattle.osm_model.proofs.VersionLaws.{version_cmp-IsAntisymmetric}
 use Rattle.osm_files.specs.declared.fault.Fault.{Fault}
 use Rattle.osm_files.specs.declared.reason.Reason.TheVariants.{Unsorted}
 use Rattle.osm_files.specs.Fault.{memory_fault, failed_fault}
-use Rattle.osm_files.specs.Groups.{ascending, joins, follows, versions_then, groups, gathered, some_of, units_left, IsGroup, Gathers, Refuses}
-use Rattle.osm_files.specs.Position.{Position, Keeps, fault_of, still_to_come}
+use Rattle.osm_files.specs.Groups.{ascending, joins, follows, versions_then, groups, gathered, IsGroup, Gathers, Refuses}
+use Rattle.osm_files.specs.Position.{Told, Keeps, fault_of, still_to_come}
 use Rattle.osm_files.specs.Source.{Step}
 use Rattle.osm_files.specs.Stream.{verdict_at, Placed, Still, whole, refused, front}
 use Rattle.osm_files.proofs.FillLaws.{weaker, keeps_on}
@@ -176,6 +176,9 @@ none_begins input None after h = (tt, ap (λ o. gathered input o [] []) h.1 ∙ 
 none_begins input (Some s) after h =
     ((let e : Some (versions_then [] (groups input s.refusal s.list [])) ≡ Some whole = ap (λ x. gathered input (Some x) [] []) h.0 ∙ no_more input in cc), ap (λ o. gathered input o [] []) h.1 ∙ no_more input)
 
+pub refused_begins : (input : ℕ) (before after : Option (Still Placed Fault)) (fault : Fault) → Step {A = Placed} before (Err fault) after → Refuses (gathered input before [] []) fault after
+refused_begins input before after fault h = (broken_by input before [] fault h.0, h.1)
+
 -- ---- what was made ready is given one by one
 first_of : (input : ℕ) (after : Option (Still Placed Fault)) (group ready : List VersionData) (v : VersionData) (s : Still VersionData Fault) → gathered input after group (v ∷ ready) ≡ Some s
     → (t : Still VersionData Fault) × (s ≡ front v t) × (gathered input after group ready ≡ Some t)
@@ -203,25 +206,6 @@ step_on start before after (Err fault) k (inr h, a) = (inr (from_kept start befo
 pub refused_step : (input : ℕ) (before : Option (Still VersionData Fault)) (after : Option (Still Placed Fault)) (group : List VersionData) (fault : Fault) → Refuses before fault after → Step before (Err fault) (gathered input after group [])
 refused_step input before after group fault (h, (number, a)) = (h, (number, ap (λ o. gathered input o group []) a))
 
--- ---- how many are left at most
-some_fit : (us : List Placed) (most : ℕ) → some_of us most ≤ most
-some_fit [] most = omega arith
-some_fit (u ∷ us) most = omega arith
-
-left_fit : (units : Option (Still Placed Fault)) (most : ℕ) → units_left units most ≤ most
-left_fit None most = omega arith
-left_fit (Some s) most = some_fit s.list most
-
-all_left : (before after : Option (Still Placed Fault)) (u : Placed) (most : ℕ) → Step before (Ok (Some u)) after → units_left before most ≡ most
-all_left None after u most h = refl
-all_left (Some s) after u most h = ap (λ x. some_of x.list most) h.1
-
-pub one_fewer : (before after : Option (Still Placed Fault)) (u : Placed) (most few : ℕ) → Step before (Ok (Some u)) after → few < most → units_left after few + 1 ≤ units_left before most
-one_fewer before after u most few h less = let all = all_left before after u most h in let fit = left_fit after few in omega (arith, all, fit, less)
-
-pub none_left : (before after : Option (Still Placed Fault)) (most few : ℕ) → Step before (Ok None) after → units_left after few ≤ units_left before most
-none_left before after most few h = let none : units_left after few ≡ 0 = ap (λ o. units_left o few) h.1 in omega (arith, none)
-
 -- ---- what a sort and a `dedup` make of a group
 pub sorted_group : (first : VersionData) (others sorted : List VersionData) → IsPermutation (others ++ first ∷ []) sorted → IsSorted version_cmp sorted → dedup (eq_by_cmp version_cmp) sorted ≡ ascending (first ∷ others)
 sorted_group first others sorted moved up =
@@ -242,13 +226,13 @@ module _ (input : ℕ) (start before : Option (Still Placed Fault)) (held : List
       step_on (gathered input start held []) (gathered input before (first ∷ begun) []) (gathered input after group []) (Err fault) keeps (refused_step input (gathered input before (first ∷ begun) []) after group fault h)
 
   -- the first of the group is given, or memory was refused
-  pub given_step : (p q : Position) (others : List VersionData) (next : Option VersionData) (ready : List VersionData) (r : Result (Option VersionData) Fault) → Gathers input before begun (still_to_come p) first others next → OnOk r (q ≡ p) → IfOk r (λ given. is_some given ≡ true)
+  pub given_step : (p q : Told) (others : List VersionData) (next : Option VersionData) (ready : List VersionData) (r : Result (Option VersionData) Fault) → Gathers input before begun (still_to_come p) first others next → OnOk r (q ≡ p) → IfOk r (λ given. is_some given ≡ true)
       → IfOk r (λ given. ascending (first ∷ others) ≡ option_to_list given ++ ready) → IfErr r (λ fault. (fault ≡ memory_fault) × (q ≡ record p { failed = true }) × (ready ≡ []))
       → Step (gathered input start held []) r (gathered input (still_to_come q) (option_to_list next) ready)
   given_step p q others next ready (Ok None) h same some given bad = absurd (false≢true some)
   given_step p q others next ready (Ok (Some v)) h same some given bad =
       step_on (gathered input start held []) (gathered input before (first ∷ begun) []) (gathered input (still_to_come q) (option_to_list next) ready) (Ok (Some v)) keeps
-      (gives_first input before begun (still_to_come q) first others next v ready (subst (λ (x : Position). Gathers input before begun (still_to_come x) first others next) (sym same) h) given)
+      (gives_first input before begun (still_to_come q) first others next v ready (subst (λ (x : Told). Gathers input before begun (still_to_come x) first others next) (sym same) h) given)
   given_step p q others next ready (Err fault) h same some given (memory, failed, none) =
       subst (λ (xs : List VersionData). Step (gathered input start held []) (Err fault) (gathered input (still_to_come q) (option_to_list next) xs)) (sym none)
       (refused_behind (still_to_come q) (option_to_list next) fault (inl memory, (p.input, ap still_to_come failed)))

@@ -9,6 +9,7 @@ mod HeldBytes
 mod FillLaws
 mod PositionLaws
 mod ReadingLaws
+mod ReaderLaws
 mod GivenLaws
 mod GroupLaws
 pub mod LoadLaws

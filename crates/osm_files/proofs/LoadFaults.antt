@@ -1,10 +1,19 @@
 -- How inputs are refused: by the first faulty unit that stands whole, or else by what closes their bytes.
-use Rattle.std.proofs.Common.{◌≡◌, ◌⊎◌, inl, inr, ⊎_elim, ℕ, zero, suc, ◌+◌, ◌-◌, ◌≤◌, ◌<◌, ◌==◌, ◌^◌, Bool, true, false, cond, List, [], ◌∷◌, ◌++◌, length, drop, take, refl, sym, ap, ◌∙◌, arith, Option, Some, None, option_map, IfSome, Result, Ok, Err, length-append, length-drop, nat_lt, nat_le}
+use Rattle.std.proofs.Common.{◌≡◌, ◌⊎◌, inl, inr, ⊎_elim, ℕ, zero, suc, ◌+◌, ◌-◌, ◌≤◌, ◌<◌, ◌==◌, ◌^◌, Bool, true, false, cond, List, [], ◌∷◌, ◌++◌, length, drop, take, refl, sym, ap, ◌∙◌, subst, arith, Option, Some, None, option_map, IfSome, IfErr, Result, Ok, Err, length-append, length-drop, nat_lt, nat_le}
 use Rattle.std.proofs.lemmas.Bool.{false≢true, ltb-true, ltb-false, lt-ltb}
 use Rattle.std.proofs.lemmas.List.{drop-append-le}
 use Rattle.osm_model.specs.declared.kind.Kind.{Kind}
+use Rattle.osm_model.specs.declared.kind.Kind.TheVariants as kind
 use Rattle.osm_model.specs.Data.{VersionData}
+use Rattle.o5_codec.specs.Answer.{and_then}
 use Rattle.o5_codec.specs.Body.{set_at}
+use Rattle.o5_codec.specs.Number.{number_at, signed_at}
+use Rattle.o5_codec.specs.Reason.{is_step_reason}
+use Rattle.o5_codec.specs.Segment.{id_at}
+use Rattle.o5_codec.proofs.AnswerLaws.{only_reason}
+use Rattle.o5_codec.proofs.RefusalLaws.{set_refused}
+use Rattle.opl_line.proofs.LineReasonLaws.{told_is_reason}
+use Rattle.opl_line.proofs.MemoryLaws.{memory_is_no_reason}
 use Rattle.o5_codec.specs.Decoder.{new_segment}
 use Rattle.opl_line.specs.Cut.{is_line_end, split_first}
 use Rattle.opl_line.specs.Reading.{reading_line}
@@ -18,10 +27,10 @@ use Rattle.osm_files.specs.declared.reason.Reason.TheVariants.{Opl, O5, BadHeade
 use Rattle.osm_files.specs.Reason.{of_line, of_data_set}
 use Rattle.osm_files.specs.O5.{end_byte, reset_byte, is_lone, kind_of_type}
 use Rattle.osm_files.specs.Stream.{Verdict, verdict_at, Placed, Still, whole}
-use Rattle.osm_files.specs.Units.{Stand, InOpl, BeforeHeader, InSegment, BehindEnd, Found, FileUnit, unit, passes, line_found, line_unit, is_header, set_found, content_found, sized_unit, length_at, unit_at, last_at, found_then, closed, unit_then, units_within, units, start_of}
-use Rattle.osm_files.specs.Verdict.{length_limit, too_long, file_units, verdict}
+use Rattle.osm_files.specs.Units.{Stand, InOpl, BeforeHeader, InSegment, BehindEnd, Found, FileUnit, unit, passes, line_found, line_unit, is_header, set_found, content_found, sized_unit, is_ended, length_at, unit_at, last_at, found_then, closed, unit_then, units_within, units, start_of}
+use Rattle.osm_files.specs.Verdict.{length_limit, too_long, file_units, verdict, is_below, sorted_verdict, verdict_sorted}
 use Rattle.osm_files.specs.Position.{units_from, fault_of}
-use Rattle.osm_files.specs.LoadLaws.{InputsAreFiles, IsFaultyWhole, NoneFaultyWhole, broken_behind, BrokenInputsAreRefused, VerdictsAreNoDeviceFaults}
+use Rattle.osm_files.specs.LoadLaws.{InputsAreFiles, IsFaultyWhole, NoneFaultyWhole, broken_behind, BrokenInputsAreRefused, is_verdict_reason, ReasonsOfVerdicts}
 use Rattle.osm_files.proofs.FileLaws.{short_units}
 use Rattle.osm_files.proofs.StepLaws.{unit_sized}
 use Rattle.osm_files.proofs.MoreLaws.{unit_stays}
@@ -148,82 +157,98 @@ unfolding units
 faulty_stays [] more v h = absurd (not_each v h)
 faulty_stays (b ∷ bytes) more v h = stays (length (b ∷ bytes)) (length (b ∷ (bytes ++ more))) None v (start_of (b ∷ bytes)) 0 (b ∷ bytes) more (omega arith) h
 
--- ---- no unit is faulty as a device is
-abbrev is_device : Reason → Bool
-is_device ReadFault = true
-is_device WriteFault = true
-is_device (Opl reason) = false
-is_device (O5 reason) = false
-is_device BadHeader = false
-is_device Unsorted = false
-is_device NoEnd = false
-is_device AfterEnd = false
-is_device TooLong = false
-is_device Memory = false
-is_device Failed = false
+-- ---- the reasons of verdicts
+of_line_fine : (reason : OplReason) → (reason ≡ opl.Memory → ⊥) → is_verdict_reason (of_line reason) ≡ true
+of_line_fine opl.NotUtf8 h = refl
+of_line_fine opl.UnknownKind h = refl
+of_line_fine opl.UnknownField h = refl
+of_line_fine opl.RepeatedField h = refl
+of_line_fine opl.BadNumber h = refl
+of_line_fine opl.OutOfRange h = refl
+of_line_fine opl.BadTime h = refl
+of_line_fine opl.BadCoordinate h = refl
+of_line_fine opl.BadText h = refl
+of_line_fine opl.BadList h = refl
+of_line_fine opl.NoVersion h = refl
+of_line_fine opl.NoTime h = refl
+of_line_fine opl.NoLocation h = refl
+of_line_fine opl.Memory h = absurd (h refl)
 
-line_fine : (reason : OplReason) → is_device (of_line reason) ≡ false
-line_fine opl.NotUtf8 = refl
-line_fine opl.UnknownKind = refl
-line_fine opl.UnknownField = refl
-line_fine opl.RepeatedField = refl
-line_fine opl.BadNumber = refl
-line_fine opl.OutOfRange = refl
-line_fine opl.BadTime = refl
-line_fine opl.BadCoordinate = refl
-line_fine opl.BadText = refl
-line_fine opl.BadList = refl
-line_fine opl.NoVersion = refl
-line_fine opl.NoTime = refl
-line_fine opl.NoLocation = refl
-line_fine opl.Memory = refl
-
-set_fine : (reason : O5Reason) → is_device (of_data_set reason) ≡ false
-set_fine o5.BadNumber = refl
-set_fine o5.OutOfRange = refl
-set_fine o5.NoVersion = refl
-set_fine o5.BadReference = refl
-set_fine o5.BadText = refl
-set_fine o5.NotUtf8 = refl
-set_fine o5.BadSection = refl
-set_fine o5.BadMemberType = refl
-set_fine o5.MixedSegment = refl
-set_fine o5.Truncated = refl
-set_fine o5.Memory = refl
-set_fine o5.Failed = refl
+of_data_set_fine : (reason : O5Reason) → is_step_reason reason ≡ true → is_verdict_reason (of_data_set reason) ≡ true
+of_data_set_fine o5.BadNumber h = refl
+of_data_set_fine o5.OutOfRange h = refl
+of_data_set_fine o5.NoVersion h = refl
+of_data_set_fine o5.BadReference h = refl
+of_data_set_fine o5.BadText h = refl
+of_data_set_fine o5.NotUtf8 h = refl
+of_data_set_fine o5.BadSection h = refl
+of_data_set_fine o5.BadMemberType h = refl
+of_data_set_fine o5.MixedSegment h = refl
+of_data_set_fine o5.Truncated h = refl
+of_data_set_fine o5.Memory h = absurd (false≢true h)
+of_data_set_fine o5.Failed h = absurd (false≢true h)
 
 abbrev FineFound : Found → Type 0
 FineFound (Ok found) = Unit {0}
-FineFound (Err reason) = is_device reason ≡ false
+FineFound (Err reason) = is_verdict_reason reason ≡ true
 
 abbrev FineUnit : Option FileUnit → Type 0
 FineUnit u = IfSome u (λ x. FineFound x.found)
 
-line_found_fine : (read : Result (Option VersionData) OplReason) → FineFound (line_found read)
-line_found_fine (Ok read) = tt
-line_found_fine (Err reason) = line_fine reason
+-- where a reading is refused, for a reason of the steps
+abbrev StepReason : {X : Type 0} → Result X O5Reason → Type 0
+StepReason r = IfErr r (λ reason. is_step_reason reason ≡ true)
+
+line_read_fine : (line : List ℕ) (read : Result (Option VersionData) OplReason) → reading_line line ≡ read → FineFound (line_found read)
+line_read_fine line (Ok read) is = tt
+line_read_fine line (Err reason) is = of_line_fine reason (λ memory. memory_is_no_reason line (told_is_reason line opl.Memory (is ∙ ap (λ r. Err r) memory)))
+
+line_found_fine : (line : List ℕ) → FineFound (line_found (reading_line line))
+line_found_fine line = line_read_fine line (reading_line line) refl
 
 line_unit_fine : (s : List ℕ × Option (List ℕ)) → FineUnit (line_unit s)
 line_unit_fine (line, None) = tt
-line_unit_fine (line, Some behind) = line_found_fine (reading_line line)
+line_unit_fine (line, Some behind) = line_found_fine line
+
+set_step : (k : Kind) (s : Segment) (content : List ℕ) (read : Result (VersionData × Segment) O5Reason) → set_at k s content ≡ read → StepReason read
+set_step k s content (Ok read) is = tt
+set_step k s content (Err reason) is = (only_reason k s content reason ((set_refused k s content reason).0 is)).of_a_step
+
+then_fails : {X Y : Type 0} (read : Result X O5Reason) (next : X → Result Y O5Reason) (reason : O5Reason) → read ≡ Err reason → and_then read next ≡ Err reason
+then_fails read next reason is = ap (λ r. and_then r next) is
+
+-- a number that can't be read refuses a data set that begins with it
+number_fails : (bytes : List ℕ) (reason : O5Reason) → number_at bytes ≡ Err reason → set_at kind.Node new_segment bytes ≡ Err reason
+unfolding set_at id_at signed_at
+number_fails bytes reason is = then_fails _ _ reason (then_fails _ _ reason (then_fails (number_at bytes) _ reason is))
+
+number_step : (bytes : List ℕ) (read : Result (ℕ × List ℕ) O5Reason) → number_at bytes ≡ read → StepReason read
+number_step bytes (Ok read) is = tt
+number_step bytes (Err reason) is = set_step kind.Node new_segment bytes (Err reason) (number_fails bytes reason is)
+
+length_step : (bytes : List ℕ) → IfSome (length_at bytes) StepReason
+length_step bytes = elim (is_ended bytes) as (λ t. IfSome (cond t (Some (number_at bytes)) None) StepReason) [
+  | true ↦ number_step bytes (number_at bytes) refl
+  | false ↦ tt
+]
 
 header_fine : (short is : Bool) → FineUnit (cond short None (Some (unit 7 (cond is (passes (InSegment new_segment)) (Err BadHeader)))))
 header_fine true is = tt
 header_fine false true = tt
 header_fine false false = refl
 
-set_found_fine : (read : Result (VersionData × Segment) O5Reason) → FineFound (set_found read)
-set_found_fine (Ok read) = tt
-set_found_fine (Err reason) = set_fine reason
+set_found_fine : (read : Result (VersionData × Segment) O5Reason) → StepReason read → FineFound (set_found read)
+set_found_fine (Ok read) h = tt
+set_found_fine (Err reason) h = of_data_set_fine reason h
 
 content_fine : (s : Segment) (k : Option Kind) (content : List ℕ) → FineFound (content_found s k content)
 content_fine s None content = tt
-content_fine s (Some k) content = set_found_fine (set_at k s content)
+content_fine s (Some k) content = set_found_fine (set_at k s content) (set_step k s content (set_at k s content) refl)
 
-sized_fine : (s : Segment) (b : ℕ) (bytes : List ℕ) (x : Option (Result (ℕ × List ℕ) O5Reason)) → FineUnit (sized_unit s b bytes x)
-sized_fine s b bytes None = tt
-sized_fine s b bytes (Some (Err reason)) = set_fine reason
-sized_fine s b bytes (Some (Ok (size, behind))) =
+sized_fine : (s : Segment) (b : ℕ) (bytes : List ℕ) (x : Option (Result (ℕ × List ℕ) O5Reason)) → IfSome x StepReason → FineUnit (sized_unit s b bytes x)
+sized_fine s b bytes None h = tt
+sized_fine s b bytes (Some (Err reason)) h = of_data_set_fine reason h
+sized_fine s b bytes (Some (Ok (size, behind))) h =
     elim (nat_le size (length behind)) as (λ t. FineUnit (cond t (Some (unit (1 + (length bytes - length behind) + size) (content_found s (kind_of_type b) (take size behind)))) None)) [
       | true ↦ content_fine s (kind_of_type b) (take size behind)
       | false ↦ tt
@@ -240,20 +265,20 @@ unfolding unit_at
 unit_fine InOpl bytes = line_unit_fine (split_first is_line_end bytes)
 unit_fine BeforeHeader bytes = header_fine (nat_lt (length bytes) 7) (is_header (take 7 bytes))
 unit_fine (InSegment s) [] = tt
-unit_fine (InSegment s) (b ∷ bytes) = by_type s (b == end_byte) (b == reset_byte) (is_lone b) (sized_unit s b bytes (length_at bytes)) (sized_fine s b bytes (length_at bytes))
+unit_fine (InSegment s) (b ∷ bytes) = by_type s (b == end_byte) (b == reset_byte) (is_lone b) (sized_unit s b bytes (length_at bytes)) (sized_fine s b bytes (length_at bytes) (length_step bytes))
 unit_fine BehindEnd [] = tt
 unit_fine BehindEnd (b ∷ bytes) = refl
 
 last_fine : (stand : Stand) (bytes : List ℕ) → FineFound (last_at stand bytes)
 unfolding last_at
-last_fine InOpl bytes = line_found_fine (reading_line bytes)
+last_fine InOpl bytes = line_found_fine bytes
 last_fine BeforeHeader bytes = refl
 last_fine (InSegment s) [] = refl
 last_fine (InSegment s) (b ∷ bytes) = refl
 last_fine BehindEnd bytes = tt
 
 abbrev FineRefusal : Option Verdict → Type 0
-FineRefusal r = IfSome r (λ v. is_device v.reason ≡ false)
+FineRefusal r = IfSome r (λ v. is_verdict_reason v.reason ≡ true)
 
 found_fine : (place : ℕ) (found : Found) (more : Stand → Still Placed Verdict) → FineFound found → ((next : Stand) → FineRefusal (more next).refusal) → FineRefusal (found_then place found more).refusal
 found_fine place (Err reason) more h on = h
@@ -282,7 +307,20 @@ verdict_fine bytes =
       | false ↦ units_fine (length front) (Some too_long) refl (start_of bytes) 0 front
     ]
 
-pub no_device_faults : VerdictsAreNoDeviceFaults
-no_device_faults bytes v is =
-    let fine : is_device v.reason ≡ false = known (verdict bytes) _ v is (verdict_fine bytes) in
-    (λ e. false≢true (sym fine ∙ ap is_device e), λ e. false≢true (sym fine ∙ ap is_device e))
+abbrev FineOrder : Option Verdict → Type 0
+FineOrder r = IfSome r (λ v. (v.reason ≡ Unsorted) ⊎ (is_verdict_reason v.reason ≡ true))
+
+order_fine : (close : Option Verdict) → FineRefusal close → (before : Option VersionData) (units : List Placed) → FineOrder (sorted_verdict close before units)
+order_fine None h before [] = tt
+order_fine (Some end) h before [] = inr h
+order_fine close h before (unit ∷ units) =
+    elim (is_below unit.version before) as (λ t. FineOrder (cond t (Some (verdict_at unit.place Unsorted)) (sorted_verdict close (Some unit.version) units))) [
+      | true ↦ inl refl
+      | false ↦ order_fine close h (Some unit.version) units
+    ]
+
+pub reasons_of_verdicts : ReasonsOfVerdicts
+reasons_of_verdicts bytes v = (
+  λ is. known (verdict bytes) _ v is (verdict_fine bytes),
+  λ is. known (verdict_sorted bytes) _ v is (order_fine (verdict bytes) (verdict_fine bytes) None (file_units bytes).list),
+)

@@ -23,14 +23,14 @@ use Rattle.osm_files.specs.O5.{reset_byte}
 use Rattle.osm_files.specs.Units.{InOpl, unit_at, units, start_of}
 use Rattle.osm_files.specs.Verdict.{length_limit, too_long, file_units, versions_of, verdict, is_below}
 use Rattle.osm_files.specs.Held.{IsFile, Holds, HoldsSorted}
-use Rattle.osm_files.specs.Position.{Position, ahead, units_from, named, still_to_come, ReadsOn, stand_at, stand_in, fault_of, StopsFilling}
+use Rattle.osm_files.specs.Position.{Told, ahead, units_from, named, to_come, still_to_come, ReadsOn, GoesOn, stand_at, stand_in, fault_of, StopsFilling}
 use Rattle.osm_files.specs.Whole.{is_below_last}
 use Rattle.osm_files.specs.Load.{format_of, tells_format, Loads, StopsLoading}
 use Rattle.osm_files.proofs.UnitLaws.{some_is_not_none}
 use Rattle.osm_files.proofs.FileLaws.{one_list, accepted_without_verdict, units_closed}
 use Rattle.osm_files.proofs.FillLaws.{weaker}
 use Rattle.osm_files.proofs.PositionLaws.{from_is, known, none_in_nothing, reads_go_on, stopped}
-use Rattle.osm_files.proofs.ReadingLaws.{failed_next}
+use Rattle.osm_files.proofs.ReadingLaws.{failed_next, come_still}
 
 -- ---- the format
 -- bytes that don't tell the format hold no unit whole
@@ -49,7 +49,7 @@ untold (b ∷ held) tells =
     ] refl tells
 
 -- where no more can be read of a file whose format isn't told
-pub format_refused : (p m q : Position) → ReadsOn p m → p.place ≡ 0 → p.stand ≡ None → p.failed ≡ false → tells_format m.held ≡ false → (fault : Fault) → StopsFilling m fault → Step {A = Placed} (still_to_come p) (Err fault) (still_to_come (record q { failed = true }))
+pub format_refused : (p m q : Told) → ReadsOn p m → p.place ≡ 0 → p.stand ≡ None → p.failed ≡ false → tells_format m.held ≡ false → (fault : Fault) → StopsFilling m fault → Step {A = Placed} (still_to_come p) (Err fault) (still_to_come (record q { failed = true }))
 format_refused p m q on first unseen fine tells fault stops =
     let k = untold m.held tells in
     let nothing : unit_at (stand_at m) m.held ≡ None = ap (λ s. unit_at (stand_in s m.held) m.held) (on.stand ∙ unseen) ∙ k.0 in
@@ -74,6 +74,11 @@ module _ (all : Option (Still Placed Fault)) (versions : List VersionData) (now 
 
   pub load_stops : (fault : Fault) → Step {A = Placed} now (Err fault) after → (fault ≡ memory_fault) ⊎ IfSome all (λ s. s.refusal ≡ Some fault)
   load_stops fault step = ⊎_elim (λ e. inl e) (λ k. inr (weaker all _ _ (λ s h. h.3 ∙ ap (λ (x : Still Placed Fault). x.refusal) (known now _ h.0 h.1 k)) on)) step.0
+
+-- of which none was gone over yet
+pub loads_begin : (p q : Told) → GoesOn p q → p.failed ≡ false → LoadsOn (still_to_come p) [] (still_to_come q)
+loads_begin p q on fine =
+    subst (λ (o : Option (Still Placed Fault)). LoadsOn o [] (still_to_come q)) (sym (come_still p fine)) (weaker (to_come p) _ _ (λ s e. (s, come_still q (on.failed ∙ fine) ∙ e, refl, refl)) on.keeps)
 
 -- of which none was read yet
 pub stops_at_once : (now after : Option (Still Placed Fault)) (fault : Fault) → Step {A = Placed} now (Err fault) after → (fault ≡ memory_fault) ⊎ IfSome now (λ s. s.refusal ≡ Some fault)
@@ -185,15 +190,13 @@ module _ (input : ℕ) (c : Coming) (versions : List VersionData) (none : (named
   }
 
 -- an input of which nothing was read
-abbrev pub fresh : ℕ → Option Coming → Position
+abbrev pub fresh : ℕ → Option Coming → Told
 fresh input coming = record { input = input; place = 0; held = []; coming = coming; stand = None; ended = false; failed = false }
 
 module _ (input : ℕ) where
-  pub loads : (coming : Option Coming) (format : Format) (versions : List VersionData) (sorted : Bool) (loaded : Loaded) → IfSome (ahead (fresh input coming)) (λ c. format ≡ format_of c.bytes) → IsTrue sorted ↔ IsSorted key_cmp versions
-      → IfSome (still_to_come (fresh input coming)) (λ s. (s.refusal ≡ None) × (versions_of s.list ≡ versions)) → loaded ≡ record { history = from_list {R = version_cmp} versions; format = format; sorted = sorted } → IfSome coming (λ c. Loads c loaded)
-  loads None format versions sorted loaded tells is all gathered = tt
-  loads (Some c) format versions sorted loaded tells is all gathered = subst (Loads c) (sym gathered) (loads_all input c versions all.0 all.1 format sorted tells is)
+  pub loads : (c : Coming) (format : Format) (versions : List VersionData) (sorted : Bool) (loaded : Loaded) → IfSome (ahead (fresh input (Some c))) (λ c. format ≡ format_of c.bytes) → IsTrue sorted ↔ IsSorted key_cmp versions
+      → IfSome (still_to_come (fresh input (Some c))) (λ s. (s.refusal ≡ None) × (versions_of s.list ≡ versions)) → loaded ≡ record { history = from_list {R = version_cmp} versions; format = format; sorted = sorted } → Loads c loaded
+  loads c format versions sorted loaded tells is all gathered = subst (Loads c) (sym gathered) (loads_all input c versions all.0 all.1 format sorted tells is)
 
-  pub stops : (coming : Option Coming) (fault : Fault) → (fault ≡ memory_fault) ⊎ IfSome (still_to_come (fresh input coming)) (λ s. s.refusal ≡ Some fault) → StopsLoading input coming fault
-  stops None fault h = ⊎_elim (λ e. inl e) (λ k. inr tt) h
-  stops (Some c) fault h = h
+  pub stops : (c : Coming) (fault : Fault) → (fault ≡ memory_fault) ⊎ IfSome (still_to_come (fresh input (Some c))) (λ s. s.refusal ≡ Some fault) → StopsLoading input c fault
+  stops c fault h = h

@@ -13,7 +13,7 @@ use Rattle.osm_files.specs.Input.{Coming, whole as all_of, preceded_by}
 use Rattle.osm_files.specs.Stream.{verdict_at, Placed, placed, Still, whole, refused, front}
 use Rattle.osm_files.specs.Units.{Stand, FileUnit, unit_at, last_at, found_then, units}
 use Rattle.osm_files.specs.Verdict.{length_limit, too_long}
-use Rattle.osm_files.specs.Position.{Position, ahead, stand_in, closing, window, units_from, fault_of, named, to_come, Keeps, ReadsOn, GoesOn, stand_at, Halts, StopsFilling}
+use Rattle.osm_files.specs.Position.{Told, ahead, stand_in, closing, window, units_from, fault_of, named, to_come, Keeps, ReadsOn, GoesOn, stand_at, Halts, StopsFilling}
 use Rattle.osm_files.proofs.FillLaws.{weaker, mapped, kept, keeps_on}
 use Rattle.osm_files.proofs.StepLaws.{IsSized, unit_sized, found_same, units_step, units_stop}
 use Rattle.osm_files.proofs.MoreLaws.{unit_stays}
@@ -26,10 +26,10 @@ pub from_is : (stand : Option Stand) (place : ℕ) (c : Coming) → units_from s
 unfolding units_from
 from_is stand place c = refl
 
-pub goes_on : (p : Position) → GoesOn p p
+pub goes_on : (p : Told) → GoesOn p p
 goes_on p = record { input = refl; place = omega arith; failed = refl; keeps = kept (to_come p) }
 
-pub goes_further : (p m q : Position) → GoesOn p m → GoesOn m q → GoesOn p q
+pub goes_further : (p m q : Told) → GoesOn p m → GoesOn m q → GoesOn p q
 goes_further p m q a b = record {
   input = b.input ∙ a.input;
   place = omega (arith, a.place, b.place);
@@ -41,7 +41,7 @@ pub known : {A : Type 0} (o : Option A) (P : A → Type 0) (x : A) → o ≡ Som
 known {A} o P x e h = let Q : Option A → Type 0 = λ v. IfSome v P in subst Q e h
 
 -- what reading on keeps
-pub reads_go_on : (p q : Position) → ReadsOn p q → GoesOn p q
+pub reads_go_on : (p q : Told) → ReadsOn p q → GoesOn p q
 reads_go_on p q on = record {
   input = on.input;
   place = omega (arith, on.place);
@@ -50,13 +50,13 @@ reads_go_on p q on = record {
 }
 
 -- what stands behind the bytes held
-pub record Behind (p : Position) (c : Coming) : Type 0 where
+pub record Behind (p : Told) (c : Coming) : Type 0 where
   pub more : List ℕ
   pub broken : Bool
   pub here : c ≡ record { bytes = p.held ++ more; broken = broken }
   pub there : (h : List ℕ) → ahead (record p { held = h }) ≡ Some (record { bytes = h ++ more; broken = broken })
 
-behind_by : (p : Position) (ended : Bool) (coming : Option Coming) (c : Coming) → p.ended ≡ ended → p.coming ≡ coming → ahead p ≡ Some c → Behind p c
+behind_by : (p : Told) (ended : Bool) (coming : Option Coming) (c : Coming) → p.ended ≡ ended → p.coming ≡ coming → ahead p ≡ Some c → Behind p c
 behind_by p true coming c e f at =
     let ends : (h : List ℕ) → ahead (record p { held = h }) ≡ Some (all_of h) = λ h. ap (λ b. cond b (Some (all_of h)) (option_map (preceded_by h) p.coming)) e in
     let same : c ≡ all_of p.held = (let g : Some c ≡ Some (all_of p.held) = sym at ∙ ends p.held in cc) in
@@ -78,7 +78,7 @@ behind_by p false (Some d) c e f at =
       there = goes;
     }
 
-pub behind : (p : Position) (c : Coming) → ahead p ≡ Some c → Behind p c
+pub behind : (p : Told) (c : Coming) → ahead p ≡ Some c → Behind p c
 behind p c = behind_by p p.ended p.coming c refl refl
 
 -- the first byte tells the stand, whatever follows
@@ -141,10 +141,10 @@ with_each None P f = tt
 with_each (Some x) P f = f x refl
 
 -- where a unit of the bytes held was gone over
-abbrev pub gone_over : Position → ℕ → Stand → Position
+abbrev pub gone_over : Told → ℕ → Stand → Told
 gone_over m size next = record m { stand = Some next; place = m.place + size; held = drop size m.held }
 
-module _ (m : Position) (u : FileUnit) (is_found : unit_at (stand_at m) m.held ≡ Some u) (bound : m.place + length m.held < 2 ^ 62) where
+module _ (m : Told) (u : FileUnit) (is_found : unit_at (stand_at m) m.held ≡ Some u) (bound : m.place + length m.held < 2 ^ 62) where
   sized : IsSized u m.held
   sized = unit_sized (stand_at m) m.held u is_found
 
@@ -199,7 +199,7 @@ none_in_nothing stand = no_unit stand (unit_at stand []) refl
 not_below : (m n : ℕ) → n ≤ m → nat_lt m n ≡ false
 not_below m n h = grind (arith, nat_tests)
 
-pub ended_ahead : (m : Position) → m.ended ≡ true → ahead m ≡ Some (all_of m.held)
+pub ended_ahead : (m : Told) → m.ended ≡ true → ahead m ≡ Some (all_of m.held)
 ended_ahead m ended = ap (λ b. cond b (Some (all_of m.held)) (option_map (preceded_by m.held) m.coming)) ended
 
 -- a stand that is told by more bytes than are held
@@ -208,7 +208,7 @@ nothing_by stand [] bytes b more none e = none_in_nothing (stand_in stand bytes)
 nothing_by stand (a ∷ held) bytes b more none e = ap (λ x. unit_at (stand_in stand x) (a ∷ held)) e ∙ ap (λ s. unit_at s (a ∷ held)) (same_stand stand (a ∷ held) (b ∷ more) (omega arith)) ∙ none
 
 -- where no unit stands whole in the bytes held, and no more can be read
-module _ (m : Position) (nothing : unit_at (stand_at m) m.held ≡ None) (bound : m.place + length m.held < 2 ^ 62) where
+module _ (m : Told) (nothing : unit_at (stand_at m) m.held ≡ None) (bound : m.place + length m.held < 2 ^ 62) where
   pub halted : (c : Coming) (fault : Fault) → Halts m c fault → named m.input (units_from m.stand m.place c) ≡ refused fault
   halted c fault (inl h) =
       let below : nat_lt (m.place + length m.held) length_limit ≡ true = lt-ltb _ _ (rw limit_is bound) in

@@ -16,14 +16,14 @@ use Rattle.osm_files.specs.Source.{Step}
 use Rattle.opl_line.specs.Cut.{is_line_end, split_first}
 use Rattle.osm_files.specs.Units.{Stand, InOpl, BeforeHeader, InSegment, BehindEnd, Found, unit, unit_at, line_unit, last_at, found_then, units}
 use Rattle.osm_files.specs.Reading.{Finds, FindsLast, stand_of, without_stand}
-use Rattle.osm_files.specs.Position.{Position, ahead, stand_in, closing, window, units_from, fault_of, named, to_come, still_to_come, Keeps, GoesOn, Advances, stand_at, seen, given, FindsHeld, progress}
+use Rattle.osm_files.specs.Position.{Position, Told, telling, ahead, stand_in, closing, window, units_from, fault_of, named, to_come, still_to_come, Keeps, GoesOn, Advances, stand_at, seen, given, FindsHeld, progress}
 use Rattle.osm_files.proofs.FillLaws.{weaker, mapped, keeps_on}
 use Rattle.osm_files.proofs.StepLaws.{unit_sized}
 use Rattle.osm_files.proofs.WholeLaws.{fault_is}
 use Rattle.osm_files.proofs.PositionLaws.{from_is, known, behind, same_stand, with_each, gone_over, gone_passed, gone_gave, gone_refused, none_in_nothing, at_the_end, goes_on}
 
 -- ---- the first byte
-seen_by : (p : Position) (P : Position → Type 0) → (is_some (slice_get p.held 0) ≡ true → P (record p { stand = Some (stand_at p) })) → (is_some (slice_get p.held 0) ≡ false → P p) → P (seen p)
+seen_by : {C : Type 0} (p : Position C) (P : Position C → Type 0) → (is_some (slice_get p.held 0) ≡ true → P (record p { stand = Some (stand_at p) })) → (is_some (slice_get p.held 0) ≡ false → P p) → P (seen p)
 seen_by p P there not_there =
     elim (is_some (slice_get p.held 0)) as (λ t. is_some (slice_get p.held 0) ≡ t → P (cond t (record p { stand = Some (stand_at p) }) p)) [ true ↦ there | false ↦ not_there ] refl
 
@@ -35,23 +35,23 @@ pub some_held : (held : List ℕ) → is_some (slice_get held 0) ≡ true → 0 
 some_held [] e = absurd (false≢true e)
 some_held (b ∷ held) e = omega arith
 
-pub seen_held : (p : Position) → (seen p).held ≡ p.held
+pub seen_held : {C : Type 0} (p : Position C) → (seen p).held ≡ p.held
 seen_held p = seen_by p (λ q. q.held ≡ p.held) (λ e. refl) (λ e. refl)
 
 stand_is : (stand : Option Stand) (held : List ℕ) (s : Stand) → stand ≡ Some s → stand_in stand held ≡ s
 stand_is None held s e = absurd (let f : None ≡ Some s = e in cc)
 stand_is (Some t) held s e = cc
 
-seen_stand : (p : Position) (s : Stand) → (seen p).stand ≡ Some s → stand_at p ≡ s
+seen_stand : {C : Type 0} (p : Position C) (s : Stand) → (seen p).stand ≡ Some s → stand_at p ≡ s
 seen_stand p s = seen_by p (λ q. q.stand ≡ Some s → stand_at p ≡ s) (λ e f. (let g : Some (stand_at p) ≡ Some s = f in cc)) (λ e f. stand_is p.stand p.held s f)
 
-pub seen_none : (p : Position) → (seen p).stand ≡ None → p.held ≡ []
+pub seen_none : {C : Type 0} (p : Position C) → (seen p).stand ≡ None → p.held ≡ []
 seen_none p = seen_by p (λ q. q.stand ≡ None → p.held ≡ []) (λ e f. absurd (let g : Some (stand_at p) ≡ None = f in cc)) (λ e f. none_held p.held e)
 
-seen_stands : (p : Position) (s : Stand) → record (seen p) { stand = Some s } ≡ record p { stand = Some s }
+seen_stands : {C : Type 0} (p : Position C) (s : Stand) → record (seen p) { stand = Some s } ≡ record p { stand = Some s }
 seen_stands p s = seen_by p (λ q. record q { stand = Some s } ≡ record p { stand = Some s }) (λ e. refl) (λ e. refl)
 
-stands_there : (p : Position) (s : Stand) → is_some (slice_get p.held 0) ≡ true → stand_at p ≡ s → GoesOn p (record p { stand = Some s })
+stands_there : (p : Told) (s : Stand) → is_some (slice_get p.held 0) ≡ true → stand_at p ≡ s → GoesOn p (record p { stand = Some s })
 stands_there p s e is = record {
   input = refl;
   place = omega arith;
@@ -65,11 +65,14 @@ stands_there p s e is = record {
       ap (option_map (λ x. named p.input (units_from (Some s) p.place x))) at ∙ ap (λ x. Some (named p.input x)) same)));
 }
 
-pub seen_goes_on : (p : Position) → GoesOn p (seen p)
+pub seen_goes_on : (p : Told) → GoesOn p (seen p)
 seen_goes_on p = seen_by p (GoesOn p) (λ e. stands_there p (stand_at p) e refl) (λ e. goes_on p)
 
+seen_same : {C : Type 0} (p : Position C) → ((seen p).coming ≡ p.coming) × ((seen p).input ≡ p.input) × ((seen p).place ≡ p.place) × ((seen p).failed ≡ p.failed)
+seen_same p = seen_by p (λ q. (q.coming ≡ p.coming) × (q.input ≡ p.input) × (q.place ≡ p.place) × (q.failed ≡ p.failed)) (λ e. (refl, refl, refl, refl)) (λ e. (refl, refl, refl, refl))
+
 -- ---- the unit at the front of the bytes held
-pub nothing_held : (p m : Position) → m ≡ seen p → m.stand ≡ None → FindsHeld p (Ok None) m
+pub nothing_held : {C : Type 0} (p m : Position C) → m ≡ seen p → m.stand ≡ None → FindsHeld p (Ok None) m
 nothing_held p m is none =
     let empty : p.held ≡ [] = seen_none p (ap (λ q. q.stand) (sym is) ∙ none) in
     (ap (unit_at (stand_at p)) empty ∙ none_in_nothing (stand_at p), is)
@@ -77,7 +80,7 @@ nothing_held p m is none =
 abbrev pub answers : Option ReadUnit → Result (Option ReadUnit) Reason
 answers unit = Ok unit
 
-module _ (p m : Position) (at : Place) (bytes : List ℕ) (is : m ≡ seen p) (stands : m.stand ≡ Some (stand_of at)) (held : bytes ≡ m.held) where
+module _ {C : Type 0} (p m : Position C) (at : Place) (bytes : List ℕ) (is : m ≡ seen p) (stands : m.stand ≡ Some (stand_of at)) (held : bytes ≡ m.held) where
   there : stand_at p ≡ stand_of at
   there = seen_stand p (stand_of at) (ap (λ q. q.stand) (sym is) ∙ stands)
 
@@ -88,68 +91,83 @@ module _ (p m : Position) (at : Place) (bytes : List ℕ) (is : m ≡ seen p) (s
   found_held None next h unmoved = (sym same_unit ∙ h, (λ i. record m { stand = Some (unmoved refl i) }) ∙ (λ i. record m { stand = sym stands i }) ∙ is)
   found_held (Some u) next h unmoved = (next, sym same_unit ∙ h, (λ i. record (is i) { stand = Some next }) ∙ seen_stands p next)
 
-  pub refused_held : (reason : Reason) (next : Stand) (q : Position) → Finds (unit_at (stand_of at) bytes) (Err reason) next → FindsHeld p (Err reason) q
+  pub refused_held : (reason : Reason) (next : Stand) (q : Position C) → Finds (unit_at (stand_of at) bytes) (Err reason) next → FindsHeld p (Err reason) q
   refused_held reason next q (inl e) = inl e
   refused_held reason next q (inr h) = inr (h.0, sym same_unit ∙ h.1)
 
-pub some_found : (m q : Position) (u : ReadUnit) (answer : Option ReadUnit) → answer ≡ Some u → FindsHeld m (Ok answer) q → FindsHeld m (Ok (Some u)) q
+pub some_found : {C : Type 0} (m q : Position C) (u : ReadUnit) (answer : Option ReadUnit) → answer ≡ Some u → FindsHeld m (Ok answer) q → FindsHeld m (Ok (Some u)) q
 some_found m q u answer is h = subst (λ (o : Option ReadUnit). FindsHeld m (Ok o) q) is h
 
-pub none_found : (m q : Position) (answer : Option ReadUnit) → answer ≡ None → FindsHeld m (Ok answer) q → FindsHeld m (Ok None) q
+pub none_found : {C : Type 0} (m q : Position C) (answer : Option ReadUnit) → answer ≡ None → FindsHeld m (Ok answer) q → FindsHeld m (Ok None) q
 none_found m q answer is h = subst (λ (o : Option ReadUnit). FindsHeld m (Ok o) q) is h
 
-seen_stand_at : (p : Position) → stand_at (seen p) ≡ stand_at p
+seen_stand_at : {C : Type 0} (p : Position C) → stand_at (seen p) ≡ stand_at p
 seen_stand_at p = seen_by p (λ q. stand_at q ≡ stand_at p) (λ e. refl) (λ e. refl)
 
-module _ (m q : Position) (h : FindsHeld m (Ok None) q) where
-  pub none_goes_on : GoesOn m q
-  none_goes_on = subst (λ (x : Position). GoesOn m x) (sym h.1) (seen_goes_on m)
+pub none_goes_on : (m q : Told) → FindsHeld m (Ok None) q → GoesOn m q
+none_goes_on m q h = subst (λ (x : Told). GoesOn m x) (sym h.1) (seen_goes_on m)
 
+module _ {C : Type 0} (m q : Position C) (h : FindsHeld m (Ok None) q) where
   pub none_there : unit_at (stand_at q) q.held ≡ None
   none_there = (λ i. unit_at (stand_at (h.1 i)) ((h.1 i).held)) ∙ (λ i. unit_at (seen_stand_at m i) (seen_held m i)) ∙ h.0
+
+  pub none_same : (q.coming ≡ m.coming) × (q.input ≡ m.input) × (q.place ≡ m.place) × (q.failed ≡ m.failed)
+  none_same =
+      let same = seen_same m in
+      (ap (λ x. x.coming) h.1 ∙ same.0, ap (λ x. x.input) h.1 ∙ same.1, ap (λ x. x.place) h.1 ∙ same.2, ap (λ x. x.failed) h.1 ∙ same.3)
 
   pub none_known : q.stand ≡ None → q.held ≡ []
   none_known e = ap (λ x. x.held) h.1 ∙ seen_held m ∙ seen_none m (ap (λ x. x.stand) (sym h.1) ∙ e)
 
+-- what is found doesn't rest on what is to come
+telling_seen : {R : Type 0} (p : Position R) (c : Coming) → telling (seen p) c ≡ seen (telling p c)
+telling_seen p c =
+    elim (is_some (slice_get p.held 0)) as (λ t. telling (cond t (record p { stand = Some (stand_at p) }) p) c ≡ cond t (record (telling p c) { stand = Some (stand_at p) }) (telling p c)) [ true ↦ refl | false ↦ refl ]
+
+pub telling_found : {R : Type 0} (p q : Position R) (answer : Result (Option ReadUnit) Reason) (c : Coming) → FindsHeld p answer q → FindsHeld (telling p c) answer (telling q c)
+telling_found p q (Ok None) c h = (h.0, ap (λ x. telling x c) h.1 ∙ telling_seen p c)
+telling_found p q (Ok (Some u)) c h = (h.0, h.1, ap (λ x. telling x c) h.2)
+telling_found p q (Err reason) c h = h
+
 -- ---- one unit further
 -- a fault of this reason, where what was to come was refused for it
-pub refuses : (m : Position) (reason : Reason) (fault : Fault) → fault ≡ fault_at m.input m.place reason → (reason ≡ Memory) ⊎ IfSome (to_come m) (λ s. s ≡ refused (fault_of m.input (verdict_at m.place reason))) → (fault ≡ memory_fault) ⊎ IfSome (to_come m) (λ s. s ≡ refused fault)
+pub refuses : (m : Told) (reason : Reason) (fault : Fault) → fault ≡ fault_at m.input m.place reason → (reason ≡ Memory) ⊎ IfSome (to_come m) (λ s. s ≡ refused (fault_of m.input (verdict_at m.place reason))) → (fault ≡ memory_fault) ⊎ IfSome (to_come m) (λ s. s ≡ refused fault)
 refuses m reason fault is (inl e) = inl (is ∙ ap (fault_at m.input m.place) e)
 refuses m reason fault is (inr h) =
     ⊎_elim (λ k. inl (is ∙ k)) (λ k. inr (weaker (to_come m) _ _ (λ s e. e ∙ ap refused (sym (is ∙ k))) h)) (fault_is m.input m.place reason)
 
-pub held_refuses : (m q : Position) (reason : Reason) (fault : Fault) → m.place + length m.held < 2 ^ 62 → FindsHeld m (Err reason) q → fault ≡ fault_at m.input m.place reason → (fault ≡ memory_fault) ⊎ IfSome (to_come m) (λ s. s ≡ refused fault)
+pub held_refuses : (m q : Told) (reason : Reason) (fault : Fault) → m.place + length m.held < 2 ^ 62 → FindsHeld m (Err reason) q → fault ≡ fault_at m.input m.place reason → (fault ≡ memory_fault) ⊎ IfSome (to_come m) (λ s. s ≡ refused fault)
 held_refuses m q reason fault bound (inl e) is = refuses m reason fault is (inl e)
 held_refuses m q reason fault bound (inr h) is = refuses m reason fault is (inr (gone_refused m (unit h.0 (Err reason)) h.1 bound reason refl))
 
-goes_over : (m : Position) (size : ℕ) (version : Option VersionData) (next : Stand) → unit_at (stand_at m) m.held ≡ Some (unit size (Ok (version, next))) → m.place + length m.held < 2 ^ 62 → Advances m (Ok (given m.place version)) (gone_over m size next)
+goes_over : (m : Told) (size : ℕ) (version : Option VersionData) (next : Stand) → unit_at (stand_at m) m.held ≡ Some (unit size (Ok (version, next))) → m.place + length m.held < 2 ^ 62 → Advances m (Ok (given m.place version)) (gone_over m size next)
 goes_over m size None next e bound = gone_passed m (unit size (Ok (None, next))) e bound next refl
 goes_over m size (Some v) next e bound = gone_gave m (unit size (Ok (Some v, next))) e bound v next refl
 
-pub held_advances : (m q r : Position) (u : ReadUnit) (advance : Advance) → m.place + length m.held < 2 ^ 62 → FindsHeld m (Ok (Some u)) q → advance ≡ given q.place u.version
+pub held_advances : (m q r : Told) (u : ReadUnit) (advance : Advance) → m.place + length m.held < 2 ^ 62 → FindsHeld m (Ok (Some u)) q → advance ≡ given q.place u.version
     → r ≡ record q { place = q.place + u.size; held = drop u.size q.held } → Advances m (Ok advance) r
 held_advances m q r u advance bound h is gone =
     let same : r ≡ gone_over m u.size h.0 = gone ∙ (λ i. record (h.2 i) { place = (h.2 i).place + u.size; held = drop u.size (h.2 i).held }) in
-    subst (λ (x : Position). Advances m (Ok advance) x) (sym same) (subst (λ (a : Advance). Advances m (Ok a) (gone_over m u.size h.0)) (sym (is ∙ ap (λ (x : Position). given x.place u.version) h.2)) (goes_over m u.size u.version h.0 h.1 bound))
+    subst (λ (x : Told). Advances m (Ok advance) x) (sym same) (subst (λ (a : Advance). Advances m (Ok a) (gone_over m u.size h.0)) (sym (is ∙ ap (λ (x : Told). given x.place u.version) h.2)) (goes_over m u.size u.version h.0 h.1 bound))
 
-pub held_size : (m q : Position) (u : ReadUnit) → FindsHeld m (Ok (Some u)) q → (1 ≤ u.size) × (u.size ≤ length q.held) × (q.place ≡ m.place) × (q.input ≡ m.input) × (q.failed ≡ m.failed)
+pub held_size : {C : Type 0} (m q : Position C) (u : ReadUnit) → FindsHeld m (Ok (Some u)) q → (1 ≤ u.size) × (u.size ≤ length q.held) × (q.place ≡ m.place) × (q.input ≡ m.input) × (q.failed ≡ m.failed)
 held_size m q u h =
     let sized = unit_sized (stand_at m) m.held (unit u.size (Ok (u.version, h.0))) h.1 in
-    (sized.some, subst (λ (x : Position). u.size ≤ length x.held) (sym h.2) sized.within, ap (λ x. x.place) h.2, ap (λ x. x.input) h.2, ap (λ x. x.failed) h.2)
+    (sized.some, subst (λ xs. u.size ≤ length xs) (ap (λ x. x.held) (sym h.2)) sized.within, ap (λ x. x.place) h.2, ap (λ x. x.input) h.2, ap (λ x. x.failed) h.2)
 
 progress_given : (place size : ℕ) (version : Option VersionData) → 1 ≤ size → progress (given place version) ≤ size
 progress_given place size None some = some
 progress_given place size (Some v) some = some
 
-pub held_progress : (p m q r : Position) (u : ReadUnit) (advance : Advance) → GoesOn p m → FindsHeld m (Ok (Some u)) q → advance ≡ given q.place u.version
+pub held_progress : {C : Type 0} (p m q r : Position C) (u : ReadUnit) (advance : Advance) → p.place ≤ m.place → FindsHeld m (Ok (Some u)) q → advance ≡ given q.place u.version
     → r ≡ record q { place = q.place + u.size; held = drop u.size q.held } → p.place + progress advance ≤ r.place
 held_progress p m q r u advance on h is gone =
     let size = held_size m q u h in
     let few : progress advance ≤ u.size = subst (λ (a : Advance). progress a ≤ u.size) (sym is) (progress_given q.place u.size u.version size.0) in
-    omega (arith, on.place, size.2, ap (λ x. x.place) gone, few)
+    omega (arith, on, size.2, ap (λ x. x.place) gone, few)
 
 -- the line at the front of the bytes held
-pub held_line : (p : Position) (bytes : List ℕ) (answer : Option ReadUnit) (u : ReadUnit) → p.stand ≡ Some InOpl → bytes ≡ p.held → answer ≡ Some u → Finds (line_unit (split_first is_line_end bytes)) (Ok answer) InOpl
+pub held_line : {C : Type 0} (p : Position C) (bytes : List ℕ) (answer : Option ReadUnit) (u : ReadUnit) → p.stand ≡ Some InOpl → bytes ≡ p.held → answer ≡ Some u → Finds (line_unit (split_first is_line_end bytes)) (Ok answer) InOpl
     → FindsHeld p (Ok (Some u)) p
 unfolding unit_at
 held_line p bytes answer u in_opl held is found =
@@ -157,7 +175,7 @@ held_line p bytes answer u in_opl held is found =
     (InOpl, (λ i. unit_at (stand_in (in_opl i) p.held) (sym held i)) ∙ there, (λ i. record p { stand = in_opl i }))
 
 -- what a step did after steps that gave nothing
-module _ (p m q : Position) (on : GoesOn p m) where
+module _ (p m q : Told) (on : GoesOn p m) where
   pub stops_from : (fault : Fault) → (fault ≡ memory_fault) ⊎ IfSome (to_come m) (λ s. s ≡ refused fault) → (fault ≡ memory_fault) ⊎ IfSome (to_come p) (λ s. s ≡ refused fault)
   stops_from fault (inl e) = inl e
   stops_from fault (inr h) = inr (weaker (to_come p) _ _ (λ s e. known (to_come m) (λ x. x ≡ refused fault) s e h) on.keeps)
@@ -205,7 +223,7 @@ drop_all : (xs : List ℕ) → drop (length xs) xs ≡ []
 drop_all [] = refl
 drop_all (x ∷ xs) = drop_all xs
 
-module _ (m : Position) (nothing : unit_at (stand_at m) m.held ≡ None) (bound : m.place + length m.held < 2 ^ 62) (ended : m.ended ≡ true) where
+module _ (m : Told) (nothing : unit_at (stand_at m) m.held ≡ None) (bound : m.place + length m.held < 2 ^ 62) (ended : m.ended ≡ true) where
   abbrev last_found : Found
   last_found = last_at (stand_at m) m.held
 
@@ -220,12 +238,12 @@ module _ (m : Position) (nothing : unit_at (stand_at m) m.held ≡ None) (bound 
       (subst (λ (o : Option (Still Placed Fault)). IfSome o (λ s. s ≡ whole)) (sym at) refl, at)
 
   -- behind them nothing is to come
-  abbrev behind_last : Position
+  abbrev behind_last : Told
   behind_last = record m { place = m.place + length m.held; held = drop (length m.held) m.held }
 
   no_more : (version : Option VersionData) → without_stand last_found ≡ Ok version → to_come behind_last ≡ Some whole
   no_more version e =
-      let q : Position = record m { place = m.place + length m.held; held = [] } in
+      let q : Told = record m { place = m.place + length m.held; held = [] } in
       let same : behind_last ≡ q = (λ i. record m { place = m.place + length m.held; held = drop_all m.held i }) in
       let found : without_stand (last_at (stand_at q) []) ≡ Ok None = stand_nothing m.stand m.held version e in
       ap to_come same ∙ at_the_end q (none_in_nothing (stand_at q)) (omega (arith, bound)) ended ∙ ap (λ s. Some (named m.input s)) (found_by q.place (last_at (stand_at q) []) None found)
@@ -236,11 +254,11 @@ module _ (m : Position) (nothing : unit_at (stand_at m) m.held ≡ None) (bound 
   given_last (Some v) e =
       subst (λ (o : Option (Still Placed Fault)). IfSome o (λ s. (t : Still Placed Fault) × (s ≡ front (placed m.place v) t) × (to_come behind_last ≡ Some t))) (sym (comes (Some v) e)) (whole, refl, no_more (Some v) e)
 
-  pub last_advances : (version : Option VersionData) (size : ℕ) (advance : Advance) (q : Position) → FindsLast last_found (Ok version) → size ≡ length m.held → advance ≡ given m.place version
+  pub last_advances : (version : Option VersionData) (size : ℕ) (advance : Advance) (q : Told) → FindsLast last_found (Ok version) → size ≡ length m.held → advance ≡ given m.place version
       → q ≡ record m { place = m.place + size; held = drop size m.held } → Advances m (Ok advance) q
   last_advances version size advance q e long is gone =
       let same : q ≡ behind_last = gone ∙ (λ i. record m { place = m.place + long i; held = drop (long i) m.held }) in
-      subst (λ (x : Position). Advances m (Ok advance) x) (sym same) (subst (λ (a : Advance). Advances m (Ok a) behind_last) (sym is) (given_last version e))
+      subst (λ (x : Told). Advances m (Ok advance) x) (sym same) (subst (λ (a : Advance). Advances m (Ok a) behind_last) (sym is) (given_last version e))
 
   pub last_refuses : (reason : Reason) (fault : Fault) → FindsLast last_found (Err reason) → fault ≡ fault_at m.input m.place reason → (fault ≡ memory_fault) ⊎ IfSome (to_come m) (λ s. s ≡ refused fault)
   last_refuses reason fault (inl e) is = refuses m reason fault is (inl e)
@@ -249,13 +267,13 @@ module _ (m : Position) (nothing : unit_at (stand_at m) m.held ≡ None) (bound 
       refuses m reason fault is (inr (subst (λ (o : Option (Still Placed Fault)). IfSome o (λ s. s ≡ refused (fault_of m.input (verdict_at m.place reason)))) (sym at) refl))
 
 -- ---- the next version
-come_still : (p : Position) → p.failed ≡ false → still_to_come p ≡ to_come p
+pub come_still : (p : Told) → p.failed ≡ false → still_to_come p ≡ to_come p
 come_still p fine = ap (λ b. cond b (Some (refused (failed_fault p.input))) (to_come p)) fine
 
-come_failed : (p : Position) → p.failed ≡ true → still_to_come p ≡ Some (refused (failed_fault p.input))
+come_failed : (p : Told) → p.failed ≡ true → still_to_come p ≡ Some (refused (failed_fault p.input))
 come_failed p bad = ap (λ b. cond b (Some (refused (failed_fault p.input))) (to_come p)) bad
 
-module _ (p m q : Position) (on : GoesOn p m) (fine : p.failed ≡ false) where
+module _ (p m q : Told) (on : GoesOn p m) (fine : p.failed ≡ false) where
   before_is : (r : Result (Option Placed) Fault) (after : Option (Still Placed Fault)) → Step (to_come p) r after → Step (still_to_come p) r after
   before_is r after = subst (λ (o : Option (Still Placed Fault)). Step o r after) (sym (come_still p fine))
 
@@ -285,16 +303,16 @@ given_by place None advance (inr e) is = is
 given_by place (Some v) advance (inr e) is = absurd (let f : Gave (placed place v) ≡ Ended = sym is ∙ e in cc)
 
 -- a line that gave no version
-pub passed_line : (p q : Position) (u : ReadUnit) (advance : Advance) → p.place + length p.held < 2 ^ 62 → p.failed ≡ false → FindsHeld p (Ok (Some u)) p → (advance ≡ Passed) ⊎ (advance ≡ Ended) → advance ≡ given p.place u.version
+pub passed_line : (p q : Told) (u : ReadUnit) (advance : Advance) → p.place + length p.held < 2 ^ 62 → p.failed ≡ false → FindsHeld p (Ok (Some u)) p → (advance ≡ Passed) ⊎ (advance ≡ Ended) → advance ≡ given p.place u.version
     → q ≡ record p { place = p.place + u.size; held = drop u.size p.held } → GoesOn p q
 passed_line p q u advance bound fine found passed is gone =
     passed_next p p q (goes_on p) fine (held_advances p p q u Passed bound found (sym (given_by p.place u.version advance passed is) ∙ is) gone)
     (ap (λ x. x.failed) gone) (ap (λ x. x.input) gone) (omega (arith, ap (λ x. x.place) gone))
 
-pub failed_already : (p : Position) (fault : Fault) → p.failed ≡ true → fault ≡ failed_fault p.input → Step {A = Placed} (still_to_come p) (Err fault) (still_to_come p)
+pub failed_already : (p : Told) (fault : Fault) → p.failed ≡ true → fault ≡ failed_fault p.input → Step {A = Placed} (still_to_come p) (Err fault) (still_to_come p)
 failed_already p fault bad is =
     (inr (subst (λ (o : Option (Still Placed Fault)). IfSome o (λ s. s ≡ refused fault)) (sym (come_failed p bad)) (ap refused (sym is))), (p.input, come_failed p bad))
 
 -- before the first byte nothing is held
-pub nothing_read : (p : Position) → p.stand ≡ None → p.held ≡ [] → without_stand (last_at (stand_at p) p.held) ≡ Ok None
+pub nothing_read : {C : Type 0} (p : Position C) → p.stand ≡ None → p.held ≡ [] → without_stand (last_at (stand_at p) p.held) ≡ Ok None
 nothing_read p none empty = (λ i. without_stand (last_at (stand_in (none i) (empty i)) (empty i))) ∙ opl_nothing

@@ -15,10 +15,10 @@ use Rattle.osm_model.proofs.SetLaws.{strict-listed, listed-from_list}
 use Rattle.osm_model.proofs.VersionLaws.{version_cmp-IsAntisymmetric}
 use Rattle.osm_files.specs.declared.fault.Fault.{Fault}
 use Rattle.osm_files.specs.Fault.{memory_fault, failed_fault}
-use Rattle.osm_files.specs.Groups.{ascending, last_group, groups, versions_then, sorted_source, gathered, IsGroup, Gathers, StillSet, as_set, still_given}
+use Rattle.osm_files.specs.Groups.{ascending, last_group, groups, versions_then, sorted_source, gathered, IsGroup, Gathers, StillSet, as_set, still_given, FileStand, FileCanGive, FileSteps, FileAscends, gathered_at, given_at, known_or_whole, one_given}
 use Rattle.osm_files.specs.Input.{Coming}
-use Rattle.osm_files.specs.Position.{Position, named, units_from, to_come, still_to_come, GoesOn}
-use Rattle.osm_files.specs.Source.{Ascends, Step}
+use Rattle.osm_files.specs.Position.{Told, named, units_from, to_come, still_to_come, GoesOn}
+use Rattle.osm_files.specs.Source.{Ascends, Step, Steps}
 use Rattle.osm_files.specs.Stream.{Placed, Still, whole, refused}
 use Rattle.osm_files.proofs.FillLaws.{weaker, mapped}
 use Rattle.osm_files.proofs.PositionLaws.{with_each}
@@ -186,13 +186,13 @@ pub whole_rises : (known : Option (Still VersionData Fault)) → known ≡ Some 
 whole_rises known e = let P : Option (Still VersionData Fault) → Type 0 = λ o. IfSome o Ascends in subst P (sym e) nothing_rises
 
 -- where the first of a group was given
-module _ (input : ℕ) (before : Option (Still Placed Fault)) (begun : List VersionData) (p q : Position) (first : VersionData) (others : List VersionData) (next : Option VersionData) (h : Gathers input before begun (still_to_come p) first others next) where
+module _ (input : ℕ) (before : Option (Still Placed Fault)) (begun : List VersionData) (p q : Told) (first : VersionData) (others : List VersionData) (next : Option VersionData) (h : Gathers input before begun (still_to_come p) first others next) where
   Rising : List VersionData → Type 0
   Rising ready = IfSome (gathered input (still_to_come q) (option_to_list next) ready) Ascends
 
   all_rises : q ≡ p → Rising (ascending (first ∷ others))
   unfolding Rising
-  all_rises same = let P : Position → Type 0 = λ x. IfSome (gathered input (still_to_come x) (option_to_list next) (ascending (first ∷ others))) Ascends in subst P (sym same) (gathers_rise input before begun (still_to_come p) first others next h)
+  all_rises same = let P : Told → Type 0 = λ x. IfSome (gathered input (still_to_come x) (option_to_list next) (ascending (first ∷ others))) Ascends in subst P (sym same) (gathers_rise input before begun (still_to_come p) first others next h)
 
   pub given_rises : (ready : List VersionData) (r : Result (Option VersionData) Fault) → OnOk r (q ≡ p) → IfOk r (λ given. ascending (first ∷ others) ≡ option_to_list given ++ ready) → IfErr r (λ fault. (fault ≡ memory_fault) × (q ≡ record p { failed = true }) × (ready ≡ []))
       → IfSome (gathered input (still_to_come q) (option_to_list next) ready) Ascends
@@ -222,7 +222,7 @@ source_rises input c =
     subst Ascends (sym (source_is input c)) (let units = named input (units_from None 0 c) in groups_rise input units.refusal units.list)
 
 -- a reading at its begin
-abbrev pub beginning : ℕ → Option Coming → Position
+abbrev pub beginning : ℕ → Option Coming → Told
 beginning input coming = record { input = input; place = 0; held = []; coming = coming; stand = None; ended = false; failed = false }
 
 begins_so : (input : ℕ) (coming : Option Coming) → gathered input (still_to_come (beginning input coming)) [] [] ≡ option_map (sorted_source input) coming
@@ -233,7 +233,7 @@ begins_rising : (input : ℕ) (coming : Option Coming) → IfSome (option_map (s
 begins_rising input None = tt
 begins_rising input (Some c) = source_rises input c
 
-module _ (p : Position) (ready : List VersionData) (input : ℕ) (coming : Option Coming) (begins : p ≡ beginning input coming) (nothing : ready ≡ []) where
+module _ (p : Told) (ready : List VersionData) (input : ℕ) (coming : Option Coming) (begins : p ≡ beginning input coming) (nothing : ready ≡ []) where
   pub source_begins : gathered p.input (still_to_come p) [] ready ≡ option_map (sorted_source input) coming
   source_begins = (λ i. gathered (begins i).input (still_to_come (begins i)) [] (nothing i)) ∙ begins_so input coming
 
@@ -244,13 +244,13 @@ module _ (p : Position) (ready : List VersionData) (input : ℕ) (coming : Optio
   source_begins_told = told_as_set (gathered p.input (still_to_come p) [] ready) source_begins_rising ∙ source_begins
 
 -- a reading that read on before it gave anything
-opens_so : (input : ℕ) (coming : Option Coming) (q : Position) → GoesOn (beginning input coming) q → IfSome coming (λ c. gathered q.input (still_to_come q) [] [] ≡ Some (sorted_source input c))
+opens_so : (input : ℕ) (coming : Option Coming) (q : Told) → GoesOn (beginning input coming) q → IfSome coming (λ c. gathered q.input (still_to_come q) [] [] ≡ Some (sorted_source input c))
 opens_so input None q on = tt
 opens_so input (Some c) q on =
     let fine : still_to_come q ≡ to_come q = ap (λ b. cond b (Some (refused (failed_fault q.input))) (to_come q)) on.failed in
     (λ i. gathered (on.input i) ((fine ∙ on.keeps) i) [] []) ∙ ap Some (sym (source_is input c))
 
-module _ (p q : Position) (ready : List VersionData) (input : ℕ) (coming : Option Coming) (begins : p ≡ beginning input coming) (on : GoesOn p q) (nothing : ready ≡ []) where
+module _ (p q : Told) (ready : List VersionData) (input : ℕ) (coming : Option Coming) (begins : p ≡ beginning input coming) (on : GoesOn p q) (nothing : ready ≡ []) where
   pub source_opens_rising : IfSome (gathered q.input (still_to_come q) [] ready) Ascends
   source_opens_rising =
       subst (λ (xs : List VersionData). IfSome (gathered q.input (still_to_come q) [] xs) Ascends) (sym nothing)
@@ -259,7 +259,7 @@ module _ (p q : Position) (ready : List VersionData) (input : ℕ) (coming : Opt
   pub source_opens_told : IfSome coming (λ c. still_given (option_map as_set (gathered q.input (still_to_come q) [] ready)) ≡ Some (sorted_source input c))
   source_opens_told =
       weaker coming _ _ (λ c e. told_as_set (gathered q.input (still_to_come q) [] ready) source_opens_rising ∙ (λ i. gathered q.input (still_to_come q) [] (nothing i)) ∙ e)
-      (opens_so input coming q (subst (λ (x : Position). GoesOn x q) begins on))
+      (opens_so input coming q (subst (λ (x : Told). GoesOn x q) begins on))
 
 pub opens_refused : (input : ℕ) (coming : Option Coming) (fault : Fault) (after : Option (Still Placed Fault)) → Step {A = Placed} (still_to_come (beginning input coming)) (Err fault) after
     → (fault ≡ memory_fault) ⊎ IfSome coming (λ c. (sorted_source input c).refusal ≡ Some fault)
@@ -273,3 +273,15 @@ pub step_told : (value : Option StillSet) (before after : Option (Still VersionD
 step_told value before after r is up on h =
     let first : before ≡ still_given value = sym (told_as_set before up) ∙ ap still_given is in
     subst (λ (o : Option (Still VersionData Fault)). Step o r (still_given (option_map as_set after))) first (subst (λ (o : Option (Still VersionData Fault)). Step before r o) (sym (told_as_set after on)) h)
+
+-- a call of a source, of what its reader can give
+pub file_step : {R : Type 0} (can : R → Coming → Type 0) (s t : FileStand R) (r : Result (Option VersionData) Fault) → FileAscends can s.units.input s → FileAscends can s.units.input t → t.units.input ≡ s.units.input → FileSteps can s.units.input s r t
+    → Steps (FileCanGive can) s r t
+file_step can s t r up on same steps later h =
+    let x = steps h.0 h.1 in
+    let after : still_given (option_map as_set (gathered_at s.units.input t h.0)) ≡ Some later = (λ i. still_given (option_map as_set (gathered_at (sym same i) t h.0))) ∙ h.2 in
+    let told = step_told (option_map as_set (gathered_at s.units.input s x.0)) (gathered_at s.units.input s x.0) (gathered_at s.units.input t h.0) r refl (up x.0 x.1) (on h.0 h.1) x.2 in (
+      known_or_whole (given_at s x.0),
+      (x.0, x.1, one_given s x.0),
+      subst (λ (o : Option (Still VersionData Fault)). Step o r (Some later)) (one_given s x.0) (subst (λ (o : Option (Still VersionData Fault)). Step (given_at s x.0) r o) after told),
+    )

@@ -1,20 +1,19 @@
 -- The ascending list that the units of a sorted file give, key group by key group: an own rule of this project.
-use Rattle.std.specs.Coded.{Coded, code_by, coded×, coded_option, coded_ℕ}
-use Rattle.std.specs.Prelude.{◌≡◌, refl, ◌⊎◌, ℕ, Bool, true, List, [], ◌∷◌, ◌++◌, Option, Some, None, option_map, option_to_list, IfSome, Result, Ok, Err, if◌then◌else◌}
+use Rattle.std.proofs.Common.{subst, sym}
+use Rattle.std.specs.Prelude.{◌≡◌, refl, ◌⊎◌, ℕ, ◌+◌, ◌-◌, ◌^◌, Bool, length, true, false, List, [], ◌∷◌, ◌++◌, Option, Some, None, option_map, option_to_list, IfSome, Result, Ok, Err, if◌then◌else◌}
 use Rattle.std.specs.Ordering.{is_eq, is_lt}
 use Rattle.std.specs.List.{AllByRecursion}
 use Rattle.std.specs.declared.cmp.Ordering.TheVariants.{Equal}
 use Rattle.osm_model.specs.Data.{VersionData}
 use Rattle.osm_model.specs.Order.{key_cmp, version_cmp}
 use Rattle.osm_model.specs.Sets.{listed, from_list}
-use Rattle.osm_model.specs.VersionSet.{VersionSet, version_set_code}
+use Rattle.osm_model.specs.VersionSet.{VersionSet}
 use Rattle.osm_model.proofs.SetLaws.{strict-listed}
 use Rattle.osm_files.specs.declared.fault.Fault.{Fault}
-use Rattle.osm_files.specs.contracts.fault.Fault as fault
 use Rattle.osm_files.specs.declared.reason.Reason.TheVariants.{Unsorted}
 use Rattle.osm_files.specs.Fault.{memory_fault, failed_fault}
-use Rattle.osm_files.specs.Input.{Coming}
-use Rattle.osm_files.specs.Position.{units_from, named, fault_of, Keeps}
+use Rattle.osm_files.specs.Input.{Coming, whole as all_of, preceded_by, Explained}
+use Rattle.osm_files.specs.Position.{Position, telling, to_come, still_to_come, units_from, named, fault_of, Keeps}
 use Rattle.osm_files.specs.Source.{Ascends, Step}
 use Rattle.osm_files.specs.Stream.{verdict_at, Placed, Still, whole, refused}
 
@@ -59,14 +58,39 @@ sorted_source input c = let units = named input (units_from None 0 c) in groups 
 abbrev pub gathered : ℕ → Option (Still Placed Fault) → List VersionData → List VersionData → Option (Still VersionData Fault)
 gathered input units group ready = option_map (λ s. versions_then ready (groups input s.refusal s.list group)) units
 
--- at most so many units are to come: none at the end, and else no more than this
-abbrev pub some_of : List Placed → ℕ → ℕ
-some_of [] most = 0
-some_of (unit ∷ units) most = most
+-- a reading of which nothing was read
+abbrev pub fresh_reading : {R : Type 0} → ℕ → R → Position R
+fresh_reading input reader = record { input = input; place = 0; held = []; coming = reader; stand = None; ended = false; failed = false }
 
-abbrev pub units_left : Option (Still Placed Fault) → ℕ → ℕ
-units_left None most = most
-units_left (Some still) most = some_of still.list most
+-- A source of a sorted file between two calls: where its reading stands, the versions that were read of the next group, and what
+-- is left of the group that is given.
+pub record FileStand (R : Type 0) : Type 0 where
+  pub units : Position R
+  pub group : List VersionData
+  pub ready : List VersionData
+
+abbrev pub standing : {R : Type 0} → Position R → List VersionData → List VersionData → FileStand R
+standing units group ready = record { units = units; group = group; ready = ready }
+
+-- a source of a file of which nothing was read
+abbrev pub opened_file : {R : Type 0} → ℕ → R → FileStand R
+opened_file input reader = standing (fresh_reading input reader) [] []
+
+-- what the source of this input still gives, if its reader gives this
+abbrev pub gathered_at : {R : Type 0} → ℕ → FileStand R → Coming → Option (Still VersionData Fault)
+gathered_at input s c = gathered input (still_to_come (telling s.units c)) s.group s.ready
+
+-- one call, of what its reader can give: a step from what was to come to what is to come
+abbrev pub FileSteps : {R : Type 0} → (R → Coming → Type 0) → ℕ → FileStand R → Result (Option VersionData) Fault → FileStand R → Type 0
+FileSteps can input s result t = Explained (can s.units.coming) (can t.units.coming) (λ earlier later. Step (gathered_at input s earlier) result (gathered_at input t later))
+
+-- whatever its reader can give, what it still gives ascends
+abbrev pub FileAscends : {R : Type 0} → (R → Coming → Type 0) → ℕ → FileStand R → Type 0
+FileAscends can input s = (c : Coming) → can s.units.coming c → IfSome (gathered_at input s c) Ascends
+
+-- at most so many versions are still to come: each unit has a byte at least
+abbrev pub left_at : {R : Type 0} → FileStand R → ℕ
+left_at s = (2 ^ 62 - s.units.place) + (length s.group + length s.ready)
 
 -- What a source of a sorted file still gives: a set of versions, and how it ends.
 abbrev pub StillSet : Type 0
@@ -79,15 +103,6 @@ as_set still = (from_list {R = version_cmp} still.list, still.refusal)
 abbrev pub as_list : StillSet → Still VersionData Fault
 as_list (versions, refusal) = record { list = listed versions; refusal = refusal }
 
--- a source of a sorted file: what it still gives, where that is known, and at most how many versions
-pub record Giving : Type 0 where
-  pub known : Option StillSet
-  pub left : ℕ
-
-abbrev pub giving_code : Coded Giving
-giving_code =
-    code_by (Option StillSet × ℕ) (coded× (coded_option (coded× version_set_code (coded_option fault.the_row.coded))) coded_ℕ) (λ g. (g.known, g.left)) (λ p. record { known = p.0; left = p.1 }) (λ _. refl)
-
 abbrev pub still_given : Option StillSet → Option (Still VersionData Fault)
 still_given = option_map as_list
 
@@ -95,12 +110,59 @@ pub given_ascends : (known : Option StillSet) → IfSome (still_given known) Asc
 given_ascends None = tt
 given_ascends (Some (versions, refusal)) = strict-listed versions
 
+-- what it still gives, as the list of a set
+abbrev pub given_at : {R : Type 0} → FileStand R → Coming → Option (Still VersionData Fault)
+given_at s c = still_given (option_map as_set (gathered_at s.units.input s c))
+
+-- a source can give what its reader makes possible
+abbrev pub FileCanGive : {R : Type 0} → (R → Coming → Type 0) → FileStand R → Still VersionData Fault → Type 0
+FileCanGive can s still = (c : Coming) × can s.units.coming c × (given_at s c ≡ Some still)
+
+known_ascends : (known : Option StillSet) (still : Still VersionData Fault) → still_given known ≡ Some still → Ascends still
+known_ascends known still e = let P : Option (Still VersionData Fault) → Type 0 = λ o. IfSome o Ascends in subst P e (given_ascends known)
+
+pub file_ascends : {R : Type 0} (can : R → Coming → Type 0) (s : FileStand R) (still : Still VersionData Fault) → FileCanGive can s still → Ascends still
+file_ascends can s still h = known_ascends (option_map as_set (gathered_at s.units.input s h.0)) still h.2
+
+-- what is to come is known, once it is known what the reader gives
+abbrev pub IsKnown : {A : Type 0} → Option A → Type 0
+IsKnown None = ⊥
+IsKnown (Some x) = Unit {0}
+
+still_known : {R : Type 0} (p : Position R) (c : Coming) → IsKnown (still_to_come (telling p c))
+still_known p c =
+    elim p.failed as (λ t. IsKnown (if t then Some (refused (failed_fault p.input)) else to_come (telling p c))) [
+      | true ↦ tt
+      | false ↦ (elim p.ended as (λ t. IsKnown (option_map (λ x. named p.input (units_from p.stand p.place x)) (if t then Some (all_of p.held) else Some (preceded_by p.held c)))) [
+        | true ↦ tt
+        | false ↦ tt
+      ])
+    ]
+
+given_known : (input : ℕ) (units : Option (Still Placed Fault)) (group ready : List VersionData) → IsKnown units → IsKnown (still_given (option_map as_set (gathered input units group ready)))
+given_known input None group ready h = h
+given_known input (Some s) group ready h = tt
+
+abbrev pub known_or_whole : Option (Still VersionData Fault) → Still VersionData Fault
+known_or_whole None = whole
+known_or_whole (Some still) = still
+
+known_is : (o : Option (Still VersionData Fault)) → IsKnown o → o ≡ Some (known_or_whole o)
+known_is None h = absurd h
+known_is (Some still) h = refl
+
+pub one_given : {R : Type 0} (s : FileStand R) (c : Coming) → given_at s c ≡ Some (known_or_whole (given_at s c))
+one_given s c = known_is (given_at s c) (given_known s.units.input (still_to_come (telling s.units c)) s.group s.ready (still_known s.units c))
+
 -- a set is given whole, its members one by one, ascending
 abbrev pub set_given : VersionSet → Still VersionData Fault
 set_given versions = record { list = listed versions; refusal = None }
 
 pub set_ascends : (versions : VersionSet) → Ascends (set_given versions)
 set_ascends versions = strict-listed versions
+
+pub given_set_ascends : (versions : VersionSet) (still : Still VersionData Fault) → still ≡ set_given versions → Ascends still
+given_set_ascends versions still is = subst Ascends (sym is) (set_ascends versions)
 
 -- each version has the key of the first
 abbrev pub IsGroup : VersionData → List VersionData → Type 0

@@ -1,6 +1,7 @@
--- What an input still gives. That a read of nothing into a buffer that isn't empty means the end of input is the rule
+-- What an input can still give. That a read of nothing into a buffer that isn't empty means the end of input is the rule
 -- of Rust's `std::io::Read`; the rest is an own rule of this project.
-use Rattle.std.specs.Prelude.{◌≡◌, ℕ, ◌<◌, ◌≤◌, ◌^◌, ◌⊎◌, Bool, true, false, List, [], ◌++◌, length, Option, IfSome, option_map}
+use Rattle.std.proofs.Common.{sym, refl, append-nil}
+use Rattle.std.specs.Prelude.{◌≡◌, ℕ, ◌<◌, ◌≤◌, ◌^◌, ◌⊎◌, Bool, true, false, List, [], ◌++◌, length, Option, Some, None}
 use Rattle.osm_files.specs.declared.fault.Fault.{Fault}
 use Rattle.osm_files.specs.Fault.{memory_fault, too_long_fault, read_fault}
 
@@ -13,42 +14,60 @@ pub record Coming : Type 0 where
 abbrev pub whole : List ℕ → Coming
 whole bytes = record { bytes = bytes; broken = false }
 
+-- these bytes and then an error
+abbrev pub breaks : List ℕ → Coming
+breaks bytes = record { bytes = bytes; broken = true }
+
 -- these bytes, and then what is still to come
 abbrev pub preceded_by : List ℕ → Coming → Coming
 preceded_by front coming = record { bytes = front ++ coming.bytes; broken = coming.broken }
 
--- what was to come is these bytes and what is to come now; it isn't known now where it wasn't known before
-abbrev pub Gave : Option Coming → Option Coming → List ℕ → Type 0
-Gave before after front = before ≡ option_map (preceded_by front) after
+-- Whatever can come after a call is explained by something that could come before it: the step holds between the two.
+abbrev pub Explained : {A B : Type 0} → (A → Type 0) → (B → Type 0) → (A → B → Type 0) → Type 0
+Explained {A = A} {B = B} before after step = (later : B) → after later → (earlier : A) × before earlier × step earlier later
+
+-- an input gave these bytes: whatever it can give now, it could give these bytes before, and then that
+abbrev pub Gave : {R : Type 0} → (R → Coming → Type 0) → R → R → List ℕ → Type 0
+Gave can before after front = Explained (can before) (can after) (λ earlier later. earlier ≡ preceded_by front later)
 
 -- behind these bytes stand so many more that the input gave
-abbrev pub GaveMore : Option Coming → Option Coming → List ℕ → List ℕ → ℕ → Type 0
-GaveMore before after held more count = (front : List ℕ) × Gave before after front × (more ≡ held ++ front) × (length front ≡ count)
+abbrev pub GaveMore : {R : Type 0} → (R → Coming → Type 0) → R → R → List ℕ → List ℕ → ℕ → Type 0
+GaveMore can before after held more count = (front : List ℕ) × Gave can before after front × (more ≡ held ++ front) × (length front ≡ count)
 
--- the end of input comes next
-abbrev pub AtEnd : Option Coming → Type 0
-AtEnd coming = IfSome coming (λ c. (c.bytes ≡ []) × (c.broken ≡ false))
+-- A reader of std with these bytes left can give them all and end, or give a front of them and fail. Where it isn't known what
+-- is left, it can give anything.
+abbrev pub CanGive : Option (List ℕ) → Coming → Type 0
+CanGive None c = Unit {0}
+CanGive (Some left) c = (behind : List ℕ) × (left ≡ c.bytes ++ behind) × (c.broken ≡ false → behind ≡ [])
 
--- an error comes next
-abbrev pub AtError : Option Coming → Type 0
-AtError coming = IfSome coming (λ c. (c.bytes ≡ []) × (c.broken ≡ true))
+abbrev pub all_left : Option (List ℕ) → Coming
+all_left None = whole []
+all_left (Some left) = whole left
 
--- an error follows so many bytes
-abbrev pub BreaksAt : Option Coming → ℕ → Type 0
-BreaksAt coming place = IfSome coming (λ c. (length c.bytes ≡ place) × (c.broken ≡ true))
+pub can_give_all : (left : Option (List ℕ)) → CanGive left (all_left left)
+can_give_all None = tt
+can_give_all (Some left) = ([], sym (append-nil left), λ _. refl)
 
--- there are 2^62 bytes or more to come
-abbrev pub IsTooLong : Option Coming → Type 0
-IsTooLong coming = IfSome coming (λ c. 2 ^ 62 ≤ length c.bytes)
+-- an input can give something of which this holds
+abbrev pub GivesOne : (Coming → Type 0) → (Coming → Type 0) → Type 0
+GivesOne can P = (c : Coming) × can c × P c
 
--- the input is these bytes and its end, and is shorter than 2^62 bytes
-pub record IsAll (coming : Option Coming) (bytes : List ℕ) : Type 0 where
-  pub told : IfSome coming (λ c. c ≡ whole bytes)
+-- the input can give these bytes and its end, and they are fewer than 2^62
+pub record IsAll (can : Coming → Type 0) (bytes : List ℕ) : Type 0 where
+  pub gives : can (whole bytes)
   pub short : length bytes < 2 ^ 62
 
+-- it can give so many bytes and then an error
+abbrev pub BreaksAt : (Coming → Type 0) → ℕ → Type 0
+BreaksAt can place = (bytes : List ℕ) × can (breaks bytes) × (length bytes ≡ place)
+
+-- it can give 2^62 bytes or more
+abbrev pub IsTooLong : (Coming → Type 0) → Type 0
+IsTooLong can = (c : Coming) × can c × (2 ^ 62 ≤ length c.bytes)
+
 -- why the input of this number can't be read to its end
-abbrev pub StopsReading : ℕ → Option Coming → Fault → Type 0
-StopsReading input coming fault =
+abbrev pub StopsReading : ℕ → (Coming → Type 0) → Fault → Type 0
+StopsReading input can fault =
     (fault ≡ memory_fault)
-    ⊎ ((fault ≡ read_fault input fault.place) × (fault.place < 2 ^ 62) × BreaksAt coming fault.place)
-    ⊎ ((fault ≡ too_long_fault input) × IsTooLong coming)
+    ⊎ ((fault ≡ read_fault input fault.place) × (fault.place < 2 ^ 62) × BreaksAt can fault.place)
+    ⊎ ((fault ≡ too_long_fault input) × IsTooLong can)

@@ -1,14 +1,15 @@
 -- What a whole file is loaded as.
-use Rattle.std.specs.Prelude.{◌≡◌, ◌↔◌, ◌⊎◌, ℕ, ◌==◌, ◌||◌, not, nat_le, Bool, false, IsTrue, List, [], ◌∷◌, length, take, bytes_eq, Option, Some, None, IfSome, if◌then◌else◌}
+use Rattle.std.specs.Prelude.{◌≡◌, ◌↔◌, ◌⊎◌, ℕ, ◌==◌, ◌||◌, not, nat_le, Bool, false, IsTrue, List, [], ◌∷◌, length, take, bytes_eq, Some, None, IfSome, if◌then◌else◌}
 use Rattle.osm_files.specs.declared.fault.Fault.{Fault}
 use Rattle.osm_files.specs.declared.format.Format.{Format}
 use Rattle.osm_files.specs.declared.format.Format.TheVariants.{Opl, O5m, O5c}
 use Rattle.osm_files.specs.declared.load.Loaded.{Loaded}
 use Rattle.osm_files.specs.Fault.{memory_fault}
-use Rattle.osm_files.specs.Input.{Coming}
+use Rattle.osm_files.specs.Groups.{FileStand, FileCanGive, sorted_source}
+use Rattle.osm_files.specs.Input.{Coming, Explained}
 use Rattle.osm_files.specs.O5.{o5m_header, reset_byte}
 use Rattle.osm_files.specs.Held.{Holds, HoldsSorted}
-use Rattle.osm_files.specs.Position.{units_from, named}
+use Rattle.osm_files.specs.Position.{Told, units_from, named, ahead, GoesOn}
 
 -- the header of o5m files stands at the front
 abbrev pub is_o5m : List ℕ → Bool
@@ -24,6 +25,10 @@ abbrev pub tells_format : List ℕ → Bool
 tells_format [] = false
 tells_format (b ∷ bytes) = not (b == reset_byte) || nat_le 7 (length (b ∷ bytes))
 
+-- the bytes to come are a file of this format, and still are to come
+abbrev pub TellsFormat : Format → Told → Told → Type 0
+TellsFormat format before after = GoesOn before after × IfSome (ahead before) (λ c. format ≡ format_of c.bytes)
+
 -- the bytes are a file and no error follows them; what was loaded is what the file holds, its format and whether it is sorted
 pub record Loads (c : Coming) (loaded : Loaded) : Type 0 where
   pub unbroken : c.broken ≡ false
@@ -31,6 +36,15 @@ pub record Loads (c : Coming) (loaded : Loaded) : Type 0 where
   pub format : loaded.format ≡ format_of c.bytes
   pub sorted : IsTrue loaded.sorted ↔ HoldsSorted c.bytes loaded.history
 
+-- A source of this input's file was opened, and its format told: whatever it can give, the reader could give a file of this
+-- format, of which it gives what a sorted file's source does.
+abbrev pub Opens : {R : Type 0} → (R → Coming → Type 0) → ℕ → R → Format → FileStand R → Type 0
+Opens can input reader format s = Explained (can reader) (FileCanGive can s) (λ c still. (format ≡ format_of c.bytes) × (still ≡ sorted_source input c))
+
+-- why the source of this input's file isn't opened: for want of memory, or as the source of the file is refused
+abbrev pub StopsOpening : ℕ → Coming → Fault → Type 0
+StopsOpening input c fault = (fault ≡ memory_fault) ⊎ ((sorted_source input c).refusal ≡ Some fault)
+
 -- why the file of this input isn't loaded: for want of memory, or as its units are refused
-abbrev pub StopsLoading : ℕ → Option Coming → Fault → Type 0
-StopsLoading input coming fault = (fault ≡ memory_fault) ⊎ IfSome coming (λ c. (named input (units_from None 0 c)).refusal ≡ Some fault)
+abbrev pub StopsLoading : ℕ → Coming → Fault → Type 0
+StopsLoading input c fault = (fault ≡ memory_fault) ⊎ ((named input (units_from None 0 c)).refusal ≡ Some fault)

@@ -1,12 +1,16 @@
--- Laws of inputs: one that ends has the verdict of its bytes, and so has one that fails behind a faulty unit that stands whole.
-use Rattle.std.specs.Prelude.{◌≡◌, ◌⊎◌, ℕ, ◌<◌, ◌≤◌, ◌^◌, true, List, length, Some, None, option_map}
+-- Laws of inputs: one that ends has the verdict of its bytes, and so has one that fails behind a faulty unit that stands whole;
+-- and of the reasons of verdicts.
+use Rattle.std.specs.Prelude.{◌≡◌, ◌⊎◌, ℕ, ◌<◌, ◌≤◌, ◌^◌, Bool, true, false, List, length, Some, None, option_map}
 use Rattle.osm_model.specs.VersionSet.{VersionSet}
 use Rattle.osm_files.specs.declared.format.Format.{Format}
-use Rattle.osm_files.specs.declared.reason.Reason.TheVariants.{ReadFault, WriteFault}
+use Rattle.opl_line.specs.declared.reason.OplReason.TheVariants as opl
+use Rattle.o5_codec.specs.declared.reason.O5Reason.TheVariants as o5
+use Rattle.osm_files.specs.declared.reason.Reason.{Reason}
+use Rattle.osm_files.specs.declared.reason.Reason.TheVariants.{Opl, O5, BadHeader, Unsorted, NoEnd, AfterEnd, TooLong, ReadFault, WriteFault, Memory, Failed}
 use Rattle.osm_files.specs.Input.{Coming, whole}
 use Rattle.osm_files.specs.Stream.{Verdict, verdict_at}
 use Rattle.osm_files.specs.Units.{units, start_of}
-use Rattle.osm_files.specs.Verdict.{file_units, verdict}
+use Rattle.osm_files.specs.Verdict.{file_units, verdict, verdict_sorted}
 use Rattle.osm_files.specs.Spell.{spell}
 use Rattle.osm_files.specs.Load.{format_of}
 use Rattle.osm_files.specs.Position.{units_from, fault_of, named}
@@ -35,9 +39,27 @@ BrokenInputsAreRefused = (bytes : List ℕ) →
     ⊎ ((v : Verdict) × length bytes < 2 ^ 62 × IsFaultyWhole bytes v × (verdict bytes ≡ Some v) × ((units_from None 0 (broken_behind bytes)).refusal ≡ Some v))
     ⊎ (length bytes < 2 ^ 62 × NoneFaultyWhole bytes × ((units_from None 0 (broken_behind bytes)).refusal ≡ Some (verdict_at (length bytes) ReadFault)))
 
--- no bytes have a fault of a device as their verdict
-abbrev pub VerdictsAreNoDeviceFaults : Type 0
-VerdictsAreNoDeviceFaults = (bytes : List ℕ) (v : Verdict) → verdict bytes ≡ Some v → (v.reason ≡ ReadFault → ⊥) × (v.reason ≡ WriteFault → ⊥)
+-- the reasons of verdicts, whatever the order; never want of memory, an earlier refusal or the fault of a device
+abbrev pub is_verdict_reason : Reason → Bool
+is_verdict_reason (Opl opl.Memory) = false
+is_verdict_reason (Opl reason) = true
+is_verdict_reason (O5 o5.Memory) = false
+is_verdict_reason (O5 o5.Failed) = false
+is_verdict_reason (O5 reason) = true
+is_verdict_reason BadHeader = true
+is_verdict_reason Unsorted = false
+is_verdict_reason NoEnd = true
+is_verdict_reason AfterEnd = true
+is_verdict_reason TooLong = true
+is_verdict_reason ReadFault = false
+is_verdict_reason WriteFault = false
+is_verdict_reason Memory = false
+is_verdict_reason Failed = false
+
+-- a verdict has one of these; a verdict on the order has one, or is Unsorted
+abbrev pub ReasonsOfVerdicts : Type 0
+ReasonsOfVerdicts = (bytes : List ℕ) (v : Verdict) →
+    (verdict bytes ≡ Some v → is_verdict_reason v.reason ≡ true) × (verdict_sorted bytes ≡ Some v → (v.reason ≡ Unsorted) ⊎ (is_verdict_reason v.reason ≡ true))
 
 -- a file that is written in a format tells it
 abbrev pub WrittenFilesTellTheirFormat : Type 0

@@ -8,24 +8,38 @@ use Rattle.osm_files.specs.declared.unit.ReadUnit.{ReadUnit}
 use Rattle.osm_files.specs.declared.reading.Advance.{Advance}
 use Rattle.osm_files.specs.declared.reading.Advance.TheVariants.{Passed, Gave, Ended}
 use Rattle.osm_files.specs.Fault.{memory_fault, failed_fault}
-use Rattle.osm_files.specs.Input.{Coming, whole as all_of, preceded_by}
+use Rattle.osm_files.specs.Input.{Coming, whole as all_of, preceded_by, Explained, GivesOne}
 use Rattle.osm_files.specs.Stream.{Verdict, verdict_at, Placed, placed, Still, whole, refused, front}
 use Rattle.osm_files.specs.Units.{Stand, units, unit, unit_at, start_of}
 use Rattle.osm_files.specs.Verdict.{length_limit, too_long}
 
--- the place in the file of the first byte that is held, the bytes that are held, and what is to come behind them; where the
--- reading stands, which isn't known before the first byte; whether the input has ended, and whether a call was refused
-pub record Position : Type 0 where
+-- the place in the file of the first byte that is held, the bytes that are held, and what is to come behind them: the reader
+-- that gives it, or what it gives; where the reading stands, which isn't known before the first byte; whether the input has
+-- ended, and whether a call was refused
+pub record Position (C : Type 0) : Type 0 where
   pub input : ℕ
   pub place : ℕ
   pub held : List ℕ
-  pub coming : Option Coming
+  pub coming : C
   pub stand : Option Stand
   pub ended : Bool
   pub failed : Bool
 
+-- a position that tells what is to come, where that is known
+abbrev pub Told : Type 0
+Told = Position (Option Coming)
+
+-- the position, if its reader gives this
+abbrev pub telling : {R : Type 0} → Position R → Coming → Told
+telling p c = record { input = p.input; place = p.place; held = p.held; coming = Some c; stand = p.stand; ended = p.ended; failed = p.failed }
+
+-- whatever can come behind the later position is explained by something that could come behind the earlier one: if that was to
+-- come, the step led from the one to the other
+abbrev pub Between : {R : Type 0} → (R → Coming → Type 0) → Position R → Position R → (Told → Told → Type 0) → Type 0
+Between can p q step = Explained (can p.coming) (can q.coming) (λ earlier later. step (telling p earlier) (telling q later))
+
 -- the bytes from the place on, where they are known
-abbrev pub ahead : Position → Option Coming
+abbrev pub ahead : Told → Option Coming
 ahead p = if p.ended then Some (all_of p.held) else option_map (preceded_by p.held) p.coming
 
 abbrev pub stand_in : Option Stand → List ℕ → Stand
@@ -54,11 +68,11 @@ abbrev pub named : {A : Type 0} → ℕ → Still A Verdict → Still A Fault
 named input still = record { list = still.list; refusal = option_map (fault_of input) still.refusal }
 
 -- what is still to come, where it is known and no call was refused
-abbrev pub to_come : Position → Option (Still Placed Fault)
+abbrev pub to_come : Told → Option (Still Placed Fault)
 to_come p = option_map (λ c. named p.input (units_from p.stand p.place c)) (ahead p)
 
 -- what is still to come, where it is known; after a refusal the answer is Failed
-abbrev pub still_to_come : Position → Option (Still Placed Fault)
+abbrev pub still_to_come : Told → Option (Still Placed Fault)
 still_to_come p = if p.failed then Some (refused (failed_fault p.input)) else to_come p
 
 -- what was known stays so
@@ -71,50 +85,68 @@ given place None = Passed
 given place (Some v) = Gave (placed place v)
 
 -- one unit further: it holds no version, or one, or there is none any more; or why the next unit can't be read
-abbrev pub Advances : Position → Result Advance Fault → Position → Type 0
+abbrev pub Advances : Told → Result Advance Fault → Told → Type 0
 Advances p (Ok Passed) q = Keeps (to_come p) (to_come q)
 Advances p (Ok (Gave u)) q = IfSome (to_come p) (λ s. (t : Still Placed Fault) × (s ≡ front u t) × (to_come q ≡ Some t))
 Advances p (Ok Ended) q = IfSome (to_come p) (λ s. s ≡ whole) × (to_come q ≡ Some whole)
 Advances p (Err fault) q = (fault ≡ memory_fault) ⊎ IfSome (to_come p) (λ s. s ≡ refused fault)
 
 -- bytes were read on: nothing was given, and what was known stays so
-pub record ReadsOn (p q : Position) : Type 0 where
+pub record ReadsOn (p q : Told) : Type 0 where
   pub input : q.input ≡ p.input
   pub place : q.place ≡ p.place
   pub stand : q.stand ≡ p.stand
   pub failed : q.failed ≡ p.failed
   pub ahead : Keeps (ahead p) (ahead q)
 
+-- the same, of what the readers can give; what isn't said of bytes to come is said by itself
+pub record HasRead {R : Type 0} (can : R → Coming → Type 0) (p q : Position R) : Type 0 where
+  pub place : q.place ≡ p.place
+  pub stand : q.stand ≡ p.stand
+  pub failed : q.failed ≡ p.failed
+  pub reads : Between can p q ReadsOn
+
 -- nothing was given, and what was known to come still is
-pub record GoesOn (p q : Position) : Type 0 where
+pub record GoesOn (p q : Told) : Type 0 where
   pub input : q.input ≡ p.input
   pub place : p.place ≤ q.place
   pub failed : q.failed ≡ p.failed
   pub keeps : Keeps (to_come p) (to_come q)
 
+-- the same, of what the readers can give
+pub record HasGone {R : Type 0} (can : R → Coming → Type 0) (p q : Position R) : Type 0 where
+  pub input : q.input ≡ p.input
+  pub place : p.place ≤ q.place
+  pub failed : q.failed ≡ p.failed
+  pub goes : Between can p q GoesOn
+
 -- where the reading stands, as far as the bytes held tell
-abbrev pub stand_at : Position → Stand
+abbrev pub stand_at : {C : Type 0} → Position C → Stand
 stand_at p = stand_in p.stand p.held
 
 -- the stand is known from the first byte on
-abbrev pub seen : Position → Position
+abbrev pub seen : {C : Type 0} → Position C → Position C
 seen p = if is_some (slice_get p.held 0) then record p { stand = Some (stand_at p) } else p
 
 -- the unit that stands whole at the front of the bytes held
-abbrev pub FindsHeld : Position → Result (Option ReadUnit) Reason → Position → Type 0
+abbrev pub FindsHeld : {C : Type 0} → Position C → Result (Option ReadUnit) Reason → Position C → Type 0
 FindsHeld p (Ok None) q = (unit_at (stand_at p) p.held ≡ None) × (q ≡ seen p)
 FindsHeld p (Ok (Some u)) q = (next : Stand) × (unit_at (stand_at p) p.held ≡ Some (unit u.size (Ok (u.version, next)))) × (q ≡ record p { stand = Some next })
 FindsHeld p (Err reason) q = (reason ≡ Memory) ⊎ ((size : ℕ) × (unit_at (stand_at p) p.held ≡ Some (unit size (Err reason))))
 
 -- an error follows the bytes held, or they are all that may be read and one more follows
-abbrev pub Halts : Position → Coming → Fault → Type 0
+abbrev pub Halts : Told → Coming → Fault → Type 0
 Halts p c fault =
     ((c ≡ record { bytes = p.held; broken = true }) × (fault ≡ fault_of p.input (verdict_at (p.place + length p.held) ReadFault)))
     ⊎ ((p.place + length p.held + 1 ≡ 2 ^ 62) × ((b : ℕ) × (more : List ℕ) × (c.bytes ≡ p.held ++ b ∷ more)) × (fault ≡ fault_of p.input too_long))
 
 -- why no more bytes can be read
-abbrev pub StopsFilling : Position → Fault → Type 0
+abbrev pub StopsFilling : Told → Fault → Type 0
 StopsFilling p fault = (fault ≡ memory_fault) ⊎ IfSome (ahead p) (λ c. Halts p c fault)
+
+-- the same, of what the reader can give
+abbrev pub StopsAt : {R : Type 0} → (R → Coming → Type 0) → Position R → Fault → Type 0
+StopsAt can p fault = GivesOne (can p.coming) (λ c. StopsFilling (telling p c) fault)
 
 -- how far a unit goes at least
 abbrev pub progress : Advance → ℕ

@@ -1,6 +1,6 @@
 //! The bytes that came from an input and weren't read.
 ghost use Rattle.std.specs.Prelude.{◌≡◌, ◌⊎◌, ◌<◌, ◌≤◌, Ok, Err, ◌+◌, [], length, take, drop, IfOk, IfErr, OnOk, OnErr};
-ghost use Rattle.osm_files.specs.Input.{AtEnd, AtError, GaveMore};
+ghost use Rattle.osm_files.specs.Input.{whole, breaks, GaveMore};
 ghost use Rattle.osm_files.specs.declared.reason.Reason.TheVariants as reason;
 
 use crate::input::{Broken, Input};
@@ -85,10 +85,10 @@ impl Held {
         most: usize,
     ) -> Result<usize, Reason>
         requires { 0 < most }
-        ensures gave { IfOk result (GaveMore (R.coming reader.old) (R.coming reader.new) self.old self.new) }
+        ensures gave { IfOk result (GaveMore R.can_give reader.old reader.new self.old self.new) }
         ensures most { IfOk result (λ count. count ≤ most) }
-        ensures end { result ≡ Ok 0 → AtEnd (R.coming reader.old) }
-        ensures broken { result ≡ Err reason.ReadFault → AtError (R.coming reader.old) }
+        ensures end { result ≡ Ok 0 → R.can_give reader.old (whole []) }
+        ensures broken { result ≡ Err reason.ReadFault → R.can_give reader.old (breaks []) }
         ensures reason { IfErr result (λ refused. (refused ≡ reason.Memory) ⊎ (refused ≡ reason.ReadFault)) }
         ensures unchanged { OnErr result (self.new ≡ self.old) }
     {
@@ -115,10 +115,10 @@ fn read_behind<R: Input>(
 ) -> Result<usize, Broken>
     requires some { 0 < most }
     requires within { end + most ≤ length room.old.items }
-    ensures gave { IfOk result (λ count. GaveMore (R.coming reader.old) (R.coming reader.new) (take end room.old.items) (take (end + count) room.new.items) count) }
+    ensures gave { IfOk result (λ count. GaveMore R.can_give reader.old reader.new (take end room.old.items) (take (end + count) room.new.items) count) }
     ensures most { IfOk result (λ count. count ≤ most) }
-    ensures end { result ≡ Ok 0 → AtEnd (R.coming reader.old) }
-    ensures broken { OnErr result (AtError (R.coming reader.old)) }
+    ensures end { result ≡ Ok 0 → R.can_give reader.old (whole []) }
+    ensures broken { OnErr result (R.can_give reader.old (breaks [])) }
     ensures kept { take end room.new.items ≡ take end room.old.items }
     ensures size { length room.new.items ≡ length room.old.items }
 {

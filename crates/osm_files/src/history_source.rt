@@ -42,15 +42,23 @@ impl HistorySource {
 }
 
 impl Source for HistorySource {
-    ghost use Rattle.osm_files.specs.Groups.{set_given, set_ascends};
+    ghost use Rattle.osm_files.specs.Groups.{set_given, given_set_ascends};
     ghost use Rattle.osm_model.specs.Sets.{size};
-    ghost use Rattle.std.specs.Prelude.{Some};
+    ghost use Rattle.std.specs.Prelude.{◌≡◌, false, refl};
 
-    ghost still = { λ s. Some (set_given s) };
+    ghost can_give = { λ s still. still ≡ set_given s };
+
+    ghost one = { set_given };
 
     ghost left = { size };
 
-    ghost ascends = { set_ascends };
+    ghost number = { λ _. 0 };
+
+    ghost has_failed = { λ _. false };
+
+    ghost possible = { λ s. refl };
+
+    ghost ascends = { λ s still is. given_set_ascends s still is };
 
     #[inline(always)]
     fn next(&mut self) -> Result<Option<Version>, Fault> {

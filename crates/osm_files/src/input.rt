@@ -1,7 +1,6 @@
 //! Inputs: where the bytes of a file come from.
-ghost use Rattle.std.specs.Prelude.{◌≡◌, ◌<◌, ◌≤◌, Option, Some, None, Ok, length, take, min, IfOk, IfErr, OnErr};
-ghost use Rattle.std.specs.Io.KnownBytes.{ReadConsumes};
-ghost use Rattle.osm_files.specs.Input.{Coming, whole, Gave, AtEnd, AtError, IsAll, StopsReading};
+ghost use Rattle.std.specs.Prelude.{◌≡◌, ◌<◌, ◌≤◌, Ok, [], length, take, min, IfOk, IfErr, OnErr, refl};
+ghost use Rattle.osm_files.specs.Input.{Coming, whole, breaks, Gave, CanGive, all_left, can_give_all, IsAll, StopsReading};
 
 use crate::fault::{Fault, LENGTH_LIMIT};
 use crate::reason::Reason;
@@ -17,8 +16,15 @@ pub struct Broken;
 
 /// A source of bytes.
 pub trait Input {
-    /// The bytes that are still to come and what follows them, where that is known.
-    ghost coming: { Self → Option Coming };
+    /// It can still give this. Of an input that tells what is to come there is one such; what one that tells nothing gives is
+    /// seen only as it is read.
+    ghost can_give: { Self → Coming → Type 0 };
+
+    /// One of these.
+    ghost one: { Self → Coming };
+
+    /// There always is one.
+    ghost possible: { (s : Self) → can_give s (one s) };
 
     /// Reads some of the bytes to come into the front of the buffer, and answers how many.
     ///
@@ -29,9 +35,9 @@ pub trait Input {
     /// `Broken` where the input fails, in which case no byte was read.
     fn read(&mut self, buffer: &mut [u8]) -> Result<usize, Broken>
         ensures within { IfOk result (λ count. count ≤ length buffer.old) }
-        ensures bytes { IfOk result (λ count. Gave (coming self.old) (coming self.new) (take count buffer.new)) }
-        ensures end { result ≡ Ok 0 → 0 < length buffer.old → AtEnd (coming self.old) }
-        ensures broken { OnErr result (AtError (coming self.old)) };
+        ensures bytes { IfOk result (λ count. Gave can_give self.old self.new (take count buffer.new)) }
+        ensures end { result ≡ Ok 0 → 0 < length buffer.old → can_give self.old (whole []) }
+        ensures broken { OnErr result (can_give self.old (breaks [])) };
 }
 
 /// The bytes of a slice, and then the end of input. It never fails.
@@ -58,13 +64,17 @@ impl<'a> SliceIn<'a> {
 }
 
 impl<'a> Input for SliceIn<'a> {
-    ghost coming = { λ rest. Some (whole rest) };
+    ghost can_give = { λ rest c. c ≡ whole rest };
+
+    ghost one = { whole };
+
+    ghost possible = { λ rest. refl };
 
     fn read(&mut self, buffer: &mut [u8]) -> Result<usize, Broken>
         ensures within { IfOk result (λ count. count ≤ length buffer.old) }
-        ensures bytes { IfOk result (λ count. Gave (Some (whole self.old)) (Some (whole self.new)) (take count buffer.new)) }
-        ensures end { result ≡ Ok 0 → 0 < length buffer.old → AtEnd (Some (whole self.old)) }
-        ensures broken { OnErr result (AtError (Some (whole self.old))) }
+        ensures bytes { IfOk result (λ count. Gave (λ rest c. c ≡ whole rest) self.old self.new (take count buffer.new)) }
+        ensures end { result ≡ Ok 0 → 0 < length buffer.old → whole [] ≡ whole self.old }
+        ensures broken { OnErr result (breaks [] ≡ whole self.old) }
         ensures fills { result ≡ Ok (min (length self.old) (length buffer.old)) }
     {
         let count = self.rest.len().min(buffer.len());
@@ -75,7 +85,7 @@ impl<'a> Input for SliceIn<'a> {
     }
 }
 
-/// A reader of std as an input. Nothing is known of what is to come, since a reader may fail at any read.
+/// A reader of std as an input. It gives what is left of the reader, where that is known, or fails at any read.
 #[derive(Drop)]
 pub struct FromRead<R: Read> {
     reader: R,
@@ -97,15 +107,13 @@ impl<R: Read> FromRead<R> {
 }
 
 impl<R: Read + Drop> Input for FromRead<R> {
-    ghost coming = { λ _. None };
+    ghost can_give = { λ s c. CanGive (R.remaining s) c };
 
-    fn read(&mut self, buffer: &mut [u8]) -> Result<usize, Broken>
-        ensures within { IfOk result (λ count. count ≤ length buffer.old) }
-        ensures bytes { IfOk result (λ count. Gave None None (take count buffer.new)) }
-        ensures end { result ≡ Ok 0 → 0 < length buffer.old → AtEnd None }
-        ensures broken { OnErr result (AtError None) }
-        ensures given { ReadConsumes (R.remaining self.old) (R.remaining self.new) result buffer.new }
-    {
+    ghost one = { λ s. all_left (R.remaining s) };
+
+    ghost possible = { λ s. can_give_all (R.remaining s) };
+
+    fn read(&mut self, buffer: &mut [u8]) -> Result<usize, Broken> {
         match self.reader.read(buffer) {
             Ok(count) => Ok(count),
             Err(_) => Err(Broken),
@@ -123,8 +131,8 @@ const CHUNK: usize = 65536;
 /// `ReadFault` where the input fails, after as many bytes as the place says, `TooLong` where it has 2^62 bytes or
 /// more, or `Memory`.
 pub fn read_all<R: Input>(alloc: Global, number: usize, reader: &mut R) -> Result<Vec<u8>, Fault>
-    ensures ok { IfOk result (λ all. IsAll (R.coming reader.old) all.items) }
-    ensures err { IfErr result (StopsReading number (R.coming reader.old)) }
+    ensures ok { IfOk result (λ all. IsAll (R.can_give reader.old) all.items) }
+    ensures err { IfErr result (StopsReading number (R.can_give reader.old)) }
 {
     let mut all: Vec<u8> = Vec::new(alloc);
     let mut chunk = [0u8; CHUNK];

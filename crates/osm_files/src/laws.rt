@@ -128,9 +128,9 @@ pub fn broken_inputs_are_refused()
     ensures { loading.BrokenInputsAreRefused }
 {}
 
-/// No bytes have a fault of a device as their verdict.
-pub fn verdicts_are_no_device_faults()
-    ensures { loading.VerdictsAreNoDeviceFaults }
+/// A verdict never is want of memory, an earlier refusal or the fault of a device; and Unsorted only one on the order.
+pub fn reasons_of_verdicts()
+    ensures { loading.ReasonsOfVerdicts }
 {}
 
 /// A file that is written in a format tells it.

@@ -1,8 +1,9 @@
 //! Whole files, loaded in any order of their versions.
-ghost use Rattle.std.specs.Prelude.{◌≡◌, ◌∷◌, [], ◌++◌, ◌&&◌, not, IfOk, IfErr, IfSome, OnOk};
+ghost use Rattle.std.specs.Prelude.{◌≡◌, ◌∷◌, [], ◌++◌, ◌&&◌, not, IfOk, IfErr, OnOk};
 ghost use Rattle.osm_model.specs.Order.{version_cmp};
 ghost use Rattle.osm_model.specs.Sets.{from_list};
 ghost use Rattle.osm_files.specs.Fault.{memory_fault};
+ghost use Rattle.osm_files.specs.Input.{GivesOne};
 ghost use Rattle.osm_files.specs.Load.{Loads, StopsLoading};
 ghost use Rattle.osm_files.specs.Whole.{is_below_last};
 
@@ -33,8 +34,8 @@ pub struct Loaded {
 /// The place and the reason of the first faulty unit; `ReadFault` where the input fails and no unit that stands whole before is
 /// faulty; or `Memory`.
 pub fn load_any<R: Input + Drop>(alloc: Global, input: usize, reader: R) -> Result<Loaded, Fault>
-    ensures loaded { IfOk result (λ loaded. IfSome (R.coming reader) (λ c. Loads c loaded)) }
-    ensures refused { IfErr result (StopsLoading input (R.coming reader)) }
+    ensures loaded { IfOk result (λ loaded. GivesOne (R.can_give reader) (λ c. Loads c loaded)) }
+    ensures refused { IfErr result (λ fault. GivesOne (R.can_give reader) (λ c. StopsLoading input c fault)) }
 {
     let mut reading = Reading::new(alloc, input, reader);
     let format = match reading.format() {

@@ -1,14 +1,13 @@
 //! Reading the units of an input, one by one, in whatever pieces its bytes come.
-ghost use Rattle.std.specs.Prelude.{◌≡◌, ◌+◌, ◌-◌, ◌<◌, ◌≤◌, ◌^◌, ◌⊎◌, true, false, Option, None, Some, Ok, Err, List, [], ◌∷◌, length, drop, IfOk, IfErr, IfSome, OnOk, IsSome, if◌then◌else◌};
-ghost use Rattle.osm_files.specs.Fault.{fault_at};
+ghost use Rattle.std.specs.Prelude.{◌≡◌, ◌+◌, ◌-◌, ◌<◌, ◌≤◌, ◌^◌, ◌⊎◌, true, false, Option, None, Some, Ok, Err, List, [], ◌∷◌, length, drop, is_err, IfOk, IfErr, IfSome, OnOk, IsSome, if◌then◌else◌};
+ghost use Rattle.osm_files.specs.Fault.{failed_fault, fault_at};
 ghost use Rattle.osm_files.specs.Units as spec;
 ghost use Rattle.opl_line.specs.Cut.{is_line_end, split_first};
 ghost use Rattle.osm_files.specs.Reading.{Finds, FindsLast, stand_of, IsGood};
-ghost use Rattle.osm_files.specs.Source.{Step};
-ghost use Rattle.osm_files.specs.Stream.{Placed};
-ghost use Rattle.osm_files.specs.Load.{format_of, tells_format, is_o5m};
+ghost use Rattle.osm_files.specs.Source.{StepsOn};
+ghost use Rattle.osm_files.specs.Load.{format_of, tells_format, is_o5m, TellsFormat};
 ghost use Rattle.osm_files.specs.declared.format.Format.TheVariants.{O5m, O5c};
-ghost use Rattle.osm_files.specs.Position.{Position, Advances, ReadsOn, StopsFilling, FindsHeld, GoesOn, ahead, seen, given, stand_at, progress, still_to_come};
+ghost use Rattle.osm_files.specs.Position.{Position, Between, Advances, HasRead, HasGone, StopsAt, FindsHeld, seen, given, stand_at, progress};
 
 use crate::fault::{Fault, LENGTH_LIMIT};
 use crate::format::Format;
@@ -58,9 +57,9 @@ impl<R: Input> Model for Reading<R> {
     ghost use Rattle.osm_files.specs.Reading.{FindsLast, stand_of, IsGood};
     ghost use Rattle.osm_files.specs.Position.{Position};
 
-    ghost Value = { Position };
+    ghost Value = { Position R };
 
-    ghost view = { λ r. record { input = r.input; place = r.place; held = r.held; coming = R.coming r.reader; stand = option_map stand_of r.at; ended = r.ended; failed = r.failed } };
+    ghost view = { λ r. record { input = r.input; place = r.place; held = r.held; coming = r.reader; stand = option_map stand_of r.at; ended = r.ended; failed = r.failed } };
 
     ghost invariant = { λ r. (r.place + length r.held < 2 ^ 62) × (r.failed ≡ false → IfSome r.at IsGood) };
 }
@@ -68,7 +67,7 @@ impl<R: Input> Model for Reading<R> {
 impl<R: Input> Reading<R> {
     /// A reading at the begin of an input of this number.
     pub(crate) fn new(alloc: Global, input: usize, reader: R) -> Reading<R>
-        ensures { result ≡ record { input = input; place = 0; held = []; coming = R.coming reader; stand = None; ended = false; failed = false } }
+        ensures { result ≡ record { input = input; place = 0; held = []; coming = reader; stand = None; ended = false; failed = false } }
     {
         Reading {
             alloc,
@@ -93,9 +92,9 @@ impl<R: Input> Reading<R> {
     /// Reads more bytes, or finds that there are no more.
     fn fill(&mut self) -> Result<(), Fault>
         requires { self.old.ended ≡ false }
-        ensures on { OnOk result (ReadsOn self.old self.new) }
+        ensures on { OnOk result (HasRead R.can_give self.old self.new) }
         ensures more { OnOk result ((self.new.ended ≡ true) ⊎ (length self.old.held < length self.new.held)) }
-        ensures stops { IfErr result (StopsFilling self.old) }
+        ensures stops { IfErr result (StopsAt R.can_give self.old) }
         ensures number { self.new.input ≡ self.old.input }
     {
         let read = self.place + self.held.len() as u64;
@@ -118,9 +117,9 @@ impl<R: Input> Reading<R> {
         requires unended { self.old.ended ≡ false }
         requires place { read ≡ self.old.place + length self.old.held }
         requires limit { read + 1 ≡ 2 ^ 62 }
-        ensures on { OnOk result (ReadsOn self.old self.new) }
+        ensures on { OnOk result (HasRead R.can_give self.old self.new) }
         ensures ended { OnOk result (self.new.ended ≡ true) }
-        ensures stops { IfErr result (StopsFilling self.old) }
+        ensures stops { IfErr result (StopsAt R.can_give self.old) }
         ensures number { self.new.input ≡ self.old.input }
     {
         let mut byte = [0u8; 1];
@@ -200,7 +199,7 @@ impl<R: Input> Reading<R> {
         requires seen { self.old.stand ≡ None → self.old.held ≡ [] }
         requires nothing { spec.unit_at (stand_at self.old) self.old.held ≡ None }
         requires bound { self.old.place + length self.old.held < 2 ^ 62 }
-        ensures advances { Advances self.old result self.new }
+        ensures advances { Between R.can_give self.old self.new (λ p q. Advances p result q) }
         ensures number { self.new.input ≡ self.old.input }
         ensures good { OnOk result (self.new.failed ≡ self.old.failed) }
         ensures progress { IfOk result (λ advance. self.old.place + progress advance ≤ self.new.place) }
@@ -220,7 +219,7 @@ impl<R: Input> Reading<R> {
     #[inline(always)]
     fn advance(&mut self) -> Result<Advance, Fault>
         requires { self.old.failed ≡ false }
-        ensures advances { Advances self.old result self.new }
+        ensures advances { Between R.can_give self.old self.new (λ p q. Advances p result q) }
         ensures number { self.new.input ≡ self.old.input }
         ensures good { OnOk result (self.new.failed ≡ self.old.failed) }
         ensures progress { IfOk result (λ advance. self.old.place + progress advance ≤ self.new.place) }
@@ -263,9 +262,9 @@ impl<R: Input> Reading<R> {
     #[inline(always)]
     fn next_line(&mut self) -> Option<Placed>
         requires { self.old.failed ≡ false }
-        ensures gave { IfSome result (λ unit. Step (still_to_come self.old) (Ok (Some unit)) (still_to_come self.new)) }
+        ensures gave { IfSome result (λ unit. StepsOn R.can_give self.old (Ok (Some unit)) self.new) }
         ensures further { IfSome result (λ _. self.old.place < self.new.place) }
-        ensures passed { result ≡ None → GoesOn self.old self.new }
+        ensures passed { result ≡ None → HasGone R.can_give self.old self.new }
         ensures good { self.new.failed ≡ false }
         ensures number { self.new.input ≡ self.old.input }
     {
@@ -289,8 +288,10 @@ impl<R: Input> Reading<R> {
     #[inline(never)]
     fn next_unit(&mut self) -> Result<Option<Placed>, Fault>
         requires { self.old.failed ≡ false }
-        ensures step { Step (still_to_come self.old) result (still_to_come self.new) }
+        ensures step { StepsOn R.can_give self.old result self.new }
+        ensures failed { self.new.failed ≡ is_err result }
         ensures fewer { IfOk result (λ given. IsSome given → 2 ^ 62 - self.new.place < 2 ^ 62 - self.old.place) }
+        ensures onward { OnOk result (self.old.place ≤ self.new.place) }
         ensures number { self.new.input ≡ self.old.input }
     {
         'units: loop {
@@ -315,8 +316,11 @@ impl<R: Input> Reading<R> {
     /// Why the next unit can't be read, or `Memory`; ever after `Failed`.
     #[inline(always)]
     pub(crate) fn next(&mut self) -> Result<Option<Placed>, Fault>
-        ensures step { Step (still_to_come self.old) result (still_to_come self.new) }
+        ensures step { StepsOn R.can_give self.old result self.new }
+        ensures again { self.old.failed ≡ true → result ≡ Err (failed_fault self.old.input) }
+        ensures failed { self.new.failed ≡ is_err result }
         ensures fewer { IfOk result (λ given. IsSome given → 2 ^ 62 - self.new.place < 2 ^ 62 - self.old.place) }
+        ensures onward { OnOk result (self.old.place ≤ self.new.place) }
         ensures number { self.new.input ≡ self.old.input }
     {
         if self.failed {
@@ -337,9 +341,9 @@ impl<R: Input> Reading<R> {
         requires at_first { self.old.place ≡ 0 }
         requires unseen { self.old.stand ≡ None }
         requires good { self.old.failed ≡ false }
-        ensures tells { IfOk result (λ format. IfSome (ahead self.old) (λ c. format ≡ format_of c.bytes)) }
-        ensures keeps { OnOk result (GoesOn self.old self.new) }
-        ensures refused { IfErr result (λ fault. Step {A = Placed} (still_to_come self.old) (Err fault) (still_to_come self.new)) }
+        ensures tells { IfOk result (λ format. Between R.can_give self.old self.new (TellsFormat format)) }
+        ensures good { OnOk result (self.new.failed ≡ false) }
+        ensures refused { IfErr result (λ fault. StepsOn R.can_give self.old (Err fault) self.new) }
     {
         'reads: loop {
             let held = self.held.as_slice();

@@ -1,15 +1,16 @@
 //! Sources: versions in ascending order, one after the other.
-ghost use Rattle.std.specs.Prelude.{◌≡◌, ◌⊎◌, ℕ, ◌+◌, ◌-◌, ◌^◌, ◌<◌, ◌≤◌, [], ◌∷◌, ◌++◌, length, true, Option, None, Some, option_map, option_to_list, IsSome, IfOk, IfErr, OnOk, IfSome};
+ghost use Rattle.std.specs.Prelude.{◌≡◌, ◌⊎◌, ℕ, ◌+◌, ◌-◌, ◌^◌, ◌<◌, ◌≤◌, [], ◌∷◌, ◌++◌, length, Bool, true, false, None, Some, Ok, Err, option_to_list, is_err, IsSome, IfOk, IfErr, OnOk, OnErr};
 ghost use Rattle.std.specs.Vec.Iter.{into_iter_items};
 ghost use Rattle.osm_model.specs.Data.{VersionData};
 ghost use Rattle.osm_files.specs.declared.fault.Fault.{Fault};
 ghost use Rattle.osm_files.specs.declared.reason.Reason.TheVariants.{Unsorted};
-ghost use Rattle.osm_files.specs.Fault.{memory_fault, fault_at};
+ghost use Rattle.osm_files.specs.Fault.{memory_fault, failed_fault, fault_at};
+ghost use Rattle.osm_files.specs.Input.{GivesOne};
 ghost use Rattle.osm_files.specs.Stream.{Still};
-ghost use Rattle.osm_files.specs.Source.{Ascends, Step};
-ghost use Rattle.osm_files.specs.Position.{still_to_come};
-ghost use Rattle.osm_files.specs.Load.{format_of};
-ghost use Rattle.osm_files.specs.Groups.{ascending, gathered, units_left, sorted_source, still_given, given_ascends, IsGroup, Begins, Gathers, Refuses};
+ghost use Rattle.osm_files.specs.Source.{Ascends, Steps};
+ghost use Rattle.osm_files.specs.Position.{Between, still_to_come};
+ghost use Rattle.osm_files.specs.Groups.{ascending, gathered, standing, FileSteps, FileAscends, FileCanGive, left_at, given_at, known_or_whole, one_given, file_ascends, opened_file, IsGroup, Begins, Gathers, Refuses};
+ghost use Rattle.osm_files.specs.Load.{Opens, StopsOpening};
 
 use crate::fault::Fault;
 use crate::format::Format;
@@ -23,32 +24,52 @@ use std::vec::IntoIter;
 
 /// A strictly ascending list of versions, one after the other.
 pub trait Source {
-    /// The versions still to come and how they end, where that is known.
-    ghost still: { Self → Option (Still VersionData Fault) };
+    /// It can still give these versions, and end so. Of a source that tells what is to come there is one such; what one that
+    /// tells nothing gives is seen only as it is asked.
+    ghost can_give: { Self → Still VersionData Fault → Type 0 };
 
-    /// At most so many versions are still to come, whatever is known.
+    /// One of these.
+    ghost one: { Self → Still VersionData Fault };
+
+    /// At most so many versions are still to come, whatever they are.
     ghost left: { Self → ℕ };
 
-    /// What is to come ascends strictly.
-    ghost ascends: { (s : Self) → IfSome (still s) Ascends };
+    /// Its number, with which it answers `Failed`.
+    ghost number: { Self → ℕ };
+
+    /// Whether a call was refused.
+    ghost has_failed: { Self → Bool };
+
+    /// There always is one.
+    ghost possible: { (s : Self) → can_give s (one s) };
+
+    /// Whatever it can give ascends strictly.
+    ghost ascends: { (s : Self) (still : Still VersionData Fault) → can_give s still → Ascends still };
 
     /// The next version; `None` at the end and ever after.
     ///
     /// # Errors
     ///
-    /// Why the rest can't be given, or `Memory`; ever after `Failed`.
+    /// Why the rest can't be given, or `Memory`; ever after `Failed`, with its number.
     fn next(&mut self) -> Result<Option<Version>, Fault>
-        ensures step { Step (still self.old) result (still self.new) }
-        ensures fewer { IfOk result (λ given. IsSome given → left self.new < left self.old) };
+        ensures step { Steps can_give self.old result self.new }
+        ensures fewer { IfOk result (λ given. IsSome given → left self.new < left self.old) }
+        ensures again { has_failed self.old ≡ true → result ≡ Err (failed_fault (number self.old)) }
+        ensures failed { has_failed self.new ≡ is_err result }
+        ensures number { number self.new ≡ number self.old };
 
-    /// The same. It takes back a version that isn't needed any more, whose memory it may use.
+    /// The next version, as `next` gives it; `None` at the end and ever after. It takes back a version that isn't
+    /// needed any more, whose memory it may use.
     ///
     /// # Errors
     ///
     /// As for [`Source::next`].
     fn next_reusing(&mut self, _spare: Option<Version>) -> Result<Option<Version>, Fault>
-        ensures step { Step (still self.old) result (still self.new) }
+        ensures step { Steps can_give self.old result self.new }
         ensures fewer { IfOk result (λ given. IsSome given → left self.new < left self.old) }
+        ensures again { has_failed self.old ≡ true → result ≡ Err (failed_fault (number self.old)) }
+        ensures failed { has_failed self.new ≡ is_err result }
+        ensures number { number self.new ≡ number self.old }
     {
         self.next()
     }
@@ -68,19 +89,15 @@ pub struct FileSource<R: Input> {
 }
 
 impl<R: Input> Model for FileSource<R> {
-    ghost use Rattle.std.specs.Prelude.{◌+◌, ◌-◌, ◌^◌, length, option_map, option_to_list, IfSome};
+    ghost use Rattle.std.specs.Prelude.{◌≡◌, true, [], option_to_list};
     ghost use Rattle.std.specs.Vec.Iter.{into_iter_items};
-    ghost use Rattle.osm_files.specs.Source.{Ascends};
-    ghost use Rattle.osm_files.specs.Position.{still_to_come};
-    ghost use Rattle.osm_files.specs.Groups.{gathered, units_left, as_set, Giving, giving_code};
+    ghost use Rattle.osm_files.specs.Groups.{FileStand, standing, FileAscends};
 
-    ghost Value = { Giving };
+    ghost Value = { FileStand R };
 
-    ghost coded = { giving_code };
+    ghost view = { λ s. standing s.units (option_to_list s.pending) (into_iter_items s.ready) };
 
-    ghost view = { λ s. record { known = option_map as_set (gathered s.units.input (still_to_come s.units) (option_to_list s.pending) (into_iter_items s.ready)); left = units_left (still_to_come s.units) (2 ^ 62 - s.units.place) + (length (option_to_list s.pending) + length (into_iter_items s.ready)) } };
-
-    ghost invariant = { λ s. IfSome (gathered s.units.input (still_to_come s.units) (option_to_list s.pending) (into_iter_items s.ready)) Ascends };
+    ghost invariant = { λ s. FileAscends R.can_give s.units.input (standing s.units (option_to_list s.pending) (into_iter_items s.ready)) × (s.units.failed ≡ true → into_iter_items s.ready ≡ []) };
 }
 
 impl<R: Input> FileSource<R> {
@@ -90,7 +107,7 @@ impl<R: Input> FileSource<R> {
     ///
     /// For want of memory alone.
     pub fn new(alloc: Global, input: usize, reader: R) -> Result<FileSource<R>, Fault>
-        ensures still { IfOk result (λ s. still_given s.known ≡ option_map (sorted_source input) (R.coming reader)) }
+        ensures opened { IfOk result (λ s. s ≡ opened_file input reader) }
         ensures memory { IfErr result (λ fault. fault ≡ memory_fault) }
     {
         Ok(FileSource {
@@ -120,9 +137,8 @@ impl<R: Input + Drop> FileSource<R> {
     ///
     /// Why the bytes that tell the format can't be read, or `Memory`.
     pub fn open(alloc: Global, input: usize, reader: R) -> Result<(Format, FileSource<R>), Fault>
-        ensures format { IfOk result (λ opened. IfSome (R.coming reader) (λ c. opened.0 ≡ format_of c.bytes)) }
-        ensures still { IfOk result (λ opened. IfSome (R.coming reader) (λ c. still_given (opened.1).known ≡ Some (sorted_source input c))) }
-        ensures refused { IfErr result (λ fault. (fault ≡ memory_fault) ⊎ IfSome (R.coming reader) (λ c. (sorted_source input c).refusal ≡ Some fault)) }
+        ensures opened { IfOk result (λ opened. Opens R.can_give input reader opened.0 opened.1) }
+        ensures refused { IfErr result (λ fault. GivesOne (R.can_give reader) (λ c. StopsOpening input c fault)) }
     {
         let mut units = Reading::new(alloc, input, reader);
         match units.format() {
@@ -145,11 +161,19 @@ impl<R: Input + Drop> FileSource<R> {
 }
 
 impl<R: Input> Source for FileSource<R> {
-    ghost still = { λ s. still_given s.known };
+    ghost can_give = { λ s still. FileCanGive R.can_give s still };
 
-    ghost left = { λ s. s.left };
+    ghost one = { λ s. known_or_whole (given_at s (R.one s.units.coming)) };
 
-    ghost ascends = { λ s. given_ascends s.known };
+    ghost left = { λ s. left_at s };
+
+    ghost number = { λ s. s.units.input };
+
+    ghost has_failed = { λ s. s.units.failed };
+
+    ghost possible = { λ s. (R.one s.units.coming, R.possible s.units.coming, one_given s (R.one s.units.coming)) };
+
+    ghost ascends = { λ s still h. file_ascends R.can_give s still h };
 
     #[inline(always)]
     fn next(&mut self) -> Result<Option<Version>, Fault> {
@@ -181,9 +205,12 @@ fn next_group<R: Input>(
 ) -> Result<Option<Version>, Fault>
     requires nothing { into_iter_items ready.old ≡ [] }
     ensures input { units.new.input ≡ units.old.input }
-    ensures step { Step (gathered units.old.input (still_to_come units.old) (option_to_list pending.old) []) result (gathered units.old.input (still_to_come units.new) (option_to_list pending.new) (into_iter_items ready.new)) }
-    ensures ascends { IfSome (gathered units.old.input (still_to_come units.new) (option_to_list pending.new) (into_iter_items ready.new)) Ascends }
-    ensures fewer { IfOk result (λ given. IsSome given → units_left (still_to_come units.new) (2 ^ 62 - units.new.place) + (length (option_to_list pending.new) + length (into_iter_items ready.new)) < units_left (still_to_come units.old) (2 ^ 62 - units.old.place) + length (option_to_list pending.old)) }
+    ensures again { units.old.failed ≡ true → result ≡ Err (failed_fault units.old.input) }
+    ensures failed { units.new.failed ≡ is_err result }
+    ensures nothing { OnErr result (into_iter_items ready.new ≡ []) }
+    ensures step { FileSteps R.can_give units.old.input (standing units.old (option_to_list pending.old) []) result (standing units.new (option_to_list pending.new) (into_iter_items ready.new)) }
+    ensures ascends { FileAscends R.can_give units.old.input (standing units.new (option_to_list pending.new) (into_iter_items ready.new)) }
+    ensures fewer { IfOk result (λ given. IsSome given → left_at (standing units.new (option_to_list pending.new) (into_iter_items ready.new)) < left_at (standing units.old (option_to_list pending.old) [])) }
 {
     let first = match begin(units, pending.take()) {
         Err(fault) => return Err(fault),
@@ -219,9 +246,11 @@ fn next_of_many<R: Input>(
     requires nothing { into_iter_items ready.old ≡ [] }
     requires group { IsGroup first (second ∷ []) }
     ensures input { units.new.input ≡ units.old.input }
-    ensures step { Step (gathered units.old.input (still_to_come units.old) (first ∷ second ∷ []) []) result (gathered units.old.input (still_to_come units.new) (option_to_list pending.new) (into_iter_items ready.new)) }
-    ensures ascends { IfSome (gathered units.old.input (still_to_come units.new) (option_to_list pending.new) (into_iter_items ready.new)) Ascends }
-    ensures fewer { IfOk result (λ given. IsSome given → units_left (still_to_come units.new) (2 ^ 62 - units.new.place) + (length (option_to_list pending.new) + length (into_iter_items ready.new)) ≤ units_left (still_to_come units.old) (2 ^ 62 - units.old.place) + 1) }
+    ensures failed { units.new.failed ≡ is_err result }
+    ensures nothing { OnErr result (into_iter_items ready.new ≡ []) }
+    ensures step { FileSteps R.can_give units.old.input (standing units.old (first ∷ second ∷ []) []) result (standing units.new (option_to_list pending.new) (into_iter_items ready.new)) }
+    ensures ascends { FileAscends R.can_give units.old.input (standing units.new (option_to_list pending.new) (into_iter_items ready.new)) }
+    ensures fewer { IfOk result (λ given. IsSome given → left_at (standing units.new (option_to_list pending.new) (into_iter_items ready.new)) ≤ 2 ^ 62 - units.old.place + 1) }
 {
     let mut others = Vec::new(alloc);
     if let Err(_) = others.push(second) {
@@ -253,8 +282,11 @@ fn begin<R: Input>(
     pending: Option<Version>,
 ) -> Result<Option<Version>, Fault>
     ensures input { units.new.input ≡ units.old.input }
-    ensures begins { Begins units.old.input (still_to_come units.old) pending result (still_to_come units.new) }
-    ensures left { IfOk result (λ first. IsSome first → units_left (still_to_come units.new) (2 ^ 62 - units.new.place) + 1 ≤ units_left (still_to_come units.old) (2 ^ 62 - units.old.place) + length (option_to_list pending)) }
+    ensures again { units.old.failed ≡ true → (units.new.failed ≡ true) × IfErr result (λ fault. fault ≡ failed_fault units.old.input) }
+    ensures failed { OnErr result (units.new.failed ≡ true) }
+    ensures ended { result ≡ Ok None → units.new.failed ≡ false }
+    ensures begins { Between R.can_give units.old units.new (λ p q. Begins units.old.input (still_to_come p) pending result (still_to_come q)) }
+    ensures left { IfOk result (λ first. IsSome first → 2 ^ 62 - units.new.place + 1 ≤ 2 ^ 62 - units.old.place + length (option_to_list pending)) }
 {
     match pending {
         Some(first) => Ok(Some(first)),
@@ -266,8 +298,10 @@ fn begin<R: Input>(
 #[inline(never)]
 fn begin_next<R: Input>(units: &mut Reading<R>) -> Result<Option<Version>, Fault>
     ensures input { units.new.input ≡ units.old.input }
-    ensures begins { Begins units.old.input (still_to_come units.old) None result (still_to_come units.new) }
-    ensures left { IfOk result (λ first. IsSome first → units_left (still_to_come units.new) (2 ^ 62 - units.new.place) + 1 ≤ units_left (still_to_come units.old) (2 ^ 62 - units.old.place)) }
+    ensures again { units.old.failed ≡ true → result ≡ Err (failed_fault units.old.input) }
+    ensures failed { units.new.failed ≡ is_err result }
+    ensures begins { Between R.can_give units.old units.new (λ p q. Begins units.old.input (still_to_come p) None result (still_to_come q)) }
+    ensures left { IfOk result (λ first. IsSome first → 2 ^ 62 - units.new.place + 1 ≤ 2 ^ 62 - units.old.place) }
 {
     match units.next() {
         Err(fault) => Err(fault),
@@ -285,9 +319,10 @@ fn gather<R: Input>(
 ) -> Result<Option<Version>, Fault>
     requires group { IsGroup first.now others.old.items }
     ensures input { units.new.input ≡ units.old.input }
-    ensures gathers { IfOk result (λ next. Gathers units.old.input (still_to_come units.old) others.old.items (still_to_come units.new) first.now others.new.items next) }
-    ensures refuses { IfErr result (λ fault. Refuses (gathered units.old.input (still_to_come units.old) (first.now ∷ others.old.items) []) fault (still_to_come units.new)) }
-    ensures left { IfOk result (λ next. units_left (still_to_come units.new) (2 ^ 62 - units.new.place) + (length (option_to_list next) + length others.new.items) ≤ units_left (still_to_come units.old) (2 ^ 62 - units.old.place) + length others.old.items) }
+    ensures failed { units.new.failed ≡ is_err result }
+    ensures gathers { IfOk result (λ next. Between R.can_give units.old units.new (λ p q. Gathers units.old.input (still_to_come p) others.old.items (still_to_come q) first.now others.new.items next)) }
+    ensures refuses { IfErr result (λ fault. Between R.can_give units.old units.new (λ p q. Refuses (gathered units.old.input (still_to_come p) (first.now ∷ others.old.items) []) fault (still_to_come q))) }
+    ensures left { IfOk result (λ next. 2 ^ 62 - units.new.place + (length (option_to_list next) + length others.new.items) ≤ 2 ^ 62 - units.old.place + length others.old.items) }
 {
     'units: loop {
         let unit = match units.next() {

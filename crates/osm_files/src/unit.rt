@@ -270,7 +270,7 @@ impl Place {
         self.find(alloc, bytes)
     }
 
-    /// The same, by the place.
+    /// The unit that stands whole at the front of the bytes, if there is one, read as the place asks.
     #[tactic(auto, using(crate::proofs::UnitSteps::end_first), unfolding(crate::specs::Units::unit_at))]
     #[inline(always)]
     fn find(&mut self, alloc: Global, bytes: &[u8]) -> Result<Option<ReadUnit>, Reason>

@@ -6,6 +6,7 @@ mod planning;
 mod refusal;
 mod request;
 mod running;
+mod target;
 
 use crate::words::request::Request;
 pub(crate) use refusal::Refusal;
@@ -17,8 +18,9 @@ use std::rt::Files;
 /// Runs one command and answers the exit status.
 ///
 /// `rt` is the runtime in whose folder the files of the words lie, and `words` are the words after the program's
-/// name. Without any words, `input` is merged to `out`. Help, what a check tells and what a plan's events get go to `out`, and the line of a refusal
-/// to `err`. The status is 0 for success and help, 1 where a file, memory or `out` fails, and 2 where the words are refused.
+/// name. Standard input is `input`, and standard output `out`; without any words the one is merged to the other. Help,
+/// the version, what a check tells and what a plan's events get go to `out` too, and the line of a refusal to `err`. The
+/// status is 0 for success and help, 1 where a file, memory or `out` fails, and 2 where the words are refused.
 pub fn run_words<R, S, I, O, E>(rt: &R, words: &[S], input: I, mut out: O, err: E) -> u8
 where
     R: Files + AllocGlobal,
@@ -42,9 +44,8 @@ where
     O: Write + Drop,
 {
     match Request::parse(rt.alloc(), words)? {
-        Request::StandardInput => running::merge_standard_input(rt.alloc(), input, out),
-        Request::Files(run) => running::run_files(rt, &run),
-        Request::Check(check) => checking::check_file(rt, &check, out),
+        Request::Files(run) => running::run_files(rt, &run, input, out),
+        Request::Check(check) => checking::check_file(rt, &check, input, out),
         Request::Plan(run) => planning::run_plan(rt, &run, out),
         Request::Help(text) => print(out, &text),
     }

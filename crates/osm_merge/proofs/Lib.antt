@@ -1,6 +1,7 @@
 mod OrderLaws
 mod AscendingLaws
 mod TreeLaws
+pub mod GiveLaws
 mod Asking
 mod PassLaws
 mod ObjectLaws
@@ -14,3 +15,5 @@ pub mod UnionLaws
 mod Running
 pub mod SnapLaws
 pub mod UnionAllLaws
+mod TakingLaws
+mod TakenLaws

@@ -16,7 +16,7 @@ use Rattle.osm_merge.specs.Selected.{snapshot}
 use Rattle.osm_merge.proofs.SelectedLaws.{pass_of_set}
 use Rattle.osm_merge.proofs.Choosing.{set_listed}
 
-abbrev newest_of : List VersionData → List VersionData
+abbrev pub newest_of : List VersionData → List VersionData
 newest_of = kept (keeps Newest)
 
 -- So many versions of a list were looked at, and those of them that stay were moved to its front.

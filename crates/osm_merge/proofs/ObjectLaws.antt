@@ -15,7 +15,7 @@ not_falling Less b e = refl
 not_falling Equal b e = refl
 not_falling Greater b e = e
 
-object_rises : (v w : VersionData) → version_cmp v w ≡ Less → is_gt (object_cmp v w) ≡ false
+pub object_rises : (v w : VersionData) → version_cmp v w ≡ Less → is_gt (object_cmp v w) ≡ false
 object_rises v w less = not_falling _ _ (not_falling _ _ (not_falling _ _ (not_falling _ _ (ap is_gt less))))
 
 pub no_more : (r s : Ordering) → r ≡ ordering_reverse s → is_gt r ≡ false → is_gt s ≡ false → is_eq r ≡ true

@@ -5,7 +5,7 @@ use Rattle.std.proofs.Math.ListN.{set, length-set}
 use Rattle.std.specs.List.{All}
 use Rattle.std.specs.List.Sorted.{IsStrictlySortedBy}
 use Rattle.std.proofs.lemmas.Bool.{false≢true, cases_eq, cases_lt}
-use Rattle.std.proofs.lemmas.List.{get_or_past, get_or_default, map-set, length-map}
+use Rattle.std.proofs.lemmas.List.{get_or_past, get_or_default, map-set, length-map, get_or-map}
 use Rattle.osm_model.specs.Data.{VersionData}
 use Rattle.osm_model.specs.Order.{version_cmp}
 use Rattle.osm_model.specs.Sets.{size, from_list}
@@ -19,7 +19,9 @@ use Rattle.osm_files.specs.Spell.{spelled_open, spell_list, spell}
 use Rattle.osm_files.specs.Sink.{SinkState, IsOpen, CutShort, HasPut, MayFollow}
 use Rattle.osm_files.proofs.SpellLaws.{kinds_dont_fall, list_spelled}
 use Rattle.osm_merge.specs.declared.merge.Counts.{Counts}
-use Rattle.osm_merge.specs.Coming.{Coming, AllTell, rest, head, behind_head, coming_at, AllAscend, AllStand, AllFollow, Follows}
+use Rattle.osm_files.specs.Input.{Explained}
+use Rattle.osm_merge.specs.Coming.{Coming, rest, head, behind_head, coming_at, AllAscend, AllStand}
+use Rattle.osm_merge.specs.Giving.{AllGive, ForSome, ForStanding}
 use Rattle.osm_merge.specs.Members.{first}
 use Rattle.osm_merge.specs.Union.{versions_of, union_of, capped}
 use Rattle.osm_merge.specs.declared.selection.Selection.{Selection}
@@ -28,26 +30,28 @@ use Rattle.osm_merge.specs.Selected.{selected}
 use Rattle.osm_merge.specs.Pass.{passes, passing, passes_all, put_of, put_at, put_at_end, puts, puts_at_once, keeps, is_met, held_next, met_next}
 use Rattle.osm_merge.specs.Put.{TakesEach, PutsMore, EndsFile}
 use Rattle.osm_merge.specs.Tree.{IsHeadUpTo, IsTree}
-use Rattle.osm_merge.specs.Merged.{IsWhole, IsBoundedFrom, few_of, IsMergedAs, WritesSet, Grows, last_of, up_to, written_so_far, written_before, IsRefusedAs, WhyRefused}
+use Rattle.osm_merge.specs.Merged.{IsBoundedFrom, few_of, IsMergedAs, Grows, last_of, up_to, written_so_far, written_before, IsRefusedAs}
 use Rattle.osm_merge.proofs.OrderLaws.{none_up_to}
 use Rattle.osm_merge.proofs.AscendingLaws.{nothing_ascends}
 use Rattle.osm_merge.proofs.TreeLaws.{winner_is_least}
-use Rattle.osm_merge.proofs.Asking.{told_gives, told_refuses, refusal_first, follows_next, told_at, map_set_some, all_whole}
+use Rattle.osm_merge.proofs.Asking.{told_gives, told_refuses, told_at, map_set_some}
+use Rattle.osm_merge.proofs.GiveLaws.{set_again, give_size, give_one, give_back}
 use Rattle.osm_merge.proofs.State.{Ends, IsMerging}
 use Rattle.osm_merge.proofs.MergeLaws.{without_head, merge_more, split_first, ascends_next, ascends_with, ends_next, met_is_new}
 use Rattle.osm_merge.proofs.Settling.{AscendBehind, may_put, may_end, put_next, put_all, put_nothing, put_ascends, kept_ascends}
-use Rattle.osm_merge.proofs.UnionLaws.{union_list, chosen, InFront, passing_nothing, put_in_front, met_up_to, all_put, all_taken, last_of_end, cut_in_file, memory_refused, why_cut_open, why_cut_whole, why_source}
+use Rattle.osm_merge.proofs.UnionLaws.{union_list, chosen, InFront, passing_nothing, put_in_front, met_up_to, all_put, all_taken, last_of_end, cut_in_file, memory_refused}
 
--- where all sources told what was to come: what is still to come, the heads included
+-- what is still to come, the heads included, where the sources give this behind their heads
 pub record IsStanding (selection : Selection) (all : List Coming) (heads : List (Option VersionData)) (told : List (Option Coming)) (met : List VersionData) (last top : Option VersionData) (taken : ℕ) : Type 0 where
   pub states : List Coming
   pub stand : AllStand states heads told
   pub merging : IsMerging selection all states met last top taken
 
 -- Of sources that stood with these heads at first, so many versions were taken, those that pass were met, and what is put of
--- these was put, in a file of this format to the output of this number. What rests on knowing what is to come is said under that.
-pub record IsRunning (selection : Selection) (heads0 : List (Option VersionData)) (told0 : List (Option Coming)) (format : Format) (number : ℕ) {O : Type 0} (holds : O → Content) (before : O)
-    (heads : List (Option VersionData)) (nodes : List ℕ) (told : List (Option Coming)) (sink : SinkState) (now : O) (last : Option VersionData) (read written compared : ℕ) : Type 0 where
+-- these was put, in a file of this format to the output of this number. Whatever can come now is explained by something that
+-- could come at first.
+pub record IsRunning (selection : Selection) {S : Type 0} (can : S → Coming → Type 0) (heads0 : List (Option VersionData)) (sources0 : List S) (format : Format) (number : ℕ) {O : Type 0} (holds : O → Content) (before : O)
+    (heads : List (Option VersionData)) (nodes : List ℕ) (sources : List S) (sink : SinkState) (now : O) (last : Option VersionData) (read written compared : ℕ) : Type 0 where
   pub met : List VersionData
   pub top : Option VersionData
   pub taken : ℕ
@@ -56,22 +60,21 @@ pub record IsRunning (selection : Selection) (heads0 : List (Option VersionData)
   pub ascends : IsStrictlySortedBy version_cmp met
   pub tree : IsTree heads nodes 1 0
   pub some : 0 < length heads
-  pub size : length told ≡ length heads
+  pub size : length sources ≡ length heads
   pub read_is : read ≡ capped taken
   pub written_is : written ≡ capped (length (put_of selection met))
   pub most : (depth : ℕ) → length heads ≤ 2 ^ depth → compared ≤ (length heads - 1) + taken * (depth + 1)
   pub least : passes_all selection ≡ true → capped (taken - 1) ≤ compared
   pub fresh : passes_all selection ≡ true → last ≡ None → taken ≡ 0
-  pub follow : (first : List (Option Coming)) → AllFollow first heads0 told0 → AllFollow first heads told
-  pub standing : (all : List Coming) → AllAscend all → AllStand all heads0 told0 → IsStanding selection all heads told met last top taken
+  pub run : Explained (AllGive can sources0) (AllGive can sources) (λ first later. (all : List Coming) → AllAscend all → AllStand all heads0 (map Some first) → IsStanding selection all heads (map Some later) met last top taken)
 
 none_met : (selection : Selection) (all : List Coming) → AllAscend all → IsMerging selection all all [] None None 0
 none_met selection all up = record { size = refl; ascends = nothing_ascends version_cmp; queues = up; came = λ i. ([], refl); refusals = λ i. refl; same = λ q. refl; ends = refl; floor = λ i. tt; under = tt; reached = tt; count = omega arith }
 
-pub run_start : (selection : Selection) (heads : List (Option VersionData)) (told : List (Option Coming)) (format : Format) (number : ℕ) {O : Type 0} (holds : O → Content) (before : O) (nodes : List ℕ) (sink : SinkState) (now : O) (read written compared : ℕ)
-    → HasPut format number [] (holds before) sink (holds now) → IsTree heads nodes 1 0 → 0 < length heads → length told ≡ length heads → read ≡ 0 → written ≡ 0 → compared ≤ length heads - 1
-    → IsRunning selection heads told format number holds before heads nodes told sink now None read written compared
-run_start selection heads told format number holds before nodes sink now read written compared has tree some size none_read none_written few = record {
+pub run_start : (selection : Selection) {S : Type 0} (can : S → Coming → Type 0) (heads : List (Option VersionData)) (sources : List S) (format : Format) (number : ℕ) {O : Type 0} (holds : O → Content) (before : O) (nodes : List ℕ) (sink : SinkState) (now : O) (read written compared : ℕ)
+    → HasPut format number [] (holds before) sink (holds now) → IsTree heads nodes 1 0 → 0 < length heads → length sources ≡ length heads → read ≡ 0 → written ≡ 0 → compared ≤ length heads - 1
+    → IsRunning selection can heads sources format number holds before heads nodes sources sink now None read written compared
+run_start selection can heads sources format number holds before nodes sink now read written compared has tree some size none_read none_written few = record {
   met = [];
   top = None;
   taken = 0;
@@ -86,8 +89,7 @@ run_start selection heads told format number holds before nodes sink now read wr
   most = λ depth high. omega (arith, few);
   least = λ p. omega arith;
   fresh = λ p e. refl;
-  follow = λ first f. f;
-  standing = λ all up stand. record { states = all; stand = stand; merging = none_met selection all up };
+  run = λ later g. (later, g, λ all up stand. record { states = all; stand = stand; merging = none_met selection all up });
 }
 
 -- ---- heads and what the sources give
@@ -117,37 +119,25 @@ behind_at (c ∷ cs) zero = refl
 behind_at (c ∷ cs) (suc w) = behind_at cs w
 
 -- what a source gives in a turn, once its head was taken
-stand_more : (states : List Coming) (heads : List (Option VersionData)) (told : List (Option Coming)) (w : ℕ) (given : Option VersionData) (after : Option Coming) → AllStand states heads told → w < length heads → length told ≡ length heads → Step (get_or told w None) (Ok given) after
+stand_more : (states : List Coming) (heads : List (Option VersionData)) (told : List (Option Coming)) (w : ℕ) (given : Option VersionData) (after : Option Coming) → AllStand states heads told → w < length heads → w < length told → Step (get_or told w None) (Ok given) after
     → AllStand (without_head states w) (set heads w given) (set told w after)
-stand_more states heads told w given after s inside size step =
+stand_more states heads told w given after s inside low step =
     let here : Coming = coming_at states w in
     let less : w < length states = subst (λ n. w < n) (length_heads states heads s.heads_are) inside in
-    let tells : get_or told w None ≡ Some (behind_head here) = told_at told (map behind_head states) w s.behind (omega arith) ∙ ap Some (behind_at states w) in
+    let tells : get_or told w None ≡ Some (behind_head here) = told_at told (map behind_head states) w s.behind low ∙ ap Some (behind_at states w) in
     let t = told_gives (behind_head here) given after (subst (λ o. Step o (Ok given) after) tells step) in
     let same_place : coming_at (without_head states w) w ≡ behind_head here = get_or-set_same states w (behind_head here) whole less in
     record {
       heads_are = (λ i. set (s.heads_are i) w (t.0 i)) ∙ sym (map-set head states w (behind_head here));
       behind = (λ i. set (s.behind i) w (t.1 i)) ∙ map_set_some (map behind_head states) w (behind_head (behind_head here)) ∙ ap (map Some) (sym (map-set behind_head states w (behind_head here)));
-      settled = λ i low none. elim (cases_eq i w) [
+      settled = λ i near none. elim (cases_eq i w) [
         | inl is ↦ ap (λ j. (coming_at (without_head states w) j).refusal) is ∙ ap (λ c. c.refusal) same_place
             ∙ t.2 (t.0 ∙ ap head (sym same_place) ∙ ap (λ j. head (coming_at (without_head states w) j)) (sym is) ∙ none)
         | inr n ↦ (
             let other : coming_at (without_head states w) i ≡ coming_at states i = get_or-set_other states w i (behind_head here) whole n in
-            ap (λ c. c.refusal) other ∙ s.settled i (subst (λ m. i < m) (length-set states w (behind_head here)) low) (ap head (sym other) ∙ none))
+            ap (λ c. c.refusal) other ∙ s.settled i (subst (λ m. i < m) (length-set states w (behind_head here)) near) (ap head (sym other) ∙ none))
       ];
     }
-
-follow_more : (first : List (Option Coming)) (heads : List (Option VersionData)) (told : List (Option Coming)) (w : ℕ) (given : Option VersionData) (after : Option Coming) → AllFollow first heads told → w < length heads → length told ≡ length heads → Step (get_or told w None) (Ok given) after
-    → AllFollow first (set heads w given) (set told w after)
-follow_more first heads told w given after f inside size step i =
-    elim (cases_eq i w) [
-      | inl is ↦ subst (λ j. Follows (get_or first j None) (get_or (set heads w given) j None) (get_or (set told w after) j None)) (sym is)
-          (subst (λ h. Follows (get_or first w None) h (get_or (set told w after) w None)) (sym (get_or-set_same heads w given None inside))
-          (subst (λ o. Follows (get_or first w None) given o) (sym (get_or-set_same told w after None (omega arith)))
-          (follows_next (get_or first w None) (get_or told w None) (get_or heads w None) given after (f w) step)))
-      | inr n ↦ subst (λ h. Follows (get_or first i None) h (get_or (set told w after) i None)) (sym (get_or-set_other heads w i given None n))
-          (subst (λ o. Follows (get_or first i None) (get_or heads i None) o) (sym (get_or-set_other told w i after None n)) (f i))
-    ]
 
 -- ---- the counts
 least_more : (M t c0 c1 c2 : ℕ) → min (t - 1) M ≤ c0 → min (c0 + 1) M ≤ c1 → c1 ≤ c2 → min ((t + 1) - 1) M ≤ c2
@@ -232,9 +222,9 @@ not_nothing [] v e = cc
 not_nothing (u ∷ us) v e = cc
 
 -- ---- one turn
-module _ {selection : Selection} {heads0 : List (Option VersionData)} {told0 : List (Option Coming)} {format : Format} {number : ℕ} {O : Type 0} {holds : O → Content} {before : O}
-    {heads : List (Option VersionData)} {nodes : List ℕ} {told : List (Option Coming)} {sink : SinkState} {now : O} {last : Option VersionData} {read written compared : ℕ}
-    (r : IsRunning selection heads0 told0 format number holds before heads nodes told sink now last read written compared) (w : ℕ) (top : w ≡ get_or nodes 1 0) where
+module _ {selection : Selection} {S : Type 0} {can : S → Coming → Type 0} {heads0 : List (Option VersionData)} {sources0 : List S} {format : Format} {number : ℕ} {O : Type 0} {holds : O → Content} {before : O}
+    {heads : List (Option VersionData)} {nodes : List ℕ} {sources : List S} {sink : SinkState} {now : O} {last : Option VersionData} {read written compared : ℕ}
+    (r : IsRunning selection can heads0 sources0 format number holds before heads nodes sources sink now last read written compared) (w : ℕ) (top : w ≡ get_or nodes 1 0) where
   pub inside : w < length heads
   inside = subst (λ q. q < length heads) (sym top) (r.tree.below 1 (omega arith) (let s = r.some in omega arith))
 
@@ -259,14 +249,14 @@ module _ {selection : Selection} {heads0 : List (Option VersionData)} {told0 : L
     next_is : put_of selection r.met ++ puts selection last v ≡ put2
     next_is = put_next selection last v r.met r.ends
 
-    taken_head : (all : List Coming) (s : IsStanding selection all heads told r.met last r.top r.taken) →
+    taken_head : (all : List Coming) (told : List (Option Coming)) (s : IsStanding selection all heads told r.met last r.top r.taken) →
         IsMerging selection all (without_head s.states w) met2 (held_next selection last v) (Some v) (r.taken + 1)
-    taken_head all s =
+    taken_head all told s =
         merge_more selection all s.states r.met last r.top r.taken w v s.merging (subst (λ n. w < n) (length_heads s.states heads s.stand.heads_are) inside) (sym (head_at s.states heads w s.stand.heads_are) ∙ at_w)
         (least_head s.states heads nodes w (Some v) s.stand.heads_are r.tree top at_w)
 
-    in_front : (all : List Coming) (s : IsStanding selection all heads told r.met last r.top r.taken) → InFront put2 (selected selection (union_of all))
-    in_front all s = put_in_front selection all (without_head s.states w) met2 (held_next selection last v) (Some v) (r.taken + 1) (taken_head all s)
+    in_front : (all : List Coming) (told : List (Option Coming)) (s : IsStanding selection all heads told r.met last r.top r.taken) → InFront put2 (selected selection (union_of all))
+    in_front all told s = put_in_front selection all (without_head s.states w) met2 (held_next selection last v) (Some v) (r.taken + 1) (taken_head all told s)
 
     ascends2 : IsStrictlySortedBy version_cmp put2
     ascends2 = put_ascends selection met2 (ascends_next selection last v r.met r.ends r.ascends)
@@ -278,23 +268,12 @@ module _ {selection : Selection} {heads0 : List (Option VersionData)} {told0 : L
     cut2 sink2 now2 failed fault p = subst (λ (vs : List VersionData). CutShort number (holds before) (holds now2) failed (spelled_open format vs) fault) next_is (p format number (put_of selection r.met) before r.has)
 
     -- the sink refused a version
-    pub put_refused : (sink2 : SinkState) (now2 : O) (failed : Bool) (fault : Fault) → PutsMore holds (puts selection last v) sink sink2 now now2 failed (Err fault)
-        → (all : List Coming) → AllAscend all → AllStand all heads0 told0 → IsRefusedAs selection all format number (holds before) (holds now2) failed fault
-    put_refused sink2 now2 failed fault p all up st =
-        inl (cut_in_file (selected selection (union_of all)) format number (holds before) (holds now2) put2 failed fault (in_front all (r.standing all up st)) (cut2 sink2 now2 failed fault p))
-
-    pub put_why : (sink2 : SinkState) (now2 : O) (failed : Bool) (fault : Fault) → PutsMore holds (puts selection last v) sink sink2 now now2 failed (Err fault)
-        → (first : List (Option Coming)) → WhyRefused first format number failed fault
-    put_why sink2 now2 failed fault p first = why_cut_open first format number (holds before) (holds now2) failed fault put2 ascends2 (cut2 sink2 now2 failed fault p)
-
-    pub next_why : (failed : Bool) (fault : Fault) (after : Option Coming) → Step {A = VersionData} (get_or told w None) (Err fault) after
-        → (first : List (Option Coming)) → length first ≡ length heads0 → length heads0 ≡ length heads → AllFollow first heads0 told0 → WhyRefused first format number failed fault
-    next_why failed fault after step first size0 size f =
-        why_source first format number (holds before) (holds now) failed fault
-        (elim (refusal_first (get_or first w None) (get_or told w None) (get_or heads w None) fault after (r.follow first f w) step) [
-          | inl wanting ↦ inl wanting
-          | inr is ↦ inr (w, (let i = inside in omega (arith, i, size0, size)), is)
-        ])
+    pub put_refused : (one : S → Coming) → ((s : S) → can s (one s)) → (sink2 : SinkState) (now2 : O) (failed : Bool) (fault : Fault) → PutsMore holds (puts selection last v) sink sink2 now now2 failed (Err fault)
+        → ForStanding can sources0 heads0 (λ all. IsRefusedAs selection all format number (holds before) (holds now2) failed fault)
+    put_refused one possible sink2 now2 failed fault p =
+        let later : List Coming = map one sources in
+        let q = r.run later (give_one can one possible sources) in
+        (q.0, q.1, λ all up st. inl (cut_in_file (selected selection (union_of all)) format number (holds before) (holds now2) put2 failed fault (in_front all (map Some later) (q.2 all up st)) (cut2 sink2 now2 failed fault p)))
 
     pub put_kept : (sink2 : SinkState) (now2 : O) (failed : Bool) (fault : Fault) → PutsMore holds (puts selection last v) sink sink2 now now2 failed (Err fault) → Grows (holds before) (holds now2)
     put_kept sink2 now2 failed fault p = let cut = cut2 sink2 now2 failed fault p in (take cut.count (spelled_open format put2), cut.appended)
@@ -305,19 +284,38 @@ module _ {selection : Selection} {heads0 : List (Option VersionData)} {told0 : L
     only_one : (vs : List VersionData) → first vs ≡ Some v → rest vs ≡ [] → vs ≡ v ∷ []
     only_one vs h k = split_first v vs h ∙ ap (λ t. v ∷ t) k
 
+    -- before a step of the version's source something could come
+    abbrev Before : (Coming → Coming → Type 0) → List Coming → Type 0
+    Before step later =
+        (one : Coming) × (w < length (map Some (set later w one))) × (get_or (map Some (set later w one)) w None ≡ Some one) × step one (get_or later w whole)
+        × ForSome can sources0 (λ first. (all : List Coming) → AllAscend all → AllStand all heads0 (map Some first) → IsStanding selection all heads (map Some (set later w one)) r.met last r.top r.taken)
+
+    stepped : (step : Coming → Coming → Type 0) (d new : S) → Explained (can (get_or sources w d)) (can new) step → (later : List Coming) → AllGive can (set sources w new) later → Before step later
+    stepped step d new x later g =
+        let low : w < length sources = subst (λ n. w < n) (sym r.size) inside in
+        let b = give_back can step sources w new d whole later low x g in
+        let size : length later ≡ length sources = give_size can (set sources w new) later g ∙ length-set sources w new in
+        let less : w < length later = omega (arith, size, low) in
+        let less_set : w < length (set later w b.0) = omega (arith, less, length-set later w b.0) in (
+          b.0,
+          omega (arith, less_set, length-map (set later w b.0) Some),
+          get_or-map Some (set later w b.0) w whole None less_set ∙ ap Some (get_or-set_same later w b.0 whole less),
+          b.2,
+          r.run (set later w b.0) b.1,
+        )
+
     -- the source of the version was refused, once the version was put
-    pub source_refused : (sink2 : SinkState) (now2 : O) (failed : Bool) (fault : Fault) (after : Option Coming) → PutsMore holds (puts selection last v) sink sink2 now now2 failed (Ok tt) → Step {A = VersionData} (get_or told w None) (Err fault) after
-        → (all : List Coming) → AllAscend all → AllStand all heads0 told0 → IsRefusedAs selection all format number (holds before) (holds now2) failed fault
-    source_refused sink2 now2 failed fault after p step all up st =
-        let s = r.standing all up st in
+    refused_at : (sink2 : SinkState) (now2 : O) (failed : Bool) (fault : Fault) (told : List (Option Coming)) (after : Option Coming) → w < length told → PutsMore holds (puts selection last v) sink sink2 now now2 failed (Ok tt) → Step {A = VersionData} (get_or told w None) (Err fault) after
+        → (all : List Coming) → IsStanding selection all heads told r.met last r.top r.taken → IsRefusedAs selection all format number (holds before) (holds now2) failed fault
+    refused_at sink2 now2 failed fault told after low p step all s =
         let here : Coming = coming_at s.states w in
         let states2 : List Coming = without_head s.states w in
-        let m = taken_head all s in
+        let m = taken_head all told s in
         let sent : Appended (holds before) (holds now2) (spelled_open format put2) = (has2 sink2 now2 failed p).sent.appended in
         let less : w < length s.states = subst (λ n. w < n) (length_heads s.states heads s.stand.heads_are) inside in
-        let tells : get_or told w None ≡ Some (behind_head here) = told_at told (map behind_head s.states) w s.stand.behind (let e = r.size in let i = inside in omega arith) ∙ ap Some (behind_at s.states w) in
+        let tells : get_or told w None ≡ Some (behind_head here) = told_at told (map behind_head s.states) w s.stand.behind low ∙ ap Some (behind_at s.states w) in
         elim (told_refuses (behind_head here) fault after (subst (λ o. Step {A = VersionData} o (Err fault) after) tells step)) [
-          | inl wanting ↦ inl (subst (λ (f : Fault). CutShort number (holds before) (holds now2) failed (spell format (selected selection (union_of all))) f) (sym wanting) (memory_refused (selected selection (union_of all)) format number (holds before) (holds now2) put2 failed (in_front all s) sent))
+          | inl wanting ↦ inl (subst (λ (f : Fault). CutShort number (holds before) (holds now2) failed (spell format (selected selection (union_of all))) f) (sym wanting) (memory_refused (selected selection (union_of all)) format number (holds before) (holds now2) put2 failed (in_front all told s) sent))
           | inr end ↦ (
               let list_is : (coming_at all w).list ≡ (s.merging.came w).0 ++ v ∷ [] =
               (s.merging.came w).1 ∙ ap (λ t. (s.merging.came w).0 ++ t) (only_one here.list (sym (head_at s.states heads w s.stand.heads_are) ∙ at_w) end.0) in
@@ -337,18 +335,28 @@ module _ {selection : Selection} {heads0 : List (Option VersionData)} {told0 : L
               }))
         ]
 
+    pub source_refused : (one : S → Coming) → ((s : S) → can s (one s)) → (sink2 : SinkState) (now2 : O) (failed : Bool) (fault : Fault) (d new : S) → PutsMore holds (puts selection last v) sink sink2 now now2 failed (Ok tt)
+        → Explained (can (get_or sources w d)) (can new) (λ e l. Step {A = VersionData} (Some e) (Err fault) (Some l)) → ForStanding can sources0 heads0 (λ all. IsRefusedAs selection all format number (holds before) (holds now2) failed fault)
+    source_refused one possible sink2 now2 failed fault d new p step =
+        let later : List Coming = map one (set sources w new) in
+        let b = stepped (λ e l. Step {A = VersionData} (Some e) (Err fault) (Some l)) d new step later (give_one can one possible (set sources w new)) in
+        let q = b.4 in
+        let told : List (Option Coming) = map Some (set later w b.0) in
+        let after : Option Coming = Some (get_or later w whole) in
+        (q.0, q.1, λ all up st. refused_at sink2 now2 failed fault told after b.1 p (subst (λ o. Step {A = VersionData} o (Err fault) after) (sym b.2) b.3) all (q.2 all up st))
+
     -- the loop goes on
-    pub run_more : (nodes2 : List ℕ) (sink2 : SinkState) (now2 : O) (failed2 : Bool) (last2 : Option VersionData) (given : Option VersionData) (after : Option Coming) (read2 written2 compared1 compared2 : ℕ)
-        → PutsMore holds (puts selection last v) sink sink2 now now2 failed2 (Ok tt) → last2 ≡ held_next selection last v → Step (get_or told w None) (Ok given) after
+    pub run_more : (nodes2 : List ℕ) (sink2 : SinkState) (now2 : O) (failed2 : Bool) (last2 : Option VersionData) (given : Option VersionData) (d new : S) (read2 written2 compared1 compared2 : ℕ)
+        → PutsMore holds (puts selection last v) sink sink2 now now2 failed2 (Ok tt) → last2 ≡ held_next selection last v → Explained (can (get_or sources w d)) (can new) (λ e l. Step (Some e) (Ok given) (Some l))
         → IsTree (set heads w given) nodes2 1 0
         → read2 ≡ capped (read + 1)
         → ((put : List VersionData) → written ≡ capped (length put) → written2 ≡ capped (length (put ++ puts selection last v)))
         → compared1 ≤ compared + 1 → IfSome last (λ _. capped (compared + 1) ≤ compared1)
         → compared1 ≤ compared2 → ((depth : ℕ) → length (set heads w given) ≤ 2 ^ depth → compared2 ≤ compared1 + depth)
-        → IsRunning selection heads0 told0 format number holds before (set heads w given) nodes2 (set told w after) sink2 now2 last2 read2 written2 compared2
-    run_more nodes2 sink2 now2 failed2 last2 given after read2 written2 compared1 compared2 p last_is step tree read_is writes most least grows replayed =
+        → IsRunning selection can heads0 sources0 format number holds before (set heads w given) nodes2 (set sources w new) sink2 now2 last2 read2 written2 compared2
+    run_more nodes2 sink2 now2 failed2 last2 given d new read2 written2 compared1 compared2 p last_is step tree read_is writes most least grows replayed =
         let size : length (set heads w given) ≡ length heads = length-set heads w given in
-        let sizes : length (set told w after) ≡ length told = length-set told w after in
+        let sizes : length (set sources w new) ≡ length sources = length-set sources w new in
         record {
           met = met2;
           top = Some v;
@@ -368,18 +376,27 @@ module _ {selection : Selection} {heads0 : List (Option VersionData)} {told0 : L
               omega (arith, old, later, times, size);
           least = λ p. least_next last r.taken compared compared1 compared2 (r.least p) (r.fresh p) least grows;
           fresh = λ p e. absurd (some_held selection last v (all_pass selection p v) (sym last_is ∙ e));
-          follow = λ first f. follow_more first heads told w given after (r.follow first f) inside r.size step;
-          standing = λ all up st.
-              let s = r.standing all up st in
-              record {
-                states = without_head s.states w;
-                stand = stand_more s.states heads told w given after s.stand inside r.size step;
-                merging = subst (λ (l : Option VersionData). IsMerging selection all (without_head s.states w) met2 l (Some v) (r.taken + 1)) (sym last_is) (taken_head all s);
-              };
+          run = λ later g. (
+              let b = stepped (λ e l. Step (Some e) (Ok given) (Some l)) d new step later g in
+              let q = b.4 in
+              let told : List (Option Coming) = map Some (set later w b.0) in
+              let here : Coming = get_or later w whole in
+              let next : set told w (Some here) ≡ map Some later = map_set_some (set later w b.0) w here ∙ ap (map Some) (set_again later w b.0 whole) in
+              let gave : Step (get_or told w None) (Ok given) (Some here) = subst (λ o. Step o (Ok given) (Some here)) (sym b.2) b.3 in (
+                q.0,
+                q.1,
+                λ all up st.
+                    let s = q.2 all up st in
+                    record {
+                      states = without_head s.states w;
+                      stand = subst (λ (t : List (Option Coming)). AllStand (without_head s.states w) (set heads w given) t) next (stand_more s.states heads told w given (Some here) s.stand inside b.1 gave);
+                      merging = subst (λ (l : Option VersionData). IsMerging selection all (without_head s.states w) met2 l (Some v) (r.taken + 1)) (sym last_is) (taken_head all told s);
+                    },
+              ));
         }
 
 -- ---- the end
--- where all sources told what was to come, all of it was taken, and what is selected of the union was put
+-- all that was to come was taken, and what is selected of the union was put
 pub record IsToldDone (selection : Selection) (all : List Coming) (put : List VersionData) (read compared : ℕ) : Type 0 where
   pub union_is : chosen selection all ≡ put
   pub ends_whole : All (λ c. c.refusal ≡ None) all
@@ -387,15 +404,14 @@ pub record IsToldDone (selection : Selection) (all : List Coming) (put : List Ve
   pub bounded : IsBoundedFrom (few_of selection (length (versions_of all))) (length all) (length (versions_of all)) compared
 
 -- before the file is ended
-pub record IsDone (selection : Selection) (last : Option VersionData) (heads0 : List (Option VersionData)) (told0 : List (Option Coming)) (format : Format) (number : ℕ) {O : Type 0} (holds : O → Content) (before : O) (sink : SinkState) (now : O) (counts : Counts) : Type 0 where
+pub record IsDone (selection : Selection) (last : Option VersionData) {S : Type 0} (can : S → Coming → Type 0) (heads0 : List (Option VersionData)) (sources0 : List S) (format : Format) (number : ℕ) {O : Type 0} (holds : O → Content) (before : O) (sink : SinkState) (now : O) (counts : Counts) : Type 0 where
   pub so_far : List VersionData
   pub put : List VersionData
   pub put_is : so_far ++ put_at_end selection last ≡ put
   pub has : HasPut format number so_far (holds before) sink (holds now)
   pub ascends : IsStrictlySortedBy version_cmp put
   pub written_is : counts.written ≡ capped (length so_far)
-  pub told : (all : List Coming) → AllAscend all → AllStand all heads0 told0 → IsToldDone selection all put counts.read counts.compared
-  pub each_whole : (first : List (Option Coming)) → AllFollow first heads0 told0 → All IsWhole first
+  pub told : ForSome can sources0 (λ first. (all : List Coming) → AllAscend all → AllStand all heads0 (map Some first) → IsToldDone selection all put counts.read counts.compared)
 
 none_left : (heads : List (Option VersionData)) (nodes : List ℕ) (w : ℕ) → IsTree heads nodes 1 0 → w ≡ get_or nodes 1 0 → get_or heads w None ≡ None → (i : ℕ) → get_or heads i None ≡ None
 none_left heads nodes w t top at_w i =
@@ -404,13 +420,14 @@ none_left heads nodes w t top at_w i =
       | inr more ↦ get_or_past heads i None more
     ]
 
-pub run_done : {selection : Selection} {heads0 : List (Option VersionData)} {told0 : List (Option Coming)} {format : Format} {number : ℕ} {O : Type 0} {holds : O → Content} {before : O}
-    {heads : List (Option VersionData)} {nodes : List ℕ} {told : List (Option Coming)} {sink : SinkState} {now : O} {last : Option VersionData} (counts : Counts) (w : ℕ)
-    → IsRunning selection heads0 told0 format number holds before heads nodes told sink now last counts.read counts.written counts.compared
+pub run_done : {selection : Selection} {S : Type 0} {can : S → Coming → Type 0} {heads0 : List (Option VersionData)} {sources0 : List S} {format : Format} {number : ℕ} {O : Type 0} {holds : O → Content} {before : O}
+    {heads : List (Option VersionData)} {nodes : List ℕ} {sources : List S} {sink : SinkState} {now : O} {last : Option VersionData} (one : S → Coming) → ((s : S) → can s (one s)) → (counts : Counts) (w : ℕ)
+    → IsRunning selection can heads0 sources0 format number holds before heads nodes sources sink now last counts.read counts.written counts.compared
     → w ≡ get_or nodes 1 0 → get_or heads w None ≡ None
-    → IsDone selection last heads0 told0 format number holds before sink now counts
-run_done {selection = selection} {heads = heads} {nodes = nodes} {told = told} {last = last} counts w r top at_w =
+    → IsDone selection last can heads0 sources0 format number holds before sink now counts
+run_done {selection = selection} {can = can} {heads = heads} {nodes = nodes} {sources = sources} {last = last} one possible counts w r top at_w =
     let none = none_left heads nodes w r.tree top at_w in
+    let q = r.run (map one sources) (give_one can one possible sources) in
     record {
       so_far = put_of selection r.met;
       put = put_of selection r.met ++ put_at_end selection last;
@@ -418,53 +435,59 @@ run_done {selection = selection} {heads = heads} {nodes = nodes} {told = told} {
       has = r.has;
       ascends = subst (IsStrictlySortedBy version_cmp) (sym (put_all selection last r.met r.ends)) (kept_ascends (keeps selection) r.met r.ascends);
       written_is = r.written_is;
-      told = λ all up st.
-          let s = r.standing all up st in
-          let no_head : (i : ℕ) → i < length s.states → head (coming_at s.states i) ≡ None = λ i low. sym (head_at s.states heads i s.stand.heads_are) ∙ none i in
-          let taken_is : r.taken ≡ length (versions_of all) = all_taken s.merging no_head in
-          let sources : length heads ≡ length all = length_heads s.states heads s.stand.heads_are ∙ s.merging.size in
-          record {
-            union_is = all_put s.merging no_head;
-            ends_whole = λ i d low.
-                let within : i < length s.states = subst (λ n. i < n) (sym s.merging.size) low in
-                subst (λ c. c.refusal ≡ None) (get_or_default all i whole d low) (s.merging.refusals i ∙ s.stand.settled i within (no_head i within));
-            read_is = r.read_is ∙ ap capped taken_is;
-            bounded = record {
-              most = λ depth high.
-                  let old = r.most depth (subst (λ n. n ≤ 2 ^ depth) (sym sources) high) in
-                  subst (λ t. counts.compared ≤ (length all - 1) + t * (depth + 1)) taken_is (subst (λ k. counts.compared ≤ (k - 1) + r.taken * (depth + 1)) sources old);
-              least = few_least selection (length (versions_of all)) counts.compared (λ p. subst (λ t. capped (t - 1) ≤ counts.compared) taken_is (r.least p));
-            };
-          };
-      each_whole = λ first f. all_whole first heads told (r.follow first f) none;
+      told = (
+        q.0,
+        q.1,
+        λ all up st.
+            let s = q.2 all up st in
+            let no_head : (i : ℕ) → i < length s.states → head (coming_at s.states i) ≡ None = λ i low. sym (head_at s.states heads i s.stand.heads_are) ∙ none i in
+            let taken_is : r.taken ≡ length (versions_of all) = all_taken s.merging no_head in
+            let many : length heads ≡ length all = length_heads s.states heads s.stand.heads_are ∙ s.merging.size in
+            record {
+              union_is = all_put s.merging no_head;
+              ends_whole = λ i d low.
+                  let within : i < length s.states = subst (λ n. i < n) (sym s.merging.size) low in
+                  subst (λ c. c.refusal ≡ None) (get_or_default all i whole d low) (s.merging.refusals i ∙ s.stand.settled i within (no_head i within));
+              read_is = r.read_is ∙ ap capped taken_is;
+              bounded = record {
+                most = λ depth high.
+                    let old = r.most depth (subst (λ n. n ≤ 2 ^ depth) (sym many) high) in
+                    subst (λ t. counts.compared ≤ (length all - 1) + t * (depth + 1)) taken_is (subst (λ k. counts.compared ≤ (k - 1) + r.taken * (depth + 1)) many old);
+                least = few_least selection (length (versions_of all)) counts.compared (λ p. subst (λ t. capped (t - 1) ≤ counts.compared) taken_is (r.least p));
+              };
+            },
+      );
     }
 
 -- of no sources
-pub none_done : (selection : Selection) (heads : List (Option VersionData)) (told : List (Option Coming)) (format : Format) (number : ℕ) {O : Type 0} (holds : O → Content) (before : O) (sink : SinkState) (now : O) (counts : Counts)
+pub none_done : (selection : Selection) {S : Type 0} (can : S → Coming → Type 0) (one : S → Coming) → ((s : S) → can s (one s)) → (heads : List (Option VersionData)) (sources : List S) (format : Format) (number : ℕ) {O : Type 0} (holds : O → Content) (before : O) (sink : SinkState) (now : O) (counts : Counts)
     → length heads ≡ 0 → HasPut format number [] (holds before) sink (holds now) → counts.read ≡ 0 → counts.written ≡ 0 → counts.compared ≤ length heads - 1
-    → IsDone selection None heads told format number holds before sink now counts
-none_done selection heads told format number holds before sink now counts empty has none_read none_written few = record {
+    → IsDone selection None can heads sources format number holds before sink now counts
+none_done selection can one possible heads sources format number holds before sink now counts empty has none_read none_written few = record {
   so_far = [];
   put = put_of selection [] ++ put_at_end selection None;
   put_is = ap (λ (vs : List VersionData). vs ++ put_at_end selection None) (sym (put_nothing selection));
   has = has;
   ascends = subst (IsStrictlySortedBy version_cmp) (sym (put_all selection None [] refl)) (nothing_ascends version_cmp);
   written_is = none_written;
-  told = λ all up st.
-      let size : length heads ≡ length all = length_heads all heads st.heads_are in
-      let no_head : (i : ℕ) → i < length all → head (coming_at all i) ≡ None = λ i low. absurd (omega arith) in
-      let taken_is : 0 ≡ length (versions_of all) = all_taken (none_met selection all up) no_head in
-      record {
-        union_is = all_put (none_met selection all up) no_head;
-        ends_whole = λ i d low. absurd (omega arith);
-        read_is = none_read ∙ ap capped taken_is;
-        bounded = record { most = λ depth high. omega arith; least = few_least selection (length (versions_of all)) counts.compared (λ p. subst (λ t. capped (t - 1) ≤ counts.compared) taken_is (omega arith)) };
-      };
-  each_whole = λ first f. all_whole first heads told f (λ i. get_or_past heads i None (omega arith));
+  told = (
+    map one sources,
+    give_one can one possible sources,
+    λ all up st.
+        let size : length heads ≡ length all = length_heads all heads st.heads_are in
+        let no_head : (i : ℕ) → i < length all → head (coming_at all i) ≡ None = λ i low. absurd (omega arith) in
+        let taken_is : 0 ≡ length (versions_of all) = all_taken (none_met selection all up) no_head in
+        record {
+          union_is = all_put (none_met selection all up) no_head;
+          ends_whole = λ i d low. absurd (omega arith);
+          read_is = none_read ∙ ap capped taken_is;
+          bounded = record { most = λ depth high. omega arith; least = few_least selection (length (versions_of all)) counts.compared (λ p. subst (λ t. capped (t - 1) ≤ counts.compared) taken_is (omega arith)) };
+        },
+  );
 }
 
-module _ {selection : Selection} {last : Option VersionData} {heads0 : List (Option VersionData)} {told0 : List (Option Coming)} {format : Format} {number : ℕ} {O : Type 0} {holds : O → Content} {before : O} {sink : SinkState} {now : O} {counts : Counts}
-    (d : IsDone selection last heads0 told0 format number holds before sink now counts) (after : O) (failed : Bool) where
+module _ {selection : Selection} {last : Option VersionData} {S : Type 0} {can : S → Coming → Type 0} {heads0 : List (Option VersionData)} {sources0 : List S} {format : Format} {number : ℕ} {O : Type 0} {holds : O → Content} {before : O} {sink : SinkState} {now : O} {counts : Counts}
+    (d : IsDone selection last can heads0 sources0 format number holds before sink now counts) (after : O) (failed : Bool) where
   abbrev more : List VersionData
   more = put_at_end selection last
 
@@ -476,47 +499,37 @@ module _ {selection : Selection} {last : Option VersionData} {heads0 : List (Opt
       × IfOk result (λ done. done.compared ≡ counts.compared)
 
   pub end_merged : (result : Result Counts Fault) → EndsFile holds more sink now after failed result → Counted result
-      → IfOk result (λ done. (all : List Coming) → AllAscend all → AllStand all heads0 told0 → IsMergedAs selection all format (holds before) (holds after) done)
-  end_merged (Ok done) ends is = λ all up st.
-      let t = d.told all up st in
-      let sent = ends format number d.so_far before d.has in
-      let all_is : d.so_far ++ more ≡ chosen selection all = d.put_is ∙ sym t.union_is in
-      record {
-        whole = t.ends_whole;
-        appended = subst (λ (vs : List VersionData). Appended (holds before) (holds after) (spell_list format vs)) all_is sent.appended;
-        read = is.0 ∙ t.read_is;
-        written = is.1 d.so_far d.written_is ∙ ap (λ vs. capped (length vs)) all_is;
-        compared = subst (λ (n : ℕ). IsBoundedFrom (few_of selection (length (versions_of all))) (length all) (length (versions_of all)) n) (sym is.2) t.bounded;
-      }
+      → IfOk result (λ done. ForSome can sources0 (λ first. (all : List Coming) → AllAscend all → AllStand all heads0 (map Some first) → IsMergedAs selection all format (holds before) (holds after) done))
+  end_merged (Ok done) ends is = (
+    d.told.0,
+    d.told.1,
+    λ all up st.
+        let t = d.told.2 all up st in
+        let sent = ends format number d.so_far before d.has in
+        let all_is : d.so_far ++ more ≡ chosen selection all = d.put_is ∙ sym t.union_is in
+        record {
+          whole = t.ends_whole;
+          appended = subst (λ (vs : List VersionData). Appended (holds before) (holds after) (spell_list format vs)) all_is sent.appended;
+          read = is.0 ∙ t.read_is;
+          written = is.1 d.so_far d.written_is ∙ ap (λ vs. capped (length vs)) all_is;
+          compared = subst (λ (n : ℕ). IsBoundedFrom (few_of selection (length (versions_of all))) (length all) (length (versions_of all)) n) (sym is.2) t.bounded;
+        },
+  )
   end_merged (Err fault) ends is = tt
 
   pub end_refused : (result : Result Counts Fault) → EndsFile holds more sink now after failed result
-      → IfErr result (λ fault. (all : List Coming) → AllAscend all → AllStand all heads0 told0 → IsRefusedAs selection all format number (holds before) (holds after) failed fault)
+      → IfErr result (λ fault. ForSome can sources0 (λ first. (all : List Coming) → AllAscend all → AllStand all heads0 (map Some first) → IsRefusedAs selection all format number (holds before) (holds after) failed fault))
   end_refused (Ok done) ends = tt
-  end_refused (Err fault) ends = λ all up st.
-      inl (subst (λ (vs : List VersionData). CutShort number (holds before) (holds after) failed (spell_list format vs) fault) (d.put_is ∙ sym (d.told all up st).union_is) (ends format number d.so_far before d.has))
+  end_refused (Err fault) ends = (
+    d.told.0,
+    d.told.1,
+    λ all up st.
+        inl (subst (λ (vs : List VersionData). CutShort number (holds before) (holds after) failed (spell_list format vs) fault) (d.put_is ∙ sym (d.told.2 all up st).union_is) (ends format number d.so_far before d.has)),
+  )
 
   pub end_kept : (result : Result Counts Fault) → EndsFile holds more sink now after failed result → Grows (holds before) (holds after)
   end_kept (Ok done) ends = (spell_list format (d.so_far ++ more), (ends format number d.so_far before d.has).appended)
   end_kept (Err fault) ends = let cut = ends format number d.so_far before d.has in (take cut.count (spell_list format (d.so_far ++ more)), cut.appended)
-
-  pub end_set : (result : Result Counts Fault) → EndsFile holds more sink now after failed result → Counted result → IfOk result (WritesSet format (holds before) (holds after))
-  end_set (Ok done) ends is =
-      let sent = ends format number d.so_far before d.has in
-      record {
-        set = from_list d.put;
-        appended = subst (λ (bytes : List ℕ). Appended (holds before) (holds after) bytes) (ap (spell_list format) d.put_is ∙ list_spelled format d.put d.ascends) sent.appended;
-        written = is.1 d.so_far d.written_is ∙ ap (λ vs. capped (length vs)) (d.put_is ∙ sym (listed-view d.put d.ascends));
-      }
-  end_set (Err fault) ends is = tt
-
-  pub end_why : (result : Result Counts Fault) → EndsFile holds more sink now after failed result → IfErr result (λ fault. (first : List (Option Coming)) → length first ≡ length heads0 → AllFollow first heads0 told0 → WhyRefused first format number failed fault)
-  end_why (Ok done) ends = tt
-  end_why (Err fault) ends = λ first size f. why_cut_whole first format number (holds before) (holds after) failed fault d.put d.ascends (subst (λ (vs : List VersionData). CutShort number (holds before) (holds after) failed (spell_list format vs) fault) d.put_is (ends format number d.so_far before d.has))
-
-  pub end_whole : (result : Result Counts Fault) → OnOk result ((first : List (Option Coming)) → AllFollow first heads0 told0 → All IsWhole first)
-  end_whole (Ok done) = d.each_whole
-  end_whole (Err fault) = tt
 
 -- ---- the loop ends
 -- how many versions are still to come behind a head, and the head
@@ -543,10 +556,18 @@ less_work (x ∷ heads) (left ∷ lefts) zero v given left2 e low h =
     omega (arith, a, b)
 less_work (x ∷ heads) (left ∷ lefts) (suc w) v given left2 e low h = let a = less_work heads lefts w v given left2 e (omega arith) h in omega (arith, a)
 
--- ---- what the law of sources says of what they tell
-pub told_ascend : {S : Type 0} (still : S → Option Coming) (sources : List S) (all : List Coming) → ((s : S) → IfSome (still s) Ascends) → AllTell (map still sources) all → AllAscend all
-told_ascend still [] [] h t i = nothing_ascends version_cmp
-told_ascend still [] (c ∷ cs) h t i = absurd cc
-told_ascend still (s ∷ sources) [] h t i = absurd cc
-told_ascend still (s ∷ sources) (c ∷ cs) h t zero = let e : still s ≡ Some c = cc in subst (λ (o : Option Coming). IfSome o Ascends) e (h s)
-told_ascend still (s ∷ sources) (c ∷ cs) h t (suc i) = let e : map still sources ≡ map Some cs = cc in told_ascend still sources cs h e i
+-- ---- what the law of sources says of what they can give
+pub give_ascend : {S : Type 0} (can : S → Coming → Type 0) → ((s : S) (c : Coming) → can s c → Ascends c) → (sources : List S) (all : List Coming) → AllGive can sources all → AllAscend all
+give_ascend can h [] [] g i = nothing_ascends version_cmp
+give_ascend can h [] (c ∷ cs) g i = absurd g
+give_ascend can h (s ∷ sources) [] g i = absurd g
+give_ascend can h (s ∷ sources) (c ∷ cs) g zero = h s c g.0
+give_ascend can h (s ∷ sources) (c ∷ cs) g (suc i) = give_ascend can h sources cs g.1 i
+
+-- what holds of all that stood after each source was asked once holds of what they could give before
+pub from_first : {S : Type 0} (can : S → Coming → Type 0) → ((s : S) (c : Coming) → can s c → Ascends c) → (sources first asked : List S) (heads0 heads : List (Option VersionData)) (P : List Coming → Type 0) → first ≡ sources → heads ≡ heads0
+    → Explained (AllGive can first) (AllGive can asked) (λ all later. AllStand all heads0 (map Some later)) → ForStanding can asked heads P → ForSome can sources P
+from_first can ascends sources first asked heads0 heads P same is stands h =
+    let x = stands h.0 h.1 in
+    let g = subst (λ (ss : List _). AllGive can ss x.0) same x.1 in
+    (x.0, g, h.2 x.0 (give_ascend can ascends sources x.0 g) (subst (λ (hs : List (Option VersionData)). AllStand x.0 hs (map Some h.0)) (sym is) x.2))

@@ -24,14 +24,14 @@ use Rattle.osm_files.specs.Spell.{ended, spelled_open, spell_list, spell}
 use Rattle.osm_files.specs.Sink.{CutShort}
 use Rattle.osm_files.proofs.SpellLaws.{first_in_front, list_spelled}
 use Rattle.osm_files.proofs.SinkLaws.{cut_before_end}
-use Rattle.osm_merge.specs.Coming.{Coming, head, coming_at, IsFirstFault, IsFaultOfOne}
+use Rattle.osm_merge.specs.Coming.{Coming, head, coming_at, IsFirstFault}
 use Rattle.osm_merge.specs.Members.{first}
 use Rattle.osm_merge.specs.Union.{versions_of, union_of}
 use Rattle.osm_merge.specs.declared.selection.Selection.{Selection}
 use Rattle.osm_merge.specs.declared.selection.Selection.TheVariants.{All, Visible, Newest, NewestVisible, State, StateVisible, Between}
 use Rattle.osm_merge.specs.Selected.{selected}
 use Rattle.osm_merge.specs.Pass.{passes, passing, keeps, kept, put_of, put_at_end}
-use Rattle.osm_merge.specs.Merged.{last_of, up_to, written_so_far, written_before, IsRefusedAs, WhyRefused, HasBegunIn}
+use Rattle.osm_merge.specs.Merged.{last_of, up_to, written_so_far, written_before, IsRefusedAs, HasBegunIn}
 use Rattle.osm_merge.proofs.SelectedLaws.{passing_is, pass_of_set}
 use Rattle.osm_merge.proofs.Settling.{put_all, put_front, put_nothing}
 use Rattle.osm_merge.proofs.OrderLaws.{equal_versions, equal_both_ways, greater_on}
@@ -328,32 +328,3 @@ refused_at_first selection all format number held failed fault (inr source) = in
   refusal = source.3;
   appended = subst (Appended held held) (sym (ap (λ (vs : List VersionData). written_before selection format (last_of vs) (union_list all)) source.2 ∙ before_nothing selection format (union_list all))) (nothing_appended held);
 })
-
--- ---- whatever the sources tell
--- versions that ascend are spelled as a set, up to the mark of the end and with it
-whole_of : (format : Format) (put : List VersionData) → IsStrictlySortedBy version_cmp put → (set : VersionSet) × (length (spell_list format put) ≤ length (spell format set))
-whole_of format put up = (from_list put, (let e : length (spell_list format put) ≡ length (spell format (from_list put)) = ap length (list_spelled format put up) in omega (arith, e)))
-
-open_of : (format : Format) (put : List VersionData) → IsStrictlySortedBy version_cmp put → (set : VersionSet) × (length (spelled_open format put) ≤ length (spell format set))
-open_of format put up =
-    let w = whole_of format put up in
-    let low = w.1 in
-    (w.0, omega (arith, length-append (spelled_open format put) (ended format), low))
-
-module _ (told : List (Option Coming)) (format : Format) (number : ℕ) (before after : Content) (failed : Bool) (fault : Fault) where
-  why_cut : (bytes : List ℕ) → (set : VersionSet) × (length bytes ≤ length (spell format set)) → CutShort number before after failed bytes fault → WhyRefused told format number failed fault
-  why_cut bytes w cut = elim cut.why [
-    | inl wanting ↦ inl wanting
-    | inr (inl broken) ↦ inr (inl (cut.count, broken.0, broken.1))
-    | inr (inr long) ↦ inr (inr (inl (w.0, long.0, (let low = w.1 in let high = long.1 in omega (arith, low, high)))))
-  ]
-
-  pub why_cut_open : (put : List VersionData) → IsStrictlySortedBy version_cmp put → CutShort number before after failed (spelled_open format put) fault → WhyRefused told format number failed fault
-  why_cut_open put up cut = why_cut (spelled_open format put) (open_of format put up) cut
-
-  pub why_cut_whole : (put : List VersionData) → IsStrictlySortedBy version_cmp put → CutShort number before after failed (spell_list format put) fault → WhyRefused told format number failed fault
-  why_cut_whole put up cut = why_cut (spell_list format put) (whole_of format put up) cut
-
-  pub why_source : (fault ≡ memory_fault) ⊎ IsFaultOfOne told fault → WhyRefused told format number failed fault
-  why_source (inl wanting) = inl wanting
-  why_source (inr one) = inr (inr (inr one))

@@ -1,5 +1,6 @@
 pub mod Members
 pub mod Coming
+pub mod Giving
 pub mod Union
 pub mod Tree
 pub mod Selected
@@ -8,3 +9,4 @@ pub mod Put
 pub mod Merged
 pub mod Laws
 pub mod Rest
+pub mod Taking

@@ -18,12 +18,8 @@ use Rattle.osm_merge.specs.declared.selection.Selection.{Selection}
 use Rattle.osm_merge.specs.declared.selection.Selection.TheVariants.{All}
 use Rattle.osm_merge.specs.Selected.{selected}
 use Rattle.osm_merge.specs.Pass.{put_of, passing, passes_all}
-use Rattle.osm_merge.specs.Coming.{Coming, coming_at, IsFaultOfOne}
+use Rattle.osm_merge.specs.Coming.{Coming, coming_at}
 use Rattle.osm_merge.specs.Union.{versions_of, union_of, capped}
-
--- a source that tells how it ends is whole
-abbrev pub IsWhole : Option Coming → Type 0
-IsWhole told = IfSome told (λ c. c.refusal ≡ None)
 
 -- What `compared` may be, of k sources that gave n versions: at most k - 1 + n * (depth + 1), for the least depth with k up to
 -- 2^depth, and for each greater one; and at least so few. Of no source it is 0.
@@ -97,15 +93,6 @@ IsRefusedAs selection all format output before after failed fault =
 -- the same, where all versions are selected
 abbrev pub IsRefused : List Coming → Format → ℕ → Content → Content → Bool → Fault → Type 0
 IsRefused = IsRefusedAs All
-
--- Why a merge was refused, whatever the sources tell: memory was refused, or the output failed, or the file of a set has
--- 2^62 bytes or more; or a source is refused.
-abbrev pub WhyRefused : List (Option Coming) → Format → ℕ → Bool → Fault → Type 0
-WhyRefused told format output failed fault =
-    (fault ≡ memory_fault)
-    ⊎ ((place : ℕ) × (fault ≡ write_fault output place) × (failed ≡ true))
-    ⊎ ((set : VersionSet) × (fault ≡ too_long_fault output) × (2 ^ 62 ≤ length (spell format set)))
-    ⊎ IsFaultOfOne told fault
 
 -- the bytes from before are still held, and some more
 abbrev pub Grows : Content → Content → Type 0

@@ -9,12 +9,14 @@ pub mod laws;
 mod merge;
 mod newest;
 mod selection;
+mod taking;
 mod tree;
 
 pub use chosen::{at, between, snapshot, visible};
 pub use merge::{Counts, merge_into, merge_selected};
 pub use newest::into_snapshot;
 pub use selection::Selection;
+pub use taking::{absorb, absorb_newest};
 
 #[cfg(test)]
 mod rows;

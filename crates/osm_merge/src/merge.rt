@@ -3,13 +3,13 @@ ghost use Rattle.std.specs.Prelude.{◌≡◌, ◌≤◌, ◌<◌, ◌+◌, ◌-
 ghost use Rattle.std.specs.List.{All};
 ghost use Rattle.osm_model.specs.Data.{VersionData};
 ghost use Rattle.osm_files.specs.Sink.{IsOpen, new_sink};
-ghost use Rattle.osm_merge.specs.Coming.{Coming, AllTell, AllAscend, AllStand, AllFollow};
+ghost use Rattle.osm_merge.specs.Giving.{ForSome, ForStanding};
 ghost use Rattle.osm_merge.specs.Union.{capped, union_of};
 ghost use Rattle.osm_merge.specs.Tree.{IsTree};
 ghost use Rattle.osm_merge.specs.Selected.{selected};
 ghost use Rattle.osm_merge.specs.Pass.{is_new, is_met, held_next, puts, put_at, put_at_end, only};
 ghost use Rattle.osm_merge.specs.Put.{TakesEach, PutsMore, EndsFile, CountsMore};
-ghost use Rattle.osm_merge.specs.Merged.{IsWhole, IsMerged, IsMergedAs, WritesSet, IsRefused, IsRefusedAs, WhyRefused, Grows, HasBegun, HasBegunIn};
+ghost use Rattle.osm_merge.specs.Merged.{IsMerged, IsMergedAs, IsRefused, IsRefusedAs, Grows};
 
 use crate::compare::compare;
 use crate::heads::first_versions;
@@ -47,14 +47,8 @@ pub fn merge_into<S: Source + Drop, W: Output>(
     out: &mut W,
 ) -> Result<Counts, Fault>
     requires { sink.old ≡ new_sink sink.old.format sink.old.number }
-    // Where all sources tell what is to come.
-    ensures merged { IfOk result (λ counts. (all : List Coming) → AllTell (map S.still sources.items) all → IsMerged all sink.old.format (W.holds out.old) (W.holds out.new) counts) }
-    ensures refused { IfErr result (λ fault. (all : List Coming) → AllTell (map S.still sources.items) all → IsRefused all sink.old.format sink.old.number (W.holds out.old) (W.holds out.new) (W.failed out.new) fault) }
-    ensures begun { OnErr result ((all : List Coming) → AllTell (map S.still sources.items) all → HasBegun all sink.old.format (W.holds out.old) (W.holds out.new)) }
-    // Whatever they tell.
-    ensures file { IfOk result (WritesSet sink.old.format (W.holds out.old) (W.holds out.new)) }
-    ensures whole { OnOk result (All IsWhole (map S.still sources.items)) }
-    ensures fault { IfErr result (WhyRefused (map S.still sources.items) sink.old.format sink.old.number (W.failed out.new)) }
+    ensures merged { IfOk result (λ counts. ForSome S.can_give sources.items (λ all. IsMerged all sink.old.format (W.holds out.old) (W.holds out.new) counts)) }
+    ensures refused { IfErr result (λ fault. ForSome S.can_give sources.items (λ all. IsRefused all sink.old.format sink.old.number (W.holds out.old) (W.holds out.new) (W.failed out.new) fault)) }
     ensures kept { Grows (W.holds out.old) (W.holds out.new) }
     ensures good { OnOk result (W.failed out.new ≡ false) }
     ensures ended { OnOk result (sink.new.ended ≡ true) }
@@ -79,14 +73,8 @@ pub fn merge_selected<S: Source + Drop, W: Output>(
     out: &mut W,
 ) -> Result<Counts, Fault>
     requires { sink.old ≡ new_sink sink.old.format sink.old.number }
-    // Where all sources tell what is to come.
-    ensures merged { IfOk result (λ counts. (all : List Coming) → AllTell (map S.still sources.items) all → IsMergedAs selection all sink.old.format (W.holds out.old) (W.holds out.new) counts) }
-    ensures refused { IfErr result (λ fault. (all : List Coming) → AllTell (map S.still sources.items) all → IsRefusedAs selection all sink.old.format sink.old.number (W.holds out.old) (W.holds out.new) (W.failed out.new) fault) }
-    ensures begun { OnErr result ((all : List Coming) → AllTell (map S.still sources.items) all → HasBegunIn (selected selection (union_of all)) sink.old.format (W.holds out.old) (W.holds out.new)) }
-    // Whatever they tell.
-    ensures file { IfOk result (WritesSet sink.old.format (W.holds out.old) (W.holds out.new)) }
-    ensures whole { OnOk result (All IsWhole (map S.still sources.items)) }
-    ensures fault { IfErr result (WhyRefused (map S.still sources.items) sink.old.format sink.old.number (W.failed out.new)) }
+    ensures merged { IfOk result (λ counts. ForSome S.can_give sources.items (λ all. IsMergedAs selection all sink.old.format (W.holds out.old) (W.holds out.new) counts)) }
+    ensures refused { IfErr result (λ fault. ForSome S.can_give sources.items (λ all. IsRefusedAs selection all sink.old.format sink.old.number (W.holds out.old) (W.holds out.new) (W.failed out.new) fault)) }
     ensures kept { Grows (W.holds out.old) (W.holds out.new) }
     ensures good { OnOk result (W.failed out.new ≡ false) }
     ensures ended { OnOk result (sink.new.ended ≡ true) }
@@ -119,11 +107,8 @@ fn write_union<S: Source, W: Output>(
     requires read { counts.read ≡ 0 }
     requires written { counts.written ≡ 0 }
     requires compared { counts.compared ≤ length heads.old - 1 }
-    ensures merged { IfOk result (λ counts. (all : List Coming) → AllAscend all → AllStand all heads.old (map S.still sources.old) → IsMergedAs selection all sink.old.format (W.holds out.old) (W.holds out.new) counts) }
-    ensures refused { IfErr result (λ fault. (all : List Coming) → AllAscend all → AllStand all heads.old (map S.still sources.old) → IsRefusedAs selection all sink.old.format sink.old.number (W.holds out.old) (W.holds out.new) (W.failed out.new) fault) }
-    ensures file { IfOk result (WritesSet sink.old.format (W.holds out.old) (W.holds out.new)) }
-    ensures whole { OnOk result ((told : List (Option Coming)) → AllFollow told heads.old (map S.still sources.old) → All IsWhole told) }
-    ensures fault { IfErr result (λ fault. (told : List (Option Coming)) → length told ≡ length heads.old → AllFollow told heads.old (map S.still sources.old) → WhyRefused told sink.old.format sink.old.number (W.failed out.new) fault) }
+    ensures merged { IfOk result (λ counts. ForStanding S.can_give sources.old heads.old (λ all. IsMergedAs selection all sink.old.format (W.holds out.old) (W.holds out.new) counts)) }
+    ensures refused { IfErr result (λ fault. ForStanding S.can_give sources.old heads.old (λ all. IsRefusedAs selection all sink.old.format sink.old.number (W.holds out.old) (W.holds out.new) (W.failed out.new) fault)) }
     ensures kept { Grows (W.holds out.old) (W.holds out.new) }
     ensures good { OnOk result (W.failed out.new ≡ false) }
     ensures ended { OnOk result (sink.new.ended ≡ true) }

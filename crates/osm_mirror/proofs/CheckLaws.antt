@@ -100,11 +100,7 @@ report_is c loaded set sizes report h is n e =
       sorted = h.sorted;
     })
 
-pub reported : (told : Option Coming) (loaded : Loaded) (set : VersionSet) (sizes : Sizes) → IfSome told (λ c. Loads c loaded) → set ≡ loaded.history → IsCounted (set_given set) sizes → IfSome told (λ c. Reports c (record { format = loaded.format; versions = sizes.versions; objects = sizes.objects; sorted = loaded.sorted }))
-reported None loaded set sizes h is n = tt
-reported (Some c) loaded set sizes h is n = report_is c loaded set sizes (record { format = loaded.format; versions = sizes.versions; objects = sizes.objects; sorted = loaded.sorted }) h is n refl
-
-sorted_report_is : (c : Coming) (format : Format) (sizes : Sizes) → format ≡ format_of c.bytes → IsCounted (sorted_source 0 c) sizes → Reports c (record { format = format; versions = sizes.versions; objects = sizes.objects; sorted = true })
+pub sorted_report_is : (c : Coming) (format : Format) (sizes : Sizes) → format ≡ format_of c.bytes → IsCounted (sorted_source 0 c) sizes → Reports c (record { format = format; versions = sizes.versions; objects = sizes.objects; sorted = true })
 sorted_report_is c format sizes f n =
     let list : listed (from_list {R = version_cmp} (sorted_source 0 c).list) ≡ (sorted_source 0 c).list = listed-view (sorted_source 0 c).list (source_rises 0 c) in
     let set : VersionSet = from_list {R = version_cmp} (sorted_source 0 c).list in
@@ -118,18 +114,7 @@ sorted_report_is c format sizes f n =
       sorted = (λ t. given.file, λ h. refl);
     }
 
--- of a source that was opened
-pub sorted_report : (told : Option Coming) (still : Option source.Coming) (format : Format) (sizes : Sizes) → IfSome told (λ c. format ≡ format_of c.bytes) → IfSome told (λ c. still ≡ Some (sorted_source 0 c)) → IfSome still (λ s. IsCounted s sizes)
-    → IfSome told (λ c. Reports c (record { format = format; versions = sizes.versions; objects = sizes.objects; sorted = true }))
-sorted_report None still format sizes f is h = tt
-sorted_report (Some c) still format sizes f is h = sorted_report_is c format sizes f (subst (λ (s : Option source.Coming). IfSome s (λ x. IsCounted x sizes)) is h)
-
-pub sorted_refused : (told : Option Coming) (still : Option source.Coming) (fault : Fault) → IfSome told (λ c. still ≡ Some (sorted_source 0 c)) → (fault ≡ memory_fault) ⊎ IfSome still (λ s. s.refusal ≡ Some fault)
-    → (fault ≡ memory_fault) ⊎ IfSome told (λ c. (sorted_source 0 c).refusal ≡ Some fault)
-sorted_refused None still fault is h = ⊎_elim (λ e. inl e) (λ e. inr tt) h
-sorted_refused (Some c) still fault is h = subst (λ (s : Option source.Coming). (fault ≡ memory_fault) ⊎ IfSome s (λ x. x.refusal ≡ Some fault)) is h
-
 -- a whole set isn't refused
-pub no_refusal : (told : Option Coming) (fault : Fault) → (fault ≡ memory_fault) ⊎ (None ≡ Some fault) → StopsLoading 0 told fault
-no_refusal told fault (inl e) = inl e
-no_refusal told fault (inr e) = absurd (let f : None ≡ Some fault = e in cc)
+pub set_refused : (set : VersionSet) (still : source.Coming) (fault : Fault) → still ≡ set_given set → (fault ≡ memory_fault) ⊎ (still.refusal ≡ Some fault) → fault ≡ memory_fault
+set_refused set still fault is (inl e) = e
+set_refused set still fault is (inr e) = absurd (let f : None ≡ Some fault = ap (λ x. x.refusal) (sym is) ∙ e in cc)

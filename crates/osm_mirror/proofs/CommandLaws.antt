@@ -7,7 +7,7 @@ use Rattle.osm_model.specs.VersionSet.{VersionSet}
 use Rattle.opl_line.specs.Content.{Pairwise}
 use Rattle.osm_files.specs.declared.fault.Fault.{Fault}
 use Rattle.osm_files.specs.declared.format.Format.{Format}
-use Rattle.osm_files.specs.Input.{Coming}
+use Rattle.osm_files.specs.Input.{Coming, GivesOne}
 use Rattle.osm_files.specs.Output.{Content}
 use Rattle.osm_files.specs.Spell.{spell}
 use Rattle.osm_files.specs.Sink.{CutShort}
@@ -17,33 +17,25 @@ use Rattle.osm_merge.specs.Selected.{selected}
 use Rattle.osm_mirror.specs.declared.input.Order.{Order}
 use Rattle.osm_mirror.specs.declared.input.Order.TheVariants.{Any}
 use Rattle.osm_mirror.specs.declared.input.InputFile.{InputFile}
-use Rattle.osm_mirror.specs.Merge as merge
 use Rattle.osm_mirror.specs.Merge.{union_of}
-use Rattle.osm_mirror.specs.Given.{Tell, GivesFile, GivesAs, telling, IsRead, IsUnread}
-use Rattle.osm_mirror.specs.Run.{IsRun, IsRefused, WhyRefused, IsAccepted}
-use Rattle.osm_mirror.specs.Command.{IsWritten, IsNotWritten, WhyNotWritten, IsFile, unsorted, in_any_order}
+use Rattle.osm_files.specs.Fault.{memory_fault}
+use Rattle.osm_merge.specs.Giving.{AllGive, ForSome}
+use Rattle.osm_merge.proofs.GiveLaws.{give_one}
+use Rattle.osm_mirror.specs.Given.{GivesFile, GivesAs, FileGives, IsRead, IsUnread}
+use Rattle.osm_mirror.specs.Run.{IsRun, IsRefused, Refuses}
+use Rattle.osm_mirror.specs.Command.{IsWritten, IsNotWritten, any, in_any_order}
 use Rattle.osm_mirror.proofs.MergeLaws.{All-first, All-others}
 use Rattle.osm_mirror.proofs.RunLaws.{cut_is}
 
 -- ---- inputs of any order
-abbrev any : Coming → Order × Coming
-any c = (Any, c)
-
-module _ {X : Type 0} (coming : X → Option Coming) where
-  abbrev pub asked : InputFile X → Order × Option Coming
-  asked f = (f.order, coming f.reader)
-
-  pub asked_unsorted : (xs : List X) → map asked (map in_any_order xs) ≡ map unsorted (map coming xs)
-  asked_unsorted [] = refl
-  asked_unsorted (x ∷ xs) = ap (λ l. unsorted (coming x) ∷ l) (asked_unsorted xs)
-
-told_any : (all : List Coming) → map unsorted (map Some all) ≡ map telling (map any all)
-told_any [] = refl
-told_any (c ∷ all) = ap (λ l. unsorted (Some c) ∷ l) (told_any all)
-
-told_some : (all : List Coming) → map telling (map any all) ≡ map (λ c. unsorted (Some c)) all
-told_some [] = refl
-told_some (c ∷ all) = ap (λ l. unsorted (Some c) ∷ l) (told_some all)
+-- what files of any order give is what their readers give
+pub any_give : {R : Type 0} (can : R → Coming → Type 0) (readers : List R) (all : List (Order × Coming)) → AllGive (FileGives can) (map in_any_order readers) all → (given : List Coming) × AllGive can readers given × (all ≡ map any given)
+any_give can [] [] g = ([], tt, refl)
+any_give can [] (c ∷ all) g = absurd g
+any_give can (r ∷ readers) [] g = absurd g
+any_give can (r ∷ readers) ((order, c) ∷ all) g =
+    let others = any_give can readers all g.1 in
+    (c ∷ others.0, (g.0.1, others.1), (λ i. (sym g.0.0 i, c) ∷ others.2 i))
 
 are_files : (all : List Coming) (held : List VersionSet) → Pairwise GivesAs (map any all) held → Pairwise GivesFile all held
 are_files [] [] h = h
@@ -65,10 +57,6 @@ sets (c ∷ all) h =
     let others = sets all (All-others IsRead (any c) (map any all) h) in
     (one.0 ∷ others.0, (one.1, others.1))
 
-each_file : (told : List (Option Coming)) → All IsAccepted (map unsorted told) → All IsFile told
-each_file [] h = All-nil IsFile
-each_file (t ∷ told) h = All-cons IsFile t told (All-first IsAccepted (unsorted t) (map unsorted told) h) (each_file told (All-others IsAccepted (unsorted t) (map unsorted told) h))
-
 -- ---- what the run answers
 module _ {O : Type 0} (holds : O → Content) (selection : Selection) (format : Format) (before after : O) (all : List Coming) where
   written_is : (counts : Counts) → IsRun selection (map any all) format (holds before) (holds after) counts → IsWritten (selected selection) all format (holds before) (holds after) (record { read = counts.read; written = counts.written; compared = 0 })
@@ -83,7 +71,7 @@ module _ {O : Type 0} (holds : O → Content) (selection : Selection) (format : 
 
   not_written_is : (failed : Bool) (fault : Fault) → IsRefused holds selection (map any all) format before after failed fault → IsNotWritten holds (selected selection) all format before after failed fault
   not_written_is failed fault (inl memory) = inl memory
-  not_written_is failed fault (inr (inl (unread, same))) = inr (inl (subst (λ (t : List (Order × Option Coming)). IsUnread 0 t fault) (told_some all) unread, same))
+  not_written_is failed fault (inr (inl (unread, same))) = inr (inl (unread, same))
   not_written_is failed fault (inr (inr (read, r))) =
       let held = sets all read in
       inr (inr (
@@ -93,26 +81,38 @@ module _ {O : Type 0} (holds : O → Content) (selection : Selection) (format : 
             (cut_is holds selection format before after failed (map any all) fault (inr (inr (read, r))) held.0 (as_any all held.0 held.1)),
       ))
 
-module _ {O : Type 0} (holds : O → Content) (selection : Selection) (format : Format) (before after : O) (failed : Bool) (asks : List (Order × Option Coming)) (told : List (Option Coming)) (are : asks ≡ map unsorted told) where
-  tells_any : (all : List Coming) → merge.Tell told all → Tell asks (map any all)
-  tells_any all is = are ∙ ap (map unsorted) is ∙ told_any all
+module _ {R : Type 0} (can : R → Coming → Type 0) {O : Type 0} (holds : O → Content) (selection : Selection) (format : Format) (before after : O) (readers : List R) (files : List (InputFile R)) (are : files ≡ map in_any_order readers) where
+  of_readers : (P : List (Order × Coming) → Type 0) → ForSome (FileGives can) files P → (given : List Coming) × AllGive can readers given × P (map any given)
+  of_readers P h =
+      let q = any_give can readers h.0 (subst (λ (fs : List (InputFile R)). AllGive (FileGives can) fs h.0) are h.1) in
+      (q.0, q.1, subst P q.2 h.2)
 
-  pub held_written : (counts : Counts) → ((inputs : List (Order × Coming)) → Tell asks inputs → IsRun selection inputs format (holds before) (holds after) counts)
-      → (all : List Coming) → merge.Tell told all → IsWritten (selected selection) all format (holds before) (holds after) (record { read = counts.read; written = counts.written; compared = 0 })
-  held_written counts h = λ all is. written_is holds selection format before after all counts (h (map any all) (tells_any all is))
+  pub held_written : (counts : Counts) → ForSome (FileGives can) files (λ all. IsRun selection all format (holds before) (holds after) counts)
+      → ForSome can readers (λ all. IsWritten (selected selection) all format (holds before) (holds after) (record { read = counts.read; written = counts.written; compared = 0 }))
+  held_written counts h =
+      let q = of_readers (λ all. IsRun selection all format (holds before) (holds after) counts) h in
+      (q.0, q.1, written_is holds selection format before after q.0 counts q.2)
 
-  pub held_refused : (fault : Fault) → ((inputs : List (Order × Coming)) → Tell asks inputs → IsRefused holds selection inputs format before after failed fault)
-      → (all : List Coming) → merge.Tell told all → IsNotWritten holds (selected selection) all format before after failed fault
-  held_refused fault h = λ all is. not_written_is holds selection format before after all failed fault (h (map any all) (tells_any all is))
+  pub held_refused : (failed : Bool) (fault : Fault) → ForSome (FileGives can) files (λ all. Refuses holds selection all format before after failed fault) → ForSome can readers (λ all. IsNotWritten holds (selected selection) all format before after failed fault)
+  held_refused failed fault h =
+      let q = of_readers (λ all. Refuses holds selection all format before after failed fault) h in
+      (q.0, q.1, not_written_is holds selection format before after q.0 failed fault q.2.why)
 
-  pub held_why : (fault : Fault) → WhyRefused asks format failed fault → WhyNotWritten told format failed fault
-  held_why fault h = subst (λ (t : List (Order × Option Coming)). WhyRefused t format failed fault) are h
-
-  pub held_accepted : All IsAccepted asks → All IsFile told
-  held_accepted h = each_file told (subst (λ (t : List (Order × Option Coming)). All IsAccepted t) are h)
+-- nothing was done for want of memory
+pub not_begun : {R : Type 0} (can : R → Coming → Type 0) (one : R → Coming) → ((r : R) → can r (one r)) → {O : Type 0} (holds : O → Content) (choice : VersionSet → VersionSet) (format : Format) (before : O) (failed : Bool) (readers : List R) (fault : Fault) → fault ≡ memory_fault
+    → ForSome can readers (λ all. IsNotWritten holds choice all format before before failed fault)
+not_begun can one possible holds choice format before failed readers fault memory = (map one readers, give_one can one possible readers, inl (memory, refl))
 
 -- what is said of a list of one input
-pub one_refused : {X : Type 0} (coming : X → Option Coming) (items : List X) (input : X) → items ≡ input ∷ [] → (P : List Coming → Fault → Type 0) (result : Result Counts Fault) → IfErr result (λ fault. (all : List Coming) → merge.Tell (map coming items) all → P all fault)
-    → IfErr result (λ fault. (c : Coming) → coming input ≡ Some c → P (c ∷ []) fault)
-one_refused coming items input is P (Ok counts) h = tt
-one_refused coming items input is P (Err fault) h = λ c e. h (c ∷ []) (ap (map coming) is ∙ (λ i. e i ∷ []))
+one_of : {R : Type 0} (can : R → Coming → Type 0) (input : R) (P : List Coming → Type 0) (all : List Coming) → AllGive can (input ∷ []) all → P all → GivesOne (can input) (λ c. P (c ∷ []))
+one_of can input P [] g h = absurd g
+one_of can input P (c ∷ []) g h = (c, g.0, h)
+one_of can input P (c ∷ d ∷ all) g h = absurd g.1
+
+pub one_written : {R : Type 0} (can : R → Coming → Type 0) (items : List R) (input : R) → items ≡ input ∷ [] → (P : List Coming → Counts → Type 0) (result : Result Counts Fault) → IfOk result (λ counts. ForSome can items (λ all. P all counts)) → IfOk result (λ counts. GivesOne (can input) (λ c. P (c ∷ []) counts))
+one_written can items input is P (Ok counts) h = one_of can input (λ all. P all counts) h.0 (subst (λ xs. AllGive can xs h.0) is h.1) h.2
+one_written can items input is P (Err fault) h = tt
+
+pub one_refused : {R : Type 0} (can : R → Coming → Type 0) (items : List R) (input : R) → items ≡ input ∷ [] → (P : List Coming → Fault → Type 0) (result : Result Counts Fault) → IfErr result (λ fault. ForSome can items (λ all. P all fault)) → IfErr result (λ fault. GivesOne (can input) (λ c. P (c ∷ []) fault))
+one_refused can items input is P (Ok counts) h = tt
+one_refused can items input is P (Err fault) h = one_of can input (λ all. P all fault) h.0 (subst (λ xs. AllGive can xs h.0) is h.1) h.2

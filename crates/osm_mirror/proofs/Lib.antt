@@ -1,6 +1,7 @@
 mod MergeLaws
 mod SourceLaws
 mod RunLaws
+mod ToldLaws
 mod CommandLaws
 mod ObjectLaws
 mod CheckLaws

@@ -1,8 +1,7 @@
 -- What the sources of files give together is what the files hold.
-use Rattle.std.proofs.Common.{◌≡◌, inl, inr, ℕ, suc, ◌+◌, Bool, true, false, ◌||◌, List, [], ◌∷◌, ◌++◌, length, map, fold, refl, sym, ap, ◌∙◌, subst, arith, append-nil, Option, Some, None, option_map, is_some, sum_by, Result, Ok, Err, IfOk, IfErr, OnOk}
+use Rattle.std.proofs.Common.{◌≡◌, inl, inr, ℕ, suc, ◌+◌, Bool, true, false, ◌||◌, List, [], ◌∷◌, ◌++◌, length, map, fold, refl, sym, ap, ◌∙◌, subst, arith, append-nil, Some, None, is_some, sum_by, Result, Ok, Err, IfOk, IfErr}
 use Rattle.std.specs.Ordering.{eq_by_cmp}
 use Rattle.std.specs.List.{list_any, All}
-use Rattle.std.proofs.lemmas.List.{map-append, length-map}
 use Rattle.std.proofs.lemmas.List.Folds.{list_any-append}
 use Rattle.std.proofs.lemmas.List.Elements.{All-cons, All-nil}
 use Rattle.std.proofs.lemmas.List.Concat.{length-flat_map}
@@ -23,8 +22,9 @@ use Rattle.osm_files.specs.Output.{Content, Appended}
 use Rattle.osm_files.specs.Held.{HoldsSorted}
 use Rattle.osm_files.specs.Spell.{spell}
 use Rattle.osm_files.specs.Sink.{CutShort}
-use Rattle.osm_files.specs.Groups.{sorted_source}
-use Rattle.osm_files.proofs.RiseLaws.{source_rises}
+use Rattle.osm_files.specs.Groups.{FileStand, FileCanGive, opened_file, sorted_source}
+use Rattle.osm_files.specs.Position.{telling}
+use Rattle.osm_files.proofs.RiseLaws.{source_rises, source_begins_told}
 use Rattle.osm_files.proofs.HoldLaws.{source_gives_held, whole_source_is_held}
 use Rattle.osm_files.proofs.FaultyLaws.{broken_is_refused}
 use Rattle.osm_files.proofs.SpellLaws.{listed_members}
@@ -32,7 +32,8 @@ use Rattle.osm_merge.specs.declared.merge.Counts.{Counts}
 use Rattle.osm_merge.specs.Coming as source
 use Rattle.osm_merge.specs.Union as merged
 use Rattle.osm_merge.specs.Merged as merge
-use Rattle.osm_mirror.specs.Merge.{Tell, GivesSorted, IsSorted, union_of, IsMerged, sources, sources_told, IsRefused, IsCutShort, WhyRefused}
+use Rattle.osm_merge.specs.Giving.{AllGive, ForSome}
+use Rattle.osm_mirror.specs.Merge.{GivesSorted, union_of, IsMerged, sources, opened, IsRefused, IsCutShort, Refuses}
 
 -- ---- the union
 abbrev among : VersionData → List VersionData → Bool
@@ -137,86 +138,62 @@ cut_files inputs format before after failed fault (inl cut) = λ held h.
 cut_files inputs format before after failed fault (inr f) = λ held h.
     absurd (let none : (source.coming_at (sources 0 inputs) f.place).refusal ≡ None = (sorted_sources 0 inputs held h).1 f.place _ f.within in let e : None ≡ Some fault = sym none ∙ f.refusal in cc)
 
--- ---- what is told
-tells : (number : ℕ) (inputs : List Coming) → sources_told number (map Some inputs) ≡ map Some (sources number inputs)
-tells number [] = refl
-tells number (c ∷ inputs) = ap (λ t. Some (sorted_source number c) ∷ t) (tells (number + 1) inputs)
+-- ---- what the sources can give
+-- one more was opened
+pub opened_more : {R : Type 0} (number : ℕ) (inputs : List R) (reader : R) → opened number (inputs ++ reader ∷ []) ≡ opened number inputs ++ opened_file (number + length inputs) reader ∷ []
+opened_more number [] reader = ap (λ n. opened_file n reader ∷ []) (let e : number ≡ number + 0 = omega arith in e)
+opened_more number (r ∷ inputs) reader =
+    ap (λ t. opened_file number r ∷ t) (opened_more (number + 1) inputs reader ∙ ap (λ n. opened (number + 1) inputs ++ opened_file n reader ∷ []) (let e : (number + 1) + length inputs ≡ number + suc (length inputs) = omega arith in e))
 
-sources_tell : (told : List (Option Coming)) (inputs : List Coming) → Tell told inputs → source.AllTell (sources_told 0 told) (sources 0 inputs)
-sources_tell told inputs is = ap (sources_told 0) is ∙ tells 0 inputs
+pub length_opened : {R : Type 0} (number : ℕ) (inputs : List R) → length (opened number inputs) ≡ length inputs
+length_opened number [] = refl
+length_opened number (r ∷ inputs) = ap suc (length_opened (number + 1) inputs)
 
-sorted_one : (number : ℕ) (told : Option Coming) → merge.IsWhole (option_map (sorted_source number) told) → IsSorted told
-sorted_one number None h = tt
-sorted_one number (Some c) h = (set_given (sorted_source number c), gives number c h)
+module _ {R : Type 0} (can : R → Coming → Type 0) where
+  -- a source that was opened gives what its file's source gives
+  pub one_gives : (number : ℕ) (reader : R) (still : source.Coming) → FileCanGive can (opened_file number reader) still → (c : Coming) × can reader c × (still ≡ sorted_source number c)
+  one_gives number reader still h =
+      let told : Some still ≡ Some (sorted_source number h.0) = sym h.2 ∙ source_begins_told (telling (opened_file number reader).units h.0) [] number (Some h.0) refl refl in
+      (h.0, h.1, cc)
 
-each_sorted : (number : ℕ) (told : List (Option Coming)) → All merge.IsWhole (sources_told number told) → All IsSorted told
-each_sorted number [] h = All-nil IsSorted
-each_sorted number (c ∷ told) h =
-    All-cons IsSorted c told (sorted_one number c (All-first merge.IsWhole (option_map (sorted_source number) c) (sources_told (number + 1) told) h))
-    (each_sorted (number + 1) told (All-others merge.IsWhole (option_map (sorted_source number) c) (sources_told (number + 1) told) h))
+  inputs_give : (number : ℕ) (inputs : List R) (all : List source.Coming) → AllGive (FileCanGive can) (opened number inputs) all → (given : List Coming) × AllGive can inputs given × (all ≡ sources number given)
+  inputs_give number [] [] g = ([], tt, refl)
+  inputs_give number [] (s ∷ all) g = absurd g
+  inputs_give number (r ∷ inputs) [] g = absurd g
+  inputs_give number (r ∷ inputs) (s ∷ all) g =
+      let one = one_gives number r s g.0 in
+      let others = inputs_give (number + 1) inputs all g.1 in
+      (one.0 ∷ others.0, (one.1, others.1), (λ i. one.2 i ∷ others.2 i))
 
--- one more
-one_more : (number : ℕ) (told : List (Option Coming)) (last : Option Coming) → sources_told number (told ++ last ∷ []) ≡ sources_told number told ++ option_map (sorted_source (number + length told)) last ∷ []
-one_more number [] last = ap (λ n. option_map (sorted_source n) last ∷ []) (let e : number ≡ number + 0 = omega arith in e)
-one_more number (c ∷ told) last =
-    ap (λ t. option_map (sorted_source number) c ∷ t) (one_more (number + 1) told last ∙ ap (λ n. sources_told (number + 1) told ++ option_map (sorted_source n) last ∷ []) (let e : (number + 1) + length told ≡ number + suc (length told) = omega arith in e))
+  pub give_count : (inputs : List R) (all : List Coming) → AllGive can inputs all → length inputs ≡ length all
+  give_count [] [] g = refl
+  give_count [] (c ∷ all) g = absurd g
+  give_count (r ∷ inputs) [] g = absurd g
+  give_count (r ∷ inputs) (c ∷ all) g = ap suc (give_count inputs all g.1)
 
-so_many_told : (number : ℕ) (told : List (Option Coming)) → length (sources_told number told) ≡ length told
-so_many_told number [] = refl
-so_many_told number (c ∷ told) = ap suc (so_many_told (number + 1) told)
+  -- what is said of what the sources gave is said of what the inputs gave
+  module _ (inputs : List R) (items : List (FileStand R)) (is : items ≡ opened 0 inputs) where
+    of_inputs : (P : List source.Coming → Type 0) → ForSome (FileCanGive can) items P → (given : List Coming) × AllGive can inputs given × P (sources 0 given)
+    of_inputs P h =
+        let q = inputs_give 0 inputs h.0 (subst (λ (ss : List (FileStand R)). AllGive (FileCanGive can) ss h.0) is h.1) in
+        (q.0, q.1, subst P q.2 h.2)
 
--- one more source was opened
-pub opened_more : {A B : Type 0} (f : A → Option source.Coming) (h : B → Option Coming) (items : List A) (x : A) (ys : List B) (y : B) (n : ℕ) → map f items ≡ sources_told 0 (map h ys) → n ≡ length items → f x ≡ option_map (sorted_source n) (h y)
-    → map f (items ++ x ∷ []) ≡ sources_told 0 (map h (ys ++ y ∷ []))
-opened_more f h items x ys y n is count opened =
-    let so_far : n ≡ 0 + length (map h ys) = omega (arith, count ∙ sym (length-map items f) ∙ ap length is ∙ so_many_told 0 (map h ys)) in
-    map-append f items (x ∷ [])
-    ∙ (λ i. is i ++ opened i ∷ [])
-    ∙ (λ i. sources_told 0 (map h ys) ++ option_map (sorted_source (so_far i)) (h y) ∷ [])
-    ∙ sym (one_more 0 (map h ys) (h y))
-    ∙ ap (sources_told 0) (sym (map-append h ys (y ∷ [])))
+    module _ (format given : Format) (same : given ≡ format) (before after : Content) (failed : Bool) where
+      pub run_merged : (result : Result Counts Fault) → IfOk result (λ counts. ForSome (FileCanGive can) items (λ all. merge.IsMerged all given before after counts)) → IfOk result (λ counts. ForSome can inputs (λ all. IsMerged all format before after counts))
+      run_merged (Ok counts) h =
+          let q = of_inputs (λ all. merge.IsMerged all given before after counts) h in
+          (q.0, q.1, merged_files q.0 format before after counts (subst (λ (f : Format). merge.IsMerged (sources 0 q.0) f before after counts) same q.2))
+      run_merged (Err fault) h = tt
 
--- ---- what the merge of the sources answers, said of the inputs
-module _ (told : List (Option Coming)) (stills : List (Option source.Coming)) (format given : Format) (before after : Content) (failed : Bool) (opened : stills ≡ sources_told 0 told) (same : given ≡ format) where
-  all_tell : (inputs : List Coming) → Tell told inputs → source.AllTell stills (sources 0 inputs)
-  all_tell inputs is = opened ∙ sources_tell told inputs is
-
-  pub run_merged : (result : Result Counts Fault) → IfOk result (λ counts. (all : List source.Coming) → source.AllTell stills all → merge.IsMerged all given before after counts)
-      → IfOk result (λ counts. (inputs : List Coming) → Tell told inputs → IsMerged inputs format before after counts)
-  run_merged (Ok counts) h = λ inputs is.
-      merged_files inputs format before after counts (subst (λ (f : Format). merge.IsMerged (sources 0 inputs) f before after counts) same (h (sources 0 inputs) (all_tell inputs is)))
-  run_merged (Err fault) h = tt
-
-  module _ (number : ℕ) (many : number ≡ length told) where
-    run_one : (fault : Fault) → ((all : List source.Coming) → source.AllTell stills all → merge.IsRefused all given number before after failed fault) → (inputs : List Coming) → Tell told inputs → IsRefused inputs format before after failed fault
-    run_one fault h inputs is =
-        let count : number ≡ length inputs = many ∙ ap length is ∙ length-map inputs (λ (c : Coming). Some c) in
-        subst (λ (n : ℕ). merge.IsRefused (sources 0 inputs) format n before after failed fault) count
-        (subst (λ (f : Format). merge.IsRefused (sources 0 inputs) f number before after failed fault) same (h (sources 0 inputs) (all_tell inputs is)))
-
-    pub run_refused : (result : Result Counts Fault) → IfErr result (λ fault. (all : List source.Coming) → source.AllTell stills all → merge.IsRefused all given number before after failed fault)
-        → IfErr result (λ fault. (inputs : List Coming) → Tell told inputs → IsRefused inputs format before after failed fault)
-    run_refused (Ok counts) h = tt
-    run_refused (Err fault) h = run_one fault h
-
-    pub run_cut : (result : Result Counts Fault) → IfErr result (λ fault. (all : List source.Coming) → source.AllTell stills all → merge.IsRefused all given number before after failed fault)
-        → IfErr result (λ fault. (inputs : List Coming) → Tell told inputs → IsCutShort inputs format before after failed fault)
-    run_cut (Ok counts) h = tt
-    run_cut (Err fault) h = λ inputs is. cut_files inputs format before after failed fault (run_one fault h inputs is)
-
-    pub run_why : (result : Result Counts Fault) → IfErr result (merge.WhyRefused stills given number failed) → IfErr result (WhyRefused told format failed)
-    run_why (Ok counts) h = tt
-    run_why (Err fault) h =
-        subst (λ (t : List (Option source.Coming)). merge.WhyRefused t format (length told) failed fault) opened
-        (subst (λ (n : ℕ). merge.WhyRefused stills format n failed fault) many (subst (λ (f : Format). merge.WhyRefused stills f number failed fault) same h))
-
-  pub run_file : (result : Result Counts Fault) → IfOk result (merge.WritesSet given before after) → IfOk result (merge.WritesSet format before after)
-  run_file (Ok counts) h = subst (λ (f : Format). merge.WritesSet f before after counts) same h
-  run_file (Err fault) h = tt
-
-  pub run_sorted : (result : Result Counts Fault) → OnOk result (All merge.IsWhole stills) → OnOk result (All IsSorted told)
-  run_sorted (Ok counts) h = each_sorted 0 told (subst (λ (t : List (Option source.Coming)). All merge.IsWhole t) opened h)
-  run_sorted (Err fault) h = tt
+      pub run_refused : (number : ℕ) → number ≡ length inputs → (result : Result Counts Fault) → IfErr result (λ fault. ForSome (FileCanGive can) items (λ all. merge.IsRefused all given number before after failed fault))
+          → IfErr result (λ fault. ForSome can inputs (λ all. Refuses all format before after failed fault))
+      run_refused number many (Ok counts) h = tt
+      run_refused number many (Err fault) h =
+          let q = of_inputs (λ all. merge.IsRefused all given number before after failed fault) h in
+          let why : IsRefused q.0 format before after failed fault =
+          subst (λ (n : ℕ). merge.IsRefused (sources 0 q.0) format n before after failed fault) (many ∙ give_count inputs q.0 q.1)
+          (subst (λ (f : Format). merge.IsRefused (sources 0 q.0) f number before after failed fault) same q.2) in
+          (q.0, q.1, record { why = why; cut = cut_files q.0 format before after failed fault why })
 
 at_first : (content : Content) → Appended content content []
 at_first content held h = subst content (sym (append-nil held)) h
@@ -224,3 +201,8 @@ at_first content held h = subst content (sym (append-nil held)) h
 -- want of memory before anything was written
 pub cut_at_once : (output : ℕ) (content : Content) (failed : Bool) (bytes : List ℕ) (fault : Fault) → fault ≡ memory_fault → CutShort output content content failed bytes fault
 cut_at_once output content failed bytes fault memory = record { count = 0; within = omega arith; appended = at_first content; why = inl memory }
+
+pub refused_at_once : (all : List Coming) (format : Format) (content : Content) (failed : Bool) (fault : Fault) → fault ≡ memory_fault → Refuses all format content content failed fault
+refused_at_once all format content failed fault memory =
+    let why : IsRefused all format content content failed fault = inl (cut_at_once (length all) content failed (spell format (merged.union_of (sources 0 all))) fault memory) in
+    record { why = why; cut = cut_files all format content content failed fault why }

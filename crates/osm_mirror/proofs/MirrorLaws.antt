@@ -12,7 +12,7 @@ use Rattle.osm_files.specs.declared.load.Loaded.{Loaded}
 use Rattle.osm_files.specs.declared.reason.Reason.TheVariants.{TooLong, Memory, WriteFault}
 use Rattle.osm_files.specs.Fault.{memory_fault, too_long_fault, write_fault}
 use Rattle.osm_files.specs.Held.{Holds, HoldsSorted}
-use Rattle.osm_files.specs.Input.{whole}
+use Rattle.osm_files.specs.Input.{Coming, GivesOne, whole}
 use Rattle.osm_files.specs.Load.{Loads, StopsLoading}
 use Rattle.osm_files.specs.Output.{Content, Appended}
 use Rattle.osm_files.specs.Position.{fault_of}
@@ -25,13 +25,12 @@ use Rattle.osm_files.proofs.LoadFaults.{inputs_are_files}
 use Rattle.osm_files.proofs.SpellLaws.{held_are_versions, held_without_verdict, spell_holds, unions_are_versions, are_fewer}
 use Rattle.osm_merge.specs.Selected.{snapshot}
 use Rattle.osm_merge.specs.Union.{capped}
-use Rattle.osm_merge.proofs.SnapLaws.{snapshot_of_snapshot}
 use Rattle.osm_mirror.specs.declared.keep.Keep.{Keep}
 use Rattle.osm_mirror.specs.declared.keep.Keep.TheVariants.{Full, Latest}
 use Rattle.osm_mirror.specs.Mirror.{MirrorData, kept, took, fresh, IsSound, TakesFile, WhyNotTaken, WhyNotSpelled}
 use Rattle.std.specs.Prelude.{slice_set}
 use Rattle.osm_mirror.specs.Fleet.{at, IsShort}
-use Rattle.osm_mirror.proofs.FleetLaws.{full_latest, snapshot_part, took_kept, fresh_kept, in_none, equal_sets}
+use Rattle.osm_mirror.proofs.FleetLaws.{snapshot_part, took_kept, fresh_kept, in_none, equal_sets}
 
 within_limit : (count n : ℕ) → count ≡ n → count < 2 ^ 64 → count ≡ capped n
 within_limit count n is below = omega (arith, is, below)
@@ -68,20 +67,17 @@ took_sound m set h valid = record { is_kept = took_kept m set; versions = kept_v
 pub fresh_sound : (keep : Keep) → IsSound (fresh keep)
 fresh_sound keep = record { is_kept = fresh_kept keep; versions = none_valid }
 
--- what a mirror of each kind holds, once it took a set in
-pub absorbed_full : (m : MirrorData) (set now : VersionSet) → IsSound m → AreVersions set → m.keep ≡ Full → now ≡ union m.held set → IsSound (record { keep = m.keep; held = now })
-absorbed_full m set now h valid full is = record {
-  is_kept = λ latest. absurd (full_latest (sym full ∙ latest));
-  versions = subst AreVersions (sym is) (unions_are_versions m.held set h.versions valid);
-}
-
-pub absorbed_latest : (m : MirrorData) (set all now : VersionSet) → IsSound m → AreVersions set → all ≡ union m.held set → now ≡ snapshot all → IsSound (record { keep = m.keep; held = now })
-absorbed_latest m set all now h valid both is = record {
-  is_kept = λ _. is ∙ sym (snapshot_of_snapshot all) ∙ ap snapshot (sym is);
-  versions = subst AreVersions (sym is) (are_fewer all (snapshot all) (subst AreVersions (sym both) (unions_are_versions m.held set h.versions valid)) (snapshot_part all));
-}
+-- a mirror that took a set, or was refused memory
+pub absorbed : {E : Type 0} (m : MirrorData) (set all now : VersionSet) (result : Result (Unit {0}) E) → IsSound m → AreVersions set → all ≡ kept m.keep (union m.held set) →
+    MatchResult result (λ _. now ≡ all) (λ _. now ≡ m.held) → IsSound (record { keep = m.keep; held = now })
+absorbed m set all now (Ok u) h valid both is = subst (λ (held : VersionSet). IsSound (record { keep = m.keep; held = held })) (sym (is ∙ both)) (took_sound m set h valid)
+absorbed m set all now (Err e) h valid both is = subst (λ (held : VersionSet). IsSound (record { keep = m.keep; held = held })) (sym is) h
 
 -- ---- what a mirror takes
+-- what holds of something that a slice can give holds of its bytes
+pub of_slice : (bytes : List ℕ) (P : Coming → Type 0) → GivesOne (λ c. c ≡ whole bytes) P → P (whole bytes)
+of_slice bytes P h = subst P h.1 h.2
+
 -- a file that is loaded is accepted, and what was loaded is what it holds
 pub loaded_holds : (bytes : List ℕ) (loaded : Loaded) → Loads (whole bytes) loaded → Holds bytes (held_by bytes) × (loaded.history ≡ held_by bytes)
 loaded_holds bytes loaded h =
@@ -103,7 +99,7 @@ some_fault : (input : ℕ) (v : Option Verdict) (fault : Fault) → option_map (
 some_fault input None fault e = absurd cc
 some_fault input (Some w) fault e = (w, refl, sym (some_same e))
 
-pub not_loaded : (bytes : List ℕ) (fault : Fault) → StopsLoading 0 (Some (whole bytes)) fault → WhyNotTaken bytes fault
+pub not_loaded : (bytes : List ℕ) (fault : Fault) → StopsLoading 0 (whole bytes) fault → WhyNotTaken bytes fault
 not_loaded bytes fault (inl memory) = inl memory
 not_loaded bytes fault (inr stops) = inr (some_fault 0 (verdict bytes) fault (sym (inputs_are_files 0 bytes).1 ∙ stops))
 

@@ -1,13 +1,9 @@
 -- What a run over files writes, and why it is refused, from the merge of the files' sources.
-use Rattle.std.proofs.Common.{◌≡◌, ◌⊎◌, inl, inr, ℕ, Bool, List, length, map, refl, sym, ap, ◌∙◌, subst, Option, Some, None, sum_by, Result, Ok, Err, IfOk, IfErr, OnOk}
-use Rattle.std.specs.List.{All}
-use Rattle.std.proofs.lemmas.List.{length-map}
+use Rattle.std.proofs.Common.{◌≡◌, inl, inr, ℕ, Bool, List, length, map, refl, sym, ap, ◌∙◌, subst, Some, None, sum_by, Result, Ok, Err, IfOk, IfErr}
 use Rattle.osm_model.specs.VersionSet.{VersionSet}
 use Rattle.osm_model.specs.Sets.{size}
-use Rattle.opl_line.specs.Content.{Pairwise}
 use Rattle.osm_files.specs.declared.fault.Fault.{Fault}
 use Rattle.osm_files.specs.declared.format.Format.{Format}
-use Rattle.osm_files.specs.Fault.{memory_fault}
 use Rattle.osm_files.specs.Input.{Coming}
 use Rattle.osm_files.specs.Output.{Content, Appended}
 use Rattle.osm_files.specs.Spell.{spell}
@@ -20,10 +16,15 @@ use Rattle.osm_merge.specs.Union as union
 use Rattle.osm_merge.specs.Merged as merged
 use Rattle.osm_mirror.specs.declared.input.Order.{Order}
 use Rattle.osm_mirror.specs.Merge.{union_of}
-use Rattle.osm_mirror.specs.Given.{Tell, GivesAs, telling, sources, sources_told, IsRead, AreOpened, IsUnread}
-use Rattle.osm_mirror.specs.Run.{IsRun, IsRefused, IsCutShort, WhyRefused, IsAccepted}
+use Rattle.osm_merge.specs.Giving.{ForSome}
+use Rattle.osm_merge.proofs.GiveLaws.{give_size}
+use Rattle.osm_mirror.specs.declared.input.InputFile.{InputFile}
+use Rattle.osm_mirror.specs.declared.source.RunSource.{RunSource}
+use Rattle.osm_mirror.specs.Still.{SourceCanGive}
+use Rattle.osm_mirror.specs.Given.{sources, FileGives, AreOpened, IsUnopened}
+use Rattle.osm_mirror.specs.Run.{IsRun, IsRefused, IsCutShort, Refuses}
 use Rattle.osm_mirror.proofs.MergeLaws.{union_given, cut_at_once}
-use Rattle.osm_mirror.proofs.SourceLaws.{members, all_give, sizes, so_many, so_many_told, as_all_given, not_unread, unread_fault, opened_tell, opened_whole, opened_fault}
+use Rattle.osm_mirror.proofs.SourceLaws.{members, all_give, sizes, so_many, as_all_given, not_unread, opened_give}
 
 module _ (selection : Selection) (format : Format) (before after : Content) where
   run_is : (inputs : List (Order × Coming)) (counts : Counts) → merged.IsMergedAs selection (sources 0 inputs) format before after counts → IsRun selection inputs format before after counts
@@ -50,71 +51,38 @@ module _ {O : Type 0} (holds : O → Content) (selection : Selection) (format : 
   cut_is failed inputs fault (inr (inr (read, inr f))) = λ held h.
       absurd (let none : (source.coming_at (sources 0 inputs) f.place).refusal ≡ None = (as_all_given 0 inputs held h).1 f.place _ f.within in let e : None ≡ Some fault = sym none ∙ f.refusal in cc)
 
--- ---- nothing was opened
-module _ {O : Type 0} (holds : O → Content) (selection : Selection) (format : Format) (before : O) (failed : Bool) (told : List (Order × Option Coming)) (fault : Fault) (why : (fault ≡ memory_fault) ⊎ IsUnread 0 told fault) where
-  unopened_is : (why : (fault ≡ memory_fault) ⊎ IsUnread 0 told fault) (inputs : List (Order × Coming)) → Tell told inputs → IsRefused holds selection inputs format before before failed fault
-  unopened_is (inl memory) inputs is = inl (memory, refl)
-  unopened_is (inr unread) inputs is = inr (inl (subst (λ (t : List (Order × Option Coming)). IsUnread 0 t fault) is unread, refl))
+-- ---- what the sources answer, said of the inputs
+module _ {R : Type 0} (can : R → Coming → Type 0) {O : Type 0} (holds : O → Content) (selection : Selection) (format : Format) (files : List (InputFile R)) where
+  refuses : (before after : O) (failed : Bool) (inputs : List (Order × Coming)) (fault : Fault) → IsRefused holds selection inputs format before after failed fault → Refuses holds selection inputs format before after failed fault
+  refuses before after failed inputs fault why = record { why = why; cut = cut_is holds selection format before after failed inputs fault why }
 
-  pub unopened_refused : (inputs : List (Order × Coming)) → Tell told inputs → IsRefused holds selection inputs format before before failed fault
-  unopened_refused inputs is = unopened_is why inputs is
+  -- nothing was opened
+  pub unopened : (before : O) (failed : Bool) (fault : Fault) → ForSome (FileGives can) files (λ all. IsUnopened 0 all fault) → ForSome (FileGives can) files (λ all. Refuses holds selection all format before before failed fault)
+  unopened before failed fault h = (
+    h.0,
+    h.1,
+    refuses before before failed h.0 fault (elim h.2 [
+      | inl memory ↦ inl (memory, refl)
+      | inr unread ↦ inr (inl (unread, refl))
+    ]),
+  )
 
-  pub unopened_cut : (inputs : List (Order × Coming)) → Tell told inputs → IsCutShort selection inputs format (holds before) (holds before) failed fault
-  unopened_cut inputs is = cut_is holds selection format before before failed inputs fault (unopened_is why inputs is)
+  module _ (opened : List (RunSource R)) (are : AreOpened can 0 files opened) (given : Format) (same : given ≡ format) (before after : O) (failed : Bool) where
+    pub ran_written : (result : Result Counts Fault) → IfOk result (λ counts. ForSome (SourceCanGive can) opened (λ all. merged.IsMergedAs selection all given (holds before) (holds after) counts))
+        → IfOk result (λ counts. ForSome (FileGives can) files (λ all. IsRun selection all format (holds before) (holds after) counts))
+    ran_written (Ok counts) h =
+        let q = opened_give can 0 files opened h.0 are h.1 in
+        let m = subst (λ (all : List source.Coming). merged.IsMergedAs selection all given (holds before) (holds after) counts) q.2 h.2 in
+        (q.0, q.1, run_is selection format (holds before) (holds after) q.0 counts (subst (λ (f : Format). merged.IsMergedAs selection (sources 0 q.0) f (holds before) (holds after) counts) same m))
+    ran_written (Err fault) h = tt
 
-  why_unopened : (why : (fault ≡ memory_fault) ⊎ IsUnread 0 told fault) → WhyRefused told format failed fault
-  why_unopened (inl memory) = inl memory
-  why_unopened (inr unread) = inr (inr (inr (unread_fault 0 told fault unread)))
-
-  pub unopened_why : WhyRefused told format failed fault
-  unopened_why = why_unopened why
-
--- ---- what the merge of the sources answers, said of the inputs
-module _ {O : Type 0} (holds : O → Content) (selection : Selection) (told : List (Order × Option Coming)) (stills : List (Option source.Coming)) (format given : Format) (before after : O) (failed : Bool) (opened : AreOpened 0 told stills) (same : given ≡ format) where
-  all_tell : (inputs : List (Order × Coming)) → Tell told inputs → (stills ≡ map Some (sources 0 inputs)) × All IsRead inputs
-  all_tell inputs is = opened_tell 0 inputs stills (subst (λ (t : List (Order × Option Coming)). AreOpened 0 t stills) is opened)
-
-  pub ran_written : (result : Result Counts Fault) → IfOk result (λ counts. (all : List source.Coming) → source.AllTell stills all → merged.IsMergedAs selection all given (holds before) (holds after) counts)
-      → IfOk result (λ counts. (inputs : List (Order × Coming)) → Tell told inputs → IsRun selection inputs format (holds before) (holds after) counts)
-  ran_written (Ok counts) h = λ inputs is.
-      run_is selection format (holds before) (holds after) inputs counts (subst (λ (f : Format). merged.IsMergedAs selection (sources 0 inputs) f (holds before) (holds after) counts) same (h (sources 0 inputs) (all_tell inputs is).0))
-  ran_written (Err fault) h = tt
-
-  module _ (number : ℕ) (many : number ≡ length told) where
-    ran_one : (fault : Fault) → ((all : List source.Coming) → source.AllTell stills all → merged.IsRefusedAs selection all given number (holds before) (holds after) failed fault) → (inputs : List (Order × Coming)) → Tell told inputs → IsRefused holds selection inputs format before after failed fault
-    ran_one fault h inputs is =
-        let t = all_tell inputs is in
-        let count : number ≡ length inputs = many ∙ ap length is ∙ length-map inputs telling in
-        inr (inr (
-          t.1,
-          subst (λ (n : ℕ). merged.IsRefusedAs selection (sources 0 inputs) format n (holds before) (holds after) failed fault) count
-              (subst (λ (f : Format). merged.IsRefusedAs selection (sources 0 inputs) f number (holds before) (holds after) failed fault) same (h (sources 0 inputs) t.0)),
-        ))
-
-    pub ran_refused : (result : Result Counts Fault) → IfErr result (λ fault. (all : List source.Coming) → source.AllTell stills all → merged.IsRefusedAs selection all given number (holds before) (holds after) failed fault)
-        → IfErr result (λ fault. (inputs : List (Order × Coming)) → Tell told inputs → IsRefused holds selection inputs format before after failed fault)
-    ran_refused (Ok counts) h = tt
-    ran_refused (Err fault) h = ran_one fault h
-
-    pub ran_cut : (result : Result Counts Fault) → IfErr result (λ fault. (all : List source.Coming) → source.AllTell stills all → merged.IsRefusedAs selection all given number (holds before) (holds after) failed fault)
-        → IfErr result (λ fault. (inputs : List (Order × Coming)) → Tell told inputs → IsCutShort selection inputs format (holds before) (holds after) failed fault)
-    ran_cut (Ok counts) h = tt
-    ran_cut (Err fault) h = λ inputs is. cut_is holds selection format before after failed inputs fault (ran_one fault h inputs is)
-
-    why_one : (fault : Fault) → merged.WhyRefused stills format (length told) failed fault → WhyRefused told format failed fault
-    why_one fault (inl memory) = inl memory
-    why_one fault (inr (inl write)) = inr (inl write)
-    why_one fault (inr (inr (inl long))) = inr (inr (inl long))
-    why_one fault (inr (inr (inr one))) = inr (inr (inr (opened_fault told stills fault opened one)))
-
-    pub ran_why : (result : Result Counts Fault) → IfErr result (merged.WhyRefused stills given number failed) → IfErr result (WhyRefused told format failed)
-    ran_why (Ok counts) h = tt
-    ran_why (Err fault) h = why_one fault (subst (λ (n : ℕ). merged.WhyRefused stills format n failed fault) many (subst (λ (f : Format). merged.WhyRefused stills f number failed fault) same h))
-
-  pub ran_file : (result : Result Counts Fault) → IfOk result (merged.WritesSet given (holds before) (holds after)) → IfOk result (merged.WritesSet format (holds before) (holds after))
-  ran_file (Ok counts) h = subst (λ (f : Format). merged.WritesSet f (holds before) (holds after) counts) same h
-  ran_file (Err fault) h = tt
-
-  pub ran_accepted : (result : Result Counts Fault) → OnOk result (All merged.IsWhole stills) → OnOk result (All IsAccepted told)
-  ran_accepted (Ok counts) h = opened_whole 0 told stills opened h
-  ran_accepted (Err fault) h = tt
+    pub ran_refused : (number : ℕ) → number ≡ length files → (result : Result Counts Fault) → IfErr result (λ fault. ForSome (SourceCanGive can) opened (λ all. merged.IsRefusedAs selection all given number (holds before) (holds after) failed fault))
+        → IfErr result (λ fault. ForSome (FileGives can) files (λ all. Refuses holds selection all format before after failed fault))
+    ran_refused number many (Ok counts) h = tt
+    ran_refused number many (Err fault) h =
+        let q = opened_give can 0 files opened h.0 are h.1 in
+        let m = subst (λ (all : List source.Coming). merged.IsRefusedAs selection all given number (holds before) (holds after) failed fault) q.2 h.2 in
+        let count : number ≡ length q.0 = many ∙ sym (give_size (FileGives can) files q.0 q.1) in
+        let why = subst (λ (n : ℕ). merged.IsRefusedAs selection (sources 0 q.0) format n (holds before) (holds after) failed fault) count
+        (subst (λ (f : Format). merged.IsRefusedAs selection (sources 0 q.0) f number (holds before) (holds after) failed fault) same m) in
+        (q.0, q.1, refuses before after failed q.0 fault (inr (inr (q.3, why))))

@@ -1,8 +1,8 @@
 -- The sources of files give what the files hold.
-use Rattle.std.proofs.Common.{◌≡◌, ◌⊎◌, inl, inr, ⊎_elim, ℕ, zero, suc, ◌+◌, ◌<◌, List, [], ◌∷◌, ◌++◌, length, map, get_or, refl, sym, ap, ◌∙◌, subst, arith, Option, Some, None, option_map, sum_by, false, IfSome}
+use Rattle.std.proofs.Common.{◌≡◌, inl, inr, ⊎_elim, ℕ, zero, suc, ◌+◌, ◌<◌, List, [], ◌∷◌, ◌++◌, length, map, take, drop, get_or, refl, sym, ap, ◌∙◌, subst, arith, Option, Some, None, option_map, sum_by}
 use Rattle.std.specs.List.{All}
 use Rattle.std.specs.List.Sorted.{IsStrictlySortedBy}
-use Rattle.std.proofs.lemmas.List.{map-append, length-map}
+use Rattle.std.proofs.lemmas.List.{take-append-drop}
 use Rattle.std.proofs.lemmas.List.Elements.{All-cons, All-nil}
 use Rattle.std.proofs.lemmas.List.Concat.{length-flat_map}
 use Rattle.std.proofs.lemmas.List.Sums.{sum_by-cons}
@@ -15,10 +15,10 @@ use Rattle.opl_line.specs.Content.{Pairwise}
 use Rattle.osm_files.specs.declared.fault.Fault.{Fault}
 use Rattle.osm_files.specs.declared.load.Loaded.{Loaded}
 use Rattle.osm_files.specs.Fault.{memory_fault}
-use Rattle.osm_files.specs.Input.{Coming}
-use Rattle.osm_files.specs.Groups.{sorted_source, set_given, set_ascends}
-use Rattle.osm_files.specs.Load.{Loads}
-use Rattle.osm_files.specs.Position.{units_from, named, fault_of}
+use Rattle.osm_files.specs.Input.{Coming, GivesOne}
+use Rattle.osm_files.specs.Groups.{FileStand, FileCanGive, opened_file, set_given, set_ascends}
+use Rattle.osm_files.specs.Load.{Loads, StopsLoading}
+use Rattle.osm_files.specs.Position.{units_from, fault_of}
 use Rattle.osm_files.specs.Source.{Ascends}
 use Rattle.osm_files.specs.Stream.{refused}
 use Rattle.osm_files.specs.Verdict.{file_units, versions_of}
@@ -28,12 +28,15 @@ use Rattle.osm_files.proofs.RiseLaws.{source_rises}
 use Rattle.osm_files.proofs.SpellLaws.{listed_members}
 use Rattle.osm_merge.specs.Coming as source
 use Rattle.osm_merge.specs.Union as union
-use Rattle.osm_merge.specs.Merged.{IsWhole}
 use Rattle.osm_mirror.specs.declared.input.Order.{Order}
 use Rattle.osm_mirror.specs.declared.input.Order.TheVariants.{Sorted, Any}
-use Rattle.osm_mirror.specs.Given.{GivesFile, GivesAs, telling, refusal, read_whole, held_source, source_of, sources, source_told, sources_told, IsRead, IsOpened, AreOpened, IsUnread}
-use Rattle.osm_mirror.specs.Run.{IsAccepted}
-use Rattle.osm_mirror.proofs.MergeLaws.{source_sorted, gives, All-first, All-others, AreWhole}
+use Rattle.osm_merge.specs.Giving.{AllGive, ForSome}
+use Rattle.osm_mirror.specs.declared.input.InputFile.{InputFile}
+use Rattle.osm_mirror.specs.declared.source.RunSource.{RunSource}
+use Rattle.osm_mirror.specs.declared.source.RunSource.TheVariants.{Streamed, Held}
+use Rattle.osm_mirror.specs.Still.{SourceCanGive, source_one, source_possible}
+use Rattle.osm_mirror.specs.Given.{GivesFile, GivesAs, refusal, read_whole, held_source, source_of, sources, FileGives, FileGivesOne, in_order, one_of_file, IsRead, IsOpened, AreOpened, IsUnread, IsUnopened}
+use Rattle.osm_mirror.proofs.MergeLaws.{source_sorted, gives, one_gives, All-first, All-others, AreWhole}
 
 -- the set of what a source gives
 abbrev pub members : source.Coming → VersionSet
@@ -126,133 +129,114 @@ as_all_given number (input ∷ inputs) (s ∷ held) h =
     let others = as_all_given (number + 1) inputs held h.1 in
     ((λ i. (ap members is ∙ sym (listed_members s)) i ∷ others.0 i), All-cons (λ t. t.refusal ≡ None) (source_of number input) (sources (number + 1) inputs) (ap (λ x. x.refusal) is) others.1)
 
+-- ---- lists
+map_itself : {A : Type 0} (xs : List A) → map (λ x. x) xs ≡ xs
+map_itself [] = refl
+map_itself (x ∷ xs) = ap (λ ys. x ∷ ys) (map_itself xs)
+
+drop_at : {A : Type 0} (xs : List A) (k : ℕ) (d : A) → k < length xs → get_or xs k d ∷ drop (k + 1) xs ≡ drop k xs
+drop_at [] k d low = absurd (omega (arith, low))
+drop_at (x ∷ xs) zero d low = refl
+drop_at (x ∷ xs) (suc k) d low = let e : suc k + 1 ≡ suc (k + 1) = omega arith in rw e (drop_at xs k d (omega (arith, low)))
+
 -- ---- inputs that can't be read
-pub not_unread : (number : ℕ) (inputs : List (Order × Coming)) (held : List VersionSet) (fault : Fault) → Pairwise GivesAs inputs held → IsUnread number (map telling inputs) fault → ⊥
+pub not_unread : (number : ℕ) (inputs : List (Order × Coming)) (held : List VersionSet) (fault : Fault) → Pairwise GivesAs inputs held → IsUnread number inputs fault → ⊥
 not_unread number [] held fault h unread = unread
 not_unread number (input ∷ inputs) [] fault h unread = absurd h
 not_unread number ((Sorted, c) ∷ inputs) (s ∷ held) fault h unread = not_unread (number + 1) inputs held fault h.1 unread
 not_unread number ((Any, c) ∷ inputs) (s ∷ held) fault h (inl e) = let f : None ≡ Some fault = sym (file_refusal number c s h.0) ∙ e in cc
 not_unread number ((Any, c) ∷ inputs) (s ∷ held) fault h (inr others) = not_unread (number + 1) inputs held fault h.1 others
 
-unread_first : (number : ℕ) (input : Order × Option Coming) (rest : List (Order × Option Coming)) (fault : Fault) → IsUnread number (input ∷ []) fault → IsUnread number (input ∷ rest) fault
-unread_first number (Sorted, told) rest fault h = absurd h
-unread_first number (Any, told) rest fault (inl h) = inl h
-unread_first number (Any, told) rest fault (inr h) = absurd h
+unread_first : (number : ℕ) (input : Order × Coming) (rest : List (Order × Coming)) (fault : Fault) → IsUnopened number (input ∷ []) fault → IsUnopened number (input ∷ rest) fault
+unread_first number input rest fault (inl e) = inl e
+unread_first number (Sorted, c) rest fault (inr h) = absurd h
+unread_first number (Any, c) rest fault (inr (inl h)) = inr (inl h)
+unread_first number (Any, c) rest fault (inr (inr h)) = absurd h
 
-unread_more : (number : ℕ) (input : Order × Option Coming) (rest : List (Order × Option Coming)) (fault : Fault) → IsUnread (number + 1) rest fault → IsUnread number (input ∷ rest) fault
-unread_more number (Sorted, told) rest fault h = h
-unread_more number (Any, told) rest fault h = inr h
-
-pub unread_at : {A : Type 0} (f : A → Order × Option Coming) (number : ℕ) (xs : List A) (k : ℕ) (x : A) (fault : Fault) → k < length xs → x ≡ get_or xs k x → IsUnread (number + k) (f x ∷ []) fault → IsUnread number (map f xs) fault
-unread_at f number [] k x fault less is h = absurd (omega (arith, less))
-unread_at f number (y ∷ ys) zero x fault less is h =
-    unread_first number (f y) (map f ys) fault
-    (subst (λ (z : _). IsUnread number (f z ∷ []) fault) is (let same : number + 0 ≡ number = omega arith in subst (λ (n : ℕ). IsUnread n (f x ∷ []) fault) same h))
-unread_at f number (y ∷ ys) (suc k) x fault less is h =
-    unread_more number (f y) (map f ys) fault
-    (unread_at f (number + 1) ys k x fault (omega (arith, less)) is (let same : number + suc k ≡ (number + 1) + k = omega arith in subst (λ (n : ℕ). IsUnread n (f x ∷ []) fault) same h))
+unread_more : (number : ℕ) (input : Order × Coming) (rest : List (Order × Coming)) (fault : Fault) → IsUnopened (number + 1) rest fault → IsUnopened number (input ∷ rest) fault
+unread_more number input rest fault (inl e) = inl e
+unread_more number (Sorted, c) rest fault (inr h) = inr h
+unread_more number (Any, c) rest fault (inr h) = inr (inr h)
 
 -- ---- sources that were opened
-pub opened_more : (number : ℕ) (inputs : List (Order × Option Coming)) (stills : List (Option source.Coming)) (input : Order × Option Coming) (still : Option source.Coming) → AreOpened number inputs stills → IsOpened (number + length inputs) input still
-    → AreOpened number (inputs ++ input ∷ []) (stills ++ still ∷ [])
-opened_more number [] [] input still all one = (subst (λ (n : ℕ). IsOpened n input still) (let e : number + 0 ≡ number = omega arith in e) one, tt)
-opened_more number [] (s ∷ stills) input still all one = absurd all
-opened_more number (i ∷ inputs) [] input still all one = absurd all
-opened_more number (i ∷ inputs) (s ∷ stills) input still all one =
-    (all.0, opened_more (number + 1) inputs stills input still all.1 (subst (λ (n : ℕ). IsOpened n input still) (let e : number + suc (length inputs) ≡ (number + 1) + length inputs = omega arith in e) one))
+pub stream_opens : {R : Type 0} (can : R → Coming → Type 0) (number : ℕ) (reader : R) (s : FileStand R) → s ≡ opened_file number reader → IsOpened can number (in_order Sorted reader) (Streamed s)
+stream_opens can number reader s is still h =
+    let q = one_gives can number reader still (subst (λ (x : FileStand _). FileCanGive can x still) is h) in
+    ((Sorted, q.0), (refl, q.1), (q.2, tt))
 
-pub opened_many : (number : ℕ) (inputs : List (Order × Option Coming)) (stills : List (Option source.Coming)) → AreOpened number inputs stills → length stills ≡ length inputs
-opened_many number [] [] all = refl
-opened_many number [] (s ∷ stills) all = absurd all
-opened_many number (i ∷ inputs) [] all = absurd all
-opened_many number (i ∷ inputs) (s ∷ stills) all = ap suc (opened_many (number + 1) inputs stills all.1)
+pub load_opens : {R : Type 0} (can : R → Coming → Type 0) (number : ℕ) (reader : R) (loaded : Loaded) (set : VersionSet) → set ≡ loaded.history → GivesOne (can reader) (λ c. Loads c loaded) → IsOpened can number (in_order Any reader) (Held set)
+load_opens can number reader loaded set is h still e =
+    let file : GivesFile h.0 loaded.history = record { unbroken = h.2.unbroken; file = h.2.holds } in
+    ((Any, h.0), (refl, h.1), (e ∙ ap set_given is ∙ sym (file_read number h.0 loaded.history file), (loaded.history, file)))
 
-one_tells : (number : ℕ) (input : Order × Coming) (still : Option source.Coming) → IsOpened number (telling input) still → (still ≡ Some (source_of number input)) × IsRead input
-one_tells number (order, c) still h = h
+pub load_stops : {R : Type 0} (can : R → Coming → Type 0) (number : ℕ) (reader : R) (fault : Fault) → GivesOne (can reader) (λ c. StopsLoading number c fault) → FileGivesOne can (in_order Any reader) (λ input. IsUnopened number (input ∷ []) fault)
+load_stops can number reader fault h = ((Any, h.0), (refl, h.1), ⊎_elim (λ e. inl e) (λ e. inr (inl e)) h.2)
 
--- what they give, where the inputs tell it
-pub opened_tell : (number : ℕ) (inputs : List (Order × Coming)) (stills : List (Option source.Coming)) → AreOpened number (map telling inputs) stills → (stills ≡ map Some (sources number inputs)) × All IsRead inputs
-opened_tell number [] [] all = (refl, All-nil IsRead)
-opened_tell number [] (s ∷ stills) all = absurd all
-opened_tell number (input ∷ inputs) [] all = absurd all
-opened_tell number (input ∷ inputs) (s ∷ stills) all =
-    let others = opened_tell (number + 1) inputs stills all.1 in
-    let one = one_tells number input s all.0 in
-    ((λ i. one.0 i ∷ others.0 i), All-cons IsRead input inputs one.1 others.1)
+module _ {R : Type 0} (can : R → Coming → Type 0) where
+  pub opened_more : (number : ℕ) (files : List (InputFile R)) (opened : List (RunSource R)) (file : InputFile R) (s : RunSource R) → AreOpened can number files opened → IsOpened can (number + length files) file s → AreOpened can number (files ++ file ∷ []) (opened ++ s ∷ [])
+  opened_more number [] [] file s all one = (subst (λ (n : ℕ). IsOpened can n file s) (let e : number + 0 ≡ number = omega arith in e) one, tt)
+  opened_more number [] (t ∷ opened) file s all one = absurd all
+  opened_more number (f ∷ files) [] file s all one = absurd all
+  opened_more number (f ∷ files) (t ∷ opened) file s all one =
+      (all.0, opened_more (number + 1) files opened file s all.1 (subst (λ (n : ℕ). IsOpened can n file s) (let e : number + suc (length files) ≡ (number + 1) + length files = omega arith in e) one))
 
--- ---- whatever they tell
-whole_one : (number : ℕ) (input : Order × Option Coming) (still : Option source.Coming) → IsOpened number input still → IsWhole still → IsAccepted input
-whole_one number (order, None) still h whole = tt
-whole_one number (order, Some c) still h whole = (members (source_of number (order, c)), gives_as number (order, c) (subst IsWhole h.0 whole))
+  pub opened_many : (number : ℕ) (files : List (InputFile R)) (opened : List (RunSource R)) → AreOpened can number files opened → length opened ≡ length files
+  opened_many number [] [] all = refl
+  opened_many number [] (s ∷ opened) all = absurd all
+  opened_many number (f ∷ files) [] all = absurd all
+  opened_many number (f ∷ files) (s ∷ opened) all = ap suc (opened_many (number + 1) files opened all.1)
 
-pub opened_whole : (number : ℕ) (inputs : List (Order × Option Coming)) (stills : List (Option source.Coming)) → AreOpened number inputs stills → All IsWhole stills → All IsAccepted inputs
-opened_whole number [] stills all whole = All-nil IsAccepted
-opened_whole number (i ∷ inputs) [] all whole = absurd all
-opened_whole number (i ∷ inputs) (s ∷ stills) all whole =
-    All-cons IsAccepted i inputs (whole_one number i s all.0 (All-first IsWhole s stills whole)) (opened_whole (number + 1) inputs stills all.1 (All-others IsWhole s stills whole))
+  -- what the sources give is what the sources of what the files gave give
+  pub opened_give : (number : ℕ) (files : List (InputFile R)) (opened : List (RunSource R)) (stills : List source.Coming) → AreOpened can number files opened → AllGive (SourceCanGive can) opened stills
+      → (all : List (Order × Coming)) × AllGive (FileGives can) files all × (stills ≡ sources number all) × All IsRead all
+  opened_give number [] [] [] all g = ([], tt, refl, All-nil IsRead)
+  opened_give number [] [] (s ∷ stills) all g = absurd g
+  opened_give number [] (t ∷ opened) stills all g = absurd all
+  opened_give number (f ∷ files) [] stills all g = absurd all
+  opened_give number (f ∷ files) (t ∷ opened) [] all g = absurd g
+  opened_give number (f ∷ files) (t ∷ opened) (s ∷ stills) all g =
+      let one = all.0 s g.0 in
+      let others = opened_give (number + 1) files opened stills all.1 g.1 in
+      (one.0 ∷ others.0, (one.1, others.1), (λ i. one.2.0 i ∷ others.2 i), All-cons IsRead one.0 others.0 one.2.1 others.3)
 
--- a source that told how it ends is refused so, then so is what its input tells
-abbrev EndsWith : Fault → Option source.Coming → Type 0
-EndsWith fault told = IfSome told (λ c. c.refusal ≡ Some fault)
+  module _ (one : R → Coming) (possible : (r : R) → can r (one r)) where
+    pub give_files : (files : List (InputFile R)) → AllGive (FileGives can) files (map (one_of_file one) files)
+    give_files [] = tt
+    give_files (f ∷ files) = ((refl, possible f.reader), give_files files)
 
-one_ends : (number : ℕ) (input : Order × Option Coming) (still : Option source.Coming) (fault : Fault) → IsOpened number input still → EndsWith fault still → EndsWith fault (source_told number input)
-one_ends number (order, None) still fault h e = tt
-one_ends number (order, Some c) still fault h e = subst (EndsWith fault) h.0 e
+    -- behind files that were opened stands one that can't be
+    pub stops_behind : (number : ℕ) (files : List (InputFile R)) (opened : List (RunSource R)) (file : InputFile R) (rest : List (InputFile R)) (fault : Fault) → AreOpened can number files opened → FileGivesOne can file (λ input. IsUnopened (number + length files) (input ∷ []) fault)
+        → ForSome (FileGives can) (files ++ file ∷ rest) (λ all. IsUnopened number all fault)
+    stops_behind number [] [] file rest fault all h =
+        let why = subst (λ (n : ℕ). IsUnopened n (h.0 ∷ []) fault) (let e : number + 0 ≡ number = omega arith in e) h.2 in
+        (h.0 ∷ map (one_of_file one) rest, (h.1, give_files rest), unread_first number h.0 (map (one_of_file one) rest) fault why)
+    stops_behind number [] (t ∷ opened) file rest fault all h = absurd all
+    stops_behind number (f ∷ files) [] file rest fault all h = absurd all
+    stops_behind number (f ∷ files) (t ∷ opened) file rest fault all h =
+        let first = all.0 (source_one one t) (source_possible one can possible t) in
+        let others = stops_behind (number + 1) files opened file rest fault all.1 (h.0, h.1, subst (λ (n : ℕ). IsUnopened n (h.0 ∷ []) fault) (let e : number + suc (length files) ≡ (number + 1) + length files = omega arith in e) h.2) in
+        (first.0 ∷ others.0, (first.1, others.1), unread_more number first.0 others.0 fault others.2)
 
-opened_ends : (number : ℕ) (inputs : List (Order × Option Coming)) (stills : List (Option source.Coming)) (fault : Fault) (place : ℕ) → AreOpened number inputs stills → place < length stills → EndsWith fault (get_or stills place None)
-    → (place < length (sources_told number inputs)) × EndsWith fault (get_or (sources_told number inputs) place None)
-opened_ends number [] [] fault place all less e = absurd (omega (arith, less))
-opened_ends number [] (s ∷ stills) fault place all less e = absurd all
-opened_ends number (i ∷ inputs) [] fault place all less e = absurd all
-opened_ends number (i ∷ inputs) (s ∷ stills) fault zero all less e = (omega arith, one_ends number i s fault all.0 e)
-opened_ends number (i ∷ inputs) (s ∷ stills) fault (suc place) all less e =
-    let k = opened_ends (number + 1) inputs stills fault place all.1 (omega (arith, less)) e in
-    (omega (arith, k.0), k.1)
+    -- one of the files, behind those that were opened
+    pub stop_unread : (ys xs : List (InputFile R)) (y : InputFile R) (items : List (RunSource R)) (n : ℕ) (fault : Fault) → AreOpened can 0 ys items → n ≡ length items → map (λ f. f) ys ≡ take (length ys) xs → (length ys < length xs) × (y ≡ get_or xs (length ys) y)
+        → FileGivesOne can y (λ input. IsUnopened n (input ∷ []) fault) → ForSome (FileGives can) xs (λ all. IsUnopened 0 all fault)
+    stop_unread ys xs y items n fault all count so_far turn h =
+        let place : n ≡ 0 + length ys = omega (arith, count, opened_many 0 ys items all) in
+        let k : ℕ = length ys in
+        let front : take k xs ++ y ∷ drop (k + 1) xs ≡ xs =
+        ap (λ t. take k xs ++ t) (ap (λ f. f ∷ drop (k + 1) xs) turn.1) ∙ ap (λ t. take k xs ++ t) (drop_at xs k y turn.0) ∙ take-append-drop k xs in
+        let is : ys ++ y ∷ drop (k + 1) xs ≡ xs = ap (λ t. t ++ y ∷ drop (k + 1) xs) (sym (map_itself ys) ∙ so_far) ∙ front in
+        subst (λ (fs : List (InputFile R)). ForSome (FileGives can) fs (λ all. IsUnopened 0 all fault)) is
+        (stops_behind 0 ys items y (drop (k + 1) xs) fault all (h.0, h.1, subst (λ (m : ℕ). IsUnopened m (h.0 ∷ []) fault) place h.2))
 
-pub opened_fault : (inputs : List (Order × Option Coming)) (stills : List (Option source.Coming)) (fault : Fault) → AreOpened 0 inputs stills → source.IsFaultOfOne stills fault → source.IsFaultOfOne (sources_told 0 inputs) fault
-opened_fault inputs stills fault all (place, less, e) = let k = opened_ends 0 inputs stills fault place all less e in (place, k.0, k.1)
+    -- memory was refused behind files that were opened
+    pub no_memory : (files : List (InputFile R)) (fault : Fault) → fault ≡ memory_fault → ForSome (FileGives can) files (λ all. IsUnopened 0 all fault)
+    no_memory files fault memory = (map (one_of_file one) files, give_files files, inl memory)
 
-unread_one : (number : ℕ) (told : Option Coming) (fault : Fault) → IfSome told (λ c. refusal number c ≡ Some fault) → EndsWith fault (source_told number (Any, told))
-unread_one number None fault h = tt
-unread_one number (Some c) fault h = ap (λ s. s.refusal) (unread_gives number c fault h)
+  pub push_opened : (ys : List (InputFile R)) (y : InputFile R) (items after : List (RunSource R)) (x : RunSource R) (n : ℕ) → AreOpened can 0 ys items → after ≡ items ++ x ∷ [] → n ≡ length items → IsOpened can n y x → AreOpened can 0 (ys ++ y ∷ []) after
+  push_opened ys y items after x n all pushed count one =
+      let place : n ≡ 0 + length ys = omega (arith, count, opened_many 0 ys items all) in
+      subst (λ (l : List (RunSource R)). AreOpened can 0 (ys ++ y ∷ []) l) (sym pushed) (opened_more 0 ys items y x all (subst (λ (k : ℕ). IsOpened can k y x) place one))
 
-pub unread_fault : (number : ℕ) (inputs : List (Order × Option Coming)) (fault : Fault) → IsUnread number inputs fault → source.IsFaultOfOne (sources_told number inputs) fault
-unread_fault number [] fault h = absurd h
-unread_fault number ((Sorted, told) ∷ inputs) fault h = let k = unread_fault (number + 1) inputs fault h in (suc k.0, omega (arith, k.1), k.2)
-unread_fault number ((Any, told) ∷ inputs) fault (inl h) = (0, omega arith, unread_one number told fault h)
-unread_fault number ((Any, told) ∷ inputs) fault (inr h) = let k = unread_fault (number + 1) inputs fault h in (suc k.0, omega (arith, k.1), k.2)
-
-pub so_many_told : (number : ℕ) (inputs : List (Order × Option Coming)) → length (sources_told number inputs) ≡ length inputs
-so_many_told number [] = refl
-so_many_told number (i ∷ inputs) = ap suc (so_many_told (number + 1) inputs)
-
--- ---- the loading
-pub load_opens : (number : ℕ) (told : Option Coming) (loaded : Loaded) (set : VersionSet) → set ≡ loaded.history → IfSome told (λ c. Loads c loaded) → IsOpened number (Any, told) (Some (set_given set))
-load_opens number None loaded set is h = tt
-load_opens number (Some c) loaded set is h =
-    let file : GivesFile c loaded.history = record { unbroken = h.unbroken; file = h.holds } in
-    (ap Some (ap set_given is ∙ sym (file_read number c loaded.history file)), (loaded.history, file))
-
--- one more was opened
-pub push_opened : {A B : Type 0} (f : A → Order × Option Coming) (h : B → Option source.Coming) (ys : List A) (y : A) (items after : List B) (x : B) (n : ℕ) → AreOpened 0 (map f ys) (map h items) → after ≡ items ++ x ∷ [] → n ≡ length items → IsOpened n (f y) (h x)
-    → AreOpened 0 (map f (ys ++ y ∷ [])) (map h after)
-push_opened f h ys y items after x n all pushed count one =
-    let so_far : n ≡ 0 + length (map f ys) = omega (arith, count, length-map items h, opened_many 0 (map f ys) (map h items) all) in
-    let more = opened_more 0 (map f ys) (map h items) (f y) (h x) all (subst (λ (k : ℕ). IsOpened k (f y) (h x)) so_far one) in
-    subst (λ (l : List (Option source.Coming)). AreOpened 0 (map f (ys ++ y ∷ [])) l) (sym (ap (map h) pushed ∙ map-append h items (x ∷ [])))
-    (subst (λ (l : List (Order × Option Coming)). AreOpened 0 l (map h items ++ h x ∷ [])) (sym (map-append f ys (y ∷ []))) more)
-
--- the next one can't be read
-pub stop_unread : {A B : Type 0} (f : A → Order × Option Coming) (h : B → Option source.Coming) (ys xs : List A) (y : A) (items : List B) (n : ℕ) (fault : Fault) → AreOpened 0 (map f ys) (map h items) → n ≡ length items
-    → (length ys < length xs) × (y ≡ get_or xs (length ys) y) → (fault ≡ memory_fault) ⊎ IsUnread n (f y ∷ []) fault → (fault ≡ memory_fault) ⊎ IsUnread 0 (map f xs) fault
-stop_unread f h ys xs y items n fault all count turn why =
-    let so_far : n ≡ 0 + length ys = omega (arith, count, length-map items h, length-map ys f, opened_many 0 (map f ys) (map h items) all) in
-    ⊎_elim (λ e. inl e) (λ u. inr (unread_at f 0 xs (length ys) y fault turn.0 turn.1 (subst (λ (k : ℕ). IsUnread k (f y ∷ []) fault) so_far u))) why
-
-map_itself : {A : Type 0} (xs : List A) → map (λ x. x) xs ≡ xs
-map_itself [] = refl
-map_itself (x ∷ xs) = ap (λ ys. x ∷ ys) (map_itself xs)
-
--- all were opened
-pub opened_all : {A B : Type 0} (f : A → Order × Option Coming) (h : B → Option source.Coming) (ys xs : List A) (items : List B) → AreOpened 0 (map f ys) (map h items) → map (λ y. y) ys ≡ xs → AreOpened 0 (map f xs) (map h items)
-opened_all f h ys xs items all is = subst (λ (l : List _). AreOpened 0 (map f l) (map h items)) (sym (map_itself ys) ∙ is) all
+  pub opened_all : (ys xs : List (InputFile R)) (items : List (RunSource R)) → AreOpened can 0 ys items → map (λ y. y) ys ≡ xs → AreOpened can 0 xs items
+  opened_all ys xs items all is = subst (λ (l : List (InputFile R)). AreOpened can 0 l items) (sym (map_itself ys) ∙ is) all

@@ -42,3 +42,7 @@ pub record IsCounted (still : source.Coming) (sizes : Sizes) : Type 0 where
   pub whole : still.refusal ≡ None
   pub versions : sizes.versions ≡ capped (length still.list)
   pub objects : sizes.objects ≡ capped (begun_behind None still.list)
+
+-- a source can give something of which this holds
+abbrev pub SourceGives : (source.Coming → Type 0) → (source.Coming → Type 0) → Type 0
+SourceGives can P = (still : source.Coming) × can still × P still

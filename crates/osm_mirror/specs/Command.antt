@@ -1,5 +1,5 @@
 -- What the commands write that read all of their inputs first, and why they are refused: an own rule of this project.
-use Rattle.std.specs.Prelude.{◌≡◌, ◌⊎◌, ℕ, Bool, true, false, List, length, map, sum_by, Option, Some, IfSome}
+use Rattle.std.specs.Prelude.{◌≡◌, ◌⊎◌, ℕ, Bool, true, false, List, length, map, sum_by}
 use Rattle.osm_model.specs.VersionSet.{VersionSet}
 use Rattle.osm_model.specs.Sets.{size}
 use Rattle.opl_line.specs.Content.{Pairwise}
@@ -18,7 +18,6 @@ use Rattle.osm_mirror.specs.declared.input.Order.{Order}
 use Rattle.osm_mirror.specs.declared.input.Order.TheVariants.{Any}
 use Rattle.osm_mirror.specs.Merge.{union_of}
 use Rattle.osm_mirror.specs.Given.{GivesFile, IsUnread}
-use Rattle.osm_mirror.specs.Run.{WhyRefused}
 
 -- A command over these inputs, to an output that held and holds this: each input gave a file, and the one spelling of
 -- what was chosen of the union of the sets that they hold was appended.
@@ -34,9 +33,9 @@ pub record IsWritten (choice : VersionSet → VersionSet) (inputs : List Coming)
 abbrev pub in_any_order : {X : Type 0} → X → InputFile X
 in_any_order reader = record { reader = reader; order = Any }
 
--- an input of any order, of which this is known
-abbrev pub unsorted : Option Coming → Order × Option Coming
-unsorted told = (Any, told)
+-- what an input of any order gives
+abbrev pub any : Coming → Order × Coming
+any c = (Any, c)
 
 -- Why a command was refused: memory was refused before anything was written; or an input can't be read, and nothing was written;
 -- or all inputs are files, and a front of the one spelling of what was chosen of the union of the sets that they hold was
@@ -44,17 +43,8 @@ unsorted told = (Any, told)
 abbrev pub IsNotWritten : {O : Type 0} → (O → Content) → (VersionSet → VersionSet) → List Coming → Format → O → O → Bool → Fault → Type 0
 IsNotWritten holds choice inputs format before after failed fault =
     ((fault ≡ memory_fault) × (after ≡ before))
-    ⊎ (IsUnread 0 (map (λ c. unsorted (Some c)) inputs) fault × (after ≡ before))
+    ⊎ (IsUnread 0 (map any inputs) fault × (after ≡ before))
     ⊎ ((held : List VersionSet) × Pairwise GivesFile inputs held × CutShort (length inputs) (holds before) (holds after) failed (spell format (choice (union_of held))) fault)
-
--- Why a command was refused, whatever the inputs tell: memory was refused, the output failed, the file would be too long, or an
--- input can't be read.
-abbrev pub WhyNotWritten : List (Option Coming) → Format → Bool → Fault → Type 0
-WhyNotWritten told format failed fault = WhyRefused (map unsorted told) format failed fault
-
--- an input that tells its bytes gives a file
-abbrev pub IsFile : Option Coming → Type 0
-IsFile told = IfSome told (λ c. (held : VersionSet) × GivesFile c held)
 
 -- what is left once changes are applied: with history all versions, else the newest one of each object, if it isn't a deletion
 abbrev pub applied : Bool → VersionSet → VersionSet

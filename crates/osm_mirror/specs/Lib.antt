@@ -1,8 +1,9 @@
 pub mod Merge
-pub mod Given
 pub mod Still
+pub mod Given
 pub mod Run
 pub mod Command
+pub mod Told
 pub mod Check
 pub mod Mirror
 pub mod Fleet
@@ -12,3 +13,4 @@ pub mod PlanLine
 pub mod Plan
 pub mod PlanLaws
 pub mod Merges
+pub mod FaultLine

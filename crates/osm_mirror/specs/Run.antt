@@ -1,5 +1,5 @@
 -- What a run over files writes, and why it is refused: an own rule of this project.
-use Rattle.std.specs.Prelude.{◌≡◌, ◌⊎◌, ℕ, Bool, List, length, map, sum_by, Option, Some, IfSome}
+use Rattle.std.specs.Prelude.{◌≡◌, ◌⊎◌, Bool, List, length, sum_by}
 use Rattle.std.specs.List as list
 use Rattle.osm_model.specs.VersionSet.{VersionSet}
 use Rattle.osm_model.specs.Sets.{size}
@@ -18,7 +18,7 @@ use Rattle.osm_merge.specs.Union.{capped}
 use Rattle.osm_merge.specs.Merged as merged
 use Rattle.osm_mirror.specs.declared.input.Order.{Order}
 use Rattle.osm_mirror.specs.Merge.{union_of}
-use Rattle.osm_mirror.specs.Given.{GivesAs, telling, sources, sources_told, IsRead, IsUnread}
+use Rattle.osm_mirror.specs.Given.{GivesAs, sources, IsRead, IsUnread}
 
 -- A run over these inputs, to an output that held and holds this: each input gave a file of its order, and the one
 -- spelling of what is selected of the union of the sets that they hold was appended.
@@ -35,7 +35,7 @@ pub record IsRun (selection : Selection) (inputs : List (Order × Coming)) (form
 abbrev pub IsRefused : {O : Type 0} → (O → Content) → Selection → List (Order × Coming) → Format → O → O → Bool → Fault → Type 0
 IsRefused holds selection inputs format before after failed fault =
     ((fault ≡ memory_fault) × (after ≡ before))
-    ⊎ (IsUnread 0 (map telling inputs) fault × (after ≡ before))
+    ⊎ (IsUnread 0 inputs fault × (after ≡ before))
     ⊎ (list.All IsRead inputs × merged.IsRefusedAs selection (sources 0 inputs) format (length inputs) (holds before) (holds after) failed fault)
 
 -- Of files of the order that was asked for no input is refused, and a front of the one spelling of what is selected of the
@@ -44,11 +44,7 @@ abbrev pub IsCutShort : Selection → List (Order × Coming) → Format → Cont
 IsCutShort selection inputs format before after failed fault =
     (held : List VersionSet) → Pairwise GivesAs inputs held → CutShort (length inputs) before after failed (spell format (selected selection (union_of held))) fault
 
--- Why a run was refused, whatever the inputs tell: memory was refused, the output failed, the file would be too long, or an
--- input is refused.
-abbrev pub WhyRefused : List (Order × Option Coming) → Format → Bool → Fault → Type 0
-WhyRefused told format failed fault = merged.WhyRefused (sources_told 0 told) format (length told) failed fault
-
--- an input that tells its bytes gives a file of the order that is asked for
-abbrev pub IsAccepted : Order × Option Coming → Type 0
-IsAccepted (order, told) = IfSome told (λ c. (held : VersionSet) × GivesAs (order, c) held)
+-- why a run was refused, and what was written then
+pub record Refuses {O : Type 0} (holds : O → Content) (selection : Selection) (inputs : List (Order × Coming)) (format : Format) (before after : O) (failed : Bool) (fault : Fault) : Type 0 where
+  pub why : IsRefused holds selection inputs format before after failed fault
+  pub cut : IsCutShort selection inputs format (holds before) (holds after) failed fault

@@ -1,25 +1,47 @@
--- What the source of a file still gives.
-use Rattle.std.specs.Prelude.{ℕ, Option, Some, IfSome}
+-- What the source of a file can still give.
+use Rattle.std.proofs.Common.{refl}
+use Rattle.std.specs.Prelude.{◌≡◌, ℕ, Bool, false}
 use Rattle.osm_model.specs.Data.{VersionData}
 use Rattle.osm_model.specs.Sets.{size}
 use Rattle.osm_files.specs.declared.fault.Fault.{Fault}
-use Rattle.osm_files.specs.Groups.{still_given, given_ascends, set_given, set_ascends}
+use Rattle.osm_files.specs.Groups.{FileCanGive, known_or_whole, given_at, one_given, left_at, file_ascends, set_given, given_set_ascends}
+use Rattle.osm_files.specs.Input.{Coming}
 use Rattle.osm_files.specs.Source.{Ascends}
 use Rattle.osm_files.specs.Stream.{Still}
 use Rattle.osm_mirror.specs.declared.source.RunSource.{RunSource}
 use Rattle.osm_mirror.specs.declared.source.RunSource.TheVariants.{Streamed, Held}
 
-module _ {R : Type 0} where
-  -- what a sorted file still gives, where that is known; or the rest of what was read, which is given whole
-  abbrev pub still_of : RunSource R → Option (Still VersionData Fault)
-  still_of (Streamed source) = still_given source.known
-  still_of (Held rest) = Some (set_given rest)
+module _ {R : Type 0} (can : R → Coming → Type 0) where
+  -- what a sorted file can still give; or the rest of what was read, which is given whole
+  abbrev pub SourceCanGive : RunSource R → Still VersionData Fault → Type 0
+  SourceCanGive (Streamed source) still = FileCanGive can source still
+  SourceCanGive (Held rest) still = still ≡ set_given rest
 
-  -- at most so many versions
-  abbrev pub left_of : RunSource R → ℕ
-  left_of (Streamed source) = source.left
-  left_of (Held rest) = size rest
+  pub source_ascends : (s : RunSource R) (still : Still VersionData Fault) → SourceCanGive s still → Ascends still
+  source_ascends (Streamed source) still h = file_ascends can source still h
+  source_ascends (Held rest) still h = given_set_ascends rest still h
 
-  pub still_ascends : (s : RunSource R) → IfSome (still_of s) Ascends
-  still_ascends (Streamed source) = given_ascends source.known
-  still_ascends (Held rest) = set_ascends rest
+module _ {R : Type 0} (one : R → Coming) where
+  -- one of these
+  abbrev pub source_one : RunSource R → Still VersionData Fault
+  source_one (Streamed source) = known_or_whole (given_at source (one source.units.coming))
+  source_one (Held rest) = set_given rest
+
+  pub source_possible : (can : R → Coming → Type 0) → ((r : R) → can r (one r)) → (s : RunSource R) → SourceCanGive can s (source_one s)
+  source_possible can possible (Streamed source) = (one source.units.coming, possible source.units.coming, one_given source (one source.units.coming))
+  source_possible can possible (Held rest) = refl
+
+-- at most so many versions
+abbrev pub left_of : {R : Type 0} → RunSource R → ℕ
+left_of (Streamed source) = left_at source
+left_of (Held rest) = size rest
+
+-- the number with which it answers that an earlier call was refused; what was read whole refuses nothing
+abbrev pub number_of : {R : Type 0} → RunSource R → ℕ
+number_of (Streamed source) = source.units.input
+number_of (Held rest) = 0
+
+-- whether a call was refused
+abbrev pub failed_of : {R : Type 0} → RunSource R → Bool
+failed_of (Streamed source) = source.units.failed
+failed_of (Held rest) = false

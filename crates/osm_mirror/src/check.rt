@@ -1,10 +1,10 @@
 //! The check of a file: what it is and how much it holds.
-ghost use Rattle.std.specs.Prelude.{◌≡◌, ◌⊎◌, ◌+◌, true, Some, IfOk, IfErr, IfSome};
+ghost use Rattle.std.specs.Prelude.{◌≡◌, ◌⊎◌, ◌+◌, true, Some, IfOk, IfErr};
 ghost use Rattle.osm_files.specs.Fault.{memory_fault};
-ghost use Rattle.osm_files.specs.Groups.{sorted_source};
-ghost use Rattle.osm_files.specs.Load.{StopsLoading};
+ghost use Rattle.osm_files.specs.Input.{GivesOne};
+ghost use Rattle.osm_files.specs.Load.{StopsLoading, StopsOpening};
 ghost use Rattle.osm_merge.specs.Union.{capped};
-ghost use Rattle.osm_mirror.specs.Check.{Reports, IsCounted, begins};
+ghost use Rattle.osm_mirror.specs.Check.{Reports, SourceGives, IsCounted, begins};
 
 use osm_files::{Fault, FileSource, Format, HistorySource, Input, Source, load_any};
 use osm_model::Version;
@@ -38,23 +38,24 @@ pub(crate) struct Sizes {
 ///
 /// The place and the reason of the first faulty unit, ReadFault where the input fails, or Memory.
 pub fn run_check<R: Input + Drop>(alloc: Global, input: R) -> Result<CheckReport, Fault>
-    ensures report { IfOk result (λ report. IfSome (R.coming input) (λ c. Reports c report)) }
-    ensures refused { IfErr result (StopsLoading 0 (R.coming input)) }
+    ensures report { IfOk result (λ report. GivesOne (R.can_give input) (λ c. Reports c report)) }
+    ensures refused { IfErr result (λ fault. GivesOne (R.can_give input) (λ c. StopsLoading 0 c fault)) }
 {
     let loaded = match load_any(alloc, 0, input) {
         Ok(loaded) => loaded,
         Err(fault) => return Err(fault),
     };
     let mut source = HistorySource::new(loaded.history);
-    match count(&mut source) {
-        Ok(sizes) => Ok(CheckReport {
-            format: loaded.format,
-            versions: sizes.versions,
-            objects: sizes.objects,
-            sorted: loaded.sorted,
-        }),
-        Err(fault) => Err(fault),
-    }
+    let sizes = match count(&mut source) {
+        Ok(sizes) => sizes,
+        Err(fault) => return Err(fault),
+    };
+    Ok(CheckReport {
+        format: loaded.format,
+        versions: sizes.versions,
+        objects: sizes.objects,
+        sorted: loaded.sorted,
+    })
 }
 
 /// Checks a sorted file in one pass over it: no more is kept than one key's versions. It tells what [`run_check`] tells.
@@ -64,29 +65,31 @@ pub fn run_check<R: Input + Drop>(alloc: Global, input: R) -> Result<CheckReport
 /// The place and the reason of the first unit that is faulty or whose key is below that of the one before it, ReadFault where
 /// the input fails, or Memory.
 pub fn run_check_sorted<R: Input + Drop>(alloc: Global, input: R) -> Result<CheckReport, Fault>
-    ensures report { IfOk result (λ report. IfSome (R.coming input) (λ c. Reports c report)) }
+    ensures report { IfOk result (λ report. GivesOne (R.can_give input) (λ c. Reports c report)) }
     ensures sorted { IfOk result (λ report. report.sorted ≡ true) }
-    ensures refused { IfErr result (λ fault. (fault ≡ memory_fault) ⊎ IfSome (R.coming input) (λ c. (sorted_source 0 c).refusal ≡ Some fault)) }
+    ensures refused { IfErr result (λ fault. GivesOne (R.can_give input) (λ c. StopsOpening 0 c fault)) }
 {
     let (format, mut source) = match FileSource::open(alloc, 0, input) {
         Ok(opened) => opened,
         Err(fault) => return Err(fault),
     };
-    match count(&mut source) {
-        Ok(sizes) => Ok(CheckReport {
-            format,
-            versions: sizes.versions,
-            objects: sizes.objects,
-            sorted: true,
-        }),
-        Err(fault) => Err(fault),
-    }
+    let sizes = match count(&mut source) {
+        Ok(sizes) => sizes,
+        Err(fault) => return Err(fault),
+    };
+    Ok(CheckReport {
+        format,
+        versions: sizes.versions,
+        objects: sizes.objects,
+        sorted: true,
+    })
 }
 
 /// How many versions a source gives, and of how many objects.
 fn count<S: Source>(source: &mut S) -> Result<Sizes, Fault>
-    ensures sizes { IfOk result (λ sizes. IfSome (S.still source.old) (λ still. IsCounted still sizes)) }
-    ensures refused { IfErr result (λ fault. (fault ≡ memory_fault) ⊎ IfSome (S.still source.old) (λ still. still.refusal ≡ Some fault)) }
+    ensures sizes { IfOk result (λ sizes. SourceGives (S.can_give source.old) (λ still. IsCounted still sizes)) }
+    ensures refused { IfErr result (λ fault. SourceGives (S.can_give source.old) (λ still.
+        (fault ≡ memory_fault) ⊎ (still.refusal ≡ Some fault))) }
 {
     let mut sizes = Sizes {
         versions: 0,

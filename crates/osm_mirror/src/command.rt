@@ -1,12 +1,11 @@
 //! The commands that read all of their inputs before they write.
-ghost use Rattle.std.specs.Prelude.{◌≡◌, Some, false, List, [], ◌∷◌, map, IfOk, IfErr, OnOk};
-ghost use Rattle.std.specs.List.{All};
-ghost use Rattle.osm_files.specs.Input.{Coming};
+ghost use Rattle.std.specs.Prelude.{◌≡◌, false, [], ◌∷◌, map, IfOk, IfErr, OnOk};
 ghost use Rattle.osm_files.specs.Fault.{memory_fault};
+ghost use Rattle.osm_files.specs.Input.{GivesOne};
+ghost use Rattle.osm_merge.specs.Giving.{ForSome};
 ghost use Rattle.osm_merge.specs.Selected.{selected, visible, at, between};
-ghost use Rattle.osm_merge.specs.Merged.{WritesSet, Grows};
-ghost use Rattle.osm_mirror.specs.Merge.{Tell};
-ghost use Rattle.osm_mirror.specs.Command.{IsWritten, IsNotWritten, WhyNotWritten, IsFile, applied, in_any_order};
+ghost use Rattle.osm_merge.specs.Merged.{Grows};
+ghost use Rattle.osm_mirror.specs.Command.{IsWritten, IsNotWritten, applied, in_any_order};
 
 use crate::input::{InputFile, Order};
 use crate::run::run_selected;
@@ -31,13 +30,10 @@ pub fn run_sort<R: Input + Drop, W: Output>(
     format: Format,
     out: &mut W,
 ) -> Result<Counts, Fault>
-    // Where all inputs tell their bytes.
-    ensures written { IfOk result (λ counts. (all : List Coming) → Tell (map R.coming inputs.items) all → IsWritten (λ set. set) all format (W.holds out.old) (W.holds out.new) counts) }
-    ensures refused { IfErr result (λ fault. (all : List Coming) → Tell (map R.coming inputs.items) all → IsNotWritten W.holds (λ set. set) all format out.old out.new (W.failed out.new) fault) }
-    // Whatever they tell.
-    ensures why { IfErr result (WhyNotWritten (map R.coming inputs.items) format (W.failed out.new)) }
-    ensures accepted { OnOk result (All IsFile (map R.coming inputs.items)) }
-    ensures file { IfOk result (WritesSet format (W.holds out.old) (W.holds out.new)) }
+    ensures written { IfOk result (λ counts. ForSome R.can_give inputs.items (λ all.
+        IsWritten (λ set. set) all format (W.holds out.old) (W.holds out.new) counts)) }
+    ensures refused { IfErr result (λ fault. ForSome R.can_give inputs.items (λ all.
+        IsNotWritten W.holds (λ set. set) all format out.old out.new (W.failed out.new) fault)) }
     ensures kept { Grows (W.holds out.old) (W.holds out.new) }
     ensures good { OnOk result (W.failed out.new ≡ false) }
 {
@@ -62,13 +58,10 @@ pub fn run_apply<R: Input + Drop, W: Output>(
     format: Format,
     out: &mut W,
 ) -> Result<Counts, Fault>
-    // Where all inputs tell their bytes.
-    ensures written { IfOk result (λ counts. (all : List Coming) → Tell (map R.coming inputs.items) all → IsWritten (applied with_history) all format (W.holds out.old) (W.holds out.new) counts) }
-    ensures refused { IfErr result (λ fault. (all : List Coming) → Tell (map R.coming inputs.items) all → IsNotWritten W.holds (applied with_history) all format out.old out.new (W.failed out.new) fault) }
-    // Whatever they tell.
-    ensures why { IfErr result (WhyNotWritten (map R.coming inputs.items) format (W.failed out.new)) }
-    ensures accepted { OnOk result (All IsFile (map R.coming inputs.items)) }
-    ensures file { IfOk result (WritesSet format (W.holds out.old) (W.holds out.new)) }
+    ensures written { IfOk result (λ counts. ForSome R.can_give inputs.items (λ all.
+        IsWritten (applied with_history) all format (W.holds out.old) (W.holds out.new) counts)) }
+    ensures refused { IfErr result (λ fault. ForSome R.can_give inputs.items (λ all.
+        IsNotWritten W.holds (applied with_history) all format out.old out.new (W.failed out.new) fault)) }
     ensures kept { Grows (W.holds out.old) (W.holds out.new) }
     ensures good { OnOk result (W.failed out.new ≡ false) }
 {
@@ -96,13 +89,10 @@ pub fn run_time_filter<R: Input + Drop, W: Output>(
     format: Format,
     out: &mut W,
 ) -> Result<Counts, Fault>
-    // Where the input tells its bytes.
-    ensures written { IfOk result (λ counts. (c : Coming) → R.coming input ≡ Some c → IsWritten (λ set. visible (at set time)) (c ∷ []) format (W.holds out.old) (W.holds out.new) counts) }
-    ensures refused { IfErr result (λ fault. (c : Coming) → R.coming input ≡ Some c → IsNotWritten W.holds (λ set. visible (at set time)) (c ∷ []) format out.old out.new (W.failed out.new) fault) }
-    // Whatever it tells.
-    ensures why { IfErr result (WhyNotWritten (R.coming input ∷ []) format (W.failed out.new)) }
-    ensures accepted { OnOk result (All IsFile (R.coming input ∷ [])) }
-    ensures file { IfOk result (WritesSet format (W.holds out.old) (W.holds out.new)) }
+    ensures written { IfOk result (λ counts. GivesOne (R.can_give input) (λ c.
+        IsWritten (λ set. visible (at set time)) (c ∷ []) format (W.holds out.old) (W.holds out.new) counts)) }
+    ensures refused { IfErr result (λ fault. GivesOne (R.can_give input) (λ c.
+        IsNotWritten W.holds (λ set. visible (at set time)) (c ∷ []) format out.old out.new (W.failed out.new) fault)) }
     ensures kept { Grows (W.holds out.old) (W.holds out.new) }
     ensures good { OnOk result (W.failed out.new ≡ false) }
 {
@@ -127,13 +117,10 @@ pub fn run_period_filter<R: Input + Drop, W: Output>(
     format: Format,
     out: &mut W,
 ) -> Result<Counts, Fault>
-    // Where the input tells its bytes.
-    ensures written { IfOk result (λ counts. (c : Coming) → R.coming input ≡ Some c → IsWritten (λ set. between set from to) (c ∷ []) format (W.holds out.old) (W.holds out.new) counts) }
-    ensures refused { IfErr result (λ fault. (c : Coming) → R.coming input ≡ Some c → IsNotWritten W.holds (λ set. between set from to) (c ∷ []) format out.old out.new (W.failed out.new) fault) }
-    // Whatever it tells.
-    ensures why { IfErr result (WhyNotWritten (R.coming input ∷ []) format (W.failed out.new)) }
-    ensures accepted { OnOk result (All IsFile (R.coming input ∷ [])) }
-    ensures file { IfOk result (WritesSet format (W.holds out.old) (W.holds out.new)) }
+    ensures written { IfOk result (λ counts. GivesOne (R.can_give input) (λ c.
+        IsWritten (λ set. between set from to) (c ∷ []) format (W.holds out.old) (W.holds out.new) counts)) }
+    ensures refused { IfErr result (λ fault. GivesOne (R.can_give input) (λ c.
+        IsNotWritten W.holds (λ set. between set from to) (c ∷ []) format out.old out.new (W.failed out.new) fault)) }
     ensures kept { Grows (W.holds out.old) (W.holds out.new) }
     ensures good { OnOk result (W.failed out.new ≡ false) }
 {
@@ -148,13 +135,10 @@ fn run_one<R: Input + Drop, W: Output>(
     format: Format,
     out: &mut W,
 ) -> Result<Counts, Fault>
-    // Where the input tells its bytes.
-    ensures written { IfOk result (λ counts. (c : Coming) → R.coming input ≡ Some c → IsWritten (selected selection) (c ∷ []) format (W.holds out.old) (W.holds out.new) counts) }
-    ensures refused { IfErr result (λ fault. (c : Coming) → R.coming input ≡ Some c → IsNotWritten W.holds (selected selection) (c ∷ []) format out.old out.new (W.failed out.new) fault) }
-    // Whatever it tells.
-    ensures why { IfErr result (WhyNotWritten (R.coming input ∷ []) format (W.failed out.new)) }
-    ensures accepted { OnOk result (All IsFile (R.coming input ∷ [])) }
-    ensures file { IfOk result (WritesSet format (W.holds out.old) (W.holds out.new)) }
+    ensures written { IfOk result (λ counts. GivesOne (R.can_give input) (λ c.
+        IsWritten (selected selection) (c ∷ []) format (W.holds out.old) (W.holds out.new) counts)) }
+    ensures refused { IfErr result (λ fault. GivesOne (R.can_give input) (λ c.
+        IsNotWritten W.holds (selected selection) (c ∷ []) format out.old out.new (W.failed out.new) fault)) }
     ensures kept { Grows (W.holds out.old) (W.holds out.new) }
     ensures good { OnOk result (W.failed out.new ≡ false) }
 {
@@ -171,13 +155,10 @@ fn run_held<R: Input + Drop, W: Output>(
     format: Format,
     out: &mut W,
 ) -> Result<Counts, Fault>
-    // Where all inputs tell their bytes.
-    ensures written { IfOk result (λ counts. (all : List Coming) → Tell (map R.coming inputs.items) all → IsWritten (selected selection) all format (W.holds out.old) (W.holds out.new) counts) }
-    ensures refused { IfErr result (λ fault. (all : List Coming) → Tell (map R.coming inputs.items) all → IsNotWritten W.holds (selected selection) all format out.old out.new (W.failed out.new) fault) }
-    // Whatever they tell.
-    ensures why { IfErr result (WhyNotWritten (map R.coming inputs.items) format (W.failed out.new)) }
-    ensures accepted { OnOk result (All IsFile (map R.coming inputs.items)) }
-    ensures file { IfOk result (WritesSet format (W.holds out.old) (W.holds out.new)) }
+    ensures written { IfOk result (λ counts. ForSome R.can_give inputs.items (λ all.
+        IsWritten (selected selection) all format (W.holds out.old) (W.holds out.new) counts)) }
+    ensures refused { IfErr result (λ fault. ForSome R.can_give inputs.items (λ all.
+        IsNotWritten W.holds (selected selection) all format out.old out.new (W.failed out.new) fault)) }
     ensures kept { Grows (W.holds out.old) (W.holds out.new) }
     ensures good { OnOk result (W.failed out.new ≡ false) }
 {

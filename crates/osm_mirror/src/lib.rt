@@ -4,6 +4,7 @@
 mod check;
 mod command;
 mod event;
+mod fault_line;
 mod fleet;
 mod input;
 mod keep;
@@ -17,10 +18,12 @@ pub mod plan_laws;
 mod plan_line;
 mod run;
 mod source;
+pub mod told;
 
 pub use check::{CheckReport, run_check, run_check_sorted};
 pub use command::{run_apply, run_period_filter, run_sort, run_time_filter};
 pub use event::{Event, Reply};
+pub use fault_line::fault_text;
 pub use fleet::Fleet;
 pub use input::{InputFile, Order};
 pub use keep::{Keep, Taken};

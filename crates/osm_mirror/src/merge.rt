@@ -1,11 +1,9 @@
 //! The merge of files.
-ghost use Rattle.std.specs.Prelude.{◌≡◌, false, List, map, IfOk, IfErr, OnOk};
-ghost use Rattle.std.specs.List.{All};
-ghost use Rattle.osm_files.specs.Input.{Coming};
+ghost use Rattle.std.specs.Prelude.{◌≡◌, false, IfOk, IfErr, OnOk};
 ghost use Rattle.osm_files.specs.Fault.{memory_fault};
-ghost use Rattle.osm_files.specs.Groups.{still_given};
-ghost use Rattle.osm_merge.specs.Merged.{WritesSet, Grows};
-ghost use Rattle.osm_mirror.specs.Merge.{Tell, IsMerged, IsRefused, IsCutShort, WhyRefused, IsSorted, sources_told};
+ghost use Rattle.osm_merge.specs.Giving.{ForSome};
+ghost use Rattle.osm_merge.specs.Merged.{Grows};
+ghost use Rattle.osm_mirror.specs.Merge.{IsMerged, Refuses, opened};
 
 use osm_files::{Fault, FileSource, Format, Input, Output, Sink};
 use osm_merge::{Counts, merge_into};
@@ -29,14 +27,10 @@ pub fn run_merge<R: Input + Drop, W: Output>(
     format: Format,
     out: &mut W,
 ) -> Result<Counts, Fault>
-    // Where all inputs tell their bytes.
-    ensures merged { IfOk result (λ counts. (all : List Coming) → Tell (map R.coming inputs.items) all → IsMerged all format (W.holds out.old) (W.holds out.new) counts) }
-    ensures refused { IfErr result (λ fault. (all : List Coming) → Tell (map R.coming inputs.items) all → IsRefused all format (W.holds out.old) (W.holds out.new) (W.failed out.new) fault) }
-    ensures cut { IfErr result (λ fault. (all : List Coming) → Tell (map R.coming inputs.items) all → IsCutShort all format (W.holds out.old) (W.holds out.new) (W.failed out.new) fault) }
-    // Whatever they tell.
-    ensures why { IfErr result (WhyRefused (map R.coming inputs.items) format (W.failed out.new)) }
-    ensures sorted { OnOk result (All IsSorted (map R.coming inputs.items)) }
-    ensures file { IfOk result (WritesSet format (W.holds out.old) (W.holds out.new)) }
+    ensures merged { IfOk result (λ counts. ForSome R.can_give inputs.items (λ all.
+        IsMerged all format (W.holds out.old) (W.holds out.new) counts)) }
+    ensures refused { IfErr result (λ fault. ForSome R.can_give inputs.items (λ all.
+        Refuses all format (W.holds out.old) (W.holds out.new) (W.failed out.new) fault)) }
     ensures kept { Grows (W.holds out.old) (W.holds out.new) }
     ensures good { OnOk result (W.failed out.new ≡ false) }
 {
@@ -48,7 +42,7 @@ pub fn run_merge<R: Input + Drop, W: Output>(
 
 /// The inputs as sources, numbered from 0.
 fn open_sources<R: Input + Drop>(alloc: Global, inputs: Vec<R>) -> Result<Vec<FileSource<R>>, Fault>
-    ensures opened { IfOk result (λ sources. map (λ s. still_given s.known) sources.items ≡ sources_told 0 (map R.coming inputs.items)) }
+    ensures opened { IfOk result (λ sources. sources.items ≡ opened 0 inputs.items) }
     ensures memory { IfErr result (λ fault. fault ≡ memory_fault) }
 {
     let mut sources = Vec::new(alloc);

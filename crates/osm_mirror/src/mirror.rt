@@ -5,17 +5,15 @@ ghost use Rattle.osm_files.specs.Held.{HoldsSorted};
 ghost use Rattle.osm_files.specs.Spell.{spell};
 ghost use Rattle.osm_files.specs.SpellLaws.{AreVersions};
 ghost use Rattle.osm_files.specs.declared.reason.Reason.TheVariants as reason;
-ghost use Rattle.osm_merge.specs.Selected.{snapshot};
 ghost use Rattle.osm_mirror.specs.declared.keep.Keep.TheVariants as keep;
 ghost use Rattle.osm_mirror.specs.Mirror as spec;
 
 use crate::keep::{Keep, Taken};
 use osm_files::{Fault, Format, Reason, SliceIn, VecOut, load_any, write_history};
-use osm_merge::into_snapshot;
+use osm_merge::{absorb, absorb_newest};
 use osm_model::{History, Memory};
 use std::alloc::Global;
 use std::marker::Model;
-use std::mem;
 
 /// A copy of the map, in memory: a full one holds the whole history that reached it, a latest one the newest version of each
 /// object.
@@ -124,12 +122,10 @@ impl Mirror {
         requires { AreVersions history }
         ensures { MatchResult result (λ _. self.new ≡ spec.took self.old history) (λ _. self.new ≡ self.old) }
     {
-        self.held.absorb(history)?;
         match self.keep {
-            Keep::Full => {}
-            Keep::Latest => keep_newest(self.alloc, &mut self.held),
+            Keep::Full => absorb(self.alloc, &mut self.held, history),
+            Keep::Latest => absorb_newest(self.alloc, &mut self.held, history),
         }
-        Ok(())
     }
 
     /// The one file of this format that holds what the mirror holds.
@@ -148,14 +144,6 @@ impl Mirror {
             Err(fault) => Err(unwritten(fault)),
         }
     }
-}
-
-/// Leaves a history the newest version of each object.
-fn keep_newest(alloc: Global, history: &mut History)
-    ensures { history.new ≡ snapshot history.old }
-{
-    let all = mem::replace(history, History::new(alloc));
-    *history = into_snapshot(all);
 }
 
 /// Why nothing was written to memory: the file would be too long, or memory was refused, by which the output fails too.

@@ -1,10 +1,9 @@
 //! The one run over files: what is selected of the union of what they hold is written as one file.
-ghost use Rattle.std.specs.Prelude.{◌≡◌, false, List, map, IfOk, IfErr, OnOk};
-ghost use Rattle.std.specs.List.{All};
-ghost use Rattle.osm_files.specs.Input.{Coming};
-ghost use Rattle.osm_merge.specs.Merged.{WritesSet, Grows};
-ghost use Rattle.osm_mirror.specs.Given.{Tell};
-ghost use Rattle.osm_mirror.specs.Run.{IsRun, IsRefused, IsCutShort, WhyRefused, IsAccepted};
+ghost use Rattle.std.specs.Prelude.{◌≡◌, false, IfOk, IfErr, OnOk};
+ghost use Rattle.osm_merge.specs.Giving.{ForSome};
+ghost use Rattle.osm_merge.specs.Merged.{Grows};
+ghost use Rattle.osm_mirror.specs.Given.{FileGives};
+ghost use Rattle.osm_mirror.specs.Run.{IsRun, Refuses};
 
 use crate::input::{InputFile, Order};
 use crate::source::open_inputs;
@@ -31,14 +30,10 @@ pub fn run_selected<R: Input + Drop, W: Output>(
     format: Format,
     out: &mut W,
 ) -> Result<Counts, Fault>
-    // Where all inputs tell their bytes.
-    ensures written { IfOk result (λ counts. (all : List (Order × Coming)) → Tell (map (λ f. (f.order, R.coming f.reader)) inputs.items) all → IsRun selection all format (W.holds out.old) (W.holds out.new) counts) }
-    ensures refused { IfErr result (λ fault. (all : List (Order × Coming)) → Tell (map (λ f. (f.order, R.coming f.reader)) inputs.items) all → IsRefused W.holds selection all format out.old out.new (W.failed out.new) fault) }
-    ensures cut { IfErr result (λ fault. (all : List (Order × Coming)) → Tell (map (λ f. (f.order, R.coming f.reader)) inputs.items) all → IsCutShort selection all format (W.holds out.old) (W.holds out.new) (W.failed out.new) fault) }
-    // Whatever they tell.
-    ensures why { IfErr result (WhyRefused (map (λ f. (f.order, R.coming f.reader)) inputs.items) format (W.failed out.new)) }
-    ensures accepted { OnOk result (All IsAccepted (map (λ f. (f.order, R.coming f.reader)) inputs.items)) }
-    ensures file { IfOk result (WritesSet format (W.holds out.old) (W.holds out.new)) }
+    ensures written { IfOk result (λ counts. ForSome (FileGives R.can_give) inputs.items (λ all.
+        IsRun selection all format (W.holds out.old) (W.holds out.new) counts)) }
+    ensures refused { IfErr result (λ fault. ForSome (FileGives R.can_give) inputs.items (λ all.
+        Refuses W.holds selection all format out.old out.new (W.failed out.new) fault)) }
     ensures kept { Grows (W.holds out.old) (W.holds out.new) }
     ensures good { OnOk result (W.failed out.new ≡ false) }
 {

@@ -1,8 +1,8 @@
 //! What files give: streams of those that are sorted, and histories of the others.
-ghost use Rattle.std.specs.Prelude.{◌≡◌, ◌⊎◌, map, [], ◌∷◌, IfOk, IfErr};
+ghost use Rattle.std.specs.Prelude.{◌≡◌, [], ◌∷◌, IfOk, IfErr};
 ghost use Rattle.osm_files.specs.Fault.{memory_fault};
-ghost use Rattle.osm_mirror.specs.Given.{IsOpened, AreOpened, IsUnread};
-ghost use Rattle.osm_mirror.specs.Still.{still_of};
+ghost use Rattle.osm_merge.specs.Giving.{ForSome};
+ghost use Rattle.osm_mirror.specs.Given.{FileGives, FileGivesOne, in_order, IsOpened, AreOpened, IsUnopened};
 
 use crate::input::{InputFile, Order};
 use osm_files::{Fault, FileSource, HistorySource, Input, Source, load_any};
@@ -19,13 +19,21 @@ pub enum RunSource<R: Input> {
 }
 
 impl<R: Input> Source for RunSource<R> {
-    ghost use Rattle.osm_mirror.specs.Still.{still_of, left_of, still_ascends};
+    ghost use Rattle.osm_mirror.specs.Still.{SourceCanGive, source_one, left_of, number_of, failed_of, source_possible, source_ascends};
 
-    ghost still = { still_of };
+    ghost can_give = { λ s still. SourceCanGive R.can_give s still };
 
-    ghost left = { left_of };
+    ghost one = { λ s. source_one R.one s };
 
-    ghost ascends = { still_ascends };
+    ghost left = { λ s. left_of s };
+
+    ghost number = { λ s. number_of s };
+
+    ghost has_failed = { λ s. failed_of s };
+
+    ghost possible = { λ s. source_possible R.one R.can_give R.possible s };
+
+    ghost ascends = { λ s still h. source_ascends R.can_give s still h };
 
     #[inline(always)]
     fn next(&mut self) -> Result<Option<Version>, Fault> {
@@ -53,8 +61,8 @@ pub fn open_inputs<R: Input + Drop>(
     alloc: Global,
     inputs: Vec<InputFile<R>>,
 ) -> Result<Vec<RunSource<R>>, Fault>
-    ensures opened { IfOk result (λ sources. AreOpened 0 (map (λ f. (f.order, R.coming f.reader)) inputs.items) (map still_of sources.items)) }
-    ensures refused { IfErr result (λ fault. (fault ≡ memory_fault) ⊎ IsUnread 0 (map (λ f. (f.order, R.coming f.reader)) inputs.items) fault) }
+    ensures opened { IfOk result (λ sources. AreOpened R.can_give 0 inputs.items sources.items) }
+    ensures refused { IfErr result (λ fault. ForSome (FileGives R.can_give) inputs.items (λ all. IsUnopened 0 all fault)) }
 {
     let mut sources = Vec::new(alloc);
     'files: for file in inputs {
@@ -72,8 +80,8 @@ fn open_input<R: Input + Drop>(
     number: usize,
     file: InputFile<R>,
 ) -> Result<RunSource<R>, Fault>
-    ensures opened { IfOk result (λ source. IsOpened number (file.order, R.coming file.reader) (still_of source)) }
-    ensures refused { IfErr result (λ fault. (fault ≡ memory_fault) ⊎ IsUnread number ((file.order, R.coming file.reader) ∷ []) fault) }
+    ensures opened { IfOk result (λ source. IsOpened R.can_give number file source) }
+    ensures refused { IfErr result (λ fault. FileGivesOne R.can_give file (λ input. IsUnopened number (input ∷ []) fault)) }
 {
     match file.order {
         Order::Sorted => stream(alloc, number, file.reader),
@@ -83,7 +91,7 @@ fn open_input<R: Input + Drop>(
 
 /// A sorted file as a source. Nothing is read yet.
 fn stream<R: Input + Drop>(alloc: Global, number: usize, reader: R) -> Result<RunSource<R>, Fault>
-    ensures opened { IfOk result (λ source. IsOpened number (Order.Sorted, R.coming reader) (still_of source)) }
+    ensures opened { IfOk result (λ source. IsOpened R.can_give number (in_order Order.Sorted reader) source) }
     ensures memory { IfErr result (λ fault. fault ≡ memory_fault) }
 {
     match FileSource::new(alloc, number, reader) {
@@ -94,8 +102,9 @@ fn stream<R: Input + Drop>(alloc: Global, number: usize, reader: R) -> Result<Ru
 
 /// A file of any order as a source. It is read to its end.
 fn load<R: Input + Drop>(alloc: Global, number: usize, reader: R) -> Result<RunSource<R>, Fault>
-    ensures opened { IfOk result (λ source. IsOpened number (Order.Any, R.coming reader) (still_of source)) }
-    ensures refused { IfErr result (λ fault. (fault ≡ memory_fault) ⊎ IsUnread number ((Order.Any, R.coming reader) ∷ []) fault) }
+    ensures opened { IfOk result (λ source. IsOpened R.can_give number (in_order Order.Any reader) source) }
+    ensures refused { IfErr result (λ fault. FileGivesOne R.can_give (in_order Order.Any reader) (λ input.
+        IsUnopened number (input ∷ []) fault)) }
 {
     match load_any(alloc, number, reader) {
         Ok(loaded) => Ok(RunSource::Held(HistorySource::new(loaded.history))),

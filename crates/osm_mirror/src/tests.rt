@@ -1,4 +1,5 @@
 //! The commands over small files of each format, with what is written worked out by hand.
+use crate::told::{run_selected_told, run_told};
 use crate::{
     CheckReport, InputFile, Order, read_moment, run_apply, run_check, run_check_sorted, run_merge,
     run_period_filter, run_selected, run_sort, run_time_filter,
@@ -506,9 +507,13 @@ struct Dripping<'a> {
 }
 
 impl Input for Dripping<'_> {
-    ghost use Rattle.std.specs.Prelude.{Some};
+    ghost use Rattle.std.specs.Prelude.{◌≡◌, refl};
 
-    ghost coming = { λ s. Some (record { bytes = s.rest.now; broken = s.fails }) };
+    ghost can_give = { λ s c. c ≡ record { bytes = s.rest.now; broken = s.fails } };
+
+    ghost one = { λ s. record { bytes = s.rest.now; broken = s.fails } };
+
+    ghost possible = { λ s. refl };
 
     fn read(&mut self, buffer: &mut [u8]) -> Result<usize, Broken> {
         let Some((first, rest)) = self.rest.split_first() else {
@@ -563,6 +568,33 @@ fn an_input_that_fails_is_named(rt: HostRuntime) -> Result<(), Fail> {
     let period = run_period_filter(alloc, failing(), 1, 7, Format::Opl, &mut out);
     assert_eq!(rt; period.err(), alone);
     assert!(rt; out.into_vec().is_empty());
+    Ok(())
+}
+
+#[test]
+fn inputs_that_tell_what_they_give_are_merged(rt: HostRuntime) -> Result<(), Fail> {
+    let alloc = rt.alloc();
+    let mut files = Vec::new(alloc);
+    files.push(file(alloc, CREATED)?)?;
+    files.push(file(alloc, DELETED)?)?;
+    let mut out = VecOut::new(alloc);
+    run_told(alloc, readers(alloc, &files)?, Format::Opl, &mut out)?;
+    assert_eq!(rt; out.into_vec().as_slice(), CREATED_THEN_DELETED);
+    Ok(())
+}
+
+#[test]
+fn what_is_selected_of_inputs_that_tell_is_written(rt: HostRuntime) -> Result<(), Fail> {
+    let alloc = rt.alloc();
+    let mut inputs = Vec::new(alloc);
+    inputs.push(InputFile {
+        reader: SliceIn::new(CREATED_THEN_DELETED),
+        order: Order::Any,
+    })?;
+    let mut out = VecOut::new(alloc);
+    run_selected_told(alloc, Selection::Newest, inputs, Format::Opl, &mut out)?;
+    let deletion = b"n1 v2 dD c0 t i0 u T x y\n".as_slice();
+    assert_eq!(rt; out.into_vec().as_slice(), deletion);
     Ok(())
 }
 

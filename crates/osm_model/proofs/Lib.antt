@@ -1,6 +1,5 @@
 pub mod SetLaws
 pub mod MergedLaws
-pub mod MovedLaws
 pub mod TextLaws
 pub mod TagLaws
 pub mod ValidLaws

@@ -113,7 +113,7 @@ impl Body {
         self.sorted()
     }
 
-    /// The same, whatever the order of the tags.
+    /// The body with its tags ascending, each once, whatever their order was.
     #[cold]
     #[inline(never)]
     fn sorted(self) -> Body

@@ -1,5 +1,5 @@
 //! Histories.
-ghost use Rattle.std.specs.Prelude.{◌≡◌, ◌+◌, ◌<◌, ◌≤◌, ◌++◌, ◌↔◌, IfOk, IsTrue, MatchResult, OnOk, slice_index_or, vec_len, vec_capacity};
+ghost use Rattle.std.specs.Prelude.{◌≡◌, ◌<◌, ◌++◌, ◌↔◌, IfOk, IsTrue, OnOk, slice_index_or};
 ghost use Rattle.std.specs.List.Sorted.{IsStrictlySortedBy};
 ghost use Rattle.osm_model.specs.Order.{version_cmp};
 ghost use Rattle.osm_model.specs.Sets as set;
@@ -9,7 +9,6 @@ use crate::{Memory, Version};
 use std::alloc::Global;
 use std::cmp::Ordering;
 use std::marker::Model;
-use std::mem;
 
 /// A finite set of versions.
 #[derive(Drop)]
@@ -66,25 +65,6 @@ impl History {
         let mut versions = Vec::new(*self.versions.allocator());
         append_merged(&mut versions, &self.versions, &other.versions)?;
         Ok(History { versions })
-    }
-
-    /// Takes the versions of another history in, so that this one holds the union. It goes once over both, and moves the
-    /// versions without a copy.
-    ///
-    /// # Errors
-    ///
-    /// For want of memory alone, in which case this history stays as it was.
-    pub fn absorb(&mut self, other: History) -> Result<(), Memory>
-        ensures { MatchResult result (λ _. self.new ≡ set.union self.old other) (λ _. self.new ≡ self.old) }
-    {
-        let alloc = *self.versions.allocator();
-        let History { versions: more } = other;
-        // All the room is there before anything is moved, so nothing can be refused from then on.
-        let mut union = Vec::with_capacity(alloc, self.versions.len() + more.len())?;
-        let held = mem::replace(&mut self.versions, Vec::new(alloc));
-        move_merged(&mut union, held, more);
-        self.versions = union;
-        Ok(())
     }
 
     /// Whether the history holds the version.
@@ -175,50 +155,6 @@ fn append_merged(
                 versions.push(right[j].copy()?)?;
                 j += 1;
             }
-        }
-    }
-}
-
-/// The versions of two ascending lists, ascending, behind those that are there, with room for all of them. Of two equal ones
-/// one is dropped.
-fn move_merged(versions: &mut Vec<Version>, left: Vec<Version>, right: Vec<Version>)
-    requires { vec_len versions.old + (vec_len left + vec_len right) ≤ vec_capacity versions.old }
-    ensures { versions.new.items ≡ versions.old.items ++ merged version_cmp left.items right.items }
-{
-    let mut left = left.into_iter();
-    let mut right = right.into_iter();
-    let mut x = left.next();
-    let mut y = right.next();
-    'merge: loop {
-        match (x, y) {
-            (None, None) => return,
-            (Some(v), None) => {
-                versions.push_reserved(v);
-                x = left.next();
-                y = None;
-            }
-            (None, Some(w)) => {
-                versions.push_reserved(w);
-                x = None;
-                y = right.next();
-            }
-            (Some(v), Some(w)) => match v.cmp(&w) {
-                Ordering::Less => {
-                    versions.push_reserved(v);
-                    x = left.next();
-                    y = Some(w);
-                }
-                Ordering::Equal => {
-                    versions.push_reserved(v);
-                    x = left.next();
-                    y = right.next();
-                }
-                Ordering::Greater => {
-                    versions.push_reserved(w);
-                    x = Some(v);
-                    y = right.next();
-                }
-            },
         }
     }
 }

@@ -525,16 +525,6 @@ fn faults_have_texts(rt: HostRuntime) -> Result<(), Fail> {
 }
 
 #[test]
-fn a_history_absorbs_another(rt: HostRuntime) -> Result<(), Fail> {
-    let alloc = rt.alloc();
-    let mut held = history(alloc, 90_000_000)?;
-    held.absorb(history(alloc, 100_000_000)?)?;
-    let joined = history(alloc, 90_000_000)?.join(&history(alloc, 100_000_000)?)?;
-    assert!(rt; held.into_versions() == joined.into_versions());
-    Ok(())
-}
-
-#[test]
 fn an_ascending_list_is_a_history(rt: HostRuntime) -> Result<(), Fail> {
     let alloc = rt.alloc();
     let versions = history(alloc, 90_000_000)?.into_versions();

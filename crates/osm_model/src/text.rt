@@ -40,7 +40,7 @@ impl Place {
         }
     }
 
-    /// The same bytes again.
+    /// A copy, which holds equal bytes.
     #[inline(always)]
     fn copy(&self) -> Result<Place, Memory>
         ensures { IfOk result (λ p. bytes_at p ≡ bytes_at self.now) }
@@ -52,7 +52,7 @@ impl Place {
     }
 }
 
-/// The same bytes again, out of the way of short texts.
+/// A copy of bytes in memory of their own, out of the way of short texts.
 #[inline(never)]
 fn copy_apart(string: &String) -> Result<String, Memory>
     ensures { IfOk result (λ copy. string_bytes copy ≡ string_bytes string.now) }

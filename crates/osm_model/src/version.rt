@@ -121,7 +121,8 @@ impl Version {
         Version::new_reusing(alloc, &mut None, id, meta, body)
     }
 
-    /// The same in the memory of a version that isn't needed any more, where one is given.
+    /// The version of this data, as [`Version::new`] makes it, in the memory of a version that isn't needed any more,
+    /// where one is given.
     ///
     /// # Errors
     ///
@@ -165,7 +166,7 @@ impl Version {
         })
     }
 
-    /// The same in the memory of a version that isn't needed any more, where one is given.
+    /// The version of data that has no fault, in the memory of one that isn't needed any more, where one is given.
     ///
     /// # Errors
     ///
@@ -188,7 +189,7 @@ impl Version {
         }
     }
 
-    /// The same in the memory of a version that isn't needed any more, so that none is wanted.
+    /// The version of data that has no fault, in the memory of one that isn't needed any more, so that none is wanted.
     #[inline(always)]
     pub fn of_sound_data_in(mut spare: Version, id: i64, meta: Meta, body: Body) -> Version
         requires { first_fault id meta body ≡ None }

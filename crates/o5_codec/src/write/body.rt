@@ -56,7 +56,7 @@ impl Context {
         self.append_each_tag(out, tags)
     }
 
-    /// The same where there are tags.
+    /// Appends the tags, of which there are some.
     #[inline(never)]
     #[tactic(auto, unfolding(crate::specs::Writing::tags_written))]
     fn append_each_tag(&mut self, out: &mut Draft, tags: &[Tag]) -> Result<(), Memory>

@@ -161,7 +161,7 @@ impl Entry {
         Ok(())
     }
 
-    /// The same entry as another, in the buffer of this one.
+    /// A copy of another entry, in the buffer of this one.
     pub(crate) fn refilled(mut self, other: &Entry) -> Result<Entry, Memory>
         ensures { IfOk result (λ e. e ≡ other.now) }
     {

@@ -137,7 +137,7 @@ impl Piece {
         self.end = end + 4;
     }
 
-    /// The same of any number, group by group.
+    /// Appends a number of any length, group by group.
     #[inline(never)]
     fn append_long_number(&mut self, number: u64)
         requires { self.old.end + 10 ≤ 128 }

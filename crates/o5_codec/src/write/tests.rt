@@ -108,15 +108,18 @@ fn check_row(
 
 /// Checks rows. At an empty row another encoder begins.
 fn check_rows(rt: &impl Abort, alloc: Global, rows: &str) -> Result<(), Fail> {
+    for file in rows.split("\n\n") {
+        check_file(rt, alloc, file)?;
+    }
+    Ok(())
+}
+
+/// Checks rows by one encoder.
+fn check_file(rt: &impl Abort, alloc: Global, rows: &str) -> Result<(), Fail> {
     let mut writer = Writer::new(alloc)?;
     let mut reader = Decoder::new(alloc)?;
     for row in rows.lines() {
-        if row.is_empty() {
-            writer = Writer::new(alloc)?;
-            reader = Decoder::new(alloc)?;
-        } else {
-            check_row(rt, alloc, &mut writer, &mut reader, row)?;
-        }
+        check_row(rt, alloc, &mut writer, &mut reader, row)?;
     }
     Ok(())
 }
@@ -205,6 +208,35 @@ fn with_many_tags(alloc: Global, count: u32) -> Result<Version, Fail> {
     node(alloc, 1, tags)
 }
 
+/// Writes a version, and reads it back.
+fn pass_on(writer: &mut Writer, reader: &mut Decoder, version: &Version) -> Result<(), Fail> {
+    let set = writer.write(version)?;
+    let read = read_back(reader, &set)?;
+    reader.reuse(read);
+    Ok(())
+}
+
+/// An encoder and a decoder behind a node with so many tags.
+fn behind_many_tags(alloc: Global, count: u32) -> Result<(Writer, Decoder), Fail> {
+    let mut writer = Writer::new(alloc)?;
+    let mut reader = Decoder::new(alloc)?;
+    pass_on(&mut writer, &mut reader, &with_many_tags(alloc, count)?)?;
+    Ok((writer, reader))
+}
+
+/// Writes a version, compares its data set with one in hexadecimal, and reads it back.
+fn check_digits(
+    rt: &impl Abort,
+    alloc: Global,
+    writer: &mut Writer,
+    reader: &mut Decoder,
+    version: &Version,
+    expected: &str,
+) -> Result<(), Fail> {
+    let expected = bytes_of(alloc, expected)?;
+    check(rt, writer, reader, version, &expected)
+}
+
 /// Writes node 1 with so many tags, and node 2 with one tag, whose data set is compared.
 fn check_second(
     rt: &impl Abort,
@@ -213,13 +245,9 @@ fn check_second(
     key: &str,
     expected: &str,
 ) -> Result<(), Fail> {
-    let mut writer = Writer::new(alloc)?;
-    let mut reader = Decoder::new(alloc)?;
-    let set = writer.write(&with_many_tags(alloc, count)?)?;
-    let _ = read_back(&mut reader, &set)?;
+    let (mut writer, mut reader) = behind_many_tags(alloc, count)?;
     let version = node(alloc, 2, vec![in alloc; tag(alloc, key, "")?]?)?;
-    let expected = bytes_of(alloc, expected)?;
-    check(rt, &mut writer, &mut reader, &version, &expected)
+    check_digits(rt, alloc, &mut writer, &mut reader, &version, expected)
 }
 
 #[test]
@@ -294,6 +322,24 @@ fn fill(alloc: Global, entry: &mut Entry, number: u32) -> Result<(), Fail> {
     Ok(())
 }
 
+/// Appends the entry of a number to both tables, and sees that they write the same.
+fn append_to_both(
+    rt: &impl Abort,
+    alloc: Global,
+    table: &mut Table,
+    plain: &mut Plain,
+    number: u32,
+    entry: &Entry,
+) -> Result<(), Fail> {
+    let mut written = Draft::new(alloc);
+    table.append(&mut written, Slot::of_user(u64::from(number)), entry)?;
+    let mut expected = Draft::new(alloc);
+    plain.append(&mut expected, number, entry)?;
+    let written = all_of(alloc, &written)?;
+    assert_eq!(rt; written.as_slice(), all_of(alloc, &expected)?.as_slice());
+    Ok(())
+}
+
 #[test]
 fn refers_as_a_plain_search_does(rt: HostRuntime) -> Result<(), Fail> {
     let alloc = rt.alloc();
@@ -309,14 +355,7 @@ fn refers_as_a_plain_search_does(rt: HostRuntime) -> Result<(), Fail> {
             .wrapping_add(1);
         let number = (random >> 33) as u32 % 60_000;
         fill(alloc, &mut entry, number)?;
-        let mut written = Draft::new(alloc);
-        table.append(&mut written, Slot::of_user(u64::from(number)), &entry)?;
-        let mut expected = Draft::new(alloc);
-        plain.append(&mut expected, number, &entry)?;
-        assert_eq!(rt;
-            all_of(alloc, &written)?.as_slice(),
-            all_of(alloc, &expected)?.as_slice()
-        );
+        append_to_both(&rt, alloc, &mut table, &mut plain, number, &entry)?;
     }
     assert_eq!(rt; plain.stored.len(), 15_000);
     Ok(())

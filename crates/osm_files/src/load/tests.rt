@@ -18,9 +18,13 @@ struct Dripping<'a> {
 }
 
 impl Input for Dripping<'_> {
-    ghost use Rattle.std.specs.Prelude.{Some};
+    ghost use Rattle.std.specs.Prelude.{◌≡◌, refl};
 
-    ghost coming = { λ s. Some (record { bytes = s.rest.now; broken = s.fails }) };
+    ghost can_give = { λ s c. c ≡ record { bytes = s.rest.now; broken = s.fails } };
+
+    ghost one = { λ s. record { bytes = s.rest.now; broken = s.fails } };
+
+    ghost possible = { λ s. refl };
 
     fn read(&mut self, buffer: &mut [u8]) -> Result<usize, Broken> {
         let Some((first, rest)) = self.rest.split_first() else {
@@ -112,6 +116,19 @@ fn cut_files_are_refused_at_their_places(rt: HostRuntime) {
             assert!(rt; is_cut(rt.alloc(), length, place, reason));
         }
     }
+}
+
+#[test]
+fn byte_behind_the_end_is_refused(rt: HostRuntime) -> Result<(), Fail> {
+    let mut longer = Vec::new(rt.alloc());
+    longer.extend_from_slice(NODE_THEN_DELETION)?;
+    longer.push(0)?;
+    assert_eq!(rt; longer.len(), 29);
+    assert_eq!(rt;
+        loaded(rt.alloc(), &longer).err(),
+        refused(28, Reason::AfterEnd)
+    );
+    Ok(())
 }
 
 #[test]

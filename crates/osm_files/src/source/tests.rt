@@ -79,6 +79,7 @@ fn unsorted_file_is_refused(rt: HostRuntime) -> Result<(), Fail> {
     let mut source = FileSource::new(rt.alloc(), 2, SliceIn::new(file))?;
     assert_eq!(rt; source.next().err(), Some(fault(12, Reason::Unsorted)));
     assert_eq!(rt; source.next().err(), Some(fault(0, Reason::Failed)));
+    assert_eq!(rt; source.next().err(), Some(fault(0, Reason::Failed)));
     Ok(())
 }
 

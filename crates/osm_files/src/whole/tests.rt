@@ -12,7 +12,7 @@ use std::test::Fail;
 const LINES: &[u8] =
     b"# a comment\nn1 v1 c1 t1970-01-01T00:00:01Z i1 ua x0 y0\r\n\nn1 v2 dD c1 t1970-01-01T00:00:02Z i1 ua";
 
-/// The same in o5c, with a reset, a lone byte and a data set that is skipped.
+/// A node, and its deletion, in o5c, with a reset, a lone byte and a data set that is skipped.
 const O5C: &[u8] =
     b"\xff\xe0\x04o5c2\xdc\x01\x02\xf3\xff\x10\x0b\x02\x01\x02\x02\x00\x01\x00a\x00\x00\x00\x10\x05\x00\x02\x02\x00\x01\xfe";
 

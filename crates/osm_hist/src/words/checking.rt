@@ -1,21 +1,22 @@
 //! Checking a file.
-use super::files::{buffered, can_be_read_again, open};
+use super::files::{input_name, open, open_word};
 use super::print;
 use super::refusal::Refusal;
 use super::request::FileCheck;
-use osm_files::{Fault, Reason};
+use osm_files::{Fault, FromRead, Reason};
 use osm_mirror::{CheckReport, run_check, run_check_sorted};
 use std::alloc::Global;
 use std::io::{Read, Write};
 use std::rt::Files;
 
 /// Prints what a file holds, and whether it is sorted.
-pub(super) fn check_file<'a, R: Files + AllocGlobal, O: Write>(
+pub(super) fn check_file<'a, R: Files + AllocGlobal, I: Read + Drop, O: Write>(
     rt: &R,
     check: &FileCheck<'a>,
+    input: I,
     out: &mut O,
 ) -> Result<(), Refusal<'a>> {
-    let report = report_of(rt, check.file)?;
+    let report = report_of(rt, check.file, input)?;
     let order = if report.sorted { "sorted" } else { "unsorted" };
     let format = report.format.name();
     let (versions, objects) = (report.versions, report.objects);
@@ -26,30 +27,31 @@ pub(super) fn check_file<'a, R: Files + AllocGlobal, O: Write>(
 }
 
 /// What a check tells of a file. It is held only where it isn't sorted or can't be read again.
-fn report_of<'a, R: Files + AllocGlobal>(
+fn report_of<'a, R: Files + AllocGlobal, I: Read + Drop>(
     rt: &R,
-    name: &'a str,
+    word: &'a str,
+    input: I,
 ) -> Result<CheckReport, Refusal<'a>> {
-    let file = open(rt, name)?;
-    if !can_be_read_again(&file) {
-        return report_of_held(rt.alloc(), name, file);
+    let file = open_word(rt, word, &mut Some(input))?;
+    if !file.can_be_read_again() {
+        return report_of_held(rt.alloc(), word, file);
     }
-    match run_check_sorted(rt.alloc(), buffered(rt.alloc(), file)?) {
+    match run_check_sorted(rt.alloc(), FromRead::new(file)) {
         Ok(report) => Ok(report),
-        Err(fault) if is_unsorted(&fault) => report_of_held(rt.alloc(), name, open(rt, name)?),
-        Err(fault) => Err(refused(name, fault)),
+        Err(fault) if is_unsorted(&fault) => report_of_held(rt.alloc(), word, open(rt, word)?),
+        Err(fault) => Err(refused(rt.alloc(), word, &fault)),
     }
 }
 
 /// What a check tells of a file in any order.
 fn report_of_held<'a, F: Read + Drop>(
     alloc: Global,
-    name: &'a str,
+    word: &'a str,
     file: F,
 ) -> Result<CheckReport, Refusal<'a>> {
-    match run_check(alloc, buffered(alloc, file)?) {
+    match run_check(alloc, FromRead::new(file)) {
         Ok(report) => Ok(report),
-        Err(fault) => Err(refused(name, fault)),
+        Err(fault) => Err(refused(alloc, word, &fault)),
     }
 }
 
@@ -58,7 +60,7 @@ pub(super) fn is_out_of_order<'a, R: Files + AllocGlobal>(
     rt: &R,
     name: &'a str,
 ) -> Result<bool, Refusal<'a>> {
-    match run_check_sorted(rt.alloc(), buffered(rt.alloc(), open(rt, name)?)?) {
+    match run_check_sorted(rt.alloc(), FromRead::new(open(rt, name)?)) {
         Ok(_) => Ok(false),
         Err(fault) => Ok(is_unsorted(&fault)),
     }
@@ -70,6 +72,7 @@ pub(super) fn is_unsorted(fault: &Fault) -> bool {
 }
 
 /// The refusal of a file.
-fn refused<'a>(name: &'a str, fault: Fault) -> Refusal<'a> {
-    Refusal::of_fault(fault, &[name], name)
+fn refused<'a>(alloc: Global, word: &'a str, fault: &Fault) -> Refusal<'a> {
+    let name = input_name(word);
+    Refusal::of_fault(alloc, fault, &[name], name)
 }

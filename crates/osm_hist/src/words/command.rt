@@ -5,22 +5,42 @@ use std::alloc::{AllocError, Global};
 /// The names of the formats in which a file can be written, which `clap` takes as a list.
 static FORMAT_NAMES: [&str; 3] = ["opl", "o5m", "o5c"];
 
-/// What the help of a command that takes files in any order says of memory.
-const MEMORY: &str =
-    "A sorted file is read one version at a time. A file that isn't sorted is held in memory, and so is a \
-    pipe, which can't be read twice.";
+/// The program's version.
+const VERSION: &str = "0.1.0";
+
+/// What the program's help says besides.
+const PROGRAM: &str = "Without a command, standard input is merged to standard output, as OPL.\n\n\
+    Memory: files that are sorted are read one version at a time, however large they are.";
+
+/// What the help of `merge` says of memory, with an example.
+const MERGE: &str = "Memory: each file is read one version at a time.\n\n\
+    Example: osm_hist merge --output all.opl monday.opl tuesday.o5m";
+
+/// What the help of a command that takes files in any order says of memory, with an example.
+macro_rules! any_order_help {
+    ($example:literal) => {
+        concat!(
+            "Memory: a sorted file is read one version at a time. A file that isn't sorted is held in memory, and so ",
+            "is a pipe, which can't be read twice.\n\nExample: osm_hist ",
+            $example
+        )
+    };
+}
 
 /// What the help of `plan` says of the lines of a plan.
 const PLAN: &str =
     "PLAN is a text of lines. The lines `full` and `latest` stand first, one for each mirror, numbered from 0; \
     then `take M FILE`, `pass M N FORMAT` and `restart M FORMAT`; then `write M FORMAT FILE`. For example, two mirrors of which \
-    one takes a file and passes it on:\n\nlatest\nfull\ntake 0 a.opl\npass 0 1 o5c\nwrite 1 opl x.opl";
+    one takes a file and passes it on:\n\nlatest\nfull\ntake 0 a.opl\npass 0 1 o5c\nwrite 1 opl x.opl\n\n\
+    Memory: all files that are taken and all that the mirrors hold are in memory.\n\n\
+    Example: osm_hist plan mirrors.plan";
 
 /// The command that reads the words.
 pub(super) fn command<'a>(alloc: Global) -> Result<Command<'a>, AllocError> {
     Command::new(alloc, "osm_hist")
         .about("Merges, cuts and checks files of OpenStreetMap histories")
-        .after_help("Without a command, standard input is merged to standard output.")
+        .version(VERSION)
+        .after_help(PROGRAM)
         .bin_name("osm_hist")?
         .no_binary_name(true)
         .subcommand_required(true)
@@ -35,10 +55,10 @@ pub(super) fn command<'a>(alloc: Global) -> Result<Command<'a>, AllocError> {
 fn merge_command<'a>(alloc: Global) -> Result<Command<'a>, AllocError> {
     writing_command(alloc, "merge")?
         .about("Merges sorted files into one")
-        .after_help("Each file is read one version at a time.")
+        .after_help(MERGE)
         .arg(files_arg(
             alloc,
-            "The files to be merged, each sorted, in OPL, o5m or o5c",
+            "The files to be merged, each sorted, in OPL, o5m or o5c; - is standard input",
         ))
 }
 
@@ -49,10 +69,15 @@ fn apply_command<'a>(alloc: Global) -> Result<Command<'a>, AllocError> {
         .help("Writes all versions, deletions included");
     writing_command(alloc, "apply")?
         .about("Applies changes: writes the newest version of each object that isn't deleted")
-        .after_help(MEMORY)
+        .after_help(any_order_help!(
+            "apply --output today.o5m --format o5m yesterday.o5m changes.o5c"
+        ))
         .arg(with_history)?
         .arg(sorted_arg(alloc))?
-        .arg(files_arg(alloc, "The files and changes, in OPL, o5m or o5c"))
+        .arg(files_arg(
+            alloc,
+            "The files and changes, in OPL, o5m or o5c; - is standard input",
+        ))
 }
 
 fn time_filter_command<'a>(alloc: Global) -> Result<Command<'a>, AllocError> {
@@ -60,7 +85,7 @@ fn time_filter_command<'a>(alloc: Global) -> Result<Command<'a>, AllocError> {
         .value_name("FILE")
         .required(true)
         .action(ArgAction::Set)
-        .help("The file of a history, in OPL, o5m or o5c");
+        .help("The file of a history, in OPL, o5m or o5c; - is standard input");
     let time = Arg::new(alloc, "time")
         .value_name("TIME")
         .required(true)
@@ -72,7 +97,9 @@ fn time_filter_command<'a>(alloc: Global) -> Result<Command<'a>, AllocError> {
         .help("The end of the period that begins then: all versions of that period are written");
     writing_command(alloc, "time-filter")?
         .about("Writes the objects as they stood at a moment, or their versions of a period")
-        .after_help(MEMORY)
+        .after_help(any_order_help!(
+            "time-filter --output new-year.opl history.opl 2020-01-01T00:00:00Z"
+        ))
         .arg(sorted_arg(alloc))?
         .arg(file)?
         .arg(time)?
@@ -82,9 +109,12 @@ fn time_filter_command<'a>(alloc: Global) -> Result<Command<'a>, AllocError> {
 fn sort_command<'a>(alloc: Global) -> Result<Command<'a>, AllocError> {
     writing_command(alloc, "sort")?
         .about("Sorts files in any order into one")
-        .after_help(MEMORY)
+        .after_help(any_order_help!("sort --output sorted.opl unsorted.opl"))
         .arg(sorted_arg(alloc))?
-        .arg(files_arg(alloc, "The files to be sorted, in OPL, o5m or o5c"))
+        .arg(files_arg(
+            alloc,
+            "The files to be sorted, in OPL, o5m or o5c; - is standard input",
+        ))
 }
 
 fn check_command<'a>(alloc: Global) -> Result<Command<'a>, AllocError> {
@@ -92,10 +122,10 @@ fn check_command<'a>(alloc: Global) -> Result<Command<'a>, AllocError> {
         .value_name("FILE")
         .required(true)
         .action(ArgAction::Set)
-        .help("The file to be checked, in OPL, o5m or o5c");
+        .help("The file to be checked, in OPL, o5m or o5c; - is standard input");
     Command::new(alloc, "check")
         .about("Prints a file's format, its versions and objects, and whether it is sorted")
-        .after_help(MEMORY)
+        .after_help(any_order_help!("check download.o5m"))
         .arg(file)
 }
 
@@ -120,7 +150,9 @@ fn writing_command<'a>(alloc: Global, name: &'a str) -> Result<Command<'a>, Allo
         .value_name("OUT")
         .required(true)
         .action(ArgAction::Set)
-        .help("The file to be written");
+        .help(
+            "The file to be written; - is standard output, and a pipe or a device is written as it is",
+        );
     let format = Arg::new(alloc, "format")
         .long("format")
         .value_name("FORMAT")
@@ -128,7 +160,14 @@ fn writing_command<'a>(alloc: Global, name: &'a str) -> Result<Command<'a>, Allo
         .default_value("opl")
         .action(ArgAction::Set)
         .help("Its format");
-    Command::new(alloc, name).arg(output)?.arg(format)
+    let fsync = Arg::new(alloc, "fsync")
+        .long("fsync")
+        .action(ArgAction::SetTrue)
+        .help("Puts the file on the disk before it gets its name");
+    Command::new(alloc, name)
+        .arg(output)?
+        .arg(format)?
+        .arg(fsync)
 }
 
 fn files_arg<'a>(alloc: Global, help: &'a str) -> Arg<'a> {

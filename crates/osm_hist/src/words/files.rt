@@ -1,20 +1,89 @@
-//! Files by name: opened to be read, and made to be written.
+//! Files by name and standard streams: opened to be read, and made to be written.
 use super::refusal::Refusal;
-use osm_files::{FromRead, ToWrite};
+use super::target::STANDARD;
+use osm_files::ToWrite;
 use std::alloc::{AllocError, Global};
-use std::fs;
 use std::fs::{File, OpenFile};
-use std::io::{BufReader, BufWriter, ErrorKind, Read, Write};
+use std::io::{BufWriter, ErrorKind, Read, Write};
 use std::rt::Files;
+use std::{fs, io};
 
-/// The bytes of the buffer before each file.
+/// The bytes of the buffer before what is written.
 const BUFFER: usize = 65536;
-
-/// A reader as an input, through a buffer.
-pub(super) type Buffered<R> = FromRead<BufReader<R>>;
 
 /// A writer as an output, through a buffer.
 pub(super) type BufferedOut<W> = ToWrite<BufWriter<W>>;
+
+/// A file, or a standard stream.
+#[derive(Drop)]
+pub(super) enum Stream<F, S> {
+    File(F),
+    Standard(S),
+}
+
+impl<F: Read, S: Read> Read for Stream<F, S> {
+    fn read(&mut self, buffer: &mut [u8]) -> io::Result<usize> {
+        match self {
+            Stream::File(file) => file.read(buffer),
+            Stream::Standard(stream) => stream.read(buffer),
+        }
+    }
+}
+
+impl<F: Write, S: Write> Write for Stream<F, S> {
+    fn write(&mut self, bytes: &[u8]) -> io::Result<usize> {
+        match self {
+            Stream::File(file) => file.write(bytes),
+            Stream::Standard(stream) => stream.write(bytes),
+        }
+    }
+
+    fn flush(&mut self) -> io::Result<()> {
+        match self {
+            Stream::File(file) => file.flush(),
+            Stream::Standard(stream) => stream.flush(),
+        }
+    }
+}
+
+impl<F: OpenFile, S> Stream<F, S> {
+    /// Whether it can be read again from its start: a pipe, a device or standard input can't.
+    pub(super) fn can_be_read_again(&self) -> bool {
+        match self {
+            Stream::File(file) => is_regular(file),
+            Stream::Standard(_) => false,
+        }
+    }
+}
+
+/// Whether a file that is open is neither a pipe nor a device.
+fn is_regular<F: OpenFile>(file: &F) -> bool {
+    match file.metadata() {
+        Ok(metadata) => metadata.is_file(),
+        Err(_) => false,
+    }
+}
+
+/// The name of a file to be read in the line of a fault, by the word for it.
+pub(super) fn input_name<'a>(word: &'a str) -> &'a str {
+    if word == STANDARD {
+        "standard input"
+    } else {
+        word
+    }
+}
+
+/// The names of files to be read in the lines of faults, by the words for them.
+pub(super) fn input_names<'a>(
+    alloc: Global,
+    words: &[&'a str],
+) -> Result<Vec<&'a str>, AllocError> {
+    let mut names = Vec::new(alloc);
+    for word in words {
+        names.push(input_name(*word))?;
+    }
+    Ok(names)
+}
 
 /// The file of this name, opened to be read.
 pub(super) fn open<'a, R: Files>(rt: &R, name: &'a str) -> Result<R::File, Refusal<'a>> {
@@ -24,16 +93,34 @@ pub(super) fn open<'a, R: Files>(rt: &R, name: &'a str) -> Result<R::File, Refus
     }
 }
 
-/// The files of these names, opened in their order.
-pub(super) fn open_all<'a, R: Files + AllocGlobal>(
+/// What these words mean, opened in their order. Standard input is among them once at most, where it is given.
+pub(super) fn open_all<'a, R: Files + AllocGlobal, I: Read + Drop>(
     rt: &R,
-    names: &[&'a str],
-) -> Result<Vec<R::File>, Refusal<'a>> {
-    let mut files = Vec::new(rt.alloc());
-    for name in names {
-        files.push(open(rt, *name)?)?;
+    words: &[&'a str],
+    mut input: Option<I>,
+) -> Result<Vec<Stream<R::File, I>>, Refusal<'a>> {
+    let mut streams = Vec::new(rt.alloc());
+    for word in words {
+        streams.push(open_word(rt, *word, &mut input)?)?;
     }
-    Ok(files)
+    Ok(streams)
+}
+
+/// What this word means, opened: standard input, which is taken, or a file.
+pub(super) fn open_word<'a, R: Files, I: Read + Drop>(
+    rt: &R,
+    word: &'a str,
+    input: &mut Option<I>,
+) -> Result<Stream<R::File, I>, Refusal<'a>> {
+    if word != STANDARD {
+        return Ok(Stream::File(open(rt, word)?));
+    }
+    match input.take() {
+        Some(stream) => Ok(Stream::Standard(stream)),
+        None => Err(Refusal::CannotRead {
+            name: input_name(word),
+        }),
+    }
 }
 
 /// The bytes of the file of this name.
@@ -60,42 +147,23 @@ pub(super) fn create<'a, R: Files>(
     }
 }
 
+/// Puts OUT.part on the disk.
+pub(super) fn sync<'a, R: Files>(rt: &R, output: &'a str, part: &str) -> Result<(), Refusal<'a>> {
+    let synced = File::options()
+        .write(true)
+        .open(rt, part)
+        .and_then(|file| file.sync_all());
+    match synced {
+        Ok(()) => Ok(()),
+        Err(_) => Err(Refusal::CannotSync { output }),
+    }
+}
+
 /// Renames OUT.part to OUT.
 pub(super) fn rename<'a, R: Files>(rt: &R, part: &str, output: &'a str) -> Result<(), Refusal<'a>> {
     match fs::rename(rt, part, output) {
         Ok(()) => Ok(()),
         Err(_) => Err(Refusal::CannotRename { output }),
-    }
-}
-
-/// Removes OUT.part at a refusal. Where it can't be removed it stays, and the refusal is the same.
-pub(super) fn remove_refused<'a, R: Files>(
-    rt: &R,
-    part: &str,
-    outcome: Result<(), Refusal<'a>>,
-) -> Result<(), Refusal<'a>> {
-    if outcome.is_err() {
-        let _ = fs::remove_file(rt, part);
-    }
-    outcome
-}
-
-/// Whether a file can be read again from its start: a pipe or a device can't.
-pub(super) fn can_be_read_again<F: OpenFile>(file: &F) -> bool {
-    match file.metadata() {
-        Ok(metadata) => metadata.is_file(),
-        Err(_) => false,
-    }
-}
-
-/// A reader as an input, through a buffer.
-pub(super) fn buffered<R: Read + Drop>(
-    alloc: Global,
-    reader: R,
-) -> Result<Buffered<R>, AllocError> {
-    match BufReader::with_capacity(alloc, BUFFER, reader) {
-        Ok(reader) => Ok(FromRead::new(reader)),
-        Err(_) => Err(AllocError),
     }
 }
 

@@ -5,10 +5,11 @@ ghost use Rattle.osm_mirror.specs.Fleet.{IsWithin};
 ghost use Rattle.osm_mirror.specs.Plan.{NamesItsMirrors};
 ghost use Rattle.osm_mirror.specs.PlanLine.{StepNames};
 
-use super::files::{create, read, remove_refused, rename};
+use super::files::read;
 use super::print;
 use super::refusal::Refusal;
 use super::request::PlanRun;
+use super::target::Target;
 use osm_files::{Fault, Output, Reason, ToWrite, write_all};
 use osm_mirror::{Event, Fleet, Plan, PlanWrite, Reply, Step, read_plan};
 use std::alloc::{AllocError, Global};
@@ -49,7 +50,7 @@ fn run_lines<'p, R: Files + AllocGlobal, O: Write>(
     )?;
     let replies = fleet.run(events.as_slice())?;
     print(out, &lines_of(rt.alloc(), replies.as_slice())?)?;
-    write_files(rt, &fleet, plan.writes.as_slice())
+    write_files(rt, &fleet, plan.writes.as_slice(), out)
 }
 
 /// What is taken in each step: the bytes of its file, or nothing in a step that takes none.
@@ -123,41 +124,43 @@ fn lines_of(alloc: Global, replies: &[Reply]) -> Result<String, AllocError> {
 }
 
 /// Makes the files of write lines, in their order.
-fn write_files<'p, R: Files + AllocGlobal>(
+fn write_files<'p, R: Files + AllocGlobal, O: Write>(
     rt: &R,
     fleet: &Fleet,
     writes: &'p [PlanWrite],
+    out: &mut O,
 ) -> Result<(), Refusal<'p>>
     requires { All (λ write. write.mirror < length fleet.now) writes.now }
 {
     'writes: for write in writes {
-        let output = write.file.as_str();
+        let name = write.file.as_str();
         match fleet.mirror(write.mirror).write(write.format) {
-            Ok(bytes) => make_file(rt, output, bytes.as_slice())?,
-            Err(fault) => return Err(Refusal::of_fault(fault, &[], output)),
+            Ok(bytes) => make_file(rt, name, bytes.as_slice(), out)?,
+            Err(fault) => return Err(Refusal::of_fault(rt.alloc(), &fault, &[], name)),
         }
     }
     Ok(())
 }
 
-/// Makes OUT of bytes. They are written to OUT.part, which becomes OUT at the end, or goes at a refusal.
-fn make_file<'p, R: Files + AllocGlobal>(
+/// Makes OUT of bytes. A file is written as OUT.part, which becomes OUT at the end, or goes at a refusal.
+fn make_file<'p, R: Files + AllocGlobal, O: Write>(
     rt: &R,
-    output: &'p str,
+    name: &'p str,
     bytes: &[u8],
+    out: &mut O,
 ) -> Result<(), Refusal<'p>> {
-    let part = format!(in rt.alloc(); "{output}.part")?;
-    let file = create(rt, output, part.as_str())?;
-    let outcome = match write_bytes(bytes, file) {
-        Ok(()) => rename(rt, part.as_str(), output),
-        Err(fault) => Err(Refusal::of_fault(fault, &[], output)),
+    let target = Target::of_name(rt, name);
+    let part = format!(in rt.alloc(); "{name}.part")?;
+    let outcome = match write_bytes(bytes, target.open(rt, part.as_str(), out)?) {
+        Ok(()) => target.complete(rt, part.as_str(), false),
+        Err(fault) => Err(Refusal::of_fault(rt.alloc(), &fault, &[], target.name())),
     };
-    remove_refused(rt, part.as_str(), outcome)
+    target.end(rt, part.as_str(), outcome)
 }
 
-/// Writes bytes to a file that is made with them.
-fn write_bytes<F: Write + Drop>(bytes: &[u8], file: F) -> Result<(), Fault> {
-    let mut output = ToWrite::new(file);
+/// Writes bytes to an output that gets no others.
+fn write_bytes<W: Write + Drop>(bytes: &[u8], writer: W) -> Result<(), Fault> {
+    let mut output = ToWrite::new(writer);
     if !bytes.is_empty() {
         write_all(&mut output, 0, 0, bytes)?;
     }

@@ -1,7 +1,7 @@
 //! Why a command is refused, with the line and the exit status that it gets.
 use clap::error::ErrorKind;
-use osm_files::{Fault, Reason};
-use osm_mirror::{PlanFault, PlanReason};
+use osm_files::Fault;
+use osm_mirror::{PlanFault, PlanReason, fault_text};
 use osm_model::Memory;
 use std::alloc::{AllocError, AllocFailed, Global};
 use std::io::Write;
@@ -26,6 +26,9 @@ pub(crate) enum Refusal<'a> {
     NotAfterFirst {
         time: &'a str,
     },
+    /// Standard input is to be read more than once.
+    #[error("standard input: given twice")]
+    StandardInputTwice,
     /// A file to be read is the one that is written before it is renamed.
     #[error("{name}: input is the output")]
     InputIsOutput {
@@ -41,17 +44,25 @@ pub(crate) enum Refusal<'a> {
     CannotCreate {
         output: &'a str,
     },
+    /// A pipe or a device can't be opened to be written.
+    #[error("{name}: cannot write")]
+    CannotWrite {
+        name: &'a str,
+    },
+    /// The file that was written can't be put on the disk.
+    #[error("{output}.part: cannot sync")]
+    CannotSync {
+        output: &'a str,
+    },
     /// The file that was written can't be renamed.
     #[error("{output}: cannot rename")]
     CannotRename {
         output: &'a str,
     },
-    /// A file is refused, at this byte of it.
-    #[error("{name}: {place}: {}", .reason.name())]
+    /// A file is refused, with this line.
+    #[error("{line}")]
     File {
-        name: &'a str,
-        place: u64,
-        reason: Reason,
+        line: String,
     },
     /// A plan is refused, at this line of it.
     #[error("{name}: line {line}: {}", .reason.name())]
@@ -59,11 +70,6 @@ pub(crate) enum Refusal<'a> {
         name: &'a str,
         line: u64,
         reason: PlanReason,
-    },
-    /// Something that a plan names is refused, with this line.
-    #[error("{line}")]
-    InPlan {
-        line: String,
     },
     /// Memory was refused.
     #[error("out of memory")]
@@ -83,14 +89,15 @@ impl<'a> Refusal<'a> {
     }
 
     /// The refusal of a file, by the names of the inputs and of the output.
-    pub(crate) fn of_fault(fault: Fault, inputs: &[&'a str], output: &'a str) -> Refusal<'a> {
-        match fault.reason {
-            Reason::Memory => Refusal::Memory,
-            reason => Refusal::File {
-                name: inputs.get(fault.input).copied().unwrap_or(output),
-                place: fault.place,
-                reason,
-            },
+    pub(crate) fn of_fault(
+        alloc: Global,
+        fault: &Fault,
+        inputs: &[&str],
+        output: &str,
+    ) -> Refusal<'a> {
+        match fault_text(alloc, fault, inputs, output) {
+            Ok(line) => Refusal::File { line },
+            Err(Memory) => Refusal::Memory,
         }
     }
 
@@ -106,10 +113,10 @@ impl<'a> Refusal<'a> {
         }
     }
 
-    /// The same refusal, of what a plan names. It holds no name of the plan, which may be dropped.
+    /// This refusal, of what a plan names, as one that holds no name of the plan, which may be dropped.
     pub(crate) fn in_plan<'b>(self, alloc: Global) -> Refusal<'b> {
         match format!(in alloc; "{self}") {
-            Ok(line) => Refusal::InPlan { line },
+            Ok(line) => Refusal::File { line },
             Err(_) => Refusal::Memory,
         }
     }
@@ -131,6 +138,7 @@ impl<'a> Refusal<'a> {
             | Refusal::WordsNotUtf8
             | Refusal::NotMoment { .. }
             | Refusal::NotAfterFirst { .. }
+            | Refusal::StandardInputTwice
             | Refusal::InputIsOutput { .. }
             | Refusal::Plan { .. } => 2,
             _ => 1,

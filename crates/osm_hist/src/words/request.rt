@@ -1,6 +1,7 @@
 //! What the words of a command ask for.
 use super::command::command;
 use super::refusal::Refusal;
+use super::target::STANDARD;
 use clap::error::ErrorKind;
 use clap::{ArgMatches, Error};
 use osm_files::Format;
@@ -12,15 +13,13 @@ use std::convert::AsStr;
 /// What the words ask for.
 #[derive(Drop)]
 pub(super) enum Request<'a> {
-    /// Standard input, merged to standard output.
-    StandardInput,
     /// Files, of which one is made.
     Files(FileRun<'a>),
     /// A file, checked.
     Check(FileCheck<'a>),
     /// A plan, run.
     Plan(PlanRun<'a>),
-    /// Help, which is this text.
+    /// Help or the version, which is this text.
     Help(Error),
 }
 
@@ -37,6 +36,8 @@ pub(super) struct FileRun<'a> {
     pub(super) selection: Selection,
     /// Whether each of them has to be sorted.
     pub(super) sorted: bool,
+    /// Whether what is written is on the disk before it is renamed.
+    pub(super) fsync: bool,
 }
 
 /// A check of a file.
@@ -64,7 +65,7 @@ impl<'a> Request<'a> {
         words: &'a [S],
     ) -> Result<Request<'a>, Refusal<'a>> {
         if words.is_empty() {
-            return Ok(Request::StandardInput);
+            return Ok(Request::Files(FileRun::of_no_words(alloc)?));
         }
         let mut command = command(alloc)?;
         let matches = match command.try_get_matches_from_mut(words) {
@@ -107,6 +108,20 @@ impl<'a> Request<'a> {
 }
 
 impl<'a> FileRun<'a> {
+    /// Standard input, merged to standard output.
+    fn of_no_words(alloc: Global) -> Result<FileRun<'a>, Refusal<'a>> {
+        let mut files = Vec::new(alloc);
+        files.push(STANDARD)?;
+        Ok(FileRun {
+            output: STANDARD,
+            format: Format::Opl,
+            files,
+            selection: Selection::All,
+            sorted: true,
+            fsync: false,
+        })
+    }
+
     /// The run for which the words after a command of this name ask.
     fn of_matches(
         alloc: Global,
@@ -116,6 +131,9 @@ impl<'a> FileRun<'a> {
         let output = words.get_str("output");
         let format = words.get_str("format").and_then(|name| format_named(name));
         let files = words.get_strs("files");
+        if files.is_some_and(|files| names_standard_input_twice(files)) {
+            return Err(Refusal::StandardInputTwice);
+        }
         match (output, format, files, selection(name, words)?) {
             (Some(output), Some(format), Some(files), Some(selection)) => Ok(Some(FileRun {
                 output,
@@ -123,10 +141,16 @@ impl<'a> FileRun<'a> {
                 files: Vec::from_slice(alloc, files)?,
                 selection,
                 sorted: name == "merge" || words.get_flag("sorted"),
+                fsync: words.get_flag("fsync"),
             })),
             _ => Ok(None),
         }
     }
+}
+
+/// Whether standard input is among these words more than once.
+fn names_standard_input_twice(files: &[&str]) -> bool {
+    files.iter().filter(|file| **file == STANDARD).count() > 1
 }
 
 /// The format that the words call so.

@@ -1,11 +1,10 @@
-//! Running what the words ask for, over files or standard input and output.
+//! Running what the words ask for.
 use super::checking::{is_out_of_order, is_unsorted};
-use super::files::{
-    buffered, buffered_out, can_be_read_again, create, open_all, remove_refused, rename,
-};
+use super::files::{Stream, buffered_out, create, input_names, open_all};
 use super::refusal::Refusal;
 use super::request::FileRun;
-use osm_files::{Fault, Format};
+use super::target::Target;
+use osm_files::{Fault, Format, FromRead};
 use osm_merge::{Counts, Selection};
 use osm_mirror::{InputFile, Order, run_merge, run_selected};
 use std::alloc::{AllocError, Global};
@@ -13,92 +12,94 @@ use std::fs::OpenFile;
 use std::io::{Read, Write};
 use std::rt::Files;
 
-/// Merges standard input to standard output.
-pub(super) fn merge_standard_input<'a, I: Read + Drop, O: Write + Drop>(
-    alloc: Global,
+/// Makes OUT of files. A file is written as OUT.part, which becomes OUT at the end, or goes at a refusal.
+pub(super) fn run_files<'a, R: Files + AllocGlobal, I: Read + Drop, O: Write>(
+    rt: &R,
+    run: &FileRun<'a>,
     input: I,
     out: &mut O,
 ) -> Result<(), Refusal<'a>> {
-    let names = ["standard input"];
-    let mut inputs = Vec::new(alloc);
-    inputs.push(buffered(alloc, input)?)?;
-    let mut output = buffered_out(alloc, &mut *out)?;
-    match run_merge(alloc, inputs, Format::Opl, &mut output) {
-        Ok(_) => Ok(()),
-        Err(fault) => Err(Refusal::of_fault(fault, &names, "standard output")),
-    }
-}
-
-/// Makes OUT of files. It is written to OUT.part, which becomes OUT at the end, or goes at a refusal.
-pub(super) fn run_files<'a, R: Files + AllocGlobal>(
-    rt: &R,
-    run: &FileRun<'a>,
-) -> Result<(), Refusal<'a>> {
+    let target = Target::of_word(rt, run.output);
     let part = format!(in rt.alloc(); "{}.part", run.output)?;
-    let mut names = run.files.iter().copied();
-    if let Some(name) = names.find(|name| *name == part.as_str()) {
-        return Err(Refusal::InputIsOutput { name });
+    if target.is_renamed() {
+        refuse_part(run.files.as_slice(), part.as_str())?;
     }
-    let files = open_all(rt, run.files.as_slice())?;
-    let file = create(rt, run.output, part.as_str())?;
-    let outcome = finish(rt, run, part.as_str(), files, file);
-    remove_refused(rt, part.as_str(), outcome)
+    let files = open_all(rt, run.files.as_slice(), Some(input))?;
+    let writer = target.open(rt, part.as_str(), out)?;
+    let outcome = finish(rt, run, target, part.as_str(), files, writer);
+    target.end(rt, part.as_str(), outcome)
 }
 
-/// Writes OUT.part and renames it.
-fn finish<'a, R: Files + AllocGlobal>(
+/// Refuses a file to be read that is OUT.part.
+fn refuse_part<'a>(files: &[&'a str], part: &str) -> Result<(), Refusal<'a>> {
+    match files.iter().find(|name| **name == part) {
+        Some(name) => Err(Refusal::InputIsOutput { name: *name }),
+        None => Ok(()),
+    }
+}
+
+/// Writes what is selected, and renames OUT.part.
+fn finish<'a, R: Files + AllocGlobal, I: Read + Drop, O: Write + Drop>(
     rt: &R,
     run: &FileRun<'a>,
+    target: Target<'a>,
     part: &str,
-    files: Vec<R::File>,
-    file: R::File,
+    files: Vec<Stream<R::File, I>>,
+    writer: Stream<R::File, O>,
 ) -> Result<(), Refusal<'a>> {
-    if let Err(fault) = write_by_turns(rt, run, part, files, file)? {
-        return Err(Refusal::of_fault(fault, run.files.as_slice(), run.output));
+    match write_by_turns(rt, run, target, part, files, writer)? {
+        Ok(_) => target.complete(rt, part, run.fsync),
+        Err(fault) => {
+            let names = input_names(rt.alloc(), run.files.as_slice())?;
+            Err(Refusal::of_fault(rt.alloc(), &fault, names.as_slice(), target.name()))
+        }
     }
-    rename(rt, part, run.output)
 }
 
-/// Writes OUT.part: at first with all files as sorted ones that can be read again, and where one of them turns out not
-/// to be sorted, anew with that file held. Where that happens again, the others are looked through before the next
-/// turn, so that there are few turns, however many files there are.
-fn write_by_turns<'a, R: Files + AllocGlobal>(
+/// Writes what is selected: at first with all files as sorted ones that can be read again, and where one of them turns
+/// out not to be sorted, anew with that file held. Where that happens again, the others are looked through before the
+/// next turn, so that there are few turns, however many files there are. There is one turn alone where a file can't be
+/// read again, or the output can't be made anew.
+fn write_by_turns<'a, R: Files + AllocGlobal, I: Read + Drop, O: Write + Drop>(
     rt: &R,
     run: &FileRun<'a>,
+    target: Target<'a>,
     part: &str,
-    files: Vec<R::File>,
-    file: R::File,
+    files: Vec<Stream<R::File, I>>,
+    writer: Stream<R::File, O>,
 ) -> Result<Result<Counts, Fault>, Refusal<'a>> {
     let mut orders = first_orders(rt.alloc(), run, files.as_slice())?;
-    if orders.contains(&Order::Any) {
-        // A file that can't be read again allows one turn only.
+    let has_one_turn = !target.is_renamed() || orders.contains(&Order::Any);
+    if has_one_turn && !run.sorted {
         hold_unsorted(rt, run, orders.as_mut_slice())?;
-        return Ok(write(rt.alloc(), run, files, orders.as_slice(), file));
     }
-    let mut outcome = write(rt.alloc(), run, files, orders.as_slice(), file);
+    let mut outcome = write(rt.alloc(), run, files, orders.as_slice(), writer);
+    if has_one_turn || run.sorted {
+        return Ok(outcome);
+    }
     for turn in 0..run.files.len() {
-        if run.sorted || !hold_refused(orders.as_mut_slice(), &outcome) {
+        if !hold_refused(orders.as_mut_slice(), &outcome) {
             break;
         }
         if turn > 0 {
             hold_unsorted(rt, run, orders.as_mut_slice())?;
         }
-        let files = open_all(rt, run.files.as_slice())?;
-        let file = create(rt, run.output, part)?;
-        outcome = write(rt.alloc(), run, files, orders.as_slice(), file);
+        let files: Vec<Stream<R::File, I>> = open_all(rt, run.files.as_slice(), None)?;
+        let writer: Stream<R::File, O> = Stream::File(create(rt, run.output, part)?);
+        outcome = write(rt.alloc(), run, files, orders.as_slice(), writer);
     }
     Ok(outcome)
 }
 
 /// How the files are taken at first: those that can't be read again are held.
-fn first_orders<'a, F: OpenFile>(
+fn first_orders<'a, F: OpenFile, I>(
     alloc: Global,
     run: &FileRun<'a>,
-    files: &[F],
+    files: &[Stream<F, I>],
 ) -> Result<Vec<Order>, AllocError> {
     let mut orders = Vec::new(alloc);
     for file in files {
-        let order = if run.sorted || can_be_read_again(file) {
+        let order = if run.sorted || file.can_be_read_again() {
             Order::Sorted
         } else {
             Order::Any
@@ -137,38 +138,38 @@ fn hold_refused(orders: &mut [Order], outcome: &Result<Counts, Fault>) -> bool {
 }
 
 /// Writes the versions that are selected of the files, each taken in its order.
-fn write<'a, F: Read + Write + Drop>(
+fn write<'a, F: Read + Drop, W: Write + Drop>(
     alloc: Global,
     run: &FileRun<'a>,
     files: Vec<F>,
     orders: &[Order],
-    file: F,
+    writer: W,
 ) -> Result<Counts, Fault> {
     if run.selection == Selection::All && !orders.contains(&Order::Any) {
-        return merge(alloc, run.format, files, file);
+        return merge(alloc, run.format, files, writer);
     }
     let mut inputs = Vec::new(alloc);
     for (file, order) in files.into_iter().zip(orders) {
         inputs.push(InputFile {
-            reader: buffered(alloc, file)?,
+            reader: FromRead::new(file),
             order: *order,
         })?;
     }
-    let mut output = buffered_out(alloc, file)?;
+    let mut output = buffered_out(alloc, writer)?;
     run_selected(alloc, run.selection, inputs, run.format, &mut output)
 }
 
 /// Merges files that are all taken as sorted.
-fn merge<F: Read + Write + Drop>(
+fn merge<F: Read + Drop, W: Write + Drop>(
     alloc: Global,
     format: Format,
     files: Vec<F>,
-    file: F,
+    writer: W,
 ) -> Result<Counts, Fault> {
     let mut inputs = Vec::new(alloc);
     for file in files {
-        inputs.push(buffered(alloc, file)?)?;
+        inputs.push(FromRead::new(file))?;
     }
-    let mut output = buffered_out(alloc, file)?;
+    let mut output = buffered_out(alloc, writer)?;
     run_merge(alloc, inputs, format, &mut output)
 }

@@ -11,6 +11,7 @@ mod check;
 mod order;
 mod plan;
 mod sort;
+mod standard;
 mod time_filter;
 
 /// The line of a version.
@@ -211,8 +212,12 @@ fn help_is_printed(rt: HostRuntime) -> Result<(), Fail> {
         let answer = run(&rt, &[command, "--help"]);
         assert_eq!(rt; answer.status, 0);
         assert!(rt; answer.err.is_empty());
-        let usage = format!(in rt.alloc(); "Usage: osm_hist {command} ")?;
-        assert!(rt; String::from_utf8(answer.out)?.contains(usage.as_str()));
+        let text = String::from_utf8(answer.out)?;
+        assert!(rt; text.contains("\nMemory: "));
+        for form in ["Usage", "Example"] {
+            let line = format!(in rt.alloc(); "{form}: osm_hist {command} ")?;
+            assert!(rt; text.contains(line.as_str()));
+        }
     }
     let mut err = Vec::new(rt.alloc());
     let status = run_words(&rt, &["--help"], b"".as_slice(), Broken, &mut err);

@@ -22,46 +22,57 @@ struct Held<'a> {
     place: usize,
     /// Why the rest can't be given, if it can't.
     fault: Option<Fault>,
+    number: usize,
+    has_failed: bool,
     given: &'a Cell<usize>,
 }
 
 impl Source for Held<'_> {
-    ghost use Rattle.std.specs.Prelude.{Some, drop, length};
-    ghost use Rattle.osm_model.specs.Order.{version_cmp};
+    ghost use Rattle.std.specs.Prelude.{◌≡◌, drop, length, refl};
     ghost use Rattle.osm_model.specs.Sets.{listed};
-    ghost use Rattle.osm_model.proofs.SetLaws.{strict-listed};
-    ghost use Rattle.osm_merge.specs.Rest.{drop_ascends};
+    ghost use Rattle.osm_merge.specs.Rest.{rest_from, rest_unless, rest_ascends};
 
-    ghost still = { λ s. Some (record { list = drop s.place (listed s.history); refusal = s.fault }) };
+    ghost can_give = { λ s still. still ≡ rest_unless s.has_failed s.number (rest_from s.history s.place s.fault) };
+
+    ghost one = { λ s. rest_unless s.has_failed s.number (rest_from s.history s.place s.fault) };
 
     ghost left = { λ s. length (drop s.place (listed s.history)) };
 
-    ghost ascends = { λ s. drop_ascends version_cmp s.place (listed s.history) (strict-listed s.history) };
+    ghost number = { λ s. s.number };
+
+    ghost has_failed = { λ s. s.has_failed };
+
+    ghost possible = { λ s. refl };
+
+    ghost ascends = { λ s still is. rest_ascends s.has_failed s.number s.history s.place s.fault still is };
 
     fn next(&mut self) -> Result<Option<Version>, Fault> {
+        if self.has_failed {
+            return Err(Fault::failed(self.number));
+        }
         if self.place < self.history.len() {
             if let Ok(version) = self.history.get(self.place).copy() {
                 self.place += 1;
                 self.given.set(self.given.get().saturating_add(1));
                 return Ok(Some(version));
             }
-            self.place = self.history.len();
-            self.fault = Some(Fault::failed(0));
+            self.has_failed = true;
             return Err(Fault::memory());
         }
         match self.fault {
             None => Ok(None),
             Some(fault) => {
-                self.fault = Some(Fault::failed(fault.input));
+                self.has_failed = true;
                 Err(fault)
             }
         }
     }
 }
 
-/// A source of these nodes, which ends with this fault if there is one.
+/// A source of these nodes, which has this number and ends with this fault if there is one.
 fn source_of<'a>(
     alloc: Global,
+    number: usize,
     nodes: &[Node],
     fault: Option<Fault>,
     given: &'a Cell<usize>,
@@ -74,6 +85,8 @@ fn source_of<'a>(
         history: History::from_versions(versions)?,
         place: 0,
         fault,
+        number,
+        has_failed: false,
         given,
     })
 }
@@ -103,7 +116,7 @@ fn merge(
     let count = Cell::new(0);
     let mut inputs = Vec::new(alloc);
     for (nodes, fault) in sources {
-        inputs.push(source_of(alloc, nodes, *fault, &count)?)?;
+        inputs.push(source_of(alloc, inputs.len(), nodes, *fault, &count)?)?;
     }
     let mut sink = Sink::new(alloc, format, sources.len())?;
     let mut out = VecOut::new(alloc);
@@ -252,7 +265,7 @@ fn merge_reads_one_version_ahead_of_each_source(rt: HostRuntime) -> Result<(), F
                 10_000_000,
             ))?;
         }
-        inputs.push(source_of(rt.alloc(), &nodes, None, &count)?)?;
+        inputs.push(source_of(rt.alloc(), inputs.len(), &nodes, None, &count)?)?;
     }
     let mut sink = Sink::new(rt.alloc(), Format::Opl, 3)?;
     let mut out = Ahead {
@@ -274,7 +287,7 @@ fn merge_newest(
     let count = Cell::new(0);
     let mut inputs = Vec::new(alloc);
     for (nodes, fault) in sources {
-        inputs.push(source_of(alloc, nodes, *fault, &count)?)?;
+        inputs.push(source_of(alloc, inputs.len(), nodes, *fault, &count)?)?;
     }
     let mut sink = Sink::new(alloc, Format::Opl, sources.len())?;
     let mut out = VecOut::new(alloc);
@@ -295,6 +308,8 @@ fn merge_of(
             history: history(alloc, lines)?,
             place: 0,
             fault: None,
+            number: inputs.len(),
+            has_failed: false,
             given: &count,
         })?;
     }

@@ -336,8 +336,9 @@ fn cut_file(rt: HostRuntime) {
         };
         assert_refused_at(&rt, &file[..length], place, reason);
     }
-    let longer = b"\xff\xe0\x04o5m2\xfe\x00";
-    assert_refused_at(&rt, longer, 8, Reason::AfterEnd);
+    let longer =
+        b"\xff\xe0\x04o5m2\x10\x0b\x02\x01\x02\x02\x00\x01\x00a\x00\x00\x00\x10\x05\x00\x02\x02\x00\x01\xfe\x00";
+    assert_refused_at(&rt, longer, 28, Reason::AfterEnd);
 }
 
 #[test]

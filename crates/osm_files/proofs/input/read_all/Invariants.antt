@@ -4,7 +4,7 @@ use Rattle.osm_files.proofs.input.read_all.Given as goal
 
 abbrev pub invariant-reads : goal.invariant-reads
 invariant-reads g l = record {
-  gave : Gave (g.R.Input.coming l.fn.reader) (g.R.Input.coming l.reader) l.all.items;
+  gave : Gave g.R.Input.can_give l.fn.reader l.reader l.all.items;
   short : length l.all.items < 2 ^ 62;
 }
 

@@ -1,41 +1,80 @@
-use Rattle.std.proofs.Common.{refl, ◌≡◌, true, ◌<◌, ◌-◌, ◌^◌, ◌∷◌, [], inl, sym, ap, ◌∙◌, arith, false, length-append}
+use Rattle.std.proofs.Common.{refl, ◌≡◌, true, ◌<◌, ◌-◌, ◌^◌, ◌∷◌, [], inl, sym, ap, subst, ◌∙◌, arith, false, length-append, Ok, Some}
 use Rattle.std.specs.Ordering.{is_lt, is_gt}
 use Rattle.osm_model.specs.Order.{key_cmp}
 use Rattle.osm_files.specs.Fault.{fault_at}
-use Rattle.osm_files.specs.Position.{still_to_come}
+use Rattle.osm_files.specs.Position.{Position, telling, Keeps, still_to_come}
+use Rattle.osm_files.specs.Groups.{gathered}
+use Rattle.osm_files.specs.Source.{Step}
+use Rattle.osm_files.specs.Stream.{Placed}
 use Rattle.osm_files.specs.declared.reason.Reason.TheVariants.{Unsorted}
-use Rattle.osm_files.proofs.GroupLaws.{ends_group, joins_group, group_joined, one_fewer, refuses_unsorted}
+use Rattle.osm_files.proofs.FillLaws.{kept}
+use Rattle.osm_files.proofs.GroupLaws.{ends_group, begins_next, joins_group, group_joined, refuses_read, refuses_unsorted}
+use Rattle.osm_files.proofs.ReaderLaws.{then_on, unread}
 use Rattle.osm_files.proofs.source.gather.Goals as goal
 
+pub units-init : goal.units-init
+units-init g c = record {
+  input = refl;
+  keeps = (let from = gathered c.args.units.now.input in let group = c.args.first.now ∷ c.args.others.now.items in
+      unread g.R.Input.can_give c.args.units.now c.args.units.now (λ p q. Keeps (from (still_to_come p) group []) (from (still_to_come q) group [])) refl (λ d. kept (from (still_to_come (telling c.args.units.now d)) group [])));
+  group = c.requires.group;
+  left = omega arith;
+}
+
+pub returns-in-Err-clause-refuses : goal.returns-in-Err-clause-refuses
+returns-in-Err-clause-refuses g c = λ later k.
+    let y = c.in-Err.ensures.step later k in
+    let x = c.units.invariant.keeps y.0 y.1 in
+    (x.0, x.1, refuses_read c.args.units.now.input (still_to_come (telling c.args.units.now x.0)) c.args.others.now.items (still_to_come (telling c.units.units y.0)) (still_to_come (telling c.next.new.self later)) c.args.first.now c.units.others.items x.2 c.in-Err.fault y.2)
+
 pub returns-in-Ok-None-clause-gathers : goal.returns-in-Ok-None-clause-gathers
-returns-in-Ok-None-clause-gathers g c =
-    ends_group c.args.units.now.input (still_to_come c.args.units.now) c.args.others.now.items (still_to_come c.units.units) (still_to_come c.next.new.self) c.args.first.now c.units.others.items c.units.invariant.keeps c.units.invariant.group
-    (rw c.in-Ok-None.field-0-is at c.in-Ok-None.ensures.step)
+returns-in-Ok-None-clause-gathers g c = λ later k.
+    let y = (rw c.in-Ok-None.field-0-is at c.in-Ok-None.ensures.step) later k in
+    let x = c.units.invariant.keeps y.0 y.1 in
+    (x.0, x.1, ends_group c.args.units.now.input (still_to_come (telling c.args.units.now x.0)) c.args.others.now.items (still_to_come (telling c.units.units y.0)) (still_to_come (telling c.next.new.self later)) c.args.first.now c.units.others.items x.2 c.units.invariant.group y.2)
+
+pub returns-then-is_lt-clause-gathers : goal.returns-then-is_lt-clause-gathers
+returns-then-is_lt-clause-gathers g c = λ later k.
+    let u = c.in-Ok-Some.unit in
+    let less : is_lt (key_cmp c.args.first.now u.version) ≡ true = ap is_lt (sym c.key_cmp-order.ensures) ∙ sym c.is_lt.ensures ∙ c.if-is_lt.true in
+    let y = (rw c.in-Ok-Some.field-0-is at c.in-Ok-Some.ensures.step) later k in
+    let x = c.units.invariant.keeps y.0 y.1 in
+    (x.0, x.1, begins_next c.args.units.now.input (still_to_come (telling c.args.units.now x.0)) c.args.others.now.items (still_to_come (telling c.units.units y.0)) (still_to_come (telling c.next.new.self later)) c.args.first.now c.units.others.items x.2 c.units.invariant.group u y.2 less)
 
 pub returns-then-is_gt-clause-refuses : goal.returns-then-is_gt-clause-refuses
-returns-then-is_gt-clause-refuses g c =
+returns-then-is_gt-clause-refuses g c = λ later k.
     let u = c.in-Ok-Some.unit in
-    let step = rw c.in-Ok-Some.field-0-is at c.in-Ok-Some.ensures.step in
+    let failed = c.refuse_unsorted.ensures.failed in
     let greater : is_gt (key_cmp c.args.first.now u.version) ≡ true = ap is_gt (sym c.key_cmp-order.ensures) ∙ sym c.is_gt.ensures ∙ c.if-is_gt.true in
-    refuses_unsorted c.args.units.now.input (still_to_come c.args.units.now) c.args.others.now.items (still_to_come c.units.units) (still_to_come c.next.new.self) c.args.first.now c.units.others.items c.units.invariant.keeps u
-    c.refuse_unsorted.result (still_to_come c.refuse_unsorted.new.units) c.next.new.self.input step greater (c.refuse_unsorted.ensures.fault ∙ ap (λ n. fault_at n u.place Unsorted) (c.next.ensures.number ∙ c.units.invariant.input))
-    (ap still_to_come c.refuse_unsorted.ensures.failed)
+    let y = (rw c.in-Ok-Some.field-0-is at c.in-Ok-Some.ensures.step) later (subst (λ r. g.R.Input.can_give r later) (ap (λ v. v.coming) failed) k) in
+    let x = c.units.invariant.keeps y.0 y.1 in (
+      x.0,
+      x.1,
+      refuses_unsorted c.args.units.now.input (still_to_come (telling c.args.units.now x.0)) c.args.others.now.items (still_to_come (telling c.units.units y.0)) (still_to_come (telling c.next.new.self later)) c.args.first.now c.units.others.items x.2 u
+          c.refuse_unsorted.result (still_to_come (telling c.refuse_unsorted.new.units later)) c.next.new.self.input y.2 greater (c.refuse_unsorted.ensures.fault ∙ ap (λ n. fault_at n u.place Unsorted) (c.next.ensures.number ∙ c.units.invariant.input))
+          (ap (λ (v : Position _). still_to_come (telling v later)) failed),
+    )
 
 pub returns-in-Err-push-clause-refuses : goal.returns-in-Err-push-clause-refuses
-returns-in-Err-push-clause-refuses g c = (inl c.memory.ensures, (c.next.new.self.input, ap still_to_come c.fail.ensures))
+returns-in-Err-push-clause-refuses g c = λ later k.
+    let y = (rw c.in-Ok-Some.field-0-is at c.in-Ok-Some.ensures.step) later (subst (λ r. g.R.Input.can_give r later) (ap (λ v. v.coming) c.fail.ensures) k) in
+    let x = c.units.invariant.keeps y.0 y.1 in
+    (x.0, x.1, (inl c.memory.ensures, (c.next.new.self.input, ap (λ (v : Position _). still_to_come (telling v later)) c.fail.ensures)))
 
 pub units-preserved : goal.units-preserved
 units-preserved g c =
-    let step = rw c.in-Ok-Some.field-0-is at c.in-Ok-Some.ensures.step in
+    let input = c.args.units.now.input in
     let less : 2 ^ 62 - c.next.new.self.place < 2 ^ 62 - c.units.units.place = (rw c.in-Ok-Some.field-0-is at c.in-Ok-Some.ensures.fewer) refl in
     let u = c.in-Ok-Some.unit in
     let first = c.args.first.now in
+    let others = c.args.others.now.items in
     let not_above : is_lt (key_cmp first u.version) ≡ false = ap is_lt (sym c.key_cmp-order.ensures) ∙ sym c.is_lt.ensures ∙ c.if-is_lt.false in
     let not_below : is_gt (key_cmp first u.version) ≡ false = ap is_gt (sym c.key_cmp-order.ensures) ∙ sym c.is_gt.ensures ∙ c.if-is_gt.false in
-    let fewer = one_fewer (still_to_come c.units.units) (still_to_come c.next.new.self) u (2 ^ 62 - c.units.units.place) (2 ^ 62 - c.next.new.self.place) step less in
+    let from = gathered input in
     rw c.in_default.ensures.items (record {
       input = c.next.ensures.number ∙ c.units.invariant.input;
-      keeps = joins_group c.args.units.now.input (still_to_come c.args.units.now) c.args.others.now.items (still_to_come c.units.units) (still_to_come c.next.new.self) first c.units.others.items c.units.invariant.keeps u step not_above not_below;
+      keeps = then_on g.R.Input.can_give c.args.units.now c.units.units c.next.new.self (λ p q. Keeps (from (still_to_come p) (first ∷ others) []) (from (still_to_come q) (first ∷ c.units.others.items) [])) (λ p q. Step {A = Placed} (still_to_come p) (Ok (Some u)) (still_to_come q)) _
+          (λ a b d k h. joins_group input (still_to_come a) others (still_to_come b) (still_to_come d) first c.units.others.items k u h not_above not_below) c.units.invariant.keeps (rw c.in-Ok-Some.field-0-is at c.in-Ok-Some.ensures.step);
       group = group_joined first c.units.others.items u.version c.units.invariant.group not_above not_below;
-      left = omega (arith, c.units.invariant.left, fewer, length-append c.units.others.items (u.version ∷ []));
+      left = omega (arith, c.units.invariant.left, less, length-append c.units.others.items (u.version ∷ []));
     })

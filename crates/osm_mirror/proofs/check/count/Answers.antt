@@ -4,20 +4,29 @@ use Rattle.osm_mirror.proofs.CheckLaws.{Counting, count_none, count_more, count_
 use Rattle.osm_mirror.proofs.check.count.Goals as goal
 
 pub versions-init : goal.versions-init
-versions-init g c = count_none (g.S.Source.still c.args.source.now)
+versions-init g c = λ later k. (later, k, count_none (Some later))
 
 pub versions-preserved : goal.versions-preserved
-versions-preserved g c =
-    let step = rw c.in-Ok-Some.field-0-is at c.in-Ok-Some.ensures.step in
-    let held : c.replace-spare.new.self ≡ Some c.in-Ok-Some.version = search rules in
-    subst (λ (last : Option VersionData). Counting (g.S.Source.still c.args.source.now) (g.S.Source.still c.next_reusing.new.self) last c.count_one-sizes.result) (sym held)
-    (count_more (g.S.Source.still c.args.source.now) (g.S.Source.still c.versions.source) (g.S.Source.still c.next_reusing.new.self) c.versions.last c.in-Ok-Some.version c.versions.sizes c.count_one-sizes.result c.versions.invariant step c.count_one-sizes.ensures.versions c.count_one-sizes.ensures.objects)
+versions-preserved g c = λ later k.
+    let y = (rw c.in-Ok-Some.field-0-is at c.in-Ok-Some.ensures.step) later k in
+    let x = c.versions.invariant y.0 y.1 in
+    let held : c.replace-spare.new.self ≡ Some c.in-Ok-Some.version = search rules in (
+      x.0,
+      x.1,
+      subst (λ (last : Option VersionData). Counting (Some x.0) (Some later) last c.count_one-sizes.result) (sym held)
+          (count_more (Some x.0) (Some y.0) (Some later) c.versions.last c.in-Ok-Some.version c.versions.sizes c.count_one-sizes.result x.2 y.2 c.count_one-sizes.ensures.versions c.count_one-sizes.ensures.objects),
+    )
 
 pub returns-in-Ok-None-clause-sizes : goal.returns-in-Ok-None-clause-sizes
 returns-in-Ok-None-clause-sizes g c =
-    let step = rw c.in-Ok-None.field-0-is at c.in-Ok-None.ensures.step in
-    count_ends (g.S.Source.still c.args.source.now) (g.S.Source.still c.versions.source) (g.S.Source.still c.next_reusing.new.self) c.versions.last c.versions.sizes c.versions.invariant step
+    let later = g.S.Source.one c.next_reusing.new.self in
+    let y = (rw c.in-Ok-None.field-0-is at c.in-Ok-None.ensures.step) later (g.S.Source.possible c.next_reusing.new.self) in
+    let x = c.versions.invariant y.0 y.1 in
+    (x.0, x.1, count_ends (Some x.0) (Some y.0) (Some later) c.versions.last c.versions.sizes x.2 y.2)
 
 pub returns-in-Err-clause-refused : goal.returns-in-Err-clause-refused
 returns-in-Err-clause-refused g c =
-    count_stops (g.S.Source.still c.args.source.now) (g.S.Source.still c.versions.source) (g.S.Source.still c.next_reusing.new.self) c.versions.last c.versions.sizes c.in-Err.fault c.versions.invariant c.in-Err.ensures.step
+    let later = g.S.Source.one c.next_reusing.new.self in
+    let y = c.in-Err.ensures.step later (g.S.Source.possible c.next_reusing.new.self) in
+    let x = c.versions.invariant y.0 y.1 in
+    (x.0, x.1, count_stops (Some x.0) (Some y.0) (Some later) c.versions.last c.versions.sizes c.in-Err.fault x.2 y.2)

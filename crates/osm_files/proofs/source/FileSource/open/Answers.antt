@@ -1,20 +1,37 @@
-use Rattle.std.proofs.Common.{◌∙◌, subst, Err}
+use Rattle.std.proofs.Common.{◌≡◌, ◌∙◌, ap, sym, subst, IfSome, Some, Err}
 use Rattle.std.specs.Vec.Iter.{into_iter_items}
-use Rattle.osm_files.specs.Position.{Position, still_to_come}
+use Rattle.osm_files.specs.Groups.{sorted_source}
+use Rattle.osm_files.specs.Load.{format_of}
+use Rattle.osm_files.specs.Position.{Position, Told, telling, ahead, still_to_come}
 use Rattle.osm_files.specs.Source.{Step}
 use Rattle.osm_files.specs.Stream.{Placed}
 use Rattle.osm_files.proofs.RiseLaws.{source_opens_rising, source_opens_told, opens_refused}
 use Rattle.osm_files.proofs.source.FileSource.open.Goals as goal
 
 pub invariant_of-result : goal.invariant_of-result
-invariant_of-result g c =
-    source_opens_rising c.new-units.result c.format.new.self (into_iter_items c.into_iter-ready.result) c.args.input (g.R.Input.coming c.args.reader) c.new-units.ensures c.in-Ok.ensures.keeps (c.into_iter-ready.ensures.rest ∙ c.new.ensures.items)
+invariant_of-result g c = (
+  λ d k.
+      let y = c.in-Ok.ensures.tells d k in
+      source_opens_rising (telling c.new-units.result y.0) (telling c.format.new.self d) (into_iter_items c.into_iter-ready.result) c.args.input (Some y.0) (ap (λ v. telling v y.0) c.new-units.ensures) y.2.0 (c.into_iter-ready.ensures.rest ∙ c.new.ensures.items),
+  λ failed. c.into_iter-ready.ensures.rest ∙ c.new.ensures.items,
+)
 
-pub returns-in-Ok-clause-still : goal.returns-in-Ok-clause-still
-returns-in-Ok-clause-still g c =
-    source_opens_told c.new-units.result c.format.new.self (into_iter_items c.into_iter-ready.result) c.args.input (g.R.Input.coming c.args.reader) c.new-units.ensures c.in-Ok.ensures.keeps (c.into_iter-ready.ensures.rest ∙ c.new.ensures.items)
+pub returns-in-Ok-clause-opened : goal.returns-in-Ok-clause-opened
+returns-in-Ok-clause-opened g c = λ later h.
+    let y = c.in-Ok.ensures.tells h.0 h.1 in
+    let told = source_opens_told (telling c.new-units.result y.0) (telling c.format.new.self h.0) (into_iter_items c.into_iter-ready.result) c.args.input (Some y.0) (ap (λ v. telling v y.0) c.new-units.ensures) y.2.0 (c.into_iter-ready.ensures.rest ∙ c.new.ensures.items) in
+    let same : Some later ≡ Some (sorted_source c.args.input y.0) = sym h.2 ∙ told in (
+      y.0,
+      subst (λ (v : Position _). g.R.Input.can_give v.coming y.0) c.new-units.ensures y.1,
+      (subst (λ (v : Position _). IfSome (ahead (telling v y.0)) (λ x. c.in-Ok.format ≡ format_of x.bytes)) c.new-units.ensures y.2.1, cc),
+    )
 
 pub returns-in-Err-clause-refused : goal.returns-in-Err-clause-refused
 returns-in-Err-clause-refused g c =
-    opens_refused c.args.input (g.R.Input.coming c.args.reader) c.in-Err.fault (still_to_come c.format.new.self)
-    (subst (λ (p : Position). Step {A = Placed} (still_to_come p) (Err c.in-Err.fault) (still_to_come c.format.new.self)) c.new-units.ensures c.in-Err.ensures.refused)
+    let later = g.R.Input.one c.format.new.self.coming in
+    let y = c.in-Err.ensures.refused later (g.R.Input.possible c.format.new.self.coming) in (
+      y.0,
+      subst (λ (v : Position _). g.R.Input.can_give v.coming y.0) c.new-units.ensures y.1,
+      opens_refused c.args.input (Some y.0) c.in-Err.fault (still_to_come (telling c.format.new.self later))
+          (subst (λ (p : Told). Step {A = Placed} (still_to_come p) (Err c.in-Err.fault) (still_to_come (telling c.format.new.self later))) (ap (λ v. telling v y.0) c.new-units.ensures) y.2),
+    )

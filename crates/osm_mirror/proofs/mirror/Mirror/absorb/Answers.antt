@@ -1,10 +1,16 @@
-use Rattle.osm_mirror.proofs.MirrorLaws.{absorbed_full, absorbed_latest}
+use Rattle.std.proofs.Common.{sym, ap}
+use Rattle.osm_model.specs.Sets.{union}
+use Rattle.osm_mirror.specs.declared.keep.Keep.{Keep}
+use Rattle.osm_mirror.specs.Mirror.{kept}
+use Rattle.osm_mirror.proofs.MirrorLaws.{absorbed}
 use Rattle.osm_mirror.proofs.mirror.Mirror.absorb.Goals as goal
 
-pub invariant_of-self-in-Full : goal.invariant_of-self-in-Full
-invariant_of-self-in-Full c =
-    absorbed_full (record { keep = c.self.inside.keep; held = c.self.inside.held }) _ _ c.self.invariant c.requires c.in-Full.is c.in_ok-absorb.ensures
+pub invariant_of-self : goal.invariant_of-self
+invariant_of-self c =
+    absorbed (record { keep = c.self.inside.keep; held = c.self.inside.held }) c.args.history (union c.self.inside.held c.args.history) c.absorb.new.held c.absorb.result c.self.invariant c.requires
+    (ap (λ (keep : Keep). kept keep (union c.self.inside.held c.args.history)) (sym c.in-Full.is)) c.absorb.ensures
 
 pub invariant_of-self-in-Latest : goal.invariant_of-self-in-Latest
 invariant_of-self-in-Latest c =
-    absorbed_latest (record { keep = c.self.inside.keep; held = c.self.inside.held }) _ _ _ c.self.invariant c.requires c.in_ok-absorb.ensures c.keep_newest.ensures
+    absorbed (record { keep = c.self.inside.keep; held = c.self.inside.held }) c.args.history _ c.absorb_newest.new.held c.absorb_newest.result c.self.invariant c.requires
+    (ap (λ (keep : Keep). kept keep (union c.self.inside.held c.args.history)) (sym c.in-Latest.is)) c.absorb_newest.ensures

@@ -1,0 +1,19 @@
+//! A caller of each library crate, proved, as that crate's CALLING.md shows it.
+#![tactic(auto)]
+
+mod content;
+mod files;
+mod history;
+mod line;
+mod selected;
+mod whole;
+
+pub use content::first_version;
+pub use files::to_o5m;
+pub use history::with_version;
+pub use line::canonical;
+pub use selected::visible_map;
+pub use whole::one_file;
+
+#[cfg(test)]
+mod tests;

@@ -1,0 +1,50 @@
+//! The callers, each on its happy path.
+use crate::{canonical, first_version, one_file, to_o5m, visible_map, with_version};
+use osm_files::{SliceIn, load_any};
+use osm_model::{History, Kind};
+use std::test::Fail;
+
+/// A node with its deletion, and another node.
+const LINES: &[u8] =
+    b"n1 v1 dV c0 t i0 u T x1 y2\nn1 v2 dD c0 t i0 u T x y\nn2 v1 dV c0 t i0 u T x1 y2\n";
+
+#[test]
+fn a_line_is_made_canonical(rt: HostRuntime) -> Result<(), Fail> {
+    let line = canonical(rt.alloc(), b"n1 y2 x1.0 v1")?;
+    let line = line.as_ref().map(|bytes| bytes.as_slice());
+    assert_eq!(rt; line, Some(b"n1 v1 dV c0 t i0 u T x1 y2".as_slice()));
+    assert!(rt; canonical(rt.alloc(), b"# a comment")?.is_none());
+    Ok(())
+}
+
+#[test]
+fn a_first_set_is_read(rt: HostRuntime) -> Result<(), Fail> {
+    let (version, _) = first_version(rt.alloc(), Kind::Node, b"\x02\x01\x00\x00\x00")?;
+    assert_eq!(rt; version.id(), 1);
+    Ok(())
+}
+
+#[test]
+fn files_of_both_kinds_are_one(rt: HostRuntime) -> Result<(), Fail> {
+    let file = to_o5m(rt.alloc(), LINES)?;
+    let lines = one_file(rt.alloc(), &[LINES, file.as_slice(), LINES])?;
+    assert_eq!(rt; lines.as_slice(), LINES);
+    Ok(())
+}
+
+#[test]
+fn versions_are_added_and_chosen(rt: HostRuntime) -> Result<(), Fail> {
+    let history = load_any(rt.alloc(), 0, SliceIn::new(LINES))?.history;
+    let map = visible_map(rt.alloc(), &history)?;
+    assert_eq!(rt; map.len(), 1);
+    let (version, _) = first_version(rt.alloc(), Kind::Node, b"\x02\x01\x00\x00\x00")?;
+    let more = with_version(rt.alloc(), &history, version)?;
+    assert_eq!(rt; more.len(), 4);
+    assert_eq!(rt;
+        with_version(rt.alloc(), &more, more.get(0).copy()?)?.len(),
+        4
+    );
+    let none = History::new(rt.alloc());
+    assert!(rt; visible_map(rt.alloc(), &none)?.is_empty());
+    Ok(())
+}

@@ -1,0 +1,162 @@
+//! Versions taken into a history that is held, without a copy.
+ghost use Rattle.std.specs.Prelude.{◌≡◌, ◌+◌, ◌≤◌, ◌++◌, take, drop, MatchResult, vec_len, vec_capacity};
+ghost use Rattle.std.specs.List.Sorted.{IsStrictlySortedBy};
+ghost use Rattle.std.specs.VecDeque.{deque_len};
+ghost use Rattle.osm_model.specs.Sets as set;
+ghost use Rattle.osm_merge.specs.Selected.{snapshot};
+ghost use Rattle.osm_merge.specs.Taking.{order_of, taken, greater, is_tied, untied, greater_tied, joined, IsPlaceOf};
+
+use crate::into_snapshot;
+use osm_model::{History, Memory, Version};
+use std::alloc::Global;
+use std::cmp::Ordering;
+use std::collections::VecDeque;
+use std::mem;
+
+/// By what versions are told apart.
+#[derive(Clone, Copy)]
+enum Order {
+    /// By all that they hold.
+    Versions,
+    /// By their objects.
+    Objects,
+}
+
+/// Takes the versions of another history in, so that the first one holds the union. No version is copied, and few are
+/// compared: where each one that is taken belongs is searched for, and what stands before it moves without a look.
+///
+/// # Errors
+///
+/// For want of memory alone, in which case the history stays as it was.
+pub fn absorb(alloc: Global, held: &mut History, more: History) -> Result<(), Memory>
+    ensures { MatchResult result (λ _. held.new ≡ set.union held.old more) (λ _. held.new ≡ held.old) }
+{
+    take_in(alloc, Order::Versions, held, more)
+}
+
+/// Takes the newest versions of another history into one that holds the newest version of each object, so that it holds the
+/// snapshot of the union. It goes once over what is held, like [`absorb`].
+///
+/// # Errors
+///
+/// For want of memory alone, in which case the history stays as it was.
+pub fn absorb_newest(alloc: Global, held: &mut History, more: History) -> Result<(), Memory>
+    requires { held.old ≡ snapshot held.old }
+    ensures { MatchResult result (λ _. held.new ≡ snapshot (set.union held.old more)) (λ _. held.new ≡ held.old) }
+{
+    take_in(alloc, Order::Objects, held, into_snapshot(more))
+}
+
+/// Takes the versions of another history in, where both ascend by this order. Of two that tie the greater one stays.
+fn take_in(alloc: Global, order: Order, held: &mut History, more: History) -> Result<(), Memory>
+    requires held_ascends { IsStrictlySortedBy (order_of order) (set.listed held.old) }
+    requires more_ascends { IsStrictlySortedBy (order_of order) (set.listed more) }
+    ensures { MatchResult result (λ _. held.new ≡ taken order held.old more) (λ _. held.new ≡ held.old) }
+{
+    // All the room is there before anything is moved, so nothing can be refused from then on.
+    let mut room = Vec::with_capacity(alloc, held.len().saturating_add(more.len()))?;
+    let all = mem::replace(held, History::new(alloc)).into_versions();
+    move_joined(order, &mut room, all, more.into_versions());
+    *held = History::from_ascending(room);
+    Ok(())
+}
+
+/// Moves the versions of two lists that ascend by this order behind those that are there, with room for all of them. Of two
+/// that tie the greater one is moved.
+fn move_joined(order: Order, room: &mut Vec<Version>, held: Vec<Version>, more: Vec<Version>)
+    requires ascends { IsStrictlySortedBy (order_of order) held.items }
+    requires room { vec_len room.old + (vec_len held + vec_len more) ≤ vec_capacity room.old }
+    ensures { room.new.items ≡ room.old.items ++ joined (order_of order) held.items more.items }
+{
+    let stride = held.len() / more.len().max(1);
+    let mut held = VecDeque::from_vec(held);
+    'more: for version in more {
+        let below = count_below(order, &held, stride, &version);
+        move_front(room, &mut held, below);
+        room.push_reserved(take_tied(order, &mut held, version));
+    }
+    let rest = held.len();
+    move_front(room, &mut held, rest);
+}
+
+/// The number of versions of an ascending list that are below this one. It looks so far ahead at a time, until what is left
+/// is worth halving.
+fn count_below(order: Order, held: &VecDeque<Version>, stride: usize, version: &Version) -> usize
+    requires { IsStrictlySortedBy (order_of order) held.now.items }
+    ensures { IsPlaceOf (order_of order) version.now held.now.items result }
+{
+    let mut low = 0;
+    let mut high = held.len();
+    'halves: while low < high {
+        let probe = low + ((high - low) / 2).min(stride);
+        if compare(order, &held[probe], version).is_lt() {
+            low = probe + 1;
+        } else {
+            high = probe;
+        }
+    }
+    low
+}
+
+/// How two versions compare by this order.
+fn compare(order: Order, version: &Version, other: &Version) -> Ordering
+    ensures { result ≡ order_of order version.now other.now }
+{
+    match order {
+        Order::Versions => version.cmp(other),
+        Order::Objects => version.object_cmp(other),
+    }
+}
+
+/// Moves so many versions from the front of a list behind those that are there, with room for them.
+fn move_front(room: &mut Vec<Version>, held: &mut VecDeque<Version>, count: usize)
+    requires enough { count ≤ deque_len held.old }
+    requires room { vec_len room.old + count ≤ vec_capacity room.old }
+    ensures moved { room.new.items ≡ room.old.items ++ take count held.old.items }
+    ensures capacity { vec_capacity room.new ≡ vec_capacity room.old }
+    ensures left { held.new.items ≡ drop count held.old.items }
+{
+    'moves: for _ in 0..count {
+        if let Some(version) = held.pop_front() {
+            room.push_reserved(version);
+        }
+    }
+}
+
+/// The version, or the first one of the list in its place, where they tie and that one isn't less. One that ties leaves the list.
+fn take_tied(order: Order, held: &mut VecDeque<Version>, version: Version) -> Version
+    ensures value { result ≡ greater_tied (order_of order) version held.old.items }
+    ensures left { held.new.items ≡ untied (order_of order) version held.old.items }
+{
+    if !is_tied(order, held, &version) {
+        return version;
+    }
+    match held.pop_front() {
+        Some(first) => greater(first, version),
+        None => version,
+    }
+}
+
+/// Whether the first version of the list ties with this one.
+fn is_tied(order: Order, held: &VecDeque<Version>, version: &Version) -> bool
+    ensures { result ≡ is_tied (order_of order) version.now held.now.items }
+{
+    match held.front() {
+        Some(first) => compare(order, first, version).is_eq(),
+        None => false,
+    }
+}
+
+/// The second version, where it is greater, else the first one.
+fn greater(first: Version, second: Version) -> Version
+    ensures { result ≡ greater first second }
+{
+    if first.cmp(&second).is_lt() {
+        second
+    } else {
+        first
+    }
+}
+
+#[cfg(test)]
+mod tests;

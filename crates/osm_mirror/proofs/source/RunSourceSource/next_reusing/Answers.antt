@@ -1,0 +1,14 @@
+use Rattle.std.proofs.Common.{sym, subst}
+use Rattle.osm_files.specs.Source.{Steps}
+use Rattle.osm_mirror.specs.declared.source.RunSource.{RunSource}
+use Rattle.osm_mirror.specs.declared.source.RunSource.TheVariants.{Streamed, Held}
+use Rattle.osm_mirror.specs.Still.{SourceCanGive}
+use Rattle.osm_mirror.proofs.source.RunSourceSource.next_reusing.Goals as goal
+
+pub returns-in-Streamed-clause-step : goal.returns-in-Streamed-clause-step
+returns-in-Streamed-clause-step g c =
+    subst (λ (s : RunSource _). Steps (SourceCanGive g.R.Input.can_give) s c.next_reusing.result (Streamed c.next_reusing.new.self)) (sym c.in-Streamed.is) c.next_reusing.ensures.step
+
+pub returns-in-Held-clause-step : goal.returns-in-Held-clause-step
+returns-in-Held-clause-step g c =
+    subst (λ (s : RunSource _). Steps (SourceCanGive g.R.Input.can_give) s c.next_reusing-in-Held.result (Held c.next_reusing-in-Held.new.self)) (sym c.in-Held.is) c.next_reusing-in-Held.ensures.step

@@ -1,0 +1,74 @@
+//! The runs over inputs that tell beforehand what they give. Each is the run itself, and its contract what follows then.
+ghost use Rattle.std.specs.Prelude.{List, IfOk, IfErr, OnOk, OnErr};
+ghost use Rattle.std.specs.List.{All};
+ghost use Rattle.osm_files.specs.Input.{Coming};
+ghost use Rattle.osm_merge.specs.Merged.{WritesSet, HasBegun, HasBegunIn};
+ghost use Rattle.osm_merge.specs.Selected.{selected};
+ghost use Rattle.osm_merge.specs.Union.{union_of};
+ghost use Rattle.osm_mirror.specs.Given.{FileGives, GivesAs, sources};
+ghost use Rattle.osm_mirror.specs.Merge as merge;
+ghost use Rattle.osm_mirror.specs.Run.{IsRun, Refuses};
+ghost use Rattle.osm_mirror.specs.Told.{AllTell, IsFileIfTold, ToldIsGiven};
+
+use crate::input::{InputFile, Order};
+use crate::merge::run_merge;
+use crate::run::run_selected;
+use osm_files::{Fault, Format, Input, Output};
+use osm_merge::{Counts, Selection};
+use std::alloc::Global;
+
+/// Inputs that tell what they give can give nothing else. So what a run says of something that they can give, it says of that.
+pub fn told_is_given<R: Input>(inputs: &[R])
+    ensures { ToldIsGiven R.can_give inputs.now }
+{}
+
+/// [`run_merge`] over inputs that may tell what they give.
+///
+/// # Errors
+///
+/// Those of [`run_merge`].
+pub fn run_told<R: Input + Drop, W: Output>(
+    alloc: Global,
+    inputs: Vec<R>,
+    format: Format,
+    out: &mut W,
+) -> Result<Counts, Fault>
+    // Where all inputs tell what they give.
+    ensures merged { IfOk result (λ counts. (all : List Coming) → AllTell R.can_give inputs.items all
+        → merge.IsMerged all format (W.holds out.old) (W.holds out.new) counts) }
+    ensures refused { IfErr result (λ fault. (all : List Coming) → AllTell R.can_give inputs.items all
+        → merge.Refuses all format (W.holds out.old) (W.holds out.new) (W.failed out.new) fault) }
+    ensures begun { OnErr result ((all : List Coming) → AllTell R.can_give inputs.items all
+        → HasBegun (merge.sources 0 all) format (W.holds out.old) (W.holds out.new)) }
+    // Whichever tell it.
+    ensures sorted { OnOk result (All (IsFileIfTold R.can_give merge.GivesSorted) inputs.items) }
+    ensures file { IfOk result (WritesSet format (W.holds out.old) (W.holds out.new)) }
+{
+    run_merge(alloc, inputs, format, out)
+}
+
+/// [`run_selected`] over inputs that may tell what they give.
+///
+/// # Errors
+///
+/// Those of [`run_selected`].
+pub fn run_selected_told<R: Input + Drop, W: Output>(
+    alloc: Global,
+    selection: Selection,
+    inputs: Vec<InputFile<R>>,
+    format: Format,
+    out: &mut W,
+) -> Result<Counts, Fault>
+    // Where all inputs tell what they give.
+    ensures written { IfOk result (λ counts. (all : List (Order × Coming)) → AllTell (FileGives R.can_give) inputs.items all
+        → IsRun selection all format (W.holds out.old) (W.holds out.new) counts) }
+    ensures refused { IfErr result (λ fault. (all : List (Order × Coming)) → AllTell (FileGives R.can_give) inputs.items all
+        → Refuses W.holds selection all format out.old out.new (W.failed out.new) fault) }
+    ensures begun { OnErr result ((all : List (Order × Coming)) → AllTell (FileGives R.can_give) inputs.items all
+        → HasBegunIn (selected selection (union_of (sources 0 all))) format (W.holds out.old) (W.holds out.new)) }
+    // Whichever tell it.
+    ensures accepted { OnOk result (All (IsFileIfTold (FileGives R.can_give) GivesAs) inputs.items) }
+    ensures file { IfOk result (WritesSet format (W.holds out.old) (W.holds out.new)) }
+{
+    run_selected(alloc, selection, inputs, format, out)
+}

@@ -1,0 +1,46 @@
+# Completion of osm_hist's words in bash. tools/words compares it with the program's help.
+
+# The words of a list that begin as the word at hand does.
+_osm_hist_offer() {
+    mapfile -t COMPREPLY < <(compgen -W "$1" -- "$2")
+}
+
+# The files that begin so.
+_osm_hist_files() {
+    compopt -o filenames
+    mapfile -t COMPREPLY < <(compgen -f -- "$1")
+}
+
+# The options of a command.
+_osm_hist_options() {
+    case $1 in
+    merge) echo --output --format --fsync --help -h ;;
+    apply) echo --output --format --fsync --with-history --sorted --help -h ;;
+    time-filter | sort) echo --output --format --fsync --sorted --help -h ;;
+    check | plan) echo --help -h ;;
+    '') echo --help -h --version -V ;;
+    esac
+}
+
+_osm_hist() {
+    local word=$2 before=$3 command=
+    local commands='merge apply time-filter sort check plan help'
+    if [ "$COMP_CWORD" -gt 1 ]; then command=${COMP_WORDS[1]}; fi
+    # bash takes an equals sign as a word of its own, as in --format=o5m.
+    if [ "$word" = = ]; then word= before=${COMP_WORDS[COMP_CWORD - 1]}; fi
+    if [ "$before" = = ]; then before=${COMP_WORDS[COMP_CWORD - 2]}; fi
+    case $before in
+    --format) _osm_hist_offer 'opl o5m o5c' "$word" && return ;;
+    --output) _osm_hist_files "$word" && return ;;
+    esac
+    case $word in
+    -*) _osm_hist_offer "$(_osm_hist_options "$command")" "$word" && return ;;
+    esac
+    case $command in
+    '') _osm_hist_offer "$commands" "$word" ;;
+    help) if [ "$COMP_CWORD" -eq 2 ]; then _osm_hist_offer "$commands" "$word"; fi ;;
+    *) _osm_hist_files "$word" ;;
+    esac
+}
+
+complete -F _osm_hist osm_hist

@@ -1,0 +1,23 @@
+# Completion of osm_hist's words in fish. tools/words compares it with the program's help.
+set -l commands merge apply time-filter sort check plan help
+set -l writing merge apply time-filter sort
+set -l none "not __fish_seen_subcommand_from $commands"
+
+complete -c osm_hist -f
+complete -c osm_hist -n $none -a merge -d 'Merge sorted files into one'
+complete -c osm_hist -n $none -a apply -d 'Write the newest version of each object after all changes'
+complete -c osm_hist -n $none -a time-filter -d 'Write the map at a moment, or the history of a period'
+complete -c osm_hist -n $none -a sort -d 'Sort files in any order into one'
+complete -c osm_hist -n $none -a check -d 'Print what a file holds, and whether it is sorted'
+complete -c osm_hist -n $none -a plan -d 'Run mirrors that pass on what they take'
+complete -c osm_hist -n $none -a help -d 'Print help, of a command or of the program'
+complete -c osm_hist -n "__fish_seen_subcommand_from help" -a 'merge apply time-filter sort check plan help'
+complete -c osm_hist -n "__fish_seen_subcommand_from $writing check plan" -F
+
+complete -c osm_hist -n "not __fish_seen_subcommand_from help" -s h -l help -d 'Print help'
+complete -c osm_hist -n $none -s V -l version -d 'Print the version'
+complete -c osm_hist -n "__fish_seen_subcommand_from $writing" -l output -r -F -d 'The file to be written'
+complete -c osm_hist -n "__fish_seen_subcommand_from $writing" -l format -x -a 'opl o5m o5c' -d 'Its format'
+complete -c osm_hist -n "__fish_seen_subcommand_from $writing" -l fsync -d 'Have it on the disk before it is renamed'
+complete -c osm_hist -n "__fish_seen_subcommand_from apply" -l with-history -d 'Write all versions'
+complete -c osm_hist -n "__fish_seen_subcommand_from apply time-filter sort" -l sorted -d 'Refuse a file that is not sorted'
