@@ -14,9 +14,9 @@ _osm_hist_files() {
 # The options of a command.
 _osm_hist_options() {
     case $1 in
-    merge) echo --output --format --fsync --help -h ;;
-    apply) echo --output --format --fsync --with-history --sorted --help -h ;;
-    time-filter | sort) echo --output --format --fsync --sorted --help -h ;;
+    merge) echo --output --format --fsync --progress --help -h ;;
+    apply) echo --output --format --fsync --progress --with-history --sorted --help -h ;;
+    time-filter | sort) echo --output --format --fsync --progress --sorted --help -h ;;
     check | plan) echo --help -h ;;
     '') echo --help -h --version -V ;;
     esac

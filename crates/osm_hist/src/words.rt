@@ -3,6 +3,7 @@ mod checking;
 mod command;
 mod files;
 mod planning;
+mod progress;
 mod refusal;
 mod request;
 mod running;
@@ -12,39 +13,47 @@ use crate::words::request::Request;
 pub(crate) use refusal::Refusal;
 use std::convert::AsStr;
 use std::fmt::Display;
-use std::io::{Read, Write};
+use std::io::{IsTerminal, Read, Write};
 use std::rt::Files;
+use std::time::Clock;
 
 /// Runs one command and answers the exit status.
 ///
 /// `rt` is the runtime in whose folder the files of the words lie, and `words` are the words after the program's
 /// name. Standard input is `input`, and standard output `out`; without any words the one is merged to the other. Help,
-/// the version, what a check tells and what a plan's events get go to `out` too, and the line of a refusal to `err`. The
-/// status is 0 for success and help, 1 where a file, memory or `out` fails, and 2 where the words are refused.
-pub fn run_words<R, S, I, O, E>(rt: &R, words: &[S], input: I, mut out: O, err: E) -> u8
+/// the version, what a check tells and what a plan's events get go to `out` too, and what is told of a run while it goes
+/// on and the line of a refusal to `err`. The status is 0 for success and help, 1 where a file, memory or `out` fails, and 2 where the words are refused.
+pub fn run_words<R, S, I, O, E>(rt: &R, words: &[S], input: I, mut out: O, mut err: E) -> u8
 where
-    R: Files + AllocGlobal,
+    R: Files + Clock + AllocGlobal,
     S: AsStr,
     I: Read + Drop,
     O: Write + Drop,
-    E: Write + Drop,
+    E: Write + IsTerminal + Drop,
 {
-    match answer(rt, words, input, &mut out) {
+    match answer(rt, words, input, &mut out, &mut err) {
         Ok(()) => 0,
         Err(refusal) => refusal.report(err),
     }
 }
 
 /// Reads the words and does what they ask for.
-fn answer<'a, R, S, I, O>(rt: &R, words: &'a [S], input: I, out: &mut O) -> Result<(), Refusal<'a>>
+fn answer<'a, R, S, I, O, E>(
+    rt: &R,
+    words: &'a [S],
+    input: I,
+    out: &mut O,
+    err: &mut E,
+) -> Result<(), Refusal<'a>>
 where
-    R: Files + AllocGlobal,
+    R: Files + Clock + AllocGlobal,
     S: AsStr,
     I: Read + Drop,
     O: Write + Drop,
+    E: Write + IsTerminal,
 {
     match Request::parse(rt.alloc(), words)? {
-        Request::Files(run) => running::run_files(rt, &run, input, out),
+        Request::Files(run) => running::run_files(rt, &run, input, out, err),
         Request::Check(check) => checking::check_file(rt, &check, input, out),
         Request::Plan(run) => planning::run_plan(rt, &run, out),
         Request::Help(text) => print(out, &text),

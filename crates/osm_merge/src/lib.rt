@@ -8,6 +8,7 @@ mod heads;
 pub mod laws;
 mod merge;
 mod newest;
+mod progress;
 mod selection;
 mod taking;
 mod tree;
@@ -15,6 +16,7 @@ mod tree;
 pub use chosen::{at, between, snapshot, visible};
 pub use merge::{Counts, merge_into, merge_selected};
 pub use newest::into_snapshot;
+pub use progress::{Progress, Silent};
 pub use selection::Selection;
 pub use taking::{absorb, absorb_newest};
 

@@ -13,6 +13,7 @@ ghost use Rattle.osm_merge.specs.Merged.{IsMerged, IsMergedAs, IsRefused, IsRefu
 
 use crate::compare::compare;
 use crate::heads::first_versions;
+use crate::progress::{Progress, Silent};
 use crate::selection::{Selection, keeps, passes, puts_at_once, stays};
 use crate::tree::{build, replay};
 use osm_files::{Fault, Output, Sink, Source};
@@ -53,24 +54,26 @@ pub fn merge_into<S: Source + Drop, W: Output>(
     ensures good { OnOk result (W.failed out.new ≡ false) }
     ensures ended { OnOk result (sink.new.ended ≡ true) }
 {
-    merge_selected(alloc, Selection::All, sources, sink, out)
+    merge_selected(alloc, Selection::All, sources, sink, out, &mut Silent)
 }
 
 /// Writes what is selected of the union of what the sources still give as one file, each version once.
 ///
 /// It keeps one version of each source and the last one that may be selected, which is put once the version behind it is
 /// known; where all are selected, each is put as soon as it comes. `read` counts what the sources gave, selected or not.
+/// `progress` looks on, and changes nothing.
 ///
 /// # Errors
 ///
 /// The fault of a source; the faults of the sink, with its number; or `Memory`. What was written then is a front of the
 /// file of what is selected.
-pub fn merge_selected<S: Source + Drop, W: Output>(
+pub fn merge_selected<S: Source + Drop, W: Output, P: Progress>(
     alloc: Global,
     selection: Selection,
     mut sources: Vec<S>,
     sink: &mut Sink,
     out: &mut W,
+    progress: &mut P,
 ) -> Result<Counts, Fault>
     requires { sink.old ≡ new_sink sink.old.format sink.old.number }
     ensures merged { IfOk result (λ counts. ForSome S.can_give sources.items (λ all. IsMergedAs selection all sink.old.format (W.holds out.old) (W.holds out.new) counts)) }
@@ -87,12 +90,14 @@ pub fn merge_selected<S: Source + Drop, W: Output>(
     let inputs: &mut [S] = &mut sources;
     let mut heads = first_versions(alloc, inputs)?;
     let mut nodes = build(alloc, &heads, &mut counts.compared)?;
-    write_union(selection, inputs, &mut heads, &mut nodes, counts, sink, out)
+    write_union(
+        selection, inputs, &mut heads, &mut nodes, counts, sink, out, progress,
+    )
 }
 
 /// Writes what is selected of the union of the heads and of what the sources give behind them, as one file.
 #[inline(never)]
-fn write_union<S: Source, W: Output>(
+fn write_union<S: Source, W: Output, P: Progress>(
     selection: Selection,
     sources: &mut [S],
     heads: &mut [Option<Version>],
@@ -100,6 +105,7 @@ fn write_union<S: Source, W: Output>(
     mut counts: Counts,
     sink: &mut Sink,
     out: &mut W,
+    progress: &mut P,
 ) -> Result<Counts, Fault>
     requires sink { sink.old ≡ new_sink sink.old.format sink.old.number }
     requires size { length heads.old ≡ length sources.old }
@@ -138,6 +144,7 @@ fn write_union<S: Source, W: Output>(
         ) {
             return Err(fault);
         }
+        progress.tell(counts.read, counts.written);
         match sources[place].next_reusing(spare) {
             Ok(next) => heads[place] = next,
             Err(fault) => return Err(fault),

@@ -10,7 +10,7 @@ ghost use Rattle.osm_mirror.specs.Command.{IsWritten, IsNotWritten, applied, in_
 use crate::input::{InputFile, Order};
 use crate::run::run_selected;
 use osm_files::{Fault, Format, Input, Output};
-use osm_merge::{Counts, Selection};
+use osm_merge::{Counts, Selection, Silent};
 use std::alloc::Global;
 
 /// Sorts and merges files whose versions stand in any order: appends the one file of this format that holds the versions of all
@@ -163,7 +163,7 @@ fn run_held<R: Input + Drop, W: Output>(
     ensures good { OnOk result (W.failed out.new ≡ false) }
 {
     let files = of_any_order(alloc, inputs)?;
-    match run_selected(alloc, selection, files, format, out) {
+    match run_selected(alloc, selection, files, format, out, &mut Silent) {
         Ok(counts) => Ok(Counts {
             compared: 0,
             ..counts

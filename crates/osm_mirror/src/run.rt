@@ -8,14 +8,14 @@ ghost use Rattle.osm_mirror.specs.Run.{IsRun, Refuses};
 use crate::input::{InputFile, Order};
 use crate::source::open_inputs;
 use osm_files::{Fault, Format, Input, Output, Sink};
-use osm_merge::{Counts, Selection, merge_selected};
+use osm_merge::{Counts, Progress, Selection, merge_selected};
 use std::alloc::Global;
 
 /// Appends the one file of this format that holds what is selected of the versions of all inputs, each once.
 ///
 /// Where it answers Ok, every input is a file of its grammar, sorted where that was asked for, and the bytes written are the
 /// one spelling of what is selected of the union of the versions held. Each input of any order is read to its end before
-/// anything is written; the sorted ones are read side by side, one key at a time.
+/// anything is written; the sorted ones are read side by side, one key at a time. `progress` looks on, and changes nothing.
 ///
 /// # Errors
 ///
@@ -23,12 +23,13 @@ use std::alloc::Global;
 /// where that was asked for, is named with the reason and its place, where several are, one of them; WriteFault where the
 /// output failed, TooLong where a file has 2^62 bytes or more, Memory where a growth was refused. Where an input of any order
 /// is refused, nothing was written. What was written otherwise is a front of the file.
-pub fn run_selected<R: Input + Drop, W: Output>(
+pub fn run_selected<R: Input + Drop, W: Output, P: Progress>(
     alloc: Global,
     selection: Selection,
     inputs: Vec<InputFile<R>>,
     format: Format,
     out: &mut W,
+    progress: &mut P,
 ) -> Result<Counts, Fault>
     ensures written { IfOk result (λ counts. ForSome (FileGives R.can_give) inputs.items (λ all.
         IsRun selection all format (W.holds out.old) (W.holds out.new) counts)) }
@@ -43,5 +44,5 @@ pub fn run_selected<R: Input + Drop, W: Output>(
         Err(fault) => return Err(fault),
     };
     let mut sink = Sink::new(alloc, format, output)?;
-    merge_selected(alloc, selection, sources, &mut sink, out)
+    merge_selected(alloc, selection, sources, &mut sink, out, progress)
 }

@@ -5,7 +5,7 @@ use crate::{
     run_period_filter, run_selected, run_sort, run_time_filter,
 };
 use osm_files::{Broken, Fault, Format, Input, Reason, SliceIn, VecOut};
-use osm_merge::{Counts, Selection};
+use osm_merge::{Counts, Selection, Silent};
 use std::alloc::Global;
 use std::process::Abort;
 use std::test::Fail;
@@ -95,7 +95,7 @@ fn select(
             order,
         })?;
     }
-    run_selected(alloc, selection, inputs, format, out)
+    run_selected(alloc, selection, inputs, format, out, &mut Silent)
 }
 
 /// What the command over these files appends and answers. The filters read the first one alone.
@@ -470,7 +470,7 @@ fn nothing_is_written_before_all_are_read(rt: HostRuntime) -> Result<(), Fail> {
                 order,
             })?;
         }
-        let mixed = run_selected(alloc, Selection::All, inputs, format, &mut out);
+        let mixed = run_selected(alloc, Selection::All, inputs, format, &mut out, &mut Silent);
         assert_eq!(rt; mixed.err(), fault);
         assert!(rt; out.into_vec().is_empty());
     }
@@ -592,7 +592,14 @@ fn what_is_selected_of_inputs_that_tell_is_written(rt: HostRuntime) -> Result<()
         order: Order::Any,
     })?;
     let mut out = VecOut::new(alloc);
-    run_selected_told(alloc, Selection::Newest, inputs, Format::Opl, &mut out)?;
+    run_selected_told(
+        alloc,
+        Selection::Newest,
+        inputs,
+        Format::Opl,
+        &mut out,
+        &mut Silent,
+    )?;
     let deletion = b"n1 v2 dD c0 t i0 u T x y\n".as_slice();
     assert_eq!(rt; out.into_vec().as_slice(), deletion);
     Ok(())

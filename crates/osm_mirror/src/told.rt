@@ -14,7 +14,7 @@ use crate::input::{InputFile, Order};
 use crate::merge::run_merge;
 use crate::run::run_selected;
 use osm_files::{Fault, Format, Input, Output};
-use osm_merge::{Counts, Selection};
+use osm_merge::{Counts, Progress, Selection};
 use std::alloc::Global;
 
 /// Inputs that tell what they give can give nothing else. So what a run says of something that they can give, it says of that.
@@ -52,12 +52,13 @@ pub fn run_told<R: Input + Drop, W: Output>(
 /// # Errors
 ///
 /// Those of [`run_selected`].
-pub fn run_selected_told<R: Input + Drop, W: Output>(
+pub fn run_selected_told<R: Input + Drop, W: Output, P: Progress>(
     alloc: Global,
     selection: Selection,
     inputs: Vec<InputFile<R>>,
     format: Format,
     out: &mut W,
+    progress: &mut P,
 ) -> Result<Counts, Fault>
     // Where all inputs tell what they give.
     ensures written { IfOk result (λ counts. (all : List (Order × Coming)) → AllTell (FileGives R.can_give) inputs.items all
@@ -70,5 +71,5 @@ pub fn run_selected_told<R: Input + Drop, W: Output>(
     ensures accepted { OnOk result (All (IsFileIfTold (FileGives R.can_give) GivesAs) inputs.items) }
     ensures file { IfOk result (WritesSet format (W.holds out.old) (W.holds out.new)) }
 {
-    run_selected(alloc, selection, inputs, format, out)
+    run_selected(alloc, selection, inputs, format, out, progress)
 }

@@ -164,10 +164,15 @@ fn writing_command<'a>(alloc: Global, name: &'a str) -> Result<Command<'a>, Allo
         .long("fsync")
         .action(ArgAction::SetTrue)
         .help("Puts the file on the disk before it gets its name");
+    let progress = Arg::new(alloc, "progress")
+        .long("progress")
+        .action(ArgAction::SetTrue)
+        .help("Tells on standard error, while it runs, how much was read and written");
     Command::new(alloc, name)
         .arg(output)?
         .arg(format)?
-        .arg(fsync)
+        .arg(fsync)?
+        .arg(progress)
 }
 
 fn files_arg<'a>(alloc: Global, help: &'a str) -> Arg<'a> {

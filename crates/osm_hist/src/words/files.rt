@@ -54,6 +54,17 @@ impl<F: OpenFile, S> Stream<F, S> {
             Stream::Standard(_) => false,
         }
     }
+
+    /// Its bytes, where they are known: a pipe, a device or standard input doesn't tell.
+    pub(super) fn size(&self) -> Option<u64> {
+        match self {
+            Stream::File(file) => match file.metadata() {
+                Ok(metadata) if metadata.is_file() => Some(metadata.len()),
+                _ => None,
+            },
+            Stream::Standard(_) => None,
+        }
+    }
 }
 
 /// Whether a file that is open is neither a pipe nor a device.

@@ -38,6 +38,8 @@ pub(super) struct FileRun<'a> {
     pub(super) sorted: bool,
     /// Whether what is written is on the disk before it is renamed.
     pub(super) fsync: bool,
+    /// Whether it tells of itself while it goes on.
+    pub(super) progress: bool,
 }
 
 /// A check of a file.
@@ -119,6 +121,7 @@ impl<'a> FileRun<'a> {
             selection: Selection::All,
             sorted: true,
             fsync: false,
+            progress: false,
         })
     }
 
@@ -142,6 +145,7 @@ impl<'a> FileRun<'a> {
                 selection,
                 sorted: name == "merge" || words.get_flag("sorted"),
                 fsync: words.get_flag("fsync"),
+                progress: words.get_flag("progress"),
             })),
             _ => Ok(None),
         }

@@ -1,6 +1,7 @@
 //! Running what the words ask for.
 use super::checking::{is_out_of_order, is_unsorted};
 use super::files::{Stream, buffered_out, create, input_names, open_all};
+use super::progress::{Meter, Metered};
 use super::refusal::Refusal;
 use super::request::FileRun;
 use super::target::Target;
@@ -9,16 +10,24 @@ use osm_merge::{Counts, Selection};
 use osm_mirror::{InputFile, Order, run_merge, run_selected};
 use std::alloc::{AllocError, Global};
 use std::fs::OpenFile;
-use std::io::{Read, Write};
+use std::io::{IsTerminal, Read, Write};
 use std::rt::Files;
+use std::time::Clock;
 
 /// Makes OUT of files. A file is written as OUT.part, which becomes OUT at the end, or goes at a refusal.
-pub(super) fn run_files<'a, R: Files + AllocGlobal, I: Read + Drop, O: Write>(
+pub(super) fn run_files<'a, R, I, O, E>(
     rt: &R,
     run: &FileRun<'a>,
     input: I,
     out: &mut O,
-) -> Result<(), Refusal<'a>> {
+    err: &mut E,
+) -> Result<(), Refusal<'a>>
+where
+    R: Files + Clock + AllocGlobal,
+    I: Read + Drop,
+    O: Write,
+    E: Write + IsTerminal,
+{
     let target = Target::of_word(rt, run.output);
     let part = format!(in rt.alloc(); "{}.part", run.output)?;
     if target.is_renamed() {
@@ -26,7 +35,8 @@ pub(super) fn run_files<'a, R: Files + AllocGlobal, I: Read + Drop, O: Write>(
     }
     let files = open_all(rt, run.files.as_slice(), Some(input))?;
     let writer = target.open(rt, part.as_str(), out)?;
-    let outcome = finish(rt, run, target, part.as_str(), files, writer);
+    let meter = Meter::new(rt, err, run.progress);
+    let outcome = finish(rt, run, target, part.as_str(), files, writer, &meter);
     target.end(rt, part.as_str(), outcome)
 }
 
@@ -39,15 +49,24 @@ fn refuse_part<'a>(files: &[&'a str], part: &str) -> Result<(), Refusal<'a>> {
 }
 
 /// Writes what is selected, and renames OUT.part.
-fn finish<'a, R: Files + AllocGlobal, I: Read + Drop, O: Write + Drop>(
+fn finish<'a, 'm, R, I, O, E>(
     rt: &R,
     run: &FileRun<'a>,
     target: Target<'a>,
     part: &str,
     files: Vec<Stream<R::File, I>>,
     writer: Stream<R::File, O>,
-) -> Result<(), Refusal<'a>> {
-    match write_by_turns(rt, run, target, part, files, writer)? {
+    meter: &Meter<'m, R, E>,
+) -> Result<(), Refusal<'a>>
+where
+    R: Files + Clock + AllocGlobal,
+    I: Read + Drop,
+    O: Write + Drop,
+    E: Write + IsTerminal,
+{
+    let outcome = write_by_turns(rt, run, target, part, files, writer, meter)?;
+    meter.end(&outcome);
+    match outcome {
         Ok(_) => target.complete(rt, part, run.fsync),
         Err(fault) => {
             let names = input_names(rt.alloc(), run.files.as_slice())?;
@@ -60,20 +79,28 @@ fn finish<'a, R: Files + AllocGlobal, I: Read + Drop, O: Write + Drop>(
 /// out not to be sorted, anew with that file held. Where that happens again, the others are looked through before the
 /// next turn, so that there are few turns, however many files there are. There is one turn alone where a file can't be
 /// read again, or the output can't be made anew.
-fn write_by_turns<'a, R: Files + AllocGlobal, I: Read + Drop, O: Write + Drop>(
+fn write_by_turns<'a, 'm, R, I, O, E>(
     rt: &R,
     run: &FileRun<'a>,
     target: Target<'a>,
     part: &str,
     files: Vec<Stream<R::File, I>>,
     writer: Stream<R::File, O>,
-) -> Result<Result<Counts, Fault>, Refusal<'a>> {
+    meter: &Meter<'m, R, E>,
+) -> Result<Result<Counts, Fault>, Refusal<'a>>
+where
+    R: Files + Clock + AllocGlobal,
+    I: Read + Drop,
+    O: Write + Drop,
+    E: Write + IsTerminal,
+{
     let mut orders = first_orders(rt.alloc(), run, files.as_slice())?;
     let has_one_turn = !target.is_renamed() || orders.contains(&Order::Any);
     if has_one_turn && !run.sorted {
         hold_unsorted(rt, run, orders.as_mut_slice())?;
     }
-    let mut outcome = write(rt.alloc(), run, files, orders.as_slice(), writer);
+    meter.read_files(files.as_slice());
+    let mut outcome = write(rt.alloc(), run, files, orders.as_slice(), writer, meter);
     if has_one_turn || run.sorted {
         return Ok(outcome);
     }
@@ -86,7 +113,8 @@ fn write_by_turns<'a, R: Files + AllocGlobal, I: Read + Drop, O: Write + Drop>(
         }
         let files: Vec<Stream<R::File, I>> = open_all(rt, run.files.as_slice(), None)?;
         let writer: Stream<R::File, O> = Stream::File(create(rt, run.output, part)?);
-        outcome = write(rt.alloc(), run, files, orders.as_slice(), writer);
+        meter.read_files(files.as_slice());
+        outcome = write(rt.alloc(), run, files, orders.as_slice(), writer, meter);
     }
     Ok(outcome)
 }
@@ -138,25 +166,40 @@ fn hold_refused(orders: &mut [Order], outcome: &Result<Counts, Fault>) -> bool {
 }
 
 /// Writes the versions that are selected of the files, each taken in its order.
-fn write<'a, F: Read + Drop, W: Write + Drop>(
+fn write<'a, 'm, F, W, C, E>(
     alloc: Global,
     run: &FileRun<'a>,
     files: Vec<F>,
     orders: &[Order],
     writer: W,
-) -> Result<Counts, Fault> {
-    if run.selection == Selection::All && !orders.contains(&Order::Any) {
+    meter: &Meter<'m, C, E>,
+) -> Result<Counts, Fault>
+where
+    F: Read + Drop,
+    W: Write + Drop,
+    C: Clock,
+    E: Write + IsTerminal,
+{
+    if run.selection == Selection::All && !run.progress && !orders.contains(&Order::Any) {
         return merge(alloc, run.format, files, writer);
     }
     let mut inputs = Vec::new(alloc);
     for (file, order) in files.into_iter().zip(orders) {
         inputs.push(InputFile {
-            reader: FromRead::new(file),
+            reader: FromRead::new(Metered::new(file, meter)),
             order: *order,
         })?;
     }
     let mut output = buffered_out(alloc, writer)?;
-    run_selected(alloc, run.selection, inputs, run.format, &mut output)
+    let mut looking = meter;
+    run_selected(
+        alloc,
+        run.selection,
+        inputs,
+        run.format,
+        &mut output,
+        &mut looking,
+    )
 }
 
 /// Merges files that are all taken as sorted.

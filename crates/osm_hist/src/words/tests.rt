@@ -1,15 +1,18 @@
 //! Commands in a folder of their own: the exit status, what is printed, and which files there are.
 use super::run_words;
-use std::io::{Read, Write};
+use std::alloc::Global;
+use std::io::{IsTerminal, Read, Write};
 use std::process::Abort;
 use std::rt::Files;
 use std::test::Fail;
+use std::time::Clock;
 use std::{env, fs, io};
 
 mod apply;
 mod check;
 mod order;
 mod plan;
+mod progress;
 mod sort;
 mod standard;
 mod time_filter;
@@ -65,6 +68,39 @@ impl Read for Breaking<'_> {
     }
 }
 
+/// A standard error that keeps what it is told.
+#[derive(Drop)]
+struct Log {
+    bytes: Vec<u8>,
+    is_terminal: bool,
+}
+
+impl Log {
+    /// An empty file.
+    fn new(alloc: Global) -> Log {
+        Log {
+            bytes: Vec::new(alloc),
+            is_terminal: false,
+        }
+    }
+}
+
+impl Write for Log {
+    fn write(&mut self, bytes: &[u8]) -> io::Result<usize> {
+        self.bytes.write(bytes)
+    }
+
+    fn flush(&mut self) -> io::Result<()> {
+        self.bytes.flush()
+    }
+}
+
+impl IsTerminal for &mut Log {
+    fn is_terminal(&self) -> bool {
+        self.is_terminal
+    }
+}
+
 /// What a command answered.
 #[derive(Drop)]
 struct Answer {
@@ -74,15 +110,24 @@ struct Answer {
 }
 
 /// Runs a command without standard input.
-fn run<R: Files + AllocGlobal>(rt: &R, words: &[&str]) -> Answer {
+fn run<R: Files + Clock + AllocGlobal>(rt: &R, words: &[&str]) -> Answer {
     let mut out = Vec::new(rt.alloc());
-    let mut err = Vec::new(rt.alloc());
+    let mut err = Log::new(rt.alloc());
     let status = run_words(rt, words, b"".as_slice(), &mut out, &mut err);
-    Answer { status, out, err }
+    Answer {
+        status,
+        out,
+        err: err.bytes,
+    }
 }
 
 /// Sees that a command is refused with this status and line.
-fn assert_refused<R: Files + AllocGlobal + Abort>(rt: &R, words: &[&str], status: u8, line: &str) {
+fn assert_refused<R: Files + Clock + AllocGlobal + Abort>(
+    rt: &R,
+    words: &[&str],
+    status: u8,
+    line: &str,
+) {
     let answer = run(rt, words);
     assert_eq!(rt; answer.status, status);
     assert_eq!(rt; answer.err.as_slice(), line.as_bytes());
@@ -90,7 +135,7 @@ fn assert_refused<R: Files + AllocGlobal + Abort>(rt: &R, words: &[&str], status
 }
 
 /// Sees that a command makes o.opl with this text, says nothing, and leaves no o.opl.part.
-fn assert_makes<R: Files + AllocGlobal + Abort>(
+fn assert_makes<R: Files + Clock + AllocGlobal + Abort>(
     rt: &R,
     words: &[&str],
     text: &str,
@@ -219,11 +264,11 @@ fn help_is_printed(rt: HostRuntime) -> Result<(), Fail> {
             assert!(rt; text.contains(line.as_str()));
         }
     }
-    let mut err = Vec::new(rt.alloc());
+    let mut err = Log::new(rt.alloc());
     let status = run_words(&rt, &["--help"], b"".as_slice(), Broken, &mut err);
     assert_eq!(rt; status, 1);
     assert_eq!(rt;
-        err.as_slice(),
+        err.bytes.as_slice(),
         b"standard output: cannot write\n".as_slice()
     );
     Ok(())
@@ -233,22 +278,22 @@ fn help_is_printed(rt: HostRuntime) -> Result<(), Fail> {
 fn standard_input_is_merged(rt: HostRuntime) {
     let words: [&str; 0] = [];
     let mut out = Vec::new(rt.alloc());
-    let mut err = Vec::new(rt.alloc());
+    let mut err = Log::new(rt.alloc());
     let status = run_words(&rt, &words, MERGED.as_bytes(), &mut out, &mut err);
     assert_eq!(rt; status, 0);
     assert_eq!(rt; out.as_slice(), MERGED.as_bytes());
-    assert!(rt; err.is_empty());
+    assert!(rt; err.bytes.is_empty());
     let status = run_words(&rt, &words, Broken, &mut out, &mut err);
     assert_eq!(rt; status, 1);
     assert_eq!(rt;
-        err.as_slice(),
+        err.bytes.as_slice(),
         b"standard input: 0: ReadFault\n".as_slice()
     );
-    err.clear();
+    err.bytes.clear();
     let status = run_words(&rt, &words, MERGED.as_bytes(), Broken, &mut err);
     assert_eq!(rt; status, 1);
     assert_eq!(rt;
-        err.as_slice(),
+        err.bytes.as_slice(),
         b"standard output: 58: WriteFault\n".as_slice()
     );
 }
@@ -257,14 +302,14 @@ fn standard_input_is_merged(rt: HostRuntime) {
 fn a_reader_that_fails_in_mid_stream_is_named(rt: HostRuntime) {
     let words: [&str; 0] = [];
     let mut out = Vec::new(rt.alloc());
-    let mut err = Vec::new(rt.alloc());
+    let mut err = Log::new(rt.alloc());
     let input = Breaking {
         rest: MERGED.as_bytes(),
     };
     let status = run_words(&rt, &words, input, &mut out, &mut err);
     assert_eq!(rt; status, 1);
     assert_eq!(rt;
-        err.as_slice(),
+        err.bytes.as_slice(),
         b"standard input: 58: ReadFault\n".as_slice()
     );
     // the version before the one in which the fault was met was written, and stays
@@ -277,12 +322,12 @@ fn a_reader_that_fails_in_mid_stream_is_named(rt: HostRuntime) {
 #[test]
 fn a_faulty_line_of_standard_input_is_named(rt: HostRuntime) -> Result<(), Fail> {
     let mut out = Vec::new(rt.alloc());
-    let mut err = Vec::new(rt.alloc());
+    let mut err = Log::new(rt.alloc());
     let words: [&str; 0] = [];
     let status = run_words(&rt, &words, b"n1 v1 x1 y1 q".as_slice(), &mut out, &mut err);
     assert_eq!(rt; status, 1);
     assert_eq!(rt;
-        err.as_slice(),
+        err.bytes.as_slice(),
         b"standard input: 0: UnknownField\n".as_slice()
     );
     assert!(rt; out.is_empty());
@@ -290,7 +335,7 @@ fn a_faulty_line_of_standard_input_is_named(rt: HostRuntime) -> Result<(), Fail>
 }
 
 /// Sees that the merge of both files in this format is merged back to lines, by file and by standard input.
-fn assert_back<R: Files + AllocGlobal + Abort>(rt: &R, format: &str) -> Result<(), Fail> {
+fn assert_back<R: Files + Clock + AllocGlobal + Abort>(rt: &R, format: &str) -> Result<(), Fail> {
     let to = [
         "merge", "--output", "m", "--format", format, "a.opl", "b.opl",
     ];
@@ -301,7 +346,7 @@ fn assert_back<R: Files + AllocGlobal + Abort>(rt: &R, format: &str) -> Result<(
     let file = fs::read(rt, "m")?;
     let words: [&str; 0] = [];
     let mut out = Vec::new(rt.alloc());
-    let mut err = Vec::new(rt.alloc());
+    let mut err = Log::new(rt.alloc());
     let status = run_words(rt, &words, file.as_slice(), &mut out, &mut err);
     assert_eq!(rt; status, 0);
     assert_eq!(rt; out.as_slice(), MERGED.as_bytes());

@@ -1,5 +1,6 @@
 //! Merges of sources in memory, with what is written worked out by hand.
 use super::{Counts, Selection, merge_into, merge_selected};
+use crate::progress::Silent;
 use crate::rows::{
     CAME_AT_10, DELETED_AT_30, DELETED_NEXT, DELETED_TOO, MOVED_AT_5, MOVED_AT_20, OTHER_AT_20,
     OTHER_MOVED_AT_20, VISIBLE, WAY, history, text,
@@ -291,7 +292,14 @@ fn merge_newest(
     }
     let mut sink = Sink::new(alloc, Format::Opl, sources.len())?;
     let mut out = VecOut::new(alloc);
-    let answer = merge_selected(alloc, Selection::Newest, inputs, &mut sink, &mut out);
+    let answer = merge_selected(
+        alloc,
+        Selection::Newest,
+        inputs,
+        &mut sink,
+        &mut out,
+        &mut Silent,
+    );
     Ok((answer, out.into_vec()))
 }
 
@@ -315,7 +323,7 @@ fn merge_of(
     }
     let mut sink = Sink::new(alloc, Format::Opl, sources.len())?;
     let mut out = VecOut::new(alloc);
-    let counts = merge_selected(alloc, selection, inputs, &mut sink, &mut out)?;
+    let counts = merge_selected(alloc, selection, inputs, &mut sink, &mut out, &mut Silent)?;
     Ok((counts, out.into_vec()))
 }
 

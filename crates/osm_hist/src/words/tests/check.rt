@@ -1,13 +1,14 @@
 //! `check`.
-use super::{Broken, MERGED, NODE_THEN_DELETION, UNSORTED, assert_refused, enter, leave, run};
+use super::{Broken, Log, MERGED, NODE_THEN_DELETION, UNSORTED, assert_refused, enter, leave, run};
 use crate::words::run_words;
 use std::fs;
 use std::process::Abort;
 use std::rt::Files;
 use std::test::Fail;
+use std::time::Clock;
 
 /// Sees that a check of a file prints this line.
-fn assert_checked<R: Files + AllocGlobal + Abort>(rt: &R, name: &str, line: &str) {
+fn assert_checked<R: Files + Clock + AllocGlobal + Abort>(rt: &R, name: &str, line: &str) {
     let answer = run(rt, &["check", name]);
     assert!(rt; answer.err.is_empty());
     assert_eq!(rt; answer.out.as_slice(), line.as_bytes());
@@ -43,12 +44,12 @@ fn files_that_cannot_be_checked_are_refused(rt: HostRuntime) -> Result<(), Fail>
     assert_refused(&rt, &["check", "folder"], 1, "folder: 0: ReadFault\n");
     assert_refused(&rt, &["check", "bad.opl"], 1, "bad.opl: 18: NoLocation\n");
     fs::write(&rt, "a.opl", MERGED)?;
-    let mut err = Vec::new(rt.alloc());
+    let mut err = Log::new(rt.alloc());
     let words = ["check", "a.opl"];
     let status = run_words(&rt, &words, b"".as_slice(), Broken, &mut err);
     assert_eq!(rt; status, 1);
     assert_eq!(rt;
-        err.as_slice(),
+        err.bytes.as_slice(),
         b"standard output: cannot write\n".as_slice()
     );
     leave(&rt, "unchecked")?;

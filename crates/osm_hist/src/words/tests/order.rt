@@ -5,6 +5,7 @@ use std::os::fd::AsRawFd;
 use std::process::Abort;
 use std::rt::Files;
 use std::test::Fail;
+use std::time::Clock;
 use std::{fs, io};
 
 /// A time after all of the versions.
@@ -14,7 +15,7 @@ const TIME: &str = "2014-05-06T07:08:09Z";
 const SORTED: &str = "n1 v1 dV c0 t i0 u T x1 y1\nn2 v1 dV c0 t i0 u T x1 y1\n";
 
 /// Sees that two commands make the same o.opl, which isn't empty.
-fn assert_same<R: Files + AllocGlobal + Abort>(
+fn assert_same<R: Files + Clock + AllocGlobal + Abort>(
     rt: &R,
     words: &[&str],
     others: &[&str],

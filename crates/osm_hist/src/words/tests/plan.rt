@@ -1,10 +1,11 @@
 //! `plan`.
-use super::{Broken, assert_refused, enter, leave, run};
+use super::{Broken, Log, assert_refused, enter, leave, run};
 use crate::words::run_words;
 use std::fs;
 use std::process::Abort;
 use std::rt::Files;
 use std::test::Fail;
+use std::time::Clock;
 
 /// The plan of two mirrors that take a file each and pass it on.
 const TWO_MIRRORS: &str =
@@ -12,7 +13,7 @@ const TWO_MIRRORS: &str =
     write 0 opl x.opl\nwrite 1 opl y.opl\n";
 
 /// Sees that the plan of this text prints these lines.
-fn assert_prints<R: Files + AllocGlobal + Abort>(
+fn assert_prints<R: Files + Clock + AllocGlobal + Abort>(
     rt: &R,
     text: &str,
     lines: &str,
@@ -156,11 +157,11 @@ fn a_file_that_cannot_be_made_ends_the_run(rt: HostRuntime) -> Result<(), Fail> 
 fn where_nothing_can_be_printed_no_file_is_made(rt: HostRuntime) -> Result<(), Fail> {
     enter(&rt, "unprinted")?;
     fs::write(&rt, "p.plan", "full\nrestart 0 o5c\nwrite 0 opl x.opl\n")?;
-    let mut err = Vec::new(rt.alloc());
+    let mut err = Log::new(rt.alloc());
     let status = run_words(&rt, &["plan", "p.plan"], b"".as_slice(), Broken, &mut err);
     assert_eq!(rt; status, 1);
     assert_eq!(rt;
-        err.as_slice(),
+        err.bytes.as_slice(),
         b"standard output: cannot write\n".as_slice()
     );
     assert!(rt; !fs::exists(&rt, "x.opl")?);

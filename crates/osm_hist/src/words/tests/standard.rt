@@ -1,7 +1,7 @@
 //! Standard input and output among the words, and outputs that aren't regular files.
 use super::{
-    Answer, Broken, FIRST, MERGED, SECOND, UNSORTED, assert_makes, assert_refused, enter, leave,
-    run, run_words,
+    Answer, Broken, FIRST, Log, MERGED, SECOND, UNSORTED, assert_makes, assert_refused, enter,
+    leave, run, run_words,
 };
 use std::fs;
 use std::io::Read;
@@ -9,17 +9,27 @@ use std::os::fd::AsRawFd;
 use std::process::Abort;
 use std::rt::Files;
 use std::test::Fail;
+use std::time::Clock;
 
 /// Runs a command with this standard input.
-fn run_with<R: Files + AllocGlobal>(rt: &R, words: &[&str], input: &str) -> Answer {
+fn run_with<R: Files + Clock + AllocGlobal>(rt: &R, words: &[&str], input: &str) -> Answer {
     let mut out = Vec::new(rt.alloc());
-    let mut err = Vec::new(rt.alloc());
+    let mut err = Log::new(rt.alloc());
     let status = run_words(rt, words, input.as_bytes(), &mut out, &mut err);
-    Answer { status, out, err }
+    Answer {
+        status,
+        out,
+        err: err.bytes,
+    }
 }
 
 /// Sees that a command with this standard input succeeds and prints this.
-fn assert_prints<R: Files + AllocGlobal + Abort>(rt: &R, words: &[&str], input: &str, text: &str) {
+fn assert_prints<R: Files + Clock + AllocGlobal + Abort>(
+    rt: &R,
+    words: &[&str],
+    input: &str,
+    text: &str,
+) {
     let answer = run_with(rt, words, input);
     assert_eq!(rt; answer.err.as_slice(), b"".as_slice());
     assert_eq!(rt; answer.status, 0);
@@ -84,12 +94,12 @@ fn standard_streams_are_named_in_faults(rt: HostRuntime) -> Result<(), Fail> {
         answer.err.as_slice(),
         b"standard input: 0: NoLocation\n".as_slice()
     );
-    let mut err = Vec::new(rt.alloc());
+    let mut err = Log::new(rt.alloc());
     let words = ["sort", "--output", "-", "a.opl"];
     let status = run_words(&rt, &words, b"".as_slice(), Broken, &mut err);
     assert_eq!(rt; status, 1);
     assert_eq!(rt;
-        err.as_slice(),
+        err.bytes.as_slice(),
         b"standard output: 29: WriteFault\n".as_slice()
     );
     leave(&rt, "standard_faults")?;
