@@ -1,5 +1,6 @@
 //! OPL lines, read and written.
 ghost use Rattle.std.specs.Prelude.{◌≡◌, ◌⊎◌, ◌++◌, true, false, Err, IfOk, IfErr, OnOk, MatchOption, MatchResult, option_copied};
+ghost use Rattle.osm_model.specs.Extends.{Extends};
 ghost use Rattle.osm_model.specs.Line.{line};
 ghost use Rattle.osm_model.specs.New.{is_dated, version_or_fault};
 ghost use Rattle.opl_line.specs.declared.cut.Cut.TheVariants.{Blanks};
@@ -211,9 +212,11 @@ fn reason_of(fault: ValueFault) -> OplReason
     }
 }
 
-/// Appends the canonical line of a version, without a line end.
+/// Appends the canonical line of a version, without a line end. After an error a part of it may stand there,
+/// behind what stood there before.
 pub fn append_line(out: &mut Vec<u8>, version: &Version) -> Result<(), Memory>
-    ensures { OnOk result (out.new.items ≡ out.old.items ++ line version.now) }
+    ensures appended { OnOk result (out.new.items ≡ out.old.items ++ line version.now) }
+    ensures kept { Extends out.old.items out.new.items }
 {
     version.append_line(out)
 }

@@ -17,5 +17,6 @@ pub mod LineLaws
 pub mod VersionLaws
 pub mod CursorLaws
 pub mod AppendLaws
+pub mod ExtendsLaws
 pub mod KindLaws
 pub mod PairLaws

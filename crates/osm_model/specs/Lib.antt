@@ -25,4 +25,5 @@ pub mod Laws
 pub mod Piece
 pub mod Cursor
 pub mod Append
+pub mod Extends
 pub mod KindLaw

@@ -4,15 +4,18 @@ ghost use Rattle.osm_model.specs.Joined.{joined};
 ghost use Rattle.osm_model.specs.Escape.{escape, escape_char};
 ghost use Rattle.osm_model.specs.Line.{list_text, tag_text, reference_text, member_text, kind_fields, line};
 ghost use Rattle.osm_model.specs.Append.{head_text, location_text};
+ghost use Rattle.osm_model.specs.Extends.{Extends};
 
 use crate::escape::plain_length;
 use crate::piece::Piece;
 use crate::{Body, Member, Memory, Tag, Text, Version};
 
 impl Version {
-    /// Appends the canonical OPL line, without a line end. After an error a part of it may stand there.
+    /// Appends the canonical OPL line, without a line end. After an error a part of it may stand there,
+    /// behind what stood there before.
     pub fn append_line(&self, out: &mut Vec<u8>) -> Result<(), Memory>
-        ensures { OnOk result (out.new.items ≡ out.old.items ++ line self.now) }
+        ensures appended { OnOk result (out.new.items ≡ out.old.items ++ line self.now) }
+        ensures kept { Extends out.old.items out.new.items }
     {
         append_head(self, out)?;
         append_text(self.user(), out)?;
@@ -23,7 +26,8 @@ impl Version {
 
 /// Appends the fields before the user name, and the mark of the user name.
 fn append_head(version: &Version, out: &mut Vec<u8>) -> Result<(), Memory>
-    ensures { OnOk result (out.new.items ≡ out.old.items ++ head_text version.now) }
+    ensures appended { OnOk result (out.new.items ≡ out.old.items ++ head_text version.now) }
+    ensures kept { Extends out.old.items out.new.items }
 {
     let mut piece = Piece::new();
     piece.prepend(b" u");
@@ -48,7 +52,8 @@ fn append_head(version: &Version, out: &mut Vec<u8>) -> Result<(), Memory>
 
 /// Appends the characters of a text, raw or as escapes.
 fn append_text(text: &Text, out: &mut Vec<u8>) -> Result<(), Memory>
-    ensures { OnOk result (out.new.items ≡ out.old.items ++ escape text.now) }
+    ensures appended { OnOk result (out.new.items ≡ out.old.items ++ escape text.now) }
+    ensures kept { Extends out.old.items out.new.items }
 {
     let mut rest = text.as_str();
     'characters: loop {
@@ -65,7 +70,8 @@ fn append_text(text: &Text, out: &mut Vec<u8>) -> Result<(), Memory>
 
 /// Appends a character of a text, raw or as an escape.
 fn append_escaped(c: char, out: &mut Vec<u8>) -> Result<(), Memory>
-    ensures { OnOk result (out.new.items ≡ out.old.items ++ escape_char c) }
+    ensures appended { OnOk result (out.new.items ≡ out.old.items ++ escape_char c) }
+    ensures kept { Extends out.old.items out.new.items }
 {
     let mut piece = Piece::new();
     piece.set_escaped(c);
@@ -79,7 +85,8 @@ trait Listed {
     /// Appends a mark of at most 2 bytes, and the item behind it.
     fn append_behind(&self, mark: &[u8], out: &mut Vec<u8>) -> Result<(), Memory>
         requires { length mark.now ≤ 2 }
-        ensures { OnOk result (out.new.items ≡ out.old.items ++ (mark.now ++ text self.now)) };
+        ensures appended { OnOk result (out.new.items ≡ out.old.items ++ (mark.now ++ text self.now)) }
+        ensures kept { Extends out.old.items out.new.items };
 }
 
 impl Listed for Tag {
@@ -124,7 +131,8 @@ impl Listed for Member {
 #[inline(always)]
 fn append_list<T: Listed>(mark: &[u8], items: &[T], out: &mut Vec<u8>) -> Result<(), Memory>
     requires { length mark.now ≤ 2 }
-    ensures { OnOk result (out.new.items ≡ out.old.items ++ (mark.now ++ list_text T.text items.now)) }
+    ensures appended { OnOk result (out.new.items ≡ out.old.items ++ (mark.now ++ list_text T.text items.now)) }
+    ensures kept { Extends out.old.items out.new.items }
 {
     let Some((first, more)) = items.split_first() else {
         out.extend_from_slice(mark)?;
@@ -139,7 +147,8 @@ fn append_list<T: Listed>(mark: &[u8], items: &[T], out: &mut Vec<u8>) -> Result
 
 /// Appends the fields behind the tags.
 fn append_kind_fields(body: &Body, out: &mut Vec<u8>) -> Result<(), Memory>
-    ensures { OnOk result (out.new.items ≡ out.old.items ++ (32 ∷ joined 32 (kind_fields body.now))) }
+    ensures appended { OnOk result (out.new.items ≡ out.old.items ++ (32 ∷ joined 32 (kind_fields body.now))) }
+    ensures kept { Extends out.old.items out.new.items }
 {
     match body {
         Body::Deleted(kind) => {
@@ -154,7 +163,8 @@ fn append_kind_fields(body: &Body, out: &mut Vec<u8>) -> Result<(), Memory>
 
 /// Appends the fields of a location.
 fn append_location(lon: i32, lat: i32, out: &mut Vec<u8>) -> Result<(), Memory>
-    ensures { OnOk result (out.new.items ≡ out.old.items ++ location_text lon lat) }
+    ensures appended { OnOk result (out.new.items ≡ out.old.items ++ location_text lon lat) }
+    ensures kept { Extends out.old.items out.new.items }
 {
     let mut piece = Piece::new();
     piece.prepend_coordinate(lat);

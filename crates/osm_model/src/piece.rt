@@ -6,6 +6,7 @@ ghost use Rattle.osm_model.specs.Decimal.{number_text, sign_text, integer_text};
 ghost use Rattle.osm_model.specs.Coordinate.{fraction_text, coordinate_text};
 ghost use Rattle.osm_model.specs.Time.{date_of, date_text, clock_text, time_text};
 ghost use Rattle.osm_model.specs.Escape.{code_escape, escape_char};
+ghost use Rattle.osm_model.specs.Extends.{Extends};
 
 use crate::Memory;
 use crate::calendar::Date;
@@ -53,7 +54,8 @@ impl Piece {
 
     /// Appends the bytes that are left.
     pub fn append_to(&self, out: &mut Vec<u8>) -> Result<(), Memory>
-        ensures { OnOk result (out.new.items ≡ out.old.items ++ left self.now) }
+        ensures appended { OnOk result (out.new.items ≡ out.old.items ++ left self.now) }
+        ensures kept { Extends out.old.items out.new.items }
     {
         out.extend_from_slice(self.as_slice())?;
         Ok(())

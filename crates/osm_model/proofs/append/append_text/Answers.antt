@@ -1,13 +1,14 @@
-use Rattle.std.proofs.Common.{◌≡◌, ◌++◌, drop, refl, sym, ap, ◌∙◌, append-nil, append_assoc, rules}
+use Rattle.std.proofs.Common.{◌≡◌, ◌++◌, drop, refl, sym, ap, ◌∙◌, append-nil, append_assoc, is_ok, rules}
 use Rattle.std.specs.Str.{chars}
 use Rattle.std.proofs.lemmas.Str.{IsUtf8-drop}
 use Rattle.osm_model.specs.Escape.{escape}
 use Rattle.osm_model.proofs.CursorLaws.{text_more, text_end}
 use Rattle.osm_model.proofs.AppendLaws.{plain_stretch}
+use Rattle.osm_model.proofs.ExtendsLaws.{extends_trans, extends_or_same}
 use Rattle.osm_model.proofs.append.append_text.Goals as goal
 
-pub returns-in_default : goal.returns-in_default
-returns-in_default c =
+pub returns-in_default-clause-appended : goal.returns-in_default-clause-appended
+returns-in_default-clause-appended c =
     let now = c.extend_from_slice.new.self.items in
     let plain = plain_stretch _ c.characters.out.items c.characters.rest.now _ _ now c.characters.invariant.1 c.plain_length.ensures.escape (search rules) in
     let back : drop c.plain_length.result c.characters.rest.now ≡ c.chars-characters.result.rest.now = search rules in
@@ -27,5 +28,6 @@ characters-preserved c =
           ∙ ap (λ bytes. now ++ escape (chars bytes)) back
           ∙ ap (λ text. now ++ text) more.0
           ∙ sym (append_assoc now _ _)
-          ∙ (λ i. sym c.in_ok-append_escaped.ensures i ++ escape (chars (sym rest.ensures i))),
+          ∙ (λ i. sym c.in_ok-append_escaped.ensures.appended i ++ escape (chars (sym rest.ensures i))),
+      extends_trans (extends_trans c.characters.invariant.2 (extends_or_same (is_ok c.extend_from_slice.result) _ c.extend_from_slice.ensures.items)) c.append_escaped.ensures.kept,
     )
