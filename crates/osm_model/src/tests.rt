@@ -5,6 +5,7 @@ use crate::{
     Version, is_id,
 };
 use std::alloc::{AllocError, Global};
+use std::cmp::Ordering;
 use std::test::Fail;
 
 fn text(alloc: Global, characters: &str) -> Result<Text, Fail> {
@@ -309,22 +310,36 @@ fn fault(alloc: Global, id: i64, meta: Meta) -> Option<ValueFault> {
     Version::new(alloc, id, meta, Body::Deleted(Kind::Node)).err()
 }
 
+/// The fault of a node 1 without a time.
+fn undated_fault(
+    alloc: Global,
+    version: u64,
+    changeset: u64,
+    user: &str,
+) -> Result<Option<ValueFault>, Fail> {
+    Ok(fault(alloc, 1, meta(alloc, version, None, changeset, 0, user)?))
+}
+
+/// The fault of version 1 of a node 1.
+fn dated_fault(alloc: Global, time: u64, uid: u64, user: &str) -> Result<Option<ValueFault>, Fail> {
+    Ok(fault(alloc, 1, meta(alloc, 1, Some(time), 0, uid, user)?))
+}
+
 #[test]
 fn faults_in_their_order(rt: HostRuntime) -> Result<(), Fail> {
     let alloc = rt.alloc();
-    let beyond = 1 << 62;
-    let none = meta(alloc, 0, None, 0, 0, "")?;
-    assert_eq!(rt; fault(alloc, beyond, none), Some(ValueFault::IdRange));
-    let none = meta(alloc, 0, None, 1 << 32, 0, "")?;
-    assert_eq!(rt; fault(alloc, 1, none), Some(ValueFault::NoVersion));
-    let far = meta(alloc, 1, Some(0), 0, 1 << 32, "")?;
-    assert_eq!(rt; fault(alloc, 1, far), Some(ValueFault::NumberRange));
-    let early = meta(alloc, 1, Some(0), 0, 0, "\0")?;
-    assert_eq!(rt; fault(alloc, 1, early), Some(ValueFault::TimeRange));
-    let undated = meta(alloc, 1, None, 0, 0, "\0")?;
-    assert_eq!(rt; fault(alloc, 1, undated), Some(ValueFault::NoTime));
-    let zero = meta(alloc, 1, Some(1), 0, 0, "\0")?;
-    assert_eq!(rt; fault(alloc, 1, zero), Some(ValueFault::ZeroInText));
+    let beyond = fault(alloc, 1 << 62, number(alloc, 0));
+    assert_eq!(rt; beyond, Some(ValueFault::IdRange));
+    let none = undated_fault(alloc, 0, 1 << 32, "")?;
+    assert_eq!(rt; none, Some(ValueFault::NoVersion));
+    let far = dated_fault(alloc, 0, 1 << 32, "")?;
+    assert_eq!(rt; far, Some(ValueFault::NumberRange));
+    let early = dated_fault(alloc, 0, 0, "\0")?;
+    assert_eq!(rt; early, Some(ValueFault::TimeRange));
+    let undated = undated_fault(alloc, 1, 0, "\0")?;
+    assert_eq!(rt; undated, Some(ValueFault::NoTime));
+    let zero = dated_fault(alloc, 1, 0, "\0")?;
+    assert_eq!(rt; zero, Some(ValueFault::ZeroInText));
     Ok(())
 }
 
@@ -418,28 +433,38 @@ fn add_others(alloc: Global, versions: &mut Vec<Version>) -> Result<(), Fail> {
     Ok(())
 }
 
-/// The versions of the examples of ties and others, ascending.
-fn ascending(alloc: Global) -> Result<Vec<Version>, Fail> {
-    let mut versions = ascending_nodes(alloc)?;
+/// Version 1 of a node 1, with a time.
+fn timed_node(alloc: Global) -> Result<Version, Fail> {
+    let tags = no_tags(alloc);
+    let (lon, lat) = (0, 0);
+    let timed = author(alloc, Some(1), "")?;
+    Ok(Version::new(alloc, 1, timed, Body::Node { lon, lat, tags })?)
+}
+
+/// Adds the last of the nodes, ascending.
+fn add_nodes(alloc: Global, versions: &mut Vec<Version>) -> Result<(), Fail> {
     // a visible version comes before a deleted one
     versions.push(deleted(alloc, Kind::Node, 1)?)?;
     // but not before an earlier one
-    let timed = author(alloc, Some(1), "")?;
-    let tags = no_tags(alloc);
-    versions.push(Version::new(
-        alloc,
-        1,
-        timed,
-        Body::Node {
-            lon: 0,
-            lat: 0,
-            tags,
-        },
-    )?)?;
+    versions.push(timed_node(alloc)?)?;
     versions.push(node(alloc, 1, 2, 0, 0)?)?;
     versions.push(node(alloc, 3, 1, 0, 0)?)?;
+    Ok(())
+}
+
+/// The versions of the examples of ties and others, ascending.
+fn ascending(alloc: Global) -> Result<Vec<Version>, Fail> {
+    let mut versions = ascending_nodes(alloc)?;
+    add_nodes(alloc, &mut versions)?;
     add_others(alloc, &mut versions)?;
     Ok(versions)
+}
+
+/// Whether every comparison of two versions answers this order.
+fn compare(left: &Version, right: &Version, order: Ordering) -> bool {
+    left.cmp(right) == order
+        && (left == right) == order.is_eq()
+        && left.partial_cmp(right) == Some(order)
 }
 
 /// Comparisons take no memory: with each allocation refused behind those that make the versions this test passes too.
@@ -448,9 +473,7 @@ fn versions_are_ordered(rt: HostRuntime) -> Result<(), Fail> {
     let versions = ascending(rt.alloc())?;
     for (i, left) in versions.iter().enumerate() {
         for (j, right) in versions.iter().enumerate() {
-            assert_eq!(rt; left.cmp(right), i.cmp(&j));
-            assert_eq!(rt; left == right, i == j);
-            assert_eq!(rt; left.partial_cmp(right), Some(i.cmp(&j)));
+            assert!(rt; compare(left, right, i.cmp(&j)));
         }
     }
     Ok(())
@@ -506,9 +529,14 @@ fn a_history_is_listed(rt: HostRuntime) -> Result<(), Fail> {
     let first = b">n1 v1 dV c0 t i0 u T x10 y0.0000001";
     assert_eq!(rt; line(alloc, again.get(0))?.as_slice(), first.as_slice());
     assert_eq!(rt; again.get(1).number(), 2);
-    let given = again.into_versions();
+    Ok(())
+}
+
+#[test]
+fn a_history_gives_its_versions(rt: HostRuntime) -> Result<(), Fail> {
+    let given = history(rt.alloc(), 100_000_000)?.into_versions();
     assert_eq!(rt; given.len(), 2);
-    assert_eq!(rt; line(alloc, &given[0])?.as_slice(), first.as_slice());
+    assert_eq!(rt; (given[0].number(), given[1].number()), (1, 2));
     Ok(())
 }
 
