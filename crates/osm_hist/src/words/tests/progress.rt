@@ -10,37 +10,38 @@ use std::{fs, io};
 #[derive(Drop)]
 struct Slow<'a, C> {
     clock: &'a C,
-    lines: [&'a str; 2],
-    next: usize,
+    lines: Vec<&'a str>,
 }
 
 impl<C: Clock> Read for Slow<'_, C> {
     fn read(&mut self, buffer: &mut [u8]) -> io::Result<usize> {
         self.clock.sleep(Duration::from_millis(600));
-        let Some(line) = self.lines.get(self.next) else {
-            return Ok(0);
-        };
-        self.next += 1;
-        line.as_bytes().read(buffer)
+        match self.lines.pop() {
+            Some(line) => line.as_bytes().read(buffer),
+            None => Ok(0),
+        }
     }
 }
 
 /// Runs a command whose standard input takes a while, with standard error on a terminal or elsewhere.
-fn run_slowly<R: Files + Clock + AllocGlobal>(rt: &R, words: &[&str], is_terminal: bool) -> Answer {
+fn run_slowly<R: Files + Clock + AllocGlobal>(
+    rt: &R,
+    words: &[&str],
+    is_terminal: bool,
+) -> Result<Answer, Fail> {
     let mut out = Vec::new(rt.alloc());
     let mut err = Log::new(rt.alloc());
     err.is_terminal = is_terminal;
     let input = Slow {
         clock: rt,
-        lines: [FIRST, SECOND],
-        next: 0,
+        lines: vec![in rt.alloc(); SECOND, FIRST]?,
     };
     let status = run_words(rt, words, input, &mut out, &mut err);
-    Answer {
+    Ok(Answer {
         status,
         out,
         err: err.bytes,
-    }
+    })
 }
 
 /// What is told of the merge of two lines of which each takes a while.
@@ -54,7 +55,7 @@ const TOLD: [&str; 4] = [
 #[test]
 fn a_run_tells_of_itself_in_lines(rt: HostRuntime) -> Result<(), Fail> {
     let words = ["merge", "--progress", "--output", "-", "-"];
-    let answer = run_slowly(&rt, &words, false);
+    let answer = run_slowly(&rt, &words, false)?;
     assert_eq!(rt; answer.status, 0);
     assert_eq!(rt; answer.out.as_slice(), MERGED.as_bytes());
     let mut told = String::new(rt.alloc());
@@ -69,7 +70,7 @@ fn a_run_tells_of_itself_in_lines(rt: HostRuntime) -> Result<(), Fail> {
 #[test]
 fn a_run_tells_of_itself_in_place(rt: HostRuntime) -> Result<(), Fail> {
     let words = ["merge", "--progress", "--output", "-", "-"];
-    let answer = run_slowly(&rt, &words, true);
+    let answer = run_slowly(&rt, &words, true)?;
     let mut told = String::new(rt.alloc());
     for line in TOLD {
         told.push_str("\r\x1b[K")?;
