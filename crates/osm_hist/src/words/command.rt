@@ -159,7 +159,7 @@ fn writing_command<'a>(alloc: Global, name: &'a str) -> Result<Command<'a>, Allo
         .value_parser(FORMAT_NAMES.as_slice())
         .default_value("opl")
         .action(ArgAction::Set)
-        .help("Its format");
+        .help("Its format, whatever its name ends in");
     let fsync = Arg::new(alloc, "fsync")
         .long("fsync")
         .action(ArgAction::SetTrue)
