@@ -3,6 +3,7 @@ mod UnitLaws
 mod PartLaws
 pub mod FileLaws
 mod UnitSteps
+mod SearchLaws
 mod StepLaws
 mod MoreLaws
 mod HeldBytes

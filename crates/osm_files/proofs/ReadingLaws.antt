@@ -1,5 +1,5 @@
 -- What the calls of a reading do, step by step.
-use Rattle.std.proofs.Common.{◌≡◌, ◌⊎◌, inl, inr, ⊎_elim, ℕ, ◌+◌, ◌≤◌, ◌<◌, ◌^◌, true, false, cond, List, [], ◌∷◌, length, drop, refl, sym, ap, ◌∙◌, subst, arith, Option, Some, None, option_map, IfSome, is_some, Result, Ok, Err, slice_get}
+use Rattle.std.proofs.Common.{◌≡◌, ◌⊎◌, inl, inr, ⊎_elim, ℕ, ◌+◌, ◌≤◌, ◌<◌, ◌^◌, true, false, cond, List, [], ◌∷◌, length, take, drop, refl, sym, ap, ◌∙◌, subst, arith, Option, Some, None, option_map, IfSome, is_some, Result, Ok, Err, slice_get}
 use Rattle.std.proofs.lemmas.Bool.{false≢true}
 use Rattle.osm_model.specs.Data.{VersionData}
 use Rattle.osm_files.specs.declared.fault.Fault.{Fault}
@@ -118,6 +118,14 @@ module _ {C : Type 0} (m q : Position C) (h : FindsHeld m (Ok None) q) where
 
   pub none_known : q.stand ≡ None → q.held ≡ []
   none_known e = ap (λ x. x.held) h.1 ∙ seen_held m ∙ seen_none m (ap (λ x. x.stand) (sym h.1) ∙ e)
+
+-- where no unit stood whole in the bytes held, none does in these once more are held
+none_among : (stand : Option Stand) (held more : List ℕ) → (stand ≡ None → held ≡ []) → unit_at (stand_in stand held) held ≡ None → unit_at (stand_in stand more) held ≡ None
+none_among None held more empty none = ap (unit_at (stand_in None more)) (empty refl) ∙ none_in_nothing (stand_in None more)
+none_among (Some s) held more empty none = none
+
+pub none_still : {C : Type 0} (m q r : Position C) → FindsHeld m (Ok None) q → r.stand ≡ q.stand → take (length q.held) r.held ≡ q.held → unit_at (stand_at r) (take (length q.held) r.held) ≡ None
+none_still m q r h stand kept = (λ i. unit_at (stand_in (stand i) r.held) (kept i)) ∙ none_among q.stand q.held r.held (none_known m q h) (none_there m q h)
 
 -- what is found doesn't rest on what is to come
 telling_seen : {R : Type 0} (p : Position R) (c : Coming) → telling (seen p) c ≡ seen (telling p c)

@@ -64,10 +64,13 @@ impl Held {
         self.from += count;
     }
 
-    /// Moves the bytes to the front of the room.
+    /// Moves the bytes to the front of the room, unless they stand there.
     fn compact(&mut self)
         ensures { self.new ≡ self.old }
     {
+        if self.from == 0 {
+            return;
+        }
         self.room.copy_within(self.from..self.end, 0);
         self.end -= self.from;
         self.from = 0;

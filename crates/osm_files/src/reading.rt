@@ -1,5 +1,5 @@
 //! Reading the units of an input, one by one, in whatever pieces its bytes come.
-ghost use Rattle.std.specs.Prelude.{◌≡◌, ◌+◌, ◌-◌, ◌<◌, ◌≤◌, ◌^◌, ◌⊎◌, true, false, Option, None, Some, Ok, Err, List, [], ◌∷◌, length, drop, is_err, IfOk, IfErr, IfSome, OnOk, IsSome, if◌then◌else◌};
+ghost use Rattle.std.specs.Prelude.{◌≡◌, ◌+◌, ◌-◌, ◌<◌, ◌≤◌, ◌^◌, ◌⊎◌, true, false, Option, None, Some, Ok, Err, List, [], ◌∷◌, length, drop, take, is_err, IfOk, IfErr, IfSome, OnOk, IsSome, if◌then◌else◌};
 ghost use Rattle.osm_files.specs.Fault.{failed_fault, fault_at};
 ghost use Rattle.osm_files.specs.Units as spec;
 ghost use Rattle.opl_line.specs.Cut.{is_line_end, split_first};
@@ -94,6 +94,7 @@ impl<R: Input> Reading<R> {
         requires { self.old.ended ≡ false }
         ensures on { OnOk result (HasRead R.can_give self.old self.new) }
         ensures more { OnOk result ((self.new.ended ≡ true) ⊎ (length self.old.held < length self.new.held)) }
+        ensures kept { OnOk result (take (length self.old.held) self.new.held ≡ self.old.held) }
         ensures stops { IfErr result (StopsAt R.can_give self.old) }
         ensures number { self.new.input ≡ self.old.input }
     {
@@ -119,6 +120,7 @@ impl<R: Input> Reading<R> {
         requires limit { read + 1 ≡ 2 ^ 62 }
         ensures on { OnOk result (HasRead R.can_give self.old self.new) }
         ensures ended { OnOk result (self.new.ended ≡ true) }
+        ensures held { OnOk result (self.new.held ≡ self.old.held) }
         ensures stops { IfErr result (StopsAt R.can_give self.old) }
         ensures number { self.new.input ≡ self.old.input }
     {
@@ -145,10 +147,13 @@ impl<R: Input> Reading<R> {
         }
     }
 
-    /// The unit that stands whole at the front of the bytes held, if there is one.
+    /// The unit that stands whole at the front of the bytes held, if there is one. None stands whole in so many of them, which
+    /// were searched before.
     #[inline(always)]
-    fn read_held(&mut self) -> Result<Option<ReadUnit>, Reason>
-        requires { self.old.failed ≡ false }
+    fn read_held(&mut self, searched: usize) -> Result<Option<ReadUnit>, Reason>
+        requires good { self.old.failed ≡ false }
+        requires within { searched ≤ length self.old.held }
+        requires none { spec.unit_at (stand_at self.old) (take searched self.old.held) ≡ None }
         ensures found { FindsHeld self.old result self.new }
         ensures bound { self.old.place + length self.old.held < 2 ^ 62 }
         ensures place { self.new.place ≡ self.old.place }
@@ -158,7 +163,7 @@ impl<R: Input> Reading<R> {
         let Some(at) = &mut self.at else {
             return Ok(None);
         };
-        match at.read(self.alloc, self.held.as_slice()) {
+        match at.read(self.alloc, self.held.as_slice(), searched) {
             Ok(unit) => Ok(unit),
             Err(reason) => {
                 self.failed = true;
@@ -224,8 +229,10 @@ impl<R: Input> Reading<R> {
         ensures good { OnOk result (self.new.failed ≡ self.old.failed) }
         ensures progress { IfOk result (λ advance. self.old.place + progress advance ≤ self.new.place) }
     {
+        // In so many of the bytes held no unit stands whole.
+        let mut searched = 0;
         'reads: loop {
-            match self.read_held() {
+            match self.read_held(searched) {
                 Ok(Some(unit)) => return Ok(self.pass(unit)),
                 Ok(None) => {}
                 Err(reason) => return Err(self.refusal(reason)),
@@ -233,6 +240,7 @@ impl<R: Input> Reading<R> {
             if self.ended {
                 return self.last();
             }
+            searched = self.held.len();
             if let Err(fault) = self.fill() {
                 return Err(fault);
             }
@@ -254,7 +262,7 @@ impl<R: Input> Reading<R> {
         ensures bound { self.old.place + length self.old.held < 2 ^ 62 }
         ensures found { Finds (spec.line_unit (split_first is_line_end self.old.held)) result spec.InOpl }
     {
-        read_line_unit(self.alloc, self.held.as_slice(), &mut self.spare)
+        read_line_unit(self.alloc, self.held.as_slice(), 0, &mut self.spare)
     }
 
     /// The version of the line at the front of the bytes held, where they are an OPL file's. There is none if it doesn't

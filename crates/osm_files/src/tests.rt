@@ -289,6 +289,18 @@ fn table_limits_in_pieces(rt: HostRuntime) -> Result<(), Fail> {
     Ok(())
 }
 
+#[test]
+fn long_line_in_pieces(rt: HostRuntime) -> Result<(), Fail> {
+    let alloc = rt.alloc();
+    let mut file = Vec::new(alloc);
+    file.extend_from_slice(b"n1 v1 dV x1 y1 Tk=")?;
+    file.resize(300_000, b'a')?;
+    file.extend_from_slice(b"\nn2 v1 dV x1 y1\n")?;
+    assert!(rt; is_one_answer(alloc, &file)?);
+    assert_eq!(rt; load_any(alloc, 0, SliceIn::new(&file))?.history.len(), 2);
+    Ok(())
+}
+
 /// Five nodes, each in a line of 15 bytes.
 const NODES: &[u8] =
     b"n1 v1 dV x1 y1\nn2 v1 dV x1 y1\nn3 v1 dV x1 y1\nn4 v1 dV x1 y1\nn5 v1 dV x1 y1\n";

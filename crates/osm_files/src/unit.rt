@@ -1,5 +1,5 @@
 //! Units: the lines of OPL files and the data sets of o5 files, one at a time from the left.
-ghost use Rattle.std.specs.Prelude.{◌≡◌, ◌⊎◌, ℕ, true, false, Option, None, Some, Ok, List, ◌∷◌, ◌≤◌, length, IfOk, IfSome, OnOk};
+ghost use Rattle.std.specs.Prelude.{◌≡◌, ◌⊎◌, ℕ, true, false, Option, None, Some, Ok, List, ◌∷◌, ◌≤◌, length, take, position, IfOk, IfSome, OnOk};
 ghost use Rattle.std.specs.List.{list_any};
 ghost use Rattle.o5_codec.specs.Decoder.{new_segment};
 ghost use Rattle.opl_line.specs.Cut.{is_line_end, split_first};
@@ -61,17 +61,34 @@ fn passed(size: usize) -> Result<Option<ReadUnit>, Reason>
     }))
 }
 
-/// The line at the front of the bytes, if its end is there. Its version takes the memory of one that isn't needed any more,
-/// where one is given.
+/// Where the line at the front of the bytes ends, if its end is there. It isn't among so many of them, which were searched
+/// before.
+#[inline(always)]
+fn find_end_behind(bytes: &[u8], searched: usize) -> Option<usize>
+    requires within { searched ≤ length bytes.now }
+    requires none { position is_line_end (take searched bytes.now) ≡ None }
+    ensures { result ≡ position is_line_end bytes.now }
+{
+    match find_line_end(&bytes[searched..]) {
+        None => None,
+        Some(end) => Some(searched + end),
+    }
+}
+
+/// The line at the front of the bytes, if its end is there. It isn't among so many of them, which were searched before. The
+/// version takes the memory of one that isn't needed any more, where one is given.
 #[inline(always)]
 pub(crate) fn read_line_unit(
     alloc: Global,
     bytes: &[u8],
+    searched: usize,
     spare: &mut Option<Version>,
 ) -> Result<Option<ReadUnit>, Reason>
+    requires within { searched ≤ length bytes.now }
+    requires none { position is_line_end (take searched bytes.now) ≡ None }
     ensures { Finds (spec.line_unit (split_first is_line_end bytes.now)) result spec.InOpl }
 {
-    let Some(end) = find_line_end(bytes) else {
+    let Some(end) = find_end_behind(bytes, searched) else {
         return Ok(None);
     };
     match read_line_reusing(alloc, &bytes[..end], spare) {
@@ -255,32 +272,48 @@ impl Place {
     }
 
     /// The unit that stands whole at the front of the bytes, if there is one. The reading stands behind it then.
+    /// None stands whole in so many of the bytes, which were searched before.
     ///
     /// # Errors
     ///
     /// Why a unit that stands there whole can't be read, or `Memory`. The reading is at its end then.
     #[inline(always)]
-    pub(crate) fn read(&mut self, alloc: Global, bytes: &[u8]) -> Result<Option<ReadUnit>, Reason>
+    pub(crate) fn read(
+        &mut self,
+        alloc: Global,
+        bytes: &[u8],
+        searched: usize,
+    ) -> Result<Option<ReadUnit>, Reason>
         requires good { IsGood self.old }
+        requires within { searched ≤ length bytes.now }
+        requires none { spec.unit_at (stand_of self.old) (take searched bytes.now) ≡ None }
         ensures found { Finds (spec.unit_at (stand_of self.old) bytes.now) result (stand_of self.new) }
         ensures good { OnOk result (IsGood self.new) }
         ensures unmoved { result ≡ Ok None → stand_of self.new ≡ stand_of self.old }
         ensures within { IfOk result (λ unit. IfSome unit (λ u. u.size ≤ length bytes.now)) }
     {
-        self.find(alloc, bytes)
+        self.find(alloc, bytes, searched)
     }
 
-    /// The unit that stands whole at the front of the bytes, if there is one, read as the place asks.
-    #[tactic(auto, using(crate::proofs::UnitSteps::end_first), unfolding(crate::specs::Units::unit_at))]
+    /// The unit that stands whole at the front of the bytes, if there is one, read as the place asks. None stands whole in so
+    /// many of the bytes, which were searched before.
+    #[tactic(auto, using(crate::proofs::UnitSteps::end_first, crate::proofs::SearchLaws::no_end), unfolding(crate::specs::Units::unit_at))]
     #[inline(always)]
-    fn find(&mut self, alloc: Global, bytes: &[u8]) -> Result<Option<ReadUnit>, Reason>
+    fn find(
+        &mut self,
+        alloc: Global,
+        bytes: &[u8],
+        searched: usize,
+    ) -> Result<Option<ReadUnit>, Reason>
         requires good { IsGood self.old }
+        requires within { searched ≤ length bytes.now }
+        requires none { spec.unit_at (stand_of self.old) (take searched bytes.now) ≡ None }
         ensures found { Finds (spec.unit_at (stand_of self.old) bytes.now) result (stand_of self.new) }
         ensures good { OnOk result (IsGood self.new) }
         ensures unmoved { result ≡ Ok None → stand_of self.new ≡ stand_of self.old }
     {
         match self {
-            Place::Lines => read_line_unit(alloc, bytes, &mut None),
+            Place::Lines => read_line_unit(alloc, bytes, searched, &mut None),
             Place::Header => self.read_header(alloc, bytes),
             Place::DataSets(decoder) => {
                 if ends_at(bytes) {

@@ -25,7 +25,7 @@ pub fn read_sorted(alloc: Global, input: usize, bytes: &[u8]) -> Result<Vec<Vers
     let mut rest = bytes;
     'units: loop {
         let place = (bytes.len() - rest.len()) as u64;
-        match at.read(alloc, rest) {
+        match at.read(alloc, rest, 0) {
             Ok(Some(unit)) => {
                 if let Err(reason) = add(&mut versions, unit.version) {
                     return Err(Fault::at(input, place, reason));

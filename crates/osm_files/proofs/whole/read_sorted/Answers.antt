@@ -3,6 +3,7 @@ use Rattle.std.proofs.lemmas.List.{take_all}
 use Rattle.osm_files.specs.Reading.{stand_of}
 use Rattle.osm_files.specs.Units.{unit, unit_at, last_at, units}
 use Rattle.osm_files.specs.Verdict.{file_units}
+use Rattle.osm_files.proofs.PositionLaws.{none_in_nothing}
 use Rattle.osm_files.proofs.StepLaws.{unit_sized}
 use Rattle.osm_files.proofs.WholeLaws.{file_begins, named_fault, unit_next, unit_last, unit_on, unit_off, read_off, last_on, last_off}
 use Rattle.osm_files.proofs.whole.read_sorted.Goals as goal
@@ -15,6 +16,9 @@ units-init c =
       good = c.of-at.ensures.good;
       within = omega arith;
     }
+
+pub read-requires-clause-none : goal.read-requires-clause-none
+read-requires-clause-none c = none_in_nothing (stand_of c.units.at)
 
 pub returns-in-Err-add : goal.returns-in-Err-add
 returns-in-Err-add c =

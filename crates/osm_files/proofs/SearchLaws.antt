@@ -1,0 +1,65 @@
+-- A search that goes on behind the bytes that were searched before.
+use Rattle.std.proofs.Common.{◌≡◌, ℕ, zero, suc, ◌+◌, ◌-◌, ◌<◌, ◌≤◌, Bool, true, false, not, cond, List, [], ◌∷◌, length, take, drop, refl, sym, ap, ◌∙◌, arith, length-drop, length-take, Some, None, position, ltb}
+use Rattle.std.proofs.lemmas.Bool.{ltb-true, ltb-false, lt-ltb, le-ltb}
+use Rattle.std.proofs.lemmas.List.{take_rest}
+use Rattle.std.specs.List.{position_or_len}
+use Rattle.opl_line.specs.Cut.{is_line_end, split_first}
+use Rattle.opl_line.proofs.CutLaws.{split_at}
+use Rattle.osm_files.specs.Units.{line_unit}
+
+module _ (p : ℕ → Bool) where
+  nowhere : (xs : List ℕ) → position p xs ≡ None → length xs ≤ position_or_len p xs
+  nowhere xs none =
+      let at = position_or_len p xs in
+      elim (ltb at (length xs)) as (λ t. ltb at (length xs) ≡ t → cond t (Some at) None ≡ None → length xs ≤ at) [
+        | true ↦ λ e f. cc
+        | false ↦ λ e f. ltb-false _ _ e
+      ] refl none
+
+  somewhere : (xs : List ℕ) (k : ℕ) → position p xs ≡ Some k → (position_or_len p xs ≡ k) × (k < length xs)
+  somewhere xs k found =
+      let at = position_or_len p xs in
+      elim (ltb at (length xs)) as (λ t. ltb at (length xs) ≡ t → cond t (Some at) None ≡ Some k → (at ≡ k) × (k < length xs)) [
+        | true ↦ λ e f. (let same : at ≡ k = cc in (same, rw same at (ltb-true _ _ e)))
+        | false ↦ λ e f. cc
+      ] refl found
+
+  -- where none of the first passes, the others are counted behind them
+  counted : (xs : List ℕ) (n : ℕ) → n ≤ length xs → n ≤ position_or_len p (take n xs) → position_or_len p xs ≡ n + position_or_len p (drop n xs)
+  counted xs zero within none = omega arith
+  counted [] (suc n) within none = absurd (omega (arith, within))
+  counted (x ∷ xs) (suc n) within none =
+      elim (p x) as (λ t. suc n ≤ cond (not t) (1 + position_or_len p (take n xs)) 0 → cond (not t) (1 + position_or_len p xs) 0 ≡ suc n + position_or_len p (drop n xs)) [
+        | true ↦ λ few. absurd (omega (arith, few))
+        | false ↦ λ few. (let on = counted xs n (omega (arith, within)) (omega (arith, few)) in omega (arith, on))
+      ] none
+
+  module _ (xs : List ℕ) (n : ℕ) (within : n ≤ length xs) (none : position p (take n xs) ≡ None) where
+    behind : position_or_len p xs ≡ n + position_or_len p (drop n xs)
+    behind = counted xs n within (omega (arith, nowhere (take n xs) none, length-take n xs, within))
+
+    -- the rest, as a slice of the bytes
+    abbrev rest : List ℕ
+    rest = take (length xs - n) (drop n xs)
+
+    rest_is : position p (drop n xs) ≡ position p rest
+    rest_is = ap (position p) (sym (take_rest xs n))
+
+    pub none_behind : position p rest ≡ None → None ≡ position p xs
+    none_behind e =
+        let far : length xs ≤ n + position_or_len p (drop n xs) = omega (arith, nowhere (drop n xs) (rest_is ∙ e), length-drop n xs) in
+        rw (behind, le-ltb _ _ far) refl
+
+    pub some_behind : (k : ℕ) → position p rest ≡ Some k → Some (n + k) ≡ position p xs
+    some_behind k e =
+        let found = somewhere (drop n xs) k (rest_is ∙ e) in
+        let near : n + k < length xs = omega (arith, found.1, length-drop n xs) in
+        rw (behind, found.0, lt-ltb _ _ near) refl
+
+-- where no line stands whole, none ends
+pub no_end : (bytes : List ℕ) → line_unit (split_first is_line_end bytes) ≡ None → position is_line_end bytes ≡ None
+no_end bytes none =
+    elim (position is_line_end bytes) as (λ o. position is_line_end bytes ≡ o → o ≡ None) [
+      | None ↦ λ e. refl
+      | Some n ↦ λ e. (let there : line_unit (split_first is_line_end bytes) ≡ Some _ = ap line_unit (split_at is_line_end bytes n e).split in cc)
+    ] refl
