@@ -128,6 +128,6 @@ impl Segment {
         let body = self.read_body(kind, rest)?;
         // What a data set says is within all ranges, so that memory alone can be wanting.
         let alloc = self.table.allocator();
-        Ok(Version::of_sound_data_reusing(alloc, spare, id, meta, body)?)
+        Ok(Version::of_sound_data(alloc, spare, id, meta, body)?)
     }
 }

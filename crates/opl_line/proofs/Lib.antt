@@ -22,6 +22,7 @@ pub mod ReasonLaws
 pub mod FieldReasonLaws
 pub mod Utf8Laws
 pub mod RangeLaws
+pub mod WithinLaws
 pub mod LineReasonLaws
 pub mod RawLaws
 pub mod MemoryLaws

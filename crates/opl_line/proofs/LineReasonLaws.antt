@@ -31,7 +31,9 @@ use Rattle.opl_line.proofs.MadeLaws.{made}
 use Rattle.opl_line.proofs.ReasonLaws.{still_refused, object_refused, object_reason_told}
 use Rattle.opl_line.proofs.FieldReasonLaws.{fields_refused, fields_told}
 use Rattle.opl_line.proofs.Utf8Laws.{cut_utf8}
-use Rattle.opl_line.proofs.RangeLaws.{id_within, AllWithin, line_within, body_within}
+use Rattle.opl_line.specs.Within.{AreWithin}
+use Rattle.opl_line.proofs.RangeLaws.{id_within, line_within}
+use Rattle.opl_line.proofs.WithinLaws.{passes}
 
 -- ---- the location
 location_refused : (lon lat : Option ℤ) (tags : List Tag) (reason : OplReason) → reading_location lon lat tags ≡ Err reason → (NoLocation ≡ reason) × ((lon ≡ None) ⊎ (lat ≡ None))
@@ -68,7 +70,7 @@ body_told k fields l =
 not_zero : (n : ℕ) → (n ≡ 0 → ⊥) → eqb n 0 ≡ false
 not_zero n other = elim (eqb n 0) as (λ t. eqb n 0 ≡ t → t ≡ false) [ true ↦ λ e. absurd (other (eqb-true n 0 e)) | false ↦ λ e. refl ] refl
 
-whole_refused : (k : Kind) (id : ℤ) (fields : Fields) (reason : OplReason) → is_id id ≡ true → AllWithin fields → reading_whole k id fields ≡ Err reason → WholeReason k fields reason
+whole_refused : (k : Kind) (id : ℤ) (fields : Fields) (reason : OplReason) → is_id id ≡ true → AreWithin fields → reading_whole k id fields ≡ Err reason → WholeReason k fields reason
 whole_refused k id fields reason is h refused =
     let n = unwrap_or fields.number 0 in
     let P : OplReason → Type 0 = WholeReason k fields in
@@ -83,15 +85,7 @@ whole_refused k id fields reason is h refused =
               let l = body_refused k fields bad at in
               subst P (l.0 ∙ same) (no_location (eqb-false n 0 some) dated l.1)
           | Ok b ↦ λ at e.
-              let w = body_within k fields b h at in
-              let whole = made id (meta_of fields) b (record {
-                ids = (λ i. is i && w.ids i);
-                number = some;
-                numbers = (λ i. h.number i && (h.changeset i && (h.uid i && true)));
-                time = h.time;
-                dated = dated;
-                texts = (λ i. h.user i && w.texts i);
-              }) in
+              let whole = made id (meta_of fields) b (passes k id fields b is h some dated at) in
               let clash = sym (ap unless_fault whole) ∙ e in cc
         ] refl
       ] refl

@@ -14,7 +14,7 @@ use Rattle.osm_model.specs.Id.{is_id}
 use Rattle.osm_model.specs.Text.{is_empty, is_text}
 use Rattle.osm_model.specs.Tags.{tag_cmp, tag_cmp_total, normal}
 use Rattle.osm_model.specs.Data.{VersionData, tags_of, ids_of, texts_of, normal_body, version_of}
-use Rattle.osm_model.specs.New.{is_number, is_time, is_dated, first_of_tests, unless_faulty, version_or_fault}
+use Rattle.osm_model.specs.New.{is_number, is_time, is_dated, first_of_tests, first_fault, unless_faulty, version_or_fault}
 use Rattle.osm_model.specs.Valid.{IsVersion}
 use Rattle.osm_model.proofs.SetLaws.{listed-from_list}
 use Rattle.osm_model.proofs.TagLaws.{tag_cmp-IsAntisymmetric}
@@ -28,11 +28,14 @@ pub record Passes (id : ℤ) (meta : Meta) (b : Body) : Type 0 where
   pub dated : is_dated meta ≡ true
   pub texts : list_all is_text (meta.user ∷ texts_of b) ≡ true
 
-pub made : (id : ℤ) (meta : Meta) (b : Body) → Passes id meta b → version_or_fault id meta b ≡ Ok (version_of id meta b)
-made id meta b p =
-    λ i. unless_faulty (first_of_tests (
+pub without_fault : (id : ℤ) (meta : Meta) (b : Body) → Passes id meta b → first_fault id meta b ≡ None
+without_fault id meta b p =
+    λ i. first_of_tests (
     (not (p.ids i), fault.IdRange) ∷ (p.number i, fault.NoVersion) ∷ (not (p.numbers i), fault.NumberRange) ∷ (not (p.time i), fault.TimeRange) ∷ (not (p.dated i), fault.NoTime) ∷ (not (p.texts i), fault.ZeroInText) ∷ []
-    )) (version_of id meta b)
+    )
+
+pub made : (id : ℤ) (meta : Meta) (b : Body) → Passes id meta b → version_or_fault id meta b ≡ Ok (version_of id meta b)
+made id meta b p = ap (λ f. unless_faulty f (version_of id meta b)) (without_fault id meta b p)
 
 -- the data beside the body
 abbrev pub meta_of_version : VersionData → Meta

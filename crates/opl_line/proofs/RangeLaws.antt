@@ -30,6 +30,7 @@ use Rattle.opl_line.specs.Part as part
 use Rattle.opl_line.specs.Part.{Part, letter_of, SpellsContent, SpellsPart, with_part}
 use Rattle.opl_line.specs.Reading.{reading_location, reading_visible, reading_body}
 use Rattle.opl_line.specs.Spells.{is_full}
+use Rattle.opl_line.specs.Within.{AreWithin}
 use Rattle.opl_line.proofs.AnswerLaws.{both, became}
 use Rattle.opl_line.proofs.Utf8Laws.{utf8_around, OptionUtf8, split_utf8, cut_utf8, characters_within}
 
@@ -181,18 +182,7 @@ parts_within k ((b ∷ bs) ∷ fields) [] s utf8 = absurd s
 parts_within k ((b ∷ bs) ∷ fields) (p ∷ ps) s utf8 = (part_within k (b ∷ bs) p s.0 utf8.0, parts_within k fields ps s.1 utf8.1)
 
 -- ---- all fields together
-pub record AllWithin (fields : Fields) : Type 0 where
-  pub number : is_number (unwrap_or fields.number 0) ≡ true
-  pub changeset : is_number (unwrap_or fields.changeset 0) ≡ true
-  pub time : is_time (unwrap_or fields.time None) ≡ true
-  pub uid : is_number (unwrap_or fields.uid 0) ≡ true
-  pub user : is_text (unwrap_or fields.user []) ≡ true
-  pub tags : list_all is_text (texts_of_tags (unwrap_or fields.tags [])) ≡ true
-  pub references : list_all is_id (unwrap_or fields.references []) ≡ true
-  pub members : list_all is_id (ids_of_members (unwrap_or fields.members [])) ≡ true
-  pub roles : list_all is_text (roles_of (unwrap_or fields.members [])) ≡ true
-
-with_within : (fields : Fields) (p : Part) → AllWithin fields → IsWithin p → AllWithin (with_part fields p)
+with_within : (fields : Fields) (p : Part) → AreWithin fields → IsWithin p → AreWithin (with_part fields p)
 with_within fields (part.Number n) h w = record { number = w; changeset = h.changeset; time = h.time; uid = h.uid; user = h.user; tags = h.tags; references = h.references; members = h.members; roles = h.roles }
 with_within fields (part.Deleted d) h w = record { number = h.number; changeset = h.changeset; time = h.time; uid = h.uid; user = h.user; tags = h.tags; references = h.references; members = h.members; roles = h.roles }
 with_within fields (part.Changeset n) h w = record { number = h.number; changeset = w; time = h.time; uid = h.uid; user = h.user; tags = h.tags; references = h.references; members = h.members; roles = h.roles }
@@ -205,11 +195,11 @@ with_within fields (part.Latitude y) h w = record { number = h.number; changeset
 with_within fields (part.References ids) h w = record { number = h.number; changeset = h.changeset; time = h.time; uid = h.uid; user = h.user; tags = h.tags; references = w; members = h.members; roles = h.roles }
 with_within fields (part.Members ms) h w = record { number = h.number; changeset = h.changeset; time = h.time; uid = h.uid; user = h.user; tags = h.tags; references = h.references; members = w.ids; roles = w.roles }
 
-said_within : (fields : Fields) (parts : List Part) → AllWithin fields → AllByRecursion IsWithin parts → AllWithin (fold with_part fields parts)
+said_within : (fields : Fields) (parts : List Part) → AreWithin fields → AllByRecursion IsWithin parts → AreWithin (fold with_part fields parts)
 said_within fields [] h ws = h
 said_within fields (p ∷ ps) h ws = said_within (with_part fields p) ps (with_within fields p h ws.0) ws.1
 
-pub line_within : (k : Kind) (fields : List (List ℕ)) (parts : List Part) → Pairwise (SpellsPart k) (filter is_full fields) parts → AllByRecursion IsUtf8 fields → AllWithin (fold with_part nothing_said parts)
+pub line_within : (k : Kind) (fields : List (List ℕ)) (parts : List Part) → Pairwise (SpellsPart k) (filter is_full fields) parts → AllByRecursion IsUtf8 fields → AreWithin (fold with_part nothing_said parts)
 line_within k fields parts s utf8 =
     said_within nothing_said parts (record { number = refl; changeset = refl; time = refl; uid = refl; user = refl; tags = refl; references = refl; members = refl; roles = refl })
     (parts_within k fields parts s utf8)
@@ -224,7 +214,7 @@ located_within None lat tags b texts e = cc
 located_within (Some lon) None tags b texts e = cc
 located_within (Some lon) (Some lat) tags b texts e = let same : Node lon lat tags ≡ b = cc in subst BodyWithin same (record { ids = refl; texts = texts })
 
-visible_within : (k : Kind) (fields : Fields) (b : Body) → AllWithin fields → reading_visible k fields ≡ Ok b → BodyWithin b
+visible_within : (k : Kind) (fields : Fields) (b : Body) → AreWithin fields → reading_visible k fields ≡ Ok b → BodyWithin b
 visible_within kind.Node fields b h e = located_within (unwrap_or fields.longitude None) (unwrap_or fields.latitude None) (unwrap_or fields.tags []) b h.tags e
 visible_within kind.Way fields b h e =
     let same : Way (unwrap_or fields.references []) (unwrap_or fields.tags []) ≡ b = cc in
@@ -235,7 +225,7 @@ visible_within kind.Relation fields b h e =
     let same : Relation members tags ≡ b = cc in
     subst BodyWithin same (record { ids = h.members; texts = list_all-append is_text (roles_of members) (texts_of_tags tags) ∙ (λ i. h.roles i && h.tags i) })
 
-pub body_within : (k : Kind) (fields : Fields) (b : Body) → AllWithin fields → reading_body k fields ≡ Ok b → BodyWithin b
+pub body_within : (k : Kind) (fields : Fields) (b : Body) → AreWithin fields → reading_body k fields ≡ Ok b → BodyWithin b
 body_within k fields b h =
     elim (unwrap_or fields.deleted false) as (λ t. cond t (Ok (Deleted k)) (reading_visible k fields) ≡ Ok b → BodyWithin b) [
       | true ↦ λ e. let same : Deleted k ≡ b = cc in subst BodyWithin same (record { ids = refl; texts = refl })

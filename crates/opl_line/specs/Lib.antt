@@ -10,6 +10,7 @@ pub mod Reading
 pub mod Content
 pub mod Part
 pub mod Spells
+pub mod Within
 pub mod Canonical
 pub mod LineReason
 pub mod Front

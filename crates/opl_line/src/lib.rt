@@ -15,7 +15,7 @@ mod text;
 mod time;
 mod utf8;
 
-pub use line::{append_line, read_line, read_line_reusing, write_line};
+pub use line::{LineReader, append_line, read_line, write_line};
 pub use line_end::find_line_end;
 pub use reason::OplReason;
 pub use time::read_time;

@@ -2,7 +2,7 @@
 ghost use Rattle.std.specs.Prelude.{◌≡◌, ◌⊎◌, ◌++◌, true, false, Err, IfOk, IfErr, OnOk, MatchOption, MatchResult, option_copied};
 ghost use Rattle.osm_model.specs.Extends.{Extends};
 ghost use Rattle.osm_model.specs.Line.{line};
-ghost use Rattle.osm_model.specs.New.{is_dated, version_or_fault};
+ghost use Rattle.osm_model.specs.Id.{is_id};
 ghost use Rattle.opl_line.specs.declared.cut.Cut.TheVariants.{Blanks};
 ghost use Rattle.opl_line.specs.Answer.{Answers};
 ghost use Rattle.opl_line.specs.Cut.{is_end, split_first};
@@ -10,6 +10,7 @@ ghost use Rattle.opl_line.specs.Front.{IsFront};
 ghost use Rattle.opl_line.specs.Reading as spec;
 ghost use Rattle.opl_line.specs.Spells.{Spells, SpellsNothing};
 ghost use Rattle.opl_line.specs.LineReason.{LineReason};
+ghost use Rattle.opl_line.specs.Within.{AreWithin};
 ghost use Rattle.opl_line.specs.declared.reason.OplReason.TheVariants as opl;
 
 use crate::OplReason;
@@ -19,8 +20,9 @@ use crate::front::front_object;
 use crate::item::kind_of_letter;
 use crate::number::read_id;
 use crate::utf8::to_str;
-use osm_model::{Body, Kind, Members, Memory, Meta, References, Tags, Text, ValueFault, Version};
+use osm_model::{Body, Kind, Members, Memory, Meta, References, Tags, Text, Version};
 use std::alloc::Global;
+use std::marker::Model;
 
 /// The version that a line spells, or `None` for a line that is skipped: an empty one, or one that begins with `#`.
 /// The line has no line end.
@@ -35,32 +37,88 @@ pub fn read_line(alloc: Global, line: &[u8]) -> Result<Option<Version>, OplReaso
     ensures refused { IfErr result (λ reason. (reason ≡ opl.Memory) ⊎ SpellsNothing line.now) }
     ensures reason { IfErr result (λ reason. (reason ≡ opl.Memory) ⊎ LineReason line.now reason) }
 {
-    read_line_reusing(alloc, line, &mut None)
+    LineReader::new(alloc).read(line)
 }
 
-/// What a line says, as [`read_line`] answers it. The version is made in the memory of one that isn't needed any more,
-/// where one is given.
-///
-/// # Errors
-///
-/// As for [`read_line`].
-pub fn read_line_reusing(
+/// Reads lines one after the other, each on its own, and takes back versions that aren't needed any more.
+#[derive(Drop)]
+pub struct LineReader {
     alloc: Global,
-    line: &[u8],
-    spare: &mut Option<Version>,
-) -> Result<Option<Version>, OplReason>
-    ensures reading { Answers (spec.reading_line line.now) result }
-    ensures spelled { IfOk result (λ read. MatchOption read (spec.is_skipped line.now ≡ true) (Spells line.now)) }
-    ensures refused { IfErr result (λ reason. (reason ≡ opl.Memory) ⊎ SpellsNothing line.now) }
-    ensures reason { IfErr result (λ reason. (reason ≡ opl.Memory) ⊎ LineReason line.now reason) }
-{
-    if is_skipped(line) {
-        return Ok(None);
+    /// A version that isn't needed any more, whose memory the next one takes.
+    spare: Option<Version>,
+}
+
+/// What a line is read as depends on that line alone, so contracts see nothing of its reader.
+impl Model for LineReader {
+    ghost Value = { Unit {0} };
+
+    ghost view = { λ _. tt };
+}
+
+impl LineReader {
+    /// A reader of lines.
+    pub fn new(alloc: Global) -> LineReader {
+        LineReader { alloc, spare: None }
     }
-    let Some(text) = to_str(line) else {
-        return Err(OplReason::NotUtf8);
-    };
-    read_version(alloc, text, spare).map(Some)
+
+    /// What a line says, as [`read_line`] answers it.
+    ///
+    /// # Errors
+    ///
+    /// As for [`read_line`].
+    pub fn read(&mut self, line: &[u8]) -> Result<Option<Version>, OplReason>
+        ensures reading { Answers (spec.reading_line line.now) result }
+        ensures spelled { IfOk result (λ read. MatchOption read (spec.is_skipped line.now ≡ true) (Spells line.now)) }
+        ensures refused { IfErr result (λ reason. (reason ≡ opl.Memory) ⊎ SpellsNothing line.now) }
+        ensures reason { IfErr result (λ reason. (reason ≡ opl.Memory) ⊎ LineReason line.now reason) }
+    {
+        if is_skipped(line) {
+            return Ok(None);
+        }
+        let Some(text) = to_str(line) else {
+            return Err(OplReason::NotUtf8);
+        };
+        self.read_version(text).map(Some)
+    }
+
+    /// Takes back a version that isn't needed any more. The next one takes its memory, so that none is asked for.
+    #[inline(always)]
+    pub fn reuse(&mut self, version: Version) {
+        self.spare = Some(version);
+    }
+
+    /// The version of a line that isn't skipped.
+    fn read_version(&mut self, line: &str) -> Result<Version, OplReason>
+        ensures { Answers (spec.reading_version line.now) result }
+    {
+        let ((kind, id), behind) = read_first(line)?;
+        let mut fields = Fields::nothing_said();
+        fields.read(self.alloc, kind, behind)?;
+        self.to_version(kind, id, &mut fields)
+    }
+
+    /// The version of what the fields of a line say, which is within all ranges.
+    fn to_version(
+        &mut self,
+        kind: Kind,
+        id: i64,
+        fields: &mut Fields,
+    ) -> Result<Version, OplReason>
+        requires id { is_id id ≡ true }
+        requires within { AreWithin fields.old }
+        ensures { Answers (spec.reading_whole kind id fields.old) result }
+    {
+        let meta = to_meta(fields);
+        if meta.version == 0 {
+            return Err(OplReason::NoVersion);
+        }
+        if !meta.is_dated() {
+            return Err(OplReason::NoTime);
+        }
+        let body = to_body(self.alloc, kind, fields)?;
+        // No fault is left that data may have, so that memory alone can be wanting.
+        Ok(Version::of_sound_data(self.alloc, &mut self.spare, id, meta, body)?)
+    }
 }
 
 /// Whether a line is skipped.
@@ -71,20 +129,6 @@ fn is_skipped(line: &[u8]) -> bool
         None => true,
         Some(byte) => *byte == b'#',
     }
-}
-
-/// The version of a line that isn't skipped.
-fn read_version(
-    alloc: Global,
-    line: &str,
-    spare: &mut Option<Version>,
-) -> Result<Version, OplReason>
-    ensures { Answers (spec.reading_version line.now) result }
-{
-    let ((kind, id), behind) = read_first(line)?;
-    let mut fields = Fields::nothing_said();
-    fields.read(alloc, kind, behind)?;
-    to_version(alloc, kind, id, &mut fields, spare)
 }
 
 /// The kind and the id of a line's object, and what stands behind its blank.
@@ -114,46 +158,17 @@ fn read_object(field: &[u8]) -> Result<(Kind, i64), OplReason>
     Ok((kind, read_id(digits)?))
 }
 
-/// The version of what the fields of a line say.
-fn to_version(
-    alloc: Global,
-    kind: Kind,
-    id: i64,
-    fields: &mut Fields,
-    spare: &mut Option<Version>,
-) -> Result<Version, OplReason>
-    ensures { Answers (spec.reading_whole kind id fields.old) result }
+/// What the fields of a line say beside the body.
+fn to_meta(fields: &mut Fields) -> Meta
+    ensures meta { result ≡ spec.meta_of fields.old }
+    ensures rest { fields.new ≡ record fields.old { user = None } }
 {
-    let meta = Meta {
+    Meta {
         version: fields.number.unwrap_or(0),
         time: fields.time.unwrap_or(None),
         changeset: fields.changeset.unwrap_or(0),
         uid: fields.uid.unwrap_or(0),
         user: fields.user.take().unwrap_or(Text::new()),
-    };
-    if meta.version == 0 {
-        return Err(OplReason::NoVersion);
-    }
-    if !is_dated(&meta) {
-        return Err(OplReason::NoTime);
-    }
-    let body = to_body(alloc, kind, fields)?;
-    make_version(alloc, id, meta, body, spare)
-}
-
-/// The version of data.
-fn make_version(
-    alloc: Global,
-    id: i64,
-    meta: Meta,
-    body: Body,
-    spare: &mut Option<Version>,
-) -> Result<Version, OplReason>
-    ensures { Answers (spec.unless_fault (version_or_fault id meta body)) result }
-{
-    match Version::new_reusing(alloc, spare, id, meta, body) {
-        Ok(version) => Ok(version),
-        Err(fault) => Err(reason_of(fault)),
     }
 }
 
@@ -187,28 +202,6 @@ fn to_body(alloc: Global, kind: Kind, fields: &mut Fields) -> Result<Body, OplRe
             let members = fields.members.take().unwrap_or(no_members);
             Ok(Body::Relation { members, tags })
         }
-    }
-}
-
-/// Whether there is a time, or else no author.
-fn is_dated(meta: &Meta) -> bool
-    ensures { result ≡ is_dated meta.now }
-{
-    meta.time.is_some() || (meta.changeset == 0 && meta.uid == 0 && meta.user.is_empty())
-}
-
-/// Why what was read makes no version.
-fn reason_of(fault: ValueFault) -> OplReason
-    ensures { result ≡ spec.reason_of fault }
-{
-    match fault {
-        ValueFault::IdRange | ValueFault::NumberRange | ValueFault::TimeRange => {
-            OplReason::OutOfRange
-        }
-        ValueFault::NoVersion => OplReason::NoVersion,
-        ValueFault::NoTime => OplReason::NoTime,
-        ValueFault::ZeroInText => OplReason::BadText,
-        ValueFault::Memory => OplReason::Memory,
     }
 }
 

@@ -2,6 +2,7 @@
 ghost use Rattle.std.specs.Prelude.{◌≡◌};
 ghost use Rattle.opl_line.specs.Reason.{opl_reason_name};
 
+use osm_model::Memory;
 use std::alloc::{AllocError, AllocFailed};
 use thiserror::Error;
 
@@ -73,6 +74,16 @@ impl OplReason {
             OplReason::NoLocation => "NoLocation",
             OplReason::Memory => "Memory",
         }
+    }
+}
+
+impl From<Memory> for OplReason {
+    ghost use Rattle.opl_line.specs.declared.reason.OplReason.TheVariants as opl;
+
+    ghost from_gives = { λ _ reason. reason ≡ opl.Memory };
+
+    fn from(_want: Memory) -> OplReason {
+        OplReason::Memory
     }
 }
 

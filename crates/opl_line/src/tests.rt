@@ -1,6 +1,6 @@
 //! Lines with their answers, worked out by hand from the rules of the format.
 use crate::{
-    OplReason, append_line, find_line_end, read_line, read_line_reusing, read_time, write_line,
+    LineReader, OplReason, append_line, find_line_end, read_line, read_time, write_line,
 };
 use std::alloc::Global;
 use std::process::Abort;
@@ -242,11 +242,12 @@ fn appends_a_line(rt: HostRuntime) -> Result<(), Fail> {
 #[test]
 fn memory_of_a_version_is_used_again(rt: HostRuntime) -> Result<(), Fail> {
     let alloc = rt.alloc();
-    let mut spare = read_line(alloc, b"w1 v1 Ta=b Nn1,n2")?;
-    assert!(rt; read_line_reusing(alloc, b"# a comment", &mut spare)?.is_none());
+    let mut reader = LineReader::new(alloc);
+    let way = reader.read(b"w1 v1 Ta=b Nn1,n2")?.ok_or("skipped")?;
+    reader.reuse(way);
+    assert!(rt; reader.read(b"# a comment")?.is_none());
     let line = b"n2 v1 dV c0 t i0 u Tc=d x1 y2";
-    let version = read_line_reusing(alloc, line, &mut spare)?.ok_or("skipped")?;
-    assert!(rt; spare.is_none());
+    let version = reader.read(line)?.ok_or("skipped")?;
     assert_eq!(rt; write_line(alloc, &version)?.as_slice(), line.as_slice());
     Ok(())
 }

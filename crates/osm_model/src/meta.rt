@@ -43,7 +43,7 @@ impl Meta {
     }
 
     /// Whether there is a time, or no author.
-    pub(crate) fn is_dated(&self) -> bool
+    pub fn is_dated(&self) -> bool
         ensures { result ≡ is_dated self.now }
     {
         self.time.is_some() || (self.changeset == 0 && self.uid == 0 && self.user.is_empty())

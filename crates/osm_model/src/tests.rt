@@ -198,7 +198,7 @@ fn sound_data(rt: HostRuntime) -> Result<(), Fail> {
         uid: 0,
         user: Text::new(),
     };
-    let sound = Version::of_sound_data(alloc, 7, meta, Body::Deleted(Kind::Way))?;
+    let sound = Version::of_sound_data(alloc, &mut None, 7, meta, Body::Deleted(Kind::Way))?;
     let same = Version::new(alloc, 7, number(alloc, 2), Body::Deleted(Kind::Way))?;
     assert_eq!(rt; sound, same);
     assert_eq!(rt; sound.kind(), Kind::Way);
@@ -210,32 +210,17 @@ fn memory_of_a_version_is_used_again(rt: HostRuntime) -> Result<(), Fail> {
     let alloc = rt.alloc();
     let refs = References::from_vec(vec![in alloc; 3, -1, 3]?);
     let tags = Tags::from_vec(vec![in alloc; tag(alloc, "c", "d")?, tag(alloc, "a", "b")?]?);
-    let spare = Version::new(alloc, 7, number(alloc, 2), Body::Way { refs, tags })?;
+    let way = Version::new(alloc, 7, number(alloc, 2), Body::Way { refs, tags })?;
+    let mut spare = Some(way);
     let tags = Tags::from_vec(vec![in alloc; tag(alloc, "e", "f")?]?);
     let (lon, lat) = (-5, 6);
     let (meta, body) = (number(alloc, 1), Body::Node { lon, lat, tags });
     assert!(rt; first_fault(9, &meta, &body).is_none());
-    let node = Version::of_sound_data_in(spare, 9, meta, body);
+    let node = Version::of_sound_data(alloc, &mut spare, 9, meta, body)?;
+    assert!(rt; spare.is_none());
     let tags = Tags::from_vec(vec![in alloc; tag(alloc, "e", "f")?]?);
     let same = Version::new(alloc, 9, number(alloc, 1), Body::Node { lon, lat, tags })?;
     assert_eq!(rt; node, same);
-    Ok(())
-}
-
-#[test]
-fn memory_of_a_version_is_used_again_where_one_is_given(rt: HostRuntime) -> Result<(), Fail> {
-    let alloc = rt.alloc();
-    let mut spare = Some(texts(alloc)?);
-    let (meta, body) = (number(alloc, 2), Body::Deleted(Kind::Way));
-    assert!(rt; first_fault(1, &meta, &body).is_none());
-    let way = Version::of_sound_data_reusing(alloc, &mut spare, 1, meta, body)?;
-    assert!(rt; spare.is_none());
-    assert_eq!(rt; way, deleted(alloc, Kind::Way, 2)?);
-    spare = Some(way);
-    let node = Body::Deleted(Kind::Node);
-    let again = Version::new_reusing(alloc, &mut spare, 1, number(alloc, 1), node)?;
-    assert!(rt; spare.is_none());
-    assert_eq!(rt; again, deleted(alloc, Kind::Node, 1)?);
     Ok(())
 }
 

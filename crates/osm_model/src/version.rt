@@ -118,61 +118,23 @@ impl Version {
         ensures faulty { IfErr (version_or_fault id meta body) (λ refused. result ≡ Err refused) }
         ensures valid { IfOk result IsVersion }
     {
-        Version::new_reusing(alloc, &mut None, id, meta, body)
-    }
-
-    /// The version of this data, as [`Version::new`] makes it, in the memory of a version that isn't needed any more,
-    /// where one is given.
-    ///
-    /// # Errors
-    ///
-    /// As for [`Version::new`].
-    pub fn new_reusing(
-        alloc: Global,
-        spare: &mut Option<Version>,
-        id: i64,
-        meta: Meta,
-        body: Body,
-    ) -> Result<Version, ValueFault>
-        ensures value { MatchResult result
-            (λ version. version_or_fault id meta body ≡ Ok version)
-            (λ refused. (refused ≡ fault.Memory) ⊎ (version_or_fault id meta body ≡ Err refused)) }
-        ensures faulty { IfErr (version_or_fault id meta body) (λ refused. result ≡ Err refused) }
-        ensures valid { IfOk result IsVersion }
-    {
         if let Some(fault) = first_fault(id, &meta, &body) {
             return Err(fault);
         }
-        match Version::of_sound_data_reusing(alloc, spare, id, meta, body) {
+        match Version::of_sound_data(alloc, &mut None, id, meta, body) {
             Ok(version) => Ok(version),
             Err(_) => Err(ValueFault::Memory),
         }
     }
 
-    /// The version of data that has no fault, as `Version::new` makes it, without its tests.
-    ///
-    /// # Errors
-    ///
-    /// For want of memory alone.
-    #[inline(always)]
-    pub fn of_sound_data(alloc: Global, id: i64, meta: Meta, body: Body) -> Result<Version, Memory>
-        requires { first_fault id meta body ≡ None }
-        ensures value { IfOk result (λ version. version ≡ version_of id meta body) }
-        ensures valid { IfOk result IsVersion }
-    {
-        let parts = Parts::normal(id, meta, body);
-        Ok(Version {
-            parts: Box::new(alloc, parts)?,
-        })
-    }
-
-    /// The version of data that has no fault, in the memory of one that isn't needed any more, where one is given.
+    /// The version of data that has no fault, as [`Version::new`] makes it, without its tests, in the memory of a version
+    /// that isn't needed any more, where one is given.
     ///
     /// # Errors
     ///
     /// For want of memory alone, where none is given.
     #[inline(always)]
-    pub fn of_sound_data_reusing(
+    pub fn of_sound_data(
         alloc: Global,
         spare: &mut Option<Version>,
         id: i64,
@@ -184,14 +146,27 @@ impl Version {
         ensures valid { IfOk result IsVersion }
     {
         match spare.take() {
-            Some(spare) => Ok(Version::of_sound_data_in(spare, id, meta, body)),
-            None => Version::of_sound_data(alloc, id, meta, body),
+            Some(spare) => Ok(Version::in_place_of(spare, id, meta, body)),
+            None => Version::in_new_memory(alloc, id, meta, body),
         }
+    }
+
+    /// The version of data that has no fault, in memory of its own.
+    #[inline(always)]
+    fn in_new_memory(alloc: Global, id: i64, meta: Meta, body: Body) -> Result<Version, Memory>
+        requires { first_fault id meta body ≡ None }
+        ensures value { IfOk result (λ version. version ≡ version_of id meta body) }
+        ensures valid { IfOk result IsVersion }
+    {
+        let parts = Parts::normal(id, meta, body);
+        Ok(Version {
+            parts: Box::new(alloc, parts)?,
+        })
     }
 
     /// The version of data that has no fault, in the memory of one that isn't needed any more, so that none is wanted.
     #[inline(always)]
-    pub fn of_sound_data_in(mut spare: Version, id: i64, meta: Meta, body: Body) -> Version
+    fn in_place_of(mut spare: Version, id: i64, meta: Meta, body: Body) -> Version
         requires { first_fault id meta body ≡ None }
         ensures value { result ≡ version_of id meta body }
         ensures valid { IsVersion result }

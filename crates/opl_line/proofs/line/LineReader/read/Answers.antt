@@ -8,7 +8,7 @@ use Rattle.opl_line.specs.Reading.{is_skipped, reading_version, reading_line}
 use Rattle.opl_line.proofs.ReadingLaws.{not_utf8, utf8_line, as_answer}
 use Rattle.opl_line.proofs.SpellsLaws.{answer_spelled, answer_refused}
 use Rattle.opl_line.proofs.LineReasonLaws.{answer_reason}
-use Rattle.opl_line.proofs.line.read_line_reusing.Goals as goal
+use Rattle.opl_line.proofs.line.LineReader.read.Goals as goal
 
 pub returns-then-is_skipped : goal.returns-then-is_skipped
 returns-then-is_skipped c =

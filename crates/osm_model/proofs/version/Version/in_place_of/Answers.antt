@@ -2,7 +2,7 @@ use Rattle.std.proofs.Common.{rules}
 use mir.Syntax.{w64}
 use Rattle.std.proofs.lemmas.Int.{to_z-of_z}
 use Rattle.osm_model.proofs.ValidLaws.{valid_version}
-use Rattle.osm_model.proofs.version.Version.of_sound_data_in.Goals as goal
+use Rattle.osm_model.proofs.version.Version.in_place_of.Goals as goal
 
 pub invariant_of-spare : goal.invariant_of-spare
 invariant_of-spare c =

@@ -2,7 +2,7 @@ use Rattle.std.proofs.Common.{rules}
 use mir.Syntax.{w64}
 use Rattle.std.proofs.lemmas.Int.{to_z-of_z}
 use Rattle.osm_model.proofs.ValidLaws.{valid_version}
-use Rattle.osm_model.proofs.version.Version.of_sound_data.Goals as goal
+use Rattle.osm_model.proofs.version.Version.in_new_memory.Goals as goal
 
 pub invariant_of-result : goal.invariant_of-result
 invariant_of-result c =
