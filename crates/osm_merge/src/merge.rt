@@ -48,8 +48,10 @@ pub fn merge_into<S: Source + Drop, W: Output>(
     out: &mut W,
 ) -> Result<Counts, Fault>
     requires { sink.old ≡ new_sink sink.old.format sink.old.number }
-    ensures merged { IfOk result (λ counts. ForSome S.can_give sources.items (λ all. IsMerged all sink.old.format (W.holds out.old) (W.holds out.new) counts)) }
-    ensures refused { IfErr result (λ fault. ForSome S.can_give sources.items (λ all. IsRefused all sink.old.format sink.old.number (W.holds out.old) (W.holds out.new) (W.failed out.new) fault)) }
+    ensures merged { IfOk result (λ counts. ForSome S.can_give sources.items (λ all.
+        IsMerged all sink.old.format (W.holds out.old) (W.holds out.new) counts)) }
+    ensures refused { IfErr result (λ fault. ForSome S.can_give sources.items (λ all.
+        IsRefused all sink.old.format sink.old.number (W.holds out.old) (W.holds out.new) (W.failed out.new) fault)) }
     ensures kept { Grows (W.holds out.old) (W.holds out.new) }
     ensures good { OnOk result (W.failed out.new ≡ false) }
     ensures ended { OnOk result (sink.new.ended ≡ true) }
@@ -76,8 +78,10 @@ pub fn merge_selected<S: Source + Drop, W: Output, P: Progress>(
     progress: &mut P,
 ) -> Result<Counts, Fault>
     requires { sink.old ≡ new_sink sink.old.format sink.old.number }
-    ensures merged { IfOk result (λ counts. ForSome S.can_give sources.items (λ all. IsMergedAs selection all sink.old.format (W.holds out.old) (W.holds out.new) counts)) }
-    ensures refused { IfErr result (λ fault. ForSome S.can_give sources.items (λ all. IsRefusedAs selection all sink.old.format sink.old.number (W.holds out.old) (W.holds out.new) (W.failed out.new) fault)) }
+    ensures merged { IfOk result (λ counts. ForSome S.can_give sources.items (λ all.
+        IsMergedAs selection all sink.old.format (W.holds out.old) (W.holds out.new) counts)) }
+    ensures refused { IfErr result (λ fault. ForSome S.can_give sources.items (λ all.
+        IsRefusedAs selection all sink.old.format sink.old.number (W.holds out.old) (W.holds out.new) (W.failed out.new) fault)) }
     ensures kept { Grows (W.holds out.old) (W.holds out.new) }
     ensures good { OnOk result (W.failed out.new ≡ false) }
     ensures ended { OnOk result (sink.new.ended ≡ true) }
@@ -113,8 +117,10 @@ fn write_union<S: Source, W: Output, P: Progress>(
     requires read { counts.read ≡ 0 }
     requires written { counts.written ≡ 0 }
     requires compared { counts.compared ≤ length heads.old - 1 }
-    ensures merged { IfOk result (λ counts. ForStanding S.can_give sources.old heads.old (λ all. IsMergedAs selection all sink.old.format (W.holds out.old) (W.holds out.new) counts)) }
-    ensures refused { IfErr result (λ fault. ForStanding S.can_give sources.old heads.old (λ all. IsRefusedAs selection all sink.old.format sink.old.number (W.holds out.old) (W.holds out.new) (W.failed out.new) fault)) }
+    ensures merged { IfOk result (λ counts. ForStanding S.can_give sources.old heads.old (λ all.
+        IsMergedAs selection all sink.old.format (W.holds out.old) (W.holds out.new) counts)) }
+    ensures refused { IfErr result (λ fault. ForStanding S.can_give sources.old heads.old (λ all.
+        IsRefusedAs selection all sink.old.format sink.old.number (W.holds out.old) (W.holds out.new) (W.failed out.new) fault)) }
     ensures kept { Grows (W.holds out.old) (W.holds out.new) }
     ensures good { OnOk result (W.failed out.new ≡ false) }
     ensures ended { OnOk result (sink.new.ended ≡ true) }

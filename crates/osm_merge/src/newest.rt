@@ -28,7 +28,8 @@ pub fn into_snapshot(history: History) -> History
 /// Whether the version at this place of an ascending list is the newest one of its object: the next one is of another.
 fn is_newest(versions: &[Version], place: usize) -> bool
     requires { place < length versions.now }
-    ensures { (d : VersionData) → result ≡ keeps selection.Newest (slice_index_or versions.now place d) (slice_get versions.now (place + 1)) }
+    ensures { (d : VersionData) → result
+        ≡ keeps selection.Newest (slice_index_or versions.now place d) (slice_get versions.now (place + 1)) }
 {
     match versions.get(place + 1) {
         None => true,

@@ -122,7 +122,9 @@ impl Fleet {
     fn take(&mut self, mirror: usize, file: &[u8]) -> Result<(), Fault>
         requires { mirror < length self.old }
         ensures answer { MatchResult result (λ _. Holds file.now (held_by file.now)) (WhyNotTaken file.now) }
-        ensures behind { MatchResult result (λ _. self.new ≡ slice_set self.old mirror (took (at self.old mirror) (held_by file.now))) (λ _. self.new ≡ self.old) }
+        ensures behind { MatchResult result
+            (λ _. self.new ≡ slice_set self.old mirror (took (at self.old mirror) (held_by file.now)))
+            (λ _. self.new ≡ self.old) }
     {
         let mirror = &mut self.mirrors[mirror];
         match mirror.take(file) {
@@ -135,7 +137,9 @@ impl Fleet {
     fn pass(&mut self, from: usize, to: usize, format: Format) -> Result<(), Fault>
         requires { (from < length self.old) × (to < length self.old) }
         ensures answer { MatchResult result (λ _. IsShort format (at self.old from).held) (WhyNotSpelled format (at self.old from).held) }
-        ensures behind { MatchResult result (λ _. self.new ≡ slice_set self.old to (took (at self.old to) (at self.old from).held)) (λ _. self.new ≡ self.old) }
+        ensures behind { MatchResult result
+            (λ _. self.new ≡ slice_set self.old to (took (at self.old to) (at self.old from).held))
+            (λ _. self.new ≡ self.old) }
     {
         let file = match self.mirrors[from].write(format) {
             Ok(file) => file,
@@ -147,8 +151,12 @@ impl Fleet {
     /// A new mirror takes what the old one writes, and then its place.
     fn restart(&mut self, mirror: usize, format: Format) -> Result<(), Fault>
         requires { mirror < length self.old }
-        ensures answer { MatchResult result (λ _. IsShort format (at self.old mirror).held) (WhyNotSpelled format (at self.old mirror).held) }
-        ensures behind { MatchResult result (λ _. self.new ≡ slice_set self.old mirror (took (fresh (at self.old mirror).keep) (at self.old mirror).held)) (λ _. self.new ≡ self.old) }
+        ensures answer { MatchResult result
+            (λ _. IsShort format (at self.old mirror).held)
+            (WhyNotSpelled format (at self.old mirror).held) }
+        ensures behind { MatchResult result
+            (λ _. self.new ≡ slice_set self.old mirror (took (fresh (at self.old mirror).keep) (at self.old mirror).held))
+            (λ _. self.new ≡ self.old) }
     {
         let old = &self.mirrors[mirror];
         let file = match old.write(format) {
