@@ -1,5 +1,5 @@
 -- What is refused is refused for the one reason of its line.
-use Rattle.std.proofs.Common.{◌≡◌, ◌⊎◌, ℕ, ℤ, true, false, not, cond, eqb, ◌&&◌, List, [], ◌∷◌, Option, Some, None, unwrap_or, Result, Ok, Err, IfErr, refl, sym, ap, ◌∙◌, subst, inl, inr, ⊎_elim}
+use Rattle.std.proofs.Common.{◌≡◌, ◌⊎◌, ℕ, ℤ, true, false, not, cond, eqb, List, [], ◌∷◌, Option, Some, None, unwrap_or, Result, Ok, Err, IfErr, refl, sym, ap, ◌∙◌, subst, inl, inr, ⊎_elim}
 use Rattle.std.proofs.lemmas.Bool.{eqb-true, eqb-false}
 use Rattle.std.proofs.lemmas.Str.{is_utf8-from_IsUtf8, IsUtf8-from_is_utf8}
 use Rattle.std.specs.List.{AllByRecursion}

@@ -84,10 +84,9 @@ impl Fields {
             return Ok(());
         };
         'fields: loop {
-            match self.read_first(alloc, kind, text) {
-                Ok(None) => return Ok(()),
-                Ok(Some(behind)) => text = behind,
-                Err(reason) => return Err(reason),
+            match self.read_first(alloc, kind, text)? {
+                None => return Ok(()),
+                Some(behind) => text = behind,
             }
         }
     }

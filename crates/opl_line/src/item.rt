@@ -63,13 +63,9 @@ pub(crate) fn read_list<T: Item>(alloc: Global, content: &str) -> Result<Vec<T>,
     let mut items: Vec<T> = Vec::with_capacity(alloc, content.len() / USUAL_ITEM + 1)?;
     let mut rest = Some(content);
     'items: while let Some(text) = rest {
-        match T::read_first(alloc, text) {
-            Ok((item, behind)) => {
-                items.push(item)?;
-                rest = behind;
-            }
-            Err(reason) => return Err(reason),
-        }
+        let (item, behind) = T::read_first(alloc, text)?;
+        items.push(item)?;
+        rest = behind;
     }
     Ok(items)
 }

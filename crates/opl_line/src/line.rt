@@ -98,12 +98,7 @@ impl LineReader {
     }
 
     /// The version of what the fields of a line say, which is within all ranges.
-    fn to_version(
-        &mut self,
-        kind: Kind,
-        id: i64,
-        fields: &mut Fields,
-    ) -> Result<Version, OplReason>
+    fn to_version(&mut self, kind: Kind, id: i64, fields: &mut Fields) -> Result<Version, OplReason>
         requires id { is_id id ≡ true }
         requires within { AreWithin fields.old }
         ensures { Answers (spec.reading_whole kind id fields.old) result }

@@ -1,7 +1,5 @@
 //! Lines with their answers, worked out by hand from the rules of the format.
-use crate::{
-    LineReader, OplReason, append_line, find_line_end, read_line, read_time, write_line,
-};
+use crate::{LineReader, OplReason, append_line, find_line_end, read_line, read_time, write_line};
 use std::alloc::Global;
 use std::process::Abort;
 use std::str;

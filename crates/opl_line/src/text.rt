@@ -40,10 +40,7 @@ pub(crate) fn read_text(alloc: Global, text: &str) -> Result<Text, OplReason>
     let mut escapes = Some(escape);
     let mut out = String::from_str(alloc, raw)?;
     'escapes: while let Some(behind) = escapes {
-        match append_escape(&mut out, behind) {
-            Ok(more) => escapes = more,
-            Err(reason) => return Err(reason),
-        }
+        escapes = append_escape(&mut out, behind)?;
     }
     Ok(Text::from_string(out))
 }
