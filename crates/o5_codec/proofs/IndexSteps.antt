@@ -9,8 +9,6 @@ use Rattle.std.specs.Map.{lookup, KeepsOthers}
 use Rattle.std.specs.Map.Iter.{TakesLast}
 use Rattle.std.specs.Cmp.{decided, IsEquivalence}
 use Rattle.std.proofs.lemmas.Bool.{cases_Bool, cond-true, cond-false}
-use Rattle.circular_buffer.specs.Buffer.{last_item}
-use Rattle.circular_buffer.proofs.Items.{pops_last}
 use Rattle.o5_codec.specs.Table.{limit}
 use Rattle.o5_codec.specs.Formed.{FormedEntry, same_entry, reference_to}
 use Rattle.o5_codec.specs.SameEntry.{same_entry_decides}
@@ -79,7 +77,7 @@ are_none m next None (Some n) e f = absurd (cc)
 are_none m next (Some i) None e f = absurd (cc)
 are_none m next (Some i) (Some n) e f = absurd (cc)
 
-evicted : (m most next : ℕ) (table : List FormedEntry) (last : FormedEntry) (number number' : FormedEntry → Option ℕ) →
+pub evicted : (m most next : ℕ) (table : List FormedEntry) (last : FormedEntry) (number number' : FormedEntry → Option ℕ) →
     IsIndexed m most next (table ++ last ∷ []) number → IsChanged last None number number' → IsIndexed m most next table number'
 evicted m most next table last number number' h changed =
     let rest : AreDistinct table × (reference_to last table ≡ None) = distinct_last table last h.distinct in
@@ -110,7 +108,7 @@ numbered_more m next after k (Some i) (Some n) up few w h = (
 first_number : (m next after : ℕ) → next < m → IsNext m next after → Numbered m after (Some 1) (Some next)
 first_number m next after h up = (h, elim up [ inl round ↦ inr (omega arith) | inr on ↦ inl (omega arith) ])
 
-stored_one : (m most next after : ℕ) (table : List FormedEntry) (e : FormedEntry) (number number' : FormedEntry → Option ℕ) →
+pub stored_one : (m most next after : ℕ) (table : List FormedEntry) (e : FormedEntry) (number number' : FormedEntry → Option ℕ) →
     IsIndexed m most next table number → length table < most → length table < m → reference_to e table ≡ None → IsNext m next after → IsChanged e (Some next) number number' →
     IsIndexed m most after (e ∷ table) number'
 stored_one m most next after table e number number' h room small absent up changed = record {
@@ -126,12 +124,6 @@ stored_one m most next after table e number number' h room small absent up chang
         (numbered_more m next after (length table) _ _ up small (within f table) (h.each f)))
   ];
 }
-
-popped : {X : Type 0} (xs : List X) (last : X) → last_item xs ≡ Some last → xs ≡ take (length xs - 1) xs ++ last ∷ []
-popped xs last e = subst (λ r. TakesLast (λ x. x) xs r (take (length xs - 1) xs)) e (pops_last xs)
-
-pub popped_none : {X : Type 0} (xs : List X) → last_item xs ≡ None → length xs ≡ 0
-popped_none xs e = ap length (let t : (xs ≡ []) × (take (length xs - 1) xs ≡ []) = subst (λ r. TakesLast (λ x. x) xs r (take (length xs - 1) xs)) e (pops_last xs) in t.0)
 
 -- the reference at a number, below next and not
 pub found_low : (m most next n : ℕ) (r : Option ℕ) → Numbered m next r (Some n) → Within most r → most ≤ m → n < next → r ≡ Some (next - n)
@@ -180,28 +172,12 @@ pub changed_by : {S : Type 0} (e : FormedEntry) (w : Option ℕ) (old new : Hash
     IsChanged e w (λ f. hash.get_by (same_entry f) old) (λ f. hash.get_by (same_entry f) new)
 changed_by e w old new h = record { here = h.1; others = λ f n. others_stay e f _ _ h.3 n }
 
-pub put_in : (m most next after capacity : ℕ) (table : List FormedEntry) (e : FormedEntry) (number number' : FormedEntry → Option ℕ) →
-    IsIndexed m most next table number → length table < most → capacity ≡ most → most ≤ m → reference_to e table ≡ None → IsNext m next after → IsChanged e (Some next) number number' →
-    IsIndexed m most after (take capacity (e ∷ table)) number'
-put_in m most next after capacity table e number number' h room same small absent up changed =
-    subst (λ t. IsIndexed m most after t number') (sym (take_all capacity (e ∷ table) (omega arith)))
-    (stored_one m most next after table e number number' h room (omega arith) absent up changed)
-
-pub made_room : (m most next : ℕ) (table : List FormedEntry) (last : FormedEntry) (number number' : FormedEntry → Option ℕ) →
-    IsIndexed m most next table number → last_item table ≡ Some last → IsChanged last None number number' → IsIndexed m most next (take (length table - 1) table) number'
-made_room m most next table last number number' h is changed =
-    evicted m most next _ last number number' (subst (λ t. IsIndexed m most next t number) (popped table last is) h) changed
-
 pub none_in_front : (e : FormedEntry) (n : ℕ) (table : List FormedEntry) → reference_to e table ≡ None → reference_to e (take n table) ≡ None
 none_in_front e zero table h = refl
 none_in_front e (suc n) [] h = refl
 none_in_front e (suc n) (x ∷ table) h =
     let parts : (same_entry e x ≡ false) × (reference_to e table ≡ None) = none_before _ _ h in
     cond-false (same_entry e x) _ _ parts.0 ∙ ap (option_map (λ n. n + 1)) (none_in_front e n table parts.1)
-
-take_cons : {X : Type 0} (m : ℕ) (x : X) (t : List X) → 0 < m → take m (x ∷ t) ≡ x ∷ take (m - 1) t
-take_cons zero x t h = absurd (omega arith)
-take_cons (suc m) x t h = let e : suc m - 1 ≡ m = omega arith in sym (ap (λ n. x ∷ take n t) e)
 
 pub some_room : 0 < limit
 unfolding limit
@@ -213,9 +189,6 @@ limit_is_small = omega arith
 
 pub room_made : (t : List FormedEntry) → length (take (limit - 1) t) < limit
 room_made t = let h : 0 < limit = some_room in omega (arith, length-take (limit - 1) t)
-
-pub stored_is : (e : FormedEntry) (t : List FormedEntry) → e ∷ take (limit - 1) t ≡ take limit (e ∷ t)
-stored_is e t = sym (take_cons limit e t some_room)
 
 -- an entry that stands in a table of distinct ones has the reference of its place
 pub standing : (table : List FormedEntry) (i : ℕ) (e : FormedEntry) → AreDistinct table → slice_get table i ≡ Some e → reference_to e table ≡ Some (i + 1)

@@ -37,16 +37,16 @@ impl Model for Decoder {
 }
 
 impl Decoder {
-    /// A decoder at the begin of a segment, with room for all entries of its string table.
+    /// A decoder at the begin of a segment. The room of its string table grows with the entries.
     ///
     /// # Errors
     ///
-    /// For want of memory alone.
+    /// For want of memory alone; none is taken before the first entry.
     pub fn new(alloc: Global) -> Result<Decoder, Memory>
         ensures { IfOk result (λ d. d ≡ reading_in new_segment) }
     {
         Ok(Decoder {
-            segment: Segment::new(alloc)?,
+            segment: Segment::new(alloc),
             failed: false,
             spare: None,
         })
@@ -92,14 +92,14 @@ impl Decoder {
 
 impl Segment {
     /// A segment that had nothing.
-    fn new(alloc: Global) -> Result<Segment, Memory>
-        ensures { IfOk result (λ s. s ≡ new_segment) }
+    fn new(alloc: Global) -> Segment
+        ensures { result ≡ new_segment }
     {
-        Ok(Segment {
+        Segment {
             bases: Bases::ZERO,
-            table: Table::new(alloc)?,
+            table: Table::new(alloc),
             seen: ListsSeen::Neither,
-        })
+        }
     }
 
     /// Forgets what the segment had.

@@ -33,7 +33,7 @@ impl Model for Encoder {
 }
 
 impl Encoder {
-    /// An encoder behind the header of a file, with room for all entries of its string table.
+    /// An encoder behind the header of a file. The room of its string table grows with the entries.
     ///
     /// # Errors
     ///

@@ -8,9 +8,9 @@ ghost use Rattle.o5_codec.specs.Strings.{entry_of, strings_of, table_after};
 use crate::O5Reason;
 use crate::strings::{Spelled, Strings};
 use crate::text::{add_tag, known_text, known_uid, to_user};
-use circular_buffer::HeapCircularBuffer;
 use osm_model::{Memory, Tag, Text};
 use std::alloc::Global;
+use std::collections::VecDeque;
 use std::marker::Model;
 
 /// How many entries the table holds at most.
@@ -106,43 +106,40 @@ impl Stored {
     }
 }
 
-/// The entries that references can name. Contracts see them as a list, the one stored last first.
+/// The entries that references can name, the one stored last first. Contracts see them as a list. Room is taken as entries come.
 #[derive(Drop)]
 pub(crate) struct Table {
-    ring: HeapCircularBuffer<Stored>,
+    entries: VecDeque<Stored>,
 }
 
 impl Model for Table {
-    ghost use Rattle.std.specs.Prelude.{◌≡◌, List, reverse};
+    ghost use Rattle.std.specs.Prelude.{List};
     ghost use Rattle.o5_codec.specs.Entry.{Entry};
-    ghost use Rattle.o5_codec.specs.Table.{limit};
 
     ghost Value = { List Entry };
 
-    ghost view = { λ t. reverse t.ring.items };
-
-    ghost invariant = { λ t. t.ring.capacity ≡ limit };
+    ghost view = { λ t. t.entries.items };
 }
 
 impl Table {
-    /// The empty table, with room for all its entries.
-    pub(crate) fn new(alloc: Global) -> Result<Table, Memory>
-        ensures { IfOk result (λ t. t ≡ []) }
+    /// The empty table.
+    pub(crate) fn new(alloc: Global) -> Table
+        ensures { result ≡ [] }
     {
-        Ok(Table {
-            ring: HeapCircularBuffer::with_capacity(alloc, LIMIT)?,
-        })
+        Table {
+            entries: VecDeque::new(alloc),
+        }
     }
 
     pub(crate) fn allocator(&self) -> Global {
-        *self.ring.allocator()
+        *self.entries.allocator()
     }
 
     /// Forgets all entries.
     pub(crate) fn clear(&mut self)
         ensures { self.new ≡ [] }
     {
-        self.ring.clear();
+        self.entries.clear();
     }
 
     /// Stores strings that stand inline, unless they are too long.
@@ -163,15 +160,18 @@ impl Table {
         let strings = Strings { first, second };
         if is_short(&strings) {
             let entry = Stored::new(self.allocator(), &strings)?;
-            self.push(entry);
+            self.push(entry)?;
         }
         Ok(())
     }
 
-    fn push(&mut self, entry: Stored)
-        ensures { self.new ≡ take limit (entry ∷ self.old) }
+    /// Stores an entry. The oldest one goes where the table is full.
+    fn push(&mut self, entry: Stored) -> Result<(), Memory>
+        ensures { OnOk result (self.new ≡ take limit (entry ∷ self.old)) }
     {
-        self.ring.push_back(entry);
+        self.entries.truncate(LIMIT - 1);
+        self.entries.push_front(entry)?;
+        Ok(())
     }
 
     /// The strings that stand inline or that a reference names.
@@ -238,7 +238,7 @@ impl Table {
         if reference == 0 {
             return None;
         }
-        self.ring.nth_back((reference - 1) as usize)
+        self.entries.get((reference - 1) as usize)
     }
 }
 

@@ -10,16 +10,15 @@ use crate::table::LIMIT;
 use crate::write::draft::Draft;
 use crate::write::entry::Entry;
 use crate::write::slot::{SLOTS, Slot};
-use circular_buffer::HeapCircularBuffer;
 use osm_model::{Kind, Memory};
 use std::alloc::Global;
-use std::collections::HashMap;
+use std::collections::{HashMap, VecDeque};
 use std::marker::Model;
 
-/// The entries that references can name, each with the number of its storing. Contracts see the list of the entries, the one stored last first.
+/// The entries that references can name, the one stored last first, each with the number of its storing. Contracts see the list of the entries. Room is taken as they come.
 #[derive(Drop)]
 pub(crate) struct Table {
-    ring: HeapCircularBuffer<Entry>,
+    entries: VecDeque<Entry>,
     numbers: HashMap<Entry, u64>,
     next: u64,
     /// For each slot, the number of the storing of the entry that was written last of those of the slot. It may be gone: what stands there is compared.
@@ -35,18 +34,18 @@ impl Model for Table {
 
     ghost use Rattle.o5_codec.specs.TableInside.{IsTable};
 
-    ghost view = { λ t. t.ring.items };
+    ghost view = { λ t. t.entries.items };
 
     ghost invariant = { IsTable };
 }
 
 impl Table {
-    /// The empty table, with room for all its entries.
+    /// The empty table.
     pub(crate) fn new(alloc: Global) -> Result<Table, Memory>
         ensures { IfOk result (λ t. t ≡ []) }
     {
         Ok(Table {
-            ring: HeapCircularBuffer::with_capacity(alloc, LIMIT)?,
+            entries: VecDeque::new(alloc),
             numbers: HashMap::new(alloc),
             next: 0,
             remembered: Vec::from_elem(alloc, 0, SLOTS)?,
@@ -58,7 +57,7 @@ impl Table {
     pub(crate) fn clear(&mut self)
         ensures { self.new ≡ [] }
     {
-        self.ring.clear();
+        self.entries.clear();
         self.numbers.clear();
         self.next = 0;
     }
@@ -139,7 +138,7 @@ impl Table {
             return None;
         }
         let before = self.next - number - 1;
-        let entry = self.ring.get(before as usize)?;
+        let entry = self.entries.get(before as usize)?;
         Some((entry, before + 1))
     }
 
@@ -181,25 +180,26 @@ impl Table {
     fn make_room(&mut self) -> (Entry, Entry)
         ensures { self.new ≡ take (limit - 1) self.old }
     {
-        if !self.ring.is_full() {
+        if self.entries.len() < LIMIT {
             return (Entry::new(self.alloc), Entry::new(self.alloc));
         }
-        let Some(oldest) = self.ring.pop_back() else {
+        let Some(oldest) = self.entries.pop_back() else {
             return (Entry::new(self.alloc), Entry::new(self.alloc));
         };
         let removed = self.numbers.remove_entry(&oldest);
         (key_of(self.alloc, removed), oldest)
     }
 
-    /// Stores an entry that doesn't stand in the table, where there is room: as a key, and in the ring.
+    /// Stores an entry that doesn't stand in the table, where it isn't full: as a key, and in the list.
     fn put(&mut self, key: Entry, stored: Entry) -> Result<(), Memory>
         requires room { length self.old < limit }
         requires same { key ≡ stored }
         requires absent { reference_to key self.old ≡ None }
         ensures { OnOk result (self.new ≡ stored ∷ self.old) }
     {
+        self.entries.reserve(1)?;
         self.numbers.insert(key, self.next)?;
-        self.ring.push_front(stored);
+        self.entries.push_front_reserved(stored);
         let after = number_after(self.next);
         self.next = after;
         Ok(())

@@ -1,6 +1,7 @@
 use Rattle.std.proofs.Common.{rules, true, ◌≡◌, ◌∷◌, ◌-◌, ◌∙◌, subst, OnOk}
 use Rattle.o5_codec.specs.Table.{limit, is_short}
-use Rattle.o5_codec.proofs.IndexSteps.{none_in_front, room_made, stored_is}
+use Rattle.o5_codec.proofs.Newest.{newest_first}
+use Rattle.o5_codec.proofs.IndexSteps.{none_in_front, room_made}
 use Rattle.o5_codec.proofs.write.table.Table.store.Goals as goal
 
 pub put-requires-clause-absent : goal.put-requires-clause-absent
@@ -12,4 +13,4 @@ put-requires-clause-room c = rw c.make_room-key.ensures (room_made _)
 pub returns : goal.returns
 returns c =
     let short : is_short c.args.entry.now.strings ≡ true = search rules in
-    rw short (subst (λ t. OnOk c.put.result (c.put.new.self ≡ t)) ((λ i. c.in_ok-stored.ensures i ∷ c.make_room-key.ensures i) ∙ stored_is _ _) c.put.ensures)
+    rw short (subst (λ t. OnOk c.put.result (c.put.new.self ≡ t)) ((λ i. c.in_ok-stored.ensures i ∷ c.make_room-key.ensures i) ∙ newest_first _ _) c.put.ensures)
