@@ -7,7 +7,7 @@ use Rattle.std.proofs.lemmas.List.Folds.{list_any-append}
 use Rattle.std.specs.declared.cmp.Ordering.TheVariants.{Less, Equal, Greater}
 use Rattle.std.specs.Cmp.{tied_itself}
 use Rattle.std.specs.Ordering.{eq_by_cmp, is_lt, ordering_reverse}
-use Rattle.std.specs.List.Sorted.{IsStrictlySortedBy}
+use Rattle.std.specs.List.Sorted.{IsSorted, IsStrictlySortedBy}
 use Rattle.osm_model.specs.Data.{VersionData}
 use Rattle.osm_model.specs.Order.{key_cmp, key_cmp_total, version_cmp, version_cmp_total}
 use Rattle.osm_model.specs.Sets.{listed, from_list}
@@ -17,7 +17,7 @@ use Rattle.osm_model.proofs.VersionLaws.{version_cmp-IsAntisymmetric}
 use Rattle.osm_files.specs.declared.fault.Fault.{Fault}
 use Rattle.osm_files.specs.declared.reason.Reason.TheVariants.{Unsorted, ReadFault}
 use Rattle.osm_files.specs.Groups.{ascending, last_group, groups, sorted_source}
-use Rattle.osm_files.specs.Held.{HoldsSorted}
+use Rattle.osm_files.specs.Held.{IsFile, HoldsSorted}
 use Rattle.osm_files.specs.Input.{Coming, whole as all_of}
 use Rattle.osm_files.specs.Position.{units_from, fault_of}
 use Rattle.osm_files.specs.Stream.{Verdict, verdict_at, Placed, Still, whole}
@@ -25,9 +25,9 @@ use Rattle.osm_files.specs.Units.{units, start_of}
 use Rattle.osm_files.specs.Verdict.{length_limit, too_long, file_units, versions_of, is_below, sorted_verdict, verdict_sorted}
 use Rattle.osm_files.specs.LoadLaws.{broken_behind}
 use Rattle.osm_files.specs.SourceLaws.{SourceGivesHeld, WholeSourceIsHeld, BrokenSourceEnds, LongSourceEnds}
-use Rattle.osm_files.proofs.FileLaws.{files_are_read, sorted_files_are_read, sorted_without_verdict}
-use Rattle.osm_files.proofs.WholeLaws.{sorted_file}
+use Rattle.osm_files.proofs.FileLaws.{files_are_read, sorted_files_are_read, accepted_without_verdict, sorted_without_verdict}
 use Rattle.osm_files.proofs.GroupLaws.{has, has_ascending}
+use Rattle.osm_files.proofs.LoadLaws.{whole_units}
 use Rattle.osm_files.proofs.RiseLaws.{groups_rise, source_is}
 
 -- ---- the refusal
@@ -60,18 +60,6 @@ module _ (input : ℕ) where
   -- the verdict of the units that a reading of these bytes gives
   pub source_refusal : (c : Coming) → (sorted_source input c).refusal ≡ as_fault (let us = units_from None 0 c in sorted_verdict us.refusal None us.list)
   source_refusal c = ap (λ s. s.refusal) (source_is input c) ∙ (let us = units_from None 0 c in groups_refusal us.refusal us.list)
-
--- a reading of a whole file from its begin gives its units
-whole_units : (bytes : List ℕ) → units_from None 0 (all_of bytes) ≡ file_units bytes
-unfolding units_from file_units length_limit
-whole_units bytes =
-    let long : 0 + length bytes ≡ length bytes = omega arith in
-    let room : 2 ^ 62 - 1 - 0 ≡ 2 ^ 62 - 1 = omega arith in
-    (λ i. units (cond (nat_lt (long i) (2 ^ 62)) None (Some too_long)) (start_of bytes) 0 (cond (nat_lt (long i) (2 ^ 62)) bytes (take (room i) bytes)))
-    ∙ (elim (nat_lt (length bytes) (2 ^ 62)) as (λ t. units (cond t None (Some too_long)) (start_of bytes) 0 (cond t bytes (take (2 ^ 62 - 1) bytes)) ≡ cond t (units None (start_of bytes) 0 bytes) (units (Some too_long) (start_of bytes) 0 (take (2 ^ 62 - 1) bytes))) [
-      | true ↦ refl
-      | false ↦ refl
-    ])
 
 pub whole_refusal : (input : ℕ) (bytes : List ℕ) → (sorted_source input (all_of bytes)).refusal ≡ option_map (fault_of input) (verdict_sorted bytes)
 whole_refusal input bytes =
@@ -132,6 +120,19 @@ source_gives_held input bytes held h =
 no_fault : (input : ℕ) (v : Option Verdict) → option_map (fault_of input) v ≡ None → v ≡ None
 no_fault input None e = refl
 no_fault input (Some v) e = absurd (let f : Some (fault_of input v) ≡ None = e in cc)
+
+-- what is read is what a sorted file holds
+sorted_file : (bytes : List ℕ) (versions : List VersionData) → verdict_sorted bytes ≡ None → versions ≡ versions_of (file_units bytes).list → HoldsSorted bytes (from_list {R = version_cmp} versions)
+sorted_file bytes versions none is =
+    let sorted = sorted_without_verdict bytes none in
+    let accepted = accepted_without_verdict bytes sorted.0 in
+    record {
+      short = accepted.0;
+      versions = versions;
+      file = subst (IsFile bytes) (sym is) accepted.1;
+      sorted = subst (IsSorted key_cmp) (sym is) sorted.1;
+      members = refl;
+    }
 
 pub whole_source_is_held : WholeSourceIsHeld
 whole_source_is_held input bytes whole =

@@ -19,7 +19,6 @@ mod LoadFormats
 pub mod RiseLaws
 pub mod HoldLaws
 pub mod FaultyLaws
-pub mod WholeLaws
 pub mod SpellSteps
 pub mod SinkLaws
 pub mod SpellLaws

@@ -21,10 +21,9 @@ use Rattle.osm_files.specs.Stream.{Verdict, verdict_at, Placed, Still}
 use Rattle.osm_files.specs.Source.{Step}
 use Rattle.osm_files.specs.O5.{reset_byte}
 use Rattle.osm_files.specs.Units.{InOpl, unit_at, units, start_of}
-use Rattle.osm_files.specs.Verdict.{length_limit, too_long, file_units, versions_of, verdict, is_below}
+use Rattle.osm_files.specs.Verdict.{length_limit, too_long, file_units, versions_of, verdict, is_below, is_below_last}
 use Rattle.osm_files.specs.Held.{IsFile, Holds, HoldsSorted}
 use Rattle.osm_files.specs.Position.{Told, ahead, units_from, named, to_come, still_to_come, ReadsOn, GoesOn, stand_at, stand_in, fault_of, StopsFilling}
-use Rattle.osm_files.specs.Whole.{is_below_last}
 use Rattle.osm_files.specs.Load.{format_of, tells_format, Loads, StopsLoading}
 use Rattle.osm_files.proofs.UnitLaws.{some_is_not_none}
 use Rattle.osm_files.proofs.FileLaws.{one_list, accepted_without_verdict, units_closed}

@@ -4,7 +4,7 @@ use Rattle.std.proofs.lemmas.Bool.{false≢true}
 use Rattle.osm_model.specs.Data.{VersionData}
 use Rattle.osm_files.specs.declared.fault.Fault.{Fault}
 use Rattle.osm_files.specs.declared.reason.Reason.{Reason}
-use Rattle.osm_files.specs.declared.reason.Reason.TheVariants.{Memory}
+use Rattle.osm_files.specs.declared.reason.Reason.TheVariants.{Memory, Unsorted, Opl, O5, BadHeader, NoEnd, AfterEnd, TooLong, ReadFault, WriteFault, Failed}
 use Rattle.osm_files.specs.declared.unit.ReadUnit.{ReadUnit}
 use Rattle.osm_files.specs.declared.unit.Place.{Place}
 use Rattle.osm_files.specs.declared.reading.Advance.{Advance}
@@ -19,8 +19,21 @@ use Rattle.osm_files.specs.Reading.{Finds, FindsLast, stand_of, without_stand}
 use Rattle.osm_files.specs.Position.{Position, Told, telling, ahead, stand_in, closing, window, units_from, fault_of, named, to_come, still_to_come, Keeps, GoesOn, Advances, stand_at, seen, given, FindsHeld, progress}
 use Rattle.osm_files.proofs.FillLaws.{weaker, mapped, keeps_on}
 use Rattle.osm_files.proofs.StepLaws.{unit_sized}
-use Rattle.osm_files.proofs.WholeLaws.{fault_is}
 use Rattle.osm_files.proofs.PositionLaws.{from_is, known, behind, same_stand, with_each, gone_over, gone_passed, gone_gave, gone_refused, none_in_nothing, at_the_end, goes_on}
+
+-- the fault of a reason at a place
+fault_is : (input place : ℕ) (reason : Reason) → (fault_at input place reason ≡ memory_fault) ⊎ (fault_at input place reason ≡ fault_of input (verdict_at place reason))
+fault_is input place Memory = inl refl
+fault_is input place (Opl inner) = inr refl
+fault_is input place (O5 inner) = inr refl
+fault_is input place BadHeader = inr refl
+fault_is input place Unsorted = inr refl
+fault_is input place NoEnd = inr refl
+fault_is input place AfterEnd = inr refl
+fault_is input place TooLong = inr refl
+fault_is input place ReadFault = inr refl
+fault_is input place WriteFault = inr refl
+fault_is input place Failed = inr refl
 
 -- ---- the first byte
 seen_by : {C : Type 0} (p : Position C) (P : Position C → Type 0) → (is_some (slice_get p.held 0) ≡ true → P (record p { stand = Some (stand_at p) })) → (is_some (slice_get p.held 0) ≡ false → P p) → P (seen p)

@@ -2,7 +2,7 @@
 use Rattle.std.specs.Prelude.{ℕ, ◌^◌}
 use Rattle.osm_files.specs.declared.fault.Fault.{Fault}
 use Rattle.osm_files.specs.declared.reason.Reason.{Reason}
-use Rattle.osm_files.specs.declared.reason.Reason.TheVariants.{Memory, Failed, TooLong, ReadFault, WriteFault}
+use Rattle.osm_files.specs.declared.reason.Reason.TheVariants.{Memory, Failed, TooLong, WriteFault}
 
 -- memory was refused, at no file and no place
 abbrev pub memory_fault : Fault
@@ -15,10 +15,6 @@ failed_fault input = record { input = input; place = 0; reason = Failed }
 -- this file has 2^62 bytes or more
 abbrev pub too_long_fault : ℕ → Fault
 too_long_fault input = record { input = input; place = 2 ^ 62; reason = TooLong }
-
--- the reader of this input answered an error, after so many bytes
-abbrev pub read_fault : ℕ → ℕ → Fault
-read_fault input place = record { input = input; place = place; reason = ReadFault }
 
 -- the writer of this output failed, when it had taken so many bytes
 abbrev pub write_fault : ℕ → ℕ → Fault

@@ -1,9 +1,7 @@
 -- What an input can still give. That a read of nothing into a buffer that isn't empty means the end of input is the rule
 -- of Rust's `std::io::Read`; the rest is an own rule of this project.
 use Rattle.std.proofs.Common.{sym, refl, append-nil}
-use Rattle.std.specs.Prelude.{◌≡◌, ℕ, ◌<◌, ◌≤◌, ◌^◌, ◌⊎◌, Bool, true, false, List, [], ◌++◌, length, Option, Some, None}
-use Rattle.osm_files.specs.declared.fault.Fault.{Fault}
-use Rattle.osm_files.specs.Fault.{memory_fault, too_long_fault, read_fault}
+use Rattle.std.specs.Prelude.{◌≡◌, ℕ, Bool, true, false, List, [], ◌++◌, length, Option, Some, None}
 
 -- the bytes still to come, and whether an error follows them in place of the end of input
 pub record Coming : Type 0 where
@@ -51,23 +49,3 @@ can_give_all (Some left) = ([], sym (append-nil left), λ _. refl)
 -- an input can give something of which this holds
 abbrev pub GivesOne : (Coming → Type 0) → (Coming → Type 0) → Type 0
 GivesOne can P = (c : Coming) × can c × P c
-
--- the input can give these bytes and its end, and they are fewer than 2^62
-pub record IsAll (can : Coming → Type 0) (bytes : List ℕ) : Type 0 where
-  pub gives : can (whole bytes)
-  pub short : length bytes < 2 ^ 62
-
--- it can give so many bytes and then an error
-abbrev pub BreaksAt : (Coming → Type 0) → ℕ → Type 0
-BreaksAt can place = (bytes : List ℕ) × can (breaks bytes) × (length bytes ≡ place)
-
--- it can give 2^62 bytes or more
-abbrev pub IsTooLong : (Coming → Type 0) → Type 0
-IsTooLong can = (c : Coming) × can c × (2 ^ 62 ≤ length c.bytes)
-
--- why the input of this number can't be read to its end
-abbrev pub StopsReading : ℕ → (Coming → Type 0) → Fault → Type 0
-StopsReading input can fault =
-    (fault ≡ memory_fault)
-    ⊎ ((fault ≡ read_fault input fault.place) × (fault.place < 2 ^ 62) × BreaksAt can fault.place)
-    ⊎ ((fault ≡ too_long_fault input) × IsTooLong can)

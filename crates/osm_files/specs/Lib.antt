@@ -14,7 +14,6 @@ pub mod Verdict
 pub mod Laws
 pub mod Reading
 pub mod Position
-pub mod Whole
 pub mod Spell
 pub mod Sink
 pub mod InsideSink

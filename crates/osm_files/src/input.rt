@@ -1,10 +1,7 @@
 //! Inputs: where the bytes of a file come from.
 ghost use Rattle.std.specs.Prelude.{◌≡◌, ◌<◌, ◌≤◌, Ok, [], length, take, min, IfOk, IfErr, OnErr, refl};
-ghost use Rattle.osm_files.specs.Input.{Coming, whole, breaks, Gave, CanGive, all_left, can_give_all, IsAll, StopsReading};
+ghost use Rattle.osm_files.specs.Input.{Coming, whole, breaks, Gave, CanGive, all_left, can_give_all};
 
-use crate::fault::{Fault, LENGTH_LIMIT};
-use crate::reason::Reason;
-use std::alloc::Global;
 use std::io::Read;
 use std::marker::Model;
 use thiserror::Error;
@@ -118,39 +115,6 @@ impl<R: Read + Drop> Input for FromRead<R> {
             Ok(count) => Ok(count),
             Err(_) => Err(Broken),
         }
-    }
-}
-
-/// The bytes that are asked of an input at a time.
-const CHUNK: usize = 65536;
-
-/// All bytes of an input, which has this number among the inputs.
-///
-/// # Errors
-///
-/// `ReadFault` where the input fails, after as many bytes as the place says, `TooLong` where it has 2^62 bytes or
-/// more, or `Memory`.
-pub fn read_all<R: Input>(alloc: Global, number: usize, reader: &mut R) -> Result<Vec<u8>, Fault>
-    ensures ok { IfOk result (λ all. IsAll (R.can_give reader.old) all.items) }
-    ensures err { IfErr result (StopsReading number (R.can_give reader.old)) }
-{
-    let mut all: Vec<u8> = Vec::new(alloc);
-    let mut chunk = [0u8; CHUNK];
-    'reads: loop {
-        let Ok(count) = reader.read(&mut chunk) else {
-            return Err(Fault {
-                input: number,
-                place: all.len() as u64,
-                reason: Reason::ReadFault,
-            });
-        };
-        if count == 0 {
-            return Ok(all);
-        }
-        if count as u64 >= LENGTH_LIMIT - all.len() as u64 {
-            return Err(Fault::too_long(number));
-        }
-        all.extend_from_slice(&chunk[..count])?;
     }
 }
 

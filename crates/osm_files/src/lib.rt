@@ -15,18 +15,16 @@ mod reason;
 mod sink;
 mod source;
 mod unit;
-mod whole;
 
 pub use fault::{Fault, LENGTH_LIMIT};
-pub use format::Format;
+pub use format::{FORMAT_NAMES, Format};
 pub use history_source::HistorySource;
-pub use input::{Broken, FromRead, Input, SliceIn, read_all};
+pub use input::{Broken, FromRead, Input, SliceIn};
 pub use load::{Loaded, load_any};
 pub use output::{Output, ToWrite, VecOut, write_all};
 pub use reason::Reason;
 pub use sink::{Sink, write_history};
 pub use source::{FileSource, Source};
-pub use whole::read_sorted;
 
 #[cfg(test)]
 mod tests;

@@ -5,13 +5,12 @@ ghost use Rattle.osm_model.specs.Sets.{from_list};
 ghost use Rattle.osm_files.specs.Fault.{memory_fault};
 ghost use Rattle.osm_files.specs.Input.{GivesOne};
 ghost use Rattle.osm_files.specs.Load.{Loads, StopsLoading};
-ghost use Rattle.osm_files.specs.Whole.{is_below_last};
+ghost use Rattle.osm_files.specs.Verdict.{is_below_last};
 
 use crate::fault::Fault;
 use crate::format::Format;
 use crate::input::Input;
 use crate::reading::Reading;
-use crate::whole::is_below_last;
 use osm_model::{History, Version};
 use std::alloc::Global;
 
@@ -66,6 +65,16 @@ fn add(versions: &mut Vec<Version>, sorted: bool, version: Version) -> Result<bo
     match versions.push(version) {
         Ok(()) => Ok(sorted && rises),
         Err(refused) => Err(Fault::from(refused)),
+    }
+}
+
+/// Whether the version's key is below that of the last of these.
+fn is_below_last(version: &Version, versions: &[Version]) -> bool
+    ensures { result ≡ is_below_last version.now versions.now }
+{
+    match versions.last() {
+        None => false,
+        Some(last) => version.key_cmp(last).is_lt(),
     }
 }
 

@@ -15,13 +15,10 @@ use crate::held::Held;
 use crate::input::Input;
 use crate::placed::Placed;
 use crate::reason::Reason;
-use crate::unit::{O5M_HEADER, Place, ReadUnit, read_line_unit};
+use crate::unit::{O5M_HEADER, Place, RESET, ReadUnit, read_line_unit};
 use osm_model::Version;
 use std::alloc::Global;
 use std::marker::Model;
-
-/// The first byte of o5 files.
-const O5_MARK: u8 = 0xff;
 
 /// What one unit gave.
 #[derive(Drop)]
@@ -399,7 +396,7 @@ fn start(first: u8) -> Place
     ensures place { stand_of result ≡ spec.start_of (first ∷ []) }
     ensures good { IsGood result }
 {
-    if first == O5_MARK {
+    if first == RESET {
         Place::Header
     } else {
         Place::Lines
@@ -412,7 +409,7 @@ fn tells_format(bytes: &[u8]) -> bool
 {
     match bytes.first() {
         None => false,
-        Some(first) => *first != O5_MARK || bytes.len() >= 7,
+        Some(first) => *first != RESET || bytes.len() >= 7,
     }
 }
 
@@ -421,7 +418,7 @@ fn format_of(bytes: &[u8]) -> Format
     ensures { result ≡ format_of bytes.now }
 {
     match bytes.first() {
-        Some(first) if *first == O5_MARK => o5_format(bytes),
+        Some(first) if *first == RESET => o5_format(bytes),
         _ => Format::Opl,
     }
 }

@@ -5,7 +5,6 @@ ghost use Rattle.osm_files.specs.Reason.{reason_name};
 use o5_codec::O5Reason;
 use opl_line::OplReason;
 use osm_model::Memory;
-use std::alloc::AllocFailed;
 
 /// Why a file, or a call that reads or writes one, is refused.
 #[derive(Clone, Copy, Debug, PartialEq, Eq)]
@@ -83,17 +82,6 @@ impl From<O5Reason> for Reason {
             O5Reason::Failed => Reason::Failed,
             _ => Reason::O5(reason),
         }
-    }
-}
-
-impl<T: Drop> From<AllocFailed<T>> for Reason {
-    ghost use Rattle.std.specs.Prelude.{◌≡◌};
-    ghost use Rattle.osm_files.specs.declared.reason.Reason.TheVariants.{Memory};
-
-    ghost from_gives = { λ _ reason. reason ≡ Memory };
-
-    fn from(_error: AllocFailed<T>) -> Reason {
-        Reason::Memory
     }
 }
 

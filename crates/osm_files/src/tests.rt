@@ -121,6 +121,28 @@ fn is_one_answer(alloc: Global, file: &[u8]) -> Result<bool, Fail> {
     Ok(true)
 }
 
+/// A node, and its deletion, in OPL.
+const LINES: &[u8] =
+    b"# a comment\nn1 v1 c1 t1970-01-01T00:00:01Z i1 ua x0 y0\r\n\nn1 v2 dD c1 t1970-01-01T00:00:02Z i1 ua";
+
+/// The canonical lines of these two versions.
+const SPELLED: &[u8] =
+    b"n1 v1 dV c1 t1970-01-01T00:00:01Z i1 ua T x0 y0\nn1 v2 dD c1 t1970-01-01T00:00:02Z i1 ua T x y\n";
+
+/// A node, and its deletion, in o5c, with a reset, a lone byte and a data set that is skipped.
+const O5C: &[u8] =
+    b"\xff\xe0\x04o5c2\xdc\x01\x02\xf3\xff\x10\x0b\x02\x01\x02\x02\x00\x01\x00a\x00\x00\x00\x10\x05\x00\x02\x02\x00\x01\xfe";
+
+#[test]
+fn three_formats_hold_the_same(rt: HostRuntime) -> Result<(), Fail> {
+    let alloc = rt.alloc();
+    for file in [LINES, NODE_THEN_DELETION, O5C] {
+        let held = loading(alloc, load_any(alloc, 0, SliceIn::new(file)))?;
+        assert_eq!(rt; held.lines.as_slice(), SPELLED);
+    }
+    Ok(())
+}
+
 #[test]
 fn lines_in_pieces(rt: HostRuntime) -> Result<(), Fail> {
     let alloc = rt.alloc();

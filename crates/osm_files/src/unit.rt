@@ -24,7 +24,7 @@ pub(crate) const O5C_HEADER: [u8; 7] = *b"\xff\xe0\x04o5c2";
 pub(crate) const END: u8 = 0xfe;
 
 /// The byte that begins a segment, and an o5 file.
-const RESET: u8 = 0xff;
+pub(crate) const RESET: u8 = 0xff;
 
 /// The most bytes that a number may have.
 const NUMBER_LENGTH: usize = 10;

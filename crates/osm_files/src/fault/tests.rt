@@ -15,7 +15,9 @@ fn formats_have_their_names(rt: HostRuntime) {
         (Format::O5c, "o5c"),
     ] {
         assert_eq!(rt; format.name(), name);
+        assert_eq!(rt; Format::named(name), Some(format));
     }
+    assert_eq!(rt; Format::named("OPL"), None);
 }
 
 #[test]

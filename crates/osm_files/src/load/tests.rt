@@ -132,6 +132,14 @@ fn byte_behind_the_end_is_refused(rt: HostRuntime) -> Result<(), Fail> {
 }
 
 #[test]
+fn header_of_another_format_is_refused(rt: HostRuntime) {
+    assert_eq!(rt;
+        loaded(rt.alloc(), b"\xff\xe0\x04o5m3\xfe").err(),
+        refused(0, Reason::BadHeader)
+    );
+}
+
+#[test]
 fn failing_inputs_are_refused_at_their_places(rt: HostRuntime) {
     for length in 0..NODE_THEN_DELETION.len() + 1 {
         assert_eq!(rt;
