@@ -16,6 +16,7 @@ use crate::input::Input;
 use crate::placed::Placed;
 use crate::reason::Reason;
 use crate::unit::{O5M_HEADER, Place, RESET, ReadUnit, read_line_unit};
+use opl_line::LineReader;
 use osm_model::Version;
 use std::alloc::Global;
 use std::marker::Model;
@@ -45,8 +46,7 @@ pub(crate) struct Reading<R: Input> {
     at: Option<Place>,
     ended: bool,
     failed: bool,
-    /// A version that isn't needed any more, whose memory the next line's takes.
-    spare: Option<Version>,
+    lines: LineReader,
 }
 
 impl<R: Input> Model for Reading<R> {
@@ -75,7 +75,7 @@ impl<R: Input> Reading<R> {
             at: None,
             ended: false,
             failed: false,
-            spare: None,
+            lines: LineReader::new(alloc),
         }
     }
 
@@ -259,7 +259,7 @@ impl<R: Input> Reading<R> {
         ensures bound { self.old.place + length self.old.held < 2 ^ 62 }
         ensures found { Finds (spec.line_unit (split_first is_line_end self.old.held)) result spec.InOpl }
     {
-        read_line_unit(self.alloc, self.held.as_slice(), 0, &mut self.spare)
+        read_line_unit(&mut self.lines, self.held.as_slice(), 0)
     }
 
     /// The version of the line at the front of the bytes held, where they are an OPL file's. There is none if it doesn't
@@ -372,7 +372,7 @@ impl<R: Input> Reading<R> {
     {
         match &mut self.at {
             Some(Place::DataSets(decoder)) => decoder.reuse(version),
-            _ => self.spare = Some(version),
+            _ => self.lines.reuse(version),
         }
     }
 

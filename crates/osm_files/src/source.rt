@@ -58,20 +58,10 @@ pub trait Source {
         ensures failed { has_failed self.new ≡ is_err result }
         ensures number { number self.new ≡ number self.old };
 
-    /// The next version, as `next` gives it; `None` at the end and ever after. It takes back a version that isn't
-    /// needed any more, whose memory it may use.
-    ///
-    /// # Errors
-    ///
-    /// As for [`Source::next`].
-    fn next_reusing(&mut self, _spare: Option<Version>) -> Result<Option<Version>, Fault>
-        ensures step { Steps can_give self.old result self.new }
-        ensures fewer { IfOk result (λ given. IsSome given → left self.new < left self.old) }
-        ensures again { has_failed self.old ≡ true → result ≡ Err (failed_fault (number self.old)) }
-        ensures failed { has_failed self.new ≡ is_err result }
-        ensures number { number self.new ≡ number self.old }
+    /// Takes back a version that isn't needed any more, whose memory the next one may take; or lets it go.
+    fn reuse(&mut self, _version: Version)
+        ensures { self.new ≡ self.old }
     {
-        self.next()
     }
 }
 
@@ -118,15 +108,6 @@ impl<R: Input> FileSource<R> {
         })
     }
 
-    /// Takes back a version that isn't needed any more, whose memory the next one may take.
-    #[inline(always)]
-    fn reuse(&mut self, spare: Option<Version>)
-        ensures { self.new ≡ self.old }
-    {
-        if let Some(version) = spare {
-            self.units.reuse(version);
-        }
-    }
 }
 
 impl<R: Input + Drop> FileSource<R> {
@@ -189,9 +170,8 @@ impl<R: Input> Source for FileSource<R> {
     }
 
     #[inline(always)]
-    fn next_reusing(&mut self, spare: Option<Version>) -> Result<Option<Version>, Fault> {
-        self.reuse(spare);
-        self.next()
+    fn reuse(&mut self, version: Version) {
+        self.units.reuse(version);
     }
 }
 

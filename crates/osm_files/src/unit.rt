@@ -10,7 +10,7 @@ ghost use Rattle.osm_files.specs.Units as spec;
 
 use crate::reason::Reason;
 use o5_codec::{Decoder, O5Reason, read_number};
-use opl_line::{find_line_end, read_line, read_line_reusing};
+use opl_line::{LineReader, find_line_end, read_line};
 use osm_model::{Kind, Version};
 use std::alloc::Global;
 
@@ -75,14 +75,12 @@ fn find_end_behind(bytes: &[u8], searched: usize) -> Option<usize>
     }
 }
 
-/// The line at the front of the bytes, if its end is there. It isn't among so many of them, which were searched before. The
-/// version takes the memory of one that isn't needed any more, where one is given.
+/// The line at the front of the bytes, if its end is there. It isn't among so many of them, which were searched before.
 #[inline(always)]
 pub(crate) fn read_line_unit(
-    alloc: Global,
+    lines: &mut LineReader,
     bytes: &[u8],
     searched: usize,
-    spare: &mut Option<Version>,
 ) -> Result<Option<ReadUnit>, Reason>
     requires within { searched ≤ length bytes.now }
     requires none { position is_line_end (take searched bytes.now) ≡ None }
@@ -91,7 +89,7 @@ pub(crate) fn read_line_unit(
     let Some(end) = find_end_behind(bytes, searched) else {
         return Ok(None);
     };
-    match read_line_reusing(alloc, &bytes[..end], spare) {
+    match lines.read(&bytes[..end]) {
         Ok(version) => Ok(Some(ReadUnit {
             size: end + 1,
             version,
@@ -313,7 +311,7 @@ impl Place {
         ensures unmoved { result ≡ Ok None → stand_of self.new ≡ stand_of self.old }
     {
         match self {
-            Place::Lines => read_line_unit(alloc, bytes, searched, &mut None),
+            Place::Lines => read_line_unit(&mut LineReader::new(alloc), bytes, searched),
             Place::Header => self.read_header(alloc, bytes),
             Place::DataSets(decoder) => {
                 if ends_at(bytes) {

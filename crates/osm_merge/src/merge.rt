@@ -1,8 +1,9 @@
 //! The merge.
-ghost use Rattle.std.specs.Prelude.{◌≡◌, ◌≤◌, ◌<◌, ◌+◌, ◌-◌, ◌++◌, ℕ, false, true, [], List, Option, map, length, IfOk, IfErr, IfSome, OnOk, OnErr};
+ghost use Rattle.std.specs.Prelude.{◌≡◌, ◌≤◌, ◌<◌, ◌+◌, ◌-◌, ◌++◌, ℕ, false, true, [], List, Option, map, length, IsSome, IfOk, IfErr, IfSome, OnOk, OnErr};
 ghost use Rattle.std.specs.List.{All};
 ghost use Rattle.osm_model.specs.Data.{VersionData};
 ghost use Rattle.osm_files.specs.Sink.{IsOpen, new_sink};
+ghost use Rattle.osm_files.specs.Source.{Steps};
 ghost use Rattle.osm_merge.specs.Giving.{ForSome, ForStanding};
 ghost use Rattle.osm_merge.specs.Union.{capped, union_of};
 ghost use Rattle.osm_merge.specs.Tree.{IsTree};
@@ -151,12 +152,24 @@ fn write_union<S: Source, W: Output, P: Progress>(
             return Err(fault);
         }
         progress.tell(counts.read, counts.written);
-        match sources[place].next_reusing(spare) {
+        match next_of(&mut sources[place], spare) {
             Ok(next) => heads[place] = next,
             Err(fault) => return Err(fault),
         }
         replay(nodes, heads, place, &mut counts.compared);
     }
+}
+
+/// The next version of a source, which is given back one that isn't needed any more, if there is one.
+#[inline(always)]
+fn next_of<S: Source>(source: &mut S, spare: Option<Version>) -> Result<Option<Version>, Fault>
+    ensures step { Steps S.can_give source.old result source.new }
+    ensures fewer { IfOk result (λ given. IsSome given → S.left source.new < S.left source.old) }
+{
+    if let Some(version) = spare {
+        source.reuse(version);
+    }
+    source.next()
 }
 
 /// Meets the next version. One that passes and is greater than the one held back decides what is put, and is held back then;

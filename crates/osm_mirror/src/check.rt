@@ -96,12 +96,13 @@ fn count<S: Source>(source: &mut S) -> Result<Sizes, Fault>
         objects: 0,
     };
     let mut last: Option<Version> = None;
-    let mut spare: Option<Version> = None;
     'versions: loop {
-        match source.next_reusing(spare) {
+        match source.next() {
             Ok(Some(version)) => {
                 sizes = count_one(sizes, &last, &version);
-                spare = last.replace(version);
+                if let Some(before) = last.replace(version) {
+                    source.reuse(before);
+                }
             }
             Ok(None) => return Ok(sizes),
             Err(fault) => return Err(fault),

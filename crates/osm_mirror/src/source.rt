@@ -44,10 +44,10 @@ impl<R: Input> Source for RunSource<R> {
     }
 
     #[inline(always)]
-    fn next_reusing(&mut self, spare: Option<Version>) -> Result<Option<Version>, Fault> {
+    fn reuse(&mut self, version: Version) {
         match self {
-            RunSource::Streamed(source) => source.next_reusing(spare),
-            RunSource::Held(source) => source.next_reusing(spare),
+            RunSource::Streamed(source) => source.reuse(version),
+            RunSource::Held(source) => source.reuse(version),
         }
     }
 }

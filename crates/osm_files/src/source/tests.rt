@@ -6,6 +6,7 @@ use crate::input::SliceIn;
 use crate::reason::Reason;
 use crate::tests::NODE_THEN_DELETION;
 use opl_line::read_line;
+use osm_model::Version;
 use std::alloc::Global;
 use std::test::Fail;
 
@@ -14,6 +15,13 @@ fn gives(alloc: Global, source: &mut FileSource<SliceIn<'_>>, line: &[u8]) -> Re
     let given = source.next()?;
     let expected = read_line(alloc, line)?;
     Ok(given == expected)
+}
+
+/// Gives a version back to the source, if there is one.
+fn give_back(source: &mut FileSource<SliceIn<'_>>, version: Option<Version>) {
+    if let Some(version) = version {
+        source.reuse(version);
+    }
 }
 
 /// A refusal of the input with the number 2.
@@ -107,11 +115,14 @@ fn memory_of_versions_is_used_again(rt: HostRuntime) -> Result<(), Fail> {
     let mut source = FileSource::new(alloc, 2, SliceIn::new(file))?;
     let first = source.next()?;
     assert_eq!(rt; first, read_line(alloc, b"n1 v1 x0.0000001 y0.0000002")?);
-    let second = source.next_reusing(first)?;
+    give_back(&mut source, first);
+    let second = source.next()?;
     assert_eq!(rt; second, read_line(alloc, b"n2 v1 x0.0000002 y0.0000004")?);
-    let third = source.next_reusing(second)?;
+    give_back(&mut source, second);
+    let third = source.next()?;
     assert_eq!(rt; third, read_line(alloc, b"n3 v1 x0.0000003 y0.0000006")?);
-    assert!(rt; source.next_reusing(third)?.is_none());
+    give_back(&mut source, third);
+    assert!(rt; source.next()?.is_none());
     Ok(())
 }
 
@@ -122,10 +133,13 @@ fn memory_of_versions_is_used_again_among_lines(rt: HostRuntime) -> Result<(), F
     let mut source = FileSource::new(alloc, 2, SliceIn::new(file))?;
     let first = source.next()?;
     assert_eq!(rt; first, read_line(alloc, b"n1 v1 Ta=b x1 y2")?);
-    let second = source.next_reusing(first)?;
+    give_back(&mut source, first);
+    let second = source.next()?;
     assert_eq!(rt; second, read_line(alloc, b"n2 v1 x3 y4")?);
-    let third = source.next_reusing(second)?;
+    give_back(&mut source, second);
+    let third = source.next()?;
     assert_eq!(rt; third, read_line(alloc, b"w1 v1 Nn1")?);
-    assert!(rt; source.next_reusing(third)?.is_none());
+    give_back(&mut source, third);
+    assert!(rt; source.next()?.is_none());
     Ok(())
 }

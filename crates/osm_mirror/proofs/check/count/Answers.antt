@@ -19,14 +19,14 @@ versions-preserved g c = λ later k.
 
 pub returns-in-Ok-None-clause-sizes : goal.returns-in-Ok-None-clause-sizes
 returns-in-Ok-None-clause-sizes g c =
-    let later = g.S.Source.one c.next_reusing.new.self in
-    let y = (rw c.in-Ok-None.field-0-is at c.in-Ok-None.ensures.step) later (g.S.Source.possible c.next_reusing.new.self) in
+    let later = g.S.Source.one c.next.new.self in
+    let y = (rw c.in-Ok-None.field-0-is at c.in-Ok-None.ensures.step) later (g.S.Source.possible c.next.new.self) in
     let x = c.versions.invariant y.0 y.1 in
     (x.0, x.1, count_ends (Some x.0) (Some y.0) (Some later) c.versions.last c.versions.sizes x.2 y.2)
 
 pub returns-in-Err-clause-refused : goal.returns-in-Err-clause-refused
 returns-in-Err-clause-refused g c =
-    let later = g.S.Source.one c.next_reusing.new.self in
-    let y = c.in-Err.ensures.step later (g.S.Source.possible c.next_reusing.new.self) in
+    let later = g.S.Source.one c.next.new.self in
+    let y = c.in-Err.ensures.step later (g.S.Source.possible c.next.new.self) in
     let x = c.versions.invariant y.0 y.1 in
     (x.0, x.1, count_stops (Some x.0) (Some y.0) (Some later) c.versions.last c.versions.sizes c.in-Err.fault x.2 y.2)
