@@ -1,9 +1,15 @@
 -- Numbers as differences to the base of their field (the OSM wiki's page on o5m); their ranges are own rules of this project.
-use Rattle.std.specs.Prelude.{ℕ, ℤ, pos, negsuc, ◌+ℤ◌, ◌^◌, nat_lt, unsigned_abs, Result, Ok, Err, if◌then◌else◌}
+use Rattle.std.specs.Prelude.{ℕ, ℤ, pos, negsuc, ◌+ℤ◌, ◌^◌, nat_lt, unsigned_abs, List, Result, Ok, Err, if◌then◌else◌}
 use Rattle.std.specs.Int.{w32, int_wrap}
 use Rattle.osm_model.specs.Id.{is_id}
 use Rattle.o5_codec.specs.declared.reason.O5Reason.{O5Reason}
 use Rattle.o5_codec.specs.declared.reason.O5Reason.TheVariants.{OutOfRange}
+use Rattle.o5_codec.specs.Answer.{and_then}
+use Rattle.o5_codec.specs.Number.{signed_at}
+
+-- a value by its difference at the front, and the bytes behind it
+abbrev pub read_by : {X : Type 0} → (ℤ → Result X O5Reason) → List ℕ → Result (X × List ℕ) O5Reason
+read_by moved bytes = and_then (signed_at bytes) (λ x. and_then (moved x.0) (λ v. Ok (v, x.1)))
 
 -- an id, a reference or the id of a member
 abbrev pub moved_id : ℤ → ℤ → Result ℤ O5Reason

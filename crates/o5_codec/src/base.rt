@@ -1,60 +1,259 @@
-//! Numbers as differences to the base of their field.
-ghost use Rattle.std.specs.Prelude.{◌≡◌};
+//! The values last spelled in a segment, which later ones are differences to.
+ghost use Rattle.std.specs.Prelude.{◌≡◌, ◌<◌, ◌++◌, length, true, pos, IfOk, OnOk};
 ghost use Rattle.std.specs.Int.{w32, int_wrap};
+ghost use Rattle.osm_model.specs.Id.{is_id};
+ghost use Rattle.o5_codec.specs.Answer.{Gives};
 ghost use Rattle.o5_codec.specs.Base as spec;
+ghost use Rattle.o5_codec.specs.Decoder.{no_bases};
+ghost use Rattle.o5_codec.specs.Shortest.{difference};
 
 use crate::O5Reason;
-use osm_model::is_id;
+use crate::number::read_signed;
+use crate::write::draft::Draft;
+use crate::write::number::append_signed;
+use osm_model::{Memory, is_id};
+use std::marker::Model;
 
 /// The value last spelled for each field in the segment, 0 where there is none.
-#[derive(Clone, Copy, Debug, PartialEq, Eq)]
+#[derive(Drop)]
 pub struct Bases {
     /// The id of the object, of any kind.
-    pub id: i64,
+    pub id: IdBase,
     /// Seconds since 1970-01-01T00:00:00Z; no time is 0.
-    pub time: u32,
+    pub time: NumberBase,
     /// The changeset.
-    pub changeset: u32,
+    pub changeset: NumberBase,
     /// The longitude in units of 10^-7 degree.
-    pub lon: i32,
+    pub lon: CoordinateBase,
     /// The latitude in units of 10^-7 degree.
-    pub lat: i32,
+    pub lat: CoordinateBase,
     /// The reference of a way.
-    pub reference: i64,
+    pub reference: IdBase,
     /// The id of a member that is a node.
-    pub node_member: i64,
+    pub node_member: IdBase,
     /// The id of a member that is a way.
-    pub way_member: i64,
+    pub way_member: IdBase,
     /// The id of a member that is a relation.
-    pub relation_member: i64,
+    pub relation_member: IdBase,
 }
 
 impl Bases {
     /// The bases where a segment begins.
-    pub(crate) const ZERO: Bases = Bases {
-        id: 0,
-        time: 0,
-        changeset: 0,
-        lon: 0,
-        lat: 0,
-        reference: 0,
-        node_member: 0,
-        way_member: 0,
-        relation_member: 0,
-    };
+    pub(crate) fn new() -> Bases
+        ensures { result ≡ no_bases }
+    {
+        Bases {
+            id: IdBase { id: 0 },
+            time: NumberBase { number: 0 },
+            changeset: NumberBase { number: 0 },
+            lon: CoordinateBase { coordinate: 0 },
+            lat: CoordinateBase { coordinate: 0 },
+            reference: IdBase { id: 0 },
+            node_member: IdBase { id: 0 },
+            way_member: IdBase { id: 0 },
+            relation_member: IdBase { id: 0 },
+        }
+    }
 }
 
-/// An id, a reference or the id of a member, by its difference to the base.
-///
-/// # Errors
-///
-/// `OutOfRange` where the sum is no id.
-pub(crate) fn moved_id(base: i64, difference: i64) -> Result<i64, O5Reason>
-    ensures { result ≡ spec.moved_id base difference }
-{
-    match base.checked_add(difference) {
-        Some(id) if is_id(id) => Ok(id),
-        _ => Err(O5Reason::OutOfRange),
+/// The base of a field of ids. Contracts see the id.
+#[derive(Drop)]
+pub struct IdBase {
+    id: i64,
+}
+
+impl Model for IdBase {
+    ghost use Rattle.std.specs.Prelude.{◌≡◌, ℤ, true};
+    ghost use Rattle.osm_model.specs.Id.{is_id};
+
+    ghost Value = { ℤ };
+
+    ghost view = { λ b. b.id };
+
+    ghost invariant = { λ b. is_id b.id ≡ true };
+}
+
+impl IdBase {
+    /// The id whose difference stands at the front, and the bytes behind it. The base moves to the id.
+    ///
+    /// # Errors
+    ///
+    /// `OutOfRange` where the sum is no id, else as for [`read_signed`].
+    #[inline(always)]
+    pub(crate) fn read<'a>(&mut self, bytes: &'a [u8]) -> Result<(i64, &'a [u8]), O5Reason>
+        ensures value { Gives (λ x. (x.0, x.1.now)) (spec.read_by (spec.moved_id self.old) bytes.now) result }
+        ensures base { IfOk result (λ x. self.new ≡ x.0) }
+        ensures shorter { IfOk result (λ x. length x.1.now < length bytes.now) }
+    {
+        let (difference, rest) = read_signed(bytes)?;
+        let id = self.move_by(difference)?;
+        Ok((id, rest))
+    }
+
+    /// The id with this difference. The base moves to it.
+    ///
+    /// # Errors
+    ///
+    /// `OutOfRange` where the sum is no id.
+    #[inline(always)]
+    pub(crate) fn move_by(&mut self, difference: i64) -> Result<i64, O5Reason>
+        ensures value { result ≡ spec.moved_id self.old difference }
+        ensures base { IfOk result (λ id. self.new ≡ id) }
+    {
+        match self.id.checked_add(difference) {
+            Some(id) if is_id(id) => {
+                self.id = id;
+                Ok(id)
+            }
+            _ => Err(O5Reason::OutOfRange),
+        }
+    }
+
+    /// Appends an id by its difference. The base moves to it.
+    ///
+    /// # Errors
+    ///
+    /// For want of memory alone.
+    #[inline(always)]
+    pub(crate) fn append(&mut self, out: &mut Draft, id: i64) -> Result<(), Memory>
+        requires { is_id id ≡ true }
+        ensures bytes { OnOk result (out.new ≡ out.old ++ difference self.old id) }
+        ensures base { OnOk result (self.new ≡ id) }
+    {
+        append_signed(out, id - self.id)?;
+        self.id = id;
+        Ok(())
+    }
+}
+
+/// The base of a field of numbers up to 4294967295: times and changesets. Contracts see the number.
+#[derive(Drop)]
+pub struct NumberBase {
+    number: u32,
+}
+
+impl Model for NumberBase {
+    ghost use Rattle.std.specs.Prelude.{ℕ};
+
+    ghost Value = { ℕ };
+
+    ghost view = { λ b. b.number };
+}
+
+impl NumberBase {
+    /// The number whose difference stands at the front, and the bytes behind it. The base moves to the number.
+    ///
+    /// # Errors
+    ///
+    /// `OutOfRange` where the sum is below 0 or above 4294967295, else as for [`read_signed`].
+    #[inline(always)]
+    pub(crate) fn read<'a>(&mut self, bytes: &'a [u8]) -> Result<(u32, &'a [u8]), O5Reason>
+        ensures value { Gives (λ x. (x.0, x.1.now)) (spec.read_by (spec.moved_number self.old) bytes.now) result }
+        ensures base { IfOk result (λ x. self.new ≡ x.0) }
+        ensures shorter { IfOk result (λ x. length x.1.now < length bytes.now) }
+    {
+        let (difference, rest) = read_signed(bytes)?;
+        let number = self.move_by(difference)?;
+        Ok((number, rest))
+    }
+
+    /// The number with this difference. The base moves to it.
+    ///
+    /// # Errors
+    ///
+    /// `OutOfRange` where the sum is below 0 or above 4294967295.
+    #[inline(always)]
+    fn move_by(&mut self, difference: i64) -> Result<u32, O5Reason>
+        ensures value { result ≡ spec.moved_number self.old difference }
+        ensures base { IfOk result (λ number. self.new ≡ number) }
+    {
+        let sum = i64::from(self.number).wrapping_add(difference);
+        if sum < 0 {
+            return Err(O5Reason::OutOfRange);
+        }
+        let number = within_range(sum as u64)?;
+        self.number = number;
+        Ok(number)
+    }
+
+    /// Appends a number by its difference. The base moves to it.
+    ///
+    /// # Errors
+    ///
+    /// For want of memory alone.
+    #[inline(always)]
+    pub(crate) fn append(&mut self, out: &mut Draft, number: u32) -> Result<(), Memory>
+        ensures bytes { OnOk result (out.new ≡ out.old ++ difference (pos self.old) (pos number)) }
+        ensures base { OnOk result (self.new ≡ number) }
+    {
+        append_signed(out, i64::from(number) - i64::from(self.number))?;
+        self.number = number;
+        Ok(())
+    }
+}
+
+/// The base of a longitude or a latitude. Contracts see the coordinate.
+#[derive(Drop)]
+pub struct CoordinateBase {
+    coordinate: i32,
+}
+
+impl Model for CoordinateBase {
+    ghost use Rattle.std.specs.Prelude.{ℤ};
+
+    ghost Value = { ℤ };
+
+    ghost view = { λ b. b.coordinate };
+}
+
+impl CoordinateBase {
+    /// The coordinate whose difference stands at the front, and the bytes behind it. The base moves to the coordinate.
+    ///
+    /// # Errors
+    ///
+    /// `OutOfRange` where the difference is outside -4294967295 to 4294967295, else as for [`read_signed`].
+    #[inline(always)]
+    pub(crate) fn read<'a>(&mut self, bytes: &'a [u8]) -> Result<(i32, &'a [u8]), O5Reason>
+        ensures value { Gives (λ x. (x.0, x.1.now)) (spec.read_by (spec.moved_coordinate self.old) bytes.now) result }
+        ensures base { IfOk result (λ x. self.new ≡ x.0) }
+        ensures shorter { IfOk result (λ x. length x.1.now < length bytes.now) }
+    {
+        let (difference, rest) = read_signed(bytes)?;
+        let coordinate = self.move_by(difference)?;
+        Ok((coordinate, rest))
+    }
+
+    /// The coordinate with this difference: the sum, reduced modulo 2^32 to 32 bits. The base moves to it.
+    ///
+    /// # Errors
+    ///
+    /// `OutOfRange` where the difference is outside -4294967295 to 4294967295.
+    #[inline(always)]
+    fn move_by(&mut self, difference: i64) -> Result<i32, O5Reason>
+        ensures value { result ≡ spec.moved_coordinate self.old difference }
+        ensures base { IfOk result (λ coordinate. self.new ≡ coordinate) }
+    {
+        if difference.unsigned_abs() >= 1 << 32 {
+            return Err(O5Reason::OutOfRange);
+        }
+        let coordinate = reduced(i64::from(self.coordinate) + difference);
+        self.coordinate = coordinate;
+        Ok(coordinate)
+    }
+
+    /// Appends a coordinate by its plain difference. The base moves to it.
+    ///
+    /// # Errors
+    ///
+    /// For want of memory alone.
+    #[inline(always)]
+    pub(crate) fn append(&mut self, out: &mut Draft, coordinate: i32) -> Result<(), Memory>
+        ensures bytes { OnOk result (out.new ≡ out.old ++ difference self.old coordinate) }
+        ensures base { OnOk result (self.new ≡ coordinate) }
+    {
+        append_signed(out, i64::from(coordinate) - i64::from(self.coordinate))?;
+        self.coordinate = coordinate;
+        Ok(())
     }
 }
 
@@ -71,35 +270,6 @@ pub(crate) fn within_range(number: u64) -> Result<u32, O5Reason>
     } else {
         Err(O5Reason::OutOfRange)
     }
-}
-
-/// A time or a changeset, by its difference to the base.
-///
-/// # Errors
-///
-/// `OutOfRange` where the sum is below 0 or above 4294967295.
-pub(crate) fn moved_number(base: u32, difference: i64) -> Result<u32, O5Reason>
-    ensures { result ≡ spec.moved_number base difference }
-{
-    let sum = i64::from(base).wrapping_add(difference);
-    if sum < 0 {
-        return Err(O5Reason::OutOfRange);
-    }
-    within_range(sum as u64)
-}
-
-/// A longitude or latitude, by its difference to the base. The sum is reduced modulo 2^32 to 32 bits.
-///
-/// # Errors
-///
-/// `OutOfRange` where the difference is outside -4294967295 to 4294967295.
-pub(crate) fn moved_coordinate(base: i32, difference: i64) -> Result<i32, O5Reason>
-    ensures { result ≡ spec.moved_coordinate base difference }
-{
-    if difference.unsigned_abs() >= 1 << 32 {
-        return Err(O5Reason::OutOfRange);
-    }
-    Ok(reduced(i64::from(base) + difference))
 }
 
 /// The number of 32 bits that is the same modulo 2^32.

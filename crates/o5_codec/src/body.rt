@@ -5,7 +5,7 @@ ghost use Rattle.o5_codec.specs.Items.{items_at, and_one_more};
 ghost use Rattle.o5_codec.specs.Body as spec;
 
 use crate::O5Reason;
-use crate::base::{Bases, moved_coordinate, moved_id};
+use crate::base::Bases;
 use crate::number::{count_ended, read_number, read_signed};
 use crate::segment::{ListsSeen, Segment};
 use crate::strings::{Form, read_spelled};
@@ -44,21 +44,9 @@ impl Bases {
         ensures { Gives (λ id. (id, self.new)) (spec.moved_member self.old kind difference) result }
     {
         match kind {
-            Kind::Node => {
-                let id = moved_id(self.node_member, difference)?;
-                self.node_member = id;
-                Ok(id)
-            }
-            Kind::Way => {
-                let id = moved_id(self.way_member, difference)?;
-                self.way_member = id;
-                Ok(id)
-            }
-            Kind::Relation => {
-                let id = moved_id(self.relation_member, difference)?;
-                self.relation_member = id;
-                Ok(id)
-            }
+            Kind::Node => self.node_member.move_by(difference),
+            Kind::Way => self.way_member.move_by(difference),
+            Kind::Relation => self.relation_member.move_by(difference),
         }
     }
 }
@@ -93,20 +81,14 @@ impl Segment {
     fn read_longitude<'a>(&mut self, bytes: &'a [u8]) -> Result<(i32, &'a [u8]), O5Reason>
         ensures { Gives (λ x. (x.0, self.new, x.1.now)) (spec.longitude_at self.old bytes.now) result }
     {
-        let (difference, rest) = read_signed(bytes)?;
-        let lon = moved_coordinate(self.bases.lon, difference)?;
-        self.bases.lon = lon;
-        Ok((lon, rest))
+        self.bases.lon.read(bytes)
     }
 
     #[tactic(auto, unfolding(crate::specs::Body::latitude_at))]
     fn read_latitude<'a>(&mut self, bytes: &'a [u8]) -> Result<(i32, &'a [u8]), O5Reason>
         ensures { Gives (λ x. (x.0, self.new, x.1.now)) (spec.latitude_at self.old bytes.now) result }
     {
-        let (difference, rest) = read_signed(bytes)?;
-        let lat = moved_coordinate(self.bases.lat, difference)?;
-        self.bases.lat = lat;
-        Ok((lat, rest))
+        self.bases.lat.read(bytes)
     }
 
     #[tactic(auto, unfolding(crate::specs::Body::way_at))]
@@ -149,10 +131,7 @@ impl Segment {
         ensures value { Gives (λ x. (x.0, self.new, x.1.now)) (spec.reference_at self.old bytes.now) result }
         ensures shorter { IfOk result (λ x. length x.1.now < length bytes.now) }
     {
-        let (difference, rest) = read_signed(bytes)?;
-        let id = moved_id(self.bases.reference, difference)?;
-        self.bases.reference = id;
-        Ok((id, rest))
+        self.bases.reference.read(bytes)
     }
 
     /// Members to the end of the bytes.

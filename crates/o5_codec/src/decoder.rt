@@ -96,7 +96,7 @@ impl Segment {
         ensures { result ≡ new_segment }
     {
         Segment {
-            bases: Bases::ZERO,
+            bases: Bases::new(),
             table: Table::new(alloc),
             seen: ListsSeen::Neither,
         }
@@ -106,7 +106,7 @@ impl Segment {
     fn clear(&mut self)
         ensures { self.new ≡ new_segment }
     {
-        self.bases = Bases::ZERO;
+        self.bases = Bases::new();
         self.table.clear();
         self.seen = ListsSeen::Neither;
     }

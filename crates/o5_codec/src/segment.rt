@@ -4,8 +4,8 @@ ghost use Rattle.o5_codec.specs.Answer.{Gives, Answers};
 ghost use Rattle.o5_codec.specs.Segment as spec;
 
 use crate::O5Reason;
-use crate::base::{Bases, moved_id, moved_number, within_range};
-use crate::number::{read_number, read_signed};
+use crate::base::{Bases, within_range};
+use crate::number::read_number;
 use crate::strings::{Form, read_spelled};
 use crate::table::Table;
 use osm_model::{Meta, Text};
@@ -43,10 +43,7 @@ impl Segment {
     pub(crate) fn read_id<'a>(&mut self, bytes: &'a [u8]) -> Result<(i64, &'a [u8]), O5Reason>
         ensures { Gives (λ x. (x.0, self.new, x.1.now)) (spec.id_at self.old bytes.now) result }
     {
-        let (difference, rest) = read_signed(bytes)?;
-        let id = moved_id(self.bases.id, difference)?;
-        self.bases.id = id;
-        Ok((id, rest))
+        self.bases.id.read(bytes)
     }
 
     /// Version number, time, changeset and user, and the bytes behind them.
@@ -64,10 +61,7 @@ impl Segment {
     fn read_time<'a>(&mut self, bytes: &'a [u8]) -> Result<(u32, &'a [u8]), O5Reason>
         ensures { Gives (λ x. (x.0, self.new, x.1.now)) (spec.time_at self.old bytes.now) result }
     {
-        let (difference, rest) = read_signed(bytes)?;
-        let time = moved_number(self.bases.time, difference)?;
-        self.bases.time = time;
-        Ok((time, rest))
+        self.bases.time.read(bytes)
     }
 
     /// Changeset and user of a version with this time, 0 being none, and the bytes behind them.
@@ -120,10 +114,7 @@ impl Segment {
     fn read_changeset<'a>(&mut self, bytes: &'a [u8]) -> Result<(u32, &'a [u8]), O5Reason>
         ensures { Gives (λ x. (x.0, self.new, x.1.now)) (spec.changeset_at self.old bytes.now) result }
     {
-        let (difference, rest) = read_signed(bytes)?;
-        let changeset = moved_number(self.bases.changeset, difference)?;
-        self.bases.changeset = changeset;
-        Ok((changeset, rest))
+        self.bases.changeset.read(bytes)
     }
 
     /// User id and user name, and the bytes behind them.

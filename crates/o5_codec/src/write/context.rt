@@ -9,9 +9,6 @@ ghost use Rattle.o5_codec.specs.Writing as spec;
 use crate::base::Bases;
 use crate::write::draft::Draft;
 use crate::write::entry::Entry;
-use crate::write::number::{
-    append_coordinate_difference, append_id_difference, append_number_difference,
-};
 use crate::write::slot::Slot;
 use crate::write::table::Table;
 use osm_model::{Kind, Memory, Tag, Text, Version};
@@ -29,13 +26,10 @@ pub(crate) struct Context {
 
 impl Model for Context {
     ghost use Rattle.o5_codec.specs.Writing.{Context};
-    ghost use Rattle.o5_codec.specs.IdBases.{AreIds};
 
     ghost Value = { Context };
 
     ghost view = { λ c. record { bases = c.bases; table = c.table } };
-
-    ghost invariant = { λ c. AreIds c.bases };
 }
 
 impl Context {
@@ -44,7 +38,7 @@ impl Context {
         ensures { IfOk result (λ c. c ≡ new_context) }
     {
         Ok(Context {
-            bases: Bases::ZERO,
+            bases: Bases::new(),
             table: Table::new(alloc)?,
             entry: Entry::with_room(alloc)?,
         })
@@ -54,7 +48,7 @@ impl Context {
     pub(crate) fn clear(&mut self)
         ensures { self.new ≡ new_context }
     {
-        self.bases = Bases::ZERO;
+        self.bases = Bases::new();
         self.table.clear();
     }
 
@@ -82,9 +76,7 @@ impl Context {
         requires { is_id id ≡ true }
         ensures { OnOk result (Appended out.old out.new self.new (spec.id_written id self.old)) }
     {
-        append_id_difference(out, self.bases.id, id)?;
-        self.bases.id = id;
-        Ok(())
+        self.bases.id.append(out, id)
     }
 
     /// Appends a time, 0 being none.
@@ -92,9 +84,7 @@ impl Context {
     fn append_time(&mut self, out: &mut Draft, time: u32) -> Result<(), Memory>
         ensures { OnOk result (Appended out.old out.new self.new (spec.time_written time self.old)) }
     {
-        append_number_difference(out, self.bases.time, time)?;
-        self.bases.time = time;
-        Ok(())
+        self.bases.time.append(out, time)
     }
 
     /// Appends changeset and user, where there is a time.
@@ -117,9 +107,7 @@ impl Context {
     fn append_changeset(&mut self, out: &mut Draft, changeset: u32) -> Result<(), Memory>
         ensures { OnOk result (Appended out.old out.new self.new (spec.changeset_written changeset self.old)) }
     {
-        append_number_difference(out, self.bases.changeset, changeset)?;
-        self.bases.changeset = changeset;
-        Ok(())
+        self.bases.changeset.append(out, changeset)
     }
 
     #[tactic(auto, unfolding(crate::specs::Writing::strings_written))]
@@ -179,20 +167,10 @@ impl Context {
         ensures { OnOk result (Appended out.old out.new self.new (spec.member_id_written kind id self.old)) }
     {
         match kind {
-            Kind::Node => {
-                append_id_difference(out, self.bases.node_member, id)?;
-                self.bases.node_member = id;
-            }
-            Kind::Way => {
-                append_id_difference(out, self.bases.way_member, id)?;
-                self.bases.way_member = id;
-            }
-            Kind::Relation => {
-                append_id_difference(out, self.bases.relation_member, id)?;
-                self.bases.relation_member = id;
-            }
+            Kind::Node => self.bases.node_member.append(out, id),
+            Kind::Way => self.bases.way_member.append(out, id),
+            Kind::Relation => self.bases.relation_member.append(out, id),
         }
-        Ok(())
     }
 
     /// Appends the reference of a way.
@@ -201,9 +179,7 @@ impl Context {
         requires { is_id id ≡ true }
         ensures { OnOk result (Appended out.old out.new self.new (spec.reference_written id self.old)) }
     {
-        append_id_difference(out, self.bases.reference, id)?;
-        self.bases.reference = id;
-        Ok(())
+        self.bases.reference.append(out, id)
     }
 
     /// Appends a longitude.
@@ -211,9 +187,7 @@ impl Context {
     pub(crate) fn append_longitude(&mut self, out: &mut Draft, lon: i32) -> Result<(), Memory>
         ensures { OnOk result (Appended out.old out.new self.new (spec.longitude_written lon self.old)) }
     {
-        append_coordinate_difference(out, self.bases.lon, lon)?;
-        self.bases.lon = lon;
-        Ok(())
+        self.bases.lon.append(out, lon)
     }
 
     /// Appends a latitude.
@@ -221,8 +195,6 @@ impl Context {
     pub(crate) fn append_latitude(&mut self, out: &mut Draft, lat: i32) -> Result<(), Memory>
         ensures { OnOk result (Appended out.old out.new self.new (spec.latitude_written lat self.old)) }
     {
-        append_coordinate_difference(out, self.bases.lat, lat)?;
-        self.bases.lat = lat;
-        Ok(())
+        self.bases.lat.append(out, lat)
     }
 }

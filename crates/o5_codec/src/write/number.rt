@@ -1,8 +1,7 @@
 //! Numbers in their shortest form.
-ghost use Rattle.std.specs.Prelude.{◌≡◌, ◌++◌, true, pos, OnOk};
-ghost use Rattle.osm_model.specs.Id.{is_id};
+ghost use Rattle.std.specs.Prelude.{◌≡◌, ◌++◌, OnOk};
 ghost use Rattle.o5_codec.specs.Number.{unsigned_of};
-ghost use Rattle.o5_codec.specs.Shortest.{shortest_number, shortest_signed, difference};
+ghost use Rattle.o5_codec.specs.Shortest.{shortest_number, shortest_signed};
 
 use crate::write::draft::Draft;
 use crate::write::piece::Piece;
@@ -29,7 +28,7 @@ pub(crate) fn append_number(out: &mut Vec<u8>, number: u64) -> Result<(), Memory
 /// As for [`append_number`].
 #[inline(always)]
 #[tactic(auto, unfolding(crate::specs::Shortest::shortest_signed))]
-fn append_signed(out: &mut Draft, number: i64) -> Result<(), Memory>
+pub(crate) fn append_signed(out: &mut Draft, number: i64) -> Result<(), Memory>
     ensures { OnOk result (out.new ≡ out.old ++ shortest_signed number) }
 {
     out.append_number(to_unsigned(number))
@@ -44,50 +43,4 @@ fn to_unsigned(number: i64) -> u64
     } else {
         (number as u64) * 2
     }
-}
-
-/// Appends an id by its difference to the base.
-///
-/// # Errors
-///
-/// As for [`append_number`].
-#[inline(always)]
-pub(crate) fn append_id_difference(out: &mut Draft, base: i64, id: i64) -> Result<(), Memory>
-    requires base { is_id base ≡ true }
-    requires id { is_id id ≡ true }
-    ensures { OnOk result (out.new ≡ out.old ++ difference base id) }
-{
-    append_signed(out, id - base)
-}
-
-/// Appends a number of 32 bits by its difference to the base.
-///
-/// # Errors
-///
-/// As for [`append_number`].
-#[inline(always)]
-pub(crate) fn append_number_difference(
-    out: &mut Draft,
-    base: u32,
-    number: u32,
-) -> Result<(), Memory>
-    ensures { OnOk result (out.new ≡ out.old ++ difference (pos base) (pos number)) }
-{
-    append_signed(out, i64::from(number) - i64::from(base))
-}
-
-/// Appends a longitude or latitude by its plain difference to the base.
-///
-/// # Errors
-///
-/// As for [`append_number`].
-#[inline(always)]
-pub(crate) fn append_coordinate_difference(
-    out: &mut Draft,
-    base: i32,
-    coordinate: i32,
-) -> Result<(), Memory>
-    ensures { OnOk result (out.new ≡ out.old ++ difference base coordinate) }
-{
-    append_signed(out, i64::from(coordinate) - i64::from(base))
 }
