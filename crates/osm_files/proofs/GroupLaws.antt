@@ -1,5 +1,5 @@
 -- Key groups, one unit at a time.
-use Rattle.std.proofs.Common.{◌≡◌, ℕ, ◌<◌, ◌≤◌, ◌⊎◌, inl, inr, Bool, true, false, ◌||◌, List, [], ◌∷◌, ◌++◌, refl, ap, sym, ◌∙◌, subst, arith, Option, Some, None, option_to_list, is_some, IfSome, IfOk, IfErr, OnOk, Result, Ok, Err}
+use Rattle.std.proofs.Common.{◌≡◌, ℕ, ◌<◌, ◌≤◌, ◌⊎◌, inl, inr, Bool, true, false, ◌||◌, List, [], ◌∷◌, ◌++◌, length, refl, ap, sym, ◌∙◌, subst, arith, Option, Some, None, option_to_list, is_some, IfSome, IfOk, IfErr, OnOk, Result, Ok, Err}
 use Rattle.std.proofs.lemmas.Bool.{false≢true}
 use Rattle.std.proofs.lemmas.List.{append-nil}
 use Rattle.std.specs.declared.cmp.Ordering.{Ordering}
@@ -212,37 +212,10 @@ sorted_group first others sorted moved up =
     listed-of_sorted version_cmp_total version_cmp-IsAntisymmetric (first ∷ others) sorted (IsPermutation-trans (first ∷ others) (others ++ first ∷ []) sorted (IsPermutation-append_comm (first ∷ []) others) moved) up
     ∙ sym (ascending_is (first ∷ others))
 
-pub alone : (first : VersionData) (others ready : List VersionData) → others ≡ [] → ready ≡ [] → ascending (first ∷ others) ≡ first ∷ ready
-alone first others ready none nothing = ap (λ vs. ascending (first ∷ vs)) none ∙ ascending_one first ∙ ap (λ vs. first ∷ vs) (sym nothing)
+pub one_in : {A : Type 0} (o : Option A) → is_some o ≡ true → length (option_to_list o) ≡ 1
+one_in None h = absurd (false≢true h)
+one_in (Some x) h = refl
 
 pub some_from : {A : Type 0} (o : Option A) → (o ≡ None → ⊥) → is_some o ≡ true
 some_from None h = absurd (h refl)
 some_from (Some x) h = refl
-
--- ---- a call that gathers a group
-module _ (input : ℕ) (start before : Option (Still Placed Fault)) (held : List VersionData) (first : VersionData) (begun : List VersionData) (keeps : Keeps (gathered input start held []) (gathered input before (first ∷ begun) [])) where
-  pub refused_behind : (after : Option (Still Placed Fault)) (group : List VersionData) (fault : Fault) → Refuses (gathered input before (first ∷ begun) []) fault after → Step (gathered input start held []) (Err fault) (gathered input after group [])
-  refused_behind after group fault h =
-      step_on (gathered input start held []) (gathered input before (first ∷ begun) []) (gathered input after group []) (Err fault) keeps (refused_step input (gathered input before (first ∷ begun) []) after group fault h)
-
-  -- the first of the group is given, or memory was refused
-  pub given_step : (p q : Told) (others : List VersionData) (next : Option VersionData) (ready : List VersionData) (r : Result (Option VersionData) Fault) → Gathers input before begun (still_to_come p) first others next → OnOk r (q ≡ p) → IfOk r (λ given. is_some given ≡ true)
-      → IfOk r (λ given. ascending (first ∷ others) ≡ option_to_list given ++ ready) → IfErr r (λ fault. (fault ≡ memory_fault) × (q ≡ record p { failed = true }) × (ready ≡ []))
-      → Step (gathered input start held []) r (gathered input (still_to_come q) (option_to_list next) ready)
-  given_step p q others next ready (Ok None) h same some given bad = absurd (false≢true some)
-  given_step p q others next ready (Ok (Some v)) h same some given bad =
-      step_on (gathered input start held []) (gathered input before (first ∷ begun) []) (gathered input (still_to_come q) (option_to_list next) ready) (Ok (Some v)) keeps
-      (gives_first input before begun (still_to_come q) first others next v ready (subst (λ (x : Told). Gathers input before begun (still_to_come x) first others next) (sym same) h) given)
-  given_step p q others next ready (Err fault) h same some given (memory, failed, none) =
-      subst (λ (xs : List VersionData). Step (gathered input start held []) (Err fault) (gathered input (still_to_come q) (option_to_list next) xs)) (sym none)
-      (refused_behind (still_to_come q) (option_to_list next) fault (inl memory, (p.input, ap still_to_come failed)))
-
--- a group of one version is given
-pub alone_given : (input : ℕ) (start before after : Option (Still Placed Fault)) (held : List VersionData) (first : VersionData) (next : Option VersionData) → Keeps (gathered input start held []) (gathered input before (first ∷ []) []) → Gathers input before [] after first [] next
-    → Step (gathered input start held []) (Ok (Some first)) (gathered input after (option_to_list next) [])
-alone_given input start before after held first next keeps h =
-    step_on (gathered input start held []) (gathered input before (first ∷ []) []) (gathered input after (option_to_list next) []) (Ok (Some first)) keeps (gives_first input before [] after first [] next first [] h (ascending_one first))
-
-pub fewer_still : (r : Result (Option VersionData) Fault) (few some most : ℕ) → IfOk r (λ given. is_some given ≡ true → few ≤ some) → some < most → IfOk r (λ given. is_some given ≡ true → few < most)
-fewer_still (Ok given) few some most h less = λ e. omega (arith, h e, less)
-fewer_still (Err fault) few some most h less = tt

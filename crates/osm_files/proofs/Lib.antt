@@ -17,6 +17,7 @@ pub mod LoadLaws
 pub mod LoadFaults
 mod LoadFormats
 pub mod RiseLaws
+mod SourceSteps
 pub mod HoldLaws
 pub mod FaultyLaws
 pub mod SpellSteps

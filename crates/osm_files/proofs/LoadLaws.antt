@@ -29,7 +29,8 @@ use Rattle.osm_files.proofs.UnitLaws.{some_is_not_none}
 use Rattle.osm_files.proofs.FileLaws.{one_list, accepted_without_verdict, units_closed}
 use Rattle.osm_files.proofs.FillLaws.{weaker}
 use Rattle.osm_files.proofs.PositionLaws.{from_is, known, none_in_nothing, reads_go_on, stopped}
-use Rattle.osm_files.proofs.ReadingLaws.{failed_next, come_still}
+use Rattle.osm_files.proofs.ReadingLaws.{keeps_still, refusal_step, come_still}
+use Rattle.osm_files.proofs.GroupLaws.{step_on}
 
 -- ---- the format
 -- bytes that don't tell the format hold no unit whole
@@ -48,12 +49,12 @@ untold (b ∷ held) tells =
     ] refl tells
 
 -- where no more can be read of a file whose format isn't told
-pub format_refused : (p m q : Told) → ReadsOn p m → p.place ≡ 0 → p.stand ≡ None → p.failed ≡ false → tells_format m.held ≡ false → (fault : Fault) → StopsFilling m fault → Step {A = Placed} (still_to_come p) (Err fault) (still_to_come (record q { failed = true }))
-format_refused p m q on first unseen fine tells fault stops =
+pub format_refused : (p m q : Told) → ReadsOn p m → p.place ≡ 0 → p.stand ≡ None → p.failed ≡ false → tells_format m.held ≡ false → (fault : Fault) → StopsFilling m fault → q.failed ≡ true → Step {A = Placed} (still_to_come p) (Err fault) (still_to_come q)
+format_refused p m q on first unseen fine tells fault stops failed =
     let k = untold m.held tells in
     let nothing : unit_at (stand_at m) m.held ≡ None = ap (λ s. unit_at (stand_in s m.held) m.held) (on.stand ∙ unseen) ∙ k.0 in
     let bound : m.place + length m.held < 2 ^ 62 = omega (arith, on.place, first, k.1) in
-    failed_next p m q (reads_go_on p m on) fine fault (stopped m nothing bound fault stops)
+    step_on (still_to_come p) (still_to_come m) (still_to_come q) (Err fault) (keeps_still p m (reads_go_on p m on) fine) (refusal_step m q fault (on.failed ∙ fine) failed (stopped m nothing bound fault stops))
 
 -- ---- the versions
 -- the versions so far of what was to come, and what is still to come

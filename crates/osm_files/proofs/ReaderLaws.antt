@@ -1,25 +1,34 @@
 -- What a reading does, of what its reader can give: each law is one of what is told, at what was to come and what is.
-use Rattle.std.proofs.Common.{◌≡◌, ◌⊎◌, inl, inr, ℕ, ◌+◌, ◌≤◌, ◌<◌, ◌^◌, true, false, List, [], ◌++◌, length, refl, sym, ap, ◌∙◌, subst, arith, Option, Some, None, IfSome, IfErr, OnOk, Result, Ok, Err}
+use Rattle.std.proofs.Common.{◌≡◌, ◌⊎◌, inl, inr, ℕ, ◌+◌, ◌-◌, ◌≤◌, ◌<◌, ◌^◌, true, false, cond, List, [], ◌++◌, length, drop, refl, sym, ap, ◌∙◌, subst, arith, Option, Some, None, option_map, IfSome, Result, Ok, Err, length-drop}
 use Rattle.std.proofs.lemmas.List.{append-nil, nil_from_length}
-use Rattle.osm_model.specs.Data.{VersionData}
 use Rattle.osm_files.specs.declared.fault.Fault.{Fault}
 use Rattle.osm_files.specs.declared.reason.Reason.{Reason}
 use Rattle.osm_files.specs.declared.reason.Reason.TheVariants.{Memory, ReadFault}
-use Rattle.osm_files.specs.declared.reading.Advance.{Advance}
-use Rattle.osm_files.specs.declared.reading.Advance.TheVariants.{Passed, Gave, Ended}
 use Rattle.osm_files.specs.Fault.{memory_fault, too_long_fault, fault_at}
 use Rattle.osm_files.specs.Input.{Coming, whole, breaks, preceded_by}
-use Rattle.osm_files.specs.Stream.{refused}
+use Rattle.osm_files.specs.Stream.{Placed, placed, refused}
 use Rattle.osm_files.specs.Units.{unit_at}
-use Rattle.osm_files.specs.Source.{StepsOn}
-use Rattle.osm_files.specs.Position.{Position, Told, telling, Between, ahead, to_come, GoesOn, ReadsOn, HasRead, HasGone, Advances, Halts, StopsAt, stand_at, FindsHeld}
+use Rattle.osm_files.specs.declared.unit.ReadUnit.{ReadUnit}
+use Rattle.osm_files.specs.Source.{Step, StepsOn}
+use Rattle.osm_files.specs.Position.{Position, Told, telling, Between, ahead, to_come, still_to_come, units_left, GoesOn, ReadsOn, HasRead, Halts, StopsAt, stand_at, FindsHeld}
 use Rattle.osm_files.specs.declared.format.Format.{Format}
 use Rattle.osm_files.specs.Load.{format_of, tells_format, TellsFormat}
 use Rattle.osm_files.proofs.FillLaws.{ahead_open, fill_full, kept, keeps_on}
-use Rattle.osm_files.proofs.GroupLaws.{from_kept}
+use Rattle.osm_files.proofs.GroupLaws.{from_kept, step_on}
 use Rattle.osm_files.proofs.LoadLaws.{format_refused}
 use Rattle.osm_files.proofs.PositionLaws.{goes_on, goes_further, reads_go_on, ended_ahead, stopped}
-use Rattle.osm_files.proofs.ReadingLaws.{telling_found, none_goes_on, stops_from, answers_from, gave_next, ended_next, failed_next, passed_next}
+use Rattle.osm_files.proofs.ReadingLaws.{GoesOver, telling_found, none_goes_on, held_size, held_goes_over, held_refuses, over_gives, over_passes, refusal_step, keeps_still}
+
+-- nothing was given, and what was known to come still is
+pub record HasGone {R : Type 0} (can : R → Coming → Type 0) (p q : Position R) : Type 0 where
+  pub input : q.input ≡ p.input
+  pub place : p.place ≤ q.place
+  pub failed : q.failed ≡ p.failed
+  pub goes : Between can p q GoesOn
+
+-- what is left to be gone over and to be read
+abbrev pub left_over : {R : Type 0} → Position R → ℕ
+left_over p = units_left p + cond p.ended 0 (1 + (2 ^ 62 - (p.place + length p.held)))
 
 reads_on : (p : Told) → ReadsOn p p
 reads_on p = record { input = refl; place = refl; stand = refl; failed = refl; ahead = kept (ahead p) }
@@ -141,71 +150,81 @@ module _ {R : Type 0} (can : R → Coming → Type 0) where
       )
 
   -- no more can be read
-  pub format_stops : (p m q : Position R) → HasRead can p m → p.place ≡ 0 → p.stand ≡ None → p.failed ≡ false → tells_format m.held ≡ false → (fault : Fault) → StopsAt can m fault → StepsOn can p (Err fault) (record q { failed = true })
-  format_stops p m q on first unseen fine tells fault stops later g =
+  pub format_stops : (p m q : Position R) → HasRead can p m → p.place ≡ 0 → p.stand ≡ None → p.failed ≡ false → tells_format m.held ≡ false → (fault : Fault) → StopsAt can m fault → q.failed ≡ true → StepsOn can p (Err fault) q
+  format_stops p m q on first unseen fine tells fault stops failed later g =
       let x = on.reads stops.0 stops.1 in
-      (x.0, x.1, format_refused (telling p x.0) (telling m stops.0) (telling q later) x.2 first unseen fine tells fault stops.2)
-
-  -- ---- one unit further
-  -- refused for a unit that is held
-  pub gone_refuses : (p m q : Position R) (one : Coming) (fault : Fault) → can m.coming one → HasGone can p m → ((c : Coming) → (fault ≡ memory_fault) ⊎ IfSome (to_come (telling m c)) (λ s. s ≡ refused fault))
-      → Between can p q (λ a b. Advances a (Err fault) b)
-  gone_refuses p m q one fault possible on refuses later g =
-      let x = on.goes one possible in
-      (x.0, x.1, stops_from (telling p x.0) (telling m one) (telling m one) x.2 fault (refuses one))
-
-  -- refused since no more can be read
-  pub gone_stops : (p m q : Position R) (fault : Fault) → HasGone can p m → unit_at (stand_at m) m.held ≡ None → m.place + length m.held < 2 ^ 62 → StopsAt can m fault → Between can p q (λ a b. Advances a (Err fault) b)
-  gone_stops p m q fault on nothing bound stops later g =
-      let x = on.goes stops.0 stops.1 in
-      (x.0, x.1, stops_from (telling p x.0) (telling m stops.0) (telling m stops.0) x.2 fault (stopped (telling m stops.0) nothing bound fault stops.2))
-
-  -- what a step did after steps that gave nothing
-  pub gone_answers : (p m q : Position R) (answer : Result Advance Fault) → HasGone can p m → Between can m q (λ a b. Advances a answer b) → Between can p q (λ a b. Advances a answer b)
-  gone_answers p m q answer on step = then_on p m q GoesOn (λ a b. Advances a answer b) (λ a b. Advances a answer b) (λ a b c goes h. answers_from a b c goes answer h) on.goes step
+      (x.0, x.1, format_refused (telling p x.0) (telling m stops.0) (telling q later) x.2 first unseen fine tells fault stops.2 failed)
 
   -- ---- the next version
-  module _ (p m q : Position R) (on : HasGone can p m) (fine : p.failed ≡ false) where
-    pub next_gave : (u : _) → Between can m q (λ a b. Advances a (Ok (Gave u)) b) → q.failed ≡ m.failed → StepsOn can p (Ok (Some u)) q
-    next_gave u step same later g =
-        let y = step later g in
-        let x = on.goes y.0 y.1 in
-        (x.0, x.1, gave_next (telling p x.0) (telling m y.0) (telling q later) x.2 fine u y.2 same)
+  -- what a step did after steps that gave nothing
+  pub steps_from : (p m q : Position R) (r : Result (Option Placed) Fault) → HasGone can p m → p.failed ≡ false → StepsOn can m r q → StepsOn can p r q
+  steps_from p m q r on fine step later g =
+      let y = step later g in
+      let x = on.goes y.0 y.1 in
+      let before = still_to_come (telling p x.0) in
+      (x.0, x.1, step_on before (still_to_come (telling m y.0)) (still_to_come (telling q later)) r (keeps_still (telling p x.0) (telling m y.0) x.2 fine) y.2)
 
-    pub next_ended : Between can m q (λ a b. Advances a (Ok Ended) b) → q.failed ≡ m.failed → StepsOn can p (Ok None) q
-    next_ended step same later g =
-        let y = step later g in
-        let x = on.goes y.0 y.1 in
-        (x.0, x.1, ended_next (telling p x.0) (telling m y.0) (telling q later) x.2 fine y.2 same)
+  pub gone_further : (p m q : Position R) → HasGone can p m → HasGone can m q → HasGone can p q
+  gone_further p m q a b = record {
+    input = b.input ∙ a.input;
+    place = omega (arith, a.place, b.place);
+    failed = b.failed ∙ a.failed;
+    goes = then_on p m q GoesOn GoesOn GoesOn goes_further a.goes b.goes;
+  }
 
-    pub next_failed : (fault : Fault) → Between can m q (λ a b. Advances a (Err fault) b) → StepsOn can p (Err fault) (record q { failed = true })
-    next_failed fault step later g =
-        let y = step later g in
-        let x = on.goes y.0 y.1 in
-        (x.0, x.1, failed_next (telling p x.0) (telling m y.0) (telling q later) x.2 fine fault y.2)
+  -- a unit of the bytes held was gone over
+  module _ (m q r : Position R) (u : ReadUnit) (bound : m.place + length m.held < 2 ^ 62) (found : FindsHeld m (Ok (Some u)) q) (gone : r ≡ record q { place = q.place + u.size; held = drop u.size q.held }) where
+    same_input : r.input ≡ m.input
+    same_input = ap (λ v. v.input) gone ∙ (held_size m q u found).3
 
-    pub next_passed : Between can m q (λ a b. Advances a (Ok Passed) b) → q.failed ≡ m.failed → q.input ≡ m.input → m.place ≤ q.place → HasGone can p q
-    next_passed step same input further = record {
-      input = input ∙ on.input;
-      place = omega (arith, on.place, further);
-      failed = same ∙ on.failed;
-      goes = λ later g. (
-          let y = step later g in
-          let x = on.goes y.0 y.1 in
-          (x.0, x.1, passed_next (telling p x.0) (telling m y.0) (telling q later) x.2 fine y.2 same input further));
+    same_coming : r.coming ≡ m.coming
+    same_coming = ap (λ v. v.coming) gone ∙ ap (λ v. v.coming) found.2
+
+    same_failed : r.failed ≡ m.failed
+    same_failed = ap (λ v. v.failed) gone ∙ (held_size m q u found).4
+
+    pub unit_further : m.place < r.place
+    unit_further = let size = held_size m q u found in omega (arith, size.0, size.2, ap (λ v. v.place) gone)
+
+    pub unit_lessens : left_over r < left_over m
+    unit_lessens =
+        let size = held_size m q u found in
+        let ended : r.ended ≡ m.ended = ap (λ v. v.ended) gone ∙ ap (λ v. v.ended) found.2 in
+        let held : length r.held ≡ length m.held - u.size = ap (λ v. length v.held) gone ∙ length-drop u.size q.held ∙ ap (λ v. length v.held - u.size) found.2 in
+        let within : u.size ≤ length m.held = subst (λ (v : Position R). u.size ≤ length v.held) found.2 size.1 in
+        let place : r.place ≡ m.place + u.size = ap (λ v. v.place) gone ∙ ap (λ n. n + u.size) size.2 in
+        subst (λ t. units_left r + cond t 0 (1 + (2 ^ 62 - (r.place + length r.held))) < left_over m) (sym ended)
+        (elim m.ended as (λ t. units_left r + cond t 0 (1 + (2 ^ 62 - (r.place + length r.held))) < units_left m + cond t 0 (1 + (2 ^ 62 - (m.place + length m.held)))) [
+          | true ↦ omega (arith, size.0, place, bound, within)
+          | false ↦ omega (arith, size.0, place, held, within, bound)
+        ])
+
+    over : (c : Coming) (given : Option Placed) → given ≡ option_map (placed q.place) u.version → GoesOver (telling m c) given (telling r c)
+    over c given is = held_goes_over (telling m c) (telling q c) (telling r c) u given bound (telling_found m q (Ok (Some u)) c found) is (ap (λ v. telling v c) gone)
+
+    pub unit_gives : m.failed ≡ false → (given : Placed) → Some given ≡ option_map (placed q.place) u.version → StepsOn can m (Ok (Some given)) r
+    unit_gives fine given is =
+        unread m r (λ a b. Step (still_to_come a) (Ok (Some given)) (still_to_come b)) same_coming (λ c. over_gives (telling m c) (telling r c) given fine same_failed (over c (Some given) is))
+
+    pub unit_passes : None ≡ option_map (placed q.place) u.version → HasGone can m r
+    unit_passes is = record {
+      input = same_input;
+      place = omega (arith, unit_further);
+      failed = same_failed;
+      goes = unread m r GoesOn same_coming (λ c. over_passes (telling m c) (telling r c) same_input (omega (arith, unit_further)) same_failed (over c None is));
     }
 
--- ---- where a group is given nothing is read
-module _ {R : Type 0} (p q : Position R) where
-  pub give_coming : (ready : List VersionData) (r : Result (Option VersionData) Fault) → OnOk r (q ≡ p) → IfErr r (λ fault. (fault ≡ memory_fault) × (q ≡ record p { failed = true }) × (ready ≡ [])) → q.coming ≡ p.coming
-  give_coming ready (Ok given) same bad = ap (λ v. v.coming) same
-  give_coming ready (Err fault) same (memory, failed, none) = ap (λ v. v.coming) failed
+  -- ---- refusals
+  -- the reading is refused, now and ever after
+  pub refused_ever : (m r : Position R) (fault : Fault) (one : Coming) → can m.coming one → m.failed ≡ false → r.failed ≡ true → (fault ≡ memory_fault) ⊎ IfSome (to_come (telling m one)) (λ s. s ≡ refused fault) → StepsOn can m (Err fault) r
+  refused_ever m r fault one possible fine failed refuses later g = (one, possible, refusal_step (telling m one) (telling r later) fault fine failed refuses)
 
-  pub give_same : (c : Coming) (r : Result (Option VersionData) Fault) → OnOk r (q ≡ p) → OnOk r (telling q c ≡ telling p c)
-  give_same c (Ok given) same = ap (λ v. telling v c) same
-  give_same c (Err fault) same = tt
+  -- for a unit that is held
+  pub unit_refused : (m q r : Position R) (reason : Reason) (fault : Fault) (one : Coming) → can m.coming one → m.failed ≡ false → r.failed ≡ true → m.place + length m.held < 2 ^ 62 → FindsHeld m (Err reason) q → fault ≡ fault_at m.input m.place reason → StepsOn can m (Err fault) r
+  unit_refused m q r reason fault one possible fine failed bound found is =
+      refused_ever m r fault one possible fine failed (held_refuses (telling m one) (telling q one) reason fault bound (telling_found m q (Err reason) one found) is)
 
-  pub give_refused : (ready : List VersionData) (c : Coming) (r : Result (Option VersionData) Fault) → IfErr r (λ fault. (fault ≡ memory_fault) × (q ≡ record p { failed = true }) × (ready ≡ []))
-      → IfErr r (λ fault. (fault ≡ memory_fault) × (telling q c ≡ record (telling p c) { failed = true }) × (ready ≡ []))
-  give_refused ready c (Ok given) bad = tt
-  give_refused ready c (Err fault) (memory, failed, none) = (memory, ap (λ v. telling v c) failed, none)
+  -- since no more can be read
+  pub fill_refused : (m r : Position R) (fault : Fault) → m.failed ≡ false → r.failed ≡ true → unit_at (stand_at m) m.held ≡ None → m.place + length m.held < 2 ^ 62 → StopsAt can m fault → StepsOn can m (Err fault) r
+  fill_refused m r fault fine failed nothing bound stops =
+      refused_ever m r fault stops.0 stops.1 fine failed (stopped (telling m stops.0) nothing bound fault stops.2)

@@ -1,14 +1,13 @@
 -- What the calls of a reading do, step by step.
-use Rattle.std.proofs.Common.{◌≡◌, ◌⊎◌, inl, inr, ⊎_elim, ℕ, ◌+◌, ◌≤◌, ◌<◌, ◌^◌, true, false, cond, List, [], ◌∷◌, length, take, drop, refl, sym, ap, ◌∙◌, subst, arith, Option, Some, None, option_map, IfSome, is_some, Result, Ok, Err, slice_get}
+use Rattle.std.proofs.Common.{◌≡◌, ◌⊎◌, inl, inr, ⊎_elim, ℕ, ◌+◌, ◌≤◌, ◌<◌, ◌^◌, true, false, cond, List, [], ◌∷◌, length, take, drop, refl, sym, ap, ◌∙◌, subst, arith, Option, Some, None, option_map, IfSome, is_some, Result, Ok, Err, slice_get, nat_lt}
 use Rattle.std.proofs.lemmas.Bool.{false≢true}
+use Rattle.std.proofs.lemmas.Bool.Decides.{nat_tests}
 use Rattle.osm_model.specs.Data.{VersionData}
 use Rattle.osm_files.specs.declared.fault.Fault.{Fault}
 use Rattle.osm_files.specs.declared.reason.Reason.{Reason}
 use Rattle.osm_files.specs.declared.reason.Reason.TheVariants.{Memory, Unsorted, Opl, O5, BadHeader, NoEnd, AfterEnd, TooLong, ReadFault, WriteFault, Failed}
 use Rattle.osm_files.specs.declared.unit.ReadUnit.{ReadUnit}
 use Rattle.osm_files.specs.declared.unit.Place.{Place}
-use Rattle.osm_files.specs.declared.reading.Advance.{Advance}
-use Rattle.osm_files.specs.declared.reading.Advance.TheVariants.{Passed, Gave, Ended}
 use Rattle.osm_files.specs.Fault.{memory_fault, failed_fault, fault_at}
 use Rattle.osm_files.specs.Input.{Coming}
 use Rattle.osm_files.specs.Stream.{verdict_at, Placed, placed, Still, whole, refused, front}
@@ -16,7 +15,7 @@ use Rattle.osm_files.specs.Source.{Step}
 use Rattle.opl_line.specs.Cut.{is_line_end, split_first}
 use Rattle.osm_files.specs.Units.{Stand, InOpl, BeforeHeader, InSegment, BehindEnd, Found, unit, unit_at, line_unit, last_at, found_then, units}
 use Rattle.osm_files.specs.Reading.{Finds, FindsLast, stand_of, without_stand}
-use Rattle.osm_files.specs.Position.{Position, Told, telling, ahead, stand_in, closing, window, units_from, fault_of, named, to_come, still_to_come, Keeps, GoesOn, Advances, stand_at, seen, given, FindsHeld, progress}
+use Rattle.osm_files.specs.Position.{Position, Told, telling, ahead, stand_in, closing, window, units_from, fault_of, named, to_come, still_to_come, Keeps, GoesOn, stand_at, seen, FindsHeld}
 use Rattle.osm_files.proofs.FillLaws.{weaker, mapped, keeps_on}
 use Rattle.osm_files.proofs.StepLaws.{unit_sized}
 use Rattle.osm_files.proofs.PositionLaws.{from_is, known, behind, same_stand, with_each, gone_over, gone_passed, gone_gave, gone_refused, none_in_nothing, at_the_end, goes_on}
@@ -161,31 +160,26 @@ pub held_refuses : (m q : Told) (reason : Reason) (fault : Fault) → m.place + 
 held_refuses m q reason fault bound (inl e) is = refuses m reason fault is (inl e)
 held_refuses m q reason fault bound (inr h) is = refuses m reason fault is (inr (gone_refused m (unit h.0 (Err reason)) h.1 bound reason refl))
 
-goes_over : (m : Told) (size : ℕ) (version : Option VersionData) (next : Stand) → unit_at (stand_at m) m.held ≡ Some (unit size (Ok (version, next))) → m.place + length m.held < 2 ^ 62 → Advances m (Ok (given m.place version)) (gone_over m size next)
+-- a unit was gone over, which gave this version, or none
+abbrev pub GoesOver : Told → Option Placed → Told → Type 0
+GoesOver m None q = Keeps (to_come m) (to_come q)
+GoesOver m (Some u) q = IfSome (to_come m) (λ s. (t : Still Placed Fault) × (s ≡ front u t) × (to_come q ≡ Some t))
+
+goes_over : (m : Told) (size : ℕ) (version : Option VersionData) (next : Stand) → unit_at (stand_at m) m.held ≡ Some (unit size (Ok (version, next))) → m.place + length m.held < 2 ^ 62 → GoesOver m (option_map (placed m.place) version) (gone_over m size next)
 goes_over m size None next e bound = gone_passed m (unit size (Ok (None, next))) e bound next refl
 goes_over m size (Some v) next e bound = gone_gave m (unit size (Ok (Some v, next))) e bound v next refl
 
-pub held_advances : (m q r : Told) (u : ReadUnit) (advance : Advance) → m.place + length m.held < 2 ^ 62 → FindsHeld m (Ok (Some u)) q → advance ≡ given q.place u.version
-    → r ≡ record q { place = q.place + u.size; held = drop u.size q.held } → Advances m (Ok advance) r
-held_advances m q r u advance bound h is gone =
+pub held_goes_over : (m q r : Told) (u : ReadUnit) (given : Option Placed) → m.place + length m.held < 2 ^ 62 → FindsHeld m (Ok (Some u)) q → given ≡ option_map (placed q.place) u.version
+    → r ≡ record q { place = q.place + u.size; held = drop u.size q.held } → GoesOver m given r
+held_goes_over m q r u given bound h is gone =
     let same : r ≡ gone_over m u.size h.0 = gone ∙ (λ i. record (h.2 i) { place = (h.2 i).place + u.size; held = drop u.size (h.2 i).held }) in
-    subst (λ (x : Told). Advances m (Ok advance) x) (sym same) (subst (λ (a : Advance). Advances m (Ok a) (gone_over m u.size h.0)) (sym (is ∙ ap (λ (x : Told). given x.place u.version) h.2)) (goes_over m u.size u.version h.0 h.1 bound))
+    subst (λ (x : Told). GoesOver m given x) (sym same)
+    (subst (λ (g : Option Placed). GoesOver m g (gone_over m u.size h.0)) (sym (is ∙ ap (λ (x : Told). option_map (placed x.place) u.version) h.2)) (goes_over m u.size u.version h.0 h.1 bound))
 
 pub held_size : {C : Type 0} (m q : Position C) (u : ReadUnit) → FindsHeld m (Ok (Some u)) q → (1 ≤ u.size) × (u.size ≤ length q.held) × (q.place ≡ m.place) × (q.input ≡ m.input) × (q.failed ≡ m.failed)
 held_size m q u h =
     let sized = unit_sized (stand_at m) m.held (unit u.size (Ok (u.version, h.0))) h.1 in
     (sized.some, subst (λ xs. u.size ≤ length xs) (ap (λ x. x.held) (sym h.2)) sized.within, ap (λ x. x.place) h.2, ap (λ x. x.input) h.2, ap (λ x. x.failed) h.2)
-
-progress_given : (place size : ℕ) (version : Option VersionData) → 1 ≤ size → progress (given place version) ≤ size
-progress_given place size None some = some
-progress_given place size (Some v) some = some
-
-pub held_progress : {C : Type 0} (p m q r : Position C) (u : ReadUnit) (advance : Advance) → p.place ≤ m.place → FindsHeld m (Ok (Some u)) q → advance ≡ given q.place u.version
-    → r ≡ record q { place = q.place + u.size; held = drop u.size q.held } → p.place + progress advance ≤ r.place
-held_progress p m q r u advance on h is gone =
-    let size = held_size m q u h in
-    let few : progress advance ≤ u.size = subst (λ (a : Advance). progress a ≤ u.size) (sym is) (progress_given q.place u.size u.version size.0) in
-    omega (arith, on, size.2, ap (λ x. x.place) gone, few)
 
 -- the line at the front of the bytes held
 pub held_line : {C : Type 0} (p : Position C) (bytes : List ℕ) (answer : Option ReadUnit) (u : ReadUnit) → p.stand ≡ Some InOpl → bytes ≡ p.held → answer ≡ Some u → Finds (line_unit (split_first is_line_end bytes)) (Ok answer) InOpl
@@ -195,20 +189,38 @@ held_line p bytes answer u in_opl held is found =
     let there = subst (λ (o : Option ReadUnit). Finds (line_unit (split_first is_line_end bytes)) (Ok o) InOpl) is found in
     (InOpl, (λ i. unit_at (stand_in (in_opl i) p.held) (sym held i)) ∙ there, (λ i. record p { stand = in_opl i }))
 
--- what a step did after steps that gave nothing
-module _ (p m q : Told) (on : GoesOn p m) where
-  pub stops_from : (fault : Fault) → (fault ≡ memory_fault) ⊎ IfSome (to_come m) (λ s. s ≡ refused fault) → (fault ≡ memory_fault) ⊎ IfSome (to_come p) (λ s. s ≡ refused fault)
-  stops_from fault (inl e) = inl e
-  stops_from fault (inr h) = inr (weaker (to_come p) _ _ (λ s e. known (to_come m) (λ x. x ≡ refused fault) s e h) on.keeps)
+-- why it can't be read
+pub refused_line : {C : Type 0} (p : Position C) (reason : Reason) → p.stand ≡ Some InOpl → Finds (line_unit (split_first is_line_end p.held)) (Err reason) InOpl → FindsHeld p (Err reason) p
+unfolding unit_at
+refused_line p reason in_opl (inl e) = inl e
+refused_line p reason in_opl (inr h) = inr (h.0, (λ i. unit_at (stand_in (in_opl i) p.held) p.held) ∙ h.1)
 
-  pub advances_from : (advance : Advance) → Advances m (Ok advance) q → Advances p (Ok advance) q
-  advances_from Passed h = keeps_on (to_come p) (to_come m) (to_come q) on.keeps h
-  advances_from (Gave u) h = weaker (to_come p) _ _ (λ s e. known (to_come m) (λ x. (t : Still Placed Fault) × (x ≡ front u t) × (to_come q ≡ Some t)) s e h) on.keeps
-  advances_from Ended h = (weaker (to_come p) _ _ (λ s e. known (to_come m) (λ x. x ≡ whole) s e h.0) on.keeps, h.1)
+-- ---- where no call was refused
+pub come_still : (p : Told) → p.failed ≡ false → still_to_come p ≡ to_come p
+come_still p fine = ap (λ b. cond b (Some (refused (failed_fault p.input))) (to_come p)) fine
 
-  pub answers_from : (answer : Result Advance Fault) → Advances m answer q → Advances p answer q
-  answers_from (Ok advance) h = advances_from advance h
-  answers_from (Err fault) h = stops_from fault h
+come_failed : (p : Told) → p.failed ≡ true → still_to_come p ≡ Some (refused (failed_fault p.input))
+come_failed p bad = ap (λ b. cond b (Some (refused (failed_fault p.input))) (to_come p)) bad
+
+pub still_step : (p q : Told) (r : Result (Option Placed) Fault) → p.failed ≡ false → q.failed ≡ false → Step (to_come p) r (to_come q) → Step (still_to_come p) r (still_to_come q)
+still_step p q r fine good h =
+    subst (λ (o : Option (Still Placed Fault)). Step o r (still_to_come q)) (sym (come_still p fine)) (subst (λ (o : Option (Still Placed Fault)). Step (to_come p) r o) (sym (come_still q good)) h)
+
+-- a version was given, or a unit without one was gone over
+pub over_gives : (m q : Told) (u : Placed) → m.failed ≡ false → q.failed ≡ m.failed → GoesOver m (Some u) q → Step (still_to_come m) (Ok (Some u)) (still_to_come q)
+over_gives m q u fine same h = still_step m q (Ok (Some u)) fine (same ∙ fine) h
+
+pub over_passes : (m q : Told) → q.input ≡ m.input → m.place ≤ q.place → q.failed ≡ m.failed → GoesOver m None q → GoesOn m q
+over_passes m q input place failed h = record { input = input; place = place; failed = failed; keeps = h }
+
+-- the reading was refused, now and ever after
+pub refusal_step : (m q : Told) (fault : Fault) → m.failed ≡ false → q.failed ≡ true → (fault ≡ memory_fault) ⊎ IfSome (to_come m) (λ s. s ≡ refused fault) → Step {A = Placed} (still_to_come m) (Err fault) (still_to_come q)
+refusal_step m q fault fine failed h =
+    subst (λ (o : Option (Still Placed Fault)). Step {A = Placed} o (Err fault) (still_to_come q)) (sym (come_still m fine)) (h, (q.input, come_failed q failed))
+
+pub keeps_still : (p m : Told) → GoesOn p m → p.failed ≡ false → Keeps (still_to_come p) (still_to_come m)
+keeps_still p m on fine =
+    subst (λ (o : Option (Still Placed Fault)). Keeps o (still_to_come m)) (sym (come_still p fine)) (subst (λ (o : Option (Still Placed Fault)). Keeps (to_come p) o) (sym (come_still m (on.failed ∙ fine))) on.keeps)
 
 -- ---- the last bytes of an ended input
 last_nothing : (stand : Stand) (bytes : List ℕ) (version : Option VersionData) → without_stand (last_at stand bytes) ≡ Ok version → without_stand (last_at stand []) ≡ Ok None
@@ -251,12 +263,17 @@ module _ (m : Told) (nothing : unit_at (stand_at m) m.held ≡ None) (bound : m.
   comes : (version : Option VersionData) → without_stand last_found ≡ Ok version → to_come m ≡ Some (named m.input (found_then m.place (Ok (version, InOpl)) (λ next. whole)))
   comes version e = at_the_end m nothing bound ended ∙ ap (λ s. Some (named m.input s)) (found_by m.place last_found version e)
 
-  pub last_ended : (version : Option VersionData) → FindsLast last_found (Ok version) → length m.held ≡ 0 → Advances m (Ok Ended) m
-  last_ended version e empty =
-      let is_nil : m.held ≡ [] = nil_of m.held empty in
-      let none : without_stand last_found ≡ Ok None = (λ i. without_stand (last_at (stand_in m.stand (is_nil i)) (is_nil i))) ∙ stand_nothing m.stand m.held version e in
-      let at : to_come m ≡ Some whole = comes None none in
-      (subst (λ (o : Option (Still Placed Fault)). IfSome o (λ s. s ≡ whole)) (sym at) refl, at)
+  -- a version has bytes
+  last_some : (v : VersionData) → without_stand last_found ≡ Ok (Some v) → 0 < length m.held
+  last_some v e =
+      elim (nat_lt 0 (length m.held)) as (λ t. nat_lt 0 (length m.held) ≡ t → 0 < length m.held) [
+        | true ↦ λ is. grind (arith, nat_tests)
+        | false ↦ λ is. (
+            let empty : length m.held ≡ 0 = grind (arith, nat_tests) in
+            let is_nil : m.held ≡ [] = nil_of m.held empty in
+            let none : Ok (Some v) ≡ Ok None = sym e ∙ (λ i. without_stand (last_at (stand_in m.stand (is_nil i)) (is_nil i))) ∙ stand_nothing m.stand m.held (Some v) e in
+            absurd cc)
+      ] refl
 
   -- behind them nothing is to come
   abbrev behind_last : Told
@@ -269,66 +286,28 @@ module _ (m : Told) (nothing : unit_at (stand_at m) m.held ≡ None) (bound : m.
       let found : without_stand (last_at (stand_at q) []) ≡ Ok None = stand_nothing m.stand m.held version e in
       ap to_come same ∙ at_the_end q (none_in_nothing (stand_at q)) (omega (arith, bound)) ended ∙ ap (λ s. Some (named m.input s)) (found_by q.place (last_at (stand_at q) []) None found)
 
-  given_last : (version : Option VersionData) → without_stand last_found ≡ Ok version → Advances m (Ok (given m.place version)) behind_last
-  given_last None e =
-      subst (λ (o : Option (Still Placed Fault)). Keeps o (to_come behind_last)) (sym (comes None e)) (no_more None e)
+  given_last : (version : Option VersionData) → without_stand last_found ≡ Ok version → Step (to_come m) (Ok (option_map (placed m.place) version)) (to_come behind_last)
+  given_last None e = (subst (λ (o : Option (Still Placed Fault)). IfSome o (λ s. s ≡ whole)) (sym (comes None e)) refl, no_more None e)
   given_last (Some v) e =
       subst (λ (o : Option (Still Placed Fault)). IfSome o (λ s. (t : Still Placed Fault) × (s ≡ front (placed m.place v) t) × (to_come behind_last ≡ Some t))) (sym (comes (Some v) e)) (whole, refl, no_more (Some v) e)
 
-  pub last_advances : (version : Option VersionData) (size : ℕ) (advance : Advance) (q : Told) → FindsLast last_found (Ok version) → size ≡ length m.held → advance ≡ given m.place version
-      → q ≡ record m { place = m.place + size; held = drop size m.held } → Advances m (Ok advance) q
-  last_advances version size advance q e long is gone =
+  pub last_gives : m.failed ≡ false → (version : Option VersionData) (size : ℕ) (given : Option Placed) (q : Told) → FindsLast last_found (Ok version) → size ≡ length m.held → given ≡ option_map (placed m.place) version
+      → q ≡ record m { place = m.place + size; held = drop size m.held } → Step (still_to_come m) (Ok given) (still_to_come q)
+  last_gives fine version size given q e long is gone =
       let same : q ≡ behind_last = gone ∙ (λ i. record m { place = m.place + long i; held = drop (long i) m.held }) in
-      subst (λ (x : Told). Advances m (Ok advance) x) (sym same) (subst (λ (a : Advance). Advances m (Ok a) behind_last) (sym is) (given_last version e))
+      subst (λ (x : Told). Step (still_to_come m) (Ok given) (still_to_come x)) (sym same)
+      (subst (λ (g : Option Placed). Step (still_to_come m) (Ok g) (still_to_come behind_last)) (sym is)
+      (still_step m behind_last (Ok (option_map (placed m.place) version)) fine fine (given_last version e)))
+
+  pub last_further : (version : Option VersionData) (size : ℕ) (given : Option Placed) → FindsLast last_found (Ok version) → size ≡ length m.held → given ≡ option_map (placed m.place) version → is_some given ≡ true → 0 < size
+  last_further None size given e long is some = absurd (false≢true (sym (ap is_some is) ∙ some))
+  last_further (Some v) size given e long is some = omega (arith, long, last_some v e)
 
   pub last_refuses : (reason : Reason) (fault : Fault) → FindsLast last_found (Err reason) → fault ≡ fault_at m.input m.place reason → (fault ≡ memory_fault) ⊎ IfSome (to_come m) (λ s. s ≡ refused fault)
   last_refuses reason fault (inl e) is = refuses m reason fault is (inl e)
   last_refuses reason fault (inr e) is =
       let at : to_come m ≡ Some (refused (fault_of m.input (verdict_at m.place reason))) = at_the_end m nothing bound ended ∙ ap (λ s. Some (named m.input s)) (refused_by m.place last_found reason e) in
       refuses m reason fault is (inr (subst (λ (o : Option (Still Placed Fault)). IfSome o (λ s. s ≡ refused (fault_of m.input (verdict_at m.place reason)))) (sym at) refl))
-
--- ---- the next version
-pub come_still : (p : Told) → p.failed ≡ false → still_to_come p ≡ to_come p
-come_still p fine = ap (λ b. cond b (Some (refused (failed_fault p.input))) (to_come p)) fine
-
-come_failed : (p : Told) → p.failed ≡ true → still_to_come p ≡ Some (refused (failed_fault p.input))
-come_failed p bad = ap (λ b. cond b (Some (refused (failed_fault p.input))) (to_come p)) bad
-
-module _ (p m q : Told) (on : GoesOn p m) (fine : p.failed ≡ false) where
-  before_is : (r : Result (Option Placed) Fault) (after : Option (Still Placed Fault)) → Step (to_come p) r after → Step (still_to_come p) r after
-  before_is r after = subst (λ (o : Option (Still Placed Fault)). Step o r after) (sym (come_still p fine))
-
-  pub gave_next : (u : Placed) → Advances m (Ok (Gave u)) q → q.failed ≡ m.failed → Step (still_to_come p) (Ok (Some u)) (still_to_come q)
-  gave_next u h same =
-      before_is (Ok (Some u)) (still_to_come q) (subst (λ (o : Option (Still Placed Fault)). Step (to_come p) (Ok (Some u)) o) (sym (come_still q (same ∙ on.failed ∙ fine))) (advances_from p m q on (Gave u) h))
-
-  pub ended_next : Advances m (Ok Ended) q → q.failed ≡ m.failed → Step {A = Placed} (still_to_come p) (Ok None) (still_to_come q)
-  ended_next h same =
-      before_is (Ok None) (still_to_come q) (subst (λ (o : Option (Still Placed Fault)). Step {A = Placed} (to_come p) (Ok None) o) (sym (come_still q (same ∙ on.failed ∙ fine))) (advances_from p m q on Ended h))
-
-  pub failed_next : (fault : Fault) → Advances m (Err fault) q → Step {A = Placed} (still_to_come p) (Err fault) (still_to_come (record q { failed = true }))
-  failed_next fault h =
-      before_is (Err fault) (still_to_come (record q { failed = true })) (stops_from p m q on fault h, (q.input, come_failed (record q { failed = true }) refl))
-
-  pub passed_next : Advances m (Ok Passed) q → q.failed ≡ m.failed → q.input ≡ m.input → m.place ≤ q.place → GoesOn p q
-  passed_next h same input further = record {
-    input = input ∙ on.input;
-    place = omega (arith, on.place, further);
-    failed = same ∙ on.failed;
-    keeps = advances_from p m q on Passed h;
-  }
-
-given_by : (place : ℕ) (version : Option VersionData) (advance : Advance) → (advance ≡ Passed) ⊎ (advance ≡ Ended) → advance ≡ given place version → advance ≡ Passed
-given_by place version advance (inl e) is = e
-given_by place None advance (inr e) is = is
-given_by place (Some v) advance (inr e) is = absurd (let f : Gave (placed place v) ≡ Ended = sym is ∙ e in cc)
-
--- a line that gave no version
-pub passed_line : (p q : Told) (u : ReadUnit) (advance : Advance) → p.place + length p.held < 2 ^ 62 → p.failed ≡ false → FindsHeld p (Ok (Some u)) p → (advance ≡ Passed) ⊎ (advance ≡ Ended) → advance ≡ given p.place u.version
-    → q ≡ record p { place = p.place + u.size; held = drop u.size p.held } → GoesOn p q
-passed_line p q u advance bound fine found passed is gone =
-    passed_next p p q (goes_on p) fine (held_advances p p q u Passed bound found (sym (given_by p.place u.version advance passed is) ∙ is) gone)
-    (ap (λ x. x.failed) gone) (ap (λ x. x.input) gone) (omega (arith, ap (λ x. x.place) gone))
 
 pub failed_already : (p : Told) (fault : Fault) → p.failed ≡ true → fault ≡ failed_fault p.input → Step {A = Placed} (still_to_come p) (Err fault) (still_to_come p)
 failed_already p fault bad is =

@@ -15,11 +15,11 @@ use Rattle.osm_model.proofs.SetLaws.{strict-listed, listed-from_list}
 use Rattle.osm_model.proofs.VersionLaws.{version_cmp-IsAntisymmetric}
 use Rattle.osm_files.specs.declared.fault.Fault.{Fault}
 use Rattle.osm_files.specs.Fault.{memory_fault, failed_fault}
-use Rattle.osm_files.specs.Groups.{ascending, last_group, groups, versions_then, sorted_source, gathered, IsGroup, Gathers, StillSet, as_set, still_given, FileStand, FileCanGive, FileSteps, FileAscends, gathered_at, given_at, known_or_whole, one_given}
+use Rattle.osm_files.specs.Groups.{ascending, last_group, groups, versions_then, sorted_source, gathered, IsGroup, Gathers, StillSet, as_set, still_given, FileStand, FileCanGive, FileSteps, FileAscends, gathered_at, given_at, IsKnown, known_or_whole, one_given}
 use Rattle.osm_files.specs.Input.{Coming}
 use Rattle.osm_files.specs.Position.{Told, named, units_from, to_come, still_to_come, GoesOn}
 use Rattle.osm_files.specs.Source.{Ascends, Step, Steps}
-use Rattle.osm_files.specs.Stream.{Placed, Still, whole, refused}
+use Rattle.osm_files.specs.Stream.{Placed, Still, whole, refused, front}
 use Rattle.osm_files.proofs.FillLaws.{weaker, mapped}
 use Rattle.osm_files.proofs.PositionLaws.{with_each}
 use Rattle.osm_files.proofs.GroupLaws.{has, has_ascending, ascending_is, ascending_nil, ascending_one}
@@ -176,35 +176,19 @@ pub ready_rises : (input : ℕ) (units : Option (Still Placed Fault)) (group rea
 ready_rises input None group ready v h = tt
 ready_rises input (Some s) group ready v h = strict_rest v (ready ++ (groups input s.refusal s.list group).list) h
 
-pub refused_rises : (input : ℕ) (units : Option (Still Placed Fault)) (group : List VersionData) (fault : Fault) → units ≡ Some (refused fault) → IfSome (gathered input units group []) Ascends
-refused_rises input units group fault e = let P : Option (Still Placed Fault) → Type 0 = λ o. IfSome (gathered input o group []) Ascends in subst P (sym e) nothing_rises
+-- where nothing is ready, and one version at most was read of the next group
+pub pending_rises : (input : ℕ) (units : Option (Still Placed Fault)) (pending : Option VersionData) → IfSome (gathered input units (option_to_list pending) []) Ascends
+pending_rises input None pending = tt
+pending_rises input (Some s) None = groups_rise input s.refusal s.list
+pending_rises input (Some s) (Some v) = (rises input s.refusal s.list v [] tt).strict
 
-pub ended_rises : (input : ℕ) (units : Option (Still Placed Fault)) → units ≡ Some whole → IfSome (gathered input units [] []) Ascends
-ended_rises input units e = let P : Option (Still Placed Fault) → Type 0 = λ o. IfSome (gathered input o [] []) Ascends in subst P (sym e) (ascending_rises [])
-
-pub whole_rises : (known : Option (Still VersionData Fault)) → known ≡ Some whole → IfSome known Ascends
+whole_rises : (known : Option (Still VersionData Fault)) → known ≡ Some whole → IfSome known Ascends
 whole_rises known e = let P : Option (Still VersionData Fault) → Type 0 = λ o. IfSome o Ascends in subst P (sym e) nothing_rises
 
--- where the first of a group was given
-module _ (input : ℕ) (before : Option (Still Placed Fault)) (begun : List VersionData) (p q : Told) (first : VersionData) (others : List VersionData) (next : Option VersionData) (h : Gathers input before begun (still_to_come p) first others next) where
-  Rising : List VersionData → Type 0
-  Rising ready = IfSome (gathered input (still_to_come q) (option_to_list next) ready) Ascends
-
-  all_rises : q ≡ p → Rising (ascending (first ∷ others))
-  unfolding Rising
-  all_rises same = let P : Told → Type 0 = λ x. IfSome (gathered input (still_to_come x) (option_to_list next) (ascending (first ∷ others))) Ascends in subst P (sym same) (gathers_rise input before begun (still_to_come p) first others next h)
-
-  pub given_rises : (ready : List VersionData) (r : Result (Option VersionData) Fault) → OnOk r (q ≡ p) → IfOk r (λ given. ascending (first ∷ others) ≡ option_to_list given ++ ready) → IfErr r (λ fault. (fault ≡ memory_fault) × (q ≡ record p { failed = true }) × (ready ≡ []))
-      → IfSome (gathered input (still_to_come q) (option_to_list next) ready) Ascends
-  unfolding Rising
-  given_rises ready (Ok None) same given bad = subst Rising given (all_rises same)
-  given_rises ready (Ok (Some v)) same given bad = ready_rises input (still_to_come q) (option_to_list next) ready v (subst Rising given (all_rises same))
-  given_rises ready (Err fault) same given (memory, failed, none) = subst Rising (sym none) (refused_rises input (still_to_come q) (option_to_list next) (failed_fault p.input) (ap still_to_come failed))
-
--- where a group of one version was given
-pub alone_rises : (input : ℕ) (before after : Option (Still Placed Fault)) (first : VersionData) (next : Option VersionData) → Gathers input before [] after first [] next → IfSome (gathered input after (option_to_list next) []) Ascends
-alone_rises input before after first next h =
-    ready_rises input after (option_to_list next) [] first (subst (λ (xs : List VersionData). IfSome (gathered input after (option_to_list next) xs) Ascends) (ascending_one first) (gathers_rise input before [] after first [] next h))
+-- behind the first of what is ready
+pub rest_rises : (input : ℕ) (units : Option (Still Placed Fault)) (group : List VersionData) (given : Option VersionData) (ready : List VersionData) → IfSome (gathered input units group (option_to_list given ++ ready)) Ascends → IfSome (gathered input units group ready) Ascends
+rest_rises input units group None ready h = h
+rest_rises input units group (Some v) ready h = ready_rises input units group ready v h
 
 -- a list that ascends is that of its set
 pub told_as_set : (known : Option (Still VersionData Fault)) → IfSome known Ascends → still_given (option_map as_set known) ≡ known
@@ -250,16 +234,11 @@ opens_so input (Some c) q on =
     let fine : still_to_come q ≡ to_come q = ap (λ b. cond b (Some (refused (failed_fault q.input))) (to_come q)) on.failed in
     (λ i. gathered (on.input i) ((fine ∙ on.keeps) i) [] []) ∙ ap Some (sym (source_is input c))
 
-module _ (p q : Told) (ready : List VersionData) (input : ℕ) (coming : Option Coming) (begins : p ≡ beginning input coming) (on : GoesOn p q) (nothing : ready ≡ []) where
-  pub source_opens_rising : IfSome (gathered q.input (still_to_come q) [] ready) Ascends
-  source_opens_rising =
-      subst (λ (xs : List VersionData). IfSome (gathered q.input (still_to_come q) [] xs) Ascends) (sym nothing)
-      (mapped (still_to_come q) (λ s. versions_then [] (groups q.input s.refusal s.list [])) Ascends (with_each (still_to_come q) _ (λ s e. groups_rise q.input s.refusal s.list)))
-
-  pub source_opens_told : IfSome coming (λ c. still_given (option_map as_set (gathered q.input (still_to_come q) [] ready)) ≡ Some (sorted_source input c))
-  source_opens_told =
-      weaker coming _ _ (λ c e. told_as_set (gathered q.input (still_to_come q) [] ready) source_opens_rising ∙ (λ i. gathered q.input (still_to_come q) [] (nothing i)) ∙ e)
-      (opens_so input coming q (subst (λ (x : Told). GoesOn x q) begins on))
+pub source_opens_told : (p q : Told) (ready : List VersionData) (input : ℕ) (coming : Option Coming) → p ≡ beginning input coming → GoesOn p q → ready ≡ [] → IfSome coming (λ c. still_given (option_map as_set (gathered q.input (still_to_come q) [] ready)) ≡ Some (sorted_source input c))
+source_opens_told p q ready input coming begins on nothing =
+    let rises : IfSome (gathered q.input (still_to_come q) [] ready) Ascends = subst (λ (xs : List VersionData). IfSome (gathered q.input (still_to_come q) [] xs) Ascends) (sym nothing) (pending_rises q.input (still_to_come q) None) in
+    weaker coming _ _ (λ c e. told_as_set (gathered q.input (still_to_come q) [] ready) rises ∙ (λ i. gathered q.input (still_to_come q) [] (nothing i)) ∙ e)
+    (opens_so input coming q (subst (λ (x : Told). GoesOn x q) begins on))
 
 pub opens_refused : (input : ℕ) (coming : Option Coming) (fault : Fault) (after : Option (Still Placed Fault)) → Step {A = Placed} (still_to_come (beginning input coming)) (Err fault) after
     → (fault ≡ memory_fault) ⊎ IfSome coming (λ c. (sorted_source input c).refusal ≡ Some fault)
@@ -274,13 +253,30 @@ step_told value before after r is up on h =
     let first : before ≡ still_given value = sym (told_as_set before up) ∙ ap still_given is in
     subst (λ (o : Option (Still VersionData Fault)). Step o r (still_given (option_map as_set after))) first (subst (λ (o : Option (Still VersionData Fault)). Step before r o) (sym (told_as_set after on)) h)
 
+-- what was known is known
+known_by : (o : Option (Still VersionData Fault)) (still : Still VersionData Fault) → still_given (option_map as_set o) ≡ Some still → IsKnown o
+known_by None still e = absurd (let f : None ≡ Some still = e in cc)
+known_by (Some s) still e = tt
+
+-- where a step leads to ascends, where it was known what was to come
+step_rises : (before after : Option (Still VersionData Fault)) (r : Result (Option VersionData) Fault) → IsKnown before → IfSome before Ascends → Step before r after → IfSome after Ascends
+step_rises None after r known up h = absurd known
+step_rises (Some s) after (Ok (Some v)) known up h =
+    let P : Option (Still VersionData Fault) → Type 0 = λ o. IfSome o Ascends in
+    let rising : Ascends (front v h.0) = subst Ascends h.1 up in
+    subst P (sym h.2) (strict_rest v (h.0).list rising)
+step_rises (Some s) after (Ok None) known up h = whole_rises after h.1
+step_rises (Some s) after (Err fault) known up h = let P : Option (Still VersionData Fault) → Type 0 = λ o. IfSome o Ascends in subst P (sym h.1.1) nothing_rises
+
 -- a call of a source, of what its reader can give
-pub file_step : {R : Type 0} (can : R → Coming → Type 0) (s t : FileStand R) (r : Result (Option VersionData) Fault) → FileAscends can s.units.input s → FileAscends can s.units.input t → t.units.input ≡ s.units.input → FileSteps can s.units.input s r t
+pub file_step : {R : Type 0} (can : R → Coming → Type 0) (s t : FileStand R) (r : Result (Option VersionData) Fault) → FileAscends can s → t.units.input ≡ s.units.input → FileSteps can s r t
     → Steps (FileCanGive can) s r t
-file_step can s t r up on same steps later h =
+file_step can s t r up same steps later h =
     let x = steps h.0 h.1 in
     let after : still_given (option_map as_set (gathered_at s.units.input t h.0)) ≡ Some later = (λ i. still_given (option_map as_set (gathered_at (sym same i) t h.0))) ∙ h.2 in
-    let told = step_told (option_map as_set (gathered_at s.units.input s x.0)) (gathered_at s.units.input s x.0) (gathered_at s.units.input t h.0) r refl (up x.0 x.1) (on h.0 h.1) x.2 in (
+    let from = gathered_at s.units.input s x.0 in
+    let rises = step_rises from (gathered_at s.units.input t h.0) r (known_by from (known_or_whole (given_at s x.0)) (one_given s x.0)) (up x.0 x.1) x.2 in
+    let told = step_told (option_map as_set (gathered_at s.units.input s x.0)) (gathered_at s.units.input s x.0) (gathered_at s.units.input t h.0) r refl (up x.0 x.1) rises x.2 in (
       known_or_whole (given_at s x.0),
       (x.0, x.1, one_given s x.0),
       subst (λ (o : Option (Still VersionData Fault)). Step o r (Some later)) (one_given s x.0) (subst (λ (o : Option (Still VersionData Fault)). Step (given_at s x.0) r o) after told),

@@ -127,9 +127,3 @@ module _ (close : Option Verdict) where
   units_stop stand place bytes e =
       let n : ℕ = length bytes in
       within_same n (suc n) stand place bytes (omega arith) (omega arith) ∙ ap (unit_then close stand place bytes (units_within n close)) e
-
--- what is found stands within the bytes
-pub found_within : (stand : Stand) (bytes : List ℕ) (answer : Result (Option ReadUnit) Reason) (next : Stand) → Finds (unit_at stand bytes) answer next → IfOk answer (λ found. IfSome found (λ u. u.size ≤ length bytes))
-found_within stand bytes (Ok None) next h = tt
-found_within stand bytes (Ok (Some u)) next h = (unit_sized stand bytes (unit u.size (Ok (u.version, next))) h).within
-found_within stand bytes (Err reason) next h = tt

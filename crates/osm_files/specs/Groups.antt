@@ -13,7 +13,7 @@ use Rattle.osm_files.specs.declared.fault.Fault.{Fault}
 use Rattle.osm_files.specs.declared.reason.Reason.TheVariants.{Unsorted}
 use Rattle.osm_files.specs.Fault.{memory_fault, failed_fault}
 use Rattle.osm_files.specs.Input.{Coming, whole as all_of, preceded_by, Explained}
-use Rattle.osm_files.specs.Position.{Position, telling, to_come, still_to_come, units_from, named, fault_of, Keeps}
+use Rattle.osm_files.specs.Position.{Position, telling, Between, to_come, still_to_come, units_from, units_left, named, fault_of, Keeps}
 use Rattle.osm_files.specs.Source.{Ascends, Step}
 use Rattle.osm_files.specs.Stream.{verdict_at, Placed, Still, whole, refused}
 
@@ -76,21 +76,30 @@ standing units group ready = record { units = units; group = group; ready = read
 abbrev pub opened_file : {R : Type 0} → ℕ → R → FileStand R
 opened_file input reader = standing (fresh_reading input reader) [] []
 
+-- these versions were read of the next group, and nothing is left of the one before
+abbrev pub begun : {R : Type 0} → FileStand R → List VersionData → FileStand R
+begun s group = standing s.units group []
+
 -- what the source of this input still gives, if its reader gives this
 abbrev pub gathered_at : {R : Type 0} → ℕ → FileStand R → Coming → Option (Still VersionData Fault)
 gathered_at input s c = gathered input (still_to_come (telling s.units c)) s.group s.ready
 
 -- one call, of what its reader can give: a step from what was to come to what is to come
-abbrev pub FileSteps : {R : Type 0} → (R → Coming → Type 0) → ℕ → FileStand R → Result (Option VersionData) Fault → FileStand R → Type 0
-FileSteps can input s result t = Explained (can s.units.coming) (can t.units.coming) (λ earlier later. Step (gathered_at input s earlier) result (gathered_at input t later))
+abbrev pub FileSteps : {R : Type 0} → (R → Coming → Type 0) → FileStand R → Result (Option VersionData) Fault → FileStand R → Type 0
+FileSteps can s result t =
+    Explained (can s.units.coming) (can t.units.coming) (λ earlier later. Step (gathered_at s.units.input s earlier) result (gathered_at s.units.input t later))
 
 -- whatever its reader can give, what it still gives ascends
-abbrev pub FileAscends : {R : Type 0} → (R → Coming → Type 0) → ℕ → FileStand R → Type 0
-FileAscends can input s = (c : Coming) → can s.units.coming c → IfSome (gathered_at input s c) Ascends
+abbrev pub FileAscends : {R : Type 0} → (R → Coming → Type 0) → FileStand R → Type 0
+FileAscends can s = (c : Coming) → can s.units.coming c → IfSome (gathered_at s.units.input s c) Ascends
+
+-- what it still gives ascends, and after a refusal nothing is ready
+abbrev pub IsOpenSource : {R : Type 0} → (R → Coming → Type 0) → FileStand R → Type 0
+IsOpenSource can s = FileAscends can s × (s.units.failed ≡ true → s.ready ≡ [])
 
 -- at most so many versions are still to come: each unit has a byte at least
 abbrev pub left_at : {R : Type 0} → FileStand R → ℕ
-left_at s = (2 ^ 62 - s.units.place) + (length s.group + length s.ready)
+left_at s = units_left s.units + (length s.group + length s.ready)
 
 -- What a source of a sorted file still gives: a set of versions, and how it ends.
 abbrev pub StillSet : Type 0
@@ -182,7 +191,18 @@ Refuses before fault after =
     ((fault ≡ memory_fault) ⊎ IfSome before (λ s. s ≡ refused fault)) × ((input : ℕ) × (after ≡ Some (refused (failed_fault input))))
 
 -- the version that a group begins with: the one that was pending, or the next one; none at the end; or a refusal
-abbrev pub Begins : ℕ → Option (Still Placed Fault) → Option VersionData → Result (Option VersionData) Fault → Option (Still Placed Fault) → Type 0
-Begins input before pending (Ok (Some first)) after = Keeps (gathered input before (option_to_list pending) []) (gathered input after (first ∷ []) [])
-Begins input before pending (Ok None) after = (pending ≡ None) × Step (gathered input before [] []) (let r : Result (Option VersionData) Fault = Ok None in r) (gathered input after [] [])
-Begins input before pending (Err fault) after = Refuses (gathered input before (option_to_list pending) []) fault after
+abbrev pub Begins : ℕ → Option (Still Placed Fault) → List VersionData → Result (Option VersionData) Fault → Option (Still Placed Fault) → Type 0
+Begins input before pending (Ok (Some first)) after = Keeps (gathered input before pending []) (gathered input after (first ∷ []) [])
+Begins input before pending (Ok None) after = Step (gathered input before pending []) (let r : Result (Option VersionData) Fault = Ok None in r) (gathered input after [] [])
+Begins input before pending (Err fault) after = Refuses (gathered input before pending []) fault after
+
+-- these relations, of what the reader can give
+module _ {R : Type 0} (can : R → Coming → Type 0) (p : Position R) where
+  abbrev pub BeginsOn : List VersionData → Result (Option VersionData) Fault → Position R → Type 0
+  BeginsOn pending result q = Between can p q (λ a b. Begins p.input (still_to_come a) pending result (still_to_come b))
+
+  abbrev pub GathersOn : List VersionData → Position R → VersionData → List VersionData → Option VersionData → Type 0
+  GathersOn begun q first others next = Between can p q (λ a b. Gathers p.input (still_to_come a) begun (still_to_come b) first others next)
+
+  abbrev pub RefusesOn : List VersionData → Fault → Position R → Type 0
+  RefusesOn group fault q = Between can p q (λ a b. Refuses (gathered p.input (still_to_come a) group []) fault (still_to_come b))

@@ -1,15 +1,12 @@
 -- Where a reading of units stands in its input, and what is still to come from there.
 use Rattle.std.specs.Prelude.{◌≡◌, ◌⊎◌, ℕ, ◌≤◌, ◌+◌, ◌-◌, Bool, nat_lt, List, ◌∷◌, ◌++◌, ◌^◌, length, take, true, Option, Some, None, option_map, IfSome, is_some, slice_get, Result, Ok, Err, if◌then◌else◌}
-use Rattle.osm_model.specs.Data.{VersionData}
 use Rattle.osm_files.specs.declared.fault.Fault.{Fault}
 use Rattle.osm_files.specs.declared.reason.Reason.{Reason}
 use Rattle.osm_files.specs.declared.reason.Reason.TheVariants.{ReadFault, Memory}
 use Rattle.osm_files.specs.declared.unit.ReadUnit.{ReadUnit}
-use Rattle.osm_files.specs.declared.reading.Advance.{Advance}
-use Rattle.osm_files.specs.declared.reading.Advance.TheVariants.{Passed, Gave, Ended}
 use Rattle.osm_files.specs.Fault.{memory_fault, failed_fault}
 use Rattle.osm_files.specs.Input.{Coming, whole as all_of, preceded_by, Explained, GivesOne}
-use Rattle.osm_files.specs.Stream.{Verdict, verdict_at, Placed, placed, Still, whole, refused, front}
+use Rattle.osm_files.specs.Stream.{Verdict, verdict_at, Placed, Still, refused}
 use Rattle.osm_files.specs.Units.{Stand, units, unit, unit_at, start_of}
 use Rattle.osm_files.specs.Verdict.{length_limit, too_long}
 
@@ -75,21 +72,13 @@ to_come p = option_map (λ c. named p.input (units_from p.stand p.place c)) (ahe
 abbrev pub still_to_come : Told → Option (Still Placed Fault)
 still_to_come p = if p.failed then Some (refused (failed_fault p.input)) else to_come p
 
+-- at most so many units are still to come: each has a byte at least
+abbrev pub units_left : {C : Type 0} → Position C → ℕ
+units_left p = 2 ^ 62 - p.place
+
 -- what was known stays so
 abbrev pub Keeps : {A : Type 0} → Option A → Option A → Type 0
 Keeps before after = IfSome before (λ x. after ≡ Some x)
-
--- what a unit gives
-abbrev pub given : ℕ → Option VersionData → Advance
-given place None = Passed
-given place (Some v) = Gave (placed place v)
-
--- one unit further: it holds no version, or one, or there is none any more; or why the next unit can't be read
-abbrev pub Advances : Told → Result Advance Fault → Told → Type 0
-Advances p (Ok Passed) q = Keeps (to_come p) (to_come q)
-Advances p (Ok (Gave u)) q = IfSome (to_come p) (λ s. (t : Still Placed Fault) × (s ≡ front u t) × (to_come q ≡ Some t))
-Advances p (Ok Ended) q = IfSome (to_come p) (λ s. s ≡ whole) × (to_come q ≡ Some whole)
-Advances p (Err fault) q = (fault ≡ memory_fault) ⊎ IfSome (to_come p) (λ s. s ≡ refused fault)
 
 -- bytes were read on: nothing was given, and what was known stays so
 pub record ReadsOn (p q : Told) : Type 0 where
@@ -112,13 +101,6 @@ pub record GoesOn (p q : Told) : Type 0 where
   pub place : p.place ≤ q.place
   pub failed : q.failed ≡ p.failed
   pub keeps : Keeps (to_come p) (to_come q)
-
--- the same, of what the readers can give
-pub record HasGone {R : Type 0} (can : R → Coming → Type 0) (p q : Position R) : Type 0 where
-  pub input : q.input ≡ p.input
-  pub place : p.place ≤ q.place
-  pub failed : q.failed ≡ p.failed
-  pub goes : Between can p q GoesOn
 
 -- where the reading stands, as far as the bytes held tell
 abbrev pub stand_at : {C : Type 0} → Position C → Stand
@@ -147,9 +129,3 @@ StopsFilling p fault = (fault ≡ memory_fault) ⊎ IfSome (ahead p) (λ c. Halt
 -- the same, of what the reader can give
 abbrev pub StopsAt : {R : Type 0} → (R → Coming → Type 0) → Position R → Fault → Type 0
 StopsAt can p fault = GivesOne (can p.coming) (λ c. StopsFilling (telling p c) fault)
-
--- how far a unit goes at least
-abbrev pub progress : Advance → ℕ
-progress Passed = 1
-progress (Gave u) = 1
-progress Ended = 0

@@ -118,7 +118,8 @@ fn read_behind<R: Input>(
 ) -> Result<usize, Broken>
     requires some { 0 < most }
     requires within { end + most ≤ length room.old.items }
-    ensures gave { IfOk result (λ count. GaveMore R.can_give reader.old reader.new (take end room.old.items) (take (end + count) room.new.items) count) }
+    ensures gave { IfOk result (λ count.
+        GaveMore R.can_give reader.old reader.new (take end room.old.items) (take (end + count) room.new.items) count) }
     ensures most { IfOk result (λ count. count ≤ most) }
     ensures end { result ≡ Ok 0 → R.can_give reader.old (whole []) }
     ensures broken { OnErr result (R.can_give reader.old (breaks [])) }

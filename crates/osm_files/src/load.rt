@@ -80,7 +80,8 @@ fn is_below_last(version: &Version, versions: &[Version]) -> bool
 
 /// What a file holds with these versions.
 fn gathered(versions: Vec<Version>, format: Format, sorted: bool) -> Result<Loaded, Fault>
-    ensures loaded { IfOk result (λ loaded. loaded ≡ record { history = from_list {R = version_cmp} versions.items; format = format; sorted = sorted }) }
+    ensures loaded { IfOk result (λ loaded.
+        loaded ≡ record { history = from_list {R = version_cmp} versions.items; format = format; sorted = sorted }) }
     ensures memory { IfErr result (λ fault. fault ≡ memory_fault) }
 {
     match History::from_versions(versions) {

@@ -140,7 +140,8 @@ impl Output for VecOut {
 
     fn write(&mut self, bytes: &[u8]) -> Result<usize, Broken>
         ensures within { IfOk result (λ count. count ≤ length bytes.now) }
-        ensures taken { IfOk result (λ count. Appended (λ held. self.old.bytes ≡ held) (λ held. self.new.bytes ≡ held) (take count bytes.now)) }
+        ensures taken { IfOk result (λ count.
+            Appended (λ held. self.old.bytes ≡ held) (λ held. self.new.bytes ≡ held) (take count bytes.now)) }
         ensures refused { OnErr result (Appended (λ held. self.old.bytes ≡ held) (λ held. self.new.bytes ≡ held) []) }
         ensures fails { WriteFails self.old.failed bytes.now result self.new.failed }
         ensures all { IfOk result (λ count. count ≡ length bytes.now) }

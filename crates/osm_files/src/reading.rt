@@ -1,13 +1,15 @@
 //! Reading the units of an input, one by one, in whatever pieces its bytes come.
-ghost use Rattle.std.specs.Prelude.{◌≡◌, ◌+◌, ◌-◌, ◌<◌, ◌≤◌, ◌^◌, ◌⊎◌, true, false, Option, None, Some, Ok, Err, List, [], ◌∷◌, length, drop, take, is_err, IfOk, IfErr, IfSome, OnOk, IsSome, if◌then◌else◌};
+ghost use Rattle.std.specs.Prelude.{◌≡◌, ◌+◌, ◌<◌, ◌≤◌, ◌^◌, ◌⊎◌, true, false, None, Some, Ok, Err, [], length, drop, take, option_map};
+ghost use Rattle.std.specs.Prelude.{is_err, IfOk, IfErr, OnOk, OnErr, IsSome, if◌then◌else◌};
 ghost use Rattle.osm_files.specs.Fault.{failed_fault, fault_at};
 ghost use Rattle.osm_files.specs.Units as spec;
 ghost use Rattle.opl_line.specs.Cut.{is_line_end, split_first};
-ghost use Rattle.osm_files.specs.Reading.{Finds, FindsLast, stand_of, IsGood};
+ghost use Rattle.osm_files.specs.Reading.{Finds, FindsLast};
 ghost use Rattle.osm_files.specs.Source.{StepsOn};
 ghost use Rattle.osm_files.specs.Load.{format_of, tells_format, is_o5m, TellsFormat};
 ghost use Rattle.osm_files.specs.declared.format.Format.TheVariants.{O5m, O5c};
-ghost use Rattle.osm_files.specs.Position.{Position, Between, Advances, HasRead, HasGone, StopsAt, FindsHeld, seen, given, stand_at, progress};
+ghost use Rattle.osm_files.specs.Stream.{placed};
+ghost use Rattle.osm_files.specs.Position.{Between, HasRead, StopsAt, FindsHeld, seen, stand_at, units_left};
 
 use crate::fault::{Fault, LENGTH_LIMIT};
 use crate::format::Format;
@@ -20,17 +22,6 @@ use opl_line::LineReader;
 use osm_model::Version;
 use std::alloc::Global;
 use std::marker::Model;
-
-/// What one unit gave.
-#[derive(Drop)]
-pub(crate) enum Advance {
-    /// It held no version.
-    Passed,
-    /// A version.
-    Gave(Placed),
-    /// There is none any more.
-    Ended,
-}
 
 /// A reading of the units of an input.
 #[derive(Drop)]
@@ -46,6 +37,7 @@ pub(crate) struct Reading<R: Input> {
     at: Option<Place>,
     ended: bool,
     failed: bool,
+    /// What reads lines that stand whole in the bytes held.
     lines: LineReader,
 }
 
@@ -56,7 +48,15 @@ impl<R: Input> Model for Reading<R> {
 
     ghost Value = { Position R };
 
-    ghost view = { λ r. record { input = r.input; place = r.place; held = r.held; coming = r.reader; stand = option_map stand_of r.at; ended = r.ended; failed = r.failed } };
+    ghost view = { λ r. record {
+      input = r.input;
+      place = r.place;
+      held = r.held;
+      coming = r.reader;
+      stand = option_map stand_of r.at;
+      ended = r.ended;
+      failed = r.failed;
+    } };
 
     ghost invariant = { λ r. (r.place + length r.held < 2 ^ 62) × (r.failed ≡ false → IfSome r.at IsGood) };
 }
@@ -79,13 +79,6 @@ impl<R: Input> Reading<R> {
         }
     }
 
-    /// The refusal of the unit at the front of the bytes held.
-    fn refusal(&self, reason: Reason) -> Fault
-        ensures { result ≡ fault_at self.now.input self.now.place reason }
-    {
-        Fault::at(self.input, self.place, reason)
-    }
-
     /// Reads more bytes, or finds that there are no more.
     fn fill(&mut self) -> Result<(), Fault>
         requires { self.old.ended ≡ false }
@@ -93,6 +86,7 @@ impl<R: Input> Reading<R> {
         ensures more { OnOk result ((self.new.ended ≡ true) ⊎ (length self.old.held < length self.new.held)) }
         ensures kept { OnOk result (take (length self.old.held) self.new.held ≡ self.old.held) }
         ensures stops { IfErr result (StopsAt R.can_give self.old) }
+        ensures refused { OnErr result (self.new.failed ≡ true) }
         ensures number { self.new.input ≡ self.old.input }
     {
         let read = self.place + self.held.len() as u64;
@@ -106,7 +100,7 @@ impl<R: Input> Reading<R> {
                 Ok(())
             }
             Ok(_) => Ok(()),
-            Err(reason) => Err(Fault::at(self.input, read, reason)),
+            Err(reason) => Err(self.refuse(read, reason)),
         }
     }
 
@@ -119,6 +113,7 @@ impl<R: Input> Reading<R> {
         ensures ended { OnOk result (self.new.ended ≡ true) }
         ensures held { OnOk result (self.new.held ≡ self.old.held) }
         ensures stops { IfErr result (StopsAt R.can_give self.old) }
+        ensures refused { OnErr result (self.new.failed ≡ true) }
         ensures number { self.new.input ≡ self.old.input }
     {
         let mut byte = [0u8; 1];
@@ -127,8 +122,8 @@ impl<R: Input> Reading<R> {
                 self.ended = true;
                 Ok(())
             }
-            Ok(_) => Err(Fault::too_long(self.input)),
-            Err(_) => Err(Fault::at(self.input, read, Reason::ReadFault)),
+            Ok(_) => Err(self.refuse(LENGTH_LIMIT, Reason::TooLong)),
+            Err(_) => Err(self.refuse(read, Reason::ReadFault)),
         }
     }
 
@@ -136,11 +131,8 @@ impl<R: Input> Reading<R> {
     fn see(&mut self)
         ensures { self.new ≡ seen self.old }
     {
-        if self.at.is_some() {
-            return;
-        }
-        if let Some(first) = self.held.as_slice().first() {
-            self.at = Some(start(*first));
+        if self.at.is_none() && !self.held.as_slice().is_empty() {
+            self.at = Some(Place::of(self.held.as_slice()));
         }
     }
 
@@ -169,18 +161,18 @@ impl<R: Input> Reading<R> {
         }
     }
 
-    /// Goes over a unit of the bytes held.
-    fn pass(&mut self, unit: ReadUnit) -> Advance
+    /// Goes over a unit of the bytes held, and gives its version, if it holds one.
+    fn pass(&mut self, unit: ReadUnit) -> Option<Placed>
         requires { unit.size ≤ length self.old.held }
         ensures gone { self.new ≡ record self.old { place = self.old.place + unit.size; held = drop unit.size self.old.held } }
-        ensures gave { result ≡ given self.old.place unit.version }
+        ensures gave { result ≡ option_map (placed self.old.place) unit.version }
     {
         let place = self.place;
         self.held.skip(unit.size);
         self.place += unit.size as u64;
         match unit.version {
-            None => Advance::Passed,
-            Some(version) => Advance::Gave(Placed { place, version }),
+            None => None,
+            Some(version) => Some(Placed { place, version }),
         }
     }
 
@@ -195,51 +187,56 @@ impl<R: Input> Reading<R> {
         }
     }
 
-    /// Goes over the last bytes of an ended input, where no unit stands whole.
-    fn last(&mut self) -> Result<Advance, Fault>
+    /// The version of the last bytes of an ended input, where no unit stands whole. Nothing comes behind them.
+    fn last(&mut self) -> Result<Option<Placed>, Fault>
+        requires good { self.old.failed ≡ false }
         requires ended { self.old.ended ≡ true }
         requires seen { self.old.stand ≡ None → self.old.held ≡ [] }
         requires nothing { spec.unit_at (stand_at self.old) self.old.held ≡ None }
         requires bound { self.old.place + length self.old.held < 2 ^ 62 }
-        ensures advances { Between R.can_give self.old self.new (λ p q. Advances p result q) }
+        ensures step { StepsOn R.can_give self.old result self.new }
+        ensures failed { self.new.failed ≡ is_err result }
+        ensures fewer { IfOk result (λ given. IsSome given → units_left self.new < units_left self.old) }
+        ensures onward { OnOk result (self.old.place ≤ self.new.place) }
         ensures number { self.new.input ≡ self.old.input }
-        ensures good { OnOk result (self.new.failed ≡ self.old.failed) }
-        ensures progress { IfOk result (λ advance. self.old.place + progress advance ≤ self.new.place) }
     {
-        let version = match self.read_last() {
-            Ok(version) => version,
-            Err(reason) => return Err(self.refusal(reason)),
-        };
-        let size = self.held.len();
-        if size == 0 {
-            return Ok(Advance::Ended);
+        match self.read_last() {
+            Ok(version) => {
+                let size = self.held.len();
+                Ok(self.pass(ReadUnit { size, version }))
+            }
+            Err(reason) => Err(self.refuse(self.place, reason)),
         }
-        Ok(self.pass(ReadUnit { size, version }))
     }
 
-    /// One unit further.
-    #[inline(always)]
-    fn advance(&mut self) -> Result<Advance, Fault>
+    /// The next version, of whatever unit.
+    ///
+    /// # Errors
+    ///
+    /// Why the next unit can't be read, or `Memory`.
+    #[inline(never)]
+    fn next_unit(&mut self) -> Result<Option<Placed>, Fault>
         requires { self.old.failed ≡ false }
-        ensures advances { Between R.can_give self.old self.new (λ p q. Advances p result q) }
+        ensures step { StepsOn R.can_give self.old result self.new }
+        ensures failed { self.new.failed ≡ is_err result }
+        ensures fewer { IfOk result (λ given. IsSome given → units_left self.new < units_left self.old) }
+        ensures onward { OnOk result (self.old.place ≤ self.new.place) }
         ensures number { self.new.input ≡ self.old.input }
-        ensures good { OnOk result (self.new.failed ≡ self.old.failed) }
-        ensures progress { IfOk result (λ advance. self.old.place + progress advance ≤ self.new.place) }
     {
         // In so many of the bytes held no unit stands whole.
         let mut searched = 0;
-        'reads: loop {
+        'units: loop {
             match self.read_held(searched) {
-                Ok(Some(unit)) => return Ok(self.pass(unit)),
-                Ok(None) => {}
-                Err(reason) => return Err(self.refusal(reason)),
-            }
-            if self.ended {
-                return self.last();
-            }
-            searched = self.held.len();
-            if let Err(fault) = self.fill() {
-                return Err(fault);
+                Ok(Some(unit)) => match self.pass(unit) {
+                    Some(given) => return Ok(Some(given)),
+                    None => searched = 0,
+                },
+                Ok(None) if self.ended => return self.last(),
+                Ok(None) => {
+                    searched = self.held.len();
+                    self.fill()?;
+                }
+                Err(reason) => return Err(self.refuse(self.place, reason)),
             }
         }
     }
@@ -262,56 +259,6 @@ impl<R: Input> Reading<R> {
         read_line_unit(&mut self.lines, self.held.as_slice(), 0)
     }
 
-    /// The version of the line at the front of the bytes held, where they are an OPL file's. There is none if it doesn't
-    /// stand there whole, holds no version or can't be read.
-    #[inline(always)]
-    fn next_line(&mut self) -> Option<Placed>
-        requires { self.old.failed ≡ false }
-        ensures gave { IfSome result (λ unit. StepsOn R.can_give self.old (Ok (Some unit)) self.new) }
-        ensures further { IfSome result (λ _. self.old.place < self.new.place) }
-        ensures passed { result ≡ None → HasGone R.can_give self.old self.new }
-        ensures good { self.new.failed ≡ false }
-        ensures number { self.new.input ≡ self.old.input }
-    {
-        if !self.is_among_lines() {
-            return None;
-        }
-        match self.read_held_line() {
-            Ok(Some(unit)) => match self.pass(unit) {
-                Advance::Gave(unit) => Some(unit),
-                Advance::Passed | Advance::Ended => None,
-            },
-            Ok(None) | Err(_) => None,
-        }
-    }
-
-    /// The next version, of whatever unit.
-    ///
-    /// # Errors
-    ///
-    /// Why the next unit can't be read, or `Memory`.
-    #[inline(never)]
-    fn next_unit(&mut self) -> Result<Option<Placed>, Fault>
-        requires { self.old.failed ≡ false }
-        ensures step { StepsOn R.can_give self.old result self.new }
-        ensures failed { self.new.failed ≡ is_err result }
-        ensures fewer { IfOk result (λ given. IsSome given → 2 ^ 62 - self.new.place < 2 ^ 62 - self.old.place) }
-        ensures onward { OnOk result (self.old.place ≤ self.new.place) }
-        ensures number { self.new.input ≡ self.old.input }
-    {
-        'units: loop {
-            match self.advance() {
-                Ok(Advance::Passed) => {}
-                Ok(Advance::Gave(unit)) => return Ok(Some(unit)),
-                Ok(Advance::Ended) => return Ok(None),
-                Err(fault) => {
-                    self.failed = true;
-                    return Err(fault);
-                }
-            }
-        }
-    }
-
     /// The next version; none at the end and ever after.
     ///
     /// Nearly always it is the version of a line that is held, of which the caller takes the code in.
@@ -324,16 +271,23 @@ impl<R: Input> Reading<R> {
         ensures step { StepsOn R.can_give self.old result self.new }
         ensures again { self.old.failed ≡ true → result ≡ Err (failed_fault self.old.input) }
         ensures failed { self.new.failed ≡ is_err result }
-        ensures fewer { IfOk result (λ given. IsSome given → 2 ^ 62 - self.new.place < 2 ^ 62 - self.old.place) }
+        ensures fewer { IfOk result (λ given. IsSome given → units_left self.new < units_left self.old) }
         ensures onward { OnOk result (self.old.place ≤ self.new.place) }
         ensures number { self.new.input ≡ self.old.input }
     {
         if self.failed {
             return Err(Fault::failed(self.input));
         }
-        match self.next_line() {
-            Some(unit) => Ok(Some(unit)),
-            None => self.next_unit(),
+        if !self.is_among_lines() {
+            return self.next_unit();
+        }
+        match self.read_held_line() {
+            Ok(Some(line)) => match self.pass(line) {
+                Some(given) => Ok(Some(given)),
+                None => self.next_unit(),
+            },
+            Ok(None) => self.next_unit(),
+            Err(reason) => Err(self.refuse(self.place, reason)),
         }
     }
 
@@ -358,10 +312,7 @@ impl<R: Input> Reading<R> {
             if self.ended {
                 return Ok(format_of(held));
             }
-            if let Err(fault) = self.fill() {
-                self.failed = true;
-                return Err(fault);
-            }
+            self.fill()?;
         }
     }
 
@@ -376,30 +327,13 @@ impl<R: Input> Reading<R> {
         }
     }
 
-    /// Refuses every later call: what was read can't be used.
-    pub(crate) fn fail(&mut self)
-        ensures { self.new ≡ record self.old { failed = true } }
+    /// Refuses the unit at this place, and every later call.
+    pub(crate) fn refuse(&mut self, place: u64, reason: Reason) -> Fault
+        ensures failed { self.new ≡ record self.old { failed = true } }
+        ensures fault { result ≡ fault_at self.old.input place reason }
     {
         self.failed = true;
-    }
-
-    /// The number of the input.
-    pub(crate) fn number(&self) -> usize
-        ensures { result ≡ self.now.input }
-    {
-        self.input
-    }
-}
-
-/// Where the reading of a file with this first byte begins.
-fn start(first: u8) -> Place
-    ensures place { stand_of result ≡ spec.start_of (first ∷ []) }
-    ensures good { IsGood result }
-{
-    if first == RESET {
-        Place::Header
-    } else {
-        Place::Lines
+        Fault::at(self.input, place, reason)
     }
 }
 

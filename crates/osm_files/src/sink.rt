@@ -47,10 +47,12 @@ impl Units {
     fn append(&mut self, bytes: &mut Vec<u8>, v: &Version) -> Result<(), Memory>
         requires follows { spec.MayFollow v.now (spec.written_in self.old) }
         requires good { spec.IsGood self.old }
-        ensures bytes { OnOk result ((f : Format) → spec.AreOf f self.old → bytes.new.items ≡ bytes.old.items ++ spelling.spelled_in f (spec.written_in self.old) v.now) }
+        ensures bytes { OnOk result ((f : Format) → spec.AreOf f self.old
+            → bytes.new.items ≡ bytes.old.items ++ spelling.spelled_in f (spec.written_in self.old) v.now) }
         ensures some { OnOk result (0 < length bytes.new.items) }
         ensures units { OnOk result ((f : Format) → spec.AreOf f self.old → spec.AreOf f self.new) }
-        ensures behind { OnOk result ((f : Format) → spec.AreOf f self.old → spec.written_in self.new ≡ spelling.behind f (spec.written_in self.old) v.now) }
+        ensures behind { OnOk result ((f : Format) → spec.AreOf f self.old
+            → spec.written_in self.new ≡ spelling.behind f (spec.written_in self.old) v.now) }
     {
         match self {
             Units::Lines(last) => {
@@ -128,7 +130,8 @@ impl Sink {
     /// refused. A sink of lines has nothing to write here, and leaves the output as it is.
     pub fn begin<W: Output>(&mut self, out: &mut W) -> Result<(), Fault>
         requires { self.old.begun ≡ false }
-        ensures calls { spec.Calls (spec.begins self.old) self.new spec.stays (W.holds out.old) (W.holds out.new) (W.failed out.new) (spelling.begun self.old.format) result }
+        ensures calls { spec.Calls (spec.begins self.old) self.new spec.stays
+            (W.holds out.old) (W.holds out.new) (W.failed out.new) (spelling.begun self.old.format) result }
         ensures memory { result ≢ Err memory_fault }
         ensures lines { self.old.failed ≡ false → self.old.format ≡ format.Opl → (result ≡ Ok tt) × (out.new ≡ out.old) }
         ensures good { OnOk result (self.old.format ≢ format.Opl → W.failed out.new ≡ false) }
@@ -163,7 +166,8 @@ impl Sink {
     pub fn put<W: Output>(&mut self, out: &mut W, v: &Version) -> Result<(), Fault>
         requires open { spec.IsOpen self.old }
         requires follows { spec.Takes v.now self.old }
-        ensures calls { spec.Calls self.old self.new (spec.puts v.now) (W.holds out.old) (W.holds out.new) (W.failed out.new) (spelling.spelled_in self.old.format self.old.encoder v.now) result }
+        ensures calls { spec.Calls self.old self.new (spec.puts v.now)
+            (W.holds out.old) (W.holds out.new) (W.failed out.new) (spelling.spelled_in self.old.format self.old.encoder v.now) result }
         ensures good { OnOk result (W.failed out.new ≡ false) }
         ensures untouched { spec.IsBeforeWriting self.old.number result → out.new ≡ out.old }
     {
@@ -191,7 +195,8 @@ impl Sink {
     /// As for [`Sink::put`], but never `Memory`. A flush that fails is a `WriteFault` at the number of bytes written.
     pub fn end<W: Output>(&mut self, out: &mut W) -> Result<(), Fault>
         requires { spec.IsOpen self.old }
-        ensures calls { spec.Calls (spec.ends self.old) self.new spec.stays (W.holds out.old) (W.holds out.new) (W.failed out.new) (spelling.ended self.old.format) result }
+        ensures calls { spec.Calls (spec.ends self.old) self.new spec.stays
+            (W.holds out.old) (W.holds out.new) (W.failed out.new) (spelling.ended self.old.format) result }
         ensures memory { result ≢ Err memory_fault }
         ensures good { OnOk result (W.failed out.new ≡ false) }
         ensures untouched { spec.IsBeforeWriting self.old.number result → out.new ≡ out.old }
@@ -280,7 +285,8 @@ pub fn write_history<W: Output>(
     history: &History,
     out: &mut W,
 ) -> Result<(), Fault>
-    ensures written { spec.WritesFile number (W.holds out.old) (W.holds out.new) (W.failed out.new) (spelling.spell format history.now) result }
+    ensures written { spec.WritesFile number
+        (W.holds out.old) (W.holds out.new) (W.failed out.new) (spelling.spell format history.now) result }
     ensures good { OnOk result (W.failed out.new ≡ false) }
 {
     let mut sink = match Sink::new(alloc, format, number) {

@@ -1,15 +1,16 @@
 //! Sources: versions in ascending order, one after the other.
-ghost use Rattle.std.specs.Prelude.{◌≡◌, ◌⊎◌, ℕ, ◌+◌, ◌-◌, ◌^◌, ◌<◌, ◌≤◌, [], ◌∷◌, ◌++◌, length, Bool, true, false, None, Some, Ok, Err, option_to_list, is_err, IsSome, IfOk, IfErr, OnOk, OnErr};
+ghost use Rattle.std.specs.Prelude.{◌≡◌, ℕ, ◌+◌, ◌<◌, ◌≤◌, [], ◌∷◌, length, Bool, true, false, None, Some, Ok, Err};
+ghost use Rattle.std.specs.Prelude.{option_to_list, is_err, IsSome, IfOk, IfErr, OnErr};
 ghost use Rattle.std.specs.Vec.Iter.{into_iter_items};
 ghost use Rattle.osm_model.specs.Data.{VersionData};
 ghost use Rattle.osm_files.specs.declared.fault.Fault.{Fault};
-ghost use Rattle.osm_files.specs.declared.reason.Reason.TheVariants.{Unsorted};
-ghost use Rattle.osm_files.specs.Fault.{memory_fault, failed_fault, fault_at};
+ghost use Rattle.osm_files.specs.Fault.{memory_fault, failed_fault};
 ghost use Rattle.osm_files.specs.Input.{GivesOne};
 ghost use Rattle.osm_files.specs.Stream.{Still};
 ghost use Rattle.osm_files.specs.Source.{Ascends, Steps};
-ghost use Rattle.osm_files.specs.Position.{Between, still_to_come};
-ghost use Rattle.osm_files.specs.Groups.{ascending, gathered, standing, FileSteps, FileAscends, FileCanGive, left_at, given_at, known_or_whole, one_given, file_ascends, opened_file, IsGroup, Begins, Gathers, Refuses};
+ghost use Rattle.osm_files.specs.Position.{units_left};
+ghost use Rattle.osm_files.specs.Groups.{ascending, opened_file, begun, left_at, IsGroup, BeginsOn, GathersOn, RefusesOn};
+ghost use Rattle.osm_files.specs.Groups.{FileSteps, FileCanGive, given_at, known_or_whole, one_given, file_ascends};
 ghost use Rattle.osm_files.specs.Load.{Opens, StopsOpening};
 
 use crate::fault::Fault;
@@ -17,7 +18,7 @@ use crate::format::Format;
 use crate::input::Input;
 use crate::reading::Reading;
 use crate::reason::Reason;
-use osm_model::Version;
+use osm_model::{Memory, Version};
 use std::alloc::Global;
 use std::marker::Model;
 use std::vec::IntoIter;
@@ -79,15 +80,15 @@ pub struct FileSource<R: Input> {
 }
 
 impl<R: Input> Model for FileSource<R> {
-    ghost use Rattle.std.specs.Prelude.{◌≡◌, true, [], option_to_list};
+    ghost use Rattle.std.specs.Prelude.{option_to_list};
     ghost use Rattle.std.specs.Vec.Iter.{into_iter_items};
-    ghost use Rattle.osm_files.specs.Groups.{FileStand, standing, FileAscends};
+    ghost use Rattle.osm_files.specs.Groups.{FileStand, standing, IsOpenSource};
 
     ghost Value = { FileStand R };
 
     ghost view = { λ s. standing s.units (option_to_list s.pending) (into_iter_items s.ready) };
 
-    ghost invariant = { λ s. FileAscends R.can_give s.units.input (standing s.units (option_to_list s.pending) (into_iter_items s.ready)) × (s.units.failed ≡ true → into_iter_items s.ready ≡ []) };
+    ghost invariant = { λ s. IsOpenSource R.can_give (standing s.units (option_to_list s.pending) (into_iter_items s.ready)) };
 }
 
 impl<R: Input> FileSource<R> {
@@ -108,6 +109,82 @@ impl<R: Input> FileSource<R> {
         })
     }
 
+    /// The first version of the next group, of which the others are made ready; none at the end.
+    #[inline(always)]
+    fn next_group(&mut self) -> Result<Option<Version>, Fault>
+        requires nothing { self.old.ready ≡ [] }
+        ensures step { FileSteps R.can_give self.old result self.new }
+        ensures again { self.old.units.failed ≡ true → result ≡ Err (failed_fault self.old.units.input) }
+        ensures failed { self.new.units.failed ≡ is_err result }
+        ensures number { self.new.units.input ≡ self.old.units.input }
+        ensures fewer { IfOk result (λ given. IsSome given → left_at self.new < left_at self.old) }
+    {
+        let first = match self.begin() {
+            Err(fault) => return Err(fault),
+            Ok(None) => return Ok(None),
+            Ok(Some(first)) => first,
+        };
+        let second = match self.units.next() {
+            Err(fault) => return Err(fault),
+            Ok(None) => return Ok(Some(first)),
+            Ok(Some(second)) => second,
+        };
+        let order = first.key_cmp(&second.version);
+        if order.is_lt() {
+            self.pending = Some(second.version);
+            return Ok(Some(first));
+        }
+        if order.is_gt() {
+            return Err(self.units.refuse(second.place, Reason::Unsorted));
+        }
+        self.next_of_many(first, second.version)
+    }
+
+    /// The version that the next group begins with: the one read before, or else the next one; none at the end.
+    #[inline(always)]
+    fn begin(&mut self) -> Result<Option<Version>, Fault>
+        requires nothing { self.old.ready ≡ [] }
+        ensures taken { (self.new.group ≡ []) × (self.new.ready ≡ []) }
+        ensures number { self.new.units.input ≡ self.old.units.input }
+        ensures again { self.old.units.failed ≡ true
+            → (self.new.units.failed ≡ true) × IfErr result (λ fault. fault ≡ failed_fault self.old.units.input) }
+        ensures failed { OnErr result (self.new.units.failed ≡ true) }
+        ensures ended { result ≡ Ok None → self.new.units.failed ≡ false }
+        ensures begins { BeginsOn R.can_give self.old.units self.old.group result self.new.units }
+        ensures left { IfOk result (λ first. IsSome first → left_at self.new < left_at self.old) }
+    {
+        match self.pending.take() {
+            Some(first) => Ok(Some(first)),
+            None => begin_next(&mut self.units),
+        }
+    }
+
+    /// The least version of a group that begins with two versions of one key, of which the others are made ready.
+    #[inline(never)]
+    fn next_of_many(&mut self, first: Version, second: Version) -> Result<Option<Version>, Fault>
+        requires nothing { self.old.ready ≡ [] }
+        requires group { IsGroup first (second ∷ []) }
+        ensures step { FileSteps R.can_give (begun self.old (first ∷ second ∷ [])) result self.new }
+        ensures failed { self.new.units.failed ≡ is_err result }
+        ensures number { self.new.units.input ≡ self.old.units.input }
+        ensures fewer { IfOk result (λ given. IsSome given → left_at self.new < left_at (begun self.old (first ∷ second ∷ []))) }
+    {
+        let mut others = Vec::new(self.alloc);
+        if let Err(_) = others.push(second) {
+            return Err(self.units.refuse(0, Reason::Memory));
+        }
+        match gather(&mut self.units, &first, &mut others) {
+            Err(fault) => return Err(fault),
+            Ok(next) => self.pending = next,
+        }
+        match ascending(first, others) {
+            Err(_) => Err(self.units.refuse(0, Reason::Memory)),
+            Ok(versions) => {
+                self.ready = versions;
+                Ok(self.ready.next())
+            }
+        }
+    }
 }
 
 impl<R: Input + Drop> FileSource<R> {
@@ -160,12 +237,7 @@ impl<R: Input> Source for FileSource<R> {
     fn next(&mut self) -> Result<Option<Version>, Fault> {
         match self.ready.next() {
             Some(version) => Ok(Some(version)),
-            None => next_group(
-                self.alloc,
-                &mut self.units,
-                &mut self.pending,
-                &mut self.ready,
-            ),
+            None => self.next_group(),
         }
     }
 
@@ -175,113 +247,14 @@ impl<R: Input> Source for FileSource<R> {
     }
 }
 
-/// The first version of the next group, of which the others are made ready; none at the end.
-#[inline(always)]
-fn next_group<R: Input>(
-    alloc: Global,
-    units: &mut Reading<R>,
-    pending: &mut Option<Version>,
-    ready: &mut IntoIter<Version>,
-) -> Result<Option<Version>, Fault>
-    requires nothing { into_iter_items ready.old ≡ [] }
-    ensures input { units.new.input ≡ units.old.input }
-    ensures again { units.old.failed ≡ true → result ≡ Err (failed_fault units.old.input) }
-    ensures failed { units.new.failed ≡ is_err result }
-    ensures nothing { OnErr result (into_iter_items ready.new ≡ []) }
-    ensures step { FileSteps R.can_give units.old.input (standing units.old (option_to_list pending.old) []) result (standing units.new (option_to_list pending.new) (into_iter_items ready.new)) }
-    ensures ascends { FileAscends R.can_give units.old.input (standing units.new (option_to_list pending.new) (into_iter_items ready.new)) }
-    ensures fewer { IfOk result (λ given. IsSome given → left_at (standing units.new (option_to_list pending.new) (into_iter_items ready.new)) < left_at (standing units.old (option_to_list pending.old) [])) }
-{
-    let first = match begin(units, pending.take()) {
-        Err(fault) => return Err(fault),
-        Ok(None) => return Ok(None),
-        Ok(Some(first)) => first,
-    };
-    let second = match units.next() {
-        Err(fault) => return Err(fault),
-        Ok(None) => return Ok(Some(first)),
-        Ok(Some(second)) => second,
-    };
-    let order = first.key_cmp(&second.version);
-    if order.is_lt() {
-        *pending = Some(second.version);
-        return Ok(Some(first));
-    }
-    if order.is_gt() {
-        return Err(refuse_unsorted(units, second.place));
-    }
-    next_of_many(alloc, units, first, second.version, pending, ready)
-}
-
-/// The least version of a group that begins with two versions of one key, of which the others are made ready.
-#[inline(never)]
-fn next_of_many<R: Input>(
-    alloc: Global,
-    units: &mut Reading<R>,
-    first: Version,
-    second: Version,
-    pending: &mut Option<Version>,
-    ready: &mut IntoIter<Version>,
-) -> Result<Option<Version>, Fault>
-    requires nothing { into_iter_items ready.old ≡ [] }
-    requires group { IsGroup first (second ∷ []) }
-    ensures input { units.new.input ≡ units.old.input }
-    ensures failed { units.new.failed ≡ is_err result }
-    ensures nothing { OnErr result (into_iter_items ready.new ≡ []) }
-    ensures step { FileSteps R.can_give units.old.input (standing units.old (first ∷ second ∷ []) []) result (standing units.new (option_to_list pending.new) (into_iter_items ready.new)) }
-    ensures ascends { FileAscends R.can_give units.old.input (standing units.new (option_to_list pending.new) (into_iter_items ready.new)) }
-    ensures fewer { IfOk result (λ given. IsSome given → left_at (standing units.new (option_to_list pending.new) (into_iter_items ready.new)) ≤ 2 ^ 62 - units.old.place + 1) }
-{
-    let mut others = Vec::new(alloc);
-    if let Err(_) = others.push(second) {
-        units.fail();
-        return Err(Fault::memory());
-    }
-    match gather(units, &first, &mut others) {
-        Err(fault) => Err(fault),
-        Ok(next) => {
-            *pending = next;
-            give(units, first, others, ready)
-        }
-    }
-}
-
-/// Refuses the unit at this place, which stands behind one of a greater key, and every later call.
-fn refuse_unsorted<R: Input>(units: &mut Reading<R>, place: u64) -> Fault
-    ensures failed { units.new ≡ record units.old { failed = true } }
-    ensures fault { result ≡ fault_at units.old.input place Unsorted }
-{
-    units.fail();
-    Fault::at(units.number(), place, Reason::Unsorted)
-}
-
-/// The version that a group begins with: the one read before, or else the next one; none at the end.
-#[inline(always)]
-fn begin<R: Input>(
-    units: &mut Reading<R>,
-    pending: Option<Version>,
-) -> Result<Option<Version>, Fault>
-    ensures input { units.new.input ≡ units.old.input }
-    ensures again { units.old.failed ≡ true → (units.new.failed ≡ true) × IfErr result (λ fault. fault ≡ failed_fault units.old.input) }
-    ensures failed { OnErr result (units.new.failed ≡ true) }
-    ensures ended { result ≡ Ok None → units.new.failed ≡ false }
-    ensures begins { Between R.can_give units.old units.new (λ p q. Begins units.old.input (still_to_come p) pending result (still_to_come q)) }
-    ensures left { IfOk result (λ first. IsSome first → 2 ^ 62 - units.new.place + 1 ≤ 2 ^ 62 - units.old.place + length (option_to_list pending)) }
-{
-    match pending {
-        Some(first) => Ok(Some(first)),
-        None => begin_next(units),
-    }
-}
-
-/// The next version, where none was read before; none at the end.
+/// The version that a group begins with, where none was read before; none at the end.
 #[inline(never)]
 fn begin_next<R: Input>(units: &mut Reading<R>) -> Result<Option<Version>, Fault>
-    ensures input { units.new.input ≡ units.old.input }
+    ensures number { units.new.input ≡ units.old.input }
     ensures again { units.old.failed ≡ true → result ≡ Err (failed_fault units.old.input) }
     ensures failed { units.new.failed ≡ is_err result }
-    ensures begins { Between R.can_give units.old units.new (λ p q. Begins units.old.input (still_to_come p) None result (still_to_come q)) }
-    ensures left { IfOk result (λ first. IsSome first → 2 ^ 62 - units.new.place + 1 ≤ 2 ^ 62 - units.old.place) }
+    ensures begins { BeginsOn R.can_give units.old [] result units.new }
+    ensures left { IfOk result (λ first. IsSome first → units_left units.new < units_left units.old) }
 {
     match units.next() {
         Err(fault) => Err(fault),
@@ -298,11 +271,12 @@ fn gather<R: Input>(
     others: &mut Vec<Version>,
 ) -> Result<Option<Version>, Fault>
     requires group { IsGroup first.now others.old.items }
-    ensures input { units.new.input ≡ units.old.input }
+    ensures number { units.new.input ≡ units.old.input }
     ensures failed { units.new.failed ≡ is_err result }
-    ensures gathers { IfOk result (λ next. Between R.can_give units.old units.new (λ p q. Gathers units.old.input (still_to_come p) others.old.items (still_to_come q) first.now others.new.items next)) }
-    ensures refuses { IfErr result (λ fault. Between R.can_give units.old units.new (λ p q. Refuses (gathered units.old.input (still_to_come p) (first.now ∷ others.old.items) []) fault (still_to_come q))) }
-    ensures left { IfOk result (λ next. 2 ^ 62 - units.new.place + (length (option_to_list next) + length others.new.items) ≤ 2 ^ 62 - units.old.place + length others.old.items) }
+    ensures gathers { IfOk result (λ next. GathersOn R.can_give units.old others.old.items units.new first.now others.new.items next) }
+    ensures refuses { IfErr result (λ fault. RefusesOn R.can_give units.old (first.now ∷ others.old.items) fault units.new) }
+    ensures left { IfOk result (λ next.
+        units_left units.new + (length (option_to_list next) + length others.new.items) ≤ units_left units.old + length others.old.items) }
 {
     'units: loop {
         let unit = match units.next() {
@@ -315,40 +289,23 @@ fn gather<R: Input>(
             return Ok(Some(unit.version));
         }
         if order.is_gt() {
-            return Err(refuse_unsorted(units, unit.place));
+            return Err(units.refuse(unit.place, Reason::Unsorted));
         }
         if let Err(_) = others.push(unit.version) {
-            units.fail();
-            return Err(Fault::memory());
+            return Err(units.refuse(unit.place, Reason::Memory));
         }
     }
 }
 
-/// The least version of a group, of which the others are made ready.
-fn give<R: Input>(
-    units: &mut Reading<R>,
-    first: Version,
-    mut others: Vec<Version>,
-    ready: &mut IntoIter<Version>,
-) -> Result<Option<Version>, Fault>
-    requires nothing { into_iter_items ready.old ≡ [] }
-    ensures units { OnOk result (units.new ≡ units.old) }
-    ensures some { IfOk result (λ given. IsSome given) }
-    ensures given { IfOk result (λ given. ascending (first ∷ others.items) ≡ option_to_list given ++ into_iter_items ready.new) }
-    ensures fewer { OnOk result (length (into_iter_items ready.new) ≤ length others.items) }
-    ensures refused { IfErr result (λ fault. (fault ≡ memory_fault) × (units.new ≡ record units.old { failed = true }) × (into_iter_items ready.new ≡ [])) }
+/// The versions of a group, ascending, each once.
+fn ascending(first: Version, mut others: Vec<Version>) -> Result<IntoIter<Version>, Memory>
+    ensures given { IfOk result (λ versions. into_iter_items versions ≡ ascending (first ∷ others.items)) }
+    ensures fewer { IfOk result (λ versions. length (into_iter_items versions) ≤ length others.items + 1) }
 {
-    if others.is_empty() {
-        return Ok(Some(first));
-    }
-    if let Err(_) = others.push(first) {
-        units.fail();
-        return Err(Fault::memory());
-    }
+    others.push(first)?;
     others.sort_unstable();
     others.dedup();
-    *ready = others.into_iter();
-    Ok(ready.next())
+    Ok(others.into_iter())
 }
 
 #[cfg(test)]

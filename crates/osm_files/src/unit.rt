@@ -184,7 +184,8 @@ fn read_sized(
     bytes: &[u8],
 ) -> Result<Option<ReadUnit>, Reason>
     requires { decoder.old.failed ≡ false }
-    ensures found { Finds (spec.sized_unit decoder.old.segment type_byte bytes.now (spec.length_at bytes.now)) result (spec.InSegment decoder.new.segment) }
+    ensures found { Finds (spec.sized_unit decoder.old.segment type_byte bytes.now (spec.length_at bytes.now))
+        result (spec.InSegment decoder.new.segment) }
     ensures good { OnOk result (decoder.new.failed ≡ false) }
     ensures unmoved { result ≡ Ok None → decoder.new ≡ decoder.old }
 {
@@ -275,29 +276,9 @@ impl Place {
     /// # Errors
     ///
     /// Why a unit that stands there whole can't be read, or `Memory`. The reading is at its end then.
-    #[inline(always)]
-    pub(crate) fn read(
-        &mut self,
-        alloc: Global,
-        bytes: &[u8],
-        searched: usize,
-    ) -> Result<Option<ReadUnit>, Reason>
-        requires good { IsGood self.old }
-        requires within { searched ≤ length bytes.now }
-        requires none { spec.unit_at (stand_of self.old) (take searched bytes.now) ≡ None }
-        ensures found { Finds (spec.unit_at (stand_of self.old) bytes.now) result (stand_of self.new) }
-        ensures good { OnOk result (IsGood self.new) }
-        ensures unmoved { result ≡ Ok None → stand_of self.new ≡ stand_of self.old }
-        ensures within { IfOk result (λ unit. IfSome unit (λ u. u.size ≤ length bytes.now)) }
-    {
-        self.find(alloc, bytes, searched)
-    }
-
-    /// The unit that stands whole at the front of the bytes, if there is one, read as the place asks. None stands whole in so
-    /// many of the bytes, which were searched before.
     #[tactic(auto, using(crate::proofs::UnitSteps::end_first, crate::proofs::SearchLaws::no_end), unfolding(crate::specs::Units::unit_at))]
     #[inline(always)]
-    fn find(
+    pub(crate) fn read(
         &mut self,
         alloc: Global,
         bytes: &[u8],

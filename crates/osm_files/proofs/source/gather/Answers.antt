@@ -14,7 +14,7 @@ use Rattle.osm_files.proofs.source.gather.Goals as goal
 
 pub units-init : goal.units-init
 units-init g c = record {
-  input = refl;
+  number = refl;
   keeps = (let from = gathered c.args.units.now.input in let group = c.args.first.now ∷ c.args.others.now.items in
       unread g.R.Input.can_give c.args.units.now c.args.units.now (λ p q. Keeps (from (still_to_come p) group []) (from (still_to_come q) group [])) refl (λ d. kept (from (still_to_come (telling c.args.units.now d)) group [])));
   group = c.requires.group;
@@ -44,22 +44,22 @@ returns-then-is_lt-clause-gathers g c = λ later k.
 pub returns-then-is_gt-clause-refuses : goal.returns-then-is_gt-clause-refuses
 returns-then-is_gt-clause-refuses g c = λ later k.
     let u = c.in-Ok-Some.unit in
-    let failed = c.refuse_unsorted.ensures.failed in
+    let failed = c.refuse.ensures.failed in
     let greater : is_gt (key_cmp c.args.first.now u.version) ≡ true = ap is_gt (sym c.key_cmp-order.ensures) ∙ sym c.is_gt.ensures ∙ c.if-is_gt.true in
     let y = (rw c.in-Ok-Some.field-0-is at c.in-Ok-Some.ensures.step) later (subst (λ r. g.R.Input.can_give r later) (ap (λ v. v.coming) failed) k) in
     let x = c.units.invariant.keeps y.0 y.1 in (
       x.0,
       x.1,
       refuses_unsorted c.args.units.now.input (still_to_come (telling c.args.units.now x.0)) c.args.others.now.items (still_to_come (telling c.units.units y.0)) (still_to_come (telling c.next.new.self later)) c.args.first.now c.units.others.items x.2 u
-          c.refuse_unsorted.result (still_to_come (telling c.refuse_unsorted.new.units later)) c.next.new.self.input y.2 greater (c.refuse_unsorted.ensures.fault ∙ ap (λ n. fault_at n u.place Unsorted) (c.next.ensures.number ∙ c.units.invariant.input))
+          c.refuse.result (still_to_come (telling c.refuse.new.self later)) c.next.new.self.input y.2 greater (c.refuse.ensures.fault ∙ ap (λ n. fault_at n u.place Unsorted) (c.next.ensures.number ∙ c.units.invariant.number))
           (ap (λ (v : Position _). still_to_come (telling v later)) failed),
     )
 
 pub returns-in-Err-push-clause-refuses : goal.returns-in-Err-push-clause-refuses
 returns-in-Err-push-clause-refuses g c = λ later k.
-    let y = (rw c.in-Ok-Some.field-0-is at c.in-Ok-Some.ensures.step) later (subst (λ r. g.R.Input.can_give r later) (ap (λ v. v.coming) c.fail.ensures) k) in
+    let y = (rw c.in-Ok-Some.field-0-is at c.in-Ok-Some.ensures.step) later (subst (λ r. g.R.Input.can_give r later) (ap (λ v. v.coming) c.refuse-in-Err-push.ensures.failed) k) in
     let x = c.units.invariant.keeps y.0 y.1 in
-    (x.0, x.1, (inl c.memory.ensures, (c.next.new.self.input, ap (λ (v : Position _). still_to_come (telling v later)) c.fail.ensures)))
+    (x.0, x.1, (inl c.refuse-in-Err-push.ensures.fault, (c.next.new.self.input, ap (λ (v : Position _). still_to_come (telling v later)) c.refuse-in-Err-push.ensures.failed)))
 
 pub units-preserved : goal.units-preserved
 units-preserved g c =
@@ -72,7 +72,7 @@ units-preserved g c =
     let not_below : is_gt (key_cmp first u.version) ≡ false = ap is_gt (sym c.key_cmp-order.ensures) ∙ sym c.is_gt.ensures ∙ c.if-is_gt.false in
     let from = gathered input in
     rw c.in_default.ensures.items (record {
-      input = c.next.ensures.number ∙ c.units.invariant.input;
+      number = c.next.ensures.number ∙ c.units.invariant.number;
       keeps = then_on g.R.Input.can_give c.args.units.now c.units.units c.next.new.self (λ p q. Keeps (from (still_to_come p) (first ∷ others) []) (from (still_to_come q) (first ∷ c.units.others.items) [])) (λ p q. Step {A = Placed} (still_to_come p) (Ok (Some u)) (still_to_come q)) _
           (λ a b d k h. joins_group input (still_to_come a) others (still_to_come b) (still_to_come d) first c.units.others.items k u h not_above not_below) c.units.invariant.keeps (rw c.in-Ok-Some.field-0-is at c.in-Ok-Some.ensures.step);
       group = group_joined first c.units.others.items u.version c.units.invariant.group not_above not_below;

@@ -24,13 +24,13 @@ returns-in-Ok-clause-stops g c =
     let before = c.in-Ok.ensures.bytes later (g.R.Input.possible c.read.new.self) in
     let some : 0 < length front = omega (arith, c.in-Ok.field-0-test, c.in-Ok.ensures.within, length-take c.in-Ok.field-0 c.read.new.buffer, c.read.auto.buffer) in
     let full : p.place + length p.held + 1 ≡ 2 ^ 62 = omega (arith, c.requires.place, c.requires.limit) in
-    fill_limit can p later before.0 front c.too_long.result (subst (λ (v : Position _). can v.coming before.0) is before.1) before.2 some c.requires.unended full
-    (c.too_long.ensures ∙ ap (λ (v : Position _). too_long_fault v.input) is)
+    fill_limit can p later before.0 front c.refuse.result (subst (λ (v : Position _). can v.coming before.0) is before.1) before.2 some c.requires.unended full
+    (c.refuse.ensures.fault ∙ ap (λ (v : Position _). too_long_fault v.input) is)
 
 pub returns-in-Err-clause-stops : goal.returns-in-Err-clause-stops
 returns-in-Err-clause-stops g c =
     let can = g.R.Input.can_give in
     let p = c.args.self.now in
     let is = c.self.view_is in
-    fill_stopped can p (g.R.Input.one p.coming) ReadFault c.at.result (g.R.Input.possible p.coming) (inr refl) (λ e. subst (λ (v : Position _). can v.coming (breaks [])) is c.in-Err.ensures.broken) c.requires.unended
-    (c.at.ensures ∙ (λ i. fault_at ((is i).input) (c.requires.place i) ReadFault))
+    fill_stopped can p (g.R.Input.one p.coming) ReadFault c.refuse-in-Err.result (g.R.Input.possible p.coming) (inr refl) (λ e. subst (λ (v : Position _). can v.coming (breaks [])) is c.in-Err.ensures.broken) c.requires.unended
+    (c.refuse-in-Err.ensures.fault ∙ (λ i. fault_at ((is i).input) (c.requires.place i) ReadFault))

@@ -20,7 +20,7 @@ returns-in-Err-clause-stops g c =
     let can = g.R.Input.can_give in
     let is = c.self.view_is in
     let broken : c.in-Err.reason ≡ ReadFault → c.read_more.result ≡ Err ReadFault = λ e. rw e at c.in-Err.is in
-    fill_stopped can c.args.self.now (g.R.Input.one c.args.self.now.coming) c.in-Err.reason c.at.result (g.R.Input.possible c.args.self.now.coming) c.in-Err.ensures.reason
+    fill_stopped can c.args.self.now (g.R.Input.one c.args.self.now.coming) c.in-Err.reason c.refuse.result (g.R.Input.possible c.args.self.now.coming) c.in-Err.ensures.reason
     (λ e. subst (λ (v : Position _). can v.coming (breaks [])) is (c.read_more.ensures.broken (broken e)))
     c.requires
-    (c.at.ensures ∙ ap (λ n. fault_at c.self.inside.input (c.self.inside.place + n) c.in-Err.reason) c.len.ensures ∙ (λ i. fault_at ((is i).input) ((is i).place + length ((is i).held)) c.in-Err.reason))
+    (c.refuse.ensures.fault ∙ ap (λ n. fault_at c.self.inside.input (c.self.inside.place + n) c.in-Err.reason) c.len.ensures ∙ (λ i. fault_at ((is i).input) ((is i).place + length ((is i).held)) c.in-Err.reason))

@@ -1,9 +1,15 @@
-use Rattle.std.proofs.Common.{◌-◌, ◌^◌}
-use Rattle.osm_files.specs.Position.{HasGone}
+use Rattle.std.proofs.Common.{◌≡◌, ◌≤◌, None, length, take}
+use Rattle.osm_files.specs.Position.{stand_at}
+use Rattle.osm_files.specs.Units.{unit_at}
+use Rattle.osm_files.proofs.ReaderLaws.{HasGone, left_over}
 use Rattle.osm_files.proofs.reading.Reading.next_unit.Given as goal
 
 abbrev pub invariant-units : goal.invariant-units
-invariant-units g l = HasGone g.R.Input.can_give l.initial.self l.self
+invariant-units g l = record {
+  on : HasGone g.R.Input.can_give l.initial.self l.self;
+  within : l.searched ≤ length l.self.held;
+  none : unit_at (stand_at l.self) (take l.searched l.self.held) ≡ None;
+}
 
 abbrev pub decreases-units : goal.decreases-units
-decreases-units g l = 2 ^ 62 - l.self.place
+decreases-units g l = left_over l.self

@@ -1,20 +1,16 @@
-use Rattle.std.proofs.Common.{◌≡◌, ◌∙◌, ap, sym, subst, IfSome, Some, Err}
+use Rattle.std.proofs.Common.{◌≡◌, ◌∙◌, ap, sym, subst, IfSome, None, Some, Err}
 use Rattle.std.specs.Vec.Iter.{into_iter_items}
 use Rattle.osm_files.specs.Groups.{sorted_source}
 use Rattle.osm_files.specs.Load.{format_of}
 use Rattle.osm_files.specs.Position.{Position, Told, telling, ahead, still_to_come}
 use Rattle.osm_files.specs.Source.{Step}
 use Rattle.osm_files.specs.Stream.{Placed}
-use Rattle.osm_files.proofs.RiseLaws.{source_opens_rising, source_opens_told, opens_refused}
+use Rattle.osm_files.proofs.RiseLaws.{source_opens_told, opens_refused}
+use Rattle.osm_files.proofs.SourceSteps.{open_source}
 use Rattle.osm_files.proofs.source.FileSource.open.Goals as goal
 
 pub invariant_of-result : goal.invariant_of-result
-invariant_of-result g c = (
-  λ d k.
-      let y = c.in-Ok.ensures.tells d k in
-      source_opens_rising (telling c.new-units.result y.0) (telling c.format.new.self d) (into_iter_items c.into_iter-ready.result) c.args.input (Some y.0) (ap (λ v. telling v y.0) c.new-units.ensures) y.2.0 (c.into_iter-ready.ensures.rest ∙ c.new.ensures.items),
-  λ failed. c.into_iter-ready.ensures.rest ∙ c.new.ensures.items,
-)
+invariant_of-result g c = open_source g.R.Input.can_give c.format.new.self None _ (c.into_iter-ready.ensures.rest ∙ c.new.ensures.items)
 
 pub returns-in-Ok-clause-opened : goal.returns-in-Ok-clause-opened
 returns-in-Ok-clause-opened g c = λ later h.

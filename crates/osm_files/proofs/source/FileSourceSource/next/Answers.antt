@@ -1,5 +1,4 @@
-use Rattle.std.proofs.Common.{◌≡◌, List, [], sym, ◌∙◌, subst, refl, arith, option_to_list, IfSome, Ok, Some}
-use Rattle.std.proofs.lemmas.List.{nil_from_length}
+use Rattle.std.proofs.Common.{List, sym, ◌∙◌, subst, refl, option_to_list, IfSome, Ok, Some}
 use Rattle.std.specs.Vec.Iter.{into_iter_items}
 use Rattle.osm_model.specs.Data.{VersionData}
 use Rattle.osm_files.specs.Position.{telling, still_to_come}
@@ -24,10 +23,7 @@ returns-in-Some-clause-step g c =
     let here = standing s.units (option_to_list s.pending) (into_iter_items s.ready) in
     let next = standing s.units (option_to_list s.pending) (into_iter_items c.next.new.self) in
     subst (λ (x : FileStand _). Steps (FileCanGive g.R.Input.can_give) x (Ok (Some c.in-Some.version)) next) c.self.view_is
-    (file_step g.R.Input.can_give here next (Ok (Some c.in-Some.version)) c.self.invariant.0 (λ d k.
-    ready_rises s.units.input (still_to_come (telling s.units d)) (option_to_list s.pending) (into_iter_items c.next.new.self) c.in-Some.version
-    (subst (λ (xs : List VersionData). IfSome (gathered s.units.input (still_to_come (telling s.units d)) (option_to_list s.pending) xs) Ascends) c.in-Some.ensures.items (c.self.invariant.0 d k)))
-    refl
+    (file_step g.R.Input.can_give here next (Ok (Some c.in-Some.version)) c.self.invariant.0 refl
     (λ d k. (
       d,
       k,
@@ -38,9 +34,8 @@ returns-in-Some-clause-step g c =
 pub returns-in-None-clause-step : goal.returns-in-None-clause-step
 returns-in-None-clause-step g c =
     let s = c.self.inside in
-    let none : into_iter_items s.ready ≡ [] = nil_from_length _ (omega (arith, s.ready.rest.ok, c.in-None.ensures.cases)) in
     let here = standing s.units (option_to_list s.pending) (into_iter_items s.ready) in
-    let next = standing c.next_group.new.units (option_to_list c.next_group.new.pending) (into_iter_items c.next_group.new.ready) in
+    let next = c.next_group.new.self in
     subst (λ (x : FileStand _). Steps (FileCanGive g.R.Input.can_give) x c.next_group.result next) c.self.view_is
-    (file_step g.R.Input.can_give here next c.next_group.result c.self.invariant.0 c.next_group.ensures.ascends c.next_group.ensures.input
-    (subst (λ (xs : List VersionData). FileSteps g.R.Input.can_give s.units.input (standing s.units (option_to_list s.pending) xs) c.next_group.result next) (sym none) c.next_group.ensures.step))
+    (file_step g.R.Input.can_give here next c.next_group.result c.self.invariant.0 c.next_group.ensures.number
+    (subst (λ (xs : List VersionData). FileSteps g.R.Input.can_give (standing s.units (option_to_list s.pending) xs) c.next_group.result next) (sym c.in-None.ensures.items) c.next_group.ensures.step))
