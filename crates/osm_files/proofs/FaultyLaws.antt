@@ -14,7 +14,7 @@ use Rattle.osm_files.specs.Units.{Stand, InOpl, Found, FileUnit, unit_at, found_
 use Rattle.osm_files.specs.Verdict.{length_limit, too_long, file_units, verdict, is_below, sorted_verdict, verdict_sorted}
 use Rattle.osm_files.proofs.HoldLaws.{whole_source_is_held, broken_source_ends, long_source_ends}
 use Rattle.osm_files.proofs.StepLaws.{unit_sized, units_step, units_stop}
-use Rattle.osm_files.proofs.MoreLaws.{unit_stays}
+use Rattle.osm_files.proofs.StayLaws.{unit_stays}
 
 abbrev Units : Type 0
 Units = Still Placed Verdict

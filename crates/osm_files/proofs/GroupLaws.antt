@@ -1,5 +1,5 @@
 -- Key groups, one unit at a time.
-use Rattle.std.proofs.Common.{◌≡◌, ℕ, ◌<◌, ◌≤◌, ◌⊎◌, inl, inr, Bool, true, false, ◌||◌, List, [], ◌∷◌, ◌++◌, length, refl, ap, sym, ◌∙◌, subst, arith, Option, Some, None, option_to_list, is_some, IfSome, IfOk, IfErr, OnOk, Result, Ok, Err}
+use Rattle.std.proofs.Common.{◌≡◌, ℕ, ◌⊎◌, inl, inr, Bool, true, false, ◌||◌, List, [], ◌∷◌, ◌++◌, length, refl, ap, sym, ◌∙◌, subst, Option, Some, None, option_to_list, is_some, IfSome, Result, Ok, Err}
 use Rattle.std.proofs.lemmas.Bool.{false≢true}
 use Rattle.std.proofs.lemmas.List.{append-nil}
 use Rattle.std.specs.declared.cmp.Ordering.{Ordering}
@@ -18,7 +18,7 @@ use Rattle.osm_files.specs.declared.fault.Fault.{Fault}
 use Rattle.osm_files.specs.declared.reason.Reason.TheVariants.{Unsorted}
 use Rattle.osm_files.specs.Fault.{memory_fault, failed_fault}
 use Rattle.osm_files.specs.Groups.{ascending, joins, follows, versions_then, groups, gathered, IsGroup, Gathers, Refuses}
-use Rattle.osm_files.specs.Position.{Told, Keeps, fault_of, still_to_come}
+use Rattle.osm_files.specs.Position.{Keeps, fault_of}
 use Rattle.osm_files.specs.Source.{Step}
 use Rattle.osm_files.specs.Stream.{verdict_at, Placed, Still, whole, refused, front}
 use Rattle.osm_files.proofs.FillLaws.{weaker, keeps_on}

@@ -5,8 +5,8 @@ pub mod FileLaws
 mod UnitSteps
 mod SearchLaws
 mod StepLaws
-mod MoreLaws
-mod HeldBytes
+mod StayLaws
+mod RoomLaws
 mod FillLaws
 mod PositionLaws
 mod ReadingLaws
@@ -23,4 +23,4 @@ pub mod FaultyLaws
 pub mod SpellSteps
 pub mod SinkLaws
 pub mod SpellLaws
-pub mod HeldLaws
+pub mod RangeLaws

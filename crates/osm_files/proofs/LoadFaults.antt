@@ -33,7 +33,7 @@ use Rattle.osm_files.specs.Position.{units_from, fault_of}
 use Rattle.osm_files.specs.LoadLaws.{InputsAreFiles, IsFaultyWhole, NoneFaultyWhole, broken_behind, BrokenInputsAreRefused, is_verdict_reason, ReasonsOfVerdicts}
 use Rattle.osm_files.proofs.FileLaws.{short_units}
 use Rattle.osm_files.proofs.StepLaws.{unit_sized}
-use Rattle.osm_files.proofs.MoreLaws.{unit_stays}
+use Rattle.osm_files.proofs.StayLaws.{unit_stays}
 use Rattle.osm_files.proofs.PositionLaws.{from_is, known, none_in_nothing}
 use Rattle.osm_files.proofs.LoadLaws.{whole_units}
 

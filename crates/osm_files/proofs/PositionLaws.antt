@@ -16,7 +16,7 @@ use Rattle.osm_files.specs.Verdict.{length_limit, too_long}
 use Rattle.osm_files.specs.Position.{Told, ahead, stand_in, closing, window, units_from, fault_of, named, to_come, Keeps, ReadsOn, GoesOn, stand_at, Halts, StopsFilling}
 use Rattle.osm_files.proofs.FillLaws.{weaker, mapped, kept, keeps_on}
 use Rattle.osm_files.proofs.StepLaws.{IsSized, unit_sized, found_same, units_step, units_stop}
-use Rattle.osm_files.proofs.MoreLaws.{unit_stays}
+use Rattle.osm_files.proofs.StayLaws.{unit_stays}
 
 limit_is : length_limit ≡ 2 ^ 62
 unfolding length_limit

@@ -7,7 +7,7 @@ use Rattle.osm_files.specs.declared.fault.Fault.{Fault}
 use Rattle.osm_files.specs.declared.reason.Reason.{Reason}
 use Rattle.osm_files.specs.declared.reason.Reason.TheVariants.{Memory, Unsorted, Opl, O5, BadHeader, NoEnd, AfterEnd, TooLong, ReadFault, WriteFault, Failed}
 use Rattle.osm_files.specs.declared.unit.ReadUnit.{ReadUnit}
-use Rattle.osm_files.specs.declared.unit.Place.{Place}
+use Rattle.osm_files.specs.declared.unit.Stage.{Stage}
 use Rattle.osm_files.specs.Fault.{memory_fault, failed_fault, fault_at}
 use Rattle.osm_files.specs.Input.{Coming}
 use Rattle.osm_files.specs.Stream.{verdict_at, Placed, placed, Still, whole, refused, front}
@@ -16,9 +16,9 @@ use Rattle.opl_line.specs.Cut.{is_line_end, split_first}
 use Rattle.osm_files.specs.Units.{Stand, InOpl, BeforeHeader, InSegment, BehindEnd, Found, unit, unit_at, line_unit, last_at, found_then, units}
 use Rattle.osm_files.specs.Reading.{Finds, FindsLast, stand_of, without_stand}
 use Rattle.osm_files.specs.Position.{Position, Told, telling, ahead, stand_in, closing, window, units_from, fault_of, named, to_come, still_to_come, Keeps, GoesOn, stand_at, seen, FindsHeld}
-use Rattle.osm_files.proofs.FillLaws.{weaker, mapped, keeps_on}
+use Rattle.osm_files.proofs.FillLaws.{weaker, mapped}
 use Rattle.osm_files.proofs.StepLaws.{unit_sized}
-use Rattle.osm_files.proofs.PositionLaws.{from_is, known, behind, same_stand, with_each, gone_over, gone_passed, gone_gave, gone_refused, none_in_nothing, at_the_end, goes_on}
+use Rattle.osm_files.proofs.PositionLaws.{from_is, behind, same_stand, with_each, gone_over, gone_passed, gone_gave, gone_refused, none_in_nothing, at_the_end, goes_on}
 
 -- the fault of a reason at a place
 fault_is : (input place : ℕ) (reason : Reason) → (fault_at input place reason ≡ memory_fault) ⊎ (fault_at input place reason ≡ fault_of input (verdict_at place reason))
@@ -92,7 +92,7 @@ nothing_held p m is none =
 abbrev pub answers : Option ReadUnit → Result (Option ReadUnit) Reason
 answers unit = Ok unit
 
-module _ {C : Type 0} (p m : Position C) (at : Place) (bytes : List ℕ) (is : m ≡ seen p) (stands : m.stand ≡ Some (stand_of at)) (held : bytes ≡ m.held) where
+module _ {C : Type 0} (p m : Position C) (at : Stage) (bytes : List ℕ) (is : m ≡ seen p) (stands : m.stand ≡ Some (stand_of at)) (held : bytes ≡ m.held) where
   there : stand_at p ≡ stand_of at
   there = seen_stand p (stand_of at) (ap (λ q. q.stand) (sym is) ∙ stands)
 

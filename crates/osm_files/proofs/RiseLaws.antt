@@ -1,5 +1,5 @@
 -- What groups give ascends, whatever was known before.
-use Rattle.std.proofs.Common.{◌≡◌, ◌⊎◌, ⊎_elim, inl, inr, ℕ, Bool, true, false, cond, ◌||◌, List, [], ◌∷◌, ◌++◌, refl, ap, sym, ◌∙◌, subst, Option, Some, None, option_map, option_to_list, IfSome, IfOk, IfErr, OnOk, Result, Ok, Err}
+use Rattle.std.proofs.Common.{◌≡◌, ◌⊎◌, ⊎_elim, inl, inr, ℕ, Bool, true, false, cond, ◌||◌, List, [], ◌∷◌, ◌++◌, refl, ap, sym, ◌∙◌, subst, Option, Some, None, option_map, option_to_list, IfSome, Result, Ok, Err}
 use Rattle.std.proofs.lemmas.Bool.{false≢true}
 use Rattle.std.proofs.lemmas.List.{append-nil}
 use Rattle.std.specs.declared.cmp.Ordering.{Ordering}
@@ -15,14 +15,13 @@ use Rattle.osm_model.proofs.SetLaws.{strict-listed, listed-from_list}
 use Rattle.osm_model.proofs.VersionLaws.{version_cmp-IsAntisymmetric}
 use Rattle.osm_files.specs.declared.fault.Fault.{Fault}
 use Rattle.osm_files.specs.Fault.{memory_fault, failed_fault}
-use Rattle.osm_files.specs.Groups.{ascending, last_group, groups, versions_then, sorted_source, gathered, IsGroup, Gathers, StillSet, as_set, still_given, FileStand, FileCanGive, FileSteps, FileAscends, gathered_at, given_at, IsKnown, known_or_whole, one_given}
+use Rattle.osm_files.specs.Groups.{ascending, last_group, groups, sorted_source, gathered, IsGroup, Gathers, StillSet, as_set, still_given, FileStand, FileCanGive, FileSteps, FileAscends, gathered_at, given_at, IsKnown, known_or_whole, one_given}
 use Rattle.osm_files.specs.Input.{Coming}
 use Rattle.osm_files.specs.Position.{Told, named, units_from, to_come, still_to_come, GoesOn}
 use Rattle.osm_files.specs.Source.{Ascends, Step, Steps}
 use Rattle.osm_files.specs.Stream.{Placed, Still, whole, refused, front}
-use Rattle.osm_files.proofs.FillLaws.{weaker, mapped}
-use Rattle.osm_files.proofs.PositionLaws.{with_each}
-use Rattle.osm_files.proofs.GroupLaws.{has, has_ascending, ascending_is, ascending_nil, ascending_one}
+use Rattle.osm_files.proofs.FillLaws.{weaker}
+use Rattle.osm_files.proofs.GroupLaws.{has, has_ascending, ascending_is, ascending_nil}
 
 -- ---- keys
 less_first : (o p : Ordering) → o ≡ Less → ordering_then o p ≡ Less

@@ -42,7 +42,7 @@ use Rattle.osm_files.specs.Sink.{MayFollow}
 use Rattle.osm_files.specs.Verdict.{file_units, versions_of, held_by, verdict}
 use Rattle.osm_files.specs.SpellLaws.{AreVersions, SpellHoldsItsSet, HeldWithoutVerdict, SpellHasNoVerdict, HeldIsOneSet, SpelledIsHeld, joined_file, JoinInAnyOrder, JoinRepeated, JoinInAnyGrouping, FilesJoinInAnyGrouping, HeldAreVersions, UnionsAreVersions, KindsDontFall, ListIsSpelledAsItsSet, FirstVersionsStandInFront}
 use Rattle.osm_files.proofs.FileLaws.{one_list, files_are_read, accepted_without_verdict}
-use Rattle.osm_files.proofs.HeldLaws.{files_hold_versions}
+use Rattle.osm_files.proofs.RangeLaws.{files_hold_versions}
 use Rattle.osm_files.proofs.SpellSteps.{first_so, then_greater, may_follow, list_split}
 
 -- ---- lines

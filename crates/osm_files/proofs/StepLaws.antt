@@ -1,15 +1,12 @@
 -- Units one at a time: the unit at the front, and those behind it.
-use Rattle.std.proofs.Common.{◌≡◌, ℕ, zero, suc, ◌+◌, ◌-◌, ◌≤◌, ◌==◌, true, false, cond, List, [], ◌∷◌, length, drop, take, refl, sym, ap, ◌∙◌, subst, arith, Option, Some, None, IfSome, IfOk, Result, Ok, Err, length-drop, length-append, nat_lt, nat_le}
+use Rattle.std.proofs.Common.{◌≡◌, ℕ, zero, suc, ◌+◌, ◌-◌, ◌≤◌, ◌==◌, true, false, cond, List, [], ◌∷◌, length, drop, take, refl, sym, ap, ◌∙◌, subst, arith, Option, Some, None, Result, Ok, Err, length-drop, length-append, nat_lt, nat_le}
 use Rattle.std.proofs.lemmas.Bool.{ltb-false, leb-true}
 use Rattle.opl_line.specs.Cut.{is_line_end, split_first}
 use Rattle.opl_line.specs.Reading.{reading_line}
 use Rattle.o5_codec.specs.declared.reason.O5Reason.{O5Reason}
 use Rattle.o5_codec.specs.declared.segment.Segment.{Segment}
 use Rattle.o5_codec.specs.Decoder.{new_segment}
-use Rattle.osm_files.specs.declared.reason.Reason.{Reason}
 use Rattle.osm_files.specs.declared.reason.Reason.TheVariants.{BadHeader}
-use Rattle.osm_files.specs.declared.unit.ReadUnit.{ReadUnit}
-use Rattle.osm_files.specs.Reading.{Finds}
 use Rattle.osm_files.specs.Stream.{Verdict, Placed, Still}
 use Rattle.osm_files.specs.O5.{end_byte, reset_byte, is_lone, kind_of_type}
 use Rattle.osm_files.specs.Units.{Stand, InOpl, BeforeHeader, InSegment, BehindEnd, Found, FileUnit, unit, passes, line_unit, line_found, header_unit, is_header, content_found, length_at, sized_unit, segment_unit, behind_unit, unit_at, last_at, found_then, closed, unit_then, units_within, units}

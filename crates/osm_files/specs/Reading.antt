@@ -7,20 +7,20 @@ use Rattle.o5_codec.specs.Decoder.{State}
 use Rattle.osm_files.specs.declared.reason.Reason.{Reason}
 use Rattle.osm_files.specs.declared.reason.Reason.TheVariants.{Memory}
 use Rattle.osm_files.specs.declared.unit.ReadUnit.{ReadUnit}
-use Rattle.osm_files.specs.declared.unit.Place.{Place}
-use Rattle.osm_files.specs.declared.unit.Place.TheVariants.{Lines, Header, DataSets, End}
+use Rattle.osm_files.specs.declared.unit.Stage.{Stage}
+use Rattle.osm_files.specs.declared.unit.Stage.TheVariants.{Lines, Header, DataSets, End}
 use Rattle.osm_files.specs.Units.{Stand, InOpl, BeforeHeader, InSegment, BehindEnd, Found, FileUnit, unit, content_found}
 use Rattle.osm_files.specs.O5.{end_byte}
 
 -- where a reading stands, by what it keeps
-abbrev pub stand_of : Place → Stand
+abbrev pub stand_of : Stage → Stand
 stand_of Lines = InOpl
 stand_of Header = BeforeHeader
 stand_of (DataSets decoder) = InSegment decoder.segment
 stand_of End = BehindEnd
 
 -- no data set was refused before
-abbrev pub IsGood : Place → Type 0
+abbrev pub IsGood : Stage → Type 0
 IsGood Lines = Unit {0}
 IsGood Header = Unit {0}
 IsGood (DataSets decoder) = decoder.failed ≡ false

@@ -3,7 +3,6 @@
 
 mod fault;
 mod format;
-mod held;
 mod history_source;
 mod input;
 pub mod laws;
@@ -15,6 +14,7 @@ mod reason;
 mod sink;
 mod source;
 mod unit;
+mod unread;
 
 pub use fault::{Fault, LENGTH_LIMIT};
 pub use format::{FORMAT_NAMES, Format};

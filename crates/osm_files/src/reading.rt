@@ -13,11 +13,11 @@ ghost use Rattle.osm_files.specs.Position.{Between, HasRead, StopsAt, FindsHeld,
 
 use crate::fault::{Fault, LENGTH_LIMIT};
 use crate::format::Format;
-use crate::held::Held;
 use crate::input::Input;
 use crate::placed::Placed;
 use crate::reason::Reason;
-use crate::unit::{O5M_HEADER, Place, RESET, ReadUnit, read_line_unit};
+use crate::unit::{O5M_HEADER, RESET, ReadUnit, Stage, read_line_unit};
+use crate::unread::Unread;
 use opl_line::LineReader;
 use osm_model::Version;
 use std::alloc::Global;
@@ -30,11 +30,11 @@ pub(crate) struct Reading<R: Input> {
     input: usize,
     reader: R,
     /// The bytes that came and weren't read.
-    held: Held,
+    unread: Unread,
     /// The place in the file of the first of them.
     place: u64,
     /// Where the reading stands, once the first byte was seen, which tells the grammar.
-    at: Option<Place>,
+    stage: Option<Stage>,
     ended: bool,
     failed: bool,
     /// What reads lines that stand whole in the bytes held.
@@ -51,14 +51,14 @@ impl<R: Input> Model for Reading<R> {
     ghost view = { λ r. record {
       input = r.input;
       place = r.place;
-      held = r.held;
+      held = r.unread;
       coming = r.reader;
-      stand = option_map stand_of r.at;
+      stand = option_map stand_of r.stage;
       ended = r.ended;
       failed = r.failed;
     } };
 
-    ghost invariant = { λ r. (r.place + length r.held < 2 ^ 62) × (r.failed ≡ false → IfSome r.at IsGood) };
+    ghost invariant = { λ r. (r.place + length r.unread < 2 ^ 62) × (r.failed ≡ false → IfSome r.stage IsGood) };
 }
 
 impl<R: Input> Reading<R> {
@@ -70,9 +70,9 @@ impl<R: Input> Reading<R> {
             alloc,
             input,
             reader,
-            held: Held::new(alloc),
+            unread: Unread::new(alloc),
             place: 0,
-            at: None,
+            stage: None,
             ended: false,
             failed: false,
             lines: LineReader::new(alloc),
@@ -89,12 +89,12 @@ impl<R: Input> Reading<R> {
         ensures refused { OnErr result (self.new.failed ≡ true) }
         ensures number { self.new.input ≡ self.old.input }
     {
-        let read = self.place + self.held.len() as u64;
+        let read = self.place + self.unread.len() as u64;
         let room = LENGTH_LIMIT - 1 - read;
         if room == 0 {
             return self.end_at_limit(read);
         }
-        match self.held.read_more(&mut self.reader, room as usize) {
+        match self.unread.read_more(&mut self.reader, room as usize) {
             Ok(0) => {
                 self.ended = true;
                 Ok(())
@@ -131,8 +131,8 @@ impl<R: Input> Reading<R> {
     fn see(&mut self)
         ensures { self.new ≡ seen self.old }
     {
-        if self.at.is_none() && !self.held.as_slice().is_empty() {
-            self.at = Some(Place::of(self.held.as_slice()));
+        if self.stage.is_none() && !self.unread.as_slice().is_empty() {
+            self.stage = Some(Stage::of(self.unread.as_slice()));
         }
     }
 
@@ -149,10 +149,10 @@ impl<R: Input> Reading<R> {
         ensures number { self.new.input ≡ self.old.input }
     {
         self.see();
-        let Some(at) = &mut self.at else {
+        let Some(stage) = &mut self.stage else {
             return Ok(None);
         };
-        match at.read(self.alloc, self.held.as_slice(), searched) {
+        match stage.read(self.alloc, self.unread.as_slice(), searched) {
             Ok(unit) => Ok(unit),
             Err(reason) => {
                 self.failed = true;
@@ -168,7 +168,7 @@ impl<R: Input> Reading<R> {
         ensures gave { result ≡ option_map (placed self.old.place) unit.version }
     {
         let place = self.place;
-        self.held.skip(unit.size);
+        self.unread.skip(unit.size);
         self.place += unit.size as u64;
         match unit.version {
             None => None,
@@ -181,9 +181,9 @@ impl<R: Input> Reading<R> {
         requires { self.now.stand ≡ None → self.now.held ≡ [] }
         ensures { FindsLast (spec.last_at (stand_at self.now) self.now.held) result }
     {
-        match &self.at {
+        match &self.stage {
             None => Ok(None),
-            Some(at) => at.read_last(self.alloc, self.held.as_slice()),
+            Some(stage) => stage.read_last(self.alloc, self.unread.as_slice()),
         }
     }
 
@@ -202,7 +202,7 @@ impl<R: Input> Reading<R> {
     {
         match self.read_last() {
             Ok(version) => {
-                let size = self.held.len();
+                let size = self.unread.len();
                 Ok(self.pass(ReadUnit { size, version }))
             }
             Err(reason) => Err(self.refuse(self.place, reason)),
@@ -233,7 +233,7 @@ impl<R: Input> Reading<R> {
                 },
                 Ok(None) if self.ended => return self.last(),
                 Ok(None) => {
-                    searched = self.held.len();
+                    searched = self.unread.len();
                     self.fill()?;
                 }
                 Err(reason) => return Err(self.refuse(self.place, reason)),
@@ -246,7 +246,7 @@ impl<R: Input> Reading<R> {
     fn is_among_lines(&self) -> bool
         ensures { result ≡ true → self.now.stand ≡ Some spec.InOpl }
     {
-        matches!(self.at, Some(Place::Lines))
+        matches!(self.stage, Some(Stage::Lines))
     }
 
     /// The line at the front of the bytes held, if its end is there.
@@ -256,7 +256,7 @@ impl<R: Input> Reading<R> {
         ensures bound { self.old.place + length self.old.held < 2 ^ 62 }
         ensures found { Finds (spec.line_unit (split_first is_line_end self.old.held)) result spec.InOpl }
     {
-        read_line_unit(&mut self.lines, self.held.as_slice(), 0)
+        read_line_unit(&mut self.lines, self.unread.as_slice(), 0)
     }
 
     /// The next version; none at the end and ever after.
@@ -305,7 +305,7 @@ impl<R: Input> Reading<R> {
         ensures refused { IfErr result (λ fault. StepsOn R.can_give self.old (Err fault) self.new) }
     {
         'reads: loop {
-            let held = self.held.as_slice();
+            let held = self.unread.as_slice();
             if tells_format(held) {
                 return Ok(format_of(held));
             }
@@ -321,8 +321,8 @@ impl<R: Input> Reading<R> {
     pub(crate) fn reuse(&mut self, version: Version)
         ensures { self.new ≡ self.old }
     {
-        match &mut self.at {
-            Some(Place::DataSets(decoder)) => decoder.reuse(version),
+        match &mut self.stage {
+            Some(Stage::DataSets(decoder)) => decoder.reuse(version),
             _ => self.lines.reuse(version),
         }
     }

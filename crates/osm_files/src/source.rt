@@ -62,8 +62,7 @@ pub trait Source {
     /// Takes back a version that isn't needed any more, whose memory the next one may take; or lets it go.
     fn reuse(&mut self, _version: Version)
         ensures { self.new ≡ self.old }
-    {
-    }
+    {}
 }
 
 /// A sorted file: the versions of one key after the other, each key group ascending and without repeats.

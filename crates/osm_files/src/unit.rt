@@ -38,9 +38,9 @@ pub(crate) struct ReadUnit {
     pub(crate) version: Option<Version>,
 }
 
-/// Where a reading of a file stands.
+/// How far a reading of a file has come.
 #[derive(Drop)]
-pub(crate) enum Place {
+pub(crate) enum Stage {
     /// In an OPL file.
     Lines,
     /// Before the header of an o5 file.
@@ -241,15 +241,15 @@ fn read_behind(bytes: &[u8]) -> Result<Option<ReadUnit>, Reason>
     }
 }
 
-impl Place {
+impl Stage {
     /// Where the reading of a file with these bytes begins.
-    pub(crate) fn of(bytes: &[u8]) -> Place
+    pub(crate) fn of(bytes: &[u8]) -> Stage
         ensures place { stand_of result ≡ spec.start_of bytes.now }
         ensures good { IsGood result }
     {
         match bytes.first() {
-            Some(byte) if *byte == RESET => Place::Header,
-            _ => Place::Lines,
+            Some(byte) if *byte == RESET => Stage::Header,
+            _ => Stage::Lines,
         }
     }
 
@@ -263,10 +263,10 @@ impl Place {
         ensures { FindsLast (spec.last_at (stand_of self.now) bytes.now) result }
     {
         match self {
-            Place::Lines => read_last_line(alloc, bytes),
-            Place::Header => Err(Reason::BadHeader),
-            Place::DataSets(_) => Err(why_cut(bytes)),
-            Place::End => Ok(None),
+            Stage::Lines => read_last_line(alloc, bytes),
+            Stage::Header => Err(Reason::BadHeader),
+            Stage::DataSets(_) => Err(why_cut(bytes)),
+            Stage::End => Ok(None),
         }
     }
 
@@ -292,16 +292,16 @@ impl Place {
         ensures unmoved { result ≡ Ok None → stand_of self.new ≡ stand_of self.old }
     {
         match self {
-            Place::Lines => read_line_unit(&mut LineReader::new(alloc), bytes, searched),
-            Place::Header => self.read_header(alloc, bytes),
-            Place::DataSets(decoder) => {
+            Stage::Lines => read_line_unit(&mut LineReader::new(alloc), bytes, searched),
+            Stage::Header => self.read_header(alloc, bytes),
+            Stage::DataSets(decoder) => {
                 if ends_at(bytes) {
-                    *self = Place::End;
+                    *self = Stage::End;
                     return passed(1);
                 }
                 read_data_set(decoder, bytes)
             }
-            Place::End => read_behind(bytes),
+            Stage::End => read_behind(bytes),
         }
     }
 
@@ -314,7 +314,7 @@ impl Place {
         match read_header(bytes) {
             Ok(Some(unit)) => match Decoder::new(alloc) {
                 Ok(decoder) => {
-                    *self = Place::DataSets(decoder);
+                    *self = Stage::DataSets(decoder);
                     Ok(Some(unit))
                 }
                 Err(memory) => Err(Reason::from(memory)),

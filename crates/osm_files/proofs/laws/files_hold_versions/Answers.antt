@@ -1,4 +1,4 @@
-use Rattle.osm_files.proofs.HeldLaws.{files_hold_versions}
+use Rattle.osm_files.proofs.RangeLaws.{files_hold_versions}
 use Rattle.osm_files.proofs.laws.files_hold_versions.Goals as goal
 
 pub returns : goal.returns

@@ -1,4 +1,4 @@
-use Rattle.std.proofs.Common.{◌≡◌, ◌∙◌, ◌+◌, ◌≤◌, sym, ap, subst, refl, length, drop, false, Ok, Err, Some, option_map}
+use Rattle.std.proofs.Common.{◌≡◌, ◌∙◌, ◌+◌, ◌≤◌, sym, ap, subst, refl, length, drop, false, Err, option_map}
 use Rattle.osm_files.specs.Fault.{failed_fault, fault_at}
 use Rattle.osm_files.specs.Position.{Position, telling, still_to_come}
 use Rattle.osm_files.specs.Source.{Step}

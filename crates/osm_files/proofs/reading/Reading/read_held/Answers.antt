@@ -8,8 +8,8 @@ returns-in_default-clause-found g c = nothing_held c.args.self.now _ (c.self.vie
 
 pub returns-in-Ok-clause-found : goal.returns-in-Ok-clause-found
 returns-in-Ok-clause-found g c =
-    found_held c.args.self.now _ c.in-Some.at _ (c.self.view_is ∙ c.see.ensures) (ap (option_map stand_of) c.in-Some.is) c.as_slice.ensures c.in-Ok.unit (stand_of c.read.new.self) c.in-Ok.ensures.found c.in-Ok.ensures.unmoved
+    found_held c.args.self.now _ c.in-Some.stage _ (c.self.view_is ∙ c.see.ensures) (ap (option_map stand_of) c.in-Some.is) c.as_slice.ensures c.in-Ok.unit (stand_of c.read.new.self) c.in-Ok.ensures.found c.in-Ok.ensures.unmoved
 
 pub returns-in-Err-clause-found : goal.returns-in-Err-clause-found
 returns-in-Err-clause-found g c =
-    refused_held c.args.self.now _ c.in-Some.at _ (c.self.view_is ∙ c.see.ensures) (ap (option_map stand_of) c.in-Some.is) c.as_slice.ensures c.in-Err.reason (stand_of c.read.new.self) c.args.self.now c.in-Err.ensures.found
+    refused_held c.args.self.now _ c.in-Some.stage _ (c.self.view_is ∙ c.see.ensures) (ap (option_map stand_of) c.in-Some.is) c.as_slice.ensures c.in-Err.reason (stand_of c.read.new.self) c.args.self.now c.in-Err.ensures.found

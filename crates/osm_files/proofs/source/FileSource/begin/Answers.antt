@@ -1,6 +1,4 @@
-use Rattle.std.proofs.Common.{◌≡◌, ◌∙◌, [], ap, sym, subst, List, Ok, Some, None, option_to_list}
-use Rattle.std.specs.Vec.Iter.{into_iter_items}
-use Rattle.osm_model.specs.Data.{VersionData}
+use Rattle.std.proofs.Common.{◌∙◌, ap, sym, subst, Ok, Some}
 use Rattle.osm_files.specs.Groups.{FileStand, BeginsOn}
 use Rattle.osm_files.proofs.SourceSteps.{open_source, begins_held}
 use Rattle.osm_files.proofs.source.FileSource.begin.Goals as goal

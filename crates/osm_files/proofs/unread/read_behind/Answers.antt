@@ -1,7 +1,7 @@
 use Rattle.std.proofs.Common.{◌≡◌, ◌+◌, ◌-◌, ◌≤◌, ◌++◌, ◌∙◌, ap, take, drop, length, arith, length-take, length-take-le}
 use borrow.Rule.Slice.PartMut.{post_of}
-use Rattle.osm_files.proofs.HeldBytes.{came_behind, written_front}
-use Rattle.osm_files.proofs.held.read_behind.Goals as goal
+use Rattle.osm_files.proofs.RoomLaws.{came_behind, written_front}
+use Rattle.osm_files.proofs.unread.read_behind.Goals as goal
 
 pub returns-in-Ok-clause-gave : goal.returns-in-Ok-clause-gave
 returns-in-Ok-clause-gave g c =

@@ -1,6 +1,6 @@
 use Rattle.std.proofs.Common.{◌≤◌, ◌++◌, ◌∙◌, ap, length, arith}
-use Rattle.osm_files.proofs.HeldBytes.{held_kept, held_grown}
-use Rattle.osm_files.proofs.held.Held.read_more.Goals as goal
+use Rattle.osm_files.proofs.RoomLaws.{held_kept, held_grown}
+use Rattle.osm_files.proofs.unread.Unread.read_more.Goals as goal
 
 pub returns-in-Err-clause-unchanged : goal.returns-in-Err-clause-unchanged
 returns-in-Err-clause-unchanged g c =

@@ -1,7 +1,7 @@
 use Rattle.std.proofs.Common.{◌+◌, ◌≤◌, ◌-◌, ◌∙◌, ap, drop, length, arith, length-drop}
 use Rattle.std.proofs.lemmas.List.{length-take-le}
-use Rattle.osm_files.proofs.HeldBytes.{held_skipped}
-use Rattle.osm_files.proofs.held.Held.skip.Goals as goal
+use Rattle.osm_files.proofs.RoomLaws.{held_skipped}
+use Rattle.osm_files.proofs.unread.Unread.skip.Goals as goal
 
 pub returns : goal.returns
 returns c =

@@ -13,14 +13,14 @@ const CHUNK: usize = 65536;
 
 /// The bytes that came from an input and weren't read. Contracts see their list.
 #[derive(Drop)]
-pub(crate) struct Held {
+pub(crate) struct Unread {
     /// Room for bytes, which input is read into. The bytes from `from` on and before `end` are held.
     room: Vec<u8>,
     from: usize,
     end: usize,
 }
 
-impl Model for Held {
+impl Model for Unread {
     ghost use Rattle.std.specs.Prelude.{List, ℕ, ◌≤◌, ◌-◌, length, take, drop};
 
     ghost Value = { List ℕ };
@@ -30,12 +30,12 @@ impl Model for Held {
     ghost invariant = { λ h. (h.from ≤ h.end) × (h.end ≤ length h.room.items) };
 }
 
-impl Held {
+impl Unread {
     /// No bytes yet.
-    pub(crate) fn new(alloc: Global) -> Held
+    pub(crate) fn new(alloc: Global) -> Unread
         ensures { result ≡ [] }
     {
-        Held {
+        Unread {
             room: Vec::new(alloc),
             from: 0,
             end: 0,
