@@ -1,0 +1,27 @@
+//! Calls that choose from a history.
+use crate::given::Given;
+use crate::told::{history_of, lines_of};
+use anyhow::Result;
+use osm_merge::{at, between, snapshot, visible};
+use osm_model::{History, Memory};
+use std::alloc::Global;
+
+/// The calls.
+pub const CALLS: &[&str] = &["snapshot", "visible", "at", "between"];
+
+/// What a call answers.
+pub fn answer(alloc: Global, call: &str, given: &Given) -> Result<Vec<u8>> {
+    let history = history_of(alloc, given.file(0)?)?;
+    let chosen = match call {
+        "snapshot" => snapshot(alloc, &history),
+        "visible" => visible(alloc, &history),
+        "at" => at(alloc, &history, given.time(0)?),
+        _ => between(alloc, &history, given.time(0)?, given.time(1)?),
+    };
+    chosen_lines(alloc, chosen)
+}
+
+/// The lines of what was chosen.
+fn chosen_lines(alloc: Global, chosen: Result<History, Memory>) -> Result<Vec<u8>> {
+    lines_of(alloc, &chosen?)
+}

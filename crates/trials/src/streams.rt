@@ -1,0 +1,126 @@
+//! Calls that read files and write them, version by version.
+use crate::device::{Buffer, ROOM};
+use crate::given::Given;
+use crate::told::{history_of, line_of, lines_of, told};
+use anyhow::{Result, bail};
+use osm_files::{Fault, FileSource, Format, Output, Sink, Source, ToWrite, load_any};
+use osm_merge::{Counts, merge_into};
+use osm_model::History;
+use std::alloc::Global;
+
+/// The calls.
+pub const CALLS: &[&str] = &["load_any", "FileSource", "Sink", "merge_into"];
+
+/// What a call answers.
+pub fn answer(alloc: Global, call: &str, given: &Given) -> Result<Vec<u8>> {
+    match call {
+        "load_any" => load(alloc, given),
+        "FileSource" => read(alloc, given),
+        "Sink" => write(alloc, given),
+        _ => merge(alloc, given),
+    }
+}
+
+/// The format of a file, whether it is sorted, and what it holds.
+fn load(alloc: Global, given: &Given) -> Result<Vec<u8>> {
+    let loaded = load_any(alloc, 0, given.reader(0)?)?;
+    let order = if loaded.sorted { "sorted" } else { "unsorted" };
+    let line = format!(in alloc; "{}, {order}", loaded.format.name())?;
+    told(alloc, line.as_str(), &lines_of(alloc, &loaded.history)?)
+}
+
+/// How often a source is asked: more often than a file of a trial has versions.
+const TURNS: usize = 100;
+
+/// What a source gives, and how it ends.
+fn read(alloc: Global, given: &Given) -> Result<Vec<u8>> {
+    let mut source = FileSource::new(alloc, 0, given.reader(0)?)?;
+    let mut lines = Vec::new(alloc);
+    for _ in 0..TURNS {
+        let given = source.next();
+        match given {
+            Ok(Some(version)) => lines.extend_from_slice(&line_of(alloc, &version)?)?,
+            Ok(None) => return told(alloc, "whole", &lines),
+            Err(fault) => return refused(alloc, fault, source.next().err(), &lines),
+        }
+    }
+    bail!("a source has no end")
+}
+
+/// Why a source was refused, what it answered then, and what it had given.
+fn refused(alloc: Global, fault: Fault, then: Option<Fault>, lines: &[u8]) -> Result<Vec<u8>> {
+    let Some(then) = then else {
+        bail!("a source goes on that was refused");
+    };
+    told(
+        alloc,
+        format!(in alloc; "{fault}, then {then}")?.as_str(),
+        lines,
+    )
+}
+
+/// What a sink wrote of a file, and why it was refused, if it was.
+fn write(alloc: Global, given: &Given) -> Result<Vec<u8>> {
+    let history = history_of(alloc, given.file(0)?)?;
+    let (format, pace) = given.output()?;
+    let mut taken = Vec::with_capacity(alloc, ROOM)?;
+    let mut out = ToWrite::new(Buffer::new(&mut taken, pace));
+    match put_first(alloc, format, &history, &mut out) {
+        Ok(()) => told(alloc, "written", &taken),
+        Err(fault) => told(alloc, format!(in alloc; "{fault}")?.as_str(), &taken),
+    }
+}
+
+/// Writes the file of the first version of a history, or that of none.
+fn put_first<W: Output>(
+    alloc: Global,
+    format: Format,
+    history: &History,
+    out: &mut W,
+) -> Result<(), Fault> {
+    let mut sink = Sink::new(alloc, format, 0)?;
+    sink.begin(out)?;
+    if !history.is_empty() {
+        sink.put(out, history.get(0))?;
+    }
+    sink.end(out)
+}
+
+/// What a merge of sources answers, and what it wrote.
+fn merge(alloc: Global, given: &Given) -> Result<Vec<u8>> {
+    let (format, pace) = given.output()?;
+    let mut taken = Vec::with_capacity(alloc, ROOM)?;
+    let outcome = merge_files(
+        alloc,
+        given,
+        format,
+        &mut ToWrite::new(Buffer::new(&mut taken, pace)),
+    )?;
+    told_run(alloc, outcome, &taken)
+}
+
+/// Merges sources of the files.
+fn merge_files<W: Output>(
+    alloc: Global,
+    given: &Given,
+    format: Format,
+    out: &mut W,
+) -> Result<Result<Counts, Fault>> {
+    let mut sources = Vec::new(alloc);
+    for place in 0..given.count() {
+        sources.push(FileSource::new(alloc, place, given.reader(place)?)?)?;
+    }
+    let mut sink = Sink::new(alloc, format, given.count())?;
+    Ok(merge_into(alloc, sources, &mut sink, out))
+}
+
+/// The counts of a run, or why it was refused, and what it wrote.
+pub fn told_run(alloc: Global, outcome: Result<Counts, Fault>, taken: &[u8]) -> Result<Vec<u8>> {
+    match outcome {
+        Ok(counts) => {
+            let line = format!(in alloc; "read {}, written {}", counts.read, counts.written)?;
+            told(alloc, line.as_str(), taken)
+        }
+        Err(fault) => told(alloc, format!(in alloc; "{fault}")?.as_str(), taken),
+    }
+}

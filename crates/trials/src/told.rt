@@ -1,0 +1,38 @@
+//! How answers are told: as lines.
+use anyhow::Result;
+use opl_line::append_line;
+use osm_files::{SliceIn, load_any};
+use osm_model::{History, Version};
+use std::alloc::Global;
+
+/// The line of a version.
+pub fn line_of(alloc: Global, version: &Version) -> Result<Vec<u8>> {
+    let mut line = Vec::new(alloc);
+    append_line(&mut line, version)?;
+    line.push(b'\n')?;
+    Ok(line)
+}
+
+/// The lines of what a history holds.
+pub fn lines_of(alloc: Global, history: &History) -> Result<Vec<u8>> {
+    let mut lines = Vec::new(alloc);
+    for place in 0..history.len() {
+        append_line(&mut lines, history.get(place))?;
+        lines.push(b'\n')?;
+    }
+    Ok(lines)
+}
+
+/// A line, with bytes behind it.
+pub fn told(alloc: Global, line: &str, bytes: &[u8]) -> Result<Vec<u8>> {
+    let mut told = Vec::new(alloc);
+    told.extend_from_slice(line.as_bytes())?;
+    told.push(b'\n')?;
+    told.extend_from_slice(bytes)?;
+    Ok(told)
+}
+
+/// What a file holds.
+pub fn history_of(alloc: Global, file: &[u8]) -> Result<History> {
+    Ok(load_any(alloc, 0, SliceIn::new(file))?.history)
+}

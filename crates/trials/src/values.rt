@@ -1,0 +1,97 @@
+//! Calls that make versions and histories.
+use crate::given::Given;
+use crate::told::{history_of, line_of, lines_of, told};
+use anyhow::{Result, bail};
+use osm_model::{Body, History, Meta, Tag, Tags, Text, Version};
+use std::alloc::Global;
+
+/// The calls.
+pub const CALLS: &[&str] = &[
+    "Version::new",
+    "Version::copy",
+    "History::from_versions",
+    "History::join",
+    "History::copy",
+];
+
+/// What a call answers.
+pub fn answer(alloc: Global, call: &str, given: &Given) -> Result<Vec<u8>> {
+    match call {
+        "Version::new" => new_version(alloc, u64::from(given.time(0)?)),
+        "Version::copy" => copy_version(alloc, given.file(0)?),
+        "History::from_versions" => from_versions(alloc, given),
+        "History::join" => join(alloc, given.file(0)?, given.file(1)?),
+        _ => copy_history(alloc, given.file(0)?),
+    }
+}
+
+/// A node of this time.
+fn new_version(alloc: Global, time: u64) -> Result<Vec<u8>> {
+    let mut tags = Vec::new(alloc);
+    tags.push(Tag {
+        key: Text::from_str(alloc, "natural")?,
+        value: Text::from_str(alloc, "tree")?,
+    })?;
+    let body = Body::Node {
+        lon: 0,
+        lat: 0,
+        tags: Tags::from_vec(tags),
+    };
+    let meta = Meta {
+        version: 1,
+        time: Some(time),
+        changeset: 1,
+        uid: 1,
+        user: Text::from_str(alloc, "a")?,
+    };
+    line_of(alloc, &Version::new(alloc, 1, meta, body)?)
+}
+
+/// A copy of the first version of a file.
+fn copy_version(alloc: Global, file: &[u8]) -> Result<Vec<u8>> {
+    let history = history_of(alloc, file)?;
+    if history.is_empty() {
+        bail!("there is no version");
+    }
+    line_of(alloc, &history.get(0).copy()?)
+}
+
+/// The set of the versions of all files, in the order in which the files are given.
+fn from_versions(alloc: Global, given: &Given) -> Result<Vec<u8>> {
+    let mut versions = Vec::new(alloc);
+    for place in 0..given.count() {
+        let history = history_of(alloc, given.file(place)?)?;
+        for version in history.into_versions() {
+            versions.push(version)?;
+        }
+    }
+    lines_of(alloc, &History::from_versions(versions)?)
+}
+
+/// The union of two files; where it is refused, what both hold afterwards.
+fn join(alloc: Global, left: &[u8], right: &[u8]) -> Result<Vec<u8>> {
+    let left = history_of(alloc, left)?;
+    let right = history_of(alloc, right)?;
+    let outcome = left.join(&right);
+    match outcome {
+        Ok(union) => lines_of(alloc, &union),
+        Err(refused) => {
+            let mut lines = lines_of(alloc, &left)?;
+            lines.extend_from_slice(&lines_of(alloc, &right)?)?;
+            told(alloc, format!(in alloc; "{refused}")?.as_str(), &lines)
+        }
+    }
+}
+
+/// A copy of a history; where it is refused, what is held afterwards.
+fn copy_history(alloc: Global, file: &[u8]) -> Result<Vec<u8>> {
+    let history = history_of(alloc, file)?;
+    let outcome = history.copy();
+    match outcome {
+        Ok(copy) => lines_of(alloc, &copy),
+        Err(refused) => {
+            let lines = lines_of(alloc, &history)?;
+            told(alloc, format!(in alloc; "{refused}")?.as_str(), &lines)
+        }
+    }
+}

@@ -1,0 +1,155 @@
+"""What tools/growth and tools/devices share: the program of crates/trials, which makes one call a run, and worked rows for it."""
+import subprocess
+import tempfile
+from pathlib import Path
+
+from counting import TOP, Counts
+
+CRATE = TOP / "crates/trials"
+MEMORY_FAULT = b"file 0, byte 0: Memory"
+MEMORY_WORDS = b"out of memory"
+SECONDS = 60
+
+
+def octets(text):
+    """The bytes that are told in hexadecimal digits, H being the header of o5m."""
+    return bytes.fromhex(text.replace("H", "ff e0 04 6f 35 6d 32"))
+
+
+def node(version, place):
+    """The canonical line of a version of node 1."""
+    return f"n1 v{version} dV c0 t i0 u T {place}\n".encode()
+
+
+NODE = b"n1 v1 dV c1 t1970-01-01T00:00:01Z i1 ua T x0 y0\n"
+NODE_SET = octets("10 0b 02 01 02 02 00 01 00 61 00 00 00")
+DELETION = b"n1 v2 dD c1 t1970-01-01T00:00:02Z i1 ua T x y\n"
+DELETION_SET = octets("10 05 00 02 02 00 01")
+NODE_THEN_DELETION = octets("H") + NODE_SET + DELETION_SET + b"\xfe"
+CREATED, GONE = node(1, "x1 y1"), b"n1 v2 dD c0 t i0 u T x y\n"
+FIRST, SECOND = node(1, "x1.5 y2"), node(2, "x1.5 y3")
+EAST_9, EAST_10 = node(1, "x9 y1"), node(1, "x10 y1")
+WAYS = b"w5 v1 dV c0 t i0 u T N\nw5 v2 dD c0 t i0 u T N\n"
+LINE = "r7 v1 dV c1 t1970-01-01T00:00:01Z i1 ua%20%b T%1F600%=%3d%,%e9%=1 Mn1@€".encode()
+CANONICAL = "r7 v1 dV c1 t1970-01-01T00:00:01Z i1 ua%20%b Té=1,%1f600%=%3d% Mn1@%20ac%".encode()
+REAL = b"n1 v3 dV c12 t2014-05-06T07:08:09Z i5 uanna Tnatural=tree x8.6868047 y49.0000001\n"
+AT_5 = b"n1 v2 dV c0 t1970-01-01T00:00:05Z i0 u T x2 y1\n"
+MANY = "".join(
+    f"r{number} v1 dV c7 t2014-05-06T07:08:09Z i{number} uanna%20%{number} Tkey=value{number},name=tree Mn{number}@in,w2@out\n"
+    for number in range(1, 41)).encode()
+
+# Files by their names, as the rows call them.
+FILES = {
+    "a.opl": b"n1 v1 dV x1 y1\n",
+    "b.opl": b"n1 v2 dD\n",
+    "first.opl": b"n1 v1 dV x1.5 y2\n",
+    "second.opl": b"n1 v2 dV x1.5 y3\n",
+    "both.opl": CREATED + GONE,
+    "nine.opl": b"n1 v1 dV x9 y1\n",
+    "ten.opl": b"n1 v1 dV x10 y1\n",
+    "group.opl": b"n1 v1 dV x9 y1\nn1 v1 dV x10 y1\nn1 v1 dV x9 y1\n",
+    "line": LINE,
+    "real.opl": REAL,
+    "node.opl": NODE,
+    "node.o5m": octets("H") + NODE_SET + b"\xfe",
+    "set": NODE_SET[2:],
+    "pair.opl": NODE + DELETION,
+    "pair.o5m": NODE_THEN_DELETION,
+    "cut.o5m": NODE_THEN_DELETION[:27],
+    "ways.opl": WAYS,
+    "ids.opl": b"n3 v1 x1 y1\nn-2 v1 x1 y1\nn0 v1 x1 y1\nn-1 v1 x1 y1\n",
+    "unsorted.opl": b"n2 v1 x1 y1\nn1 v1 x1 y1\n",
+    "times.opl": b"n1 v1 dV t1970-01-01T00:00:10Z x1 y1\nn1 v2 dV t1970-01-01T00:00:05Z x2 y1\n",
+    "many.opl": MANY,
+}
+
+
+def counts(read, written):
+    """How a run tells what it did."""
+    return f"read {read}, written {written}\n".encode()
+
+
+class Row:
+    """A call, what it is given, and what it answers."""
+
+    def __init__(self, words, answer, refused=None):
+        self.words, self.answer = words.split(), answer
+        # Whether this is how a call is refused that tells more than the refusal.
+        self.refused = refused or (lambda told: False)
+
+    def __str__(self):
+        return " ".join(self.words)
+
+
+def behind(line, kept):
+    """The refusal that tells this line, and then what is kept."""
+    return lambda told: told == line + b"\n" + kept
+
+
+def front_of(line, whole):
+    """The refusal that tells this line, and then a front of the whole answer."""
+    head = line + b"\n"
+    return lambda told: told.startswith(head) and whole.startswith(told[len(head):])
+
+
+def run_row(words, read, written, file, refused=b""):
+    """A run that writes a file; of a refused one, this or (for None) any front of it was written."""
+    told = front_of(MEMORY_FAULT, file) if refused is None else behind(MEMORY_FAULT, refused)
+    return Row(words, counts(read, written) + file, told)
+
+
+ROWS = [
+    Row("Version::new 4294967295", b"n1 v1 dV c1 t2106-02-07T06:28:15Z i1 ua Tnatural=tree x0 y0\n"),
+    Row("Version::copy @real.opl", REAL),
+    Row("History::from_versions @nine.opl @ten.opl @nine.opl", EAST_10 + EAST_9),
+    Row("History::join @a.opl @b.opl", CREATED + GONE, behind(MEMORY_WORDS, CREATED + GONE)),
+    Row("History::copy @pair.o5m", NODE + DELETION, behind(MEMORY_WORDS, NODE + DELETION)),
+    Row("read_line @line", CANONICAL + b"\n"),
+    Row("write_line @line", CANONICAL),
+    Row("read_set @set", NODE),
+    Row("write_set @pair.opl", NODE_SET + DELETION_SET, behind(b"out of memory, then failed before", NODE_SET + DELETION_SET)),
+    Row("load_any @pair.o5m", b"o5m, sorted\n" + NODE + DELETION),
+    Row("load_any @unsorted.opl", b"opl, unsorted\n" + CREATED + CREATED.replace(b"n1", b"n2")),
+    Row("FileSource @group.opl", b"whole\n" + EAST_10 + EAST_9,
+        front_of(MEMORY_FAULT + b", then file 0, byte 0: Failed", EAST_10 + EAST_9)),
+    Row("FileSource @pair.o5m", b"whole\n" + NODE + DELETION,
+        front_of(MEMORY_FAULT + b", then file 0, byte 0: Failed", NODE + DELETION)),
+    Row("Sink o5m @node.opl", b"written\n" + FILES["node.o5m"], front_of(MEMORY_FAULT, octets("H"))),
+    Row("Sink opl @node.o5m", b"written\n" + NODE, behind(MEMORY_FAULT, b"")),
+    run_row("merge_into opl @second.opl @first.opl @first.opl", 3, 2, FIRST + SECOND, None),
+    run_row("merge_into o5m @node.opl @pair.o5m", 3, 2, NODE_THEN_DELETION, None),
+    Row("snapshot @group.opl", EAST_9),
+    Row("visible @both.opl", CREATED),
+    Row("at 7 @times.opl", AT_5),
+    Row("between 6 11 @times.opl", AT_5),
+]
+
+
+class Trials(Counts):
+    """Runs of the trials in a folder that holds their files."""
+
+    def __init__(self, room):
+        super().__init__()
+        self.room = Path(room)
+        self.program = CRATE / "out/trials"
+        for name, content in FILES.items():
+            (self.room / name).write_bytes(content)
+
+    def run(self, words, **given):
+        """Makes a call, and answers the status and what was printed, standard output and error."""
+        run = subprocess.run(
+            [self.program, *words], cwd=self.room, stdin=subprocess.DEVNULL, capture_output=True, timeout=SECONDS, check=False, **given)
+        return run.returncode, run.stdout, run.stderr
+
+
+def in_room(trial):
+    """Proves and builds the trials, and makes them in a new folder."""
+    built = subprocess.run(["rt", "run"], cwd=CRATE, capture_output=True, text=True, check=False)
+    if built.returncode:
+        print(f"failed: the trials are not proved: {built.stderr[-2000:]}")
+        print("0 passed, 1 failed")
+        raise SystemExit(1)
+    with tempfile.TemporaryDirectory() as folder:
+        trials = Trials(folder)
+        trial(trials)
+    trials.end()
