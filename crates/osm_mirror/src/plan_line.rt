@@ -192,11 +192,9 @@ fn read_format(word: &str) -> Result<Format, PlanReason>
     ensures format { IfOk result (λ format. word.now ≡ format_name format) }
     ensures none { IfErr result (IsNone (λ format. word.now ≡ format_name format)) }
 {
-    match word {
-        "opl" => Ok(Format::Opl),
-        "o5m" => Ok(Format::O5m),
-        "o5c" => Ok(Format::O5c),
-        _ => Err(PlanReason::BadWord),
+    match Format::named(word) {
+        Some(format) => Ok(format),
+        None => Err(PlanReason::BadWord),
     }
 }
 
