@@ -1,9 +1,7 @@
 //! The words that the program knows, with their help.
 use clap::{Arg, ArgAction, Command};
+use osm_files::FORMAT_NAMES;
 use std::alloc::{AllocError, Global};
-
-/// The names of the formats in which a file can be written, which `clap` takes as a list.
-static FORMAT_NAMES: [&str; 3] = ["opl", "o5m", "o5c"];
 
 /// The program's version.
 const VERSION: &str = "0.1.0";

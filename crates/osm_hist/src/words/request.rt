@@ -132,7 +132,7 @@ impl<'a> FileRun<'a> {
         words: &ArgMatches<'a>,
     ) -> Result<Option<FileRun<'a>>, Refusal<'a>> {
         let output = words.get_str("output");
-        let format = words.get_str("format").and_then(|name| format_named(name));
+        let format = words.get_str("format").and_then(|name| Format::named(name));
         let files = words.get_strs("files");
         if files.is_some_and(|files| names_standard_input_twice(files)) {
             return Err(Refusal::StandardInputTwice);
@@ -155,13 +155,6 @@ impl<'a> FileRun<'a> {
 /// Whether standard input is among these words more than once.
 fn names_standard_input_twice(files: &[&str]) -> bool {
     files.iter().filter(|file| **file == STANDARD).count() > 1
-}
-
-/// The format that the words call so.
-fn format_named(name: &str) -> Option<Format> {
-    [Format::Opl, Format::O5m, Format::O5c]
-        .into_iter()
-        .find(|format| format.name() == name)
 }
 
 /// Which versions a command of this name writes.
