@@ -30,6 +30,7 @@ CREATED, GONE = node(1, "x1 y1"), b"n1 v2 dD c0 t i0 u T x y\n"
 FIRST, SECOND = node(1, "x1.5 y2"), node(2, "x1.5 y3")
 EAST_9, EAST_10 = node(1, "x9 y1"), node(1, "x10 y1")
 WAYS = b"w5 v1 dV c0 t i0 u T N\nw5 v2 dD c0 t i0 u T N\n"
+WAY_SETS = octets("H ff 11 04 0a 01 00 00 11 03 00 02 00 fe")
 LINE = "r7 v1 dV c1 t1970-01-01T00:00:01Z i1 ua%20%b T%1F600%=%3d%,%e9%=1 Mn1@€".encode()
 CANONICAL = "r7 v1 dV c1 t1970-01-01T00:00:01Z i1 ua%20%b Té=1,%1f600%=%3d% Mn1@%20ac%".encode()
 REAL = b"n1 v3 dV c12 t2014-05-06T07:08:09Z i5 uanna Tnatural=tree x8.6868047 y49.0000001\n"
@@ -37,6 +38,7 @@ AT_5 = b"n1 v2 dV c0 t1970-01-01T00:00:05Z i0 u T x2 y1\n"
 MANY = "".join(
     f"r{number} v1 dV c7 t2014-05-06T07:08:09Z i{number} uanna%20%{number} Tkey=value{number},name=tree Mn{number}@in,w2@out\n"
     for number in range(1, 41)).encode()
+PLAN = b"latest\nlatest\ntake 0 a.opl\ntake 1 b.opl\npass 0 1 o5c\npass 1 0 opl\ntake 0 a.opl\nwrite 0 opl x.opl\nwrite 1 opl y.opl\n"
 
 # Files by their names, as the rows call them.
 FILES = {
@@ -61,7 +63,9 @@ FILES = {
     "unsorted.opl": b"n2 v1 x1 y1\nn1 v1 x1 y1\n",
     "times.opl": b"n1 v1 dV t1970-01-01T00:00:10Z x1 y1\nn1 v2 dV t1970-01-01T00:00:05Z x2 y1\n",
     "many.opl": MANY,
+    "two.plan": PLAN,
 }
+IDS = b"".join(f"n{number} v1 dV c0 t i0 u T x1 y1\n".encode() for number in (0, -1, -2, 3))
 
 
 def counts(read, written):
@@ -98,6 +102,17 @@ def run_row(words, read, written, file, refused=b""):
     return Row(words, counts(read, written) + file, told)
 
 
+def is_refused_fleet(told):
+    """Whether two mirrors were refused memory once, and came to hold the deletion in the second run."""
+    line, _, rest = told.partition(b"\n")
+    replies = line.split()
+    once, _, twice = rest.partition(b"then\n")
+    if line == MEMORY_WORDS:
+        return not once and twice == GONE + GONE
+    one_memory = sorted(replies) == [b"Memory"] + [b"Taken"] * 4
+    return one_memory and twice == GONE + GONE and once.replace(CREATED, b"").replace(GONE, b"") == b""
+
+
 ROWS = [
     Row("Version::new 4294967295", b"n1 v1 dV c1 t2106-02-07T06:28:15Z i1 ua Tnatural=tree x0 y0\n"),
     Row("Version::copy @real.opl", REAL),
@@ -122,6 +137,26 @@ ROWS = [
     Row("visible @both.opl", CREATED),
     Row("at 7 @times.opl", AT_5),
     Row("between 6 11 @times.opl", AT_5),
+    Row("Mirror::take latest @a.opl @b.opl", b"took 1\n" + GONE, behind(MEMORY_FAULT, CREATED)),
+    Row("Mirror::take full @b.opl @a.opl", b"took 1\n" + CREATED + GONE, behind(MEMORY_FAULT, GONE)),
+    Row("Mirror::copy @pair.o5m", NODE + DELETION),
+    Row("Mirror::write o5m @ways.opl", WAY_SETS),
+    Row("Mirror::write opl @ways.opl", WAYS),
+    Row("Fleet::run @a.opl @b.opl", b"Taken " * 5 + b"\n" + GONE + GONE + b"then\n" + GONE + GONE, is_refused_fleet),
+    Row("read_plan @two.plan", b"2 mirrors, 5 steps, 2 files\n"),
+    run_row("run_merge opl @first.opl @second.opl", 2, 2, FIRST + SECOND, None),
+    run_row("run_merge o5m @pair.opl @node.o5m", 3, 2, NODE_THEN_DELETION, None),
+    run_row("run_merge opl @many.opl @many.opl", 80, 40, MANY, None),
+    run_row("run_apply opl @a.opl @nine.opl", 2, 1, EAST_9),
+    run_row("run_apply opl @a.opl @b.opl", 2, 0, b""),
+    run_row("run_apply_with_history opl @a.opl @b.opl", 2, 2, CREATED + GONE),
+    run_row("run_time_filter opl 7 @times.opl", 2, 1, AT_5),
+    run_row("run_period_filter opl 6 11 @times.opl", 2, 1, AT_5),
+    run_row("run_sort opl @ids.opl", 4, 4, IDS),
+    run_row("run_sort o5m @ways.opl", 2, 2, WAY_SETS, None),
+    Row("run_check @pair.o5m", b"o5m: 2 versions, 1 objects, sorted\n"),
+    Row("run_check @unsorted.opl", b"opl: 2 versions, 2 objects, unsorted\n"),
+    Row("fault_text cut.o5m @cut.o5m", b"cut.o5m: 27: NoEnd\n"),
 ]
 
 

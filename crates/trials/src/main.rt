@@ -13,6 +13,8 @@ use std::io::Write;
 
 mod device;
 mod given;
+mod mirrors;
+mod runs;
 mod selections;
 mod streams;
 mod told;
@@ -20,11 +22,13 @@ mod units;
 mod values;
 
 /// The calls, group by group.
-const GROUPS: [&[&str]; 4] = [
+const GROUPS: [&[&str]; 6] = [
     values::CALLS,
     units::CALLS,
     streams::CALLS,
     selections::CALLS,
+    mirrors::CALLS,
+    runs::CALLS,
 ];
 
 fn main(rt: HostRuntime) -> Result<()> {
@@ -50,6 +54,12 @@ fn answer(alloc: Global, call: &str, given: &Given) -> Result<Vec<u8>> {
     }
     if selections::CALLS.contains(&call) {
         return selections::answer(alloc, call, given);
+    }
+    if mirrors::CALLS.contains(&call) {
+        return mirrors::answer(alloc, call, given);
+    }
+    if runs::CALLS.contains(&call) {
+        return runs::answer(alloc, call, given);
     }
     bail!("there is no such call")
 }

@@ -1,0 +1,158 @@
+//! Calls of mirrors, fleets and plans.
+use crate::given::Given;
+use crate::told::told;
+use anyhow::{Result, bail};
+use osm_files::{Fault, Format};
+use osm_mirror::{Event, Fleet, Keep, Mirror, Reply, read_plan};
+use osm_model::Memory;
+use std::alloc::Global;
+
+/// The calls.
+pub const CALLS: &[&str] = &[
+    "Mirror::take",
+    "Mirror::copy",
+    "Mirror::write",
+    "Fleet::run",
+    "read_plan",
+];
+
+/// What a call answers.
+pub fn answer(alloc: Global, call: &str, given: &Given) -> Result<Vec<u8>> {
+    match call {
+        "Mirror::take" => take(alloc, given),
+        "Mirror::copy" => copy(alloc, given),
+        "Mirror::write" => Ok(full(alloc, given)?.write(given.format(0)?)?),
+        "Fleet::run" => run(alloc, given.file(0)?, given.file(1)?),
+        _ => plan(alloc, given.file(0)?),
+    }
+}
+
+/// A mirror that keeps what the first word tells.
+fn mirror(alloc: Global, given: &Given) -> Result<Mirror> {
+    match given.word(0)? {
+        "full" => Ok(Mirror::new_full(alloc)),
+        "latest" => Ok(Mirror::new_latest(alloc)),
+        _ => bail!("there is no such mirror"),
+    }
+}
+
+/// A full mirror that took all files.
+fn full(alloc: Global, given: &Given) -> Result<Mirror> {
+    let mut mirror = Mirror::new_full(alloc);
+    for place in 0..given.count() {
+        mirror.take(given.file(place)?)?;
+    }
+    Ok(mirror)
+}
+
+/// What a mirror that took the first file answers to the second one, and what it holds then.
+fn take(alloc: Global, given: &Given) -> Result<Vec<u8>> {
+    let mut mirror = mirror(alloc, given)?;
+    mirror.take(given.file(0)?)?;
+    let earlier = mirror.copy()?;
+    let taken = mirror.take(given.file(1)?);
+    let line = match taken {
+        Ok(taken) => format!(in alloc; "took {}", taken.versions)?,
+        Err(fault) if is_equal(&mirror, &earlier)? => format!(in alloc; "{fault}")?,
+        Err(_) => bail!("a mirror that refused is another"),
+    };
+    told(alloc, line.as_str(), &mirror.write(Format::Opl)?)
+}
+
+/// Whether two mirrors write the same bytes.
+fn is_equal(left: &Mirror, right: &Mirror) -> Result<bool, Fault> {
+    let left = left.write(Format::Opl)?;
+    let right = right.write(Format::Opl)?;
+    Ok(left.as_slice() == right.as_slice())
+}
+
+/// What a copy of a full mirror holds.
+fn copy(alloc: Global, given: &Given) -> Result<Vec<u8>> {
+    Ok(full(alloc, given)?.copy()?.write(Format::Opl)?)
+}
+
+/// What two latest mirrors answer that take a file each, pass to each other, and take the first file again, and what they
+/// hold then; and what they hold when all of it has happened once more.
+fn run(alloc: Global, first: &[u8], second: &[u8]) -> Result<Vec<u8>> {
+    let mut fleet = Fleet::new(alloc, &[Keep::Latest, Keep::Latest])?;
+    let events = events(first, second);
+    let line = match happen(&mut fleet, &events)? {
+        Ok(replies) => reply_line(alloc, &replies)?,
+        Err(refused) => format!(in alloc; "{refused}")?,
+    };
+    let mut lines = fleet_lines(alloc, &fleet)?;
+    if happen(&mut fleet, &events)?.is_err() {
+        bail!("the second run was refused");
+    }
+    lines.extend_from_slice(b"then\n")?;
+    lines.extend_from_slice(&fleet_lines(alloc, &fleet)?)?;
+    told(alloc, line.as_str(), &lines)
+}
+
+/// The events of two mirrors that take these files.
+fn events<'a>(first: &'a [u8], second: &'a [u8]) -> [Event<'a>; 5] {
+    let take = Event::Take {
+        mirror: 0,
+        file: first,
+    };
+    [
+        take,
+        Event::Take {
+            mirror: 1,
+            file: second,
+        },
+        Event::Pass {
+            from: 0,
+            to: 1,
+            format: Format::O5c,
+        },
+        Event::Pass {
+            from: 1,
+            to: 0,
+            format: Format::Opl,
+        },
+        take,
+    ]
+}
+
+/// Lets events happen.
+fn happen(fleet: &mut Fleet, events: &[Event]) -> Result<Result<Vec<Reply>, Memory>> {
+    if !fleet.may_run(events) {
+        bail!("an event names a mirror that isn't there");
+    }
+    Ok(fleet.run(events))
+}
+
+/// The replies, in one line, with a blank behind each.
+fn reply_line(alloc: Global, replies: &[Reply]) -> Result<String> {
+    let mut line = String::new(alloc);
+    for reply in replies {
+        line.push_str(match reply {
+            Reply::Taken => "Taken",
+            Reply::Refused(fault) => fault.reason.name(),
+        })?;
+        line.push(' ')?;
+    }
+    Ok(line)
+}
+
+/// What each mirror holds.
+fn fleet_lines(alloc: Global, fleet: &Fleet) -> Result<Vec<u8>> {
+    let mut lines = Vec::new(alloc);
+    for place in 0..fleet.len() {
+        lines.extend_from_slice(&fleet.mirror(place).write(Format::Opl)?)?;
+    }
+    Ok(lines)
+}
+
+/// How many mirrors, steps and files a plan has.
+fn plan(alloc: Global, text: &[u8]) -> Result<Vec<u8>> {
+    let plan = read_plan(alloc, text)?;
+    let line = format!(in alloc;
+        "{} mirrors, {} steps, {} files",
+        plan.mirrors.len(),
+        plan.steps.len(),
+        plan.writes.len()
+    )?;
+    told(alloc, line.as_str(), b"")
+}

@@ -1,0 +1,104 @@
+//! Runs over whole files, and the lines of their faults.
+use crate::device::{Buffer, ROOM};
+use crate::given::Given;
+use crate::streams::told_run;
+use crate::told::told;
+use anyhow::{Result, bail};
+use osm_files::{Fault, Format, Output, ToWrite};
+use osm_merge::Counts;
+use osm_mirror::{
+    CheckReport, fault_text, run_apply, run_check, run_merge, run_period_filter, run_sort,
+    run_time_filter,
+};
+use std::alloc::Global;
+
+/// The calls.
+pub const CALLS: &[&str] = &[
+    "run_merge",
+    "run_apply",
+    "run_apply_with_history",
+    "run_time_filter",
+    "run_period_filter",
+    "run_sort",
+    "run_check",
+    "fault_text",
+];
+
+/// What a call answers.
+pub fn answer(alloc: Global, call: &str, given: &Given) -> Result<Vec<u8>> {
+    match call {
+        "run_check" => check(alloc, given),
+        "fault_text" => text_of_fault(alloc, given),
+        _ => write(alloc, call, given),
+    }
+}
+
+/// What a check tells of a file.
+fn check(alloc: Global, given: &Given) -> Result<Vec<u8>> {
+    let CheckReport {
+        format,
+        versions,
+        objects,
+        sorted,
+    } = run_check(alloc, given.reader(0)?)?;
+    let order = if sorted { "sorted" } else { "unsorted" };
+    let line = format!(in alloc;
+        "{}: {versions} versions, {objects} objects, {order}",
+        format.name()
+    )?;
+    told(alloc, line.as_str(), b"")
+}
+
+/// The line of the fault of a file, which is called as the first word tells.
+fn text_of_fault(alloc: Global, given: &Given) -> Result<Vec<u8>> {
+    let Err(fault) = run_check(alloc, given.reader(0)?) else {
+        bail!("the file has no fault");
+    };
+    let line = fault_text(alloc, &fault, &[given.word(0)?], "out")?;
+    told(alloc, line.as_str(), b"")
+}
+
+/// What a run answers that writes, and what it wrote.
+fn write(alloc: Global, call: &str, given: &Given) -> Result<Vec<u8>> {
+    let (format, pace) = given.output()?;
+    let mut taken = Vec::with_capacity(alloc, ROOM)?;
+    let mut out = ToWrite::new(Buffer::new(&mut taken, pace));
+    let outcome = match call {
+        "run_time_filter" | "run_period_filter" => filter(alloc, call, given, format, &mut out)?,
+        _ => combine(alloc, call, given, format, &mut out)?,
+    };
+    told_run(alloc, outcome, &taken)
+}
+
+/// Runs what writes of several files.
+fn combine<W: Output>(
+    alloc: Global,
+    call: &str,
+    given: &Given,
+    format: Format,
+    out: &mut W,
+) -> Result<Result<Counts, Fault>> {
+    let inputs = given.readers(alloc)?;
+    Ok(match call {
+        "run_merge" => run_merge(alloc, inputs, format, out),
+        "run_apply" => run_apply(alloc, inputs, false, format, out),
+        "run_apply_with_history" => run_apply(alloc, inputs, true, format, out),
+        _ => run_sort(alloc, inputs, format, out),
+    })
+}
+
+/// Runs what writes of one file what was at a time, or from one time up to another.
+fn filter<W: Output>(
+    alloc: Global,
+    call: &str,
+    given: &Given,
+    format: Format,
+    out: &mut W,
+) -> Result<Result<Counts, Fault>> {
+    let input = given.reader(0)?;
+    let time = given.time(1)?;
+    Ok(match call {
+        "run_time_filter" => run_time_filter(alloc, input, time, format, out),
+        _ => run_period_filter(alloc, input, time, given.time(2)?, format, out),
+    })
+}
