@@ -100,13 +100,20 @@ fn count<S: Source>(source: &mut S) -> Result<Sizes, Fault>
         match source.next() {
             Ok(Some(version)) => {
                 sizes = count_one(sizes, &last, &version);
-                if let Some(before) = last.replace(version) {
-                    source.reuse(before);
-                }
+                give_back(source, last.replace(version));
             }
             Ok(None) => return Ok(sizes),
             Err(fault) => return Err(fault),
         }
+    }
+}
+
+/// Gives a version that isn't needed any more back to a source, if there is one.
+fn give_back<S: Source>(source: &mut S, version: Option<Version>)
+    ensures { source.new ≡ source.old }
+{
+    if let Some(version) = version {
+        source.reuse(version);
     }
 }
 

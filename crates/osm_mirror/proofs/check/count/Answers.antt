@@ -8,9 +8,10 @@ versions-init g c = λ later k. (later, k, count_none (Some later))
 
 pub versions-preserved : goal.versions-preserved
 versions-preserved g c = λ later k.
-    let y = (rw c.in-Ok-Some.field-0-is at c.in-Ok-Some.ensures.step) later k in
+    let told = subst (λ s. g.S.Source.can_give s later) c.give_back.ensures k in
+    let y = (rw c.in-Ok-Some.field-0-is at c.in-Ok-Some.ensures.step) later told in
     let x = c.versions.invariant y.0 y.1 in
-    let held : c.replace-spare.new.self ≡ Some c.in-Ok-Some.version = search rules in (
+    let held : c.replace.new.self ≡ Some c.in-Ok-Some.version = search rules in (
       x.0,
       x.1,
       subst (λ (last : Option VersionData). Counting (Some x.0) (Some later) last c.count_one-sizes.result) (sym held)
