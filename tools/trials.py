@@ -156,7 +156,7 @@ ROWS = [
     run_row("run_sort o5m @ways.opl", 2, 2, WAY_SETS, None),
     Row("run_check @pair.o5m", b"o5m: 2 versions, 1 objects, sorted\n"),
     Row("run_check @unsorted.opl", b"opl: 2 versions, 2 objects, unsorted\n"),
-    Row("fault_text cut.o5m @cut.o5m", b"cut.o5m: 27: NoEnd\n"),
+    Row("fault_text cut.o5m @cut.o5m", b"cut.o5m: 27: NoEnd\n", behind(MEMORY_WORDS, b"")),
 ]
 
 
