@@ -1,4 +1,7 @@
-"""What tools/growth and tools/devices share: the program of crates/trials, which makes one call a run, and worked rows for it."""
+"""What tools/growth and tools/devices share: the program of crates/trials, which makes one call a run, and worked rows for it.
+
+As a program it builds the trials, where they are not built.
+"""
 import subprocess
 import tempfile
 from pathlib import Path
@@ -177,14 +180,28 @@ class Trials(Counts):
         return run.returncode, run.stdout, run.stderr
 
 
-def in_room(trial):
-    """Proves and builds the trials, and makes them in a new folder."""
+def build():
+    """Proves and builds the program, unless rt ci left it and no source is newer."""
+    program = CRATE / "out/trials"
+    if program.exists():
+        made = program.stat().st_mtime
+        if all(source.stat().st_mtime <= made for source in TOP.glob("crates/*/src/**/*.rt")):
+            return
     built = subprocess.run(["rt", "run"], cwd=CRATE, capture_output=True, text=True, check=False)
     if built.returncode:
         print(f"failed: the trials are not proved: {built.stderr[-2000:]}")
         print("0 passed, 1 failed")
         raise SystemExit(1)
+
+
+def in_room(trial):
+    """Makes the trials in a new folder."""
+    build()
     with tempfile.TemporaryDirectory() as folder:
         trials = Trials(folder)
         trial(trials)
     trials.end()
+
+
+if __name__ == "__main__":
+    build()
