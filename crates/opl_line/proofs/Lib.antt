@@ -27,9 +27,9 @@ pub mod LineReasonLaws
 pub mod RawLaws
 pub mod MemoryLaws
 pub mod LaneLaws
+pub mod ScanLaws
 pub mod PlainLaws
 pub mod FrontLaws
 pub mod FrontTimeLaws
 pub mod FrontTagLaws
-pub mod LineEndLaws
 pub mod AsciiLaws

@@ -1,6 +1,7 @@
 pub mod Reason
 pub mod Answer
 pub mod Cut
+pub mod Scan
 pub mod Number
 pub mod Text
 pub mod Time

@@ -1,9 +1,9 @@
 //! Texts cut at some of their bytes.
-ghost use Rattle.std.specs.Prelude.{◌≡◌, ◌∷◌, ◌+◌, ◌<◌, ◌≤◌, ℕ, not, ◌||◌, ◌==◌, true, length, take, position, IfSome, option_copied};
-ghost use Rattle.std.specs.List.{prefix_len, list_all};
-ghost use Rattle.std.specs.Simd.Lanes.{chunk};
+ghost use Rattle.std.specs.Prelude.{◌≡◌, ◌∷◌, ◌<◌, ◌≤◌, ℕ, not, ◌||◌, ◌==◌, true, length, take, position, IfSome, option_copied};
+ghost use Rattle.std.specs.List.{list_all};
 ghost use Rattle.opl_line.specs.Cut.{is_end, split_first, cut, pieces_of};
 
+use crate::scan::{ByteClass, find};
 use std::simd::prelude::*;
 
 /// How many bytes are looked at together.
@@ -35,7 +35,7 @@ impl Cut {
         ensures pieces { cut (is_end self) text.now ≡ result.0.now ∷ pieces_of (is_end self) (option_copied result.1) }
         ensures shorter { IfSome result.1 (λ behind. length behind.now < length text.now) }
     {
-        match self.find(text.as_bytes()) {
+        match find(self, text.as_bytes()) {
             Some(end) => (&text[..end], Some(&text[end + 1..])),
             None => (text, None),
         }
@@ -47,7 +47,7 @@ impl Cut {
         ensures first { result.0.now ≡ (split_first (is_end self) bytes.now).0 }
         ensures behind { option_copied result.1 ≡ (split_first (is_end self) bytes.now).1 }
     {
-        match self.find(bytes) {
+        match find(self, bytes) {
             Some(end) => (&bytes[..end], Some(&bytes[end + 1..])),
             None => (bytes, None),
         }
@@ -65,57 +65,10 @@ impl Cut {
         if end == text.len() {
             return Some((text, None));
         }
-        if !self.is_end(text.as_bytes()[end]) {
+        if !self.contains(text.as_bytes()[end]) {
             return None;
         }
         Some((&text[..end], Some(&text[end + 1..])))
-    }
-
-    /// The place of the first byte that is cut at.
-    #[inline(always)]
-    fn find(self, bytes: &[u8]) -> Option<usize>
-        ensures { result ≡ position (is_end self) bytes.now }
-    {
-        let mut seen = 0;
-        'lanes: while bytes.len() - seen >= LANES {
-            let run = self.run(bytes, seen);
-            if run < LANES {
-                return Some(seen + run);
-            }
-            seen += LANES;
-        }
-        'rest: for place in seen..bytes.len() {
-            if self.is_end(bytes[place]) {
-                return Some(place);
-            }
-        }
-        None
-    }
-
-    /// How many of the 16 bytes from a place on stand before the first that is cut at.
-    #[inline(always)]
-    fn run(self, bytes: &[u8], from: usize) -> usize
-        requires { from + 16 ≤ length bytes.now }
-        ensures { result ≡ prefix_len (λ b. not (is_end self b)) (chunk from 16 bytes.now) }
-    {
-        let (one, other) = self.ends();
-        let lanes = u8x16::from_slice(&bytes[from..]);
-        let ends = lanes.simd_eq(u8x16::splat(one)) | lanes.simd_eq(u8x16::splat(other));
-        let mask = ends.to_bitmask();
-        if mask == 0 {
-            LANES
-        } else {
-            mask.trailing_zeros() as usize
-        }
-    }
-
-    /// Whether a byte is cut at.
-    #[inline(always)]
-    fn is_end(self, byte: u8) -> bool
-        ensures { result ≡ is_end self byte }
-    {
-        let (one, other) = self.ends();
-        byte == one || byte == other
     }
 
     /// The bytes that are cut at, which may be the same.
@@ -131,5 +84,23 @@ impl Cut {
             Cut::Percents => (b'%', b'%'),
             Cut::Points => (b'.', b'.'),
         }
+    }
+}
+
+impl ByteClass<LANES> for Cut {
+    ghost has = { is_end };
+
+    #[inline(always)]
+    fn marks(self, bytes: &[u8], from: usize) -> u64 {
+        let lanes = Simd::<u8, LANES>::from_slice(&bytes[from..]);
+        let (one, other) = self.ends();
+        let ends = lanes.simd_eq(Simd::splat(one)) | lanes.simd_eq(Simd::splat(other));
+        ends.to_bitmask()
+    }
+
+    #[inline(always)]
+    fn contains(self, byte: u8) -> bool {
+        let (one, other) = self.ends();
+        byte == one || byte == other
     }
 }

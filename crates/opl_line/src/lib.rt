@@ -11,6 +11,7 @@ mod line;
 mod line_end;
 mod number;
 mod reason;
+mod scan;
 mod text;
 mod time;
 mod utf8;

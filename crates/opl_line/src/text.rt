@@ -1,7 +1,6 @@
 //! Texts in OPL lines, with their escapes.
-ghost use Rattle.std.specs.Prelude.{◌≡◌, ◌⊎◌, ◌+◌, ◌<◌, ◌≤◌, nat_le, ◌&&◌, true, false, not, None, length, take, position, string_bytes, option_copied, MatchOption, MatchResult, IfOk, IfSome};
-ghost use Rattle.std.specs.List.{list_all, prefix_len};
-ghost use Rattle.std.specs.Simd.Lanes.{chunk};
+ghost use Rattle.std.specs.Prelude.{◌≡◌, ◌⊎◌, ◌<◌, ◌≤◌, true, false, not, None, length, take, string_bytes, option_copied, MatchOption, MatchResult, IfOk, IfSome};
+ghost use Rattle.std.specs.List.{list_all};
 ghost use Rattle.opl_line.specs.declared.cut.Cut.TheVariants.{Percents};
 ghost use Rattle.opl_line.specs.declared.reason.OplReason.TheVariants.{Memory, BadText};
 ghost use Rattle.opl_line.specs.Answer.{Answers};
@@ -10,6 +9,7 @@ ghost use Rattle.opl_line.specs.Text as spec;
 
 use crate::OplReason;
 use crate::cut::Cut;
+use crate::scan::{ByteClass, find};
 use osm_model::Text;
 use std::alloc::Global;
 use std::simd::prelude::*;
@@ -77,10 +77,7 @@ fn split_raw(text: &str) -> Option<(&str, Option<&str>)>
     ensures shorter { IfSome result (λ parts. IfSome parts.1 (λ behind. length behind.now < length text.now)) }
 {
     let bytes = text.as_bytes();
-    if is_plain(bytes) {
-        return Some((text, None));
-    }
-    let Some(end) = find_other(bytes) else {
+    let Some(end) = find(NotRaw, bytes) else {
         return Some((text, None));
     };
     if bytes[end] != b'%' {
@@ -95,94 +92,61 @@ pub(crate) fn plain_length(bytes: &[u8]) -> usize
     ensures within { result ≤ length bytes.now }
     ensures plain { list_all spec.is_plain (take result bytes.now) ≡ true }
 {
-    let mut seen = 0;
-    'lanes: while bytes.len() - seen >= WIDE_LANES {
-        let run = plain_run(bytes, seen);
-        if run < WIDE_LANES {
-            return seen + run;
-        }
-        seen += WIDE_LANES;
-    }
-    'rest: for place in seen..bytes.len() {
-        if !is_plain_byte(bytes[place]) {
-            return place;
-        }
-    }
-    bytes.len()
-}
-
-/// Whether a byte is plain.
-#[inline(always)]
-fn is_plain_byte(byte: u8) -> bool
-    ensures { result ≡ spec.is_plain byte }
-{
-    byte > b'=' || (byte > b'\r' && !matches!(byte, b' ' | b'%' | b',' | b'='))
-}
-
-/// How many of the 16 bytes from a place on stand before the first that isn't plain.
-#[inline(always)]
-fn plain_run(bytes: &[u8], from: usize) -> usize
-    requires { from + 16 ≤ length bytes.now }
-    ensures { result ≡ prefix_len spec.is_plain (chunk from 16 bytes.now) }
-{
-    let lanes = u8x16::from_slice(&bytes[from..]);
-    let controls = lanes.simd_le(u8x16::splat(b'\r'));
-    let blanks = controls | lanes.simd_eq(u8x16::splat(b' '));
-    let percents = blanks | lanes.simd_eq(u8x16::splat(b'%'));
-    let commas = percents | lanes.simd_eq(u8x16::splat(b','));
-    let others = commas | lanes.simd_eq(u8x16::splat(b'='));
-    let mask = others.to_bitmask();
-    if mask == 0 {
-        WIDE_LANES
-    } else {
-        mask.trailing_zeros() as usize
+    match find(NotPlain, bytes) {
+        Some(end) => end,
+        None => bytes.len(),
     }
 }
 
-/// Whether there are 8 bytes at least, and all of them are plain.
-fn is_plain(bytes: &[u8]) -> bool
-    ensures { result ≡ (nat_le 8 (length bytes.now) && list_all spec.is_plain bytes.now) }
-{
-    if bytes.len() < LANES {
-        return false;
+/// The bytes that aren't plain.
+#[derive(Clone, Copy, Debug)]
+struct NotPlain;
+
+impl ByteClass<WIDE_LANES> for NotPlain {
+    ghost has = { λ _ byte. not (spec.is_plain byte) };
+
+    #[inline(always)]
+    fn marks(self, bytes: &[u8], from: usize) -> u64 {
+        let lanes = Simd::<u8, WIDE_LANES>::from_slice(&bytes[from..]);
+        let controls = lanes.simd_le(Simd::splat(b'\r'));
+        let blanks = controls | lanes.simd_eq(Simd::splat(b' '));
+        let percents = blanks | lanes.simd_eq(Simd::splat(b'%'));
+        let commas = percents | lanes.simd_eq(Simd::splat(b','));
+        let others = commas | lanes.simd_eq(Simd::splat(b'='));
+        others.to_bitmask()
     }
-    let mut seen = 0;
-    'lanes: while bytes.len() - seen >= LANES {
-        if !are_plain(bytes, seen) {
-            return false;
-        }
-        seen += LANES;
+
+    #[inline(always)]
+    fn contains(self, byte: u8) -> bool {
+        byte <= b'\r' || matches!(byte, b' ' | b'%' | b',' | b'=')
     }
-    are_plain(bytes, bytes.len() - LANES)
 }
 
-/// Whether the 8 bytes from a place on are plain.
-#[inline(always)]
-fn are_plain(bytes: &[u8], from: usize) -> bool
-    requires { from + 8 ≤ length bytes.now }
-    ensures { result ≡ list_all spec.is_plain (chunk from 8 bytes.now) }
-{
-    let lanes = u8x8::from_slice(&bytes[from..]);
-    let controls = lanes.simd_le(u8x8::splat(b'\r'));
-    let blanks = controls | lanes.simd_eq(u8x8::splat(b' '));
-    let percents = blanks | lanes.simd_eq(u8x8::splat(b'%'));
-    let commas = percents | lanes.simd_eq(u8x8::splat(b','));
-    let others = commas | lanes.simd_eq(u8x8::splat(b'='));
-    others.to_bitmask() == 0
-}
+/// The bytes that don't stand for themselves.
+#[derive(Clone, Copy, Debug)]
+struct NotRaw;
 
-/// The place of the first byte that doesn't stand for itself.
-fn find_other(bytes: &[u8]) -> Option<usize>
-    ensures { result ≡ position (λ byte. not (spec.is_raw byte)) bytes.now }
-{
-    bytes.iter().position(|byte| !is_raw_byte(*byte))
-}
+impl ByteClass<LANES> for NotRaw {
+    ghost has = { λ _ byte. not (spec.is_raw byte) };
 
-/// Whether a byte, alone or within a character, stands for itself.
-fn is_raw_byte(byte: u8) -> bool
-    ensures { result ≡ spec.is_raw byte }
-{
-    byte > b'=' || !matches!(byte, 0 | b'\t' | b'\n' | b'\r' | b' ' | b'%' | b',' | b'=')
+    #[inline(always)]
+    fn marks(self, bytes: &[u8], from: usize) -> u64 {
+        let lanes = Simd::<u8, LANES>::from_slice(&bytes[from..]);
+        let nulls = lanes.simd_eq(Simd::splat(0));
+        let tabs = nulls | lanes.simd_eq(Simd::splat(b'\t'));
+        let feeds = tabs | lanes.simd_eq(Simd::splat(b'\n'));
+        let returns = feeds | lanes.simd_eq(Simd::splat(b'\r'));
+        let spaces = returns | lanes.simd_eq(Simd::splat(b' '));
+        let percents = spaces | lanes.simd_eq(Simd::splat(b'%'));
+        let commas = percents | lanes.simd_eq(Simd::splat(b','));
+        let others = commas | lanes.simd_eq(Simd::splat(b'='));
+        others.to_bitmask()
+    }
+
+    #[inline(always)]
+    fn contains(self, byte: u8) -> bool {
+        byte <= b'=' && matches!(byte, 0 | b'\t' | b'\n' | b'\r' | b' ' | b'%' | b',' | b'=')
+    }
 }
 
 /// The character that 1 to 8 hexadecimal digits name, which is not U+0000.

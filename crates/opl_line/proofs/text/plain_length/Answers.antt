@@ -1,25 +1,14 @@
-use Rattle.std.proofs.Common.{◌≡◌, ◌+◌, ◌≤◌, length, subst, arith}
-use Rattle.opl_line.proofs.CutLaws.{NoneBelow, none_below}
-use Rattle.opl_line.proofs.LaneLaws.{none_before, none_of_sixteen}
-use Rattle.opl_line.proofs.PlainLaws.{is_marked}
+use Rattle.std.proofs.Common.{◌≡◌, Some, None, not, position, rules}
+use Rattle.opl_line.specs.Text.{is_plain}
+use Rattle.opl_line.proofs.PlainLaws.{plain_before, plain_throughout}
 use Rattle.opl_line.proofs.text.plain_length.Goals as goal
 
-pub returns-then-run-lt-WIDE_LANES-clause-plain : goal.returns-then-run-lt-WIDE_LANES-clause-plain
-returns-then-run-lt-WIDE_LANES-clause-plain c =
-    let room : c.lanes.seen + 16 ≤ length c.args.bytes.now = omega arith in
-    none_below is_marked c.args.bytes.now (c.lanes.seen + c.plain_run-run.result) (omega arith)
-    (none_before is_marked c.args.bytes.now c.lanes.seen c.plain_run-run.result room c.plain_run-run.ensures c.lanes.invariant.none)
+pub returns-in-Some-clause-plain : goal.returns-in-Some-clause-plain
+returns-in-Some-clause-plain c =
+    let found : position (λ b. not (is_plain b)) c.args.bytes.now ≡ Some c.in-Some.end = search rules in
+    plain_before c.args.bytes.now c.in-Some.end found
 
-pub lanes-preserved : goal.lanes-preserved
-lanes-preserved c =
-    let room : c.lanes.seen + 16 ≤ length c.args.bytes.now = omega arith in
-    let whole : 16 ≤ c.plain_run-run.result = omega arith in
-    record { within = room; none = none_of_sixteen is_marked c.args.bytes.now c.lanes.seen c.plain_run-run.result room c.plain_run-run.ensures c.lanes.invariant.none whole }
-
-pub returns-then-not-is_plain_byte-clause-plain : goal.returns-then-not-is_plain_byte-clause-plain
-returns-then-not-is_plain_byte-clause-plain c = none_below is_marked c.args.bytes.now c.rest.place (omega arith) c.rest.invariant
-
-pub returns-clause-plain : goal.returns-clause-plain
-returns-clause-plain c =
-    let whole : c.rest.place ≡ length c.args.bytes.now = omega arith in
-    none_below is_marked c.args.bytes.now (length c.args.bytes.now) (omega arith) (subst (NoneBelow is_marked c.args.bytes.now) whole c.rest.invariant)
+pub returns-in-None-clause-plain : goal.returns-in-None-clause-plain
+returns-in-None-clause-plain c =
+    let none : position (λ b. not (is_plain b)) c.args.bytes.now ≡ None = search rules in
+    plain_throughout c.args.bytes.now none

@@ -1,17 +1,8 @@
-use Rattle.std.proofs.Common.{◌≡◌, ◌<◌, Some, None, true, false, eqb, leb, ◌&&◌, length, get_or, take, position, rules, arith}
+use Rattle.std.proofs.Common.{◌≡◌, ◌<◌, Some, None, false, eqb, get_or, take, position, rules, arith}
 use Rattle.std.proofs.lemmas.Bool.Decides.{nat_tests}
 use Rattle.std.proofs.lemmas.Str.{IsCharBoundary-after_ascii}
-use Rattle.std.specs.List.{list_all}
-use Rattle.std.proofs.lemmas.Bool.{and_parts}
-use Rattle.opl_line.specs.Text.{is_plain}
-use Rattle.opl_line.proofs.PlainLaws.{all_plain_raw}
-use Rattle.opl_line.proofs.RawLaws.{is_other, raw_end, percent_ends, other_ends, raw_alone, all_raw}
+use Rattle.opl_line.proofs.RawLaws.{is_other, raw_end, percent_ends, other_ends, all_raw}
 use Rattle.opl_line.proofs.text.split_raw.Goals as goal
-
-pub returns-then-is_plain-clause-parts : goal.returns-then-is_plain-clause-parts
-returns-then-is_plain-clause-parts c =
-    let told : (leb 8 (length c.args.text.now) && list_all is_plain c.args.text.now) ≡ true = search rules in
-    raw_alone c.args.text.now (all_plain_raw c.args.text.now (and_parts _ _ told).1)
 
 pub returns-in_default-clause-parts : goal.returns-in_default-clause-parts
 returns-in_default-clause-parts c =
