@@ -21,7 +21,7 @@ use Rattle.o5_codec.specs.Base.{moved_id}
 use Rattle.o5_codec.specs.Spelling.{NumberStands, TagStands, MemberStands, ItemsStand, SectionStands, VisibleStands, BodyStands}
 use Rattle.o5_codec.specs.Shortest.{shortest_number}
 use Rattle.o5_codec.specs.Formed.{FormedEntry}
-use Rattle.o5_codec.specs.Writing.{Context, Step, in_turn, longitude_written, latitude_written, reference_written, member_id_written, strings_written, member_entry, tag_written, tags_written, member_written, section_written, references_written, members_written, body_written}
+use Rattle.o5_codec.specs.Writing.{WrittenSegment, Step, in_turn, longitude_written, latitude_written, reference_written, member_id_written, strings_written, member_entry, tag_written, tags_written, member_written, section_written, references_written, members_written, body_written}
 use Rattle.o5_codec.specs.Agreement.{strings_in, segment_behind, IsContext, MayHaveSeen}
 use Rattle.o5_codec.proofs.AnswerSteps.{read_next}
 use Rattle.o5_codec.proofs.NumberLaws.{number_shorter, signed_shorter}
@@ -50,13 +50,13 @@ may_go_on kind.Relation seen may = may
 pub two_bytes : (a b rest : List ℕ) → (a ++ (b ++ [])) ++ rest ≡ a ++ (b ++ rest)
 two_bytes a b rest = ap (λ x. (a ++ x) ++ rest) (append-nil b) ∙ append_assoc a b rest
 
-member_stands : (k : Kind) (id : ℤ) (role : List ℕ) (c : Context) (seen : ListsSeen) (rest : List ℕ) → IsContext c → MayHaveSeen kind.Relation seen → is_id id ≡ true → is_text role ≡ true →
+member_stands : (k : Kind) (id : ℤ) (role : List ℕ) (c : WrittenSegment) (seen : ListsSeen) (rest : List ℕ) → IsContext c → MayHaveSeen kind.Relation seen → is_id id ≡ true → is_text role ≡ true →
     MemberStands (segment_behind c seen) ((member_id_written k id c).0 ++ ((strings_written (member_entry k role) (member_id_written k id c).1).0 ++ rest))
     (record { kind = k; id = id; role = role }, segment_behind (strings_written (member_entry k role) (member_id_written k id c).1).1 (seen_with k seen), rest)
 unfolding member_id_written strings_written
 member_stands kind.Node id role c seen rest ok may h text =
     let e : FormedEntry = member_entry kind.Node role in
-    let c1 : Context = (member_id_written kind.Node id c).1 in
+    let c1 : WrittenSegment = (member_id_written kind.Node id c).1 in
     let behind : List ℕ = (strings_written e c1).0 ++ rest in (
       (id -ℤ c.bases.node_member, behind),
       (e.strings, strings_in (strings_written e c1).1.table),
@@ -75,7 +75,7 @@ member_stands kind.Node id role c seen rest ok may h text =
     )
 member_stands kind.Way id role c seen rest ok may h text =
     let e : FormedEntry = member_entry kind.Way role in
-    let c1 : Context = (member_id_written kind.Way id c).1 in
+    let c1 : WrittenSegment = (member_id_written kind.Way id c).1 in
     let behind : List ℕ = (strings_written e c1).0 ++ rest in (
       (id -ℤ c.bases.way_member, behind),
       (e.strings, strings_in (strings_written e c1).1.table),
@@ -94,7 +94,7 @@ member_stands kind.Way id role c seen rest ok may h text =
     )
 member_stands kind.Relation id role c seen rest ok may h text =
     let e : FormedEntry = member_entry kind.Relation role in
-    let c1 : Context = (member_id_written kind.Relation id c).1 in
+    let c1 : WrittenSegment = (member_id_written kind.Relation id c).1 in
     let behind : List ℕ = (strings_written e c1).0 ++ rest in (
       (id -ℤ c.bases.relation_member, behind),
       (e.strings, strings_in (strings_written e c1).1.table),
@@ -112,7 +112,7 @@ member_stands kind.Relation id role c seen rest ok may h text =
       refl,
     )
 
-member_back : (m : Member) (c : Context) (seen : ListsSeen) (rest : List ℕ) → IsContext c → MayHaveSeen kind.Relation seen → is_id m.id ≡ true → is_text m.role ≡ true →
+member_back : (m : Member) (c : WrittenSegment) (seen : ListsSeen) (rest : List ℕ) → IsContext c → MayHaveSeen kind.Relation seen → is_id m.id ≡ true → is_text m.role ≡ true →
     MemberStands (segment_behind c seen) ((member_written m c).0 ++ rest) (m, segment_behind (member_written m c).1 (seen_with m.kind seen), rest)
 unfolding member_written in_turn
 member_back m c seen rest ok may h text =
@@ -121,7 +121,7 @@ member_back m c seen rest ok may h text =
     (sym (two_bytes (member_id_written m.kind m.id c).0 (strings_written (member_entry m.kind m.role) (member_id_written m.kind m.id c).1).0 rest))
     (member_stands m.kind m.id m.role c seen rest ok may h text)
 
-member_id_keeps : (k : Kind) (id : ℤ) (c : Context) → IsContext c → is_id id ≡ true → IsContext (member_id_written k id c).1
+member_id_keeps : (k : Kind) (id : ℤ) (c : WrittenSegment) → IsContext c → is_id id ≡ true → IsContext (member_id_written k id c).1
 unfolding member_id_written
 member_id_keeps kind.Node id c ok h = record {
   few = ok.few;
@@ -148,7 +148,7 @@ member_id_keeps kind.Relation id c ok h = record {
   lat = ok.lat;
 }
 
-member_keeps : (m : Member) (c : Context) → IsContext c → is_id m.id ≡ true → IsContext (member_written m c).1
+member_keeps : (m : Member) (c : WrittenSegment) → IsContext c → is_id m.id ≡ true → IsContext (member_written m c).1
 unfolding member_written in_turn
 member_keeps m c ok h = strings_keep (member_entry m.kind m.role) (member_id_written m.kind m.id c).1 (member_id_keeps m.kind m.id c ok h)
 
@@ -159,7 +159,7 @@ abbrev seen_with_all : List Member → ListsSeen → ListsSeen
 seen_with_all [] seen = seen
 seen_with_all (m ∷ members) seen = seen_with_all members (seen_with m.kind seen)
 
-members_back : (members : List Member) (c : Context) (seen : ListsSeen) → IsContext c → MayHaveSeen kind.Relation seen → list_all is_member members ≡ true →
+members_back : (members : List Member) (c : WrittenSegment) (seen : ListsSeen) → IsContext c → MayHaveSeen kind.Relation seen → list_all is_member members ≡ true →
     ItemsStand MemberStands (segment_behind c seen) (in_turn (map member_written members) c).0 members (segment_behind (in_turn (map member_written members) c).1 (seen_with_all members seen))
 unfolding in_turn
 members_back [] c seen ok may h = (refl, refl)
@@ -172,7 +172,7 @@ members_back (m ∷ members) c seen ok may h =
       members_back members (member_written m c).1 (seen_with m.kind seen) (member_keeps m c ok own.0) (may_go_on m.kind seen may) all.1,
     )
 
-members_keep : (members : List Member) (c : Context) → IsContext c → list_all is_member members ≡ true → IsContext (in_turn (map member_written members) c).1
+members_keep : (members : List Member) (c : WrittenSegment) → IsContext c → list_all is_member members ≡ true → IsContext (in_turn (map member_written members) c).1
 unfolding in_turn
 members_keep [] c ok h = ok
 members_keep (m ∷ members) c ok h =
@@ -198,7 +198,7 @@ pub record IsWritable (body : Body) : Type 0 where
   pub roles : list_all is_member (members_in body) ≡ true
 
 -- a body is read back, in a segment of its kind
-abbrev pub BodyBack : Kind → Context → ListsSeen → Step → Body → Type 0
+abbrev pub BodyBack : Kind → WrittenSegment → ListsSeen → Step → Body → Type 0
 BodyBack k c seen step body = (after : ListsSeen) × MayHaveSeen k after × BodyStands k (segment_behind c seen) (step c).0 (body, segment_behind (step c).1 after) × IsContext (step c).1
 
 -- bytes stand there, so a visible body does
@@ -206,12 +206,12 @@ visible : (k : Kind) (s : Segment) (bytes : List ℕ) (x : Body × Segment) → 
 visible k s [] x stands some = absurd (omega arith)
 visible k s (b ∷ bytes) x stands some = stands
 
-node_back : (lon lat : ℤ) (tags : List Tag) (c : Context) (seen : ListsSeen) → IsContext c → MayHaveSeen kind.Node seen → FitsSigned w32 lon → FitsSigned w32 lat → list_all are_texts tags ≡ true →
+node_back : (lon lat : ℤ) (tags : List Tag) (c : WrittenSegment) (seen : ListsSeen) → IsContext c → MayHaveSeen kind.Node seen → FitsSigned w32 lon → FitsSigned w32 lat → list_all are_texts tags ≡ true →
     BodyBack kind.Node c seen (body_written (Node lon lat tags)) (Node lon lat tags)
 unfolding body_written in_turn tags_written
 node_back lon lat tags c seen ok may lon_fits lat_fits texts =
-    let c1 : Context = (longitude_written lon c).1 in
-    let c2 : Context = (latitude_written lat c1).1 in
+    let c1 : WrittenSegment = (longitude_written lon c).1 in
+    let c2 : WrittenSegment = (latitude_written lat c1).1 in
     let ok1 : IsContext c1 = longitude_keeps c lon ok lon_fits in
     let ok2 : IsContext c2 = latitude_keeps c1 lat ok1 lat_fits in
     let end : List ℕ = (in_turn (map tag_written tags) c2).0 ++ [] in
@@ -237,12 +237,12 @@ pub section_back : (section rest : List ℕ) → length section < 2 ^ 64 → Sec
 section_back section rest small =
     subst (λ bytes. NumberStands bytes (length section, section ++ rest)) (sym (append_assoc (shortest_number (length section)) section rest)) (number_back (length section) (section ++ rest) small)
 
-way_back : (ids : List ℤ) (tags : List Tag) (c : Context) (seen : ListsSeen) → IsContext c → MayHaveSeen kind.Way seen → list_all is_id ids ≡ true → list_all are_texts tags ≡ true →
+way_back : (ids : List ℤ) (tags : List Tag) (c : WrittenSegment) (seen : ListsSeen) → IsContext c → MayHaveSeen kind.Way seen → list_all is_id ids ≡ true → list_all are_texts tags ≡ true →
     length (in_turn (map reference_written ids) c).0 < 2 ^ 64 → BodyBack kind.Way c seen (body_written (Way ids tags)) (Way ids tags)
 unfolding body_written in_turn tags_written section_written references_written
 way_back ids tags c seen ok may are_ids texts small =
     let section : List ℕ = (in_turn (map reference_written ids) c).0 in
-    let c1 : Context = (in_turn (map reference_written ids) c).1 in
+    let c1 : WrittenSegment = (in_turn (map reference_written ids) c).1 in
     let ok1 : IsContext c1 = references_keep ids c ok are_ids in
     let end : List ℕ = (in_turn (map tag_written tags) c1).0 ++ [] in
     let sees = section_seen section seen may in
@@ -257,12 +257,12 @@ way_back ids tags c seen ok may are_ids texts small =
       tags_keep tags c1 ok1,
     )
 
-relation_back : (members : List Member) (tags : List Tag) (c : Context) (seen : ListsSeen) → IsContext c → MayHaveSeen kind.Relation seen → list_all is_member members ≡ true → list_all are_texts tags ≡ true →
+relation_back : (members : List Member) (tags : List Tag) (c : WrittenSegment) (seen : ListsSeen) → IsContext c → MayHaveSeen kind.Relation seen → list_all is_member members ≡ true → list_all are_texts tags ≡ true →
     length (in_turn (map member_written members) c).0 < 2 ^ 64 → BodyBack kind.Relation c seen (body_written (Relation members tags)) (Relation members tags)
 unfolding body_written in_turn tags_written section_written members_written
 relation_back members tags c seen ok may are_members texts small =
     let section : List ℕ = (in_turn (map member_written members) c).0 in
-    let c1 : Context = (in_turn (map member_written members) c).1 in
+    let c1 : WrittenSegment = (in_turn (map member_written members) c).1 in
     let ok1 : IsContext c1 = members_keep members c ok are_members in
     let end : List ℕ = (in_turn (map tag_written tags) c1).0 ++ [] in
     let after : ListsSeen = seen_with_all members seen in
@@ -282,19 +282,19 @@ section_room : (section end : List ℕ) → length ((shortest_number (length sec
 section_room section end small =
     omega (arith, length-append (shortest_number (length section) ++ section) end, length-append (shortest_number (length section)) section)
 
-way_section : (ids : List ℤ) (tags : List Tag) (c : Context) → length (body_written (Way ids tags) c).0 < 2 ^ 64 → length (in_turn (map reference_written ids) c).0 < 2 ^ 64
+way_section : (ids : List ℤ) (tags : List Tag) (c : WrittenSegment) → length (body_written (Way ids tags) c).0 < 2 ^ 64 → length (in_turn (map reference_written ids) c).0 < 2 ^ 64
 unfolding body_written in_turn tags_written section_written references_written
 way_section ids tags c small = section_room (in_turn (map reference_written ids) c).0 ((in_turn (map tag_written tags) (in_turn (map reference_written ids) c).1).0 ++ []) small
 
-relation_section : (members : List Member) (tags : List Tag) (c : Context) → length (body_written (Relation members tags) c).0 < 2 ^ 64 → length (in_turn (map member_written members) c).0 < 2 ^ 64
+relation_section : (members : List Member) (tags : List Tag) (c : WrittenSegment) → length (body_written (Relation members tags) c).0 < 2 ^ 64 → length (in_turn (map member_written members) c).0 < 2 ^ 64
 unfolding body_written in_turn tags_written section_written members_written
 relation_section members tags c small = section_room (in_turn (map member_written members) c).0 ((in_turn (map tag_written tags) (in_turn (map member_written members) c).1).0 ++ []) small
 
-deleted_back : (k : Kind) (c : Context) (seen : ListsSeen) → IsContext c → MayHaveSeen k seen → BodyBack k c seen (body_written (Deleted k)) (Deleted k)
+deleted_back : (k : Kind) (c : WrittenSegment) (seen : ListsSeen) → IsContext c → MayHaveSeen k seen → BodyBack k c seen (body_written (Deleted k)) (Deleted k)
 unfolding body_written in_turn
 deleted_back k c seen ok may = (seen, may, refl, ok)
 
-pub body_back : (body : Body) (c : Context) (seen : ListsSeen) → IsContext c → MayHaveSeen (kind_of body) seen → IsWritable body → length (body_written body c).0 < 2 ^ 64 →
+pub body_back : (body : Body) (c : WrittenSegment) (seen : ListsSeen) → IsContext c → MayHaveSeen (kind_of body) seen → IsWritable body → length (body_written body c).0 < 2 ^ 64 →
     BodyBack (kind_of body) c seen (body_written body) body
 body_back (Deleted k) c seen ok may w small = deleted_back k c seen ok may
 body_back (Node lon lat tags) c seen ok may w small = node_back lon lat tags c seen ok may w.location.0 w.location.1 w.texts

@@ -16,7 +16,7 @@ use Rattle.o5_codec.specs.Spelling.{SpellsSet}
 use Rattle.o5_codec.specs.Shortest.{shortest_number}
 use Rattle.o5_codec.specs.Writing.{content_written}
 use Rattle.o5_codec.specs.Agreement.{segment_behind, IsContext, MayHaveSeen}
-use Rattle.o5_codec.specs.Encoder.{Written, new_context, nothing_written, type_byte, begins_segment, reset_before, context_for, data_set, context_of, spelled_set, written_after}
+use Rattle.o5_codec.specs.Encoder.{Written, new_written_segment, nothing_written, type_byte, begins_segment, reset_before, context_for, data_set, context_of, spelled_set, written_after}
 use Rattle.o5_codec.specs.WritingLaws.{segment_for, segment_after, IsBehind, content_after, IsReadNext, WrittenSetsAreRead, SetsStand, spelled_sets, WrittenListsAreRead}
 use Rattle.o5_codec.proofs.AnswerSteps.{one_value}
 use Rattle.o5_codec.proofs.StepLaws.{section_only, set_only}
@@ -29,7 +29,7 @@ none_yet kind.Node = refl
 none_yet kind.Way = inl refl
 none_yet kind.Relation = inl refl
 
-new_is_context : IsContext new_context
+new_is_context : IsContext new_written_segment
 unfolding limit
 new_is_context = record {
   few = omega arith;
@@ -61,7 +61,7 @@ next_by : (begins : Bool) (w : Written) (seen : ListsSeen) (v : VersionData) →
     SpellsSet (kind_of v.body) (segment_for begins (segment_after w seen)) (content_written v (context_for begins w.context)).0 (v, segment_behind (content_written v (context_for begins w.context)).1 after) ×
     IsContext (content_written v (context_for begins w.context)).1
 next_by true w seen v is h valid small =
-    let r = set_back v new_context Neither valid new_is_context (none_yet (kind_of v.body)) small in (r.after, r.may, r.spells, r.context)
+    let r = set_back v new_written_segment Neither valid new_is_context (none_yet (kind_of v.body)) small in (r.after, r.may, r.spells, r.context)
 next_by false w seen v is h valid small =
     let r = set_back v w.context seen valid h.context (subst (λ k. MayHaveSeen k seen) (one_kind w.last (kind_of v.body) is) h.lists) small in (r.after, r.may, r.spells, r.context)
 

@@ -27,7 +27,7 @@ use Rattle.o5_codec.specs.declared.strings.Form.TheVariants.{Pair}
 use Rattle.o5_codec.specs.Segment.{author, time_of, meta_of}
 use Rattle.o5_codec.specs.Spelling.{UserStands, AuthorBehind, AuthorStands, BodyStands, SpellsSet}
 use Rattle.o5_codec.specs.Shortest.{shortest_number}
-use Rattle.o5_codec.specs.Writing.{Context, Step, in_turn, plain, id_written, time_written, changeset_written, strings_written, user_entry, author_steps, author_written, body_written, content_written}
+use Rattle.o5_codec.specs.Writing.{WrittenSegment, Step, in_turn, plain, id_written, time_written, changeset_written, strings_written, user_entry, author_steps, author_written, body_written, content_written}
 use Rattle.o5_codec.specs.Agreement.{segment_behind, IsContext, MayHaveSeen}
 use Rattle.o5_codec.proofs.SoundStrings.{both_true}
 use Rattle.o5_codec.proofs.StringLaws.{strings_shorter}
@@ -45,23 +45,23 @@ abbrev author_of : VersionData → Author
 author_of v = author v.changeset v.uid v.user
 
 -- the author is read back
-abbrev AuthorBack : Context → ListsSeen → VersionData → Step → List ℕ → Type 0
+abbrev AuthorBack : WrittenSegment → ListsSeen → VersionData → Step → List ℕ → Type 0
 AuthorBack c seen v step rest = AuthorStands (unwrap_or v.time 0) (segment_behind c seen) ((step c).0 ++ rest) (author_of v, segment_behind (step c).1 seen, rest)
 
-no_author : (c : Context) (seen : ListsSeen) (v : VersionData) (rest : List ℕ) → v.time ≡ None → (v.changeset ≡ 0) × (v.uid ≡ 0) × (v.user ≡ []) →
+no_author : (c : WrittenSegment) (seen : ListsSeen) (v : VersionData) (rest : List ℕ) → v.time ≡ None → (v.changeset ≡ 0) × (v.uid ≡ 0) × (v.user ≡ []) →
     AuthorStands (unwrap_or v.time 0) (segment_behind c seen) rest (author_of v, segment_behind c seen, rest)
 no_author c seen v rest none nobody = inl (
   ap (λ t. eqb (unwrap_or t 0) 0) none,
   λ i. (author (nobody.0 i) (nobody.1 i) (nobody.2 i), segment_behind c seen, rest),
 )
 
-some_author : (c : Context) (seen : ListsSeen) (v : VersionData) (t : ℕ) (rest : List ℕ) → IsContext c → v.time ≡ Some t → 0 < t → v.changeset < 2 ^ 32 → v.uid < 2 ^ 32 → is_text v.user ≡ true →
+some_author : (c : WrittenSegment) (seen : ListsSeen) (v : VersionData) (t : ℕ) (rest : List ℕ) → IsContext c → v.time ≡ Some t → 0 < t → v.changeset < 2 ^ 32 → v.uid < 2 ^ 32 → is_text v.user ≡ true →
     AuthorBack c seen v (in_turn (changeset_written v.changeset ∷ strings_written (user_entry v.uid v.user) ∷ [])) rest
 unfolding in_turn
 some_author c seen v t rest ok is some changeset uid user =
-    let c1 : Context = (changeset_written v.changeset c).1 in
+    let c1 : WrittenSegment = (changeset_written v.changeset c).1 in
     let user_bytes : List ℕ = (strings_written (user_entry v.uid v.user) c1).0 in
-    let c2 : Context = (strings_written (user_entry v.uid v.user) c1).1 in
+    let c2 : WrittenSegment = (strings_written (user_entry v.uid v.user) c1).1 in
     let ok1 : IsContext c1 = changeset_keeps c v.changeset ok changeset in
     subst (λ bytes. AuthorStands (unwrap_or v.time 0) (segment_behind c seen) bytes (author_of v, segment_behind c2 seen, rest))
     (sym (two_bytes (changeset_written v.changeset c).0 user_bytes rest)) (inr (
@@ -73,7 +73,7 @@ some_author c seen v t rest ok is some changeset uid user =
       ),
     ))
 
-author_by : (o : Option ℕ) (c : Context) (seen : ListsSeen) (v : VersionData) (rest : List ℕ) → v.time ≡ o → IsContext c → IsVersion v → ForSome o (λ t. (0 < t) × (t < 2 ^ 32)) →
+author_by : (o : Option ℕ) (c : WrittenSegment) (seen : ListsSeen) (v : VersionData) (rest : List ℕ) → v.time ≡ o → IsContext c → IsVersion v → ForSome o (λ t. (0 < t) × (t < 2 ^ 32)) →
     AuthorBack c seen v (in_turn (author_steps o v)) rest × IsContext (in_turn (author_steps o v) c).1
 unfolding in_turn
 author_by None c seen v rest is ok valid dated = (no_author c seen v rest is (valid.author is), ok)
@@ -82,7 +82,7 @@ author_by (Some t) c seen v rest is ok valid dated = (
   strings_keep (user_entry v.uid v.user) (changeset_written v.changeset c).1 (changeset_keeps c v.changeset ok valid.changeset),
 )
 
-pub author_back : (c : Context) (seen : ListsSeen) (v : VersionData) (rest : List ℕ) → IsContext c → IsVersion v → AuthorBack c seen v (author_written v) rest × IsContext (author_written v c).1
+pub author_back : (c : WrittenSegment) (seen : ListsSeen) (v : VersionData) (rest : List ℕ) → IsContext c → IsVersion v → AuthorBack c seen v (author_written v) rest × IsContext (author_written v c).1
 unfolding author_written
 author_back c seen v rest ok valid = author_by v.time c seen v rest refl ok valid valid.time
 
@@ -136,23 +136,23 @@ writable (Relation members tags) ids texts location =
 
 -- ---- a whole content
 -- the content spells the version for a reader who has the same in mind, and both go on alike
-pub record IsReadBack (v : VersionData) (c : Context) (seen : ListsSeen) : Type 0 where
+pub record IsReadBack (v : VersionData) (c : WrittenSegment) (seen : ListsSeen) : Type 0 where
   pub after : ListsSeen
   pub may : MayHaveSeen (kind_of v.body) after
   pub spells : SpellsSet (kind_of v.body) (segment_behind c seen) (content_written v c).0 (v, segment_behind (content_written v c).1 after)
   pub context : IsContext (content_written v c).1
 
-pub set_back : (v : VersionData) (c : Context) (seen : ListsSeen) → IsVersion v → IsContext c → MayHaveSeen (kind_of v.body) seen → length (content_written v c).0 < 2 ^ 64 → IsReadBack v c seen
+pub set_back : (v : VersionData) (c : WrittenSegment) (seen : ListsSeen) → IsVersion v → IsContext c → MayHaveSeen (kind_of v.body) seen → length (content_written v c).0 < 2 ^ 64 → IsReadBack v c seen
 unfolding content_written in_turn plain
 set_back v c seen valid ok may small =
     let ids = both_true (is_id v.id) (list_all is_id (ids_of v.body)) valid.ids in
     let texts = both_true (is_text v.user) (list_all is_text (texts_of v.body)) valid.texts in
     let time : ℕ = unwrap_or v.time 0 in
     let time_small : time < 2 ^ 32 = times_are_small v.time valid.time in
-    let c1 : Context = (id_written v.id c).1 in
-    let c2 : Context = (time_written time c1).1 in
-    let c3 : Context = (author_written v c2).1 in
-    let c4 : Context = (body_written v.body c3).1 in
+    let c1 : WrittenSegment = (id_written v.id c).1 in
+    let c2 : WrittenSegment = (time_written time c1).1 in
+    let c3 : WrittenSegment = (author_written v c2).1 in
+    let c4 : WrittenSegment = (body_written v.body c3).1 in
     let ok1 : IsContext c1 = id_keeps c v.id ok ids.0 in
     let ok2 : IsContext c2 = time_keeps c1 time ok1 time_small in
     let bytes : List ℕ = (body_written v.body c3).0 in

@@ -11,19 +11,19 @@ use Rattle.o5_codec.specs.declared.segment.ListsSeen.{ListsSeen}
 use Rattle.o5_codec.specs.Spelling.{IdStands, TimeStands, ChangesetStands, LongitudeStands, LatitudeStands, ReferenceStands, VersionStands, UserStands, TagStands, ItemsStand}
 use Rattle.o5_codec.specs.Shortest.{shortest_number}
 use Rattle.o5_codec.specs.Formed.{FormedEntry}
-use Rattle.o5_codec.specs.Writing.{Context, in_turn, id_written, time_written, changeset_written, longitude_written, latitude_written, reference_written, strings_written, user_entry, tag_entry, tag_written}
+use Rattle.o5_codec.specs.Writing.{WrittenSegment, in_turn, id_written, time_written, changeset_written, longitude_written, latitude_written, reference_written, strings_written, user_entry, tag_entry, tag_written}
 use Rattle.o5_codec.specs.Agreement.{strings_in, segment_behind, IsContext}
 use Rattle.o5_codec.proofs.SoundStrings.{both_true}
 use Rattle.o5_codec.proofs.WrittenNumbers.{number_back, id_difference, id_moved, number_difference, number_moved, coordinate_difference, coordinate_moved}
 use Rattle.o5_codec.proofs.WrittenStrings.{strings_back, strings_few, user_back, tag_back, user_spellable, tag_spellable}
 
 -- ---- one value
-pub id_back : (c : Context) (seen : ListsSeen) (id : ℤ) (rest : List ℕ) → IsContext c → is_id id ≡ true →
+pub id_back : (c : WrittenSegment) (seen : ListsSeen) (id : ℤ) (rest : List ℕ) → IsContext c → is_id id ≡ true →
     IdStands (segment_behind c seen) ((id_written id c).0 ++ rest) (id, segment_behind (id_written id c).1 seen, rest)
 unfolding id_written
 id_back c seen id rest ok h = (id -ℤ c.bases.id, id_difference c.bases.id id rest ok.ids.id h, id_moved c.bases.id id h, refl)
 
-pub id_keeps : (c : Context) (id : ℤ) → IsContext c → is_id id ≡ true → IsContext (id_written id c).1
+pub id_keeps : (c : WrittenSegment) (id : ℤ) → IsContext c → is_id id ≡ true → IsContext (id_written id c).1
 unfolding id_written
 id_keeps c id ok h = record {
   few = ok.few;
@@ -34,12 +34,12 @@ id_keeps c id ok h = record {
   lat = ok.lat;
 }
 
-pub time_back : (c : Context) (seen : ListsSeen) (time : ℕ) (rest : List ℕ) → IsContext c → time < 2 ^ 32 →
+pub time_back : (c : WrittenSegment) (seen : ListsSeen) (time : ℕ) (rest : List ℕ) → IsContext c → time < 2 ^ 32 →
     TimeStands (segment_behind c seen) ((time_written time c).0 ++ rest) (time, segment_behind (time_written time c).1 seen, rest)
 unfolding time_written
 time_back c seen time rest ok h = (pos time -ℤ pos c.bases.time, number_difference c.bases.time time rest ok.time h, number_moved c.bases.time time h, refl)
 
-pub time_keeps : (c : Context) (time : ℕ) → IsContext c → time < 2 ^ 32 → IsContext (time_written time c).1
+pub time_keeps : (c : WrittenSegment) (time : ℕ) → IsContext c → time < 2 ^ 32 → IsContext (time_written time c).1
 unfolding time_written
 time_keeps c time ok h = record {
   few = ok.few;
@@ -50,13 +50,13 @@ time_keeps c time ok h = record {
   lat = ok.lat;
 }
 
-pub changeset_back : (c : Context) (seen : ListsSeen) (changeset : ℕ) (rest : List ℕ) → IsContext c → changeset < 2 ^ 32 →
+pub changeset_back : (c : WrittenSegment) (seen : ListsSeen) (changeset : ℕ) (rest : List ℕ) → IsContext c → changeset < 2 ^ 32 →
     ChangesetStands (segment_behind c seen) ((changeset_written changeset c).0 ++ rest) (changeset, segment_behind (changeset_written changeset c).1 seen, rest)
 unfolding changeset_written
 changeset_back c seen changeset rest ok h =
     (pos changeset -ℤ pos c.bases.changeset, number_difference c.bases.changeset changeset rest ok.changeset h, number_moved c.bases.changeset changeset h, refl)
 
-pub changeset_keeps : (c : Context) (changeset : ℕ) → IsContext c → changeset < 2 ^ 32 → IsContext (changeset_written changeset c).1
+pub changeset_keeps : (c : WrittenSegment) (changeset : ℕ) → IsContext c → changeset < 2 ^ 32 → IsContext (changeset_written changeset c).1
 unfolding changeset_written
 changeset_keeps c changeset ok h = record {
   few = ok.few;
@@ -67,12 +67,12 @@ changeset_keeps c changeset ok h = record {
   lat = ok.lat;
 }
 
-pub longitude_back : (c : Context) (seen : ListsSeen) (lon : ℤ) (rest : List ℕ) → IsContext c → FitsSigned w32 lon →
+pub longitude_back : (c : WrittenSegment) (seen : ListsSeen) (lon : ℤ) (rest : List ℕ) → IsContext c → FitsSigned w32 lon →
     LongitudeStands (segment_behind c seen) ((longitude_written lon c).0 ++ rest) (lon, segment_behind (longitude_written lon c).1 seen, rest)
 unfolding longitude_written
 longitude_back c seen lon rest ok h = (lon -ℤ c.bases.lon, coordinate_difference c.bases.lon lon rest ok.lon h, coordinate_moved c.bases.lon lon ok.lon h, refl)
 
-pub longitude_keeps : (c : Context) (lon : ℤ) → IsContext c → FitsSigned w32 lon → IsContext (longitude_written lon c).1
+pub longitude_keeps : (c : WrittenSegment) (lon : ℤ) → IsContext c → FitsSigned w32 lon → IsContext (longitude_written lon c).1
 unfolding longitude_written
 longitude_keeps c lon ok h = record {
   few = ok.few;
@@ -83,12 +83,12 @@ longitude_keeps c lon ok h = record {
   lat = ok.lat;
 }
 
-pub latitude_back : (c : Context) (seen : ListsSeen) (lat : ℤ) (rest : List ℕ) → IsContext c → FitsSigned w32 lat →
+pub latitude_back : (c : WrittenSegment) (seen : ListsSeen) (lat : ℤ) (rest : List ℕ) → IsContext c → FitsSigned w32 lat →
     LatitudeStands (segment_behind c seen) ((latitude_written lat c).0 ++ rest) (lat, segment_behind (latitude_written lat c).1 seen, rest)
 unfolding latitude_written
 latitude_back c seen lat rest ok h = (lat -ℤ c.bases.lat, coordinate_difference c.bases.lat lat rest ok.lat h, coordinate_moved c.bases.lat lat ok.lat h, refl)
 
-pub latitude_keeps : (c : Context) (lat : ℤ) → IsContext c → FitsSigned w32 lat → IsContext (latitude_written lat c).1
+pub latitude_keeps : (c : WrittenSegment) (lat : ℤ) → IsContext c → FitsSigned w32 lat → IsContext (latitude_written lat c).1
 unfolding latitude_written
 latitude_keeps c lat ok h = record {
   few = ok.few;
@@ -99,12 +99,12 @@ latitude_keeps c lat ok h = record {
   lat = h;
 }
 
-reference_back : (c : Context) (seen : ListsSeen) (id : ℤ) (rest : List ℕ) → IsContext c → is_id id ≡ true →
+reference_back : (c : WrittenSegment) (seen : ListsSeen) (id : ℤ) (rest : List ℕ) → IsContext c → is_id id ≡ true →
     ReferenceStands (segment_behind c seen) ((reference_written id c).0 ++ rest) (id, segment_behind (reference_written id c).1 seen, rest)
 unfolding reference_written
 reference_back c seen id rest ok h = (id -ℤ c.bases.reference, id_difference c.bases.reference id rest ok.ids.reference h, id_moved c.bases.reference id h, refl)
 
-reference_keeps : (c : Context) (id : ℤ) → IsContext c → is_id id ≡ true → IsContext (reference_written id c).1
+reference_keeps : (c : WrittenSegment) (id : ℤ) → IsContext c → is_id id ≡ true → IsContext (reference_written id c).1
 unfolding reference_written
 reference_keeps c id ok h = record {
   few = ok.few;
@@ -123,17 +123,17 @@ version_back n rest some small = (
 )
 
 -- ---- strings
-pub strings_keep : (e : FormedEntry) (c : Context) → IsContext c → IsContext (strings_written e c).1
+pub strings_keep : (e : FormedEntry) (c : WrittenSegment) → IsContext c → IsContext (strings_written e c).1
 unfolding strings_written
 strings_keep e c ok = record { few = strings_few e c.table ok.few; ids = ok.ids; time = ok.time; changeset = ok.changeset; lon = ok.lon; lat = ok.lat }
 
-pub user_stands : (c : Context) (seen : ListsSeen) (uid : ℕ) (user : List ℕ) (rest : List ℕ) → IsContext c → uid < 2 ^ 32 → is_text user ≡ true →
+pub user_stands : (c : WrittenSegment) (seen : ListsSeen) (uid : ℕ) (user : List ℕ) (rest : List ℕ) → IsContext c → uid < 2 ^ 32 → is_text user ≡ true →
     UserStands (segment_behind c seen) ((strings_written (user_entry uid user) c).0 ++ rest) ((uid, user), segment_behind (strings_written (user_entry uid user) c).1 seen, rest)
 unfolding strings_written
 user_stands c seen uid user rest ok small text =
     ((user_entry uid user).strings, strings_in (strings_written (user_entry uid user) c).1.table, strings_back (user_entry uid user) c.table rest (user_spellable uid user text) ok.few, user_back uid user small text, refl)
 
-tag_stands : (c : Context) (seen : ListsSeen) (tag : Tag) (rest : List ℕ) → IsContext c → is_text tag.key ≡ true → is_text tag.value ≡ true →
+tag_stands : (c : WrittenSegment) (seen : ListsSeen) (tag : Tag) (rest : List ℕ) → IsContext c → is_text tag.key ≡ true → is_text tag.value ≡ true →
     TagStands (segment_behind c seen) ((tag_written tag c).0 ++ rest) (tag, segment_behind (tag_written tag c).1 seen, rest)
 unfolding strings_written
 tag_stands c seen tag rest ok key value =
@@ -143,7 +143,7 @@ tag_stands c seen tag rest ok key value =
 abbrev pub are_texts : Tag → Bool
 are_texts tag = is_text tag.key && is_text tag.value
 
-pub tags_back : (tags : List Tag) (c : Context) (seen : ListsSeen) → IsContext c → list_all are_texts tags ≡ true →
+pub tags_back : (tags : List Tag) (c : WrittenSegment) (seen : ListsSeen) → IsContext c → list_all are_texts tags ≡ true →
     ItemsStand TagStands (segment_behind c seen) (in_turn (map tag_written tags) c).0 tags (segment_behind (in_turn (map tag_written tags) c).1 seen)
 unfolding in_turn
 tags_back [] c seen ok texts = (refl, refl)
@@ -156,12 +156,12 @@ tags_back (tag ∷ tags) c seen ok texts =
       tags_back tags (tag_written tag c).1 seen (strings_keep (tag_entry tag) c ok) all.1,
     )
 
-pub tags_keep : (tags : List Tag) (c : Context) → IsContext c → IsContext (in_turn (map tag_written tags) c).1
+pub tags_keep : (tags : List Tag) (c : WrittenSegment) → IsContext c → IsContext (in_turn (map tag_written tags) c).1
 unfolding in_turn
 tags_keep [] c ok = ok
 tags_keep (tag ∷ tags) c ok = tags_keep tags (tag_written tag c).1 (strings_keep (tag_entry tag) c ok)
 
-pub references_back : (ids : List ℤ) (c : Context) (seen : ListsSeen) → IsContext c → list_all is_id ids ≡ true →
+pub references_back : (ids : List ℤ) (c : WrittenSegment) (seen : ListsSeen) → IsContext c → list_all is_id ids ≡ true →
     ItemsStand ReferenceStands (segment_behind c seen) (in_turn (map reference_written ids) c).0 ids (segment_behind (in_turn (map reference_written ids) c).1 seen)
 unfolding in_turn
 references_back [] c seen ok h = (refl, refl)
@@ -173,7 +173,7 @@ references_back (id ∷ ids) c seen ok h =
       references_back ids (reference_written id c).1 seen (reference_keeps c id ok all.0) all.1,
     )
 
-pub references_keep : (ids : List ℤ) (c : Context) → IsContext c → list_all is_id ids ≡ true → IsContext (in_turn (map reference_written ids) c).1
+pub references_keep : (ids : List ℤ) (c : WrittenSegment) → IsContext c → list_all is_id ids ≡ true → IsContext (in_turn (map reference_written ids) c).1
 unfolding in_turn
 references_keep [] c ok h = ok
 references_keep (id ∷ ids) c ok h = let all = both_true (is_id id) (list_all is_id ids) h in references_keep ids (reference_written id c).1 (reference_keeps c id ok all.0) all.1

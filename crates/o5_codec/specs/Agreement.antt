@@ -10,14 +10,14 @@ use Rattle.o5_codec.specs.Entry.{Entry}
 use Rattle.o5_codec.specs.Table.{limit}
 use Rattle.o5_codec.specs.Formed.{FormedEntry}
 use Rattle.o5_codec.specs.IdBases.{AreIds}
-use Rattle.o5_codec.specs.Writing.{Context}
+use Rattle.o5_codec.specs.Writing.{WrittenSegment}
 
 -- the strings of a table, without their forms
 abbrev pub strings_in : List FormedEntry → List Entry
 strings_in table = map (λ e. e.strings) table
 
 -- the segment of a reader: the same bases, the strings of the table, and which lists the segment had
-abbrev pub segment_behind : Context → ListsSeen → Segment
+abbrev pub segment_behind : WrittenSegment → ListsSeen → Segment
 segment_behind c seen = record { bases = c.bases; table = strings_in c.table; seen = seen }
 
 -- the lists that a segment of objects of this kind may have had
@@ -27,7 +27,7 @@ MayHaveSeen kind.Way seen = (seen ≡ Neither) ⊎ (seen ≡ References)
 MayHaveSeen kind.Relation seen = (seen ≡ Neither) ⊎ (seen ≡ NodeMembers)
 
 -- the bases are within the ranges of their fields, and the table isn't too long
-pub record IsContext (c : Context) : Type 0 where
+pub record IsContext (c : WrittenSegment) : Type 0 where
   pub few : length c.table ≤ limit
   pub ids : AreIds c.bases
   pub time : c.bases.time < 2 ^ 32

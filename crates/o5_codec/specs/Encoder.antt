@@ -8,20 +8,20 @@ use Rattle.o5_codec.specs.declared.fault.EncodeFault.{EncodeFault}
 use Rattle.o5_codec.specs.declared.fault.EncodeFault.TheVariants.{Memory, Failed}
 use Rattle.o5_codec.specs.Decoder.{no_bases}
 use Rattle.o5_codec.specs.Shortest.{shortest_number}
-use Rattle.o5_codec.specs.Writing.{Context, content_written}
+use Rattle.o5_codec.specs.Writing.{WrittenSegment, content_written}
 
 -- nothing stands before in the segment
-abbrev pub new_context : Context
-new_context = record { bases = no_bases; table = [] }
+abbrev pub new_written_segment : WrittenSegment
+new_written_segment = record { bases = no_bases; table = [] }
 
 -- the kind of the version written last, and the context behind it
 pub record Written : Type 0 where
   pub last : Kind
-  pub context : Context
+  pub context : WrittenSegment
 
 -- behind the header: nodes come first, so a reset stands before the first way or relation even here
 abbrev pub nothing_written : Written
-nothing_written = record { last = kind.Node; context = new_context }
+nothing_written = record { last = kind.Node; context = new_written_segment }
 
 abbrev pub type_byte : Kind → ℕ
 type_byte kind.Node = 0x10
@@ -37,15 +37,15 @@ abbrev pub reset_before : Bool → List ℕ
 reset_before begins = if begins then 0xff ∷ [] else []
 
 -- what the data set is written relative to
-abbrev pub context_for : Bool → Context → Context
-context_for begins context = if begins then new_context else context
+abbrev pub context_for : Bool → WrittenSegment → WrittenSegment
+context_for begins context = if begins then new_written_segment else context
 
 -- a data set: its type, its length, its content
 abbrev pub data_set : Kind → List ℕ → List ℕ
 data_set k content = type_byte k ∷ shortest_number (length content) ++ content
 
 -- the context that a version is written relative to, behind what is written
-unfoldable pub context_of : Written → VersionData → Context
+unfoldable pub context_of : Written → VersionData → WrittenSegment
 context_of w v = context_for (begins_segment w.last (kind_of v.body)) w.context
 
 -- the bytes of a version

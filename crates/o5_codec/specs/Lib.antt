@@ -26,6 +26,6 @@ pub mod IdBases
 pub mod SameEntry
 pub mod Agreement
 pub mod WritingLaws
-pub mod Piece
+pub mod Block
 pub mod StoredInside
 pub mod EntryInside

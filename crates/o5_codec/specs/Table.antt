@@ -5,9 +5,12 @@ use Rattle.o5_codec.specs.Entry.{Entry}
 unfoldable pub limit : ℕ
 limit = 15_000
 
--- two strings of 250 bytes together at most, zero bytes not counted (that they aren't is an own rule of this project)
+-- how many bytes the two strings of a stored entry have together at most, zero bytes not counted (that they aren't is an own rule of this project)
+abbrev pub longest_stored : ℕ
+longest_stored = 250
+
 abbrev pub is_short : Entry → Bool
-is_short e = nat_le (length e.first + length e.second) 250
+is_short e = nat_le (length e.first + length e.second) longest_stored
 
 -- the table after an inline entry
 abbrev pub stored : Entry → List Entry → List Entry

@@ -1,7 +1,7 @@
 -- What is true of the fields of a table that is written.
 use Rattle.std.specs.Prelude.{◌^◌}
 use Rattle.std.specs.HashMap as hash
-use Rattle.o5_codec.specs.declared.write.table.Table.TheInside.{Inside}
+use Rattle.o5_codec.specs.declared.write.indexed_table.IndexedTable.TheInside.{Inside}
 use Rattle.o5_codec.specs.Table.{limit}
 use Rattle.o5_codec.specs.Formed.{same_entry}
 use Rattle.o5_codec.specs.Indexed.{IsIndexed}

@@ -14,19 +14,19 @@ use Rattle.o5_codec.specs.Shortest.{shortest_number, difference}
 use Rattle.o5_codec.specs.Formed.{FormedEntry, formed, reference_to, spelled_by, kept_by}
 
 -- what stands before in the segment, as far as later data sets are written relative to it
-pub record Context : Type 0 where
+pub record WrittenSegment : Type 0 where
   pub bases : Bases
   pub table : List FormedEntry
 
-abbrev pub after_bases : Context → Bases → Context
+abbrev pub after_bases : WrittenSegment → Bases → WrittenSegment
 after_bases s bases = record s { bases = bases }
 
 -- the bytes of a step, and the context behind it
 abbrev pub Spelling : Type 0
-Spelling = List ℕ × Context
+Spelling = List ℕ × WrittenSegment
 
 abbrev pub Step : Type 0
-Step = Context → Spelling
+Step = WrittenSegment → Spelling
 
 -- steps one behind the other
 unfoldable pub in_turn : List Step → Step

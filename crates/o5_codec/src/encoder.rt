@@ -4,9 +4,9 @@ ghost use Rattle.osm_model.specs.Data.{kind_of};
 ghost use Rattle.o5_codec.specs.Encoder as spec;
 
 use crate::EncodeFault;
-use crate::write::context::Context;
 use crate::write::draft::Draft;
 use crate::write::number::append_number;
+use crate::write::segment::WrittenSegment;
 use osm_model::{Kind, Memory, Version};
 use std::alloc::Global;
 use std::marker::Model;
@@ -15,7 +15,7 @@ use std::marker::Model;
 #[derive(Drop)]
 pub struct Encoder {
     last: Kind,
-    context: Context,
+    context: WrittenSegment,
     failed: bool,
     alloc: Global,
     /// Buffers that are used again: a data set, its content, and a section within it.
@@ -43,7 +43,7 @@ impl Encoder {
     {
         Ok(Encoder {
             last: Kind::Node,
-            context: Context::new(alloc)?,
+            context: WrittenSegment::new(alloc)?,
             failed: false,
             alloc,
             set: Vec::new(alloc),
@@ -125,7 +125,7 @@ fn begins_segment(last: Kind, kind: Kind) -> bool
 }
 
 /// Begins a segment, if one begins.
-fn begin_if(begins: bool, context: &mut Context)
+fn begin_if(begins: bool, context: &mut WrittenSegment)
     ensures { context.new ≡ spec.context_for begins context.old }
 {
     if begins {

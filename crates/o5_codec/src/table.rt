@@ -16,7 +16,7 @@ use std::marker::Model;
 /// How many entries the table holds at most.
 pub(crate) const LIMIT: usize = 15_000;
 
-/// How many bytes the two strings of an entry have together at most.
+/// How many bytes the two strings of a stored entry have together at most.
 pub(crate) const LONGEST: usize = 250;
 
 /// An entry: the bytes of its first string, behind them those of its second. Contracts see the two strings.

@@ -1,11 +1,11 @@
 //! What stands in data sets, as it is written.
+pub(crate) mod block;
 pub(crate) mod body;
-pub(crate) mod context;
 pub(crate) mod draft;
 pub(crate) mod entry;
+pub(crate) mod indexed_table;
 pub(crate) mod number;
-pub(crate) mod piece;
+pub(crate) mod segment;
 pub(crate) mod slot;
-pub(crate) mod table;
 #[cfg(test)]
 mod tests;

@@ -2,7 +2,7 @@
 use Rattle.std.specs.Prelude.{◌≡◌, ℕ, ◌+◌, ◌<◌, ◌≤◌, ◌^◌, ◌⊎◌, Bool, true, false, List, [], length, take, Result, Ok, Err, MatchBool}
 use Rattle.osm_model.specs.Kind.{kind_rank}
 use Rattle.osm_model.specs.Data.{VersionData, kind_of}
-use Rattle.o5_codec.specs.Encoder.{Written, nothing_written, new_context}
+use Rattle.o5_codec.specs.Encoder.{Written, nothing_written, new_written_segment}
 use Rattle.osm_files.specs.declared.fault.Fault.{Fault}
 use Rattle.osm_files.specs.declared.format.Format.{Format}
 use Rattle.osm_files.specs.declared.format.Format.TheVariants.{Opl, O5m, O5c}
@@ -14,7 +14,7 @@ use Rattle.osm_files.specs.Spell.{behind, behind_all, spelled_open}
 
 -- what versions are written relative to
 abbrev pub written_in : Units → Written
-written_in (Lines last) = record { last = last; context = new_context }
+written_in (Lines last) = record { last = last; context = new_written_segment }
 written_in (DataSets encoder) = encoder.written
 
 -- the units are those of the format, and have not failed

@@ -8,11 +8,11 @@ ghost use Rattle.o5_codec.specs.Shortest.{shortest_number};
 ghost use Rattle.o5_codec.specs.Appended.{Appended};
 ghost use Rattle.o5_codec.specs.Writing as spec;
 
-use crate::write::context::Context;
 use crate::write::draft::Draft;
+use crate::write::segment::WrittenSegment;
 use osm_model::{Body, Member, Memory, Tag};
 
-impl Context {
+impl WrittenSegment {
     /// Appends a body. The section of references or members is made in a buffer of the caller.
     #[tactic(auto, unfolding(crate::specs::Writing::body_written))]
     pub(crate) fn append_body(

@@ -2,7 +2,7 @@
 ghost use Rattle.std.specs.Prelude.{◌≡◌, ◌++◌, ◌∷◌, [], length, OnOk, IfSome};
 ghost use Rattle.o5_codec.specs.Shortest.{shortest_number};
 
-use crate::write::piece::{Piece, ROOM};
+use crate::write::block::{Block, ROOM};
 use osm_model::Memory;
 use std::alloc::Global;
 use std::marker::Model;
@@ -10,20 +10,20 @@ use std::marker::Model;
 /// The bytes that a number has at most.
 const LONGEST_NUMBER: usize = 10;
 
-/// Bytes that grow at their end, whose last ones stand in a piece. Contracts see all of them.
+/// Bytes that grow at their end, whose last ones stand in a block. Contracts see all of them.
 #[derive(Drop)]
 pub(crate) struct Draft {
     front: Vec<u8>,
-    piece: Piece,
+    block: Block,
 }
 
 impl Model for Draft {
     ghost use Rattle.std.specs.Prelude.{List, ℕ, ◌++◌};
-    ghost use Rattle.o5_codec.specs.Piece.{filled};
+    ghost use Rattle.o5_codec.specs.Block.{filled};
 
     ghost Value = { List ℕ };
 
-    ghost view = { λ d. d.front.items ++ filled d.piece };
+    ghost view = { λ d. d.front.items ++ filled d.block };
 }
 
 impl Draft {
@@ -33,7 +33,7 @@ impl Draft {
     {
         Draft {
             front: Vec::new(alloc),
-            piece: Piece::new(),
+            block: Block::new(),
         }
     }
 
@@ -42,22 +42,22 @@ impl Draft {
         ensures { self.new ≡ [] }
     {
         self.front.clear();
-        self.piece.clear();
+        self.block.clear();
     }
 
     /// How many bytes there are.
     pub(crate) fn len(&self) -> u64
         ensures { result ≡ length self.now }
     {
-        self.front.len() as u64 + self.piece.len() as u64
+        self.front.len() as u64 + self.block.len() as u64
     }
 
-    /// All bytes, where they are few enough to stand in the piece alone.
+    /// All bytes, where they are few enough to stand in the block alone.
     pub(crate) fn as_piece(&self) -> Option<&[u8]>
         ensures { IfSome result (λ bytes. bytes.now ≡ self.now) }
     {
         if self.front.is_empty() {
-            Some(self.piece.as_slice())
+            Some(self.block.as_slice())
         } else {
             None
         }
@@ -72,7 +72,7 @@ impl Draft {
         ensures { OnOk result (out.new.items ≡ out.old.items ++ self.now) }
     {
         out.extend_from_slice(self.front.as_slice())?;
-        out.extend_from_slice(self.piece.as_slice())?;
+        out.extend_from_slice(self.block.as_slice())?;
         Ok(())
     }
 
@@ -85,8 +85,8 @@ impl Draft {
     pub(crate) fn append_number(&mut self, number: u64) -> Result<(), Memory>
         ensures { OnOk result (self.new ≡ self.old ++ shortest_number number) }
     {
-        self.piece.make_room(LONGEST_NUMBER, &mut self.front)?;
-        self.piece.append_number(number);
+        self.block.make_room(LONGEST_NUMBER, &mut self.front)?;
+        self.block.append_number(number);
         Ok(())
     }
 
@@ -98,8 +98,8 @@ impl Draft {
     pub(crate) fn push(&mut self, byte: u8) -> Result<(), Memory>
         ensures { OnOk result (self.new ≡ self.old ++ byte ∷ []) }
     {
-        self.piece.make_room(1, &mut self.front)?;
-        self.piece.push(byte);
+        self.block.make_room(1, &mut self.front)?;
+        self.block.push(byte);
         Ok(())
     }
 
@@ -111,11 +111,11 @@ impl Draft {
     pub(crate) fn append(&mut self, bytes: &[u8]) -> Result<(), Memory>
         ensures { OnOk result (self.new ≡ self.old ++ bytes.now) }
     {
-        if bytes.len() <= ROOM - self.piece.len() {
-            self.piece.append(bytes);
+        if bytes.len() <= ROOM - self.block.len() {
+            self.block.append(bytes);
             return Ok(());
         }
-        self.piece.flush(&mut self.front)?;
+        self.block.flush(&mut self.front)?;
         self.front.extend_from_slice(bytes)?;
         Ok(())
     }
@@ -129,6 +129,6 @@ impl Draft {
         ensures { OnOk result (self.new ≡ self.old ++ other.now) }
     {
         self.append(other.front.as_slice())?;
-        self.append(other.piece.as_slice())
+        self.append(other.block.as_slice())
     }
 }

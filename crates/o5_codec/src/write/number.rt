@@ -3,8 +3,8 @@ ghost use Rattle.std.specs.Prelude.{◌≡◌, ◌++◌, OnOk};
 ghost use Rattle.o5_codec.specs.Number.{unsigned_of};
 ghost use Rattle.o5_codec.specs.Shortest.{shortest_number, shortest_signed};
 
+use crate::write::block::Block;
 use crate::write::draft::Draft;
-use crate::write::piece::Piece;
 use osm_model::Memory;
 
 /// Appends an unsigned number.
@@ -15,9 +15,9 @@ use osm_model::Memory;
 pub(crate) fn append_number(out: &mut Vec<u8>, number: u64) -> Result<(), Memory>
     ensures { OnOk result (out.new.items ≡ out.old.items ++ shortest_number number) }
 {
-    let mut piece = Piece::new();
-    piece.append_number(number);
-    out.extend_from_slice(piece.as_slice())?;
+    let mut block = Block::new();
+    block.append_number(number);
+    out.extend_from_slice(block.as_slice())?;
     Ok(())
 }
 

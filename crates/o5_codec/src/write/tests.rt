@@ -4,8 +4,8 @@ ghost use Rattle.std.specs.Prelude.{◌≡◌, false};
 use crate::number::read_number;
 use crate::write::draft::Draft;
 use crate::write::entry::Entry;
+use crate::write::indexed_table::IndexedTable;
 use crate::write::slot::Slot;
-use crate::write::table::Table;
 use crate::{Decoder, Encoder};
 use osm_model::{Body, Kind, Meta, Tag, Tags, Text, Version};
 use std::alloc::Global;
@@ -326,7 +326,7 @@ fn fill(alloc: Global, entry: &mut Entry, number: u32) -> Result<(), Fail> {
 fn append_to_both(
     rt: &impl Abort,
     alloc: Global,
-    table: &mut Table,
+    table: &mut IndexedTable,
     plain: &mut Plain,
     number: u32,
     entry: &Entry,
@@ -343,7 +343,7 @@ fn append_to_both(
 #[test]
 fn refers_as_a_plain_search_does(rt: HostRuntime) -> Result<(), Fail> {
     let alloc = rt.alloc();
-    let mut table = Table::new(alloc)?;
+    let mut table = IndexedTable::new(alloc)?;
     let mut plain = Plain {
         stored: Vec::new(alloc),
     };

@@ -1,0 +1,7 @@
+-- The bytes of a block.
+use Rattle.std.specs.Prelude.{ℕ, List, take}
+use Rattle.o5_codec.specs.declared.write.block.Block.{Block}
+
+-- the bytes that are filled
+abbrev pub filled : Block → List ℕ
+filled block = take block.end block.bytes

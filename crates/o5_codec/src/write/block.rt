@@ -1,0 +1,156 @@
+//! Up to 128 bytes of a data set, filled in place.
+ghost use Rattle.std.specs.Prelude.{◌≡◌, ◌≤◌, ◌<◌, ◌+◌, ◌++◌, ◌∷◌, [], length, OnOk};
+ghost use Rattle.o5_codec.specs.Shortest.{shortest_number};
+
+use osm_model::Memory;
+
+/// How many bytes a block has room for: more than a short data set has.
+pub(crate) const ROOM: usize = 128;
+
+/// At most 128 bytes. They stand in place, so that nothing is tested for each of them.
+#[derive(Drop)]
+pub(crate) struct Block {
+    bytes: [u8; ROOM],
+    end: usize,
+    ghost within: { end ≤ 128 },
+}
+
+impl Block {
+    ghost use Rattle.o5_codec.specs.Block.{filled};
+
+    /// A block without bytes.
+    pub(crate) fn new() -> Block
+        ensures { filled result ≡ [] }
+    {
+        Block {
+            bytes: [0; ROOM],
+            end: 0,
+        }
+    }
+
+    /// Lets all bytes go.
+    pub(crate) fn clear(&mut self)
+        ensures bytes { filled self.new ≡ [] }
+        ensures room { self.new.end ≡ 0 }
+    {
+        self.end = 0;
+    }
+
+    /// How many bytes there are.
+    pub(crate) fn len(&self) -> usize
+        ensures place { result ≡ self.now.end }
+        ensures length { result ≡ length (filled self.now) }
+    {
+        self.end
+    }
+
+    /// The bytes.
+    pub(crate) fn as_slice(&self) -> &[u8]
+        ensures { result.now ≡ filled self.now }
+    {
+        &self.bytes[..self.end]
+    }
+
+    /// Makes room for so many bytes more: where there isn't, the bytes are moved to the end of those in front of them.
+    ///
+    /// # Errors
+    ///
+    /// For want of memory alone.
+    #[inline(always)]
+    pub(crate) fn make_room(&mut self, count: usize, front: &mut Vec<u8>) -> Result<(), Memory>
+        requires { count ≤ 128 }
+        ensures bytes { OnOk result (front.new.items ++ filled self.new ≡ front.old.items ++ filled self.old) }
+        ensures room { OnOk result (self.new.end + count ≤ 128) }
+    {
+        if count <= ROOM - self.end {
+            return Ok(());
+        }
+        self.flush(front)
+    }
+
+    /// Moves the bytes to the end of those in front of them.
+    ///
+    /// # Errors
+    ///
+    /// For want of memory alone.
+    #[inline(never)]
+    pub(crate) fn flush(&mut self, front: &mut Vec<u8>) -> Result<(), Memory>
+        ensures bytes { OnOk result (front.new.items ≡ front.old.items ++ filled self.old) }
+        ensures moved { OnOk result (filled self.new ≡ []) }
+        ensures room { OnOk result (self.new.end ≡ 0) }
+    {
+        front.extend_from_slice(self.as_slice())?;
+        self.clear();
+        Ok(())
+    }
+
+    /// One byte more.
+    pub(crate) fn push(&mut self, byte: u8)
+        requires { self.old.end < 128 }
+        ensures { filled self.new ≡ filled self.old ++ byte ∷ [] }
+    {
+        self.bytes[self.end] = byte;
+        self.end += 1;
+    }
+
+    /// More bytes.
+    pub(crate) fn append(&mut self, bytes: &[u8])
+        requires { self.old.end + length bytes.now ≤ 128 }
+        ensures { filled self.new ≡ filled self.old ++ bytes.now }
+    {
+        let end = self.end + bytes.len();
+        self.bytes[self.end..end].copy_from_slice(bytes);
+        self.end = end;
+    }
+
+    /// An unsigned number.
+    #[inline(always)]
+    pub(crate) fn append_number(&mut self, number: u64)
+        requires { self.old.end + 10 ≤ 128 }
+        ensures { filled self.new ≡ filled self.old ++ shortest_number number }
+    {
+        if number >= 128 * 2_097_152 {
+            return self.append_long_number(number);
+        }
+        let end = self.end;
+        if number < 128 {
+            self.bytes[end] = number as u8;
+            self.end = end + 1;
+            return;
+        }
+        self.bytes[end] = (number % 128) as u8 + 128;
+        let two = number / 128;
+        if two < 128 {
+            self.bytes[end + 1] = two as u8;
+            self.end = end + 2;
+            return;
+        }
+        self.bytes[end + 1] = (two % 128) as u8 + 128;
+        let three = two / 128;
+        if three < 128 {
+            self.bytes[end + 2] = three as u8;
+            self.end = end + 3;
+            return;
+        }
+        self.bytes[end + 2] = (three % 128) as u8 + 128;
+        self.bytes[end + 3] = (three / 128) as u8;
+        self.end = end + 4;
+    }
+
+    /// Appends a number of any length, group by group.
+    #[inline(never)]
+    fn append_long_number(&mut self, number: u64)
+        requires { self.old.end + 10 ≤ 128 }
+        ensures { filled self.new ≡ filled self.old ++ shortest_number number }
+    {
+        let mut end = self.end;
+        let mut rest = number;
+        while rest >= 128 {
+            self.bytes[end] = (rest % 128) as u8 + 128;
+            end += 1;
+            rest /= 128;
+        }
+        self.bytes[end] = rest as u8;
+        self.end = end + 1;
+    }
+}

@@ -1,0 +1,200 @@
+//! What data sets are written relative to, and the steps of a data set before its body.
+ghost use Rattle.std.specs.Prelude.{◌≡◌, ◌<◌, ◌^◌, true, IfOk, OnOk, unwrap_or};
+ghost use Rattle.osm_model.specs.Id.{is_id};
+ghost use Rattle.o5_codec.specs.Encoder.{new_written_segment};
+ghost use Rattle.o5_codec.specs.Formed.{reference_to};
+ghost use Rattle.o5_codec.specs.Appended.{Appended};
+ghost use Rattle.o5_codec.specs.Writing as spec;
+
+use crate::base::Bases;
+use crate::write::draft::Draft;
+use crate::write::entry::Entry;
+use crate::write::indexed_table::IndexedTable;
+use crate::write::slot::Slot;
+use osm_model::{Kind, Memory, Tag, Text, Version};
+use std::alloc::Global;
+use std::marker::Model;
+
+/// What stands before in a segment, as far as later data sets are written relative to it. Contracts see the bases and the table.
+#[derive(Drop)]
+pub(crate) struct WrittenSegment {
+    bases: Bases,
+    table: IndexedTable,
+    /// The entry at hand, whose buffer is used again.
+    entry: Entry,
+}
+
+impl Model for WrittenSegment {
+    ghost use Rattle.o5_codec.specs.Writing.{WrittenSegment};
+
+    ghost Value = { WrittenSegment };
+
+    ghost view = { λ c. record { bases = c.bases; table = c.table } };
+}
+
+impl WrittenSegment {
+    /// What stands where a segment begins: nothing.
+    pub(crate) fn new(alloc: Global) -> Result<WrittenSegment, Memory>
+        ensures { IfOk result (λ c. c ≡ new_written_segment) }
+    {
+        Ok(WrittenSegment {
+            bases: Bases::new(),
+            table: IndexedTable::new(alloc)?,
+            entry: Entry::with_room(alloc)?,
+        })
+    }
+
+    /// Begins a segment.
+    pub(crate) fn clear(&mut self)
+        ensures { self.new ≡ new_written_segment }
+    {
+        self.bases = Bases::new();
+        self.table.clear();
+    }
+
+    /// Appends the content of a version's data set.
+    #[tactic(auto, unfolding(crate::specs::Writing::content_written))]
+    pub(crate) fn append_content(
+        &mut self,
+        out: &mut Draft,
+        section: &mut Draft,
+        v: &Version,
+    ) -> Result<(), Memory>
+        ensures { OnOk result (Appended out.old out.new self.new (spec.content_written v.now self.old)) }
+    {
+        self.append_id(out, v.id())?;
+        out.append_number(v.number())?;
+        self.append_time(out, v.time().unwrap_or(0) as u32)?;
+        self.append_author(out, v)?;
+        self.append_body(out, section, v.body())?;
+        Ok(())
+    }
+
+    /// Appends the id of an object.
+    #[tactic(auto, unfolding(crate::specs::Writing::id_written))]
+    fn append_id(&mut self, out: &mut Draft, id: i64) -> Result<(), Memory>
+        requires { is_id id ≡ true }
+        ensures { OnOk result (Appended out.old out.new self.new (spec.id_written id self.old)) }
+    {
+        self.bases.id.append(out, id)
+    }
+
+    /// Appends a time, 0 being none.
+    #[tactic(auto, unfolding(crate::specs::Writing::time_written))]
+    fn append_time(&mut self, out: &mut Draft, time: u32) -> Result<(), Memory>
+        ensures { OnOk result (Appended out.old out.new self.new (spec.time_written time self.old)) }
+    {
+        self.bases.time.append(out, time)
+    }
+
+    /// Appends changeset and user, where there is a time.
+    #[tactic(auto, unfolding(crate::specs::Writing::author_written))]
+    fn append_author(&mut self, out: &mut Draft, v: &Version) -> Result<(), Memory>
+        requires { v.now.changeset < 2 ^ 32 }
+        ensures { OnOk result (Appended out.old out.new self.new (spec.author_written v.now self.old)) }
+    {
+        match v.time() {
+            None => Ok(()),
+            Some(_) => {
+                self.append_changeset(out, v.changeset() as u32)?;
+                self.append_user(out, v.uid(), v.user())?;
+                Ok(())
+            }
+        }
+    }
+
+    #[tactic(auto, unfolding(crate::specs::Writing::changeset_written))]
+    fn append_changeset(&mut self, out: &mut Draft, changeset: u32) -> Result<(), Memory>
+        ensures { OnOk result (Appended out.old out.new self.new (spec.changeset_written changeset self.old)) }
+    {
+        self.bases.changeset.append(out, changeset)
+    }
+
+    #[tactic(auto, unfolding(crate::specs::Writing::strings_written))]
+    fn append_user(&mut self, out: &mut Draft, uid: u64, user: &Text) -> Result<(), Memory>
+        ensures { OnOk result (Appended out.old out.new self.new (spec.strings_written (spec.user_entry uid user.now) self.old)) }
+    {
+        let name = user.as_str().as_bytes();
+        if let Some(reference) = self.table.user_reference(uid, name) {
+            return out.append_number(reference);
+        }
+        self.entry.fill_user(uid, user)?;
+        self.table.append(out, Slot::of_user(uid), &self.entry)
+    }
+
+    /// Appends a tag.
+    #[tactic(auto, unfolding(crate::specs::Writing::strings_written))]
+    pub(crate) fn append_tag(&mut self, out: &mut Draft, tag: &Tag) -> Result<(), Memory>
+        ensures { OnOk result (Appended out.old out.new self.new (spec.tag_written tag.now self.old)) }
+    {
+        let (key, value) = (tag.key.as_str().as_bytes(), tag.value.as_str().as_bytes());
+        if let Some(reference) = self.table.tag_reference(key, value) {
+            return out.append_number(reference);
+        }
+        self.entry.fill_tag(tag)?;
+        self.table
+            .append(out, Slot::of_strings(key, value), &self.entry)
+    }
+
+    /// Appends the string of a member: its kind and its role.
+    #[tactic(auto, unfolding(crate::specs::Writing::strings_written))]
+    pub(crate) fn append_role(
+        &mut self,
+        out: &mut Draft,
+        kind: Kind,
+        role: &Text,
+    ) -> Result<(), Memory>
+        ensures { OnOk result (Appended out.old out.new self.new (spec.strings_written (spec.member_entry kind role.now) self.old)) }
+    {
+        let characters = role.as_str().as_bytes();
+        if let Some(reference) = self.table.member_reference(kind, characters) {
+            return out.append_number(reference);
+        }
+        self.entry.fill_member(kind, role)?;
+        self.table
+            .append(out, Slot::of_member(kind, characters), &self.entry)
+    }
+
+    /// Appends the id of a member.
+    #[tactic(auto, unfolding(crate::specs::Writing::member_id_written))]
+    pub(crate) fn append_member_id(
+        &mut self,
+        out: &mut Draft,
+        kind: Kind,
+        id: i64,
+    ) -> Result<(), Memory>
+        requires { is_id id ≡ true }
+        ensures { OnOk result (Appended out.old out.new self.new (spec.member_id_written kind id self.old)) }
+    {
+        match kind {
+            Kind::Node => self.bases.node_member.append(out, id),
+            Kind::Way => self.bases.way_member.append(out, id),
+            Kind::Relation => self.bases.relation_member.append(out, id),
+        }
+    }
+
+    /// Appends the reference of a way.
+    #[tactic(auto, unfolding(crate::specs::Writing::reference_written))]
+    pub(crate) fn append_reference(&mut self, out: &mut Draft, id: i64) -> Result<(), Memory>
+        requires { is_id id ≡ true }
+        ensures { OnOk result (Appended out.old out.new self.new (spec.reference_written id self.old)) }
+    {
+        self.bases.reference.append(out, id)
+    }
+
+    /// Appends a longitude.
+    #[tactic(auto, unfolding(crate::specs::Writing::longitude_written))]
+    pub(crate) fn append_longitude(&mut self, out: &mut Draft, lon: i32) -> Result<(), Memory>
+        ensures { OnOk result (Appended out.old out.new self.new (spec.longitude_written lon self.old)) }
+    {
+        self.bases.lon.append(out, lon)
+    }
+
+    /// Appends a latitude.
+    #[tactic(auto, unfolding(crate::specs::Writing::latitude_written))]
+    pub(crate) fn append_latitude(&mut self, out: &mut Draft, lat: i32) -> Result<(), Memory>
+        ensures { OnOk result (Appended out.old out.new self.new (spec.latitude_written lat self.old)) }
+    {
+        self.bases.lat.append(out, lat)
+    }
+}
