@@ -33,3 +33,7 @@ pub mod FrontLaws
 pub mod FrontTimeLaws
 pub mod FrontTagLaws
 pub mod AsciiLaws
+pub mod CanonicalPartLaws
+pub mod CanonicalTimeLaws
+pub mod CanonicalListLaws
+pub mod CanonicalLineLaws

@@ -15,3 +15,4 @@ pub mod Within
 pub mod Canonical
 pub mod LineReason
 pub mod Front
+pub mod Straight

@@ -22,13 +22,13 @@ use osm_model::{Kind, Tag, Text};
 use std::alloc::Global;
 
 /// The most digits of a number of 32 bits without zeros in front.
-const MOST_DIGITS: usize = 10;
+pub(crate) const MOST_DIGITS: usize = 10;
 
 /// The bytes of a time.
-const TIME: usize = 20;
+pub(crate) const TIME: usize = 20;
 
 /// So many digits are always an id.
-const MOST_ID_DIGITS: usize = 18;
+pub(crate) const MOST_ID_DIGITS: usize = 18;
 
 /// The kind and the id of an object, which a line begins with, and what stands behind its blank.
 #[inline(always)]
@@ -195,7 +195,7 @@ fn leading_degrees(text: &[u8]) -> Option<(u64, usize)>
 
 /// The number of the digits that a text begins with, of which `most` at most are read, and how many they are.
 #[inline(always)]
-fn leading_digits(text: &[u8], most: usize) -> (u64, usize)
+pub(crate) fn leading_digits(text: &[u8], most: usize) -> (u64, usize)
     requires { most ≤ 19 }
     ensures within { result.1 ≤ length text.now }
     ensures few { result.1 ≤ most }

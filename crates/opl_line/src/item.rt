@@ -14,7 +14,7 @@ use std::alloc::Global;
 
 /// The bytes of a usual item and its comma, as `n123456789,`. Room is made for so many items as such have place in the
 /// content, so that commas alone can't ask for much memory.
-const USUAL_ITEM: usize = 11;
+pub(crate) const USUAL_ITEM: usize = 11;
 
 /// What can stand in a list.
 pub(crate) trait Item: Drop + Sized {

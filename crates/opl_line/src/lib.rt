@@ -1,6 +1,9 @@
 //! OPL lines: one version of an object read from its line, and written as its line.
 #![tactic(auto)]
 
+mod canonical;
+mod canonical_item;
+mod canonical_part;
 mod content;
 mod cut;
 mod field;

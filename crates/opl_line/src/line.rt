@@ -1,8 +1,9 @@
 //! OPL lines, read and written.
-ghost use Rattle.std.specs.Prelude.{◌≡◌, ◌⊎◌, ◌++◌, true, false, Err, IfOk, IfErr, OnOk, MatchOption, MatchResult, option_copied};
+ghost use Rattle.std.specs.Prelude.{◌≡◌, ◌⊎◌, ◌++◌, true, false, Err, IfOk, IfErr, IfSome, OnOk, MatchOption, MatchResult, option_copied};
 ghost use Rattle.osm_model.specs.Extends.{Extends};
 ghost use Rattle.osm_model.specs.Line.{line};
 ghost use Rattle.osm_model.specs.Id.{is_id};
+ghost use Rattle.osm_model.specs.Valid.{IsVersion};
 ghost use Rattle.opl_line.specs.declared.cut.Cut.TheVariants.{Blanks};
 ghost use Rattle.opl_line.specs.Answer.{Answers};
 ghost use Rattle.opl_line.specs.Cut.{is_end, split_first};
@@ -14,6 +15,7 @@ ghost use Rattle.opl_line.specs.Within.{AreWithin};
 ghost use Rattle.opl_line.specs.declared.reason.OplReason.TheVariants as opl;
 
 use crate::OplReason;
+use crate::canonical::read_canonical;
 use crate::cut::Cut;
 use crate::field::Fields;
 use crate::front::front_object;
@@ -46,6 +48,8 @@ pub struct LineReader {
     alloc: Global,
     /// A version that isn't needed any more, whose memory the next one takes.
     spare: Option<Version>,
+    /// Whether versions keep their canonical lines.
+    keeps_lines: bool,
 }
 
 /// What a line is read as depends on that line alone, so contracts see nothing of its reader.
@@ -58,7 +62,22 @@ impl Model for LineReader {
 impl LineReader {
     /// A reader of lines.
     pub fn new(alloc: Global) -> LineReader {
-        LineReader { alloc, spare: None }
+        LineReader {
+            alloc,
+            spare: None,
+            keeps_lines: false,
+        }
+    }
+
+    /// A reader whose versions keep the lines that they were read from, where these are canonical. It serves who writes
+    /// versions soon again, since [`Version::append_line`] then copies the line, which takes memory until the version is
+    /// given back.
+    pub fn keeping_lines(alloc: Global) -> LineReader {
+        LineReader {
+            alloc,
+            spare: None,
+            keeps_lines: true,
+        }
     }
 
     /// What a line says, as [`read_line`] answers it.
@@ -75,10 +94,28 @@ impl LineReader {
         if is_skipped(line) {
             return Ok(None);
         }
+        if let Some(version) = self.read_straight(line) {
+            return Ok(Some(version));
+        }
         let Some(text) = to_str(line) else {
             return Err(OplReason::NotUtf8);
         };
         self.read_version(text).map(Some)
+    }
+
+    /// The version of a line in its canonical form; `None` of another line, and where memory is wanting.
+    #[inline(always)]
+    fn read_straight(&mut self, text: &[u8]) -> Option<Version>
+        ensures text { IfSome result (λ version. text.now ≡ line version) }
+        ensures valid { IfSome result IsVersion }
+    {
+        let (id, meta, body) = read_canonical(self.alloc, text)?;
+        let version = if self.keeps_lines {
+            Version::of_canonical_line(self.alloc, &mut self.spare, id, meta, body, text)
+        } else {
+            Version::of_sound_data(self.alloc, &mut self.spare, id, meta, body)
+        };
+        version.ok()
     }
 
     /// Takes back a version that isn't needed any more. The next one takes its memory, so that none is asked for.

@@ -17,6 +17,11 @@ impl Version {
         ensures appended { OnOk result (out.new.items ≡ out.old.items ++ line self.now) }
         ensures kept { Extends out.old.items out.new.items }
     {
+        let kept = self.kept_line();
+        if !kept.is_empty() {
+            out.extend_from_slice(kept)?;
+            return Ok(());
+        }
         append_head(self, out)?;
         append_text(self.user(), out)?;
         append_list(b" T", self.body().tags(), out)?;

@@ -87,9 +87,9 @@ impl Body {
         }
     }
 
-    /// Whether the tags ascend, each once.
+    /// Whether the tags ascend by the bytes of key and value, each once.
     #[inline(always)]
-    fn is_normal(&self) -> bool
+    pub fn is_normal(&self) -> bool
         ensures { OnTrue result (normal_body self.now ≡ self.now) }
     {
         match self {

@@ -36,7 +36,7 @@ impl Kind {
     }
 
     /// The fields behind the tags in the line of a deleted version, each with a space in front of it.
-    pub(crate) fn empty_fields(self) -> &'static [u8]
+    pub fn empty_fields(self) -> &'static [u8]
         ensures text { result.now ≡ 32 ∷ joined 32 (text.empty_fields self) }
         ensures short { length result.now ≤ 4 }
     {

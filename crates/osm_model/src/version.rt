@@ -1,5 +1,5 @@
 //! Versions of objects.
-ghost use Rattle.std.specs.Prelude.{◌≡◌, ◌⊎◌, ◌<◌, ◌^◌, None, Some, Ok, Err, refl, IfOk, IfErr, MatchResult};
+ghost use Rattle.std.specs.Prelude.{◌≡◌, [], ◌⊎◌, ◌<◌, ◌^◌, None, Some, Ok, Err, refl, IfOk, IfErr, MatchResult};
 ghost use Rattle.std.specs.Ordering.{eq_by_cmp, as_partial_cmp, nat_cmp};
 ghost use Rattle.std.specs.Cmp.{eq_by_cmp_equiv, partial_equiv_from_equiv, partial_order_from_agreeing_total};
 ghost use Rattle.std.specs.Cmp.Lexicographic.{slice_cmp};
@@ -7,6 +7,7 @@ ghost use Rattle.std.specs.Option.{ForSome};
 ghost use Rattle.osm_model.specs.Data.{kind_of, normal_body, version_of};
 ghost use Rattle.osm_model.specs.Order.{object_cmp, key_cmp, data_cmp, version_cmp, version_cmp_total};
 ghost use Rattle.osm_model.specs.Line.{line};
+ghost use Rattle.osm_model.specs.Kept.{IsKept};
 ghost use Rattle.osm_model.specs.New.{first_fault, version_or_fault};
 ghost use Rattle.osm_model.specs.Valid.{IsInRange, IsVersion};
 ghost use Rattle.osm_model.specs.declared.fault.ValueFault.TheVariants as fault;
@@ -39,6 +40,8 @@ struct Parts {
     kind: Kind,
     meta: Meta,
     body: Body,
+    /// The canonical line, where it is at hand, and else nothing. No canonical line is empty.
+    kept_line: Vec<u8>,
 }
 
 impl Model for Version {
@@ -89,10 +92,20 @@ impl Parts {
         }
     }
 
-    /// The parts of a version of this data, its tags ascending, each once.
+    /// The vector of the line at hand, emptied, so that its memory can be used again.
     #[inline(always)]
-    fn normal(id: i64, meta: Meta, body: Body) -> Parts
-        ensures value { result ≡ record { id = id; kind = kind_of body; meta = meta; body = normal_body body } }
+    fn take_room(&mut self, alloc: Global) -> Vec<u8>
+        ensures { result.items ≡ [] }
+    {
+        let mut room = mem::replace(&mut self.kept_line, Vec::new(alloc));
+        room.clear();
+        room
+    }
+
+    /// The parts of a version of this data, its tags ascending, each once, with an empty vector that a line has room in.
+    #[inline(always)]
+    fn normal(id: i64, meta: Meta, body: Body, room: Vec<u8>) -> Parts
+        ensures value { result ≡ record { id = id; kind = kind_of body; meta = meta; body = normal_body body; kept_line = room } }
         ensures location { IsInRange result.body }
     {
         Parts {
@@ -100,6 +113,7 @@ impl Parts {
             kind: body.kind(),
             meta,
             body: body.normal(),
+            kept_line: room,
         }
     }
 }
@@ -146,7 +160,7 @@ impl Version {
         ensures valid { IfOk result IsVersion }
     {
         match spare.take() {
-            Some(spare) => Ok(Version::in_place_of(spare, id, meta, body)),
+            Some(spare) => Ok(Version::in_place_of(alloc, spare, id, meta, body)),
             None => Version::in_new_memory(alloc, id, meta, body),
         }
     }
@@ -158,7 +172,7 @@ impl Version {
         ensures value { IfOk result (λ version. version ≡ version_of id meta body) }
         ensures valid { IfOk result IsVersion }
     {
-        let parts = Parts::normal(id, meta, body);
+        let parts = Parts::normal(id, meta, body, Vec::new(alloc));
         Ok(Version {
             parts: Box::new(alloc, parts)?,
         })
@@ -166,16 +180,64 @@ impl Version {
 
     /// The version of data that has no fault, in the memory of one that isn't needed any more, so that none is wanted.
     #[inline(always)]
-    fn in_place_of(mut spare: Version, id: i64, meta: Meta, body: Body) -> Version
+    fn in_place_of(alloc: Global, mut spare: Version, id: i64, meta: Meta, body: Body) -> Version
         requires { first_fault id meta body ≡ None }
         ensures value { result ≡ version_of id meta body }
         ensures valid { IsVersion result }
     {
         spare.parts.release();
+        let room = spare.parts.take_room(alloc);
         // What is replaced holds no memory any more, so it is forgotten and not dropped.
-        let parts = Parts::normal(id, meta, body);
+        let parts = Parts::normal(id, meta, body, room);
         mem::forget(Box::replace(&mut spare.parts, parts));
         spare
+    }
+
+    /// The version of data that has no fault, as [`Version::of_sound_data`] makes it, which keeps its canonical line at
+    /// hand for [`Version::append_line`]. It keeps none where there is no memory for it.
+    ///
+    /// # Errors
+    ///
+    /// As for [`Version::of_sound_data`].
+    #[inline(always)]
+    pub fn of_canonical_line(
+        alloc: Global,
+        spare: &mut Option<Version>,
+        id: i64,
+        meta: Meta,
+        body: Body,
+        text: &[u8],
+    ) -> Result<Version, Memory>
+        requires sound { first_fault id meta body ≡ None }
+        requires canonical { text.now ≡ line (version_of id meta body) }
+        ensures value { IfOk result (λ version. version ≡ version_of id meta body) }
+        ensures valid { IfOk result IsVersion }
+    {
+        let mut version = Version::of_sound_data(alloc, spare, id, meta, body)?;
+        version.keep_line(text);
+        Ok(version)
+    }
+
+    /// Keeps the canonical line at hand, or none where there is no memory for it.
+    #[inline(always)]
+    fn keep_line(&mut self, text: &[u8])
+        requires { text.now ≡ line self.old }
+        ensures value { self.new ≡ self.old }
+        ensures valid { IsVersion self.new }
+    {
+        let kept = &mut self.parts.kept_line;
+        kept.clear();
+        if kept.extend_from_slice(text).is_err() {
+            kept.clear();
+        }
+    }
+
+    /// The canonical line, where it is at hand, and else nothing.
+    #[inline(always)]
+    pub(crate) fn kept_line(&self) -> &[u8]
+        ensures { IsKept result.now self.now }
+    {
+        &self.parts.kept_line
     }
 
     /// The id of the object, and that the version is within its ranges.
@@ -266,17 +328,18 @@ impl Version {
         self.number().cmp(&other.number())
     }
 
-    /// An equal version.
+    /// An equal version, which keeps no line at hand.
     pub fn copy(&self) -> Result<Version, Memory>
         ensures { IfOk result (λ v. v ≡ self.now) }
     {
+        let alloc = *Box::allocator(&self.parts);
         let parts = Parts {
             id: self.parts.id,
             kind: self.parts.kind,
             meta: self.parts.meta.copy()?,
             body: self.parts.body.copy()?,
+            kept_line: Vec::new(alloc),
         };
-        let alloc = *Box::allocator(&self.parts);
         Ok(Version {
             parts: Box::new(alloc, parts)?,
         })

@@ -8,6 +8,7 @@ use Rattle.opl_line.specs.Reading.{is_skipped, reading_version, reading_line}
 use Rattle.opl_line.proofs.ReadingLaws.{not_utf8, utf8_line, as_answer}
 use Rattle.opl_line.proofs.SpellsLaws.{answer_spelled, answer_refused}
 use Rattle.opl_line.proofs.LineReasonLaws.{answer_reason}
+use Rattle.opl_line.proofs.WholeLineLaws.{line_is_read_back}
 use Rattle.opl_line.proofs.line.LineReader.read.Goals as goal
 
 pub returns-then-is_skipped : goal.returns-then-is_skipped
@@ -16,22 +17,28 @@ returns-then-is_skipped c =
     let reading : reading_line c.args.line.now ≡ Ok None = rw skipped refl in
     record { reading = reading; spelled = skipped; refused = tt; reason = tt }
 
-pub returns-in_default : goal.returns-in_default
-returns-in_default c =
+pub returns-in-Some : goal.returns-in-Some
+returns-in-Some c =
+    let answer : Result (Option VersionData) OplReason = Ok (Some c.in-Some.version) in
+    let reading : Answers (reading_line c.args.line.now) answer = ap reading_line c.in-Some.ensures.text ∙ line_is_read_back c.in-Some.version c.in-Some.ensures.valid in
+    record { reading = reading; spelled = answer_spelled c.args.line.now answer reading; refused = tt; reason = tt }
+
+pub returns-in_default-to_str : goal.returns-in_default-to_str
+returns-in_default-to_str c =
     let kept : is_skipped c.args.line.now ≡ false = search rules in
     let answer : Result (Option VersionData) OplReason = Err NotUtf8 in
-    let reading : Answers (reading_line c.args.line.now) answer = inr (not_utf8 c.args.line.now kept c.in_default.ensures) in
+    let reading : Answers (reading_line c.args.line.now) answer = inr (not_utf8 c.args.line.now kept c.in_default-to_str.ensures) in
     record { reading = reading; spelled = tt; refused = answer_refused c.args.line.now answer reading; reason = answer_reason c.args.line.now answer reading }
 
 pub returns : goal.returns
 returns c =
     let kept : is_skipped c.args.line.now ≡ false = search rules in
     let utf8 : IsUtf8 c.args.line.now = search rules in
-    let text : c.in-Some.text.now ≡ c.args.line.now = search rules in
+    let text : c.in-Some-to_str.text.now ≡ c.args.line.now = search rules in
     let some : VersionData → Option VersionData = λ v. Some v in
     let mapped : c.map.result ≡ as_value some c.read_version.result = search rules in
     let P : Result (Option VersionData) OplReason → Type 0 = λ r. Answers r c.map.result in
-    let Q : Result (Option VersionData) OplReason → Type 0 = Answers (as_value some (reading_version c.in-Some.text.now)) in
+    let Q : Result (Option VersionData) OplReason → Type 0 = Answers (as_value some (reading_version c.in-Some-to_str.text.now)) in
     let reading : Answers (reading_line c.args.line.now) c.map.result =
     subst P (ap (λ t. as_value some (reading_version t)) text ∙ sym (utf8_line c.args.line.now kept utf8))
     (subst Q (sym mapped) (as_answer some _ _ c.read_version.ensures)) in

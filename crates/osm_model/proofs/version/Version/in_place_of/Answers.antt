@@ -1,4 +1,4 @@
-use Rattle.std.proofs.Common.{rules}
+use Rattle.std.proofs.Common.{rules, inl}
 use mir.Syntax.{w64}
 use Rattle.std.proofs.lemmas.Int.{to_z-of_z}
 use Rattle.osm_model.proofs.ValidLaws.{valid_version}
@@ -8,7 +8,7 @@ pub invariant_of-spare : goal.invariant_of-spare
 invariant_of-spare c =
     let same = to_z-of_z w64 c.args.id c.ranges.id in
     let location = rw c.normal-parts.ensures.value at c.normal-parts.ensures.location in
-    rw (c.replace.ensures.after, c.normal-parts.ensures.value, same) (valid_version c.args.id c.args.meta c.args.body c.requires location, search rules)
+    rw (c.replace.ensures.after, c.normal-parts.ensures.value, same) (valid_version c.args.id c.args.meta c.args.body c.requires location, search rules, inl c.take_room-room.ensures)
 
 pub returns-clause-valid : goal.returns-clause-valid
 returns-clause-valid c = (invariant_of-spare c).0

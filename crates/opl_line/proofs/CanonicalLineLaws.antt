@@ -1,0 +1,93 @@
+-- A line that was read straight on is the canonical line of its version.
+use Rattle.std.proofs.Common.{◌≡◌, ℕ, ℤ, Bool, true, false, eqb, ◌&&◌, List, [], ◌∷◌, ◌++◌, refl, sym, ap, ◌∙◌, append_assoc}
+use Rattle.std.proofs.lemmas.Bool.{and_parts}
+use Rattle.std.proofs.lemmas.List.Folds.{list_all-append}
+use Rattle.std.specs.List.{list_all}
+use Rattle.osm_model.specs.declared.kind.Kind.{Kind}
+use Rattle.osm_model.specs.declared.kind.Kind.TheVariants as kind
+use Rattle.osm_model.specs.declared.meta.Meta.{Meta}
+use Rattle.osm_model.specs.declared.tags.Tag.{Tag}
+use Rattle.osm_model.specs.declared.members.Member.{Member}
+use Rattle.osm_model.specs.declared.body.Body.{Body}
+use Rattle.osm_model.specs.declared.body.Body.TheVariants.{Node, Way, Relation}
+use Rattle.osm_model.specs.Id.{is_id}
+use Rattle.osm_model.specs.Text.{is_text}
+use Rattle.osm_model.specs.Tags.{texts_of_tags}
+use Rattle.osm_model.specs.Members.{ids_of_members, roles_of}
+use Rattle.osm_model.specs.New.{is_dated}
+use Rattle.osm_model.specs.Data.{VersionData, kind_of, is_deleted, normal_body}
+use Rattle.osm_model.specs.Line.{list_text, tag_text, reference_text, member_text, line}
+use Rattle.osm_model.specs.Append.{location_text}
+use Rattle.osm_model.proofs.AppendLaws.{line-parts}
+use Rattle.opl_line.specs.Straight.{head_text, tail_text, IsHead, IsTail, IsCanonical}
+use Rattle.opl_line.proofs.MadeLaws.{without_fault}
+
+-- items that are valid have valid parts
+valid_tags : (tags : List Tag) → list_all (λ tag. is_text tag.key && is_text tag.value) tags ≡ true → list_all is_text (texts_of_tags tags) ≡ true
+valid_tags [] all = refl
+valid_tags (t ∷ ts) all =
+    let parts = and_parts (is_text t.key && is_text t.value) (list_all (λ tag. is_text tag.key && is_text tag.value) ts) all in
+    let texts = and_parts (is_text t.key) (is_text t.value) parts.0 in
+    λ i. texts.0 i && (texts.1 i && valid_tags ts parts.1 i)
+
+valid_ids : (members : List Member) → list_all (λ member. is_id member.id && is_text member.role) members ≡ true → list_all is_id (ids_of_members members) ≡ true
+valid_ids [] all = refl
+valid_ids (m ∷ ms) all =
+    let parts = and_parts (is_id m.id && is_text m.role) (list_all (λ member. is_id member.id && is_text member.role) ms) all in
+    λ i. (and_parts (is_id m.id) (is_text m.role) parts.0).0 i && valid_ids ms parts.1 i
+
+valid_roles : (members : List Member) → list_all (λ member. is_id member.id && is_text member.role) members ≡ true → list_all is_text (roles_of members) ≡ true
+valid_roles [] all = refl
+valid_roles (m ∷ ms) all =
+    let parts = and_parts (is_id m.id && is_text m.role) (list_all (λ member. is_id member.id && is_text member.role) ms) all in
+    λ i. (and_parts (is_id m.id) (is_text m.role) parts.0).1 i && valid_roles ms parts.1 i
+
+-- the tags, and what stands behind them
+module _ (text from_tags behind : List ℕ) (k : Kind) (deleted : Bool) (tags : List Tag) (marked : text ≡ 32 ∷ 84 ∷ from_tags) (listed : from_tags ≡ list_text tag_text tags ++ behind) (visible : deleted ≡ false) (all : list_all (λ tag. is_text tag.key && is_text tag.value) tags ≡ true) where
+  spelled_behind : (rest : List ℕ) → behind ≡ rest → text ≡ 32 ∷ 84 ∷ (list_text tag_text tags ++ rest)
+  spelled_behind rest is = marked ∙ ap (λ t. 32 ∷ 84 ∷ t) (listed ∙ ap (λ t. list_text tag_text tags ++ t) is)
+
+  pub node_tail : (lon lat : ℤ) → k ≡ kind.Node → behind ≡ location_text lon lat → IsTail text k deleted (Node lon lat tags)
+  node_tail lon lat is located =
+      record { spelled = spelled_behind (location_text lon lat) located; same_kind = sym is; same_deleted = sym visible; ids = refl; texts = valid_tags tags all }
+
+  pub way_tail : (refs : List ℤ) (rest : List ℕ) → k ≡ kind.Way → behind ≡ 32 ∷ 78 ∷ rest → rest ≡ list_text reference_text refs → list_all is_id refs ≡ true → IsTail text k deleted (Way refs tags)
+  way_tail refs rest is mark list valid =
+      record { spelled = spelled_behind (32 ∷ 78 ∷ list_text reference_text refs) (mark ∙ ap (λ t. 32 ∷ 78 ∷ t) list); same_kind = sym is; same_deleted = sym visible; ids = valid; texts = valid_tags tags all }
+
+  pub relation_tail : (members : List Member) (rest : List ℕ) → k ≡ kind.Relation → behind ≡ 32 ∷ 77 ∷ rest → rest ≡ list_text member_text members → list_all (λ member. is_id member.id && is_text member.role) members ≡ true → IsTail text k deleted (Relation members tags)
+  relation_tail members rest is mark list valid =
+      record {
+        spelled = spelled_behind (32 ∷ 77 ∷ list_text member_text members) (mark ∙ ap (λ t. 32 ∷ 77 ∷ t) list);
+        same_kind = sym is;
+        same_deleted = sym visible;
+        ids = valid_ids members valid;
+        texts = list_all-append is_text (roles_of members) (texts_of_tags tags) ∙ (λ i. valid_roles members valid i && valid_tags tags all i);
+      }
+
+-- the version of data with normal tags
+data_with : ℤ → Meta → Body → VersionData
+data_with id meta b = record { id = id; number = meta.version; time = meta.time; changeset = meta.changeset; uid = meta.uid; user = meta.user; body = b }
+
+whole_text : (id : ℤ) (meta : Meta) (b : Body) → head_text (kind_of b) id (is_deleted b) meta ++ tail_text b ≡ line (data_with id meta b)
+unfolding data_with
+whole_text id meta b = sym (line-parts (data_with id meta b) ∙ simp append_assoc)
+
+pub whole_line : (text behind : List ℕ) (k : Kind) (id : ℤ) (deleted : Bool) (meta : Meta) (b : Body) → IsHead text k id deleted meta behind → IsTail behind k deleted b → eqb meta.version 0 ≡ false → is_dated meta ≡ true → normal_body b ≡ b → IsCanonical text id meta b
+unfolding data_with
+whole_line text behind k id deleted meta b head tail some dated normal =
+    record {
+      fault = without_fault id meta b (record {
+        ids = (λ i. head.object i && tail.ids i);
+        number = some;
+        numbers = (λ i. head.number i && (head.changeset i && (head.uid i && true)));
+        time = head.time;
+        dated = dated;
+        texts = (λ i. head.user i && tail.texts i);
+      });
+      spelled = head.spelled
+          ∙ ap (λ t. head_text k id deleted meta ++ t) tail.spelled
+          ∙ (λ i. head_text (sym tail.same_kind i) id (sym tail.same_deleted i) meta ++ tail_text b)
+          ∙ whole_text id meta b
+          ∙ ap (λ body. line (data_with id meta body)) (sym normal);
+    }

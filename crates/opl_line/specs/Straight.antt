@@ -1,0 +1,58 @@
+-- What a line in its canonical form says, stretch by stretch (own definitions of this project, for the reader that takes such a line straight on).
+use Rattle.std.specs.Prelude.{◌≡◌, ℕ, ℤ, Bool, true, List, ◌∷◌, ◌++◌, codes, None, if◌then◌else◌}
+use Rattle.std.specs.List.{list_all}
+use Rattle.osm_model.specs.declared.kind.Kind.{Kind}
+use Rattle.osm_model.specs.declared.meta.Meta.{Meta}
+use Rattle.osm_model.specs.declared.body.Body.{Body}
+use Rattle.osm_model.specs.Kind.{kind_letter}
+use Rattle.osm_model.specs.Id.{is_id}
+use Rattle.osm_model.specs.Text.{is_text}
+use Rattle.osm_model.specs.New.{is_number, is_time, first_fault}
+use Rattle.osm_model.specs.Decimal.{number_text, integer_text}
+use Rattle.osm_model.specs.Time.{time_text}
+use Rattle.osm_model.specs.Escape.{escape}
+use Rattle.osm_model.specs.Joined.{joined}
+use Rattle.osm_model.specs.Data.{kind_of, is_deleted, tags_of, ids_of, texts_of, version_of}
+use Rattle.osm_model.specs.Line.{list_text, tag_text, kind_fields, line}
+
+-- V for visible, D for deleted
+abbrev pub deleted_text : Bool → List ℕ
+deleted_text deleted = if deleted then codes "D" else codes "V"
+
+-- the fields up to the user name
+abbrev pub head_text : Kind → ℤ → Bool → Meta → List ℕ
+head_text kind id deleted meta =
+    kind_letter kind
+    ∷ (integer_text id
+    ++ (codes " v" ++ (number_text meta.version
+    ++ (codes " d" ++ (deleted_text deleted
+    ++ (codes " c" ++ (number_text meta.changeset
+    ++ (codes " t" ++ (time_text meta.time
+    ++ (codes " i" ++ (number_text meta.uid ++ (codes " u" ++ escape meta.user))))))))))))
+
+-- the fields from the tags on
+abbrev pub tail_text : Body → List ℕ
+tail_text b = codes " T" ++ (list_text tag_text (tags_of b) ++ 32 ∷ joined 32 (kind_fields b))
+
+-- what stands before the tags is within its ranges
+pub record IsHead (text : List ℕ) (kind : Kind) (id : ℤ) (deleted : Bool) (meta : Meta) (behind : List ℕ) : Type 0 where
+  pub spelled : text ≡ head_text kind id deleted meta ++ behind
+  pub object : is_id id ≡ true
+  pub number : is_number meta.version ≡ true
+  pub changeset : is_number meta.changeset ≡ true
+  pub time : is_time meta.time ≡ true
+  pub uid : is_number meta.uid ≡ true
+  pub user : is_text meta.user ≡ true
+
+-- what stands from the tags on is within its ranges
+pub record IsTail (text : List ℕ) (kind : Kind) (deleted : Bool) (b : Body) : Type 0 where
+  pub spelled : text ≡ tail_text b
+  pub same_kind : kind_of b ≡ kind
+  pub same_deleted : is_deleted b ≡ deleted
+  pub ids : list_all is_id (ids_of b) ≡ true
+  pub texts : list_all is_text (texts_of b) ≡ true
+
+-- data without a fault, and the line of its version
+pub record IsCanonical (text : List ℕ) (id : ℤ) (meta : Meta) (b : Body) : Type 0 where
+  pub fault : first_fault id meta b ≡ None
+  pub spelled : text ≡ line (version_of id meta b)

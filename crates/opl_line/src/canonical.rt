@@ -1,0 +1,151 @@
+//! Whole lines in their canonical form, read straight on from each field to the next. Lines in any other form are left
+//! to the reader of fields.
+ghost use Rattle.std.specs.Prelude.{◌≡◌, ◌∷◌, ◌++◌, true, IfSome};
+ghost use Rattle.std.specs.List.{list_all};
+ghost use Rattle.osm_model.specs.declared.body.Body.TheVariants.{Deleted};
+ghost use Rattle.osm_model.specs.Joined.{joined};
+ghost use Rattle.osm_model.specs.Line.{list_text, empty_fields};
+ghost use Rattle.osm_model.specs.Append.{location_text};
+ghost use Rattle.opl_line.specs.Straight.{IsHead, IsTail, IsCanonical, deleted_text};
+
+use crate::canonical_item::{CanonicalItem, behind_byte, canonical_list, canonical_object};
+use crate::canonical_part::{
+    canonical_coordinate, canonical_number, canonical_text, canonical_time,
+};
+use osm_model::{Body, Kind, Members, Meta, References, Tags};
+use std::alloc::Global;
+
+/// What stands before the tags.
+#[derive(Drop)]
+struct Head {
+    kind: Kind,
+    id: i64,
+    is_deleted: bool,
+    meta: Meta,
+}
+
+/// The id and the data of a line in its canonical form; `None` of another line, and where memory is wanting.
+#[inline(always)]
+pub(crate) fn read_canonical(alloc: Global, line: &[u8]) -> Option<(i64, Meta, Body)>
+    ensures { IfSome result (λ read. IsCanonical line.now read.0 read.1 read.2) }
+{
+    let (head, behind) = read_head(alloc, line)?;
+    let body = read_tail(alloc, head.kind, head.is_deleted, behind)?;
+    if head.meta.version == 0 || !head.meta.is_dated() || !body.is_normal() {
+        return None;
+    }
+    Some((head.id, head.meta, body))
+}
+
+/// What stands before the tags, and what stands behind it.
+#[inline(always)]
+fn read_head(alloc: Global, line: &[u8]) -> Option<(Head, &[u8])>
+    ensures { IfSome result (λ read. IsHead line.now read.0.kind read.0.id read.0.is_deleted read.0.meta read.1.now) }
+{
+    let ((kind, id), behind) = canonical_object(line)?;
+    let (version, behind) = canonical_number(behind_mark(behind, b'v')?)?;
+    let (is_deleted, behind) = canonical_deleted(behind_mark(behind, b'd')?)?;
+    let (changeset, behind) = canonical_number(behind_mark(behind, b'c')?)?;
+    let (time, behind) = canonical_time(behind_mark(behind, b't')?);
+    let (uid, behind) = canonical_number(behind_mark(behind, b'i')?)?;
+    let (user, behind) = canonical_text(alloc, behind_mark(behind, b'u')?)?;
+    let meta = Meta {
+        version,
+        time,
+        changeset,
+        uid,
+        user,
+    };
+    let head = Head {
+        kind,
+        id,
+        is_deleted,
+        meta,
+    };
+    Some((head, behind))
+}
+
+/// Whether an object was deleted, and what stands behind it.
+#[inline(always)]
+fn canonical_deleted(text: &[u8]) -> Option<(bool, &[u8])>
+    ensures { IfSome result (λ read. text.now ≡ deleted_text read.0 ++ read.1.now) }
+{
+    if let Some(behind) = behind_byte(text, b'V') {
+        return Some((false, behind));
+    }
+    let behind = behind_byte(text, b'D')?;
+    Some((true, behind))
+}
+
+/// The body of what stands from the tags on.
+#[inline(always)]
+fn read_tail(alloc: Global, kind: Kind, is_deleted: bool, text: &[u8]) -> Option<Body>
+    ensures { IfSome result (IsTail text.now kind is_deleted) }
+{
+    let text = behind_mark(text, b'T')?;
+    if is_deleted {
+        return read_deleted(kind, text);
+    }
+    let (tags, behind) = canonical_list(alloc, text)?;
+    let tags = Tags::from_vec(tags);
+    match kind {
+        Kind::Node => {
+            let (lon, lat) = read_location(behind)?;
+            Some(Body::Node { lon, lat, tags })
+        }
+        Kind::Way => {
+            let refs = References::from_vec(read_last_list(alloc, behind_mark(behind, b'N')?)?);
+            Some(Body::Way { refs, tags })
+        }
+        Kind::Relation => {
+            let members = Members::from_vec(read_last_list(alloc, behind_mark(behind, b'M')?)?);
+            Some(Body::Relation { members, tags })
+        }
+    }
+}
+
+/// The body of a deleted object, behind the mark of the tags.
+fn read_deleted(kind: Kind, text: &[u8]) -> Option<Body>
+    ensures { IfSome result (λ b. (b ≡ Deleted kind) × (text.now ≡ 32 ∷ joined 32 (empty_fields kind))) }
+{
+    if text == kind.empty_fields() {
+        Some(Body::Deleted(kind))
+    } else {
+        None
+    }
+}
+
+/// The longitude and the latitude of a node, behind its tags.
+#[inline(always)]
+fn read_location(text: &[u8]) -> Option<(i32, i32)>
+    ensures { IfSome result (λ read. text.now ≡ location_text read.0 read.1) }
+{
+    let (lon, behind) = canonical_coordinate(behind_mark(text, b'x')?)?;
+    let (lat, behind) = canonical_coordinate(behind_mark(behind, b'y')?)?;
+    if behind.is_empty() {
+        Some((lon, lat))
+    } else {
+        None
+    }
+}
+
+/// The items of a list that a line ends with.
+#[inline(always)]
+fn read_last_list<T: CanonicalItem>(alloc: Global, text: &[u8]) -> Option<Vec<T>>
+    ensures text { IfSome result (λ items. text.now ≡ list_text T.form items.items) }
+    ensures valid { IfSome result (λ items. list_all T.is_valid items.items ≡ true) }
+{
+    let (items, behind) = canonical_list(alloc, text)?;
+    if behind.is_empty() { Some(items) } else { None }
+}
+
+/// What stands behind the blank and the letter of a field.
+#[inline(always)]
+fn behind_mark(text: &[u8], letter: u8) -> Option<&[u8]>
+    ensures { IfSome result (λ behind. text.now ≡ 32 ∷ letter ∷ behind.now) }
+{
+    if text.len() < 2 || text[0] != b' ' || text[1] != letter {
+        return None;
+    }
+    Some(&text[2..])
+}

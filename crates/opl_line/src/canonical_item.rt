@@ -1,0 +1,125 @@
+//! Lists of canonical lines, each read where all its items stand in their one form.
+ghost use Rattle.std.specs.Prelude.{◌≡◌, ◌++◌, ◌∷◌, ◌&&◌, true, ℕ, List, Bool, IfSome};
+ghost use Rattle.std.specs.List.{list_all};
+ghost use Rattle.osm_model.specs.Id.{is_id};
+ghost use Rattle.osm_model.specs.Text.{is_text};
+ghost use Rattle.osm_model.specs.Kind.{kind_letter};
+ghost use Rattle.osm_model.specs.Decimal.{integer_text};
+ghost use Rattle.osm_model.specs.Line.{list_text, tag_text, reference_text, member_text};
+
+use crate::canonical_part::{canonical_id, canonical_text};
+use crate::item::{USUAL_ITEM, kind_of_letter};
+use osm_model::{Kind, Member, Tag};
+use std::alloc::Global;
+
+/// What can stand in a list.
+pub(crate) trait CanonicalItem: Drop + Sized {
+    ghost form: { Self → List ℕ };
+
+    ghost is_valid: { Self → Bool };
+
+    /// The item that a text begins with, and what stands behind it.
+    fn read_canonical(alloc: Global, text: &[u8]) -> Option<(Self, &[u8])>
+        ensures text { IfSome result (λ read. text.now ≡ form read.0 ++ read.1.now) }
+        ensures valid { IfSome result (λ read. is_valid read.0 ≡ true) };
+}
+
+/// `key=value`.
+impl CanonicalItem for Tag {
+    ghost form = { tag_text };
+
+    ghost is_valid = { λ tag. is_text tag.key && is_text tag.value };
+
+    #[inline(always)]
+    fn read_canonical(alloc: Global, text: &[u8]) -> Option<(Tag, &[u8])> {
+        let (key, behind) = canonical_text(alloc, text)?;
+        let (value, behind) = canonical_text(alloc, behind_byte(behind, b'=')?)?;
+        Some((Tag { key, value }, behind))
+    }
+}
+
+/// The id of a node behind its letter, as `n1`.
+impl CanonicalItem for i64 {
+    ghost form = { reference_text };
+
+    ghost is_valid = { is_id };
+
+    #[inline(always)]
+    fn read_canonical(_alloc: Global, text: &[u8]) -> Option<(i64, &[u8])> {
+        canonical_id(behind_byte(text, b'n')?)
+    }
+}
+
+/// An object and its role, as `w1@role`.
+impl CanonicalItem for Member {
+    ghost form = { member_text };
+
+    ghost is_valid = { λ member. is_id member.id && is_text member.role };
+
+    fn read_canonical(alloc: Global, text: &[u8]) -> Option<(Member, &[u8])> {
+        let ((kind, id), behind) = canonical_object(text)?;
+        let (role, behind) = canonical_text(alloc, behind_byte(behind, b'@')?)?;
+        Some((Member { kind, id, role }, behind))
+    }
+}
+
+/// The kind and the id of an object, as `w1`, and what stands behind them.
+#[inline(always)]
+pub(crate) fn canonical_object(text: &[u8]) -> Option<((Kind, i64), &[u8])>
+    ensures text { IfSome result (λ read. text.now ≡ kind_letter read.0.0 ∷ (integer_text read.0.1 ++ read.1.now)) }
+    ensures id { IfSome result (λ read. is_id read.0.1 ≡ true) }
+{
+    if text.is_empty() {
+        return None;
+    }
+    let kind = kind_of_letter(text[0])?;
+    let (id, behind) = canonical_id(&text[1..])?;
+    Some(((kind, id), behind))
+}
+
+/// What stands behind a byte that a text begins with.
+#[inline(always)]
+pub(crate) fn behind_byte(text: &[u8], byte: u8) -> Option<&[u8]>
+    ensures { IfSome result (λ behind. text.now ≡ byte ∷ behind.now) }
+{
+    if text.is_empty() || text[0] != byte {
+        return None;
+    }
+    Some(&text[1..])
+}
+
+/// The items of a list, with a comma between each two, and what stands behind them.
+#[inline(always)]
+pub(crate) fn canonical_list<T: CanonicalItem>(
+    alloc: Global,
+    text: &[u8],
+) -> Option<(Vec<T>, &[u8])>
+    ensures text { IfSome result (λ read. text.now ≡ list_text T.form read.0.items ++ read.1.now) }
+    ensures valid { IfSome result (λ read. list_all T.is_valid read.0.items ≡ true) }
+{
+    if text.is_empty() || text[0] == b' ' {
+        return Some((Vec::new(alloc), text));
+    }
+    canonical_items(alloc, text)
+}
+
+/// The items of a list that isn't empty.
+fn canonical_items<T: CanonicalItem>(alloc: Global, text: &[u8]) -> Option<(Vec<T>, &[u8])>
+    ensures text { IfSome result (λ read. text.now ≡ list_text T.form read.0.items ++ read.1.now) }
+    ensures valid { IfSome result (λ read. list_all T.is_valid read.0.items ≡ true) }
+{
+    let Ok(mut items) = Vec::with_capacity(alloc, text.len() / USUAL_ITEM + 1) else {
+        return None;
+    };
+    let mut rest = text;
+    'items: loop {
+        let (item, behind) = T::read_canonical(alloc, rest)?;
+        if items.push(item).is_err() {
+            return None;
+        }
+        if behind.is_empty() || behind[0] != b',' {
+            return Some((items, behind));
+        }
+        rest = &behind[1..];
+    }
+}
