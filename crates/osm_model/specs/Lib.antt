@@ -1,6 +1,6 @@
 pub mod Kind
 pub mod Text
-pub mod Place
+pub mod Storage
 pub mod Id
 pub mod Members
 pub mod Tags

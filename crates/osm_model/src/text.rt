@@ -1,7 +1,7 @@
 //! Texts.
 ghost use Rattle.std.specs.Prelude.{◌≡◌, [], IfOk, encode_utf8_all, string_bytes};
 ghost use Rattle.std.specs.Str.{chars};
-ghost use Rattle.osm_model.specs.Place.{bytes_at};
+ghost use Rattle.osm_model.specs.Storage.{bytes_of};
 ghost use Rattle.osm_model.specs.Text.{is_text, is_empty};
 
 use crate::Memory;
@@ -16,38 +16,38 @@ const SHORT: usize = 24;
 /// A text, which contracts see as the list of its characters. A short one lies in the value itself.
 #[derive(Debug, Drop)]
 pub struct Text {
-    place: Place,
+    storage: Storage,
 }
 
 /// Where the bytes of a text lie.
 #[derive(Debug, Drop)]
-enum Place {
+enum Storage {
     /// In the value itself.
     Within(ArrayString<SHORT>),
     /// In memory of their own.
     Apart(String),
 }
 
-impl Place {
+impl Storage {
     /// The bytes as a slice.
     #[inline(always)]
     fn as_str(&self) -> &str
-        ensures { result.now ≡ bytes_at self.now }
+        ensures { result.now ≡ bytes_of self.now }
     {
         match self {
-            Place::Within(string) => string.as_str(),
-            Place::Apart(string) => string.as_str(),
+            Storage::Within(string) => string.as_str(),
+            Storage::Apart(string) => string.as_str(),
         }
     }
 
     /// A copy, which holds equal bytes.
     #[inline(always)]
-    fn copy(&self) -> Result<Place, Memory>
-        ensures { IfOk result (λ p. bytes_at p ≡ bytes_at self.now) }
+    fn copy(&self) -> Result<Storage, Memory>
+        ensures { IfOk result (λ p. bytes_of p ≡ bytes_of self.now) }
     {
         match self {
-            Place::Within(string) => Ok(Place::Within(*string)),
-            Place::Apart(string) => Ok(Place::Apart(copy_apart(string)?)),
+            Storage::Within(string) => Ok(Storage::Within(*string)),
+            Storage::Apart(string) => Ok(Storage::Apart(copy_apart(string)?)),
         }
     }
 }
@@ -63,11 +63,11 @@ fn copy_apart(string: &String) -> Result<String, Memory>
 impl Model for Text {
     ghost use Rattle.std.specs.Prelude.{List, ℕ};
     ghost use Rattle.std.specs.Str.{chars};
-    ghost use Rattle.osm_model.specs.Place.{bytes_at};
+    ghost use Rattle.osm_model.specs.Storage.{bytes_of};
 
     ghost Value = { List ℕ };
 
-    ghost view = { λ t. chars (bytes_at t.place) };
+    ghost view = { λ t. chars (bytes_of t.storage) };
 }
 
 impl Text {
@@ -76,7 +76,7 @@ impl Text {
         ensures { result ≡ [] }
     {
         Text {
-            place: Place::Within(ArrayString::new()),
+            storage: Storage::Within(ArrayString::new()),
         }
     }
 
@@ -91,7 +91,7 @@ impl Text {
     {
         match ArrayString::from(characters) {
             Ok(string) => Ok(Text {
-                place: Place::Within(string),
+                storage: Storage::Within(string),
             }),
             Err(_) => Ok(Text::from_string(String::from_str(alloc, characters)?)),
         }
@@ -103,7 +103,7 @@ impl Text {
         ensures characters { result ≡ chars (string_bytes string) }
     {
         Text {
-            place: Place::Apart(string),
+            storage: Storage::Apart(string),
         }
     }
 
@@ -113,7 +113,7 @@ impl Text {
         ensures bytes { result.now ≡ encode_utf8_all self.now }
         ensures characters { chars result.now ≡ self.now }
     {
-        self.place.as_str()
+        self.storage.as_str()
     }
 
     /// An equal text.
@@ -122,14 +122,14 @@ impl Text {
         ensures { IfOk result (λ t. t ≡ self.now) }
     {
         Ok(Text {
-            place: self.place.copy()?,
+            storage: self.storage.copy()?,
         })
     }
 
     /// Whether the text may hold memory of its own.
     #[inline(always)]
     pub(crate) fn has_memory(&self) -> bool {
-        matches!(self.place, Place::Apart(_))
+        matches!(self.storage, Storage::Apart(_))
     }
 
     /// Whether the text has no character.
