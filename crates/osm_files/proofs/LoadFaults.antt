@@ -1,5 +1,5 @@
 -- How inputs are refused: by the first faulty unit that stands whole, or else by what closes their bytes.
-use Rattle.std.proofs.Common.{◌≡◌, ◌⊎◌, inl, inr, ⊎_elim, ℕ, zero, suc, ◌+◌, ◌-◌, ◌≤◌, ◌<◌, ◌==◌, ◌^◌, Bool, true, false, cond, List, [], ◌∷◌, ◌++◌, length, drop, take, refl, sym, ap, ◌∙◌, subst, arith, Option, Some, None, option_map, IfSome, IfErr, Result, Ok, Err, length-append, length-drop, nat_lt, nat_le}
+use Rattle.std.proofs.Common.{◌≡◌, ◌⊎◌, inl, inr, ⊎_elim, ℕ, zero, suc, ◌+◌, ◌-◌, ◌≤◌, ◌<◌, ◌==◌, ◌^◌, Bool, true, false, cond, List, [], ◌∷◌, ◌++◌, length, drop, take, refl, sym, ap, ◌∙◌, arith, Option, Some, None, option_map, IfSome, IfErr, Result, Ok, Err, length-append, length-drop, nat_lt, nat_le}
 use Rattle.std.proofs.lemmas.Bool.{false≢true, ltb-true, ltb-false, lt-ltb}
 use Rattle.std.proofs.lemmas.List.{drop-append-le}
 use Rattle.osm_model.specs.declared.kind.Kind.{Kind}
@@ -22,8 +22,7 @@ use Rattle.opl_line.specs.declared.reason.OplReason.TheVariants as opl
 use Rattle.o5_codec.specs.declared.reason.O5Reason.{O5Reason}
 use Rattle.o5_codec.specs.declared.reason.O5Reason.TheVariants as o5
 use Rattle.o5_codec.specs.declared.segment.Segment.{Segment}
-use Rattle.osm_files.specs.declared.reason.Reason.{Reason}
-use Rattle.osm_files.specs.declared.reason.Reason.TheVariants.{Opl, O5, BadHeader, Unsorted, NoEnd, AfterEnd, TooLong, ReadFault, WriteFault, Memory, Failed}
+use Rattle.osm_files.specs.declared.reason.Reason.TheVariants.{BadHeader, Unsorted, ReadFault}
 use Rattle.osm_files.specs.Reason.{of_line, of_data_set}
 use Rattle.osm_files.specs.O5.{end_byte, reset_byte, is_lone, kind_of_type}
 use Rattle.osm_files.specs.Stream.{Verdict, verdict_at, Placed, Still, whole}

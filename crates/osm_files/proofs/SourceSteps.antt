@@ -7,7 +7,7 @@ use Rattle.osm_model.specs.Order.{key_cmp}
 use Rattle.osm_files.specs.declared.fault.Fault.{Fault}
 use Rattle.osm_files.specs.declared.reason.Reason.TheVariants.{Unsorted}
 use Rattle.osm_files.specs.Fault.{memory_fault, fault_at}
-use Rattle.osm_files.specs.Groups.{ascending, gathered, gathered_at, FileStand, standing, begun, FileSteps, IsOpenSource, Gathers, Refuses, BeginsOn, GathersOn, RefusesOn}
+use Rattle.osm_files.specs.Groups.{ascending, gathered, gathered_at, FileStand, standing, FileSteps, IsOpenSource, Gathers, Refuses, BeginsOn, GathersOn, RefusesOn}
 use Rattle.osm_files.specs.Input.{Coming}
 use Rattle.osm_files.specs.Position.{Position, Told, telling, Between, still_to_come, Keeps}
 use Rattle.osm_files.specs.Source.{Ascends, Step, StepsOn}

@@ -1,6 +1,6 @@
 -- The ascending list that the units of a sorted file give, key group by key group: an own rule of this project.
 use Rattle.std.proofs.Common.{subst, sym}
-use Rattle.std.specs.Prelude.{◌≡◌, refl, ◌⊎◌, ℕ, ◌+◌, ◌-◌, Bool, length, true, false, List, [], ◌∷◌, ◌++◌, Option, Some, None, option_map, option_to_list, IfSome, Result, Ok, Err, if◌then◌else◌}
+use Rattle.std.specs.Prelude.{◌≡◌, refl, ◌⊎◌, ℕ, ◌+◌, Bool, length, true, false, List, [], ◌∷◌, ◌++◌, Option, Some, None, option_map, option_to_list, IfSome, Result, Ok, Err, if◌then◌else◌}
 use Rattle.std.specs.Ordering.{is_eq, is_lt}
 use Rattle.std.specs.List.{AllByRecursion}
 use Rattle.std.specs.declared.cmp.Ordering.TheVariants.{Equal}

@@ -14,14 +14,14 @@ use Rattle.osm_files.specs.O5.{end_byte}
 
 -- where a reading stands, by what it keeps
 abbrev pub stand_of : Stage → Stand
-stand_of Lines = InOpl
+stand_of (Lines lines) = InOpl
 stand_of Header = BeforeHeader
 stand_of (DataSets decoder) = InSegment decoder.segment
 stand_of End = BehindEnd
 
 -- no data set was refused before
 abbrev pub IsGood : Stage → Type 0
-IsGood Lines = Unit {0}
+IsGood (Lines lines) = Unit {0}
 IsGood Header = Unit {0}
 IsGood (DataSets decoder) = decoder.failed ≡ false
 IsGood End = Unit {0}

@@ -18,7 +18,6 @@ use crate::placed::Placed;
 use crate::reason::Reason;
 use crate::unit::{O5M_HEADER, RESET, ReadUnit, Stage, read_line_unit};
 use crate::unread::Unread;
-use opl_line::LineReader;
 use osm_model::Version;
 use std::alloc::Global;
 use std::marker::Model;
@@ -37,8 +36,6 @@ pub(crate) struct Reading<R: Input> {
     stage: Option<Stage>,
     ended: bool,
     failed: bool,
-    /// What reads lines that stand whole in the bytes held.
-    lines: LineReader,
 }
 
 impl<R: Input> Model for Reading<R> {
@@ -62,7 +59,7 @@ impl<R: Input> Model for Reading<R> {
 }
 
 impl<R: Input> Reading<R> {
-    /// A reading at the begin of an input of this number.
+    /// A reading at the start of an input of this number.
     pub(crate) fn new(alloc: Global, input: usize, reader: R) -> Reading<R>
         ensures { result ≡ record { input = input; place = 0; held = []; coming = reader; stand = None; ended = false; failed = false } }
     {
@@ -75,7 +72,6 @@ impl<R: Input> Reading<R> {
             stage: None,
             ended: false,
             failed: false,
-            lines: LineReader::new(alloc),
         }
     }
 
@@ -132,7 +128,7 @@ impl<R: Input> Reading<R> {
         ensures { self.new ≡ seen self.old }
     {
         if self.stage.is_none() && !self.unread.as_slice().is_empty() {
-            self.stage = Some(Stage::of(self.unread.as_slice()));
+            self.stage = Some(Stage::of(self.alloc, self.unread.as_slice()));
         }
     }
 
@@ -246,17 +242,21 @@ impl<R: Input> Reading<R> {
     fn is_among_lines(&self) -> bool
         ensures { result ≡ true → self.now.stand ≡ Some spec.InOpl }
     {
-        matches!(self.stage, Some(Stage::Lines))
+        matches!(self.stage, Some(Stage::Lines(_)))
     }
 
-    /// The line at the front of the bytes held, if its end is there.
+    /// The line at the front of the bytes held, if its end is there; none where the file isn't known to be an OPL file.
     #[inline(always)]
     fn read_held_line(&mut self) -> Result<Option<ReadUnit>, Reason>
         ensures same { self.new ≡ self.old }
         ensures bound { self.old.place + length self.old.held < 2 ^ 62 }
-        ensures found { Finds (spec.line_unit (split_first is_line_end self.old.held)) result spec.InOpl }
+        ensures found { self.old.stand ≡ Some spec.InOpl
+            → Finds (spec.line_unit (split_first is_line_end self.old.held)) result spec.InOpl }
     {
-        read_line_unit(&mut self.lines, self.unread.as_slice(), 0)
+        match &mut self.stage {
+            Some(Stage::Lines(lines)) => read_line_unit(lines, self.unread.as_slice(), 0),
+            _ => Ok(None),
+        }
     }
 
     /// The next version; none at the end and ever after.
@@ -322,8 +322,9 @@ impl<R: Input> Reading<R> {
         ensures { self.new ≡ self.old }
     {
         match &mut self.stage {
+            Some(Stage::Lines(lines)) => lines.reuse(version),
             Some(Stage::DataSets(decoder)) => decoder.reuse(version),
-            _ => self.lines.reuse(version),
+            _ => {}
         }
     }
 

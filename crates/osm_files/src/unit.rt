@@ -41,8 +41,8 @@ pub(crate) struct ReadUnit {
 /// How far a reading of a file has come.
 #[derive(Drop)]
 pub(crate) enum Stage {
-    /// In an OPL file.
-    Lines,
+    /// Among the lines of an OPL file.
+    Lines(LineReader),
     /// Before the header of an o5 file.
     Header,
     /// Among the data sets of an o5 file.
@@ -243,13 +243,13 @@ fn read_behind(bytes: &[u8]) -> Result<Option<ReadUnit>, Reason>
 
 impl Stage {
     /// Where the reading of a file with these bytes begins.
-    pub(crate) fn of(bytes: &[u8]) -> Stage
+    pub(crate) fn of(alloc: Global, bytes: &[u8]) -> Stage
         ensures place { stand_of result ≡ spec.start_of bytes.now }
         ensures good { IsGood result }
     {
         match bytes.first() {
             Some(byte) if *byte == RESET => Stage::Header,
-            _ => Stage::Lines,
+            _ => Stage::Lines(LineReader::new(alloc)),
         }
     }
 
@@ -263,7 +263,7 @@ impl Stage {
         ensures { FindsLast (spec.last_at (stand_of self.now) bytes.now) result }
     {
         match self {
-            Stage::Lines => read_last_line(alloc, bytes),
+            Stage::Lines(_) => read_last_line(alloc, bytes),
             Stage::Header => Err(Reason::BadHeader),
             Stage::DataSets(_) => Err(why_cut(bytes)),
             Stage::End => Ok(None),
@@ -292,7 +292,7 @@ impl Stage {
         ensures unmoved { result ≡ Ok None → stand_of self.new ≡ stand_of self.old }
     {
         match self {
-            Stage::Lines => read_line_unit(&mut LineReader::new(alloc), bytes, searched),
+            Stage::Lines(lines) => read_line_unit(lines, bytes, searched),
             Stage::Header => self.read_header(alloc, bytes),
             Stage::DataSets(decoder) => {
                 if ends_at(bytes) {

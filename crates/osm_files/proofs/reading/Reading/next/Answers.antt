@@ -17,7 +17,7 @@ pub pass-requires : goal.pass-requires
 pass-requires g c =
     let p = c.args.self.now in
     let u = c.in-Ok-Some.line in
-    let found = held_line p p.held c.in-Ok-Some.field-0 u (c.is_among_lines.ensures c.if-not-is_among_lines.false) refl c.in-Ok-Some.field-0-is c.in-Ok-Some.ensures.found in
+    let found = held_line p p.held c.in-Ok-Some.field-0 u (c.is_among_lines.ensures c.if-not-is_among_lines.false) refl c.in-Ok-Some.field-0-is (c.in-Ok-Some.ensures.found (c.is_among_lines.ensures c.if-not-is_among_lines.false)) in
     subst (λ (x : Position _). u.size ≤ length x.held) (sym c.in-Ok-Some.ensures.same) (held_size p p u found).1
 
 pub returns-in-Some-clause-step : goal.returns-in-Some-clause-step
@@ -25,7 +25,7 @@ returns-in-Some-clause-step g c =
     let p = c.args.self.now in
     let u = c.in-Ok-Some.line in
     let same = c.in-Ok-Some.ensures.same in
-    let found = held_line p p.held c.in-Ok-Some.field-0 u (c.is_among_lines.ensures c.if-not-is_among_lines.false) refl c.in-Ok-Some.field-0-is c.in-Ok-Some.ensures.found in
+    let found = held_line p p.held c.in-Ok-Some.field-0 u (c.is_among_lines.ensures c.if-not-is_among_lines.false) refl c.in-Ok-Some.field-0-is (c.in-Ok-Some.ensures.found (c.is_among_lines.ensures c.if-not-is_among_lines.false)) in
     let gone : c.pass.new.self ≡ record p { place = p.place + u.size; held = drop u.size p.held } = c.pass.ensures.gone ∙ ap (λ (x : Position _). record x { place = x.place + u.size; held = drop u.size x.held }) same in
     let fine : p.failed ≡ false = sym (ap (λ v. v.failed) c.self.view_is) ∙ c.if-self.false in
     unit_gives g.R.Input.can_give p p c.pass.new.self u c.in-Ok-Some.ensures.bound found gone fine c.in-Some.given (c.in-Some.ensures.gave ∙ ap (λ (x : Position _). option_map (placed x.place) u.version) same)
@@ -35,7 +35,7 @@ returns-in-None-clause-step g c =
     let p = c.args.self.now in
     let u = c.in-Ok-Some.line in
     let same = c.in-Ok-Some.ensures.same in
-    let found = held_line p p.held c.in-Ok-Some.field-0 u (c.is_among_lines.ensures c.if-not-is_among_lines.false) refl c.in-Ok-Some.field-0-is c.in-Ok-Some.ensures.found in
+    let found = held_line p p.held c.in-Ok-Some.field-0 u (c.is_among_lines.ensures c.if-not-is_among_lines.false) refl c.in-Ok-Some.field-0-is (c.in-Ok-Some.ensures.found (c.is_among_lines.ensures c.if-not-is_among_lines.false)) in
     let gone : c.pass.new.self ≡ record p { place = p.place + u.size; held = drop u.size p.held } = c.pass.ensures.gone ∙ ap (λ (x : Position _). record x { place = x.place + u.size; held = drop u.size x.held }) same in
     let fine : p.failed ≡ false = sym (ap (λ v. v.failed) c.self.view_is) ∙ c.if-self.false in
     let passes = unit_passes g.R.Input.can_give p p c.pass.new.self u c.in-Ok-Some.ensures.bound found gone (c.in-None.ensures.gave ∙ ap (λ (x : Position _). option_map (placed x.place) u.version) same) in
@@ -45,7 +45,7 @@ pub returns-in-Err-clause-step : goal.returns-in-Err-clause-step
 returns-in-Err-clause-step g c =
     let p = c.args.self.now in
     let same = c.in-Err.ensures.same in
-    let found = refused_line p c.in-Err.reason (c.is_among_lines.ensures c.if-not-is_among_lines.false) c.in-Err.ensures.found in
+    let found = refused_line p c.in-Err.reason (c.is_among_lines.ensures c.if-not-is_among_lines.false) (c.in-Err.ensures.found (c.is_among_lines.ensures c.if-not-is_among_lines.false)) in
     let fine : p.failed ≡ false = sym (ap (λ v. v.failed) c.self.view_is) ∙ c.if-self.false in
     let place : c.refuse.inside.place ≡ p.place = ap (λ v. v.place) c.refuse.view_is ∙ ap (λ v. v.place) same in
     let is = c.refuse-in-Err.ensures.fault ∙ (λ i. fault_at ((same i).input) (place i) c.in-Err.reason) in
