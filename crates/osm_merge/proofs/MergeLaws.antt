@@ -10,7 +10,7 @@ use Rattle.std.proofs.lemmas.Bool.{false≢true, cases_eq}
 use Rattle.osm_model.specs.Data.{VersionData}
 use Rattle.osm_model.specs.Order.{version_cmp, version_cmp_total}
 use Rattle.osm_files.specs.Stream.{whole}
-use Rattle.osm_merge.specs.Coming.{Coming, rest, head, behind_head, coming_at}
+use Rattle.osm_merge.specs.ToCome.{VersionsToCome, rest, head, behind_head, coming_at}
 use Rattle.osm_merge.specs.Members.{first}
 use Rattle.osm_merge.specs.Union.{versions_of}
 use Rattle.osm_merge.specs.declared.selection.Selection.{Selection}
@@ -28,10 +28,10 @@ or_swap true false c = refl
 or_swap false b c = refl
 
 -- the sources without the head of one of them
-abbrev pub without_head : List Coming → ℕ → List Coming
+abbrev pub without_head : List VersionsToCome → ℕ → List VersionsToCome
 without_head states w = set states w (behind_head (coming_at states w))
 
-any_taken : (p : VersionData → Bool) (states : List Coming) (w : ℕ) (v : VersionData) (vs : List VersionData) → (coming_at states w).list ≡ v ∷ vs → list_any p (versions_of states) ≡ (p v || list_any p (versions_of (without_head states w)))
+any_taken : (p : VersionData → Bool) (states : List VersionsToCome) (w : ℕ) (v : VersionData) (vs : List VersionData) → (coming_at states w).list ≡ v ∷ vs → list_any p (versions_of states) ≡ (p v || list_any p (versions_of (without_head states w)))
 any_taken p [] w v vs e = absurd cc
 any_taken p (c ∷ cs) zero v vs e = ap (λ t. list_any p (t ++ versions_of cs)) e ∙ sym (ap (λ t. p v || list_any p (rest t ++ versions_of cs)) e)
 any_taken p (c ∷ cs) (suc w) v vs e =
@@ -40,7 +40,7 @@ any_taken p (c ∷ cs) (suc w) v vs e =
     ∙ or_swap (list_any p c.list) (p v) (list_any p (versions_of (without_head cs w)))
     ∙ sym (ap (λ t. p v || t) (list_any-append p c.list (versions_of (without_head cs w))))
 
-length_taken : (states : List Coming) (w : ℕ) (v : VersionData) (vs : List VersionData) → (coming_at states w).list ≡ v ∷ vs → length (versions_of states) ≡ length (versions_of (without_head states w)) + 1
+length_taken : (states : List VersionsToCome) (w : ℕ) (v : VersionData) (vs : List VersionData) → (coming_at states w).list ≡ v ∷ vs → length (versions_of states) ≡ length (versions_of (without_head states w)) + 1
 length_taken [] w v vs e = absurd cc
 length_taken (c ∷ cs) zero v vs e =
     let a : length (c.list ++ versions_of cs) ≡ length (v ∷ vs ++ versions_of cs) = ap (λ t. length (t ++ versions_of cs)) e in
@@ -174,12 +174,12 @@ same_next selection held v met q more e f =
     ] refl
 
 -- ---- the turn
-pub merge_more : (selection : Selection) (all states : List Coming) (met : List VersionData) (held top : Option VersionData) (taken w : ℕ) (v : VersionData)
+pub merge_more : (selection : Selection) (all states : List VersionsToCome) (met : List VersionData) (held top : Option VersionData) (taken w : ℕ) (v : VersionData)
     → IsMerging selection all states met held top taken → w < length states → head (coming_at states w) ≡ Some v
     → ((i : ℕ) → IsHeadUpTo (Some v) (head (coming_at states i)))
     → IsMerging selection all (without_head states w) (met_next selection held v met) (held_next selection held v) (Some v) (taken + 1)
 merge_more selection all states met held top taken w v m less is least =
-    let here : Coming = coming_at states w in
+    let here : VersionsToCome = coming_at states w in
     let e : here.list ≡ v ∷ rest here.list = split_first v here.list is in
     let f : Floor held (v ∷ []) = under_floor held top v m.under (floor_one top v (rest here.list) (subst (Floor top) e (m.floor w))) in
     let same_place : coming_at (without_head states w) w ≡ behind_head here = get_or-set_same states w (behind_head here) whole less in

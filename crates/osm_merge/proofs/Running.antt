@@ -20,10 +20,10 @@ use Rattle.osm_files.specs.Sink.{SinkState, IsOpen, CutShort, HasPut, MayFollow}
 use Rattle.osm_files.proofs.SpellLaws.{kinds_dont_fall, list_spelled}
 use Rattle.osm_merge.specs.declared.merge.Counts.{Counts}
 use Rattle.osm_files.specs.Input.{Explained}
-use Rattle.osm_merge.specs.Coming.{Coming, rest, head, behind_head, coming_at, AllAscend, AllStand}
+use Rattle.osm_merge.specs.ToCome.{VersionsToCome, rest, head, behind_head, coming_at, AllAscend, AllStand}
 use Rattle.osm_merge.specs.Giving.{AllGive, ForSome, ForStanding}
 use Rattle.osm_merge.specs.Members.{first}
-use Rattle.osm_merge.specs.Union.{versions_of, union_of, capped}
+use Rattle.osm_merge.specs.Union.{versions_of, union_given, capped}
 use Rattle.osm_merge.specs.declared.selection.Selection.{Selection}
 use Rattle.osm_merge.specs.declared.selection.Selection.TheVariants as selections
 use Rattle.osm_merge.specs.Selected.{selected}
@@ -42,15 +42,15 @@ use Rattle.osm_merge.proofs.Settling.{AscendBehind, may_put, may_end, put_next, 
 use Rattle.osm_merge.proofs.UnionLaws.{union_list, chosen, InFront, passing_nothing, put_in_front, met_up_to, all_put, all_taken, last_of_end, cut_in_file, memory_refused}
 
 -- what is still to come, the heads included, where the sources give this behind their heads
-pub record IsStanding (selection : Selection) (all : List Coming) (heads : List (Option VersionData)) (told : List (Option Coming)) (met : List VersionData) (last top : Option VersionData) (taken : ℕ) : Type 0 where
-  pub states : List Coming
+pub record IsStanding (selection : Selection) (all : List VersionsToCome) (heads : List (Option VersionData)) (told : List (Option VersionsToCome)) (met : List VersionData) (last top : Option VersionData) (taken : ℕ) : Type 0 where
+  pub states : List VersionsToCome
   pub stand : AllStand states heads told
   pub merging : IsMerging selection all states met last top taken
 
 -- Of sources that stood with these heads at first, so many versions were taken, those that pass were met, and what is put of
 -- these was put, in a file of this format to the output of this number. Whatever can come now is explained by something that
 -- could come at first.
-pub record IsRunning (selection : Selection) {S : Type 0} (can : S → Coming → Type 0) (heads0 : List (Option VersionData)) (sources0 : List S) (format : Format) (number : ℕ) {O : Type 0} (holds : O → Content) (before : O)
+pub record IsRunning (selection : Selection) {S : Type 0} (can : S → VersionsToCome → Type 0) (heads0 : List (Option VersionData)) (sources0 : List S) (format : Format) (number : ℕ) {O : Type 0} (holds : O → Content) (before : O)
     (heads : List (Option VersionData)) (nodes : List ℕ) (sources : List S) (sink : SinkState) (now : O) (last : Option VersionData) (read written compared : ℕ) : Type 0 where
   pub met : List VersionData
   pub top : Option VersionData
@@ -66,12 +66,12 @@ pub record IsRunning (selection : Selection) {S : Type 0} (can : S → Coming �
   pub most : (depth : ℕ) → length heads ≤ 2 ^ depth → compared ≤ (length heads - 1) + taken * (depth + 1)
   pub least : passes_all selection ≡ true → capped (taken - 1) ≤ compared
   pub fresh : passes_all selection ≡ true → last ≡ None → taken ≡ 0
-  pub run : Explained (AllGive can sources0) (AllGive can sources) (λ first later. (all : List Coming) → AllAscend all → AllStand all heads0 (map Some first) → IsStanding selection all heads (map Some later) met last top taken)
+  pub run : Explained (AllGive can sources0) (AllGive can sources) (λ first later. (all : List VersionsToCome) → AllAscend all → AllStand all heads0 (map Some first) → IsStanding selection all heads (map Some later) met last top taken)
 
-none_met : (selection : Selection) (all : List Coming) → AllAscend all → IsMerging selection all all [] None None 0
+none_met : (selection : Selection) (all : List VersionsToCome) → AllAscend all → IsMerging selection all all [] None None 0
 none_met selection all up = record { size = refl; ascends = nothing_ascends version_cmp; queues = up; came = λ i. ([], refl); refusals = λ i. refl; same = λ q. refl; ends = refl; floor = λ i. tt; under = tt; reached = tt; count = omega arith }
 
-pub run_start : (selection : Selection) {S : Type 0} (can : S → Coming → Type 0) (heads : List (Option VersionData)) (sources : List S) (format : Format) (number : ℕ) {O : Type 0} (holds : O → Content) (before : O) (nodes : List ℕ) (sink : SinkState) (now : O) (read written compared : ℕ)
+pub run_start : (selection : Selection) {S : Type 0} (can : S → VersionsToCome → Type 0) (heads : List (Option VersionData)) (sources : List S) (format : Format) (number : ℕ) {O : Type 0} (holds : O → Content) (before : O) (nodes : List ℕ) (sink : SinkState) (now : O) (read written compared : ℕ)
     → HasPut format number [] (holds before) sink (holds now) → IsTree heads nodes 1 0 → 0 < length heads → length sources ≡ length heads → read ≡ 0 → written ≡ 0 → compared ≤ length heads - 1
     → IsRunning selection can heads sources format number holds before heads nodes sources sink now None read written compared
 run_start selection can heads sources format number holds before nodes sink now read written compared has tree some size none_read none_written few = record {
@@ -93,18 +93,18 @@ run_start selection can heads sources format number holds before nodes sink now 
 }
 
 -- ---- heads and what the sources give
-at_map : (states : List Coming) (i : ℕ) → get_or (map head states) i None ≡ head (coming_at states i)
+at_map : (states : List VersionsToCome) (i : ℕ) → get_or (map head states) i None ≡ head (coming_at states i)
 at_map [] i = refl
 at_map (c ∷ cs) zero = refl
 at_map (c ∷ cs) (suc i) = at_map cs i
 
-head_at : (states : List Coming) (heads : List (Option VersionData)) (i : ℕ) → heads ≡ map head states → get_or heads i None ≡ head (coming_at states i)
+head_at : (states : List VersionsToCome) (heads : List (Option VersionData)) (i : ℕ) → heads ≡ map head states → get_or heads i None ≡ head (coming_at states i)
 head_at states heads i e = ap (λ h. get_or h i None) e ∙ at_map states i
 
-length_heads : (states : List Coming) (heads : List (Option VersionData)) → heads ≡ map head states → length heads ≡ length states
+length_heads : (states : List VersionsToCome) (heads : List (Option VersionData)) → heads ≡ map head states → length heads ≡ length states
 length_heads states heads e = ap length e ∙ length-map states head
 
-least_head : (states : List Coming) (heads : List (Option VersionData)) (nodes : List ℕ) (w : ℕ) (x : Option VersionData) → heads ≡ map head states → IsTree heads nodes 1 0 → w ≡ get_or nodes 1 0 → get_or heads w None ≡ x → (i : ℕ) → IsHeadUpTo x (head (coming_at states i))
+least_head : (states : List VersionsToCome) (heads : List (Option VersionData)) (nodes : List ℕ) (w : ℕ) (x : Option VersionData) → heads ≡ map head states → IsTree heads nodes 1 0 → w ≡ get_or nodes 1 0 → get_or heads w None ≡ x → (i : ℕ) → IsHeadUpTo x (head (coming_at states i))
 least_head states heads nodes w x e t is at_w i =
     elim (cases_lt i (length heads)) [
       | inl less ↦
@@ -113,16 +113,16 @@ least_head states heads nodes w x e t is at_w i =
       | inr more ↦ subst (λ c. IsHeadUpTo x (head c)) (sym (get_or_past states i whole (subst (λ n. n ≤ i) (length_heads states heads e) more))) tt
     ]
 
-behind_at : (states : List Coming) (w : ℕ) → coming_at (map behind_head states) w ≡ behind_head (coming_at states w)
+behind_at : (states : List VersionsToCome) (w : ℕ) → coming_at (map behind_head states) w ≡ behind_head (coming_at states w)
 behind_at [] w = refl
 behind_at (c ∷ cs) zero = refl
 behind_at (c ∷ cs) (suc w) = behind_at cs w
 
 -- what a source gives in a turn, once its head was taken
-stand_more : (states : List Coming) (heads : List (Option VersionData)) (told : List (Option Coming)) (w : ℕ) (given : Option VersionData) (after : Option Coming) → AllStand states heads told → w < length heads → w < length told → Step (get_or told w None) (Ok given) after
+stand_more : (states : List VersionsToCome) (heads : List (Option VersionData)) (told : List (Option VersionsToCome)) (w : ℕ) (given : Option VersionData) (after : Option VersionsToCome) → AllStand states heads told → w < length heads → w < length told → Step (get_or told w None) (Ok given) after
     → AllStand (without_head states w) (set heads w given) (set told w after)
 stand_more states heads told w given after s inside low step =
-    let here : Coming = coming_at states w in
+    let here : VersionsToCome = coming_at states w in
     let less : w < length states = subst (λ n. w < n) (length_heads states heads s.heads_are) inside in
     let tells : get_or told w None ≡ Some (behind_head here) = told_at told (map behind_head states) w s.behind low ∙ ap Some (behind_at states w) in
     let t = told_gives (behind_head here) given after (subst (λ o. Step o (Ok given) after) tells step) in
@@ -222,7 +222,7 @@ not_nothing [] v e = cc
 not_nothing (u ∷ us) v e = cc
 
 -- ---- one turn
-module _ {selection : Selection} {S : Type 0} {can : S → Coming → Type 0} {heads0 : List (Option VersionData)} {sources0 : List S} {format : Format} {number : ℕ} {O : Type 0} {holds : O → Content} {before : O}
+module _ {selection : Selection} {S : Type 0} {can : S → VersionsToCome → Type 0} {heads0 : List (Option VersionData)} {sources0 : List S} {format : Format} {number : ℕ} {O : Type 0} {holds : O → Content} {before : O}
     {heads : List (Option VersionData)} {nodes : List ℕ} {sources : List S} {sink : SinkState} {now : O} {last : Option VersionData} {read written compared : ℕ}
     (r : IsRunning selection can heads0 sources0 format number holds before heads nodes sources sink now last read written compared) (w : ℕ) (top : w ≡ get_or nodes 1 0) where
   pub inside : w < length heads
@@ -249,13 +249,13 @@ module _ {selection : Selection} {S : Type 0} {can : S → Coming → Type 0} {h
     next_is : put_of selection r.met ++ puts selection last v ≡ put2
     next_is = put_next selection last v r.met r.ends
 
-    taken_head : (all : List Coming) (told : List (Option Coming)) (s : IsStanding selection all heads told r.met last r.top r.taken) →
+    taken_head : (all : List VersionsToCome) (told : List (Option VersionsToCome)) (s : IsStanding selection all heads told r.met last r.top r.taken) →
         IsMerging selection all (without_head s.states w) met2 (held_next selection last v) (Some v) (r.taken + 1)
     taken_head all told s =
         merge_more selection all s.states r.met last r.top r.taken w v s.merging (subst (λ n. w < n) (length_heads s.states heads s.stand.heads_are) inside) (sym (head_at s.states heads w s.stand.heads_are) ∙ at_w)
         (least_head s.states heads nodes w (Some v) s.stand.heads_are r.tree top at_w)
 
-    in_front : (all : List Coming) (told : List (Option Coming)) (s : IsStanding selection all heads told r.met last r.top r.taken) → InFront put2 (selected selection (union_of all))
+    in_front : (all : List VersionsToCome) (told : List (Option VersionsToCome)) (s : IsStanding selection all heads told r.met last r.top r.taken) → InFront put2 (selected selection (union_given all))
     in_front all told s = put_in_front selection all (without_head s.states w) met2 (held_next selection last v) (Some v) (r.taken + 1) (taken_head all told s)
 
     ascends2 : IsStrictlySortedBy version_cmp put2
@@ -268,12 +268,12 @@ module _ {selection : Selection} {S : Type 0} {can : S → Coming → Type 0} {h
     cut2 sink2 now2 failed fault p = subst (λ (vs : List VersionData). CutShort number (holds before) (holds now2) failed (spelled_open format vs) fault) next_is (p format number (put_of selection r.met) before r.has)
 
     -- the sink refused a version
-    pub put_refused : (one : S → Coming) → ((s : S) → can s (one s)) → (sink2 : SinkState) (now2 : O) (failed : Bool) (fault : Fault) → PutsMore holds (puts selection last v) sink sink2 now now2 failed (Err fault)
+    pub put_refused : (one : S → VersionsToCome) → ((s : S) → can s (one s)) → (sink2 : SinkState) (now2 : O) (failed : Bool) (fault : Fault) → PutsMore holds (puts selection last v) sink sink2 now now2 failed (Err fault)
         → ForStanding can sources0 heads0 (λ all. IsRefusedAs selection all format number (holds before) (holds now2) failed fault)
     put_refused one possible sink2 now2 failed fault p =
-        let later : List Coming = map one sources in
+        let later : List VersionsToCome = map one sources in
         let q = r.run later (give_one can one possible sources) in
-        (q.0, q.1, λ all up st. inl (cut_in_file (selected selection (union_of all)) format number (holds before) (holds now2) put2 failed fault (in_front all (map Some later) (q.2 all up st)) (cut2 sink2 now2 failed fault p)))
+        (q.0, q.1, λ all up st. inl (cut_in_file (selected selection (union_given all)) format number (holds before) (holds now2) put2 failed fault (in_front all (map Some later) (q.2 all up st)) (cut2 sink2 now2 failed fault p)))
 
     pub put_kept : (sink2 : SinkState) (now2 : O) (failed : Bool) (fault : Fault) → PutsMore holds (puts selection last v) sink sink2 now now2 failed (Err fault) → Grows (holds before) (holds now2)
     put_kept sink2 now2 failed fault p = let cut = cut2 sink2 now2 failed fault p in (take cut.count (spelled_open format put2), cut.appended)
@@ -285,12 +285,12 @@ module _ {selection : Selection} {S : Type 0} {can : S → Coming → Type 0} {h
     only_one vs h k = split_first v vs h ∙ ap (λ t. v ∷ t) k
 
     -- before a step of the version's source something could come
-    abbrev Before : (Coming → Coming → Type 0) → List Coming → Type 0
+    abbrev Before : (VersionsToCome → VersionsToCome → Type 0) → List VersionsToCome → Type 0
     Before step later =
-        (one : Coming) × (w < length (map Some (set later w one))) × (get_or (map Some (set later w one)) w None ≡ Some one) × step one (get_or later w whole)
-        × ForSome can sources0 (λ first. (all : List Coming) → AllAscend all → AllStand all heads0 (map Some first) → IsStanding selection all heads (map Some (set later w one)) r.met last r.top r.taken)
+        (one : VersionsToCome) × (w < length (map Some (set later w one))) × (get_or (map Some (set later w one)) w None ≡ Some one) × step one (get_or later w whole)
+        × ForSome can sources0 (λ first. (all : List VersionsToCome) → AllAscend all → AllStand all heads0 (map Some first) → IsStanding selection all heads (map Some (set later w one)) r.met last r.top r.taken)
 
-    stepped : (step : Coming → Coming → Type 0) (d new : S) → Explained (can (get_or sources w d)) (can new) step → (later : List Coming) → AllGive can (set sources w new) later → Before step later
+    stepped : (step : VersionsToCome → VersionsToCome → Type 0) (d new : S) → Explained (can (get_or sources w d)) (can new) step → (later : List VersionsToCome) → AllGive can (set sources w new) later → Before step later
     stepped step d new x later g =
         let low : w < length sources = subst (λ n. w < n) (sym r.size) inside in
         let b = give_back can step sources w new d whole later low x g in
@@ -305,17 +305,17 @@ module _ {selection : Selection} {S : Type 0} {can : S → Coming → Type 0} {h
         )
 
     -- the source of the version was refused, once the version was put
-    refused_at : (sink2 : SinkState) (now2 : O) (failed : Bool) (fault : Fault) (told : List (Option Coming)) (after : Option Coming) → w < length told → PutsMore holds (puts selection last v) sink sink2 now now2 failed (Ok tt) → Step {A = VersionData} (get_or told w None) (Err fault) after
-        → (all : List Coming) → IsStanding selection all heads told r.met last r.top r.taken → IsRefusedAs selection all format number (holds before) (holds now2) failed fault
+    refused_at : (sink2 : SinkState) (now2 : O) (failed : Bool) (fault : Fault) (told : List (Option VersionsToCome)) (after : Option VersionsToCome) → w < length told → PutsMore holds (puts selection last v) sink sink2 now now2 failed (Ok tt) → Step {A = VersionData} (get_or told w None) (Err fault) after
+        → (all : List VersionsToCome) → IsStanding selection all heads told r.met last r.top r.taken → IsRefusedAs selection all format number (holds before) (holds now2) failed fault
     refused_at sink2 now2 failed fault told after low p step all s =
-        let here : Coming = coming_at s.states w in
-        let states2 : List Coming = without_head s.states w in
+        let here : VersionsToCome = coming_at s.states w in
+        let states2 : List VersionsToCome = without_head s.states w in
         let m = taken_head all told s in
         let sent : Appended (holds before) (holds now2) (spelled_open format put2) = (has2 sink2 now2 failed p).sent.appended in
         let less : w < length s.states = subst (λ n. w < n) (length_heads s.states heads s.stand.heads_are) inside in
         let tells : get_or told w None ≡ Some (behind_head here) = told_at told (map behind_head s.states) w s.stand.behind low ∙ ap Some (behind_at s.states w) in
         elim (told_refuses (behind_head here) fault after (subst (λ o. Step {A = VersionData} o (Err fault) after) tells step)) [
-          | inl wanting ↦ inl (subst (λ (f : Fault). CutShort number (holds before) (holds now2) failed (spell format (selected selection (union_of all))) f) (sym wanting) (memory_refused (selected selection (union_of all)) format number (holds before) (holds now2) put2 failed (in_front all told s) sent))
+          | inl wanting ↦ inl (subst (λ (f : Fault). CutShort number (holds before) (holds now2) failed (spell format (selected selection (union_given all))) f) (sym wanting) (memory_refused (selected selection (union_given all)) format number (holds before) (holds now2) put2 failed (in_front all told s) sent))
           | inr end ↦ (
               let list_is : (coming_at all w).list ≡ (s.merging.came w).0 ++ v ∷ [] =
               (s.merging.came w).1 ∙ ap (λ t. (s.merging.came w).0 ++ t) (only_one here.list (sym (head_at s.states heads w s.stand.heads_are) ∙ at_w) end.0) in
@@ -335,14 +335,14 @@ module _ {selection : Selection} {S : Type 0} {can : S → Coming → Type 0} {h
               }))
         ]
 
-    pub source_refused : (one : S → Coming) → ((s : S) → can s (one s)) → (sink2 : SinkState) (now2 : O) (failed : Bool) (fault : Fault) (d new : S) → PutsMore holds (puts selection last v) sink sink2 now now2 failed (Ok tt)
+    pub source_refused : (one : S → VersionsToCome) → ((s : S) → can s (one s)) → (sink2 : SinkState) (now2 : O) (failed : Bool) (fault : Fault) (d new : S) → PutsMore holds (puts selection last v) sink sink2 now now2 failed (Ok tt)
         → Explained (can (get_or sources w d)) (can new) (λ e l. Step {A = VersionData} (Some e) (Err fault) (Some l)) → ForStanding can sources0 heads0 (λ all. IsRefusedAs selection all format number (holds before) (holds now2) failed fault)
     source_refused one possible sink2 now2 failed fault d new p step =
-        let later : List Coming = map one (set sources w new) in
+        let later : List VersionsToCome = map one (set sources w new) in
         let b = stepped (λ e l. Step {A = VersionData} (Some e) (Err fault) (Some l)) d new step later (give_one can one possible (set sources w new)) in
         let q = b.4 in
-        let told : List (Option Coming) = map Some (set later w b.0) in
-        let after : Option Coming = Some (get_or later w whole) in
+        let told : List (Option VersionsToCome) = map Some (set later w b.0) in
+        let after : Option VersionsToCome = Some (get_or later w whole) in
         (q.0, q.1, λ all up st. refused_at sink2 now2 failed fault told after b.1 p (subst (λ o. Step {A = VersionData} o (Err fault) after) (sym b.2) b.3) all (q.2 all up st))
 
     -- the loop goes on
@@ -379,8 +379,8 @@ module _ {selection : Selection} {S : Type 0} {can : S → Coming → Type 0} {h
           run = λ later g. (
               let b = stepped (λ e l. Step (Some e) (Ok given) (Some l)) d new step later g in
               let q = b.4 in
-              let told : List (Option Coming) = map Some (set later w b.0) in
-              let here : Coming = get_or later w whole in
+              let told : List (Option VersionsToCome) = map Some (set later w b.0) in
+              let here : VersionsToCome = get_or later w whole in
               let next : set told w (Some here) ≡ map Some later = map_set_some (set later w b.0) w here ∙ ap (map Some) (set_again later w b.0 whole) in
               let gave : Step (get_or told w None) (Ok given) (Some here) = subst (λ o. Step o (Ok given) (Some here)) (sym b.2) b.3 in (
                 q.0,
@@ -389,7 +389,7 @@ module _ {selection : Selection} {S : Type 0} {can : S → Coming → Type 0} {h
                     let s = q.2 all up st in
                     record {
                       states = without_head s.states w;
-                      stand = subst (λ (t : List (Option Coming)). AllStand (without_head s.states w) (set heads w given) t) next (stand_more s.states heads told w given (Some here) s.stand inside b.1 gave);
+                      stand = subst (λ (t : List (Option VersionsToCome)). AllStand (without_head s.states w) (set heads w given) t) next (stand_more s.states heads told w given (Some here) s.stand inside b.1 gave);
                       merging = subst (λ (l : Option VersionData). IsMerging selection all (without_head s.states w) met2 l (Some v) (r.taken + 1)) (sym last_is) (taken_head all told s);
                     },
               ));
@@ -397,21 +397,21 @@ module _ {selection : Selection} {S : Type 0} {can : S → Coming → Type 0} {h
 
 -- ---- the end
 -- all that was to come was taken, and what is selected of the union was put
-pub record IsToldDone (selection : Selection) (all : List Coming) (put : List VersionData) (read compared : ℕ) : Type 0 where
+pub record IsToldDone (selection : Selection) (all : List VersionsToCome) (put : List VersionData) (read compared : ℕ) : Type 0 where
   pub union_is : chosen selection all ≡ put
   pub ends_whole : All (λ c. c.refusal ≡ None) all
   pub read_is : read ≡ capped (length (versions_of all))
   pub bounded : IsBoundedFrom (few_of selection (length (versions_of all))) (length all) (length (versions_of all)) compared
 
 -- before the file is ended
-pub record IsDone (selection : Selection) (last : Option VersionData) {S : Type 0} (can : S → Coming → Type 0) (heads0 : List (Option VersionData)) (sources0 : List S) (format : Format) (number : ℕ) {O : Type 0} (holds : O → Content) (before : O) (sink : SinkState) (now : O) (counts : Counts) : Type 0 where
+pub record IsDone (selection : Selection) (last : Option VersionData) {S : Type 0} (can : S → VersionsToCome → Type 0) (heads0 : List (Option VersionData)) (sources0 : List S) (format : Format) (number : ℕ) {O : Type 0} (holds : O → Content) (before : O) (sink : SinkState) (now : O) (counts : Counts) : Type 0 where
   pub so_far : List VersionData
   pub put : List VersionData
   pub put_is : so_far ++ put_at_end selection last ≡ put
   pub has : HasPut format number so_far (holds before) sink (holds now)
   pub ascends : IsStrictlySortedBy version_cmp put
   pub written_is : counts.written ≡ capped (length so_far)
-  pub told : ForSome can sources0 (λ first. (all : List Coming) → AllAscend all → AllStand all heads0 (map Some first) → IsToldDone selection all put counts.read counts.compared)
+  pub told : ForSome can sources0 (λ first. (all : List VersionsToCome) → AllAscend all → AllStand all heads0 (map Some first) → IsToldDone selection all put counts.read counts.compared)
 
 none_left : (heads : List (Option VersionData)) (nodes : List ℕ) (w : ℕ) → IsTree heads nodes 1 0 → w ≡ get_or nodes 1 0 → get_or heads w None ≡ None → (i : ℕ) → get_or heads i None ≡ None
 none_left heads nodes w t top at_w i =
@@ -420,8 +420,8 @@ none_left heads nodes w t top at_w i =
       | inr more ↦ get_or_past heads i None more
     ]
 
-pub run_done : {selection : Selection} {S : Type 0} {can : S → Coming → Type 0} {heads0 : List (Option VersionData)} {sources0 : List S} {format : Format} {number : ℕ} {O : Type 0} {holds : O → Content} {before : O}
-    {heads : List (Option VersionData)} {nodes : List ℕ} {sources : List S} {sink : SinkState} {now : O} {last : Option VersionData} (one : S → Coming) → ((s : S) → can s (one s)) → (counts : Counts) (w : ℕ)
+pub run_done : {selection : Selection} {S : Type 0} {can : S → VersionsToCome → Type 0} {heads0 : List (Option VersionData)} {sources0 : List S} {format : Format} {number : ℕ} {O : Type 0} {holds : O → Content} {before : O}
+    {heads : List (Option VersionData)} {nodes : List ℕ} {sources : List S} {sink : SinkState} {now : O} {last : Option VersionData} (one : S → VersionsToCome) → ((s : S) → can s (one s)) → (counts : Counts) (w : ℕ)
     → IsRunning selection can heads0 sources0 format number holds before heads nodes sources sink now last counts.read counts.written counts.compared
     → w ≡ get_or nodes 1 0 → get_or heads w None ≡ None
     → IsDone selection last can heads0 sources0 format number holds before sink now counts
@@ -460,7 +460,7 @@ run_done {selection = selection} {can = can} {heads = heads} {nodes = nodes} {so
     }
 
 -- of no sources
-pub none_done : (selection : Selection) {S : Type 0} (can : S → Coming → Type 0) (one : S → Coming) → ((s : S) → can s (one s)) → (heads : List (Option VersionData)) (sources : List S) (format : Format) (number : ℕ) {O : Type 0} (holds : O → Content) (before : O) (sink : SinkState) (now : O) (counts : Counts)
+pub none_done : (selection : Selection) {S : Type 0} (can : S → VersionsToCome → Type 0) (one : S → VersionsToCome) → ((s : S) → can s (one s)) → (heads : List (Option VersionData)) (sources : List S) (format : Format) (number : ℕ) {O : Type 0} (holds : O → Content) (before : O) (sink : SinkState) (now : O) (counts : Counts)
     → length heads ≡ 0 → HasPut format number [] (holds before) sink (holds now) → counts.read ≡ 0 → counts.written ≡ 0 → counts.compared ≤ length heads - 1
     → IsDone selection None can heads sources format number holds before sink now counts
 none_done selection can one possible heads sources format number holds before sink now counts empty has none_read none_written few = record {
@@ -486,7 +486,7 @@ none_done selection can one possible heads sources format number holds before si
   );
 }
 
-module _ {selection : Selection} {last : Option VersionData} {S : Type 0} {can : S → Coming → Type 0} {heads0 : List (Option VersionData)} {sources0 : List S} {format : Format} {number : ℕ} {O : Type 0} {holds : O → Content} {before : O} {sink : SinkState} {now : O} {counts : Counts}
+module _ {selection : Selection} {last : Option VersionData} {S : Type 0} {can : S → VersionsToCome → Type 0} {heads0 : List (Option VersionData)} {sources0 : List S} {format : Format} {number : ℕ} {O : Type 0} {holds : O → Content} {before : O} {sink : SinkState} {now : O} {counts : Counts}
     (d : IsDone selection last can heads0 sources0 format number holds before sink now counts) (after : O) (failed : Bool) where
   abbrev more : List VersionData
   more = put_at_end selection last
@@ -499,7 +499,7 @@ module _ {selection : Selection} {last : Option VersionData} {S : Type 0} {can :
       × IfOk result (λ done. done.compared ≡ counts.compared)
 
   pub end_merged : (result : Result Counts Fault) → EndsFile holds more sink now after failed result → Counted result
-      → IfOk result (λ done. ForSome can sources0 (λ first. (all : List Coming) → AllAscend all → AllStand all heads0 (map Some first) → IsMergedAs selection all format (holds before) (holds after) done))
+      → IfOk result (λ done. ForSome can sources0 (λ first. (all : List VersionsToCome) → AllAscend all → AllStand all heads0 (map Some first) → IsMergedAs selection all format (holds before) (holds after) done))
   end_merged (Ok done) ends is = (
     d.told.0,
     d.told.1,
@@ -518,7 +518,7 @@ module _ {selection : Selection} {last : Option VersionData} {S : Type 0} {can :
   end_merged (Err fault) ends is = tt
 
   pub end_refused : (result : Result Counts Fault) → EndsFile holds more sink now after failed result
-      → IfErr result (λ fault. ForSome can sources0 (λ first. (all : List Coming) → AllAscend all → AllStand all heads0 (map Some first) → IsRefusedAs selection all format number (holds before) (holds after) failed fault))
+      → IfErr result (λ fault. ForSome can sources0 (λ first. (all : List VersionsToCome) → AllAscend all → AllStand all heads0 (map Some first) → IsRefusedAs selection all format number (holds before) (holds after) failed fault))
   end_refused (Ok done) ends = tt
   end_refused (Err fault) ends = (
     d.told.0,
@@ -557,7 +557,7 @@ less_work (x ∷ heads) (left ∷ lefts) zero v given left2 e low h =
 less_work (x ∷ heads) (left ∷ lefts) (suc w) v given left2 e low h = let a = less_work heads lefts w v given left2 e (omega arith) h in omega (arith, a)
 
 -- ---- what the law of sources says of what they can give
-pub give_ascend : {S : Type 0} (can : S → Coming → Type 0) → ((s : S) (c : Coming) → can s c → Ascends c) → (sources : List S) (all : List Coming) → AllGive can sources all → AllAscend all
+pub give_ascend : {S : Type 0} (can : S → VersionsToCome → Type 0) → ((s : S) (c : VersionsToCome) → can s c → Ascends c) → (sources : List S) (all : List VersionsToCome) → AllGive can sources all → AllAscend all
 give_ascend can h [] [] g i = nothing_ascends version_cmp
 give_ascend can h [] (c ∷ cs) g i = absurd g
 give_ascend can h (s ∷ sources) [] g i = absurd g
@@ -565,7 +565,7 @@ give_ascend can h (s ∷ sources) (c ∷ cs) g zero = h s c g.0
 give_ascend can h (s ∷ sources) (c ∷ cs) g (suc i) = give_ascend can h sources cs g.1 i
 
 -- what holds of all that stood after each source was asked once holds of what they could give before
-pub from_first : {S : Type 0} (can : S → Coming → Type 0) → ((s : S) (c : Coming) → can s c → Ascends c) → (sources first asked : List S) (heads0 heads : List (Option VersionData)) (P : List Coming → Type 0) → first ≡ sources → heads ≡ heads0
+pub from_first : {S : Type 0} (can : S → VersionsToCome → Type 0) → ((s : S) (c : VersionsToCome) → can s c → Ascends c) → (sources first asked : List S) (heads0 heads : List (Option VersionData)) (P : List VersionsToCome → Type 0) → first ≡ sources → heads ≡ heads0
     → Explained (AllGive can first) (AllGive can asked) (λ all later. AllStand all heads0 (map Some later)) → ForStanding can asked heads P → ForSome can sources P
 from_first can ascends sources first asked heads0 heads P same is stands h =
     let x = stands h.0 h.1 in

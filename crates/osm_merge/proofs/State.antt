@@ -7,7 +7,7 @@ use Rattle.osm_model.specs.Data.{VersionData}
 use Rattle.osm_model.specs.Order.{version_cmp}
 use Rattle.osm_merge.specs.declared.selection.Selection.{Selection}
 use Rattle.osm_merge.specs.Pass.{passes}
-use Rattle.osm_merge.specs.Coming.{Coming, coming_at}
+use Rattle.osm_merge.specs.ToCome.{VersionsToCome, coming_at}
 use Rattle.osm_merge.specs.Union.{versions_of}
 use Rattle.osm_merge.proofs.AscendingLaws.{among}
 
@@ -29,7 +29,7 @@ IsUnder (Some held) (Some top) = is_gt (version_cmp held top) ≡ false
 
 -- Of what the sources gave at first, so many versions were taken, the greatest one last; those that pass were met, each once,
 -- and the last of them is held back; `states` is still to come, the heads included.
-pub record IsMerging (selection : Selection) (all states : List Coming) (met : List VersionData) (held top : Option VersionData) (taken : ℕ) : Type 0 where
+pub record IsMerging (selection : Selection) (all states : List VersionsToCome) (met : List VersionData) (held top : Option VersionData) (taken : ℕ) : Type 0 where
   pub size : length states ≡ length all
   pub ascends : IsStrictlySortedBy version_cmp met
   pub queues : (i : ℕ) → IsStrictlySortedBy version_cmp (coming_at states i).list

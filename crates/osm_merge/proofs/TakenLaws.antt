@@ -19,8 +19,8 @@ use Rattle.osm_merge.specs.declared.selection.Selection.TheVariants.{Newest}
 use Rattle.osm_merge.specs.Members.{first}
 use Rattle.osm_merge.specs.Pass.{only, keeps}
 use Rattle.osm_merge.specs.Selected.{moment, snapshot}
-use Rattle.osm_merge.specs.declared.taking.Order.{Order}
-use Rattle.osm_merge.specs.declared.taking.Order.TheVariants.{Versions, Objects}
+use Rattle.osm_merge.specs.declared.taking.OrderBy.{OrderBy}
+use Rattle.osm_merge.specs.declared.taking.OrderBy.TheVariants.{Versions, Objects}
 use Rattle.osm_merge.specs.Taking.{order_of, taken, greater, joined}
 use Rattle.osm_merge.proofs.Choosing.{set_listed}
 use Rattle.osm_merge.proofs.NewestLaws.{newest_of}
@@ -197,16 +197,16 @@ listed_union s t =
     ap listed (sym (from_list-merged version_cmp_total version_cmp-IsAntisymmetric (listed s) (listed t)))
     ∙ listed-from_list version_cmp_total version_cmp-IsAntisymmetric _ (sorted_merged version_cmp_total (listed s) (listed t) (strict-listed s) (strict-listed t))
 
-joined_listed : (order : Order) (s t : VersionSet) → IsStrictlySortedBy (order_of order) (listed s) → IsStrictlySortedBy (order_of order) (listed t) →
+joined_listed : (order : OrderBy) (s t : VersionSet) → IsStrictlySortedBy (order_of order) (listed s) → IsStrictlySortedBy (order_of order) (listed t) →
     joined (order_of order) (listed s) (listed t) ≡ listed (taken order s t)
 joined_listed Versions s t h g = joined_versions (listed s) (listed t) ∙ sym (listed_union s t)
 joined_listed Objects s t h g = joined_objects (listed s) (listed t) h g ∙ ap newest_of (sym (listed_union s t)) ∙ pass_of_set Newest (union s t)
 
-pub joined_ascends : (order : Order) (s t : VersionSet) → IsStrictlySortedBy (order_of order) (listed s) → IsStrictlySortedBy (order_of order) (listed t) →
+pub joined_ascends : (order : OrderBy) (s t : VersionSet) → IsStrictlySortedBy (order_of order) (listed s) → IsStrictlySortedBy (order_of order) (listed t) →
     IsStrictlySortedBy version_cmp (joined (order_of order) (listed s) (listed t))
 joined_ascends order s t h g = subst (IsStrictlySortedBy version_cmp) (sym (joined_listed order s t h g)) (strict-listed (taken order s t))
 
-pub joined_set : (order : Order) (s t : VersionSet) → IsStrictlySortedBy (order_of order) (listed s) → IsStrictlySortedBy (order_of order) (listed t) →
+pub joined_set : (order : OrderBy) (s t : VersionSet) → IsStrictlySortedBy (order_of order) (listed s) → IsStrictlySortedBy (order_of order) (listed t) →
     from_list {R = version_cmp} (joined (order_of order) (listed s) (listed t)) ≡ taken order s t
 joined_set order s t h g = ap (from_list {R = version_cmp}) (joined_listed order s t h g) ∙ set_listed (taken order s t)
 

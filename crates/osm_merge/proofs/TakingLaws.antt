@@ -12,12 +12,12 @@ use Rattle.std.specs.List.Sorted.{IsStrictlySortedBy}
 use Rattle.osm_model.specs.Data.{VersionData}
 use Rattle.osm_model.specs.Order.{version_cmp, version_cmp_total, object_cmp_total}
 use Rattle.osm_model.specs.Merged.{merged, merged_from}
-use Rattle.osm_merge.specs.declared.taking.Order.{Order}
-use Rattle.osm_merge.specs.declared.taking.Order.TheVariants.{Versions, Objects}
+use Rattle.osm_merge.specs.declared.taking.OrderBy.{OrderBy}
+use Rattle.osm_merge.specs.declared.taking.OrderBy.TheVariants.{Versions, Objects}
 use Rattle.osm_merge.specs.Taking.{order_of, greater, IsPlaceOf, untied, greater_tied, joined, joined_from}
 use Rattle.osm_merge.proofs.OrderLaws.{is_less}
 
-pub order_total : (order : Order) → IsTotalOrder (order_of order)
+pub order_total : (order : OrderBy) → IsTotalOrder (order_of order)
 order_total Versions = version_cmp_total
 order_total Objects = object_cmp_total
 

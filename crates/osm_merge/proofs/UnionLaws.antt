@@ -24,9 +24,9 @@ use Rattle.osm_files.specs.Spell.{ended, spelled_open, spell_list, spell}
 use Rattle.osm_files.specs.Sink.{CutShort}
 use Rattle.osm_files.proofs.SpellLaws.{first_in_front, list_spelled}
 use Rattle.osm_files.proofs.SinkLaws.{cut_before_end}
-use Rattle.osm_merge.specs.Coming.{Coming, head, coming_at, IsFirstFault}
+use Rattle.osm_merge.specs.ToCome.{VersionsToCome, head, coming_at, IsFaultAtStart}
 use Rattle.osm_merge.specs.Members.{first}
-use Rattle.osm_merge.specs.Union.{versions_of, union_of}
+use Rattle.osm_merge.specs.Union.{versions_of, union_given}
 use Rattle.osm_merge.specs.declared.selection.Selection.{Selection}
 use Rattle.osm_merge.specs.declared.selection.Selection.TheVariants.{All, Visible, Newest, NewestVisible, State, StateVisible, Between}
 use Rattle.osm_merge.specs.Selected.{selected}
@@ -40,14 +40,14 @@ use Rattle.osm_merge.proofs.MergeLaws.{among_ends, both_so}
 use Rattle.osm_merge.proofs.State.{Ends, Floor, IsUnder, IsMerging}
 
 -- the members of the union, ascending
-abbrev pub union_list : List Coming → List VersionData
-union_list all = listed (union_of all)
+abbrev pub union_list : List VersionsToCome → List VersionData
+union_list all = listed (union_given all)
 
-union_ascends : (all : List Coming) → IsStrictlySortedBy version_cmp (union_list all)
-union_ascends all = strict-listed (union_of all)
+union_ascends : (all : List VersionsToCome) → IsStrictlySortedBy version_cmp (union_list all)
+union_ascends all = strict-listed (union_given all)
 
-among_union : (all : List Coming) (q : VersionData) → among q (union_list all) ≡ among q (versions_of all)
-unfolding union_of
+among_union : (all : List VersionsToCome) (q : VersionData) → among q (union_list all) ≡ among q (versions_of all)
+unfolding union_given
 among_union all q = among_listed (versions_of all) q
 
 -- ---- at the end
@@ -59,7 +59,7 @@ no_first : (versions : List VersionData) → first versions ≡ None → version
 no_first [] h = refl
 no_first (v ∷ vs) h = absurd cc
 
-none_to_come : (states : List Coming) → ((i : ℕ) → i < length states → head (coming_at states i) ≡ None) → versions_of states ≡ []
+none_to_come : (states : List VersionsToCome) → ((i : ℕ) → i < length states → head (coming_at states i) ≡ None) → versions_of states ≡ []
 none_to_come [] h = refl
 none_to_come (c ∷ cs) h = ap (λ t. t ++ versions_of cs) (no_first c.list (h 0 (omega arith))) ∙ none_to_come cs (λ i less. h (suc i) (omega arith))
 
@@ -89,7 +89,7 @@ among_floor v q (w ∷ ws) f h =
       | false ↦ λ is e. among_floor v q ws f.1 e
     ] refl h
 
-all_floor : (v q : VersionData) (states : List Coming) → ((i : ℕ) → Floor (Some v) (coming_at states i).list) → among q (versions_of states) ≡ true → is_gt (version_cmp v q) ≡ false
+all_floor : (v q : VersionData) (states : List VersionsToCome) → ((i : ℕ) → Floor (Some v) (coming_at states i).list) → among q (versions_of states) ≡ true → is_gt (version_cmp v q) ≡ false
 all_floor v q [] f h = absurd (false≢true h)
 all_floor v q (c ∷ cs) f h =
     elim (among q c.list) as (λ b. among q c.list ≡ b → (b || among q (versions_of cs)) ≡ true → is_gt (version_cmp v q) ≡ false) [
@@ -144,13 +144,13 @@ pub passing_nothing : (selection : Selection) → passing selection [] ≡ []
 passing_nothing selection = passing_is selection []
 
 -- the list of what is selected of the union
-abbrev pub chosen : Selection → List Coming → List VersionData
-chosen selection all = listed (selected selection (union_of all))
+abbrev pub chosen : Selection → List VersionsToCome → List VersionData
+chosen selection all = listed (selected selection (union_given all))
 
-chosen_is : (selection : Selection) (all : List Coming) → chosen selection all ≡ kept (keeps selection) (passing selection (union_list all))
-chosen_is selection all = sym (pass_of_set selection (union_of all))
+chosen_is : (selection : Selection) (all : List VersionsToCome) → chosen selection all ≡ kept (keeps selection) (passing selection (union_list all))
+chosen_is selection all = sym (pass_of_set selection (union_given all))
 
-module _ {selection : Selection} {all states : List Coming} {met : List VersionData} {held top : Option VersionData} {taken : ℕ} (m : IsMerging selection all states met held top taken) where
+module _ {selection : Selection} {all states : List VersionsToCome} {met : List VersionData} {held top : Option VersionData} {taken : ℕ} (m : IsMerging selection all states met held top taken) where
   -- where no head is left, all that pass were met
   pub all_met : ((i : ℕ) → i < length states → head (coming_at states i) ≡ None) → passing selection (union_list all) ≡ met
   all_met none =
@@ -227,10 +227,10 @@ pub nothing_in_front : (set : VersionSet) → InFront [] set
 nothing_in_front set = (listed set, refl)
 
 -- what is put once the first of those that pass were met stands in front of what is selected
-front_of : (selection : Selection) (all : List Coming) (xs more : List VersionData) → passing selection (union_list all) ≡ xs ++ more → InFront (put_of selection xs) (selected selection (union_of all))
+front_of : (selection : Selection) (all : List VersionsToCome) (xs more : List VersionData) → passing selection (union_list all) ≡ xs ++ more → InFront (put_of selection xs) (selected selection (union_given all))
 front_of selection all xs more e = let part = put_front selection xs more in (part.0, sym (chosen_is selection all ∙ ap (kept (keeps selection)) e ∙ part.1))
 
-up_to_in_front : (selection : Selection) (v : VersionData) (all : List Coming) → InFront (put_of selection (passing selection (up_to (Some v) (union_list all)))) (selected selection (union_of all))
+up_to_in_front : (selection : Selection) (v : VersionData) (all : List VersionsToCome) → InFront (put_of selection (passing selection (up_to (Some v) (union_list all)))) (selected selection (union_given all))
 up_to_in_front selection v all =
     front_of selection all (passing selection (up_to (Some v) (union_list all))) (passing selection (above v (union_list all)))
     (ap (passing selection) (split_at v (union_list all) (union_ascends all)) ∙ passing_append selection (up_to (Some v) (union_list all)) (above v (union_list all)))
@@ -240,12 +240,12 @@ none_under None u = refl
 none_under (Some h) u = absurd u
 
 -- what was put stands in front of what is selected of the union
-pub put_in_front : (selection : Selection) (all states : List Coming) (met : List VersionData) (held top : Option VersionData) (taken : ℕ) → IsMerging selection all states met held top taken → InFront (put_of selection met) (selected selection (union_of all))
+pub put_in_front : (selection : Selection) (all states : List VersionsToCome) (met : List VersionData) (held top : Option VersionData) (taken : ℕ) → IsMerging selection all states met held top taken → InFront (put_of selection met) (selected selection (union_given all))
 put_in_front selection all states met held None taken m =
     let none : met ≡ [] = subst (λ (h : Option VersionData). Ends h met) (none_under held m.under) m.ends in
-    subst (λ (vs : List VersionData). InFront vs (selected selection (union_of all))) (sym (ap (put_of selection) none ∙ put_nothing selection)) (nothing_in_front (selected selection (union_of all)))
+    subst (λ (vs : List VersionData). InFront vs (selected selection (union_given all))) (sym (ap (put_of selection) none ∙ put_nothing selection)) (nothing_in_front (selected selection (union_given all)))
 put_in_front selection all states met held (Some v) taken m =
-    subst (λ (vs : List VersionData). InFront (put_of selection vs) (selected selection (union_of all))) (sym (met_up_to m v refl)) (up_to_in_front selection v all)
+    subst (λ (vs : List VersionData). InFront (put_of selection vs) (selected selection (union_given all))) (sym (met_up_to m v refl)) (up_to_in_front selection v all)
 
 -- ---- the file of the union
 -- the rest of the file behind a front of the union
@@ -275,36 +275,36 @@ module _ (set : VersionSet) (format : Format) (number : ℕ) (before after : Con
       let b = begun_at (spelled_open format put) (file_split set format put front) h in
       record { count = b.count; within = b.within; appended = b.appended; why = inl refl }
 
-all_up_to : (last : Option VersionData) (all : List Coming) → InFront (up_to last (union_list all)) (union_of all)
+all_up_to : (last : Option VersionData) (all : List VersionsToCome) → InFront (up_to last (union_list all)) (union_given all)
 all_up_to None all = (union_list all, refl)
 all_up_to (Some v) all = (above v (union_list all), sym (split_at v (union_list all) (union_ascends all)))
 
-so_far_split : (all : List Coming) (format : Format) (put : List VersionData) → InFront put (union_of all) → (more : List ℕ) × (spell format (union_of all) ≡ written_so_far format put ++ more)
-so_far_split all format [] front = (spell format (union_of all), refl)
-so_far_split all format (v ∷ vs) front = file_split (union_of all) format (v ∷ vs) front
+so_far_split : (all : List VersionsToCome) (format : Format) (put : List VersionData) → InFront put (union_given all) → (more : List ℕ) × (spell format (union_given all) ≡ written_so_far format put ++ more)
+so_far_split all format [] front = (spell format (union_given all), refl)
+so_far_split all format (v ∷ vs) front = file_split (union_given all) format (v ∷ vs) front
 
 -- what is written before a source's refusal stands in front of the file
-before_split : (selection : Selection) (all : List Coming) (format : Format) (last : Option VersionData) → (more : List ℕ) × (spell format (selected selection (union_of all)) ≡ written_before selection format last (union_list all) ++ more)
+before_split : (selection : Selection) (all : List VersionsToCome) (format : Format) (last : Option VersionData) → (more : List ℕ) × (spell format (selected selection (union_given all)) ≡ written_before selection format last (union_list all) ++ more)
 before_split All all format last = so_far_split all format (up_to last (union_list all)) (all_up_to last all)
-before_split Visible all format None = (spell format (selected Visible (union_of all)), refl)
-before_split Newest all format None = (spell format (selected Newest (union_of all)), refl)
-before_split NewestVisible all format None = (spell format (selected NewestVisible (union_of all)), refl)
-before_split (State t) all format None = (spell format (selected (State t) (union_of all)), refl)
-before_split (StateVisible t) all format None = (spell format (selected (StateVisible t) (union_of all)), refl)
-before_split (Between from to) all format None = (spell format (selected (Between from to) (union_of all)), refl)
-before_split Visible all format (Some v) = file_split (selected Visible (union_of all)) format _ (up_to_in_front Visible v all)
-before_split Newest all format (Some v) = file_split (selected Newest (union_of all)) format _ (up_to_in_front Newest v all)
-before_split NewestVisible all format (Some v) = file_split (selected NewestVisible (union_of all)) format _ (up_to_in_front NewestVisible v all)
-before_split (State t) all format (Some v) = file_split (selected (State t) (union_of all)) format _ (up_to_in_front (State t) v all)
-before_split (StateVisible t) all format (Some v) = file_split (selected (StateVisible t) (union_of all)) format _ (up_to_in_front (StateVisible t) v all)
-before_split (Between from to) all format (Some v) = file_split (selected (Between from to) (union_of all)) format _ (up_to_in_front (Between from to) v all)
+before_split Visible all format None = (spell format (selected Visible (union_given all)), refl)
+before_split Newest all format None = (spell format (selected Newest (union_given all)), refl)
+before_split NewestVisible all format None = (spell format (selected NewestVisible (union_given all)), refl)
+before_split (State t) all format None = (spell format (selected (State t) (union_given all)), refl)
+before_split (StateVisible t) all format None = (spell format (selected (StateVisible t) (union_given all)), refl)
+before_split (Between from to) all format None = (spell format (selected (Between from to) (union_given all)), refl)
+before_split Visible all format (Some v) = file_split (selected Visible (union_given all)) format _ (up_to_in_front Visible v all)
+before_split Newest all format (Some v) = file_split (selected Newest (union_given all)) format _ (up_to_in_front Newest v all)
+before_split NewestVisible all format (Some v) = file_split (selected NewestVisible (union_given all)) format _ (up_to_in_front NewestVisible v all)
+before_split (State t) all format (Some v) = file_split (selected (State t) (union_given all)) format _ (up_to_in_front (State t) v all)
+before_split (StateVisible t) all format (Some v) = file_split (selected (StateVisible t) (union_given all)) format _ (up_to_in_front (StateVisible t) v all)
+before_split (Between from to) all format (Some v) = file_split (selected (Between from to) (union_given all)) format _ (up_to_in_front (Between from to) v all)
 
 -- after any refusal a front of the file was appended
-pub begun_refused : (selection : Selection) (all : List Coming) (format : Format) (number : ℕ) (before after : Content) (failed : Bool) (fault : Fault) → IsRefusedAs selection all format number before after failed fault → HasBegunIn (selected selection (union_of all)) format before after
+pub begun_refused : (selection : Selection) (all : List VersionsToCome) (format : Format) (number : ℕ) (before after : Content) (failed : Bool) (fault : Fault) → IsRefusedAs selection all format number before after failed fault → HasBegunIn (selected selection (union_given all)) format before after
 begun_refused selection all format number before after failed fault (inl cut) = record { count = cut.count; within = cut.within; appended = cut.appended }
 begun_refused selection all format number before after failed fault (inr source) =
     let last : Option VersionData = last_of (coming_at all source.place).list in
-    begun_at (selected selection (union_of all)) format number before after (written_before selection format last (union_list all)) (before_split selection all format last) source.appended
+    begun_at (selected selection (union_given all)) format number before after (written_before selection format last (union_list all)) (before_split selection all format last) source.appended
 
 -- an output that nothing was written to
 pub nothing_appended : (content : Content) → Appended content content []
@@ -320,7 +320,7 @@ before_nothing (StateVisible t) format versions = refl
 before_nothing (Between from to) format versions = refl
 
 -- where the first versions can't be had, nothing is written
-pub refused_at_first : (selection : Selection) (all : List Coming) (format : Format) (number : ℕ) (held : Content) (failed : Bool) (fault : Fault) → IsFirstFault all fault → IsRefusedAs selection all format number held held failed fault
+pub refused_at_first : (selection : Selection) (all : List VersionsToCome) (format : Format) (number : ℕ) (held : Content) (failed : Bool) (fault : Fault) → IsFaultAtStart all fault → IsRefusedAs selection all format number held held failed fault
 refused_at_first selection all format number held failed fault (inl wanting) = inl (record { count = 0; within = omega arith; appended = nothing_appended held; why = inl wanting })
 refused_at_first selection all format number held failed fault (inr source) = inr (record {
   place = source.0;

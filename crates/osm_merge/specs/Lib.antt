@@ -1,5 +1,5 @@
 pub mod Members
-pub mod Coming
+pub mod ToCome
 pub mod Giving
 pub mod Union
 pub mod Tree

@@ -18,8 +18,8 @@ use Rattle.osm_merge.specs.declared.selection.Selection.{Selection}
 use Rattle.osm_merge.specs.declared.selection.Selection.TheVariants.{All}
 use Rattle.osm_merge.specs.Selected.{selected}
 use Rattle.osm_merge.specs.Pass.{put_of, passing, passes_all}
-use Rattle.osm_merge.specs.Coming.{Coming, coming_at}
-use Rattle.osm_merge.specs.Union.{versions_of, union_of, capped}
+use Rattle.osm_merge.specs.ToCome.{VersionsToCome, coming_at}
+use Rattle.osm_merge.specs.Union.{versions_of, union_given, capped}
 
 -- What `compared` may be, of k sources that gave n versions: at most k - 1 + n * (depth + 1), for the least depth with k up to
 -- 2^depth, and for each greater one; and at least so few. Of no source it is 0.
@@ -37,16 +37,16 @@ few_of selection given = if passes_all selection then given - 1 else 0
 
 -- A merge of sources that give this, to an output that held and holds this: each is whole, and the file of what is
 -- selected of the union was appended.
-pub record IsMergedAs (selection : Selection) (all : List Coming) (format : Format) (before after : Content) (counts : Counts) : Type 0 where
+pub record IsMergedAs (selection : Selection) (all : List VersionsToCome) (format : Format) (before after : Content) (counts : Counts) : Type 0 where
   pub whole : list.All (λ c. c.refusal ≡ None) all
-  pub appended : Appended before after (spell format (selected selection (union_of all)))
+  pub appended : Appended before after (spell format (selected selection (union_given all)))
   pub read : counts.read ≡ capped (length (versions_of all))
-  pub written : counts.written ≡ capped (size (selected selection (union_of all)))
+  pub written : counts.written ≡ capped (size (selected selection (union_given all)))
   pub compared : IsBoundedFrom (few_of selection (length (versions_of all))) (length all) (length (versions_of all)) counts.compared
 
 -- the same, where all versions are selected: the file of the union was appended
-abbrev pub IsMerged : List Coming → Format → Content → Content → Counts → Type 0
-IsMerged = IsMergedAs All
+abbrev pub MergesSources : List VersionsToCome → Format → Content → Content → Counts → Type 0
+MergesSources = IsMergedAs All
 
 -- What was written is the one file of a set, with as many versions as were counted.
 pub record WritesSet (format : Format) (before after : Content) (counts : Counts) : Type 0 where
@@ -78,21 +78,21 @@ written_before selection format None versions = []
 written_before selection format (Some last) versions = spelled_open format (put_of selection (passing selection (up_to (Some last) versions)))
 
 -- The fault is that of a source, and all that the merge puts up to that source's last version was written.
-pub record IsSourceFaultAs (selection : Selection) (all : List Coming) (format : Format) (before after : Content) (fault : Fault) : Type 0 where
+pub record IsSourceFaultAs (selection : Selection) (all : List VersionsToCome) (format : Format) (before after : Content) (fault : Fault) : Type 0 where
   pub place : ℕ
   pub within : place < length all
   pub refusal : (coming_at all place).refusal ≡ Some fault
-  pub appended : Appended before after (written_before selection format (last_of (coming_at all place).list) (listed (union_of all)))
+  pub appended : Appended before after (written_before selection format (last_of (coming_at all place).list) (listed (union_given all)))
 
 -- Why a merge was refused: memory was refused, or the output failed, or the file of what is selected has 2^62 bytes or more, in
 -- each of which cases a front of that file was written; or a source is refused.
-abbrev pub IsRefusedAs : Selection → List Coming → Format → ℕ → Content → Content → Bool → Fault → Type 0
+abbrev pub IsRefusedAs : Selection → List VersionsToCome → Format → ℕ → Content → Content → Bool → Fault → Type 0
 IsRefusedAs selection all format output before after failed fault =
-    CutShort output before after failed (spell format (selected selection (union_of all))) fault ⊎ IsSourceFaultAs selection all format before after fault
+    CutShort output before after failed (spell format (selected selection (union_given all))) fault ⊎ IsSourceFaultAs selection all format before after fault
 
 -- the same, where all versions are selected
-abbrev pub IsRefused : List Coming → Format → ℕ → Content → Content → Bool → Fault → Type 0
-IsRefused = IsRefusedAs All
+abbrev pub RefusesSources : List VersionsToCome → Format → ℕ → Content → Content → Bool → Fault → Type 0
+RefusesSources = IsRefusedAs All
 
 -- the bytes from before are still held, and some more
 abbrev pub Grows : Content → Content → Type 0
@@ -105,5 +105,5 @@ pub record HasBegunIn (set : VersionSet) (format : Format) (before after : Conte
   pub appended : Appended before after (take count (spell format set))
 
 -- of the union
-abbrev pub HasBegun : List Coming → Format → Content → Content → Type 0
-HasBegun all = HasBegunIn (union_of all)
+abbrev pub HasBegun : List VersionsToCome → Format → Content → Content → Type 0
+HasBegun all = HasBegunIn (union_given all)

@@ -9,16 +9,16 @@ use Rattle.osm_model.specs.Order.{object_cmp, version_cmp}
 use Rattle.osm_model.specs.Sets.{union}
 use Rattle.osm_model.specs.VersionSet.{VersionSet}
 use Rattle.osm_merge.specs.Selected.{snapshot}
-use Rattle.osm_merge.specs.declared.taking.Order.{Order}
-use Rattle.osm_merge.specs.declared.taking.Order.TheVariants.{Versions, Objects}
+use Rattle.osm_merge.specs.declared.taking.OrderBy.{OrderBy}
+use Rattle.osm_merge.specs.declared.taking.OrderBy.TheVariants.{Versions, Objects}
 
 -- by what versions are told apart
-abbrev pub order_of : Order → VersionData → VersionData → Ordering
+abbrev pub order_of : OrderBy → VersionData → VersionData → Ordering
 order_of Versions = version_cmp
 order_of Objects = object_cmp
 
 -- what a history holds that took another one in: the union, and by objects the newest version of each
-abbrev pub taken : Order → VersionSet → VersionSet → VersionSet
+abbrev pub taken : OrderBy → VersionSet → VersionSet → VersionSet
 taken Versions s t = union s t
 taken Objects s t = snapshot (union s t)
 

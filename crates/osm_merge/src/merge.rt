@@ -5,12 +5,12 @@ ghost use Rattle.osm_model.specs.Data.{VersionData};
 ghost use Rattle.osm_files.specs.Sink.{IsOpen, new_sink};
 ghost use Rattle.osm_files.specs.Source.{Steps};
 ghost use Rattle.osm_merge.specs.Giving.{ForSome, ForStanding};
-ghost use Rattle.osm_merge.specs.Union.{capped, union_of};
+ghost use Rattle.osm_merge.specs.Union.{capped, union_given};
 ghost use Rattle.osm_merge.specs.Tree.{IsTree};
 ghost use Rattle.osm_merge.specs.Selected.{selected};
 ghost use Rattle.osm_merge.specs.Pass.{is_new, is_met, held_next, puts, put_at, put_at_end, only};
 ghost use Rattle.osm_merge.specs.Put.{TakesEach, PutsMore, EndsFile, CountsMore};
-ghost use Rattle.osm_merge.specs.Merged.{IsMerged, IsMergedAs, IsRefused, IsRefusedAs, Grows};
+ghost use Rattle.osm_merge.specs.Merged.{MergesSources, IsMergedAs, RefusesSources, IsRefusedAs, Grows};
 
 use crate::compare::compare;
 use crate::heads::first_versions;
@@ -50,9 +50,9 @@ pub fn merge_into<S: Source + Drop, W: Output>(
 ) -> Result<Counts, Fault>
     requires { sink.old ≡ new_sink sink.old.format sink.old.number }
     ensures merged { IfOk result (λ counts. ForSome S.can_give sources.items (λ all.
-        IsMerged all sink.old.format (W.holds out.old) (W.holds out.new) counts)) }
+        MergesSources all sink.old.format (W.holds out.old) (W.holds out.new) counts)) }
     ensures refused { IfErr result (λ fault. ForSome S.can_give sources.items (λ all.
-        IsRefused all sink.old.format sink.old.number (W.holds out.old) (W.holds out.new) (W.failed out.new) fault)) }
+        RefusesSources all sink.old.format sink.old.number (W.holds out.old) (W.holds out.new) (W.failed out.new) fault)) }
     ensures kept { Grows (W.holds out.old) (W.holds out.new) }
     ensures good { OnOk result (W.failed out.new ≡ false) }
     ensures ended { OnOk result (sink.new.ended ≡ true) }

@@ -15,7 +15,7 @@ use std::mem;
 
 /// By what versions are told apart.
 #[derive(Clone, Copy)]
-enum Order {
+enum OrderBy {
     /// By all that they hold.
     Versions,
     /// By their objects.
@@ -31,7 +31,7 @@ enum Order {
 pub fn absorb(alloc: Global, held: &mut History, more: History) -> Result<(), Memory>
     ensures { MatchResult result (λ _. held.new ≡ set.union held.old more) (λ _. held.new ≡ held.old) }
 {
-    take_in(alloc, Order::Versions, held, more)
+    take_in(alloc, OrderBy::Versions, held, more)
 }
 
 /// Takes the newest versions of another history into one that holds the newest version of each object, so that it holds the
@@ -44,11 +44,11 @@ pub fn absorb_newest(alloc: Global, held: &mut History, more: History) -> Result
     requires { held.old ≡ snapshot held.old }
     ensures { MatchResult result (λ _. held.new ≡ snapshot (set.union held.old more)) (λ _. held.new ≡ held.old) }
 {
-    take_in(alloc, Order::Objects, held, into_snapshot(more))
+    take_in(alloc, OrderBy::Objects, held, into_snapshot(more))
 }
 
 /// Takes the versions of another history in, where both ascend by this order. Of two that tie the greater one stays.
-fn take_in(alloc: Global, order: Order, held: &mut History, more: History) -> Result<(), Memory>
+fn take_in(alloc: Global, order: OrderBy, held: &mut History, more: History) -> Result<(), Memory>
     requires held_ascends { IsStrictlySortedBy (order_of order) (set.listed held.old) }
     requires more_ascends { IsStrictlySortedBy (order_of order) (set.listed more) }
     ensures { MatchResult result (λ _. held.new ≡ taken order held.old more) (λ _. held.new ≡ held.old) }
@@ -63,7 +63,7 @@ fn take_in(alloc: Global, order: Order, held: &mut History, more: History) -> Re
 
 /// Moves the versions of two lists that ascend by this order behind those that are there, with room for all of them. Of two
 /// that tie the greater one is moved.
-fn move_joined(order: Order, room: &mut Vec<Version>, held: Vec<Version>, more: Vec<Version>)
+fn move_joined(order: OrderBy, room: &mut Vec<Version>, held: Vec<Version>, more: Vec<Version>)
     requires ascends { IsStrictlySortedBy (order_of order) held.items }
     requires room { vec_len room.old + (vec_len held + vec_len more) ≤ vec_capacity room.old }
     ensures { room.new.items ≡ room.old.items ++ joined (order_of order) held.items more.items }
@@ -81,7 +81,7 @@ fn move_joined(order: Order, room: &mut Vec<Version>, held: Vec<Version>, more: 
 
 /// The number of versions of an ascending list that are below this one. It looks so far ahead at a time, until what is left
 /// is worth halving.
-fn count_below(order: Order, held: &VecDeque<Version>, stride: usize, version: &Version) -> usize
+fn count_below(order: OrderBy, held: &VecDeque<Version>, stride: usize, version: &Version) -> usize
     requires { IsStrictlySortedBy (order_of order) held.now.items }
     ensures { IsPlaceOf (order_of order) version.now held.now.items result }
 {
@@ -99,12 +99,12 @@ fn count_below(order: Order, held: &VecDeque<Version>, stride: usize, version: &
 }
 
 /// How two versions compare by this order.
-fn compare(order: Order, version: &Version, other: &Version) -> Ordering
+fn compare(order: OrderBy, version: &Version, other: &Version) -> Ordering
     ensures { result ≡ order_of order version.now other.now }
 {
     match order {
-        Order::Versions => version.cmp(other),
-        Order::Objects => version.object_cmp(other),
+        OrderBy::Versions => version.cmp(other),
+        OrderBy::Objects => version.object_cmp(other),
     }
 }
 
@@ -124,7 +124,7 @@ fn move_front(room: &mut Vec<Version>, held: &mut VecDeque<Version>, count: usiz
 }
 
 /// The version, or the first one of the list in its place, where they tie and that one isn't less. One that ties leaves the list.
-fn take_tied(order: Order, held: &mut VecDeque<Version>, version: Version) -> Version
+fn take_tied(order: OrderBy, held: &mut VecDeque<Version>, version: Version) -> Version
     ensures value { result ≡ greater_tied (order_of order) version held.old.items }
     ensures left { held.new.items ≡ untied (order_of order) version held.old.items }
 {
@@ -138,7 +138,7 @@ fn take_tied(order: Order, held: &mut VecDeque<Version>, version: Version) -> Ve
 }
 
 /// Whether the first version of the list ties with this one.
-fn is_tied(order: Order, held: &VecDeque<Version>, version: &Version) -> bool
+fn is_tied(order: OrderBy, held: &VecDeque<Version>, version: &Version) -> bool
     ensures { result ≡ is_tied (order_of order) version.now held.now.items }
 {
     match held.front() {

@@ -10,7 +10,7 @@ use Rattle.osm_files.specs.Spell.{spell}
 use Rattle.osm_merge.specs.Selected.{snapshot}
 use Rattle.osm_mirror.specs.Mirror.{MirrorData}
 use Rattle.osm_mirror.specs.Fleet.{Source, Opening, File, at, set_of, united}
-use Rattle.osm_mirror.specs.FleetLaws.{SameFiles, AreEmpty, LatestMirrorsAgree, FullMirrorsAgree}
+use Rattle.osm_mirror.specs.FleetLaws.{SameFilesAmong, AreEmpty, LatestMirrorsAgree, FullMirrorsAgree}
 use Rattle.osm_mirror.proofs.FleetLaws.{equal_sets, in_union, in_none}
 
 in_united : (o : List MirrorData) (r : List Source) (v : VersionData) → contains (united o r) v ≡ list_any (λ s. contains (set_of o s) v) r
@@ -32,7 +32,7 @@ module _ (o : List MirrorData) (none : AreEmpty o) (v : VersionData) where
       let there : Contains s (a.1) = among_others r s f (a.1) (a.0, a.2, a.3) a.4 in
       list_any-from_Any holds_it s (there.0, a.1, there.1, there.2, a.4)
 
-same_united : (o : List MirrorData) (r s : List Source) → AreEmpty o → SameFiles r s → united o r ≡ united o s
+same_united : (o : List MirrorData) (r s : List Source) → AreEmpty o → SameFilesAmong r s → united o r ≡ united o s
 same_united o r s none files =
     equal_sets _ _ (λ v.
     in_united o r v

@@ -14,7 +14,7 @@ use Rattle.osm_files.specs.Load.{Loads, StopsLoading, format_of}
 use Rattle.osm_files.proofs.RiseLaws.{source_rises}
 use Rattle.osm_files.specs.Fault.{memory_fault}
 use Rattle.osm_files.specs.Source.{Step}
-use Rattle.osm_merge.specs.Coming as source
+use Rattle.osm_merge.specs.ToCome as source
 use Rattle.osm_merge.specs.Union.{capped}
 use Rattle.osm_mirror.specs.declared.check.Sizes.{Sizes}
 use Rattle.osm_mirror.specs.declared.check.CheckReport.{CheckReport}
@@ -28,7 +28,7 @@ capped_more : (n more : ℕ) → capped (capped n + more) ≡ capped (n + more)
 capped_more n more = omega arith
 
 -- so many versions and objects were counted of what was to come, the last of them this, and this is still to come
-pub record Counted (all now : source.Coming) (last : Option VersionData) (sizes : Sizes) : Type 0 where
+pub record Counted (all now : source.VersionsToCome) (last : Option VersionData) (sizes : Sizes) : Type 0 where
   pub refusal : now.refusal ≡ all.refusal
   pub given : ℕ
   pub begun : ℕ
@@ -37,14 +37,14 @@ pub record Counted (all now : source.Coming) (last : Option VersionData) (sizes 
   pub others : given + length now.list ≡ length all.list
   pub other_objects : begun + begun_behind last now.list ≡ begun_behind None all.list
 
-abbrev pub Counting : Option source.Coming → Option source.Coming → Option VersionData → Sizes → Type 0
-Counting all now last sizes = IfSome all (λ s. (t : source.Coming) × (now ≡ Some t) × Counted s t last sizes)
+abbrev pub Counting : Option source.VersionsToCome → Option source.VersionsToCome → Option VersionData → Sizes → Type 0
+Counting all now last sizes = IfSome all (λ s. (t : source.VersionsToCome) × (now ≡ Some t) × Counted s t last sizes)
 
-pub count_none : (all : Option source.Coming) → Counting all all None (record { versions = 0; objects = 0 })
+pub count_none : (all : Option source.VersionsToCome) → Counting all all None (record { versions = 0; objects = 0 })
 count_none None = tt
 count_none (Some s) = (s, refl, record { refusal = refl; given = 0; begun = 0; versions = omega arith; objects = omega arith; others = omega arith; other_objects = omega arith })
 
-one_more : (s t u : source.Coming) (last : Option VersionData) (v : VersionData) (sizes after : Sizes) → Counted s t last sizes → t ≡ record { list = v ∷ u.list; refusal = u.refusal } → after.versions ≡ capped (sizes.versions + 1) → after.objects ≡ capped (sizes.objects + begins last v) → Counted s u (Some v) after
+one_more : (s t u : source.VersionsToCome) (last : Option VersionData) (v : VersionData) (sizes after : Sizes) → Counted s t last sizes → t ≡ record { list = v ∷ u.list; refusal = u.refusal } → after.versions ≡ capped (sizes.versions + 1) → after.objects ≡ capped (sizes.objects + begins last v) → Counted s u (Some v) after
 one_more s t u last v sizes after h is versions objects =
     let list : length t.list ≡ suc (length u.list) = ap (λ x. length x.list) is in
     let begun : begun_behind last t.list ≡ begins last v + begun_behind (Some v) u.list = ap (λ x. begun_behind last x.list) is in
@@ -60,17 +60,17 @@ one_more s t u last v sizes after h is versions objects =
       other_objects = omega (arith, begun, objects_before);
     }
 
-pub count_more : (all now after : Option source.Coming) (last : Option VersionData) (v : VersionData) (sizes more : Sizes) → Counting all now last sizes → Step now (Ok (Some v)) after → more.versions ≡ capped (sizes.versions + 1) → more.objects ≡ capped (sizes.objects + begins last v)
+pub count_more : (all now after : Option source.VersionsToCome) (last : Option VersionData) (v : VersionData) (sizes more : Sizes) → Counting all now last sizes → Step now (Ok (Some v)) after → more.versions ≡ capped (sizes.versions + 1) → more.objects ≡ capped (sizes.objects + begins last v)
     → Counting all after (Some v) more
 count_more None now after last v sizes more h step versions objects = tt
 count_more (Some s) now after last v sizes more h step versions objects =
-    let k = subst (λ (n : Option source.Coming). Step n (Ok (Some v)) after) h.1 step in
+    let k = subst (λ (n : Option source.VersionsToCome). Step n (Ok (Some v)) after) h.1 step in
     (k.0, k.2, one_more s h.0 k.0 last v sizes more h.2 k.1 versions objects)
 
-pub count_ends : (all now after : Option source.Coming) (last : Option VersionData) (sizes : Sizes) → Counting all now last sizes → Step {A = VersionData} now (Ok None) after → IfSome all (λ s. IsCounted s sizes)
+pub count_ends : (all now after : Option source.VersionsToCome) (last : Option VersionData) (sizes : Sizes) → Counting all now last sizes → Step {A = VersionData} now (Ok None) after → IfSome all (λ s. IsCounted s sizes)
 count_ends None now after last sizes h step = tt
 count_ends (Some s) now after last sizes h step =
-    let k = subst (λ (n : Option source.Coming). Step {A = VersionData} n (Ok None) after) h.1 step in
+    let k = subst (λ (n : Option source.VersionsToCome). Step {A = VersionData} n (Ok None) after) h.1 step in
     let d : Counted s h.0 last sizes = h.2 in
     let list : length (h.0).list ≡ 0 = ap (λ x. length x.list) k.0 in
     let none : begun_behind last (h.0).list ≡ 0 = ap (λ x. begun_behind last x.list) k.0 in
@@ -82,10 +82,10 @@ count_ends (Some s) now after last sizes h step =
       objects = d.objects ∙ ap capped all_begun;
     }
 
-pub count_stops : (all now after : Option source.Coming) (last : Option VersionData) (sizes : Sizes) (fault : Fault) → Counting all now last sizes → Step {A = VersionData} now (Err fault) after → (fault ≡ memory_fault) ⊎ IfSome all (λ s. s.refusal ≡ Some fault)
+pub count_stops : (all now after : Option source.VersionsToCome) (last : Option VersionData) (sizes : Sizes) (fault : Fault) → Counting all now last sizes → Step {A = VersionData} now (Err fault) after → (fault ≡ memory_fault) ⊎ IfSome all (λ s. s.refusal ≡ Some fault)
 count_stops None now after last sizes fault h step = inr tt
 count_stops (Some s) now after last sizes fault h step =
-    let k = subst (λ (n : Option source.Coming). Step {A = VersionData} n (Err fault) after) h.1 step in
+    let k = subst (λ (n : Option source.VersionsToCome). Step {A = VersionData} n (Err fault) after) h.1 step in
     ⊎_elim (λ e. inl e) (λ e. inr (sym h.2.refusal ∙ ap (λ x. x.refusal) e)) k.0
 
 -- ---- what is reported
@@ -115,6 +115,6 @@ sorted_report_is c format sizes f n =
     }
 
 -- a whole set isn't refused
-pub set_refused : (set : VersionSet) (still : source.Coming) (fault : Fault) → still ≡ set_given set → (fault ≡ memory_fault) ⊎ (still.refusal ≡ Some fault) → fault ≡ memory_fault
+pub set_refused : (set : VersionSet) (still : source.VersionsToCome) (fault : Fault) → still ≡ set_given set → (fault ≡ memory_fault) ⊎ (still.refusal ≡ Some fault) → fault ≡ memory_fault
 set_refused set still fault is (inl e) = e
 set_refused set still fault is (inr e) = absurd (let f : None ≡ Some fault = ap (λ x. x.refusal) (sym is) ∙ e in cc)

@@ -22,7 +22,7 @@ use Rattle.osm_files.specs.Fault.{memory_fault}
 use Rattle.osm_merge.specs.Giving.{AllGive, ForSome}
 use Rattle.osm_merge.proofs.GiveLaws.{give_one}
 use Rattle.osm_mirror.specs.Given.{GivesFile, GivesAs, FileGives, IsRead, IsUnread}
-use Rattle.osm_mirror.specs.Run.{IsRun, IsRefused, Refuses}
+use Rattle.osm_mirror.specs.Run.{IsRun, IsRunRefused, RefusesRun}
 use Rattle.osm_mirror.specs.Command.{IsWritten, IsNotWritten, any, in_any_order}
 use Rattle.osm_mirror.proofs.MergeLaws.{All-first, All-others}
 use Rattle.osm_mirror.proofs.RunLaws.{cut_is}
@@ -69,7 +69,7 @@ module _ {O : Type 0} (holds : O → Content) (selection : Selection) (format : 
     compared_count = refl;
   }
 
-  not_written_is : (failed : Bool) (fault : Fault) → IsRefused holds selection (map any all) format before after failed fault → IsNotWritten holds (selected selection) all format before after failed fault
+  not_written_is : (failed : Bool) (fault : Fault) → IsRunRefused holds selection (map any all) format before after failed fault → IsNotWritten holds (selected selection) all format before after failed fault
   not_written_is failed fault (inl memory) = inl memory
   not_written_is failed fault (inr (inl (unread, same))) = inr (inl (unread, same))
   not_written_is failed fault (inr (inr (read, r))) =
@@ -93,9 +93,9 @@ module _ {R : Type 0} (can : R → Coming → Type 0) {O : Type 0} (holds : O �
       let q = of_readers (λ all. IsRun selection all format (holds before) (holds after) counts) h in
       (q.0, q.1, written_is holds selection format before after q.0 counts q.2)
 
-  pub held_refused : (failed : Bool) (fault : Fault) → ForSome (FileGives can) files (λ all. Refuses holds selection all format before after failed fault) → ForSome can readers (λ all. IsNotWritten holds (selected selection) all format before after failed fault)
+  pub held_refused : (failed : Bool) (fault : Fault) → ForSome (FileGives can) files (λ all. RefusesRun holds selection all format before after failed fault) → ForSome can readers (λ all. IsNotWritten holds (selected selection) all format before after failed fault)
   held_refused failed fault h =
-      let q = of_readers (λ all. Refuses holds selection all format before after failed fault) h in
+      let q = of_readers (λ all. RefusesRun holds selection all format before after failed fault) h in
       (q.0, q.1, not_written_is holds selection format before after q.0 failed fault q.2.why)
 
 -- nothing was done for want of memory

@@ -29,7 +29,7 @@ use Rattle.osm_files.proofs.HoldLaws.{source_gives_held, whole_source_is_held}
 use Rattle.osm_files.proofs.FaultyLaws.{broken_is_refused}
 use Rattle.osm_files.proofs.SpellLaws.{listed_members}
 use Rattle.osm_merge.specs.declared.merge.Counts.{Counts}
-use Rattle.osm_merge.specs.Coming as source
+use Rattle.osm_merge.specs.ToCome as source
 use Rattle.osm_merge.specs.Union as merged
 use Rattle.osm_merge.specs.Merged as merge
 use Rattle.osm_merge.specs.Giving.{AllGive, ForSome}
@@ -40,7 +40,7 @@ abbrev among : VersionData → List VersionData → Bool
 among v versions = list_any (eq_by_cmp version_cmp v) versions
 
 -- the set of what a source gives
-abbrev pub set_given : source.Coming → VersionSet
+abbrev pub set_given : source.VersionsToCome → VersionSet
 set_given s = from_list {R = version_cmp} s.list
 
 or_false : (b : Bool) → b ≡ (b || false)
@@ -52,7 +52,7 @@ or_assoc true b c = refl
 or_assoc false b c = refl
 
 -- the members of a union of sets
-has_union : (before : VersionSet) (all : List source.Coming) (v : VersionData) → contains (fold union before (map set_given all)) v ≡ (contains before v || among v (merged.versions_of all))
+has_union : (before : VersionSet) (all : List source.VersionsToCome) (v : VersionData) → contains (fold union before (map set_given all)) v ≡ (contains before v || among v (merged.versions_of all))
 has_union before [] v = or_false (contains before v)
 has_union before (s ∷ all) v =
     has_union (union before (set_given s)) all v
@@ -61,9 +61,9 @@ has_union before (s ∷ all) v =
     ∙ ap (λ b. contains before v || b) (sym (list_any-append (eq_by_cmp version_cmp v) s.list (merged.versions_of all)))
 
 -- the union of what sources give is the union of the sets
-pub union_given : (all : List source.Coming) → merged.union_of all ≡ union_of (map set_given all)
-unfolding merged.union_of
-union_given all =
+pub union_given_is : (all : List source.VersionsToCome) → merged.union_given all ≡ union_of (map set_given all)
+unfolding merged.union_given
+union_given_is all =
     same_set version_cmp_total version_cmp-IsAntisymmetric (from_list (merged.versions_of all)) (union_of (map set_given all))
     (λ v. contains-from_list version_cmp_total (merged.versions_of all) v ∙ sym (has_union empty all v ∙ ap (λ b. b || among v (merged.versions_of all)) (ap is_some (get-empty {X = Unit {0}} version_cmp v))))
 
@@ -86,7 +86,7 @@ All-first P x xs h = h 0 x (omega arith)
 pub All-others : {X : Type 0} (P : X → Type 0) (x : X) (xs : List X) → All P (x ∷ xs) → All P xs
 All-others P x xs h = λ k d below. h (suc k) d (omega (arith, below))
 
-abbrev pub AreWhole : List source.Coming → Type 0
+abbrev pub AreWhole : List source.VersionsToCome → Type 0
 AreWhole all = All (λ s. s.refusal ≡ None) all
 
 all_give : (number : ℕ) (inputs : List Coming) → AreWhole (sources number inputs) → Pairwise GivesSorted inputs (map set_given (sources number inputs))
@@ -109,10 +109,10 @@ so_many : (number : ℕ) (inputs : List Coming) → length (sources number input
 so_many number [] = refl
 so_many number (c ∷ inputs) = ap suc (so_many (number + 1) inputs)
 
-merged_files : (inputs : List Coming) (format : Format) (before after : Content) (counts : Counts) → merge.IsMerged (sources 0 inputs) format before after counts → IsMerged inputs format before after counts
+merged_files : (inputs : List Coming) (format : Format) (before after : Content) (counts : Counts) → merge.MergesSources (sources 0 inputs) format before after counts → IsMerged inputs format before after counts
 merged_files inputs format before after counts m =
     let held : List VersionSet = map set_given (sources 0 inputs) in
-    let same : merged.union_of (sources 0 inputs) ≡ union_of held = union_given (sources 0 inputs) in
+    let same : merged.union_given (sources 0 inputs) ≡ union_of held = union_given_is (sources 0 inputs) in
     record {
       held = held;
       sorted_files = all_give 0 inputs m.whole;
@@ -134,7 +134,7 @@ sorted_sources number (c ∷ inputs) (s ∷ held) h =
 
 cut_files : (inputs : List Coming) (format : Format) (before after : Content) (failed : Bool) (fault : Fault) → IsRefused inputs format before after failed fault → IsCutShort inputs format before after failed fault
 cut_files inputs format before after failed fault (inl cut) = λ held h.
-    subst (λ (s : VersionSet). CutShort (length inputs) before after failed (spell format s) fault) (union_given (sources 0 inputs) ∙ ap union_of (sorted_sources 0 inputs held h).0) cut
+    subst (λ (s : VersionSet). CutShort (length inputs) before after failed (spell format s) fault) (union_given_is (sources 0 inputs) ∙ ap union_of (sorted_sources 0 inputs held h).0) cut
 cut_files inputs format before after failed fault (inr f) = λ held h.
     absurd (let none : (source.coming_at (sources 0 inputs) f.place).refusal ≡ None = (sorted_sources 0 inputs held h).1 f.place _ f.within in let e : None ≡ Some fault = sym none ∙ f.refusal in cc)
 
@@ -151,12 +151,12 @@ length_opened number (r ∷ inputs) = ap suc (length_opened (number + 1) inputs)
 
 module _ {R : Type 0} (can : R → Coming → Type 0) where
   -- a source that was opened gives what its file's source gives
-  pub one_gives : (number : ℕ) (reader : R) (still : source.Coming) → FileCanGive can (opened_file number reader) still → (c : Coming) × can reader c × (still ≡ sorted_source number c)
+  pub one_gives : (number : ℕ) (reader : R) (still : source.VersionsToCome) → FileCanGive can (opened_file number reader) still → (c : Coming) × can reader c × (still ≡ sorted_source number c)
   one_gives number reader still h =
       let told : Some still ≡ Some (sorted_source number h.0) = sym h.2 ∙ source_begins_told (telling (opened_file number reader).units h.0) [] number (Some h.0) refl refl in
       (h.0, h.1, cc)
 
-  inputs_give : (number : ℕ) (inputs : List R) (all : List source.Coming) → AllGive (FileCanGive can) (opened number inputs) all → (given : List Coming) × AllGive can inputs given × (all ≡ sources number given)
+  inputs_give : (number : ℕ) (inputs : List R) (all : List source.VersionsToCome) → AllGive (FileCanGive can) (opened number inputs) all → (given : List Coming) × AllGive can inputs given × (all ≡ sources number given)
   inputs_give number [] [] g = ([], tt, refl)
   inputs_give number [] (s ∷ all) g = absurd g
   inputs_give number (r ∷ inputs) [] g = absurd g
@@ -173,26 +173,26 @@ module _ {R : Type 0} (can : R → Coming → Type 0) where
 
   -- what is said of what the sources gave is said of what the inputs gave
   module _ (inputs : List R) (items : List (FileStand R)) (is : items ≡ opened 0 inputs) where
-    of_inputs : (P : List source.Coming → Type 0) → ForSome (FileCanGive can) items P → (given : List Coming) × AllGive can inputs given × P (sources 0 given)
+    of_inputs : (P : List source.VersionsToCome → Type 0) → ForSome (FileCanGive can) items P → (given : List Coming) × AllGive can inputs given × P (sources 0 given)
     of_inputs P h =
         let q = inputs_give 0 inputs h.0 (subst (λ (ss : List (FileStand R)). AllGive (FileCanGive can) ss h.0) is h.1) in
         (q.0, q.1, subst P q.2 h.2)
 
     module _ (format given : Format) (same : given ≡ format) (before after : Content) (failed : Bool) where
-      pub run_merged : (result : Result Counts Fault) → IfOk result (λ counts. ForSome (FileCanGive can) items (λ all. merge.IsMerged all given before after counts)) → IfOk result (λ counts. ForSome can inputs (λ all. IsMerged all format before after counts))
+      pub run_merged : (result : Result Counts Fault) → IfOk result (λ counts. ForSome (FileCanGive can) items (λ all. merge.MergesSources all given before after counts)) → IfOk result (λ counts. ForSome can inputs (λ all. IsMerged all format before after counts))
       run_merged (Ok counts) h =
-          let q = of_inputs (λ all. merge.IsMerged all given before after counts) h in
-          (q.0, q.1, merged_files q.0 format before after counts (subst (λ (f : Format). merge.IsMerged (sources 0 q.0) f before after counts) same q.2))
+          let q = of_inputs (λ all. merge.MergesSources all given before after counts) h in
+          (q.0, q.1, merged_files q.0 format before after counts (subst (λ (f : Format). merge.MergesSources (sources 0 q.0) f before after counts) same q.2))
       run_merged (Err fault) h = tt
 
-      pub run_refused : (number : ℕ) → number ≡ length inputs → (result : Result Counts Fault) → IfErr result (λ fault. ForSome (FileCanGive can) items (λ all. merge.IsRefused all given number before after failed fault))
+      pub run_refused : (number : ℕ) → number ≡ length inputs → (result : Result Counts Fault) → IfErr result (λ fault. ForSome (FileCanGive can) items (λ all. merge.RefusesSources all given number before after failed fault))
           → IfErr result (λ fault. ForSome can inputs (λ all. Refuses all format before after failed fault))
       run_refused number many (Ok counts) h = tt
       run_refused number many (Err fault) h =
-          let q = of_inputs (λ all. merge.IsRefused all given number before after failed fault) h in
+          let q = of_inputs (λ all. merge.RefusesSources all given number before after failed fault) h in
           let why : IsRefused q.0 format before after failed fault =
-          subst (λ (n : ℕ). merge.IsRefused (sources 0 q.0) format n before after failed fault) (many ∙ give_count inputs q.0 q.1)
-          (subst (λ (f : Format). merge.IsRefused (sources 0 q.0) f number before after failed fault) same q.2) in
+          subst (λ (n : ℕ). merge.RefusesSources (sources 0 q.0) format n before after failed fault) (many ∙ give_count inputs q.0 q.1)
+          (subst (λ (f : Format). merge.RefusesSources (sources 0 q.0) f number before after failed fault) same q.2) in
           (q.0, q.1, record { why = why; cut = cut_files q.0 format before after failed fault why })
 
 at_first : (content : Content) → Appended content content []
@@ -204,5 +204,5 @@ cut_at_once output content failed bytes fault memory = record { count = 0; withi
 
 pub refused_at_once : (all : List Coming) (format : Format) (content : Content) (failed : Bool) (fault : Fault) → fault ≡ memory_fault → Refuses all format content content failed fault
 refused_at_once all format content failed fault memory =
-    let why : IsRefused all format content content failed fault = inl (cut_at_once (length all) content failed (spell format (merged.union_of (sources 0 all))) fault memory) in
+    let why : IsRefused all format content content failed fault = inl (cut_at_once (length all) content failed (spell format (merged.union_given (sources 0 all))) fault memory) in
     record { why = why; cut = cut_files all format content content failed fault why }

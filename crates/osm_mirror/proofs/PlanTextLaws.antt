@@ -19,7 +19,7 @@ use Rattle.osm_mirror.specs.declared.plan_line.PlanLine.{PlanLine}
 use Rattle.osm_mirror.specs.declared.plan_line.PlanLine.TheVariants.{Mirror, Step, Write}
 use Rattle.osm_mirror.specs.PlanFault.{memory_fault, fault_at}
 use Rattle.osm_mirror.specs.PlanLine.{LineSays, NamesMirrors}
-use Rattle.osm_mirror.specs.Plan.{Parts, parts_of, in_order, lines_of, LinesSpell, NamesItsMirrors, SpellsNoPlan, IsInTurn, IsRefused, LineFault, IsFirstFault, with_line, IsLineAdded}
+use Rattle.osm_mirror.specs.Plan.{Parts, parts_of, in_order, lines_of, LinesSpell, NamesItsMirrors, SpellsNoPlan, IsInTurn, IsLineRefused, LineFault, IsFirstFault, with_line, IsLineAdded}
 use Rattle.osm_mirror.specs.PlanLaws.{OnePlan, FaultySpellsNothing}
 use Rattle.osm_mirror.proofs.PlanLineLaws.{line_one, says_full}
 
@@ -148,7 +148,7 @@ lines_one lines one other a b =
     built_one (parts [] [] []) (in_order one) one other (in_order_builds one a.named) (rw (← same) at (in_order_builds other b.named))
 
 -- what is refused is out of its turn, or names a mirror that is not there
-refused_not : (before : Parts) (x : PlanLine) (reason : PlanReason) → IsRefused before x reason → IsInTurn before x → NamesMirrors (length before.mirrors) x → ⊥
+refused_not : (before : Parts) (x : PlanLine) (reason : PlanReason) → IsLineRefused before x reason → IsInTurn before x → NamesMirrors (length before.mirrors) x → ⊥
 refused_not before x BadOrder refused turn named = refused turn
 refused_not before x NoMirror refused turn named = refused.1 named
 refused_not before x NotUtf8 refused turn named = refused
@@ -167,7 +167,7 @@ fault_not : (before : Parts) (line : List ℕ) (reason : PlanReason) (x : PlanLi
     → IsInTurn before x → NamesMirrors (length before.mirrors) x → ⊥
 fault_not before line BadWord x fault says turn named = fault.1 x says
 fault_not before line reason x fault says turn named =
-    refused_not before x reason (subst (λ y. IsRefused before y reason) (line_one line fault.0 x fault.1 says) fault.2) turn named
+    refused_not before x reason (subst (λ y. IsLineRefused before y reason) (line_one line fault.0 x fault.1 says) fault.2) turn named
 
 -- lines with a faulty one among them spell no plan
 lines_none : (front rest : List (List ℕ)) (faulty : List ℕ) (before after : Parts) (reason : PlanReason)

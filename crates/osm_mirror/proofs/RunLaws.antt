@@ -10,7 +10,7 @@ use Rattle.osm_files.specs.Spell.{spell}
 use Rattle.osm_files.specs.Sink.{CutShort}
 use Rattle.osm_merge.specs.declared.merge.Counts.{Counts}
 use Rattle.osm_merge.specs.declared.selection.Selection.{Selection}
-use Rattle.osm_merge.specs.Coming as source
+use Rattle.osm_merge.specs.ToCome as source
 use Rattle.osm_merge.specs.Selected.{selected}
 use Rattle.osm_merge.specs.Union as union
 use Rattle.osm_merge.specs.Merged as merged
@@ -22,15 +22,15 @@ use Rattle.osm_mirror.specs.declared.input.InputFile.{InputFile}
 use Rattle.osm_mirror.specs.declared.source.RunSource.{RunSource}
 use Rattle.osm_mirror.specs.Still.{SourceCanGive}
 use Rattle.osm_mirror.specs.Given.{sources, FileGives, AreOpened, IsUnopened}
-use Rattle.osm_mirror.specs.Run.{IsRun, IsRefused, IsCutShort, Refuses}
-use Rattle.osm_mirror.proofs.MergeLaws.{union_given, cut_at_once}
+use Rattle.osm_mirror.specs.Run.{IsRun, IsRunRefused, IsRunCutShort, RefusesRun}
+use Rattle.osm_mirror.proofs.MergeLaws.{union_given_is, cut_at_once}
 use Rattle.osm_mirror.proofs.SourceLaws.{members, all_give, sizes, so_many, as_all_given, not_unread, opened_give}
 
 module _ (selection : Selection) (format : Format) (before after : Content) where
   run_is : (inputs : List (Order × Coming)) (counts : Counts) → merged.IsMergedAs selection (sources 0 inputs) format before after counts → IsRun selection inputs format before after counts
   run_is inputs counts m =
       let held : List VersionSet = map members (sources 0 inputs) in
-      let same : union.union_of (sources 0 inputs) ≡ union_of held = union_given (sources 0 inputs) in
+      let same : union.union_given (sources 0 inputs) ≡ union_of held = union_given_is (sources 0 inputs) in
       record {
         held = held;
         files = all_give 0 inputs m.whole;
@@ -42,22 +42,22 @@ module _ (selection : Selection) (format : Format) (before after : Content) wher
 
 module _ {O : Type 0} (holds : O → Content) (selection : Selection) (format : Format) (before after : O) where
   -- of files of the order that is asked for, a front was written
-  pub cut_is : (failed : Bool) (inputs : List (Order × Coming)) (fault : Fault) → IsRefused holds selection inputs format before after failed fault → IsCutShort selection inputs format (holds before) (holds after) failed fault
+  pub cut_is : (failed : Bool) (inputs : List (Order × Coming)) (fault : Fault) → IsRunRefused holds selection inputs format before after failed fault → IsRunCutShort selection inputs format (holds before) (holds after) failed fault
   cut_is failed inputs fault (inl (memory, same)) = λ held h.
       subst (λ (a : O). CutShort (length inputs) (holds before) (holds a) failed (spell format (selected selection (union_of held))) fault) (sym same) (cut_at_once (length inputs) (holds before) failed (spell format (selected selection (union_of held))) fault memory)
   cut_is failed inputs fault (inr (inl (unread, same))) = λ held h. absurd (not_unread 0 inputs held fault h unread)
   cut_is failed inputs fault (inr (inr (read, inl cut))) = λ held h.
-      subst (λ (s : VersionSet). CutShort (length inputs) (holds before) (holds after) failed (spell format (selected selection s)) fault) (union_given (sources 0 inputs) ∙ ap union_of (as_all_given 0 inputs held h).0) cut
+      subst (λ (s : VersionSet). CutShort (length inputs) (holds before) (holds after) failed (spell format (selected selection s)) fault) (union_given_is (sources 0 inputs) ∙ ap union_of (as_all_given 0 inputs held h).0) cut
   cut_is failed inputs fault (inr (inr (read, inr f))) = λ held h.
       absurd (let none : (source.coming_at (sources 0 inputs) f.place).refusal ≡ None = (as_all_given 0 inputs held h).1 f.place _ f.within in let e : None ≡ Some fault = sym none ∙ f.refusal in cc)
 
 -- ---- what the sources answer, said of the inputs
 module _ {R : Type 0} (can : R → Coming → Type 0) {O : Type 0} (holds : O → Content) (selection : Selection) (format : Format) (files : List (InputFile R)) where
-  refuses : (before after : O) (failed : Bool) (inputs : List (Order × Coming)) (fault : Fault) → IsRefused holds selection inputs format before after failed fault → Refuses holds selection inputs format before after failed fault
+  refuses : (before after : O) (failed : Bool) (inputs : List (Order × Coming)) (fault : Fault) → IsRunRefused holds selection inputs format before after failed fault → RefusesRun holds selection inputs format before after failed fault
   refuses before after failed inputs fault why = record { why = why; cut = cut_is holds selection format before after failed inputs fault why }
 
   -- nothing was opened
-  pub unopened : (before : O) (failed : Bool) (fault : Fault) → ForSome (FileGives can) files (λ all. IsUnopened 0 all fault) → ForSome (FileGives can) files (λ all. Refuses holds selection all format before before failed fault)
+  pub unopened : (before : O) (failed : Bool) (fault : Fault) → ForSome (FileGives can) files (λ all. IsUnopened 0 all fault) → ForSome (FileGives can) files (λ all. RefusesRun holds selection all format before before failed fault)
   unopened before failed fault h = (
     h.0,
     h.1,
@@ -72,16 +72,16 @@ module _ {R : Type 0} (can : R → Coming → Type 0) {O : Type 0} (holds : O �
         → IfOk result (λ counts. ForSome (FileGives can) files (λ all. IsRun selection all format (holds before) (holds after) counts))
     ran_written (Ok counts) h =
         let q = opened_give can 0 files opened h.0 are h.1 in
-        let m = subst (λ (all : List source.Coming). merged.IsMergedAs selection all given (holds before) (holds after) counts) q.2 h.2 in
+        let m = subst (λ (all : List source.VersionsToCome). merged.IsMergedAs selection all given (holds before) (holds after) counts) q.2 h.2 in
         (q.0, q.1, run_is selection format (holds before) (holds after) q.0 counts (subst (λ (f : Format). merged.IsMergedAs selection (sources 0 q.0) f (holds before) (holds after) counts) same m))
     ran_written (Err fault) h = tt
 
     pub ran_refused : (number : ℕ) → number ≡ length files → (result : Result Counts Fault) → IfErr result (λ fault. ForSome (SourceCanGive can) opened (λ all. merged.IsRefusedAs selection all given number (holds before) (holds after) failed fault))
-        → IfErr result (λ fault. ForSome (FileGives can) files (λ all. Refuses holds selection all format before after failed fault))
+        → IfErr result (λ fault. ForSome (FileGives can) files (λ all. RefusesRun holds selection all format before after failed fault))
     ran_refused number many (Ok counts) h = tt
     ran_refused number many (Err fault) h =
         let q = opened_give can 0 files opened h.0 are h.1 in
-        let m = subst (λ (all : List source.Coming). merged.IsRefusedAs selection all given number (holds before) (holds after) failed fault) q.2 h.2 in
+        let m = subst (λ (all : List source.VersionsToCome). merged.IsRefusedAs selection all given number (holds before) (holds after) failed fault) q.2 h.2 in
         let count : number ≡ length q.0 = many ∙ sym (give_size (FileGives can) files q.0 q.1) in
         let why = subst (λ (n : ℕ). merged.IsRefusedAs selection (sources 0 q.0) format n (holds before) (holds after) failed fault) count
         (subst (λ (f : Format). merged.IsRefusedAs selection (sources 0 q.0) f number (holds before) (holds after) failed fault) same m) in

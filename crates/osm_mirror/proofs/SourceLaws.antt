@@ -26,7 +26,7 @@ use Rattle.osm_files.proofs.FileLaws.{files_are_read}
 use Rattle.osm_files.proofs.LoadLaws.{whole_units, gives_file}
 use Rattle.osm_files.proofs.RiseLaws.{source_rises}
 use Rattle.osm_files.proofs.SpellLaws.{listed_members}
-use Rattle.osm_merge.specs.Coming as source
+use Rattle.osm_merge.specs.ToCome as source
 use Rattle.osm_merge.specs.Union as union
 use Rattle.osm_mirror.specs.declared.input.Order.{Order}
 use Rattle.osm_mirror.specs.declared.input.Order.TheVariants.{Sorted, Any}
@@ -39,7 +39,7 @@ use Rattle.osm_mirror.specs.Given.{GivesFile, GivesAs, refusal, read_whole, held
 use Rattle.osm_mirror.proofs.MergeLaws.{source_sorted, gives, one_gives, All-first, All-others, AreWhole}
 
 -- the set of what a source gives
-abbrev pub members : source.Coming → VersionSet
+abbrev pub members : source.VersionsToCome → VersionSet
 members s = from_list {R = version_cmp} s.list
 
 -- ---- a file that was read to its end
@@ -96,7 +96,7 @@ gives_as number (Any, c) e = file_gives number c e
 
 rises : (number : ℕ) (input : Order × Coming) → Ascends (source_of number input)
 rises number (Sorted, c) = source_rises number c
-rises number (Any, c) = subst (λ (s : source.Coming). Ascends s) (sym (held_is number c)) (read_rises (refusal number c) (versions_of (units_from None 0 c).list))
+rises number (Any, c) = subst (λ (s : source.VersionsToCome). Ascends s) (sym (held_is number c)) (read_rises (refusal number c) (versions_of (units_from None 0 c).list))
 
 -- ---- all inputs
 pub all_give : (number : ℕ) (inputs : List (Order × Coming)) → AreWhole (sources number inputs) → Pairwise GivesAs inputs (map members (sources number inputs))
@@ -107,7 +107,7 @@ all_give number (input ∷ inputs) h =
 each_size : (number : ℕ) (inputs : List (Order × Coming)) → sum_by (λ s. length s.list) (sources number inputs) ≡ sum_by size (map members (sources number inputs))
 each_size number [] = refl
 each_size number (input ∷ inputs) =
-    let s : source.Coming = source_of number input in
+    let s : source.VersionsToCome = source_of number input in
     sum_by-cons (λ t. length t.list) s (sources (number + 1) inputs)
     ∙ (λ i. length (sym (listed-view s.list (rises number input)) i) + each_size (number + 1) inputs i)
     ∙ sym (sum_by-cons size (members s) (map members (sources (number + 1) inputs)))
@@ -187,7 +187,7 @@ module _ {R : Type 0} (can : R → Coming → Type 0) where
   opened_many number (f ∷ files) (s ∷ opened) all = ap suc (opened_many (number + 1) files opened all.1)
 
   -- what the sources give is what the sources of what the files gave give
-  pub opened_give : (number : ℕ) (files : List (InputFile R)) (opened : List (RunSource R)) (stills : List source.Coming) → AreOpened can number files opened → AllGive (SourceCanGive can) opened stills
+  pub opened_give : (number : ℕ) (files : List (InputFile R)) (opened : List (RunSource R)) (stills : List source.VersionsToCome) → AreOpened can number files opened → AllGive (SourceCanGive can) opened stills
       → (all : List (Order × Coming)) × AllGive (FileGives can) files all × (stills ≡ sources number all) × All IsRead all
   opened_give number [] [] [] all g = ([], tt, refl, All-nil IsRead)
   opened_give number [] [] (s ∷ stills) all g = absurd g

@@ -20,7 +20,7 @@ use Rattle.osm_mirror.specs.declared.input.InputFile.{InputFile}
 use Rattle.osm_mirror.specs.declared.input.Order.{Order}
 use Rattle.osm_mirror.specs.Given.{FileGives, sources}
 use Rattle.osm_mirror.specs.Merge as merge
-use Rattle.osm_mirror.specs.Run.{IsRun, IsRefused, Refuses}
+use Rattle.osm_mirror.specs.Run.{IsRun, IsRunRefused, RefusesRun}
 use Rattle.osm_mirror.specs.Told.{AllTell, IsFileIfTold, ToldIsGiven}
 
 module _ {R C : Type 0} (can : R → C → Type 0) where
@@ -81,15 +81,15 @@ none_begun holds set format before after same =
     subst (λ (a : _). HasBegunIn set format (holds before) (holds a)) (sym same) (record { count = 0; within = omega arith; appended = nothing_appended (holds before) })
 
 module _ {O : Type 0} (holds : O → Content) (selection : Selection) (format : Format) (before after : O) (failed : Bool) where
-  run_begun : (all : List (Order × Coming)) (fault : Fault) → IsRefused holds selection all format before after failed fault
-      → HasBegunIn (selected selection (union.union_of (sources 0 all))) format (holds before) (holds after)
-  run_begun all fault (inl (memory, same)) = none_begun holds (selected selection (union.union_of (sources 0 all))) format before after same
-  run_begun all fault (inr (inl (unread, same))) = none_begun holds (selected selection (union.union_of (sources 0 all))) format before after same
+  run_begun : (all : List (Order × Coming)) (fault : Fault) → IsRunRefused holds selection all format before after failed fault
+      → HasBegunIn (selected selection (union.union_given (sources 0 all))) format (holds before) (holds after)
+  run_begun all fault (inl (memory, same)) = none_begun holds (selected selection (union.union_given (sources 0 all))) format before after same
+  run_begun all fault (inr (inl (unread, same))) = none_begun holds (selected selection (union.union_given (sources 0 all))) format before after same
   run_begun all fault (inr (inr (read, refused))) = begun_refused selection (sources 0 all) format (length all) (holds before) (holds after) failed fault refused
 
-  pub told_run_begun : {R : Type 0} (can : R → Coming → Type 0) (inputs : List (InputFile R)) (result : Result Counts Fault) → IfErr result (λ fault. ForSome (FileGives can) inputs (λ all. Refuses holds selection all format before after failed fault))
-      → OnErr result ((all : List (Order × Coming)) → AllTell (FileGives can) inputs all → HasBegunIn (selected selection (union.union_of (sources 0 all))) format (holds before) (holds after))
+  pub told_run_begun : {R : Type 0} (can : R → Coming → Type 0) (inputs : List (InputFile R)) (result : Result Counts Fault) → IfErr result (λ fault. ForSome (FileGives can) inputs (λ all. RefusesRun holds selection all format before after failed fault))
+      → OnErr result ((all : List (Order × Coming)) → AllTell (FileGives can) inputs all → HasBegunIn (selected selection (union.union_given (sources 0 all))) format (holds before) (holds after))
   told_run_begun can inputs (Ok counts) h = tt
   told_run_begun can inputs (Err fault) h = λ all t.
-      let given = subst (λ (xs : List (Order × Coming)). Refuses holds selection xs format before after failed fault) (told_given (FileGives can) inputs all h.0 t h.1) h.2 in
+      let given = subst (λ (xs : List (Order × Coming)). RefusesRun holds selection xs format before after failed fault) (told_given (FileGives can) inputs all h.0 t h.1) h.2 in
       run_begun all fault given.why

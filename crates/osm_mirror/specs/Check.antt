@@ -6,7 +6,7 @@ use Rattle.osm_model.specs.Sets.{size}
 use Rattle.osm_files.specs.Held.{HoldsSorted}
 use Rattle.osm_files.specs.Input.{Coming}
 use Rattle.osm_files.specs.Load.{format_of}
-use Rattle.osm_merge.specs.Coming as source
+use Rattle.osm_merge.specs.ToCome as source
 use Rattle.osm_merge.specs.Pass.{same_object}
 use Rattle.osm_merge.specs.Selected.{snapshot}
 use Rattle.osm_merge.specs.Union.{capped}
@@ -38,11 +38,11 @@ begun_behind last [] = 0
 begun_behind last (v ∷ versions) = begins last v + begun_behind (Some v) versions
 
 -- a source is whole, and gives so many versions, which begin so many objects
-pub record IsCounted (still : source.Coming) (sizes : Sizes) : Type 0 where
+pub record IsCounted (still : source.VersionsToCome) (sizes : Sizes) : Type 0 where
   pub whole : still.refusal ≡ None
   pub versions : sizes.versions ≡ capped (length still.list)
   pub objects : sizes.objects ≡ capped (begun_behind None still.list)
 
 -- a source can give something of which this holds
-abbrev pub SourceGives : (source.Coming → Type 0) → (source.Coming → Type 0) → Type 0
-SourceGives can P = (still : source.Coming) × can still × P still
+abbrev pub SourceGives : (source.VersionsToCome → Type 0) → (source.VersionsToCome → Type 0) → Type 0
+SourceGives can P = (still : source.VersionsToCome) × can still × P still

@@ -11,8 +11,8 @@ use Rattle.osm_mirror.specs.Mirror.{MirrorData}
 use Rattle.osm_mirror.specs.Fleet.{Source, File, at, tracks, Converges}
 
 -- the same files are among the sources
-abbrev pub SameFiles : List Source → List Source → Type 0
-SameFiles some others = (bytes : List ℕ) → Contains some (File bytes) ↔ Contains others (File bytes)
+abbrev pub SameFilesAmong : List Source → List Source → Type 0
+SameFilesAmong some others = (bytes : List ℕ) → Contains some (File bytes) ↔ Contains others (File bytes)
 
 -- mirrors of a new fleet hold nothing
 abbrev pub AreEmpty : List MirrorData → Type 0
@@ -24,7 +24,7 @@ abbrev pub LatestMirrorsAgree : Type 0
 LatestMirrorsAgree =
     (old new : List MirrorData) (events : List Event) (replies : List Reply) → Converges old events replies new → AreEmpty old
     → (m n : ℕ) → m < length new → n < length new → (at new m).keep ≡ Latest → (at new n).keep ≡ Latest
-    → SameFiles (tracks old events replies m).reach (tracks old events replies n).reach
+    → SameFilesAmong (tracks old events replies m).reach (tracks old events replies n).reach
     → ((at new m).held ≡ (at new n).held) × ((format : Format) → spell format (at new m).held ≡ spell format (at new n).held)
 
 -- Two full mirrors of a new fleet that the same files reached, through full ones alone, hold the same after the run, and write
@@ -33,5 +33,5 @@ abbrev pub FullMirrorsAgree : Type 0
 FullMirrorsAgree =
     (old new : List MirrorData) (events : List Event) (replies : List Reply) → Converges old events replies new → AreEmpty old
     → (m n : ℕ) → m < length new → n < length new → (tracks old events replies m).pure ≡ true → (tracks old events replies n).pure ≡ true
-    → SameFiles (tracks old events replies m).reach (tracks old events replies n).reach
+    → SameFilesAmong (tracks old events replies m).reach (tracks old events replies n).reach
     → ((at new m).held ≡ (at new n).held) × ((format : Format) → spell format (at new m).held ≡ spell format (at new n).held)

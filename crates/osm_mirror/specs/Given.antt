@@ -12,7 +12,7 @@ use Rattle.osm_files.specs.Groups.{sorted_source, set_given}
 use Rattle.osm_files.specs.Position.{units_from, named}
 use Rattle.osm_files.specs.Stream.{refused}
 use Rattle.osm_files.specs.Verdict.{versions_of}
-use Rattle.osm_merge.specs.Coming as source
+use Rattle.osm_merge.specs.ToCome as source
 use Rattle.osm_mirror.specs.declared.input.InputFile.{InputFile}
 use Rattle.osm_mirror.specs.declared.input.Order.{Order}
 use Rattle.osm_mirror.specs.declared.input.Order.TheVariants.{Sorted, Any}
@@ -51,21 +51,21 @@ abbrev pub refusal : ℕ → Coming → Option Fault
 refusal number c = (named number (units_from None 0 c)).refusal
 
 -- the set of the versions that were read; nothing of a file that can't be read
-abbrev pub read_whole : Option Fault → List VersionData → source.Coming
+abbrev pub read_whole : Option Fault → List VersionData → source.VersionsToCome
 read_whole None versions = set_given (from_list {R = version_cmp} versions)
 read_whole (Some fault) versions = refused fault
 
 -- what an input gives that was read to its end first
-unfoldable pub held_source : ℕ → Coming → source.Coming
+unfoldable pub held_source : ℕ → Coming → source.VersionsToCome
 held_source number c = let units = named number (units_from None 0 c) in read_whole units.refusal (versions_of units.list)
 
 -- what an input gives, by its order: a sorted file its key groups, any other what was read to its end
-abbrev pub source_of : ℕ → Order × Coming → source.Coming
+abbrev pub source_of : ℕ → Order × Coming → source.VersionsToCome
 source_of number (Sorted, c) = sorted_source number c
 source_of number (Any, c) = held_source number c
 
 -- what the inputs give, the first of them being the input of this number
-abbrev pub sources : ℕ → List (Order × Coming) → List source.Coming
+abbrev pub sources : ℕ → List (Order × Coming) → List source.VersionsToCome
 sources number [] = []
 sources number (input ∷ inputs) = source_of number input ∷ sources (number + 1) inputs
 

@@ -12,7 +12,7 @@ use Rattle.osm_files.specs.Spell.{spell}
 use Rattle.osm_files.specs.Sink.{CutShort}
 use Rattle.osm_files.specs.Groups.{FileStand, opened_file, sorted_source}
 use Rattle.osm_merge.specs.declared.merge.Counts.{Counts}
-use Rattle.osm_merge.specs.Coming as source
+use Rattle.osm_merge.specs.ToCome as source
 use Rattle.osm_merge.specs.Union.{capped}
 use Rattle.osm_merge.specs.Merged as merged
 
@@ -36,7 +36,7 @@ pub record IsMerged (inputs : List Coming) (format : Format) (before after : Con
   pub compared_count : merged.IsBounded (length inputs) (sum_by size held) counts.compared
 
 -- what the inputs give, key group by key group, the first of them being the input of this number
-abbrev pub sources : ℕ → List Coming → List source.Coming
+abbrev pub sources : ℕ → List Coming → List source.VersionsToCome
 sources number [] = []
 sources number (input ∷ inputs) = sorted_source number input ∷ sources (number + 1) inputs
 
@@ -48,7 +48,7 @@ opened number (reader ∷ inputs) = opened_file number reader ∷ opened (number
 -- Why a merge was refused: memory was refused, the output failed, or the file would be too long, with a front of the file
 -- appended; or it is the refusal of an input, and what stands before it was written.
 abbrev pub IsRefused : List Coming → Format → Content → Content → Bool → Fault → Type 0
-IsRefused inputs format before after failed fault = merged.IsRefused (sources 0 inputs) format (length inputs) before after failed fault
+IsRefused inputs format before after failed fault = merged.RefusesSources (sources 0 inputs) format (length inputs) before after failed fault
 
 -- Of sorted files no input is refused, and a front of the one spelling of the union of the sets that they hold was
 -- appended: as many bytes as the place says, where the output failed.

@@ -57,15 +57,15 @@ IsInTurn before (Step s) = before.writes ≡ []
 IsInTurn before (Write w) = Unit {0}
 
 -- why what a line says is refused behind lines that spell these parts: its order first, then the mirrors that it names
-abbrev pub IsRefused : Parts → PlanLine → PlanReason → Type 0
-IsRefused before said BadOrder = ¬ IsInTurn before said
-IsRefused before said NoMirror = IsInTurn before said × (¬ NamesMirrors (length before.mirrors) said)
-IsRefused before said _ = ⊥
+abbrev pub IsLineRefused : Parts → PlanLine → PlanReason → Type 0
+IsLineRefused before said BadOrder = ¬ IsInTurn before said
+IsLineRefused before said NoMirror = IsInTurn before said × (¬ NamesMirrors (length before.mirrors) said)
+IsLineRefused before said _ = ⊥
 
 -- why a line is faulty behind lines that spell these parts: it says nothing, or what it says is refused
 abbrev pub LineFault : Parts → List ℕ → PlanReason → Type 0
 LineFault before line BadWord = (is_full line ≡ true) × ((said : PlanLine) → ¬ LineSays line said)
-LineFault before line reason = (said : PlanLine) × LineSays line said × IsRefused before said reason
+LineFault before line reason = (said : PlanLine) × LineSays line said × IsLineRefused before said reason
 
 -- the first faulty line of a text, and why it is faulty: the lines before it spell a plan
 pub record IsFirstFault (text : List ℕ) (fault : PlanFault) : Type 0 where

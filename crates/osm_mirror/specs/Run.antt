@@ -32,19 +32,19 @@ pub record IsRun (selection : Selection) (inputs : List (Order × Coming)) (form
 
 -- Why a run was refused: memory was refused before anything was written; or an input of any order can't be read, and nothing
 -- was written; or all of those were read, and then the merge was refused. Where nothing was written, the output is as it was.
-abbrev pub IsRefused : {O : Type 0} → (O → Content) → Selection → List (Order × Coming) → Format → O → O → Bool → Fault → Type 0
-IsRefused holds selection inputs format before after failed fault =
+abbrev pub IsRunRefused : {O : Type 0} → (O → Content) → Selection → List (Order × Coming) → Format → O → O → Bool → Fault → Type 0
+IsRunRefused holds selection inputs format before after failed fault =
     ((fault ≡ memory_fault) × (after ≡ before))
     ⊎ (IsUnread 0 inputs fault × (after ≡ before))
     ⊎ (list.All IsRead inputs × merged.IsRefusedAs selection (sources 0 inputs) format (length inputs) (holds before) (holds after) failed fault)
 
 -- Of files of the order that was asked for no input is refused, and a front of the one spelling of what is selected of the
 -- union of the sets that they hold was appended: as many bytes as the place says, where the output failed.
-abbrev pub IsCutShort : Selection → List (Order × Coming) → Format → Content → Content → Bool → Fault → Type 0
-IsCutShort selection inputs format before after failed fault =
+abbrev pub IsRunCutShort : Selection → List (Order × Coming) → Format → Content → Content → Bool → Fault → Type 0
+IsRunCutShort selection inputs format before after failed fault =
     (held : List VersionSet) → Pairwise GivesAs inputs held → CutShort (length inputs) before after failed (spell format (selected selection (union_of held))) fault
 
 -- why a run was refused, and what was written then
-pub record Refuses {O : Type 0} (holds : O → Content) (selection : Selection) (inputs : List (Order × Coming)) (format : Format) (before after : O) (failed : Bool) (fault : Fault) : Type 0 where
-  pub why : IsRefused holds selection inputs format before after failed fault
-  pub cut : IsCutShort selection inputs format (holds before) (holds after) failed fault
+pub record RefusesRun {O : Type 0} (holds : O → Content) (selection : Selection) (inputs : List (Order × Coming)) (format : Format) (before after : O) (failed : Bool) (fault : Fault) : Type 0 where
+  pub why : IsRunRefused holds selection inputs format before after failed fault
+  pub cut : IsRunCutShort selection inputs format (holds before) (holds after) failed fault

@@ -3,7 +3,7 @@ ghost use Rattle.std.specs.Prelude.{◌≡◌, ◌⊎◌, OnOk, IfOk, IfErr};
 ghost use Rattle.osm_mirror.specs.declared.plan_line.PlanLine.TheVariants as line;
 ghost use Rattle.osm_mirror.specs.declared.plan_fault.PlanReason.TheVariants as why;
 ghost use Rattle.osm_mirror.specs.PlanFault.{memory_fault};
-ghost use Rattle.osm_mirror.specs.Plan.{PlanSpells, NamesItsMirrors, SpellsNoPlan, PlanFaultOf, LinesSpell, IsFirstFault, lines_of, parts_of, IsAdded, IsLineAdded, IsRefused, LineFault};
+ghost use Rattle.osm_mirror.specs.Plan.{PlanSpells, NamesItsMirrors, SpellsNoPlan, PlanFaultOf, LinesSpell, IsFirstFault, lines_of, parts_of, IsAdded, IsLineAdded, IsLineRefused, LineFault};
 
 use crate::keep::Keep;
 use crate::plan_fault::{PlanFault, PlanReason};
@@ -88,7 +88,7 @@ impl Plan {
     /// Adds a mirror.
     fn add_mirror(&mut self, keep: Keep) -> Result<(), PlanReason>
         ensures added { OnOk result (IsAdded (parts_of self.old) (line.Mirror keep) (parts_of self.new)) }
-        ensures refused { IfErr result (λ reason. (reason ≡ why.Memory) ⊎ IsRefused (parts_of self.old) (line.Mirror keep) reason) }
+        ensures refused { IfErr result (λ reason. (reason ≡ why.Memory) ⊎ IsLineRefused (parts_of self.old) (line.Mirror keep) reason) }
     {
         if !self.steps.is_empty() || !self.writes.is_empty() {
             return Err(PlanReason::BadOrder);
@@ -99,7 +99,7 @@ impl Plan {
     /// Adds a step.
     fn add_step(&mut self, step: Step) -> Result<(), PlanReason>
         ensures added { OnOk result (IsAdded (parts_of self.old) (line.Step step) (parts_of self.new)) }
-        ensures refused { IfErr result (λ reason. (reason ≡ why.Memory) ⊎ IsRefused (parts_of self.old) (line.Step step) reason) }
+        ensures refused { IfErr result (λ reason. (reason ≡ why.Memory) ⊎ IsLineRefused (parts_of self.old) (line.Step step) reason) }
     {
         if !self.writes.is_empty() {
             return Err(PlanReason::BadOrder);
@@ -113,7 +113,7 @@ impl Plan {
     /// Adds a file that is made in the end.
     fn add_write(&mut self, write: PlanWrite) -> Result<(), PlanReason>
         ensures added { OnOk result (IsAdded (parts_of self.old) (line.Write write) (parts_of self.new)) }
-        ensures refused { IfErr result (λ reason. (reason ≡ why.Memory) ⊎ IsRefused (parts_of self.old) (line.Write write) reason) }
+        ensures refused { IfErr result (λ reason. (reason ≡ why.Memory) ⊎ IsLineRefused (parts_of self.old) (line.Write write) reason) }
     {
         if write.mirror >= self.mirrors.len() {
             return Err(PlanReason::NoMirror);

@@ -3,7 +3,7 @@ ghost use Rattle.std.specs.Prelude.{◌≡◌, false, IfOk, IfErr, OnOk};
 ghost use Rattle.osm_merge.specs.Giving.{ForSome};
 ghost use Rattle.osm_merge.specs.Merged.{Grows};
 ghost use Rattle.osm_mirror.specs.Given.{FileGives};
-ghost use Rattle.osm_mirror.specs.Run.{IsRun, Refuses};
+ghost use Rattle.osm_mirror.specs.Run.{IsRun, RefusesRun};
 
 use crate::input::{InputFile, Order};
 use crate::source::open_inputs;
@@ -34,7 +34,7 @@ pub fn run_selected<R: Input + Drop, W: Output, P: Progress>(
     ensures written { IfOk result (λ counts. ForSome (FileGives R.can_give) inputs.items (λ all.
         IsRun selection all format (W.holds out.old) (W.holds out.new) counts)) }
     ensures refused { IfErr result (λ fault. ForSome (FileGives R.can_give) inputs.items (λ all.
-        Refuses W.holds selection all format out.old out.new (W.failed out.new) fault)) }
+        RefusesRun W.holds selection all format out.old out.new (W.failed out.new) fault)) }
     ensures kept { Grows (W.holds out.old) (W.holds out.new) }
     ensures good { OnOk result (W.failed out.new ≡ false) }
 {

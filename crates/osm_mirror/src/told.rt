@@ -4,10 +4,10 @@ ghost use Rattle.std.specs.List.{All};
 ghost use Rattle.osm_files.specs.Input.{Coming};
 ghost use Rattle.osm_merge.specs.Merged.{WritesSet, HasBegun, HasBegunIn};
 ghost use Rattle.osm_merge.specs.Selected.{selected};
-ghost use Rattle.osm_merge.specs.Union.{union_of};
+ghost use Rattle.osm_merge.specs.Union.{union_given};
 ghost use Rattle.osm_mirror.specs.Given.{FileGives, GivesAs, sources};
 ghost use Rattle.osm_mirror.specs.Merge as merge;
-ghost use Rattle.osm_mirror.specs.Run.{IsRun, Refuses};
+ghost use Rattle.osm_mirror.specs.Run.{IsRun, RefusesRun};
 ghost use Rattle.osm_mirror.specs.Told.{AllTell, IsFileIfTold, ToldIsGiven};
 
 use crate::input::{InputFile, Order};
@@ -64,9 +64,9 @@ pub fn run_selected_told<R: Input + Drop, W: Output, P: Progress>(
     ensures written { IfOk result (λ counts. (all : List (Order × Coming)) → AllTell (FileGives R.can_give) inputs.items all
         → IsRun selection all format (W.holds out.old) (W.holds out.new) counts) }
     ensures refused { IfErr result (λ fault. (all : List (Order × Coming)) → AllTell (FileGives R.can_give) inputs.items all
-        → Refuses W.holds selection all format out.old out.new (W.failed out.new) fault) }
+        → RefusesRun W.holds selection all format out.old out.new (W.failed out.new) fault) }
     ensures begun { OnErr result ((all : List (Order × Coming)) → AllTell (FileGives R.can_give) inputs.items all
-        → HasBegunIn (selected selection (union_of (sources 0 all))) format (W.holds out.old) (W.holds out.new)) }
+        → HasBegunIn (selected selection (union_given (sources 0 all))) format (W.holds out.old) (W.holds out.new)) }
     // Whichever tell it.
     ensures accepted { OnOk result (All (IsFileIfTold (FileGives R.can_give) GivesAs) inputs.items) }
     ensures file { IfOk result (WritesSet format (W.holds out.old) (W.holds out.new)) }

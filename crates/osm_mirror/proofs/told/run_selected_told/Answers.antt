@@ -1,5 +1,5 @@
 use Rattle.osm_mirror.specs.Given.{FileGives, GivesAs}
-use Rattle.osm_mirror.specs.Run.{IsRun, Refuses}
+use Rattle.osm_mirror.specs.Run.{IsRun, RefusesRun}
 use Rattle.osm_mirror.proofs.ToldLaws.{told_done, told_refused, told_files, told_writes, told_run_begun, run_set}
 use Rattle.osm_mirror.proofs.told.run_selected_told.Goals as goal
 
@@ -12,7 +12,7 @@ returns-clause-written g c =
 pub returns-clause-refused : goal.returns-clause-refused
 returns-clause-refused g c =
     told_refused (FileGives g.R.Input.can_give) c.args.inputs.items
-    (λ all fault. Refuses g.W.Output.holds c.args.selection all c.args.format c.args.out.now c.run_selected.new.out (g.W.Output.failed c.run_selected.new.out) fault)
+    (λ all fault. RefusesRun g.W.Output.holds c.args.selection all c.args.format c.args.out.now c.run_selected.new.out (g.W.Output.failed c.run_selected.new.out) fault)
     c.run_selected.result c.run_selected.ensures.refused
 
 pub returns-clause-begun : goal.returns-clause-begun
