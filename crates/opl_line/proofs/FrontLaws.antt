@@ -1,5 +1,5 @@
 -- Contents that are read up to the blank that ends them.
-use Rattle.std.proofs.Common.{◌≡◌, ℕ, ℤ, ◌+◌, ◌*◌, ◌-◌, ◌^◌, ◌<◌, ◌≤◌, Bool, zero, suc, true, false, not, eqb, ◌&&◌, cond, List, [], ◌∷◌, ◌++◌, length, take, drop, get_or, arith, add-one, drop-cons, length-drop, refl, sym, ap, ◌∙◌, subst, Option, Some, None, IfSome, option_copied, Result, Ok, Err, Bor}
+use Rattle.std.proofs.Common.{◌≡◌, ℕ, ℤ, ◌+◌, ◌*◌, ◌-◌, ◌^◌, ◌<◌, ◌≤◌, Bool, zero, suc, true, false, not, eqb, ◌&&◌, cond, List, [], ◌∷◌, ◌++◌, length, take, drop, get_or, arith, add-one, drop-cons, length-drop, refl, sym, ap, ◌∙◌, subst, Option, Some, None, IfSome, MatchOption, option_copied, Result, Ok, Err, Bor}
 use Rattle.std.proofs.lemmas.Bool.{ne_eqb, eqb-true, le-leb}
 use Rattle.std.proofs.lemmas.Bool.Decides.{nat_tests}
 use Rattle.std.proofs.lemmas.List.Folds.{list_all-append}
@@ -49,6 +49,18 @@ plain_unbroken = all_weaker is_plain (λ b. not (is_end Blanks b)) byte_unbroken
 pub begun : (text content : List ℕ) (letter : ℕ) → 0 < length text → get_or text 0 0 ≡ letter → content ≡ drop 1 text → text ≡ letter ∷ content
 begun [] content letter some is rest = absurd (omega (arith, some))
 begun (b ∷ bs) content letter some is rest = (λ i. is i ∷ sym rest i)
+
+-- what was kept of a content that is read, and what is left where none was
+pub kept_front : {X B : Type 0} (copied : Option B → Option (List ℕ)) (P : X → Option (List ℕ) → Type 0) (Left : Type 0) (Kept : Option (List ℕ) → Type 0) (old new : Option X) (front : Option (X × Option B)) (result : Option (Option B)) →
+    MatchOption front (Unit {0}) (λ f. P f.0 (copied f.1)) →
+    MatchOption result ((front ≡ None) × (new ≡ old)) (λ _. Unit {0}) →
+    MatchOption front (Unit {0}) (λ f. (new ≡ Some f.0) × IfSome result (λ behind. copied behind ≡ copied f.1)) →
+    MatchOption front (result ≡ None) (λ _. Unit {0}) →
+    (new ≡ old → Left) → ((x : X) (behind : Option (List ℕ)) → new ≡ Some x → P x behind → Kept behind) →
+    MatchOption result Left (λ behind. Kept (copied behind))
+kept_front copied P Left Kept old new front None is left kept both leaves keeps = leaves left.1
+kept_front copied P Left Kept old new None (Some behind) is left kept both leaves keeps = cc
+kept_front copied P Left Kept old new (Some f) (Some behind) is left kept both leaves keeps = subst Kept (sym kept.1) (keeps f.0 (copied f.1) kept.0 is)
 
 -- a content that is read, behind its letter
 front_field : {X : Type 0} (reading : List ℕ → Result X OplReason) (with_value : X → Fields) (kind : Kind) (letter : ℕ) (text content : List ℕ) (fields : Fields) (value : X) (behind : Option (List ℕ)) →

@@ -1,5 +1,5 @@
 //! What the fields of an OPL line say.
-ghost use Rattle.std.specs.Prelude.{◌≡◌, ◌⊎◌, ◌<◌, length, slice_index, Ok, Err, IfOk, IfSome, MatchOption, MatchResult, option_copied};
+ghost use Rattle.std.specs.Prelude.{◌≡◌, ◌⊎◌, ◌<◌, length, slice_index, Ok, Err, Some, None, IfOk, IfSome, MatchOption, MatchResult, option_copied};
 ghost use Rattle.opl_line.specs.declared.cut.Cut.TheVariants.{Blanks};
 ghost use Rattle.opl_line.specs.declared.reason.OplReason.TheVariants.{Memory};
 ghost use Rattle.opl_line.specs.Cut.{is_end, split_first, pieces_of};
@@ -127,34 +127,18 @@ impl Fields {
     {
         match *text.as_bytes().first()? {
             b'v' if self.number.is_none() => {
-                let (number, behind) = front_number(behind_letter(text))?;
-                self.number = Some(number);
-                Some(behind)
+                said(&mut self.number, front_number(behind_letter(text)))
             }
             b'd' if self.deleted.is_none() => {
-                let (is_deleted, behind) = front_deleted(behind_letter(text))?;
-                self.deleted = Some(is_deleted);
-                Some(behind)
+                said(&mut self.deleted, front_deleted(behind_letter(text)))
             }
             b'c' if self.changeset.is_none() => {
-                let (changeset, behind) = front_number(behind_letter(text))?;
-                self.changeset = Some(changeset);
-                Some(behind)
+                said(&mut self.changeset, front_number(behind_letter(text)))
             }
-            b't' if self.time.is_none() => {
-                let (time, behind) = front_time(behind_letter(text))?;
-                self.time = Some(time);
-                Some(behind)
-            }
-            b'i' if self.uid.is_none() => {
-                let (uid, behind) = front_number(behind_letter(text))?;
-                self.uid = Some(uid);
-                Some(behind)
-            }
+            b't' if self.time.is_none() => said(&mut self.time, front_time(behind_letter(text))),
+            b'i' if self.uid.is_none() => said(&mut self.uid, front_number(behind_letter(text))),
             b'u' if self.user.is_none() => {
-                let (user, behind) = front_text(alloc, behind_letter(text))?;
-                self.user = Some(user);
-                Some(behind)
+                said(&mut self.user, front_text(alloc, behind_letter(text)))
             }
             b'T' if self.tags.is_none() => {
                 let (_, behind) = Cut::Blanks.split_at(behind_letter(text), 0)?;
@@ -182,14 +166,10 @@ impl Fields {
     {
         match (kind, letter) {
             (Kind::Node, b'x') if self.longitude.is_none() => {
-                let (longitude, behind) = front_place(behind_letter(text))?;
-                self.longitude = Some(longitude);
-                Some(behind)
+                said(&mut self.longitude, front_place(behind_letter(text)))
             }
             (Kind::Node, b'y') if self.latitude.is_none() => {
-                let (latitude, behind) = front_place(behind_letter(text))?;
-                self.latitude = Some(latitude);
-                Some(behind)
+                said(&mut self.latitude, front_place(behind_letter(text)))
             }
             _ => None,
         }
@@ -283,4 +263,19 @@ impl Fields {
         }
         Ok(())
     }
+}
+
+/// Keeps what a field says, where it was read, and answers what stands behind its blank; `None` where it wasn't.
+#[inline(always)]
+fn said<'a, T: Drop>(
+    kept: &mut Option<T>,
+    front: Option<(T, Option<&'a str>)>,
+) -> Option<Option<&'a str>>
+    ensures left { MatchOption result ((front.entry ≡ None) × (kept.new ≡ kept.old)) (λ _. Unit {0}) }
+    ensures kept { MatchOption front.entry (Unit {0}) (λ read. (kept.new ≡ Some read.0) × IfSome result (λ behind. option_copied behind ≡ option_copied read.1)) }
+    ensures both { MatchOption front.entry (result ≡ None) (λ _. Unit {0}) }
+{
+    let (value, behind) = front?;
+    *kept = Some(value);
+    Some(behind)
 }
