@@ -149,3 +149,6 @@ fn behind_mark(text: &[u8], letter: u8) -> Option<&[u8]>
     }
     Some(&text[2..])
 }
+
+#[cfg(test)]
+mod tests;

@@ -1,0 +1,93 @@
+//! Lines that are canonical, and lines that nearly are.
+use super::read_canonical;
+use crate::{LineReader, append_line};
+use std::alloc::Global;
+use std::process::Abort;
+use std::str;
+use std::test::Fail;
+
+/// Reads a line by a reader that keeps lines, and checks the canonical line that is written of it.
+fn check_written(
+    rt: &impl Abort,
+    alloc: Global,
+    reader: &mut LineReader,
+    line: &str,
+    canonical: &str,
+) -> Result<(), Fail> {
+    let version = reader.read(line.as_bytes())?.ok_or("skipped")?;
+    let mut out = Vec::new(alloc);
+    append_line(&mut out, &version)?;
+    assert_eq!(rt; str::from_utf8(&out)?, canonical);
+    reader.reuse(version);
+    Ok(())
+}
+
+#[test]
+fn canonical_lines_are_read_straight_on(rt: HostRuntime) -> Result<(), Fail> {
+    let alloc = rt.alloc();
+    let lines = "\
+n1 v1 dV c5 t2014-05-06T07:08:09Z i5 uanna T x8.6 y49.1
+n-3 v4294967295 dV c0 t i0 u T x-0.5 y-180
+n0 v1 dV c0 t i0 u T x0.0000001 y0
+n1 v2 dV c9 t2015-01-02T03:04:05Z i6 uK. Ta=b,natural=tree x8.6868051 y49.0000004
+n1 v3 dD c12 t2016-02-29T23:59:59Z i5 uanna T x y
+w4 v1 dV c9 t2015-01-02T03:04:06Z i6 u T=,highway=path Nn1,n-7,n7
+w4 v2 dV c0 t i0 u T N
+w-999999999999999999 v3 dD c0 t i0 u T N
+r2 v1 dV c12 t1970-01-01T00:00:01Z i0 u Ttype=route Mw4@,n7@end,r-1@x
+r2 v2 dV c0 t i0 u T M
+r2 v3 dD c0 t i0 u T M";
+    let mut reader = LineReader::keeping_lines(alloc);
+    for line in lines.lines() {
+        assert!(&rt; read_canonical(alloc, line.as_bytes()).is_some());
+        check_written(&rt, alloc, &mut reader, line, line)?;
+    }
+    Ok(())
+}
+
+#[test]
+fn other_lines_are_left(rt: HostRuntime) -> Result<(), Fail> {
+    let alloc = rt.alloc();
+    let rows = "\
+n01 v1 dV c0 t i0 u T x1 y2 => n1 v1 dV c0 t i0 u T x1 y2
+n-0 v1 dV c0 t i0 u T x1 y2 => n0 v1 dV c0 t i0 u T x1 y2
+n1 v01 dV c0 t i0 u T x1 y2 => n1 v1 dV c0 t i0 u T x1 y2
+n1 v1 c0 dV t i0 u T x1 y2 => n1 v1 dV c0 t i0 u T x1 y2
+n1 v1 dV c t i0 u T x1 y2 => n1 v1 dV c0 t i0 u T x1 y2
+n1 v1 dV c0 t i0 u T x08.5 y2 => n1 v1 dV c0 t i0 u T x8.5 y2
+n1 v1 dV c0 t i0 u T x8.50 y2 => n1 v1 dV c0 t i0 u T x8.5 y2
+n1 v1 dV c0 t i0 u T x-0 y2.0 => n1 v1 dV c0 t i0 u T x0 y2
+n1 v1 dV c0 t i0 u T y2 x1 => n1 v1 dV c0 t i0 u T x1 y2
+n1 v1 dV c0 t i0 u T x1 y2  => n1 v1 dV c0 t i0 u T x1 y2
+n1\tv1 dV c0 t i0 u T x1 y2 => n1 v1 dV c0 t i0 u T x1 y2
+n1 v1 dV c0 t i0 u Tb=1,a=2 x1 y2 => n1 v1 dV c0 t i0 u Ta=2,b=1 x1 y2
+n1 v1 dV c0 t i0 u Ta=1,a=1 x1 y2 => n1 v1 dV c0 t i0 u Ta=1 x1 y2
+n1 v1 dD c0 t i0 u Ta=1 x1 y2 => n1 v1 dD c0 t i0 u T x y
+n1 v1 dV c1 t2014-05-06T07:08:09Z i5 u%41% T x1 y2 => n1 v1 dV c1 t2014-05-06T07:08:09Z i5 uA T x1 y2
+w1 v1 dV c0 t i0 u T Nn1,n02 => w1 v1 dV c0 t i0 u T Nn1,n2
+r1 v1 dV c0 t i0 u T Mn1@a@b => r1 v1 dV c0 t i0 u T Mn1@a%40%b";
+    let mut reader = LineReader::keeping_lines(alloc);
+    for row in rows.lines() {
+        let (line, canonical) = row.split_once(" => ").ok_or("no answer")?;
+        assert!(&rt; read_canonical(alloc, line.as_bytes()).is_none());
+        check_written(&rt, alloc, &mut reader, line, canonical)?;
+    }
+    Ok(())
+}
+
+#[test]
+fn faulty_lines_are_left(rt: HostRuntime) {
+    let lines = "\
+n1 v0 dV c0 t i0 u T x1 y2
+n1 v1 dV c5 t i0 u T x1 y2
+n1 v4294967296 dV c0 t i0 u T x1 y2
+n1 v1 dV c0 t2014-02-30T07:08:09Z i5 u T x1 y2
+n1 v1 dV c0 t i0 u T x214.7483648 y2
+n1 v1 dV c0 t i0 u T x y
+n1 v1 dV c0 t i0 u T x1 y2 Nn1
+w1 v1 dV c0 t i0 u T Nn1,
+q1 v1 dV c0 t i0 u T x1 y2";
+    for line in lines.lines() {
+        assert!(&rt; read_canonical(rt.alloc(), line.as_bytes()).is_none());
+    }
+}
