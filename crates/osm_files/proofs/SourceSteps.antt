@@ -5,9 +5,10 @@ use Rattle.std.specs.Ordering.{is_lt, is_gt}
 use Rattle.osm_model.specs.Data.{VersionData}
 use Rattle.osm_model.specs.Order.{key_cmp}
 use Rattle.osm_files.specs.declared.fault.Fault.{Fault}
+use Rattle.osm_files.specs.declared.group.Group.{Group}
 use Rattle.osm_files.specs.declared.reason.Reason.TheVariants.{Unsorted}
 use Rattle.osm_files.specs.Fault.{memory_fault, fault_at}
-use Rattle.osm_files.specs.Groups.{ascending, gathered, gathered_at, FileStand, standing, FileSteps, IsOpenSource, Gathers, Refuses, BeginsOn, GathersOn, RefusesOn}
+use Rattle.osm_files.specs.Groups.{ascending, list_of, gathered, gathered_at, FileStand, standing, FileSteps, IsOpenSource, Gathers, Refuses, BeginsOn, GathersOn, RefusesOn}
 use Rattle.osm_files.specs.Input.{Coming}
 use Rattle.osm_files.specs.Position.{Position, Told, telling, Between, still_to_come, Keeps}
 use Rattle.osm_files.specs.Source.{Ascends, Step, StepsOn}
@@ -62,23 +63,23 @@ module _ {R : Type 0} (can : R → Coming → Type 0) where
       (subst (λ (xs : List VersionData). FileSteps can (standing s.units s.group []) (Ok None) (standing t.units [] xs)) (sym none) begins))
 
   -- a group was read, and the version behind it
-  module _ (p : Position R) (begun : List VersionData) (q : Position R) (first : VersionData) (others : List VersionData) (next : Option VersionData) (gathers : GathersOn can p begun q first others next) where
-    pub gathered_memory : (fault : Fault) (r : Position R) (ready : List VersionData) → fault ≡ memory_fault → r ≡ record q { failed = true } → ready ≡ [] → FileSteps can (standing p (first ∷ begun) []) (Err fault) (standing r (option_to_list next) ready)
+  module _ (p : Position R) (begun : Group) (q : Position R) (group : Group) (next : Option VersionData) (gathers : GathersOn can p begun q group next) where
+    pub gathered_memory : (fault : Fault) (r : Position R) (ready : List VersionData) → fault ≡ memory_fault → r ≡ record q { failed = true } → ready ≡ [] → FileSteps can (standing p (list_of begun) []) (Err fault) (standing r (option_to_list next) ready)
     gathered_memory fault r ready is failed none later k =
         let y = gathers later (subst (λ c. can c later) (ap (λ v. v.coming) failed) k) in (
           y.0,
           y.1,
-          refused_at p.input (gathered p.input (still_to_come (telling p y.0)) (first ∷ begun) []) (telling r later) (option_to_list next) ready fault none
+          refused_at p.input (gathered p.input (still_to_come (telling p y.0)) (list_of begun) []) (telling r later) (option_to_list next) ready fault none
               (inl is, (q.input, ap (λ (v : Position R). still_to_come (telling v later)) failed)),
         )
 
-    gives : (before after : Option (Still Placed Fault)) (o : Option VersionData) (ready : List VersionData) → ascending (first ∷ others) ≡ option_to_list o ++ ready → is_some o ≡ true → Gathers p.input before begun after first others next
-        → Step (gathered p.input before (first ∷ begun) []) (Ok o) (gathered p.input after (option_to_list next) ready)
+    gives : (before after : Option (Still Placed Fault)) (o : Option VersionData) (ready : List VersionData) → ascending (begun.first ∷ group.others.items) ≡ option_to_list o ++ ready → is_some o ≡ true → Gathers p.input before begun.others.items after begun.first group.others.items next
+        → Step (gathered p.input before (list_of begun) []) (Ok o) (gathered p.input after (option_to_list next) ready)
     gives before after None ready e some h = absurd (false≢true some)
-    gives before after (Some v) ready e some h = gives_first p.input before begun after first others next v ready h e
+    gives before after (Some v) ready e some h = gives_first p.input before begun.others.items after begun.first group.others.items next v ready h e
 
-    module _ (given : Option VersionData) (ready : List VersionData) (all : ascending (first ∷ others) ≡ option_to_list given ++ ready) where
-      pub gathered_given : is_some given ≡ true → FileSteps can (standing p (first ∷ begun) []) (Ok given) (standing q (option_to_list next) ready)
+    module _ (given : Option VersionData) (ready : List VersionData) (all : ascending (begun.first ∷ group.others.items) ≡ option_to_list given ++ ready) where
+      pub gathered_given : is_some given ≡ true → FileSteps can (standing p (list_of begun) []) (Ok given) (standing q (option_to_list next) ready)
       gathered_given some later k =
           let y = gathers later k in
           (y.0, y.1, gives (still_to_come (telling p y.0)) (still_to_come (telling q later)) given ready all some y.2)
@@ -87,8 +88,8 @@ module _ {R : Type 0} (can : R → Coming → Type 0) where
       gathered_open number fine = (
         λ later k.
             let y = gathers later k in
-            let up = gathers_rise p.input (still_to_come (telling p y.0)) begun (still_to_come (telling q later)) first others next y.2 in
-            let at_q = subst (λ (i : ℕ). IfSome (gathered i (still_to_come (telling q later)) (option_to_list next) (ascending (first ∷ others))) Ascends) (sym number) up in
+            let up = gathers_rise p.input (still_to_come (telling p y.0)) begun.others.items (still_to_come (telling q later)) begun.first group.others.items next y.2 in
+            let at_q = subst (λ (i : ℕ). IfSome (gathered i (still_to_come (telling q later)) (option_to_list next) (ascending (begun.first ∷ group.others.items))) Ascends) (sym number) up in
             rest_rises q.input (still_to_come (telling q later)) (option_to_list next) given ready (subst (λ (xs : List VersionData). IfSome (gathered q.input (still_to_come (telling q later)) (option_to_list next) xs) Ascends) all at_q),
         λ failed. absurd (false≢true (sym fine ∙ failed)),
       )

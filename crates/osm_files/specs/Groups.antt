@@ -10,6 +10,7 @@ use Rattle.osm_model.specs.Sets.{listed, from_list}
 use Rattle.osm_model.specs.VersionSet.{VersionSet}
 use Rattle.osm_model.proofs.SetLaws.{strict-listed}
 use Rattle.osm_files.specs.declared.fault.Fault.{Fault}
+use Rattle.osm_files.specs.declared.group.Group.{Group}
 use Rattle.osm_files.specs.declared.reason.Reason.TheVariants.{Unsorted}
 use Rattle.osm_files.specs.Fault.{memory_fault, failed_fault}
 use Rattle.osm_files.specs.Input.{Coming, whole as all_of, preceded_by, Explained}
@@ -177,6 +178,10 @@ given_set_ascends versions still is = subst Ascends (sym is) (set_ascends versio
 abbrev pub IsGroup : VersionData → List VersionData → Type 0
 IsGroup first others = AllByRecursion (λ v. key_cmp first v ≡ Equal) others
 
+-- the versions of a group, as far as they were read
+abbrev pub list_of : Group → List VersionData
+list_of group = group.first ∷ group.others.items
+
 -- The rest of a group was read, of which some versions had begun it, and the version behind it, which has a key above, or
 -- there is none.
 pub record Gathers (input : ℕ) (before : Option (Still Placed Fault)) (begun : List VersionData) (after : Option (Still Placed Fault)) (first : VersionData) (others : List VersionData) (next : Option VersionData) : Type 0 where
@@ -201,8 +206,8 @@ module _ {R : Type 0} (can : R → Coming → Type 0) (p : Position R) where
   abbrev pub BeginsOn : List VersionData → Result (Option VersionData) Fault → Position R → Type 0
   BeginsOn pending result q = Between can p q (λ a b. Begins p.input (still_to_come a) pending result (still_to_come b))
 
-  abbrev pub GathersOn : List VersionData → Position R → VersionData → List VersionData → Option VersionData → Type 0
-  GathersOn begun q first others next = Between can p q (λ a b. Gathers p.input (still_to_come a) begun (still_to_come b) first others next)
+  abbrev pub GathersOn : Group → Position R → Group → Option VersionData → Type 0
+  GathersOn begun q group next = Between can p q (λ a b. Gathers p.input (still_to_come a) begun.others.items (still_to_come b) begun.first group.others.items next)
 
   abbrev pub RefusesOn : List VersionData → Fault → Position R → Type 0
   RefusesOn group fault q = Between can p q (λ a b. Refuses (gathered p.input (still_to_come a) group []) fault (still_to_come b))

@@ -3,6 +3,7 @@
 
 mod fault;
 mod format;
+mod group;
 mod history_source;
 mod input;
 pub mod laws;

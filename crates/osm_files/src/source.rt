@@ -9,16 +9,17 @@ ghost use Rattle.osm_files.specs.Input.{GivesOne};
 ghost use Rattle.osm_files.specs.Stream.{Still};
 ghost use Rattle.osm_files.specs.Source.{Ascends, Steps};
 ghost use Rattle.osm_files.specs.Position.{units_left};
-ghost use Rattle.osm_files.specs.Groups.{ascending, opened_file, begun, left_at, IsGroup, BeginsOn, GathersOn, RefusesOn};
+ghost use Rattle.osm_files.specs.Groups.{opened_file, begun, left_at, IsGroup, BeginsOn};
 ghost use Rattle.osm_files.specs.Groups.{FileSteps, FileCanGive, given_at, known_or_whole, one_given, file_ascends};
 ghost use Rattle.osm_files.specs.Load.{Opens, StopsOpening};
 
 use crate::fault::Fault;
 use crate::format::Format;
+use crate::group::Group;
 use crate::input::Input;
 use crate::reading::Reading;
 use crate::reason::Reason;
-use osm_model::{Memory, Version};
+use osm_model::Version;
 use std::alloc::Global;
 use std::marker::Model;
 use std::vec::IntoIter;
@@ -168,15 +169,15 @@ impl<R: Input> FileSource<R> {
         ensures number { self.new.units.input ≡ self.old.units.input }
         ensures fewer { IfOk result (λ given. IsSome given → left_at self.new < left_at (begun self.old (first ∷ second ∷ []))) }
     {
-        let mut others = Vec::new(self.alloc);
-        if let Err(_) = others.push(second) {
-            return Err(self.units.refuse(0, Reason::Memory));
-        }
-        match gather(&mut self.units, &first, &mut others) {
+        let mut group = match Group::of_two(self.alloc, first, second) {
+            Err(_) => return Err(self.units.refuse(0, Reason::Memory)),
+            Ok(group) => group,
+        };
+        match group.gather(&mut self.units) {
             Err(fault) => return Err(fault),
             Ok(next) => self.pending = next,
         }
-        match ascending(first, others) {
+        match group.into_ascending() {
             Err(_) => Err(self.units.refuse(0, Reason::Memory)),
             Ok(versions) => {
                 self.ready = versions;
@@ -260,51 +261,6 @@ fn begin_next<R: Input>(units: &mut Reading<R>) -> Result<Option<Version>, Fault
         Ok(None) => Ok(None),
         Ok(Some(unit)) => Ok(Some(unit.version)),
     }
-}
-
-/// Reads the others of a group, behind those that were read, and the version behind it, which has a key above; none at the
-/// end.
-fn gather<R: Input>(
-    units: &mut Reading<R>,
-    first: &Version,
-    others: &mut Vec<Version>,
-) -> Result<Option<Version>, Fault>
-    requires group { IsGroup first.now others.old.items }
-    ensures number { units.new.input ≡ units.old.input }
-    ensures failed { units.new.failed ≡ is_err result }
-    ensures gathers { IfOk result (λ next. GathersOn R.can_give units.old others.old.items units.new first.now others.new.items next) }
-    ensures refuses { IfErr result (λ fault. RefusesOn R.can_give units.old (first.now ∷ others.old.items) fault units.new) }
-    ensures left { IfOk result (λ next.
-        units_left units.new + (length (option_to_list next) + length others.new.items) ≤ units_left units.old + length others.old.items) }
-{
-    'units: loop {
-        let unit = match units.next() {
-            Err(fault) => return Err(fault),
-            Ok(None) => return Ok(None),
-            Ok(Some(unit)) => unit,
-        };
-        let order = first.key_cmp(&unit.version);
-        if order.is_lt() {
-            return Ok(Some(unit.version));
-        }
-        if order.is_gt() {
-            return Err(units.refuse(unit.place, Reason::Unsorted));
-        }
-        if let Err(_) = others.push(unit.version) {
-            return Err(units.refuse(unit.place, Reason::Memory));
-        }
-    }
-}
-
-/// The versions of a group, ascending, each once.
-fn ascending(first: Version, mut others: Vec<Version>) -> Result<IntoIter<Version>, Memory>
-    ensures given { IfOk result (λ versions. into_iter_items versions ≡ ascending (first ∷ others.items)) }
-    ensures fewer { IfOk result (λ versions. length (into_iter_items versions) ≤ length others.items + 1) }
-{
-    others.push(first)?;
-    others.sort_unstable();
-    others.dedup();
-    Ok(others.into_iter())
 }
 
 #[cfg(test)]
