@@ -50,7 +50,8 @@ impl Group {
         ensures gathers { IfOk result (λ next. GathersOn R.can_give units.old self.old units.new self.new next) }
         ensures refuses { IfErr result (λ fault. RefusesOn R.can_give units.old (list_of self.old) fault units.new) }
         ensures left { IfOk result (λ next.
-            units_left units.new + (length (option_to_list next) + length (list_of self.new)) ≤ units_left units.old + length (list_of self.old)) }
+            units_left units.new + (length (option_to_list next) + length (list_of self.new))
+            ≤ units_left units.old + length (list_of self.old)) }
     {
         'units: loop {
             let unit = match units.next() {

@@ -84,14 +84,12 @@ fn gathered(versions: Vec<Version>, format: Format, sorted: bool) -> Result<Load
         loaded ≡ record { history = from_list {R = version_cmp} versions.items; format = format; sorted = sorted }) }
     ensures memory { IfErr result (λ fault. fault ≡ memory_fault) }
 {
-    match History::from_versions(versions) {
-        Ok(history) => Ok(Loaded {
-            history,
-            format,
-            sorted,
-        }),
-        Err(memory) => Err(Fault::from(memory)),
-    }
+    let history = History::from_versions(versions)?;
+    Ok(Loaded {
+        history,
+        format,
+        sorted,
+    })
 }
 
 #[cfg(test)]

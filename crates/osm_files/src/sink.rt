@@ -227,13 +227,9 @@ fn send<W: Output>(out: &mut W, number: usize, written: &mut u64, bytes: &[u8]) 
     ensures memory { result ≢ Err memory_fault }
     ensures untouched { result ≡ Err (too_long_fault number) → out.new ≡ out.old }
 {
-    match write_all(out, number, *written, bytes) {
-        Ok(()) => {
-            *written += bytes.len() as u64;
-            Ok(())
-        }
-        Err(fault) => Err(fault),
-    }
+    write_all(out, number, *written, bytes)?;
+    *written += bytes.len() as u64;
+    Ok(())
 }
 
 /// Writes the mark of the end, if the format has one, and flushes the output.

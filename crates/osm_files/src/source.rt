@@ -103,7 +103,7 @@ impl<R: Input> FileSource<R> {
     {
         Ok(FileSource {
             alloc,
-            units: Reading::new(alloc, input, reader),
+            units: Reading::keeping_lines(alloc, input, reader),
             pending: None,
             ready: Vec::new(alloc).into_iter(),
         })

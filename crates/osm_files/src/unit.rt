@@ -170,10 +170,7 @@ fn read_content(
     let Some(kind) = kind_of_type(type_byte) else {
         return Ok(None);
     };
-    match decoder.read_set(kind, content) {
-        Ok(version) => Ok(Some(version)),
-        Err(reason) => Err(Reason::from(reason)),
-    }
+    Ok(Some(decoder.read_set(kind, content)?))
 }
 
 /// The data set of this type at the front of the bytes, behind its type byte, if all its bytes are there.
@@ -242,13 +239,14 @@ fn read_behind(bytes: &[u8]) -> Result<Option<ReadUnit>, Reason>
 }
 
 impl Stage {
-    /// Where the reading of a file with these bytes begins.
-    pub(crate) fn of(alloc: Global, bytes: &[u8]) -> Stage
+    /// Where the reading of a file with these bytes begins, whose versions keep their canonical lines or not.
+    pub(crate) fn of(alloc: Global, keeps_lines: bool, bytes: &[u8]) -> Stage
         ensures place { stand_of result ≡ spec.start_of bytes.now }
         ensures good { IsGood result }
     {
         match bytes.first() {
             Some(byte) if *byte == RESET => Stage::Header,
+            _ if keeps_lines => Stage::Lines(LineReader::keeping_lines(alloc)),
             _ => Stage::Lines(LineReader::new(alloc)),
         }
     }
@@ -311,17 +309,11 @@ impl Stage {
         ensures good { IfOk result (λ unit. unit ≡ None ⊎ IsGood self.new) }
         ensures unmoved { result ≡ Ok None → self.new ≡ self.old }
     {
-        match read_header(bytes) {
-            Ok(Some(unit)) => match Decoder::new(alloc) {
-                Ok(decoder) => {
-                    *self = Stage::DataSets(decoder);
-                    Ok(Some(unit))
-                }
-                Err(memory) => Err(Reason::from(memory)),
-            },
-            Ok(None) => Ok(None),
-            Err(reason) => Err(reason),
-        }
+        let Some(unit) = read_header(bytes)? else {
+            return Ok(None);
+        };
+        *self = Stage::DataSets(Decoder::new(alloc)?);
+        Ok(Some(unit))
     }
 }
 
@@ -339,10 +331,7 @@ fn ends_at(bytes: &[u8]) -> bool
 fn read_last_line(alloc: Global, bytes: &[u8]) -> Result<Option<Version>, Reason>
     ensures { FindsLast (spec.line_found (reading_line bytes.now)) result }
 {
-    match read_line(alloc, bytes) {
-        Ok(version) => Ok(version),
-        Err(reason) => Err(Reason::from(reason)),
-    }
+    Ok(read_line(alloc, bytes)?)
 }
 
 /// Why a file is no whole one that ends with these bytes, among its data sets.
