@@ -6,7 +6,6 @@ ghost use Rattle.opl_line.specs.Reading.{is_skipped};
 ghost use Rattle.opl_line.specs.Spells.{Spells};
 
 use opl_line::{OplReason, read_line, write_line};
-use osm_model::Memory;
 use std::alloc::Global;
 
 /// The canonical line of the version that a line spells, or `None` for a line that is skipped.
@@ -22,8 +21,5 @@ pub fn canonical(alloc: Global, text: &[u8]) -> Result<Option<Vec<u8>>, OplReaso
     let Some(version) = read_line(alloc, text)? else {
         return Ok(None);
     };
-    match write_line(alloc, &version) {
-        Ok(bytes) => Ok(Some(bytes)),
-        Err(Memory) => Err(OplReason::Memory),
-    }
+    Ok(Some(write_line(alloc, &version)?))
 }

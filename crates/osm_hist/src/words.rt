@@ -53,7 +53,7 @@ where
     E: Write + IsTerminal,
 {
     match Request::parse(rt.alloc(), words)? {
-        Request::Files(run) => running::run_files(rt, &run, input, out, err),
+        Request::Files(run) => running::run_files(rt, run, input, out, err),
         Request::Check(check) => checking::check_file(rt, &check, input, out),
         Request::Plan(run) => planning::run_plan(rt, &run, out),
         Request::Help(text) => print(out, &text),

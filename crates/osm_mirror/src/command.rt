@@ -163,13 +163,11 @@ fn run_held<R: Input + Drop, W: Output>(
     ensures good { OnOk result (W.failed out.new ≡ false) }
 {
     let files = of_any_order(alloc, inputs)?;
-    match run_selected(alloc, selection, files, format, out, &mut Silent) {
-        Ok(counts) => Ok(Counts {
-            compared: 0,
-            ..counts
-        }),
-        Err(fault) => Err(fault),
-    }
+    let counts = run_selected(alloc, selection, files, format, out, &mut Silent)?;
+    Ok(Counts {
+        compared: 0,
+        ..counts
+    })
 }
 
 /// The readers as files whose versions stand in any order.

@@ -141,10 +141,7 @@ impl Fleet {
             (λ _. self.new ≡ slice_set self.old to (took (at self.old to) (at self.old from).held))
             (λ _. self.new ≡ self.old) }
     {
-        let file = match self.mirrors[from].write(format) {
-            Ok(file) => file,
-            Err(fault) => return Err(fault),
-        };
+        let file = self.mirrors[from].write(format)?;
         self.take(to, &file)
     }
 
@@ -159,14 +156,9 @@ impl Fleet {
             (λ _. self.new ≡ self.old) }
     {
         let old = &self.mirrors[mirror];
-        let file = match old.write(format) {
-            Ok(file) => file,
-            Err(fault) => return Err(fault),
-        };
+        let file = old.write(format)?;
         let mut new = old.new_like();
-        if let Err(fault) = new.take(&file) {
-            return Err(fault);
-        }
+        new.take(&file)?;
         self.mirrors[mirror] = new;
         Ok(())
     }

@@ -108,10 +108,7 @@ impl Mirror {
         ensures refused { IfErr result (spec.WhyNotTaken file.now) }
         ensures unchanged { OnErr result (self.new ≡ self.old) }
     {
-        let loaded = match load_any(self.alloc, 0, SliceIn::new(file)) {
-            Ok(loaded) => loaded,
-            Err(fault) => return Err(fault),
-        };
+        let loaded = load_any(self.alloc, 0, SliceIn::new(file))?;
         let versions = loaded.history.len() as u64;
         self.absorb(loaded.history)?;
         Ok(Taken { versions })

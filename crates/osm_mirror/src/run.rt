@@ -39,10 +39,7 @@ pub fn run_selected<R: Input + Drop, W: Output, P: Progress>(
     ensures good { OnOk result (W.failed out.new ≡ false) }
 {
     let output = inputs.len();
-    let sources = match open_inputs(alloc, inputs) {
-        Ok(sources) => sources,
-        Err(fault) => return Err(fault),
-    };
+    let sources = open_inputs(alloc, inputs)?;
     let mut sink = Sink::new(alloc, format, output)?;
     merge_selected(alloc, selection, sources, &mut sink, out, progress)
 }

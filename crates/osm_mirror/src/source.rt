@@ -94,10 +94,8 @@ fn stream<R: Input + Drop>(alloc: Global, number: usize, reader: R) -> Result<Ru
     ensures opened { IfOk result (λ source. IsOpened R.can_give number (in_order Order.Sorted reader) source) }
     ensures memory { IfErr result (λ fault. fault ≡ memory_fault) }
 {
-    match FileSource::new(alloc, number, reader) {
-        Ok(source) => Ok(RunSource::Streamed(source)),
-        Err(fault) => Err(fault),
-    }
+    let source = FileSource::new(alloc, number, reader)?;
+    Ok(RunSource::Streamed(source))
 }
 
 /// A file of any order as a source. It is read to its end.
@@ -106,8 +104,6 @@ fn load<R: Input + Drop>(alloc: Global, number: usize, reader: R) -> Result<RunS
     ensures refused { IfErr result (λ fault. FileGivesOne R.can_give (in_order Order.Any reader) (λ input.
         IsUnopened number (input ∷ []) fault)) }
 {
-    match load_any(alloc, number, reader) {
-        Ok(loaded) => Ok(RunSource::Held(HistorySource::new(loaded.history))),
-        Err(fault) => Err(fault),
-    }
+    let loaded = load_any(alloc, number, reader)?;
+    Ok(RunSource::Held(HistorySource::new(loaded.history)))
 }

@@ -3,13 +3,15 @@ use Rattle.osm_merge.specs.Selected.{selected}
 use Rattle.osm_mirror.proofs.CommandLaws.{held_written, held_refused, not_begun}
 use Rattle.osm_mirror.proofs.command.run_held.Goals as goal
 
-pub returns-in-Ok-clause-written : goal.returns-in-Ok-clause-written
-returns-in-Ok-clause-written g c =
-    held_written g.R.Input.can_give g.W.Output.holds c.args.selection c.args.format c.args.out.now c.run_selected.new.out c.args.inputs.items c.in_ok-files.files.items c.in_ok-files.ensures.files c.in-Ok.counts c.in-Ok.ensures.written
+pub returns-clause-written : goal.returns-clause-written
+returns-clause-written g c =
+    held_written g.R.Input.can_give g.W.Output.holds c.args.selection c.args.format c.args.out.now c.run_selected.new.out c.args.inputs.items c.in_ok-files.files.items c.in_ok-files.ensures.files c.in_ok-counts.counts c.in_ok-counts.ensures.written
 
-pub returns-in-Err-clause-refused : goal.returns-in-Err-clause-refused
-returns-in-Err-clause-refused g c =
-    held_refused g.R.Input.can_give g.W.Output.holds c.args.selection c.args.format c.args.out.now c.run_selected.new.out c.args.inputs.items c.in_ok-files.files.items c.in_ok-files.ensures.files (g.W.Output.failed c.run_selected.new.out) c.in-Err.fault c.in-Err.ensures.refused
+pub returns-in_err-counts-clause-refused : goal.returns-in_err-counts-clause-refused
+returns-in_err-counts-clause-refused g c =
+    let p = err_from_is_err_and c.from_residual-in_err-counts.result c.from_residual-in_err-counts.ensures.1 in
+    rw (p.1, p.2)
+    (held_refused g.R.Input.can_give g.W.Output.holds c.args.selection c.args.format c.args.out.now c.run_selected.new.out c.args.inputs.items c.in_ok-files.files.items c.in_ok-files.ensures.files (g.W.Output.failed c.run_selected.new.out) c.in_err-counts.field-0.0 c.in_err-counts.ensures.refused)
 
 pub returns-in_err-files-clause-refused : goal.returns-in_err-files-clause-refused
 returns-in_err-files-clause-refused g c =
