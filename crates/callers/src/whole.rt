@@ -1,7 +1,7 @@
 //! A caller of osm_mirror.
 ghost use Rattle.std.specs.Prelude.{◌≡◌, List, map, IfOk};
 ghost use Rattle.osm_model.specs.VersionSet.{VersionSet};
-ghost use Rattle.opl_line.specs.Content.{Pairwise};
+ghost use Rattle.osm_model.specs.Pairwise.{Pairwise};
 ghost use Rattle.osm_files.specs.Held.{HoldsSorted};
 ghost use Rattle.osm_files.specs.Spell.{spell};
 ghost use Rattle.osm_files.specs.declared.format.Format.TheVariants as format;

@@ -11,6 +11,7 @@ use Rattle.osm_model.specs.declared.kind.Kind.TheVariants as kind
 use Rattle.osm_model.specs.declared.tags.Tag.{Tag}
 use Rattle.osm_model.specs.declared.members.Member.{Member}
 use Rattle.osm_model.specs.Kind.{kind_letter}
+use Rattle.osm_model.specs.Pairwise.{Pairwise}
 use Rattle.opl_line.specs.declared.cut.Cut.TheVariants.{Percents, Commas, Equals, Ats}
 use Rattle.opl_line.specs.declared.reason.OplReason.{OplReason}
 use Rattle.opl_line.specs.declared.reason.OplReason.TheVariants.{BadText, BadList}
@@ -18,8 +19,8 @@ use Rattle.opl_line.specs.Answer.{and_then, as_value, with_reason}
 use Rattle.opl_line.specs.Number.{reading_id}
 use Rattle.opl_line.specs.Item.{reading_items, reading_list, tag_of_pieces, reading_tag, item_reason, reading_item_id, reading_reference, kind_of_letter, reading_named, reading_object_name, member_of_parts, reading_member}
 use Rattle.opl_line.specs.Cut.{is_end, split_first, begun_with, cut, pieces_of}
-use Rattle.opl_line.specs.Text.{is_raw, is_hex_digit, hex_value, is_hex, scalar_of, with_escape, text_from, text_of_pieces, text_of, reading_text}
-use Rattle.opl_line.specs.Content.{SpellsText, raw, escaped, SpellsCharacters, SpellsTag, SpellsReference, SpellsObject, SpellsMember, Pairwise, SpellsList}
+use Rattle.opl_line.specs.Text.{stands_for_itself, is_hex_digit, hex_value, is_hex, scalar_of, with_escape, text_from, text_of_pieces, text_of, reading_text}
+use Rattle.opl_line.specs.Content.{SpellsText, raw, escaped, SpellsCharacters, SpellsTag, SpellsReference, SpellsObject, SpellsMember, SpellsList}
 use Rattle.opl_line.proofs.AnswerLaws.{both, became, same_success}
 use Rattle.opl_line.proofs.CutLaws.{cut_split, split_front, split_never}
 use Rattle.opl_line.proofs.TextLaws.{one_escape}
@@ -30,7 +31,7 @@ all_weaker p q h (x ∷ xs) all =
     let parts = and_parts (p x) (list_all p xs) all in
     ap (λ t. t && list_all q xs) (h x parts.0) ∙ all_weaker p q h xs parts.1
 
-pub raw_no_percent : (b : ℕ) → is_raw b ≡ true → not (eqb b 37) ≡ true
+pub raw_no_percent : (b : ℕ) → stands_for_itself b ≡ true → not (eqb b 37) ≡ true
 raw_no_percent b e = grind (arith, nat_tests)
 
 hex_no_percent : (b : ℕ) → is_hex_digit b ≡ true → not (eqb b 37) ≡ true
@@ -53,23 +54,23 @@ from_behind start done (escape ∷ []) = refl
 from_behind start done (escape ∷ piece ∷ more) =
     elim (scalar_of escape) as (λ s. option_and_then (λ text. text_from text more) (with_escape (start ++ done) piece s) ≡ option_map (λ t. start ++ t) (option_and_then (λ text. text_from text more) (with_escape done piece s))) [
       | None ↦ refl
-      | Some c ↦ elim (list_all is_raw piece) as (λ b. option_and_then (λ text. text_from text more) (cond b (Some (start ++ done ++ encode c ++ piece)) None) ≡ option_map (λ t. start ++ t) (option_and_then (λ text. text_from text more) (cond b (Some (done ++ encode c ++ piece)) None))) [
+      | Some c ↦ elim (list_all stands_for_itself piece) as (λ b. option_and_then (λ text. text_from text more) (cond b (Some (start ++ done ++ encode c ++ piece)) None) ≡ option_map (λ t. start ++ t) (option_and_then (λ text. text_from text more) (cond b (Some (done ++ encode c ++ piece)) None))) [
         | true ↦ ap (λ t. text_from t more) (ap (λ t. t ++ piece) (append_assoc start done (encode c)) ∙ append_assoc start (done ++ encode c) piece) ∙ from_behind start (done ++ encode c ++ piece) more
         | false ↦ refl
       ]
     ]
 
 -- ---- what is spelled is read
-text_complete_behind : (front digits rest text : List ℕ) (c : ℕ) → list_all is_raw front ≡ true → scalar_of digits ≡ Some c → text_of rest ≡ Some text → text_of (front ++ 37 ∷ (digits ++ 37 ∷ rest)) ≡ Some (front ++ (encode c ++ text))
+text_complete_behind : (front digits rest text : List ℕ) (c : ℕ) → list_all stands_for_itself front ≡ true → scalar_of digits ≡ Some c → text_of rest ≡ Some text → text_of (front ++ 37 ∷ (digits ++ 37 ∷ rest)) ≡ Some (front ++ (encode c ++ text))
 text_complete_behind front digits rest text c all some read =
     let percent = is_end Percents in
-    let at = split_front percent front (digits ++ 37 ∷ rest) 37 (all_weaker is_raw (λ b. not (eqb b 37)) raw_no_percent front all) refl in
+    let at = split_front percent front (digits ++ 37 ∷ rest) 37 (all_weaker stands_for_itself (λ b. not (eqb b 37)) raw_no_percent front all) refl in
     let escape = split_front percent digits rest 37 (all_weaker is_hex_digit (λ b. not (eqb b 37)) hex_no_percent digits (scalar_digits digits c some)) refl in
     let parts = split_first percent rest in
     let pieces : cut percent (digits ++ 37 ∷ rest) ≡ digits ∷ cut percent rest = cut_split percent (digits ++ 37 ∷ rest) ∙ ap (λ s. s.0 ∷ pieces_of percent s.1) escape in
     ap text_of_pieces at
     ∙ ap (λ t. cond t (text_from front (cut percent (digits ++ 37 ∷ rest))) None) all
-    ∙ (elim (list_all is_raw parts.0) as (λ b. list_all is_raw parts.0 ≡ b → cond b (text_from parts.0 (pieces_of percent parts.1)) None ≡ Some text → text_from front (cut percent (digits ++ 37 ∷ rest)) ≡ Some (front ++ (encode c ++ text))) [
+    ∙ (elim (list_all stands_for_itself parts.0) as (λ b. list_all stands_for_itself parts.0 ≡ b → cond b (text_from parts.0 (pieces_of percent parts.1)) None ≡ Some text → text_from front (cut percent (digits ++ 37 ∷ rest)) ≡ Some (front ++ (encode c ++ text))) [
       | true ↦ λ is e.
           one_escape front digits parts.0 c _ _ _ pieces (cut_split percent rest) some is
           ∙ from_behind (front ++ encode c) parts.0 (pieces_of percent parts.1)
@@ -81,7 +82,7 @@ text_complete_behind front digits rest text c all some read =
 text_complete : (bytes out : List ℕ) → SpellsText bytes out → text_of bytes ≡ Some out
 unfolding text_from
 text_complete bytes out (raw text all) =
-    ap text_of_pieces (split_never (is_end Percents) text (all_weaker is_raw (λ b. not (eqb b 37)) raw_no_percent text all)) ∙ ap (λ t. cond t (Some text) None) all
+    ap text_of_pieces (split_never (is_end Percents) text (all_weaker stands_for_itself (λ b. not (eqb b 37)) raw_no_percent text all)) ∙ ap (λ t. cond t (Some text) None) all
 text_complete bytes out (escaped front digits rest text c all some spelled) = text_complete_behind front digits rest text c all some (text_complete rest text spelled)
 
 -- ---- what is read is spelled
@@ -115,7 +116,7 @@ record Behind (start bytes out : List ℕ) : Type 0 where
   told : out ≡ start ++ text
   spelled : SpellsText bytes text
 
-spelled_from : (pieces : List (List ℕ)) (start front out : List ℕ) → list_all is_raw front ≡ true → text_from (start ++ front) pieces ≡ Some out → Behind start (front ++ behind_percents pieces) out
+spelled_from : (pieces : List (List ℕ)) (start front out : List ℕ) → list_all stands_for_itself front ≡ true → text_from (start ++ front) pieces ≡ Some out → Behind start (front ++ behind_percents pieces) out
 unfolding text_from behind_percents
 spelled_from [] start front out all e =
     let P : List ℕ → Type 0 = λ bytes. SpellsText bytes front in
@@ -124,7 +125,7 @@ spelled_from (escape ∷ []) start front out all e = cc
 spelled_from (escape ∷ piece ∷ more) start front out all read =
     elim (scalar_of escape) as (λ s. scalar_of escape ≡ s → option_and_then (λ text. text_from text more) (with_escape (start ++ front) piece s) ≡ Some out → Behind start (front ++ 37 ∷ (escape ++ 37 ∷ (piece ++ behind_percents more))) out) [
       | None ↦ λ none e. cc
-      | Some c ↦ λ some. elim (list_all is_raw piece) as (λ b. list_all is_raw piece ≡ b → option_and_then (λ text. text_from text more) (cond b (Some (start ++ front ++ encode c ++ piece)) None) ≡ Some out → Behind start (front ++ 37 ∷ (escape ++ 37 ∷ (piece ++ behind_percents more))) out) [
+      | Some c ↦ λ some. elim (list_all stands_for_itself piece) as (λ b. list_all stands_for_itself piece ≡ b → option_and_then (λ text. text_from text more) (cond b (Some (start ++ front ++ encode c ++ piece)) None) ≡ Some out → Behind start (front ++ 37 ∷ (escape ++ 37 ∷ (piece ++ behind_percents more))) out) [
         | true ↦ λ is e.
             let rest = spelled_from more (start ++ front ++ encode c) piece out is e in
             record {
@@ -139,7 +140,7 @@ spelled_from (escape ∷ piece ∷ more) start front out all read =
 text_sound : (bytes out : List ℕ) → text_of bytes ≡ Some out → SpellsText bytes out
 text_sound bytes out =
     let parts = split_first (is_end Percents) bytes in
-    elim (list_all is_raw parts.0) as (λ b. list_all is_raw parts.0 ≡ b → cond b (text_from parts.0 (pieces_of (is_end Percents) parts.1)) None ≡ Some out → SpellsText bytes out) [
+    elim (list_all stands_for_itself parts.0) as (λ b. list_all stands_for_itself parts.0 ≡ b → cond b (text_from parts.0 (pieces_of (is_end Percents) parts.1)) None ≡ Some out → SpellsText bytes out) [
       | true ↦ λ all e.
           let found = spelled_from (pieces_of (is_end Percents) parts.1) [] parts.0 out all e in
           let P : List ℕ → Type 0 = λ b. SpellsText b out in

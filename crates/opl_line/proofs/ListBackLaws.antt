@@ -14,12 +14,13 @@ use Rattle.osm_model.specs.Decimal.{integer_text}
 use Rattle.osm_model.specs.Escape.{escape}
 use Rattle.osm_model.specs.Joined.{joined}
 use Rattle.osm_model.specs.Line.{tag_text, reference_text, member_text, list_text}
+use Rattle.osm_model.specs.Pairwise.{Pairwise}
 use Rattle.osm_model.proofs.Separators.{Lacks, comma, equals, at}
 use Rattle.osm_model.proofs.EscapeLaws.{escape_lacks}
 use Rattle.osm_model.proofs.LineLaws.{tag_lacks, reference_lacks, member_lacks, object_lacks, differs}
 use Rattle.opl_line.specs.declared.cut.Cut.TheVariants.{Commas, Equals, Ats}
 use Rattle.opl_line.specs.Cut.{is_end, cut, pieces_of}
-use Rattle.opl_line.specs.Content.{SpellsCharacters, SpellsTag, SpellsReference, SpellsMember, Pairwise, SpellsList}
+use Rattle.opl_line.specs.Content.{SpellsCharacters, SpellsTag, SpellsReference, SpellsMember, SpellsList}
 use Rattle.opl_line.specs.Canonical.{ListsAreSpelled}
 use Rattle.opl_line.proofs.CutLaws.{cut_split, split_front, split_never}
 use Rattle.opl_line.proofs.CanonicalLaws.{id_is_read_back}

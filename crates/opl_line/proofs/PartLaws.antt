@@ -5,6 +5,7 @@ use Rattle.std.proofs.lemmas.Bool.{eqb-true}
 use Rattle.std.proofs.lemmas.Bool.Decides.{nat_tests}
 use Rattle.osm_model.specs.declared.kind.Kind.{Kind}
 use Rattle.osm_model.specs.declared.kind.Kind.TheVariants as kind
+use Rattle.osm_model.specs.Pairwise.{Pairwise}
 use Rattle.opl_line.specs.declared.field.Fields.{Fields}
 use Rattle.opl_line.specs.declared.reason.OplReason.{OplReason}
 use Rattle.opl_line.specs.declared.reason.OplReason.TheVariants.{UnknownField, RepeatedField}
@@ -13,7 +14,6 @@ use Rattle.opl_line.specs.Number.{reading_coordinate}
 use Rattle.opl_line.specs.Item.{reading_list, reading_reference, reading_member}
 use Rattle.opl_line.specs.Field.{nothing_said, reading_optional, has_field, with_body_field, with_field, reading_field, reading_fields}
 use Rattle.opl_line.specs.Part.{Part, Number, Deleted, Changeset, Time, UserId, User, Tags, Longitude, Latitude, References, Members, letter_of, SpellsContent, IsPartOf, SpellsPart, with_part}
-use Rattle.opl_line.specs.Content.{Pairwise}
 use Rattle.opl_line.specs.Spells.{is_full}
 use Rattle.opl_line.proofs.BoolLaws.{neither}
 use Rattle.opl_line.proofs.ContentLaws.{characters_sound, characters_complete, tags_sound, tags_complete, references_sound, references_complete, members_sound, members_complete}

@@ -5,16 +5,16 @@ use Rattle.std.proofs.lemmas.List.{take_all}
 use Rattle.std.specs.List.{list_all}
 use lib.Lanes.{zip2, mask_l, top}
 use Rattle.opl_line.specs.Cut.{lengthened, split_first}
-use Rattle.opl_line.specs.Text.{is_raw, is_plain}
+use Rattle.opl_line.specs.Text.{stands_for_itself, is_plain}
 use Rattle.opl_line.proofs.ContentLaws.{all_weaker}
 use Rattle.opl_line.proofs.CutLaws.{split_at, split_nowhere}
 use Rattle.opl_line.proofs.LaneLaws.{lanes, compared, either, marked}
 
-plain_raw : (b : ℕ) → is_plain b ≡ true → is_raw b ≡ true
+plain_raw : (b : ℕ) → is_plain b ≡ true → stands_for_itself b ≡ true
 plain_raw b plain = grind (arith, nat_tests)
 
-pub all_plain_raw : (bytes : List ℕ) → list_all is_plain bytes ≡ true → list_all is_raw bytes ≡ true
-all_plain_raw = all_weaker is_plain is_raw plain_raw
+pub all_plain_raw : (bytes : List ℕ) → list_all is_plain bytes ≡ true → list_all stands_for_itself bytes ≡ true
+all_plain_raw = all_weaker is_plain stands_for_itself plain_raw
 
 -- what stands before the first byte that isn't plain
 module _ (p : ℕ → Bool) where
@@ -37,7 +37,7 @@ is_marked b = (((leb b 13 || eqb b 32) || eqb b 37) || eqb b 44) || eqb b 61
 abbrev is_other : ℕ → Bool
 is_other b = ((((((eqb b 0 || eqb b 9) || eqb b 10) || eqb b 13) || eqb b 32) || eqb b 37) || eqb b 44) || eqb b 61
 
-told_other : (b : ℕ) → is_other b ≡ not (is_raw b)
+told_other : (b : ℕ) → is_other b ≡ not (stands_for_itself b)
 told_other b = grind (arith, nat_tests)
 
 -- several bytes that are compared with others together
@@ -56,7 +56,7 @@ module _ (n : ℕ) (few : n ≤ 64) (v : List ℕ) (long : length v ≡ n) where
       let others = either (λ x. ((leb x 13 || eqb x 32) || eqb x 37) || eqb x 44) (λ x. eqb x 61) v commas (equal 61) in
       marked is_marked v others (omega (arith, long, few)) ∙ ap (λ h. mask_l (map h v)) (λ i x. twice (is_marked x) i)
 
-  pub raw_marked : mask_l (map (top 7) (zip2 bit_or (zip2 bit_or (zip2 bit_or (zip2 bit_or (zip2 bit_or (zip2 bit_or (zip2 bit_or (same 0) (same 9)) (same 10)) (same 13)) (same 32)) (same 37)) (same 44)) (same 61))) % 2 ^ 64 ≡ mask_l (map (λ x. not (is_raw x)) v)
+  pub raw_marked : mask_l (map (top 7) (zip2 bit_or (zip2 bit_or (zip2 bit_or (zip2 bit_or (zip2 bit_or (zip2 bit_or (zip2 bit_or (same 0) (same 9)) (same 10)) (same 13)) (same 32)) (same 37)) (same 44)) (same 61))) % 2 ^ 64 ≡ mask_l (map (λ x. not (stands_for_itself x)) v)
   raw_marked =
       let tabs = either (λ x. eqb x 0) (λ x. eqb x 9) v (equal 0) (equal 9) in
       let feeds = either (λ x. eqb x 0 || eqb x 9) (λ x. eqb x 10) v tabs (equal 10) in

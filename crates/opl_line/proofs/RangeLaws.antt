@@ -17,6 +17,7 @@ use Rattle.osm_model.specs.Tags.{texts_of_tags}
 use Rattle.osm_model.specs.Members.{ids_of_members, roles_of}
 use Rattle.osm_model.specs.Data.{ids_of, texts_of}
 use Rattle.osm_model.specs.New.{is_number, is_time}
+use Rattle.osm_model.specs.Pairwise.{Pairwise}
 use Rattle.opl_line.specs.declared.cut.Cut.TheVariants.{Commas, Equals, Ats}
 use Rattle.opl_line.specs.declared.field.Fields.{Fields}
 use Rattle.opl_line.specs.declared.reason.OplReason.TheVariants.{BadNumber, OutOfRange, BadTime}
@@ -25,7 +26,7 @@ use Rattle.opl_line.specs.Cut.{is_end, cut}
 use Rattle.opl_line.specs.Number.{is_numeral, decimal_value, up_to, reading_number, is_negative, without_sign, signed, reading_id}
 use Rattle.opl_line.specs.Time.{reading_date, reading_clock, epoch, reading_moment, reading_time}
 use Rattle.opl_line.specs.Field.{nothing_said, reading_number_32, reading_count, reading_optional}
-use Rattle.opl_line.specs.Content.{SpellsTag, SpellsReference, SpellsMember, Pairwise, SpellsList}
+use Rattle.opl_line.specs.Content.{SpellsTag, SpellsReference, SpellsMember, SpellsList}
 use Rattle.opl_line.specs.Part as part
 use Rattle.opl_line.specs.Part.{Part, letter_of, SpellsContent, SpellsPart, with_part}
 use Rattle.opl_line.specs.Reading.{reading_location, reading_visible, reading_body}

@@ -7,6 +7,7 @@ use Rattle.osm_model.specs.declared.kind.Kind.{Kind}
 use Rattle.osm_model.specs.declared.tags.Tag.{Tag}
 use Rattle.osm_model.specs.declared.members.Member.{Member}
 use Rattle.osm_model.specs.Kind.{kind_letter}
+use Rattle.osm_model.specs.Pairwise.{Pairwise}
 use Rattle.opl_line.specs.declared.cut.Cut.TheVariants.{Commas, Equals, Ats}
 use Rattle.opl_line.specs.declared.reason.OplReason.{OplReason}
 use Rattle.opl_line.specs.declared.reason.OplReason.TheVariants.{UnknownKind, BadText, BadList}
@@ -15,7 +16,7 @@ use Rattle.opl_line.specs.Cut.{is_end, split_first, cut}
 use Rattle.opl_line.specs.Number.{reading_id}
 use Rattle.opl_line.specs.Item.{reading_items, reading_list, tag_of_pieces, reading_tag, item_reason, reading_item_id, reading_reference, kind_of_letter, reading_named, reading_object_name, member_of_parts, reading_member}
 use Rattle.opl_line.specs.Text.{text_of, reading_text}
-use Rattle.opl_line.specs.Content.{SpellsTag, SpellsReference, SpellsMember, Pairwise}
+use Rattle.opl_line.specs.Content.{SpellsTag, SpellsReference, SpellsMember}
 use Rattle.opl_line.specs.Reading.{reading_kind_and_id, reading_object}
 use Rattle.opl_line.specs.LineReason.{SpellsNoText, ObjectReason, no_kind, no_id, TagReason, uneven, no_text, ReferenceReason, no_letter, no_number, MemberReason, no_at, no_name, no_role, FirstReason, ListReason}
 use Rattle.opl_line.proofs.ContentLaws.{characters_sound, characters_complete, tag_sound, tag_complete, reference_sound, reference_complete, member_sound, member_complete, name_sound, name_complete, kind_of_its_letter, letter_of_kind}

@@ -4,7 +4,7 @@ use lib.Utf8.{encode}
 use Rattle.std.proofs.Math.Nat.{pow-le-pow_right}
 use Rattle.std.specs.List.{list_all}
 use Rattle.std.specs.Option.{option_and_then}
-use Rattle.opl_line.specs.Text.{is_raw, is_hex_digit, hex_value, scalar_of, with_escape, text_from}
+use Rattle.opl_line.specs.Text.{stands_for_itself, is_hex_digit, hex_value, scalar_of, with_escape, text_from}
 
 -- the first digits, and their value
 pub record IsHexTo (digits : List ℕ) (i code : ℕ) : Type 0 where
@@ -37,15 +37,15 @@ pub bad_scalar : (done escape raw : List ℕ) (pieces behind more : List (List �
 bad_scalar done escape raw pieces behind more e f none =
     escape_turn done escape raw pieces behind more e f ∙ ap (λ s. option_and_then (λ text. text_from text more) (with_escape done raw s)) none
 
-not_raw : (done raw : List ℕ) (s : Option ℕ) → list_all is_raw raw ≡ false → with_escape done raw s ≡ None
+not_raw : (done raw : List ℕ) (s : Option ℕ) → list_all stands_for_itself raw ≡ false → with_escape done raw s ≡ None
 not_raw done raw None other = refl
 not_raw done raw (Some c) other = rw other refl
 
-pub bad_raw : (done escape raw : List ℕ) (pieces behind more : List (List ℕ)) → pieces ≡ escape ∷ behind → behind ≡ raw ∷ more → list_all is_raw raw ≡ false → text_from done pieces ≡ None
+pub bad_raw : (done escape raw : List ℕ) (pieces behind more : List (List ℕ)) → pieces ≡ escape ∷ behind → behind ≡ raw ∷ more → list_all stands_for_itself raw ≡ false → text_from done pieces ≡ None
 bad_raw done escape raw pieces behind more e f other =
     escape_turn done escape raw pieces behind more e f ∙ ap (option_and_then (λ text. text_from text more)) (not_raw done raw (scalar_of escape) other)
 
-pub one_escape : (done escape raw : List ℕ) (c : ℕ) (pieces behind more : List (List ℕ)) → pieces ≡ escape ∷ behind → behind ≡ raw ∷ more → scalar_of escape ≡ Some c → list_all is_raw raw ≡ true →
+pub one_escape : (done escape raw : List ℕ) (c : ℕ) (pieces behind more : List (List ℕ)) → pieces ≡ escape ∷ behind → behind ≡ raw ∷ more → scalar_of escape ≡ Some c → list_all stands_for_itself raw ≡ true →
     text_from done pieces ≡ text_from (done ++ encode c ++ raw) more
 one_escape done escape raw c pieces behind more e f some all =
     escape_turn done escape raw pieces behind more e f

@@ -13,7 +13,7 @@ use Rattle.osm_model.specs.Text.{has_zero, is_text}
 use Rattle.osm_model.proofs.TextLaws.{zero_bytes}
 use Rattle.opl_line.specs.declared.cut.Cut.{Cut}
 use Rattle.opl_line.specs.Cut.{is_end, lengthened, split_first, cut, pieces_of}
-use Rattle.opl_line.specs.Text.{is_raw, hex_value, is_hex, scalar_of}
+use Rattle.opl_line.specs.Text.{stands_for_itself, hex_value, is_hex, scalar_of}
 use Rattle.opl_line.specs.Content.{SpellsText, raw, escaped, SpellsCharacters}
 use Rattle.opl_line.proofs.BoolLaws.{not_true}
 use Rattle.opl_line.proofs.CutLaws.{cut_split, ends_ascii}
@@ -87,12 +87,12 @@ cut_utf8 at bytes utf8 = cut_within at (suc (length bytes)) bytes (omega arith) 
 abbrev HasNone : List ℕ → Type 0
 HasNone bytes = list_any (λ b. eqb b 0) bytes ≡ false
 
-raw_some : (b : ℕ) → is_raw b ≡ true → eqb b 0 ≡ false
+raw_some : (b : ℕ) → stands_for_itself b ≡ true → eqb b 0 ≡ false
 raw_some b e = grind (arith, nat_tests)
 
-raw_none : (bytes : List ℕ) → list_all is_raw bytes ≡ true → HasNone bytes
+raw_none : (bytes : List ℕ) → list_all stands_for_itself bytes ≡ true → HasNone bytes
 raw_none [] all = refl
-raw_none (b ∷ bs) all = let parts = and_parts (is_raw b) (list_all is_raw bs) all in λ i. raw_some b parts.0 i || raw_none bs parts.1 i
+raw_none (b ∷ bs) all = let parts = and_parts (stands_for_itself b) (list_all stands_for_itself bs) all in λ i. raw_some b parts.0 i || raw_none bs parts.1 i
 
 none_append : (xs ys : List ℕ) → HasNone xs → HasNone ys → HasNone (xs ++ ys)
 none_append xs ys a b = list_any-append (λ x. eqb x 0) xs ys ∙ (λ i. a i || b i)

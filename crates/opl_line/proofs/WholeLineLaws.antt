@@ -28,6 +28,7 @@ use Rattle.osm_model.specs.Data.{VersionData, kind_of, is_deleted, tags_of, ids_
 use Rattle.osm_model.specs.New.{version_or_fault}
 use Rattle.osm_model.specs.Valid.{IsInRange, IsVersion}
 use Rattle.osm_model.specs.Line.{tag_text, reference_text, member_text, list_text, visible_text, kind_fields, fields, line}
+use Rattle.osm_model.specs.Pairwise.{Pairwise}
 use Rattle.osm_model.proofs.EscapeLaws.{escape_char-raw, escape_char-other}
 use Rattle.opl_line.specs.declared.cut.Cut.TheVariants.{Blanks}
 use Rattle.opl_line.specs.declared.reason.OplReason.{OplReason}
@@ -39,7 +40,7 @@ use Rattle.opl_line.specs.Field.{nothing_said, reading_number_32, reading_count,
 use Rattle.opl_line.specs.Reading.{meta_of, reading_body}
 use Rattle.opl_line.specs.Part as part
 use Rattle.opl_line.specs.Part.{Part, SpellsPart}
-use Rattle.opl_line.specs.Content.{SpellsObject, Pairwise}
+use Rattle.opl_line.specs.Content.{SpellsObject}
 use Rattle.opl_line.specs.Spells.{is_full, said_by, Spells}
 use Rattle.opl_line.specs.Canonical.{LineSpellsItsVersion, LineIsReadBack, LineStandsInOne}
 use Rattle.opl_line.proofs.ContentLaws.{all_weaker}

@@ -1,4 +1,4 @@
--- What the texts and lists in OPL lines spell (the OPL manual; which characters are raw, and the limits of an escape, are own rules of this project).
+-- What the texts and lists in OPL lines spell (the OPL manual; which characters stand for themselves, and the limits of an escape, are own rules of this project).
 use Rattle.std.specs.Prelude.{◌≡◌, ℕ, ℤ, true, List, [], ◌∷◌, ◌++◌, encode_utf8, Some, Ok}
 use Rattle.std.specs.List.{list_all}
 use Rattle.std.specs.Str.{chars}
@@ -6,15 +6,16 @@ use Rattle.osm_model.specs.declared.kind.Kind.{Kind}
 use Rattle.osm_model.specs.declared.tags.Tag.{Tag}
 use Rattle.osm_model.specs.declared.members.Member.{Member}
 use Rattle.osm_model.specs.Kind.{kind_letter}
+use Rattle.osm_model.specs.Pairwise.{Pairwise}
 use Rattle.opl_line.specs.declared.cut.Cut.TheVariants.{Commas, Equals, Ats}
 use Rattle.opl_line.specs.Cut.{is_end, split_first, cut}
 use Rattle.opl_line.specs.Number.{reading_id}
-use Rattle.opl_line.specs.Text.{is_raw, scalar_of}
+use Rattle.opl_line.specs.Text.{stands_for_itself, scalar_of}
 
 -- A text in UTF-8: bytes that stand for themselves; or such bytes, an escape, which is `%`, digits and `%`, and a text.
 pub data SpellsText : List ℕ → List ℕ → Type 0 where
-  raw : (text : List ℕ) → list_all is_raw text ≡ true → SpellsText text text
-  escaped : (front digits rest text : List ℕ) (c : ℕ) → list_all is_raw front ≡ true → scalar_of digits ≡ Some c → SpellsText rest text →
+  raw : (text : List ℕ) → list_all stands_for_itself text ≡ true → SpellsText text text
+  escaped : (front digits rest text : List ℕ) (c : ℕ) → list_all stands_for_itself front ≡ true → scalar_of digits ≡ Some c → SpellsText rest text →
       SpellsText (front ++ 37 ∷ (digits ++ 37 ∷ rest)) (front ++ (encode_utf8 c ++ text))
 
 -- the characters of such a text
@@ -50,13 +51,6 @@ pub record SpellsMember (bytes : List ℕ) (member : Member) : Type 0 where
   pub parted : split_first (is_end Ats) bytes ≡ (object, Some role)
   pub names : SpellsObject object member.kind member.id
   pub spells_role : SpellsCharacters role member.role
-
--- the members of two lists belong together, one for one
-abbrev pub Pairwise : {X Y : Type 0} → (X → Y → Type 0) → List X → List Y → Type 0
-Pairwise R [] [] = Unit {0}
-Pairwise R [] (y ∷ ys) = ⊥
-Pairwise R (x ∷ xs) [] = ⊥
-Pairwise R (x ∷ xs) (y ∷ ys) = R x y × Pairwise R xs ys
 
 -- no text spells no item; another one is cut at its commas, and each piece spells an item
 abbrev pub SpellsList : {X : Type 0} → (List ℕ → X → Type 0) → List ℕ → List X → Type 0

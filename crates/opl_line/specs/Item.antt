@@ -1,5 +1,5 @@
 -- The items of lists in OPL lines: tags, references and members (the OPL manual; which reason is told is an own rule of this project).
-use Rattle.std.specs.Prelude.{ℕ, ℤ, ◌==◌, List, [], ◌∷◌, Option, Some, None, Result, Ok, Err, if◌then◌else◌}
+use Rattle.std.specs.Prelude.{ℕ, ℤ, ◌==◌, List, [], ◌∷◌, drop, Option, Some, None, Result, Ok, Err, if◌then◌else◌}
 use Rattle.osm_model.specs.declared.kind.Kind.{Kind}
 use Rattle.osm_model.specs.declared.kind.Kind.TheVariants.{Node, Way, Relation}
 use Rattle.osm_model.specs.declared.tags.Tag.{Tag}
@@ -50,6 +50,11 @@ reading_reference (letter ∷ digits) = if letter == 110 then reading_item_id di
 abbrev pub kind_of_letter : ℕ → Option Kind
 kind_of_letter letter = if letter == 110 then Some Node else (if letter == 119 then Some Way else (if letter == 114 then Some Relation else None))
 
+-- the kind of the letter that a text begins with
+abbrev pub first_kind : List ℕ → Option Kind
+first_kind [] = None
+first_kind (letter ∷ rest) = kind_of_letter letter
+
 -- a member's object, from its kind and the digits of its id
 abbrev pub reading_named : Option Kind → List ℕ → Result (Kind × ℤ) OplReason
 reading_named None digits = Err BadList
@@ -57,8 +62,7 @@ reading_named (Some kind) digits = as_value (λ id. (kind, id)) (reading_item_id
 
 -- `w1`
 abbrev pub reading_object_name : List ℕ → Result (Kind × ℤ) OplReason
-reading_object_name [] = Err BadList
-reading_object_name (letter ∷ digits) = reading_named (kind_of_letter letter) digits
+reading_object_name text = reading_named (first_kind text) (drop 1 text)
 
 -- an object and a role
 abbrev pub member_of_parts : List ℕ × Option (List ℕ) → Result Member OplReason

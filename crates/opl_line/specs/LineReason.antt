@@ -6,6 +6,7 @@ use Rattle.osm_model.specs.declared.kind.Kind.{Kind}
 use Rattle.osm_model.specs.declared.kind.Kind.TheVariants.{Node, Way, Relation}
 use Rattle.osm_model.specs.Kind.{kind_letter}
 use Rattle.osm_model.specs.New.{is_dated}
+use Rattle.osm_model.specs.Pairwise.{Pairwise}
 use Rattle.opl_line.specs.declared.cut.Cut.TheVariants.{Blanks, Commas, Equals, Ats}
 use Rattle.opl_line.specs.declared.field.Fields.{Fields}
 use Rattle.opl_line.specs.declared.reason.OplReason.{OplReason}
@@ -15,7 +16,7 @@ use Rattle.opl_line.specs.Number.{reading_id, reading_coordinate}
 use Rattle.opl_line.specs.Time.{reading_time}
 use Rattle.opl_line.specs.Item.{item_reason}
 use Rattle.opl_line.specs.Field.{reading_number_32, reading_count, reading_deleted, reading_optional}
-use Rattle.opl_line.specs.Content.{SpellsCharacters, SpellsTag, SpellsReference, SpellsObject, SpellsMember, Pairwise}
+use Rattle.opl_line.specs.Content.{SpellsCharacters, SpellsTag, SpellsReference, SpellsObject, SpellsMember}
 use Rattle.opl_line.specs.Part.{Part, letter_of, SpellsPart}
 use Rattle.opl_line.specs.Reading.{is_skipped, meta_of, reading_line}
 use Rattle.opl_line.specs.Spells.{is_full, said_by, Tells, SpellsNothing}

@@ -1,5 +1,5 @@
 -- A whole OPL line, read field by field.
-use Rattle.std.specs.Prelude.{ℕ, ℤ, Bool, true, false, not, ◌==◌, List, [], ◌∷◌, Option, Some, None, unwrap_or, Result, Ok, Err, if◌then◌else◌}
+use Rattle.std.specs.Prelude.{ℕ, ℤ, Bool, true, false, not, ◌==◌, List, [], ◌∷◌, drop, Option, Some, None, unwrap_or, Result, Ok, Err, if◌then◌else◌}
 use Rattle.std.specs.Str.{is_utf8}
 use Rattle.osm_model.specs.declared.kind.Kind.{Kind}
 use Rattle.osm_model.specs.declared.kind.Kind.TheVariants as kind
@@ -18,7 +18,7 @@ use Rattle.opl_line.specs.declared.reason.OplReason.TheVariants.{NotUtf8, Unknow
 use Rattle.opl_line.specs.Answer.{and_then, as_value}
 use Rattle.opl_line.specs.Cut.{is_end, split_first, pieces_of}
 use Rattle.opl_line.specs.Number.{reading_id}
-use Rattle.opl_line.specs.Item.{kind_of_letter}
+use Rattle.opl_line.specs.Item.{first_kind}
 use Rattle.opl_line.specs.Field.{nothing_said, reading_fields}
 
 -- an empty line, or a comment, which begins with `#`
@@ -33,8 +33,7 @@ reading_kind_and_id (Some kind) digits = as_value (λ id. (kind, id)) (reading_i
 
 -- the first field: a letter and an id
 abbrev pub reading_object : List ℕ → Result (Kind × ℤ) OplReason
-reading_object [] = Err UnknownKind
-reading_object (letter ∷ digits) = reading_kind_and_id (kind_of_letter letter) digits
+reading_object field = reading_kind_and_id (first_kind field) (drop 1 field)
 
 -- what the fields say beside the body
 abbrev pub meta_of : Fields → Meta

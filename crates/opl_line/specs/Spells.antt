@@ -6,12 +6,13 @@ use Rattle.osm_model.specs.declared.kind.Kind.{Kind}
 use Rattle.osm_model.specs.declared.body.Body.{Body}
 use Rattle.osm_model.specs.Data.{VersionData}
 use Rattle.osm_model.specs.New.{version_or_fault}
+use Rattle.osm_model.specs.Pairwise.{Pairwise}
 use Rattle.opl_line.specs.declared.cut.Cut.TheVariants.{Blanks}
 use Rattle.opl_line.specs.declared.field.Fields.{Fields}
 use Rattle.opl_line.specs.declared.reason.OplReason.{OplReason}
 use Rattle.opl_line.specs.Cut.{is_end, cut}
 use Rattle.opl_line.specs.Field.{nothing_said}
-use Rattle.opl_line.specs.Content.{SpellsObject, Pairwise}
+use Rattle.opl_line.specs.Content.{SpellsObject}
 use Rattle.opl_line.specs.Part.{Part, letter_of, SpellsPart, with_part}
 use Rattle.opl_line.specs.Reading.{is_skipped, meta_of, reading_body, reading_line}
 

@@ -1,4 +1,4 @@
--- Texts in OPL lines (the OPL manual; which characters are raw, and the limits of an escape, are own rules of this project).
+-- Texts in OPL lines (the OPL manual; which characters stand for themselves, and the limits of an escape, are own rules of this project).
 use Rattle.std.specs.Prelude.{ℕ, ◌+◌, ◌*◌, Bool, not, ◌&&◌, ◌||◌, ◌==◌, nat_lt, nat_le, List, [], ◌∷◌, ◌++◌, length, fold, encode_utf8, Option, Some, None, Result, if◌then◌else◌}
 use Rattle.std.specs.Option.{option_map, option_and_then, ok_or}
 use Rattle.std.specs.List.{list_all}
@@ -11,8 +11,8 @@ use Rattle.opl_line.specs.declared.reason.OplReason.TheVariants.{BadText}
 use Rattle.opl_line.specs.Cut.{is_end, split_first, pieces_of}
 
 -- All but NUL, tab, LF, CR, space, percent sign, comma and equals sign stand for themselves. These are ASCII, so a text in UTF-8 may be looked at byte by byte.
-abbrev pub is_raw : ℕ → Bool
-is_raw b = not (b == 0 || b == 9 || b == 10 || b == 13 || b == 32 || b == 37 || b == 44 || b == 61)
+abbrev pub stands_for_itself : ℕ → Bool
+stands_for_itself b = not (b == 0 || b == 9 || b == 10 || b == 13 || b == 32 || b == 37 || b == 44 || b == 61)
 
 -- above CR, and not a space, percent sign, comma or equals sign: a byte that stands for itself, told by few tests
 abbrev pub is_plain : ℕ → Bool
@@ -39,7 +39,7 @@ scalar_of digits = if is_hex digits && (scalar (hex_value digits) && not (hex_va
 -- a further escape and what is raw behind it
 abbrev pub with_escape : List ℕ → List ℕ → Option ℕ → Option (List ℕ)
 with_escape done raw None = None
-with_escape done raw (Some c) = if list_all is_raw raw then Some (done ++ encode_utf8 c ++ raw) else None
+with_escape done raw (Some c) = if list_all stands_for_itself raw then Some (done ++ encode_utf8 c ++ raw) else None
 
 -- what was read so far, and behind it escapes and raw pieces in turn
 unfoldable pub text_from : List ℕ → List (List ℕ) → Option (List ℕ)
@@ -49,7 +49,7 @@ text_from done (escape ∷ raw ∷ more) = option_and_then (λ text. text_from t
 
 -- a raw piece, and then the pieces between percent signs
 abbrev pub text_of_pieces : List ℕ × Option (List ℕ) → Option (List ℕ)
-text_of_pieces parts = if list_all is_raw parts.0 then text_from parts.0 (pieces_of (is_end Percents) parts.1) else None
+text_of_pieces parts = if list_all stands_for_itself parts.0 then text_from parts.0 (pieces_of (is_end Percents) parts.1) else None
 
 -- the text, in UTF-8, that some bytes spell
 abbrev pub text_of : List ℕ → Option (List ℕ)

@@ -1,5 +1,5 @@
 //! The items of lists in OPL lines.
-ghost use Rattle.std.specs.Prelude.{◌≡◌, ◌⊎◌, Err, MatchResult, option_copied};
+ghost use Rattle.std.specs.Prelude.{◌≡◌, ◌⊎◌, Err, drop, MatchOption, MatchResult, option_copied};
 ghost use Rattle.opl_line.specs.declared.reason.OplReason.TheVariants.{Memory};
 ghost use Rattle.opl_line.specs.Answer.{Answers};
 ghost use Rattle.opl_line.specs.Item as spec;
@@ -35,6 +35,15 @@ pub(crate) trait Item: Drop + Sized {
     fn read(alloc: Global, text: &str) -> Result<Self, OplReason>
         ensures { Answers (reading text.now) result };
 
+    /// The item that stands before the first comma of a text, and what stands behind that comma; `None` leaves an item
+    /// of an unusual form to `read`.
+    #[inline(always)]
+    fn front<'a>(_alloc: Global, _text: &'a str) -> Option<(Self, Option<&'a str>)>
+        ensures { MatchOption result (Unit {0}) (λ front. IsFrontAt Commas reading _text.now front.0 (option_copied front.1)) }
+    {
+        None
+    }
+
     /// The item that stands before the first comma of a text, and what stands behind that comma.
     #[inline(always)]
     fn read_first<'a>(alloc: Global, text: &'a str) -> Result<(Self, Option<&'a str>), OplReason>
@@ -42,6 +51,9 @@ pub(crate) trait Item: Drop + Sized {
             (λ front. IsFrontAt Commas reading text.now front.0 (option_copied front.1))
             (λ reason. (reason ≡ Memory) ⊎ (reading (split_first (is_end Commas) text.now).0 ≡ Err reason)) }
     {
+        if let Some(front) = Self::front(alloc, text) {
+            return Ok(front);
+        }
         let (item, behind) = Cut::Commas.split(text);
         Ok((Self::read(alloc, item)?, behind))
     }
@@ -88,12 +100,8 @@ impl Item for Tag {
     }
 
     #[inline(always)]
-    fn read_first<'a>(alloc: Global, text: &'a str) -> Result<(Tag, Option<&'a str>), OplReason> {
-        if let Some(front) = front_tag(alloc, text) {
-            return Ok(front);
-        }
-        let (item, behind) = Cut::Commas.split(text);
-        Ok((Tag::read(alloc, item)?, behind))
+    fn front<'a>(alloc: Global, text: &'a str) -> Option<(Tag, Option<&'a str>)> {
+        front_tag(alloc, text)
     }
 }
 
@@ -109,12 +117,8 @@ impl Item for i64 {
     }
 
     #[inline(always)]
-    fn read_first<'a>(alloc: Global, text: &'a str) -> Result<(i64, Option<&'a str>), OplReason> {
-        if let Some(front) = front_reference(text) {
-            return Ok(front);
-        }
-        let (item, behind) = Cut::Commas.split(text);
-        Ok((i64::read(alloc, item)?, behind))
+    fn front<'a>(_alloc: Global, text: &'a str) -> Option<(i64, Option<&'a str>)> {
+        front_reference(text)
     }
 }
 
@@ -136,13 +140,18 @@ impl Item for Member {
 fn read_object_name(text: &[u8]) -> Result<(Kind, i64), OplReason>
     ensures { result ≡ spec.reading_object_name text.now }
 {
-    let Some((letter, digits)) = text.split_first() else {
-        return Err(OplReason::BadList);
-    };
-    let Some(kind) = kind_of_letter(*letter) else {
-        return Err(OplReason::BadList);
-    };
+    let (kind, digits) = split_kind(text).ok_or(OplReason::BadList)?;
     Ok((kind, read_item_id(digits)?))
+}
+
+/// The kind that the first letter of a text stands for, and what stands behind it; `None` where it stands for none.
+pub(crate) fn split_kind(text: &[u8]) -> Option<(Kind, &[u8])>
+    ensures { MatchOption result
+        (spec.first_kind text.now ≡ None)
+        (λ parts. (spec.first_kind text.now ≡ Some parts.0) × (parts.1.now ≡ drop 1 text.now)) }
+{
+    let (letter, rest) = text.split_first()?;
+    Some((kind_of_letter(*letter)?, rest))
 }
 
 /// The kind that a letter stands for.

@@ -19,7 +19,7 @@ use crate::canonical::read_canonical;
 use crate::cut::Cut;
 use crate::field::Fields;
 use crate::front::front_object;
-use crate::item::kind_of_letter;
+use crate::item::split_kind;
 use crate::number::read_id;
 use crate::utf8::to_str;
 use osm_model::{Body, Kind, Members, Memory, Meta, References, Tags, Text, Version};
@@ -181,12 +181,7 @@ fn read_first(line: &str) -> Result<((Kind, i64), Option<&str>), OplReason>
 fn read_object(field: &[u8]) -> Result<(Kind, i64), OplReason>
     ensures { result ≡ spec.reading_object field.now }
 {
-    let Some((letter, digits)) = field.split_first() else {
-        return Err(OplReason::UnknownKind);
-    };
-    let Some(kind) = kind_of_letter(*letter) else {
-        return Err(OplReason::UnknownKind);
-    };
+    let (kind, digits) = split_kind(field).ok_or(OplReason::UnknownKind)?;
     Ok((kind, read_id(digits)?))
 }
 

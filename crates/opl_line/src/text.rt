@@ -72,8 +72,9 @@ fn append_escape<'a>(out: &mut String, escape: &'a str) -> Result<Option<&'a str
 /// `None` where another character ends them, which must be escaped.
 fn split_raw(text: &str) -> Option<(&str, Option<&str>)>
     ensures parts { MatchOption result
-        (list_all spec.is_raw (split_first (is_end Percents) text.now).0 ≡ false)
-        (λ parts. (list_all spec.is_raw parts.0.now ≡ true) × (split_first (is_end Percents) text.now ≡ (parts.0.now, option_copied parts.1))) }
+        (list_all spec.stands_for_itself (split_first (is_end Percents) text.now).0 ≡ false)
+        (λ parts. (list_all spec.stands_for_itself parts.0.now ≡ true)
+        × (split_first (is_end Percents) text.now ≡ (parts.0.now, option_copied parts.1))) }
     ensures shorter { IfSome result (λ parts. IfSome parts.1 (λ behind. length behind.now < length text.now)) }
 {
     let bytes = text.as_bytes();
@@ -127,7 +128,7 @@ impl ByteClass<WIDE_LANES> for NotPlain {
 struct NotRaw;
 
 impl ByteClass<LANES> for NotRaw {
-    ghost has = { λ _ byte. not (spec.is_raw byte) };
+    ghost has = { λ _ byte. not (spec.stands_for_itself byte) };
 
     #[inline(always)]
     fn marks(self, bytes: &[u8], from: usize) -> u64 {

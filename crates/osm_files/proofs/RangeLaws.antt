@@ -15,13 +15,13 @@ use Rattle.osm_model.specs.declared.fault.ValueFault.{ValueFault}
 use Rattle.osm_model.specs.Data.{VersionData, version_of, normal_body}
 use Rattle.osm_model.specs.New.{first_fault, unless_faulty}
 use Rattle.osm_model.specs.Valid.{IsVersion, IsInRange}
+use Rattle.osm_model.specs.Pairwise.{Pairwise}
 use Rattle.osm_model.proofs.ValidLaws.{valid_version}
 use Rattle.opl_line.specs.declared.reason.OplReason.TheVariants.{OutOfRange}
 use Rattle.opl_line.specs.Number.{signed, is_negative, without_sign, degree_parts, reading_degrees, reading_units, reading_coordinate}
 use Rattle.opl_line.specs.Field.{nothing_said, reading_optional}
 use Rattle.opl_line.specs.Part as part
 use Rattle.opl_line.specs.Part.{Part, SpellsPart, with_part}
-use Rattle.opl_line.specs.Content.{Pairwise}
 use Rattle.opl_line.specs.Reading.{meta_of, reading_location, reading_visible, reading_body}
 use Rattle.opl_line.specs.Spells.{is_full, Spells}
 use Rattle.opl_line.proofs.AnswerLaws.{both, became}

@@ -19,10 +19,10 @@ use Rattle.osm_model.specs.Order.{version_cmp, version_cmp_total, key_cmp, key_c
 use Rattle.osm_model.specs.Valid.{IsVersion}
 use Rattle.osm_model.specs.VersionSet.{VersionSet}
 use Rattle.osm_model.specs.Sets.{listed, from_list, union, empty, contains}
+use Rattle.osm_model.specs.Pairwise.{Pairwise}
 use Rattle.osm_model.proofs.SetLaws.{contains-listed, contains-from_list, contains-union, same_set, strict-listed}
 use Rattle.osm_model.proofs.VersionLaws.{version_cmp-IsAntisymmetric, listed-view}
 use Rattle.opl_line.specs.Cut.{cut, is_line_end, pieces_of, split_first}
-use Rattle.opl_line.specs.Content.{Pairwise}
 use Rattle.opl_line.specs.Spells.{Spells}
 use Rattle.opl_line.proofs.CutLaws.{cut_split, split_front}
 use Rattle.opl_line.proofs.WholeLineLaws.{line_stands_in_one, line_spells_its_version}
@@ -40,7 +40,7 @@ use Rattle.osm_files.specs.Held.{IsFile, IsFileOf, Holds}
 use Rattle.osm_files.specs.Spell.{behind, behind_all, ended, spelled_versions, spell_list, spell}
 use Rattle.osm_files.specs.Sink.{MayFollow}
 use Rattle.osm_files.specs.Verdict.{file_units, versions_of, held_by, verdict}
-use Rattle.osm_files.specs.SpellLaws.{AreVersions, SpellHoldsItsSet, HeldWithoutVerdict, SpellHasNoVerdict, HeldIsOneSet, SpelledIsHeld, joined_file, JoinInAnyOrder, JoinRepeated, JoinInAnyGrouping, FilesJoinInAnyGrouping, HeldAreVersions, UnionsAreVersions, KindsDontFall, ListIsSpelledAsItsSet, FirstVersionsStandInFront}
+use Rattle.osm_files.specs.SpellLaws.{AreVersions, SpellHoldsItsSet, HeldWithoutVerdict, SpellHasNoVerdict, HeldIsOneSet, SpelledIsHeld, joined_file, JoinInAnyOrder, JoinRepeated, JoinInAnyGrouping, FilesJoinInAnyGrouping, HeldAreVersions, UnionsAreVersions, EachMayFollow, ListIsSpelledAsItsSet, FirstVersionsStandInFront}
 use Rattle.osm_files.proofs.FileLaws.{one_list, files_are_read, accepted_without_verdict}
 use Rattle.osm_files.proofs.RangeLaws.{files_hold_versions}
 use Rattle.osm_files.proofs.SpellSteps.{first_so, then_greater, may_follow, list_split}
@@ -251,8 +251,8 @@ join_in_any_grouping f g h a b c ab bc valid_a valid_b valid_c left right =
     ∙ ap (λ (s : VersionSet). spell f (union a s)) (sym (is_union h b c bc valid_b valid_c right))
 
 -- ---- what is put one after the other
-pub kinds_dont_fall : KindsDontFall
-kinds_dont_fall f versions others v sorted =
+pub each_may_follow : EachMayFollow
+each_may_follow f versions others v sorted =
     let xs = versions ++ v ∷ others in
     let within : length versions < length xs = omega (arith, length-append versions (v ∷ others)) in
     let at : get_or xs (length versions) v ≡ v = get_or-append_seam versions v others v in

@@ -1,8 +1,8 @@
 -- What units read as, and the units of lines.
 use Rattle.std.proofs.Common.{◌≡◌, ℕ, zero, suc, ◌+◌, ◌≤◌, Bool, true, false, not, cond, List, [], ◌∷◌, ◌++◌, length, drop, filter, refl, sym, ap, ◌∙◌, subst, arith, Option, Some, None, Result, Ok, Err, length-append}
 use Rattle.osm_model.specs.Data.{VersionData}
+use Rattle.osm_model.specs.Pairwise.{Pairwise}
 use Rattle.opl_line.specs.Cut.{cut, is_line_end, lengthened, pieces_of, split_first}
-use Rattle.opl_line.specs.Content.{Pairwise}
 use Rattle.opl_line.specs.Reading.{is_skipped, reading_line}
 use Rattle.opl_line.specs.Spells.{Spells}
 use Rattle.opl_line.specs.declared.reason.OplReason.{OplReason}

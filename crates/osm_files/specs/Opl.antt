@@ -1,8 +1,8 @@
 -- OPL files: lines and what they hold (Osmium OPL file format manual; that comments and empty lines are skipped is an own rule).
 use Rattle.std.specs.Prelude.{ℕ, Bool, not, List, filter}
 use Rattle.osm_model.specs.Data.{VersionData}
+use Rattle.osm_model.specs.Pairwise.{Pairwise}
 use Rattle.opl_line.specs.Cut.{cut, is_line_end}
-use Rattle.opl_line.specs.Content.{Pairwise}
 use Rattle.opl_line.specs.Reading.{is_skipped}
 use Rattle.opl_line.specs.Spells.{Spells}
 

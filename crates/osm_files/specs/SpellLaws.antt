@@ -50,8 +50,8 @@ JoinInAnyGrouping = (format left right : Format) (a b c ab bc : VersionSet) → 
     joined_file format ab c ≡ joined_file format a bc
 
 -- in a list that ascends strictly each version may follow those before it: the kinds don't fall
-abbrev pub KindsDontFall : Type 0
-KindsDontFall = (format : Format) (versions others : List VersionData) (v : VersionData) → IsStrictlySortedBy version_cmp (versions ++ v ∷ others) → MayFollow v (behind_all format nothing_written versions)
+abbrev pub EachMayFollow : Type 0
+EachMayFollow = (format : Format) (versions others : List VersionData) (v : VersionData) → IsStrictlySortedBy version_cmp (versions ++ v ∷ others) → MayFollow v (behind_all format nothing_written versions)
 
 -- a list that ascends strictly is spelled as its set
 abbrev pub ListIsSpelledAsItsSet : Type 0

@@ -77,9 +77,9 @@ pub fn join_in_any_grouping()
     ensures { spelling.JoinInAnyGrouping }
 {}
 
-/// In a list that ascends strictly the kinds don't fall, so that each version may be put behind those before it.
-pub fn kinds_dont_fall()
-    ensures { spelling.KindsDontFall }
+/// In a list that ascends strictly each version may be put behind those before it, since the kinds don't fall.
+pub fn each_may_follow()
+    ensures { spelling.EachMayFollow }
 {}
 
 /// A list that ascends strictly is spelled as its set.

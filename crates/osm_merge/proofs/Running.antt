@@ -17,7 +17,7 @@ use Rattle.osm_files.specs.Source.{Step, Ascends}
 use Rattle.osm_files.specs.Stream.{whole}
 use Rattle.osm_files.specs.Spell.{spelled_open, spell_list, spell}
 use Rattle.osm_files.specs.Sink.{SinkState, IsOpen, CutShort, HasPut, MayFollow}
-use Rattle.osm_files.proofs.SpellLaws.{kinds_dont_fall, list_spelled}
+use Rattle.osm_files.proofs.SpellLaws.{each_may_follow, list_spelled}
 use Rattle.osm_merge.specs.declared.merge.Counts.{Counts}
 use Rattle.osm_files.specs.Input.{Explained}
 use Rattle.osm_merge.specs.ToCome.{VersionsToCome, rest, head, behind_head, coming_at, AllAscend, AllStand}
@@ -193,7 +193,7 @@ few_least selection t c f =
 takes_each : (format : Format) (number : ℕ) (put : List VersionData) (before : Content) (sink : SinkState) (now : Content) → HasPut format number put before sink now → (versions : List VersionData) → AscendBehind put versions → TakesEach versions sink
 takes_each format number put before sink now has [] h = tt
 takes_each format number put before sink now has (v ∷ vs) h =
-    ((λ going. subst (λ (s : SinkState). MayFollow v s.encoder) (sym has.state) (kinds_dont_fall format put [] v h.0)), takes_each format number put before sink now has vs h.1)
+    ((λ going. subst (λ (s : SinkState). MayFollow v s.encoder) (sym has.state) (each_may_follow format put [] v h.0)), takes_each format number put before sink now has vs h.1)
 
 -- a list of some versions
 abbrev IsFull : List VersionData → Type 0

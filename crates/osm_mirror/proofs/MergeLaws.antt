@@ -11,9 +11,9 @@ use Rattle.osm_model.specs.Data.{VersionData}
 use Rattle.osm_model.specs.Order.{version_cmp, version_cmp_total}
 use Rattle.osm_model.specs.VersionSet.{VersionSet}
 use Rattle.osm_model.specs.Sets.{size, empty, union, contains, listed, from_list}
+use Rattle.osm_model.specs.Pairwise.{Pairwise}
 use Rattle.osm_model.proofs.SetLaws.{contains-union, contains-from_list, same_set}
 use Rattle.osm_model.proofs.VersionLaws.{version_cmp-IsAntisymmetric, listed-view}
-use Rattle.opl_line.specs.Content.{Pairwise}
 use Rattle.osm_files.specs.declared.fault.Fault.{Fault}
 use Rattle.osm_files.specs.declared.format.Format.{Format}
 use Rattle.osm_files.specs.Fault.{memory_fault}

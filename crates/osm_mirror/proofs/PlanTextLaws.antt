@@ -5,7 +5,7 @@ use Rattle.std.proofs.lemmas.List.Splits.{length-slice_split}
 use Rattle.std.proofs.lemmas.List.Sums.{count_by-le-length}
 use Rattle.std.proofs.lemmas.List.Elements.{All-cons, All-head, All-tail, All-push, All-weaker, filter-append}
 use Rattle.std.specs.List.{All}
-use Rattle.opl_line.specs.Content.{Pairwise}
+use Rattle.osm_model.proofs.PairwiseLaws.{pairwise_push, pairwise_parted, pairwise_one}
 use Rattle.opl_line.specs.Spells.{is_full}
 use Rattle.osm_mirror.specs.declared.keep.Keep.{Keep}
 use Rattle.osm_mirror.specs.declared.plan.Plan.{Plan}
@@ -22,31 +22,6 @@ use Rattle.osm_mirror.specs.PlanLine.{LineSays, NamesMirrors}
 use Rattle.osm_mirror.specs.Plan.{Parts, parts_of, in_order, lines_of, LinesSpell, NamesItsMirrors, SpellsNoPlan, IsInTurn, IsLineRefused, LineFault, IsFirstFault, with_line, IsLineAdded}
 use Rattle.osm_mirror.specs.PlanLaws.{OnePlan, FaultySpellsNothing}
 use Rattle.osm_mirror.proofs.PlanLineLaws.{line_one, says_full}
-
-module _ {X Y : Type 0} (R : X → Y → Type 0) where
-  -- one more pair
-  pairwise_push : (xs : List X) (ys : List Y) (x : X) (y : Y) → Pairwise R xs ys → R x y → Pairwise R (xs ++ x ∷ []) (ys ++ y ∷ [])
-  pairwise_push [] [] x y all this = (this, tt)
-  pairwise_push [] (z ∷ ys) x y all this = absurd all
-  pairwise_push (w ∷ xs) [] x y all this = absurd all
-  pairwise_push (w ∷ xs) (z ∷ ys) x y all this = (all.0, pairwise_push xs ys x y all.1 this)
-
-  -- where a front is told apart, so is its partner
-  record Parted (front : List X) (x : X) (ys : List Y) : Type 0 where
-    before : List Y
-    here : Y
-    behind : List Y
-    parted : ys ≡ before ++ here ∷ behind
-    fronts : Pairwise R front before
-    this : R x here
-
-  pairwise_parted : (front rest : List X) (x : X) (ys : List Y) → Pairwise R (front ++ x ∷ rest) ys → Parted front x ys
-  pairwise_parted [] rest x [] all = absurd all
-  pairwise_parted [] rest x (y ∷ ys) all = record { before = []; here = y; behind = ys; parted = refl; fronts = tt; this = all.0 }
-  pairwise_parted (w ∷ front) rest x [] all = absurd all
-  pairwise_parted (w ∷ front) rest x (y ∷ ys) all =
-      let p = pairwise_parted front rest x ys all.1 in
-      record { before = y ∷ p.before; here = p.here; behind = p.behind; parted = ap (λ zs. y ∷ zs) p.parted; fronts = (all.0, p.fronts); this = p.this }
 
 -- what a line says stands behind all that was said before
 in_order-push : (before : Parts) (said : PlanLine) → IsInTurn before said → in_order (with_line before said) ≡ in_order before ++ said ∷ []
@@ -82,18 +57,6 @@ line_added lines line before after spelled (inr (said, says, added)) =
       said = rw (full, order) (pairwise_push LineSays (filter is_full lines) (in_order before) line said spelled.said says);
       named = rw order named;
     })
-
--- lines say at most one thing each
-pairwise_one : (lines : List (List ℕ)) (xs ys : List PlanLine) → Pairwise LineSays lines xs → Pairwise LineSays lines ys → xs ≡ ys
-pairwise_one [] [] [] a b = refl
-pairwise_one [] [] (y ∷ ys) a b = absurd b
-pairwise_one [] (x ∷ xs) ys a b = absurd a
-pairwise_one (line ∷ lines) [] ys a b = absurd a
-pairwise_one (line ∷ lines) (x ∷ xs) [] a b = absurd b
-pairwise_one (line ∷ lines) (x ∷ xs) (y ∷ ys) a b =
-    let first = line_one line x y a.0 b.0 in
-    let others = pairwise_one lines xs ys a.1 b.1 in
-    λ i. first i ∷ others i
 
 -- What lines say, added one after the other, each in its turn and naming mirrors that are there.
 abbrev Builds : Parts → List PlanLine → Parts → Type 0
@@ -144,7 +107,7 @@ built_one from (x ∷ xs) one other a b = built_one (with_line from x) xs one ot
 -- lines spell at most one plan
 pub lines_one : (lines : List (List ℕ)) (one other : Parts) → LinesSpell lines one → LinesSpell lines other → one ≡ other
 lines_one lines one other a b =
-    let same = pairwise_one (filter is_full lines) (in_order one) (in_order other) a.said b.said in
+    let same = pairwise_one LineSays line_one (filter is_full lines) (in_order one) (in_order other) a.said b.said in
     built_one (parts [] [] []) (in_order one) one other (in_order_builds one a.named) (rw (← same) at (in_order_builds other b.named))
 
 -- what is refused is out of its turn, or names a mirror that is not there
@@ -177,7 +140,7 @@ lines_none front rest faulty before after reason spelled fault all =
     let full : filter is_full (front ++ faulty ∷ rest) ≡ filter is_full front ++ faulty ∷ filter is_full rest =
     filter-append is_full front (faulty ∷ rest) ∙ ap (λ t. filter is_full front ++ cond t (faulty ∷ filter is_full rest) (filter is_full rest)) here in
     let p = pairwise_parted LineSays (filter is_full front) (filter is_full rest) faulty (in_order after) (rw full at all.said) in
-    let same = pairwise_one (filter is_full front) (in_order before) p.before spelled.said p.fronts in
+    let same = pairwise_one LineSays line_one (filter is_full front) (in_order before) p.before spelled.said p.fronts in
     let turn = built_in_turn (parts [] [] []) p.before p.behind p.here before after (rw p.parted at (in_order_builds after all.named)) (rw same at (in_order_builds before spelled.named)) in
     fault_not before faulty reason p.here fault p.this turn.0 turn.1
 

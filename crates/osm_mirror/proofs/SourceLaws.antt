@@ -10,8 +10,8 @@ use Rattle.osm_model.specs.Data.{VersionData}
 use Rattle.osm_model.specs.Order.{version_cmp}
 use Rattle.osm_model.specs.VersionSet.{VersionSet}
 use Rattle.osm_model.specs.Sets.{size, listed, from_list}
+use Rattle.osm_model.specs.Pairwise.{Pairwise}
 use Rattle.osm_model.proofs.VersionLaws.{listed-view}
-use Rattle.opl_line.specs.Content.{Pairwise}
 use Rattle.osm_files.specs.declared.fault.Fault.{Fault}
 use Rattle.osm_files.specs.declared.load.Loaded.{Loaded}
 use Rattle.osm_files.specs.Fault.{memory_fault}

@@ -1,7 +1,7 @@
 -- The texts of plans: an own rule of this project.
 use Rattle.std.specs.Prelude.{◌≡◌, ◌⊎◌, ℕ, ◌+◌, ◌<◌, ◌==◌, true, List, [], ◌∷◌, ◌++◌, length, map, filter, IsUtf8}
 use Rattle.std.specs.List.{slice_split, All}
-use Rattle.opl_line.specs.Content.{Pairwise}
+use Rattle.osm_model.specs.Pairwise.{Pairwise}
 use Rattle.opl_line.specs.Spells.{is_full}
 use Rattle.osm_mirror.specs.declared.keep.Keep.{Keep}
 use Rattle.osm_mirror.specs.declared.plan.Plan.{Plan}

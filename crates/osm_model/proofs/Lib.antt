@@ -20,3 +20,4 @@ pub mod AppendLaws
 pub mod ExtendsLaws
 pub mod KindLaws
 pub mod PairLaws
+pub mod PairwiseLaws

@@ -18,6 +18,7 @@ pub mod Time
 pub mod TimeLaw
 pub mod Escape
 pub mod Joined
+pub mod Pairwise
 pub mod Line
 pub mod Order
 pub mod Merged

@@ -7,7 +7,7 @@ ghost use Rattle.osm_model.specs.Append.{head_text, location_text};
 ghost use Rattle.osm_model.specs.Extends.{Extends};
 
 use crate::escape::plain_length;
-use crate::piece::Piece;
+use crate::piece::{CursorPiece, Stretch};
 use crate::{Body, Member, Memory, Tag, Text, Version};
 
 impl Version {
@@ -34,7 +34,7 @@ fn append_head(version: &Version, out: &mut Vec<u8>) -> Result<(), Memory>
     ensures appended { OnOk result (out.new.items ≡ out.old.items ++ head_text version.now) }
     ensures kept { Extends out.old.items out.new.items }
 {
-    let mut piece = Piece::new();
+    let mut piece = Stretch::new();
     piece.prepend(b" u");
     piece.prepend_number(version.uid());
     piece.prepend(b" i");
@@ -78,7 +78,7 @@ fn append_escaped(c: char, out: &mut Vec<u8>) -> Result<(), Memory>
     ensures appended { OnOk result (out.new.items ≡ out.old.items ++ escape_char c) }
     ensures kept { Extends out.old.items out.new.items }
 {
-    let mut piece = Piece::new();
+    let mut piece = CursorPiece::new();
     piece.set_escaped(c);
     piece.append_to(out)
 }
@@ -110,7 +110,7 @@ impl Listed for i64 {
     ghost text = { reference_text };
 
     fn append_behind(&self, mark: &[u8], out: &mut Vec<u8>) -> Result<(), Memory> {
-        let mut piece = Piece::new();
+        let mut piece = Stretch::new();
         piece.prepend_integer(*self);
         piece.push_front(b'n');
         piece.prepend(mark);
@@ -122,7 +122,7 @@ impl Listed for Member {
     ghost text = { member_text };
 
     fn append_behind(&self, mark: &[u8], out: &mut Vec<u8>) -> Result<(), Memory> {
-        let mut piece = Piece::new();
+        let mut piece = Stretch::new();
         piece.push_front(b'@');
         piece.prepend_integer(self.id);
         piece.push_front(self.kind.letter());
@@ -171,7 +171,7 @@ fn append_location(lon: i32, lat: i32, out: &mut Vec<u8>) -> Result<(), Memory>
     ensures appended { OnOk result (out.new.items ≡ out.old.items ++ location_text lon lat) }
     ensures kept { Extends out.old.items out.new.items }
 {
-    let mut piece = Piece::new();
+    let mut piece = Stretch::new();
     piece.prepend_coordinate(lat);
     piece.prepend(b" y");
     piece.prepend_coordinate(lon);

@@ -5,7 +5,7 @@ ghost use Rattle.std.specs.Char.{digit_char};
 ghost use Rattle.std.specs.Int.{is_in_range};
 ghost use Rattle.osm_model.specs.Escape as spec;
 
-/// Whether a character stands for itself in a line.
+/// Whether a character is written as itself in a line, and not as an escape.
 pub fn is_raw(c: char) -> bool
     ensures { result ≡ spec.is_raw c }
 {

@@ -17,25 +17,28 @@ const UNITS_IN_DEGREE: u64 = 10_000_000;
 
 const SECONDS_IN_DAY: u64 = 86_400;
 
-/// The bytes that a piece has room for: more than the fields before a user name take.
-const ROOM: usize = 128;
+/// What a cursor holds of a line: a mark and a coordinate take at most 31 bytes.
+pub type CursorPiece = Piece<32>;
 
-/// At most 128 bytes that are still to be given.
+/// A stretch of an appended line: the fields before a user name take fewer than 128 bytes.
+pub type Stretch = Piece<128>;
+
+/// At most `ROOM` bytes that are still to be given.
 ///
 /// They end where the room ends, so that a number is written in place from its last digit on, and a field in front of
 /// those behind it.
 #[derive(Drop)]
-pub struct Piece {
+pub struct Piece<const ROOM: usize> {
     bytes: [u8; ROOM],
     start: usize,
-    ghost within: { start ≤ 128 },
+    ghost within: { start ≤ ROOM },
 }
 
-impl Piece {
+impl<const ROOM: usize> Piece<ROOM> {
     ghost use Rattle.osm_model.specs.Piece.{left};
 
     /// A piece with nothing left.
-    pub fn new() -> Piece
+    pub fn new() -> Self
         ensures left { left result ≡ [] }
         ensures room { result.start ≡ ROOM }
     {
@@ -49,7 +52,8 @@ impl Piece {
     pub fn as_slice(&self) -> &[u8]
         ensures { result.now ≡ left self.now }
     {
-        &self.bytes[self.start..]
+        let room = &self.bytes[..];
+        &room[self.start..]
     }
 
     /// Appends the bytes that are left.
@@ -101,7 +105,8 @@ impl Piece {
     {
         let end = self.start;
         let start = end - bytes.len();
-        self.bytes[start..end].copy_from_slice(bytes);
+        let room = &mut self.bytes[..];
+        room[start..end].copy_from_slice(bytes);
         self.start = start;
     }
 
@@ -135,45 +140,6 @@ impl Piece {
     {
         self.prepend_number(integer.unsigned_abs());
         self.prepend_sign(integer);
-    }
-
-    /// These bytes, at most 128.
-    pub fn set_bytes(&mut self, bytes: &[u8])
-        requires { length bytes.now ≤ ROOM }
-        ensures { left self.new ≡ bytes.now }
-    {
-        self.clear();
-        self.prepend(bytes);
-    }
-
-    /// A mark of at most 2 bytes, and a number behind it.
-    pub fn set_number(&mut self, mark: &[u8], number: u64)
-        requires { length mark.now ≤ 2 }
-        ensures { left self.new ≡ mark.now ++ number_text number }
-    {
-        self.clear();
-        self.prepend_number(number);
-        self.prepend(mark);
-    }
-
-    /// A mark of at most 2 bytes, and an integer behind it.
-    pub fn set_integer(&mut self, mark: &[u8], integer: i64)
-        requires { length mark.now ≤ 2 }
-        ensures { left self.new ≡ mark.now ++ integer_text integer }
-    {
-        self.clear();
-        self.prepend_integer(integer);
-        self.prepend(mark);
-    }
-
-    /// A mark of at most 2 bytes, and behind it a coordinate in units of 10^-7 degree.
-    pub fn set_coordinate(&mut self, mark: &[u8], units: i32)
-        requires { length mark.now ≤ 2 }
-        ensures { left self.new ≡ mark.now ++ coordinate_text units }
-    {
-        self.clear();
-        self.prepend_coordinate(units);
-        self.prepend(mark);
     }
 
     /// A coordinate in units of 10^-7 degree, in front.
@@ -231,17 +197,6 @@ impl Piece {
         for _place in 0..count {
             self.push_front(b'0');
         }
-    }
-
-    /// A mark of at most 2 bytes, and behind it a time in seconds since 1970-01-01T00:00:00Z.
-    pub fn set_time(&mut self, mark: &[u8], time: Option<u64>)
-        requires short { length mark.now ≤ 2 }
-        requires in_range { ForSome time (λ seconds. seconds < 2 ^ 32) }
-        ensures { left self.new ≡ mark.now ++ time_text time }
-    {
-        self.clear();
-        self.prepend_time(time);
-        self.prepend(mark);
     }
 
     /// `yyyy-mm-ddThh:mm:ssZ` in front, or nothing where there is no time.
@@ -305,6 +260,75 @@ impl Piece {
         ]);
     }
 
+    /// A number in hexadecimal, in front.
+    fn prepend_hex(&mut self, number: u32)
+        requires { 8 ≤ self.old.start }
+        ensures left { left self.new ≡ numeral 16 number ++ left self.old }
+        ensures room { self.new.start + length (numeral 16 number) ≡ self.old.start }
+        ensures short { self.old.start ≤ self.new.start + 8 }
+    {
+        let mut rest = number;
+        while rest >= 16 {
+            self.push_front(hex_digit(rest % 16));
+            rest /= 16;
+        }
+        self.push_front(hex_digit(rest));
+    }
+}
+
+impl CursorPiece {
+    ghost use Rattle.osm_model.specs.Piece.{left};
+
+    /// These bytes, at most 32.
+    pub fn set_bytes(&mut self, bytes: &[u8])
+        requires { length bytes.now ≤ 32 }
+        ensures { left self.new ≡ bytes.now }
+    {
+        self.clear();
+        self.prepend(bytes);
+    }
+
+    /// A mark of at most 2 bytes, and a number behind it.
+    pub fn set_number(&mut self, mark: &[u8], number: u64)
+        requires { length mark.now ≤ 2 }
+        ensures { left self.new ≡ mark.now ++ number_text number }
+    {
+        self.clear();
+        self.prepend_number(number);
+        self.prepend(mark);
+    }
+
+    /// A mark of at most 2 bytes, and an integer behind it.
+    pub fn set_integer(&mut self, mark: &[u8], integer: i64)
+        requires { length mark.now ≤ 2 }
+        ensures { left self.new ≡ mark.now ++ integer_text integer }
+    {
+        self.clear();
+        self.prepend_integer(integer);
+        self.prepend(mark);
+    }
+
+    /// A mark of at most 2 bytes, and behind it a coordinate in units of 10^-7 degree.
+    pub fn set_coordinate(&mut self, mark: &[u8], units: i32)
+        requires { length mark.now ≤ 2 }
+        ensures { left self.new ≡ mark.now ++ coordinate_text units }
+    {
+        self.clear();
+        self.prepend_coordinate(units);
+        self.prepend(mark);
+    }
+
+    /// A mark of at most 2 bytes, and behind it a time in seconds since 1970-01-01T00:00:00Z.
+    pub fn set_time(&mut self, mark: &[u8], time: Option<u64>)
+        requires short { length mark.now ≤ 2 }
+        requires in_range { ForSome time (λ seconds. seconds < 2 ^ 32) }
+        ensures { left self.new ≡ mark.now ++ time_text time }
+    {
+        self.clear();
+        self.prepend_time(time);
+        self.prepend(mark);
+    }
+
     /// A character of a text, raw or as an escape.
     pub fn set_escaped(&mut self, c: char)
         ensures { left self.new ≡ escape_char c }
@@ -329,21 +353,6 @@ impl Piece {
         let digits = end - self.start;
         self.prepend_zeros(escape_width(code).saturating_sub(digits));
         self.push_front(b'%');
-    }
-
-    /// A number in hexadecimal, in front.
-    fn prepend_hex(&mut self, number: u32)
-        requires { 8 ≤ self.old.start }
-        ensures left { left self.new ≡ numeral 16 number ++ left self.old }
-        ensures room { self.new.start + length (numeral 16 number) ≡ self.old.start }
-        ensures short { self.old.start ≤ self.new.start + 8 }
-    {
-        let mut rest = number;
-        while rest >= 16 {
-            self.push_front(hex_digit(rest % 16));
-            rest /= 16;
-        }
-        self.push_front(hex_digit(rest));
     }
 }
 

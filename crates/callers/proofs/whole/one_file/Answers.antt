@@ -1,6 +1,6 @@
 use Rattle.std.proofs.Common.{◌≡◌, ◌∙◌, subst, ℕ, List, [], ◌∷◌}
 use Rattle.osm_model.specs.VersionSet.{VersionSet}
-use Rattle.opl_line.specs.Content.{Pairwise}
+use Rattle.osm_model.specs.Pairwise.{Pairwise}
 use Rattle.osm_files.specs.Held.{HoldsSorted}
 use Rattle.osm_files.specs.Input.{Coming, whole}
 use Rattle.osm_merge.specs.Giving.{AllGive}

@@ -4,7 +4,7 @@ use Rattle.std.specs.String.{string_bytes}
 use Rattle.std.specs.Char.{encode_utf8}
 use Rattle.opl_line.specs.declared.cut.Cut.TheVariants.{Percents}
 use Rattle.opl_line.specs.Cut.{is_end, split_first, cut, pieces_of}
-use Rattle.opl_line.specs.Text.{is_raw, scalar_of, text_from}
+use Rattle.opl_line.specs.Text.{stands_for_itself, scalar_of, text_from}
 use Rattle.opl_line.proofs.CutLaws.{cut_split}
 use Rattle.opl_line.proofs.TextLaws.{never_ended, bad_scalar, bad_raw, one_escape}
 use Rattle.opl_line.proofs.text.append_escape.Goals as goal
@@ -23,13 +23,13 @@ returns-in_default-scalar_of-clause-text c =
 pub returns-in_default-split_raw-clause-text : goal.returns-in_default-split_raw-clause-text
 returns-in_default-split_raw-clause-text c =
     let e : cut (is_end Percents) c.args.escape.now ≡ c.split.result.0.now ∷ cut (is_end Percents) c.in_default-Some.behind.now = search rules in
-    let other : list_all is_raw (split_first (is_end Percents) c.in_default-Some.behind.now).0 ≡ false = search rules in
+    let other : list_all stands_for_itself (split_first (is_end Percents) c.in_default-Some.behind.now).0 ≡ false = search rules in
     inr (refl, bad_raw (string_bytes c.args.out.now) c.split.result.0.now _ _ _ _ e (cut_split (is_end Percents) c.in_default-Some.behind.now) other)
 
 pub returns-clause-text : goal.returns-clause-text
 returns-clause-text c =
     let e : cut (is_end Percents) c.args.escape.now ≡ c.split.result.0.now ∷ cut (is_end Percents) c.in_default-Some.behind.now = search rules in
-    let raw : list_all is_raw c.in-Some-split_raw.raw.now ≡ true = search rules in
+    let raw : list_all stands_for_itself c.in-Some-split_raw.raw.now ≡ true = search rules in
     let parts : split_first (is_end Percents) c.in_default-Some.behind.now ≡ (c.in-Some-split_raw.raw.now, option_copied c.in-Some-split_raw.more) = search rules in
     let f : cut (is_end Percents) c.in_default-Some.behind.now ≡ c.in-Some-split_raw.raw.now ∷ pieces_of (is_end Percents) (option_copied c.in-Some-split_raw.more) =
     cut_split (is_end Percents) c.in_default-Some.behind.now ∙ ap (λ s. s.0 ∷ pieces_of (is_end Percents) s.1) parts in

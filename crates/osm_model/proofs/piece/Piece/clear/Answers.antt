@@ -3,4 +3,4 @@ use Rattle.std.proofs.lemmas.List.{drop_all}
 use Rattle.osm_model.proofs.piece.Piece.clear.Goals as goal
 
 pub returns-clause-left : goal.returns-clause-left
-returns-clause-left c = drop_all 128 c.args.self.now.bytes (search rules)
+returns-clause-left g c = drop_all g.row.ROOM c.args.self.now.bytes (search rules)

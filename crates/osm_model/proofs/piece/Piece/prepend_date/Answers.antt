@@ -6,7 +6,7 @@ use Rattle.osm_model.proofs.piece.Piece.prepend_date.Goals as goal
 
 pub returns-clause-left : goal.returns-clause-left
 unfolding date_text
-returns-clause-left c =
+returns-clause-left g c =
     let date = c.from_day-date.result in
     let year = c.from_day-date.ensures.year in
     let written : left c.prepend.new.self ≡ date_text date ++ left c.args.self.now =

@@ -5,7 +5,7 @@ use Rattle.osm_model.specs.Coordinate.{without_last_zeros}
 use Rattle.osm_model.proofs.piece.Piece.prepend_fraction.Given as goal
 
 abbrev pub invariant-loop-digits : goal.invariant-loop-digits
-invariant-loop-digits l = record {
+invariant-loop-digits g l = record {
   some : 0 < l.digits;
   fits : l.digits < 10 ^ l.places;
   narrow : l.places ≤ 7;
@@ -13,4 +13,4 @@ invariant-loop-digits l = record {
 }
 
 abbrev pub decreases-loop-digits : goal.decreases-loop-digits
-decreases-loop-digits l = l.digits
+decreases-loop-digits g l = l.digits

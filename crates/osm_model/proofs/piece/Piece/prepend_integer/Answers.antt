@@ -4,4 +4,4 @@ use Rattle.osm_model.proofs.piece.Piece.prepend_integer.Goals as goal
 
 pub returns-clause-left : goal.returns-clause-left
 unfolding integer_text
-returns-clause-left c = search (rules, append_assoc)
+returns-clause-left g c = search (rules, append_assoc)

@@ -2,7 +2,7 @@ use Rattle.std.proofs.Common.{◌≡◌, ◌∷◌, ◌++◌, ◌-◌, [], lengt
 use Rattle.osm_model.specs.Numeral.{numeral, padded}
 use Rattle.osm_model.specs.Escape.{code_escape, escape_width}
 use Rattle.osm_model.specs.Piece.{left}
-use Rattle.osm_model.proofs.piece.Piece.set_code_escape.Goals as goal
+use Rattle.osm_model.proofs.piece.CursorPiece.set_code_escape.Goals as goal
 
 pub returns : goal.returns
 unfolding code_escape padded
