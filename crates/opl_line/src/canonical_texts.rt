@@ -1,5 +1,5 @@
 //! Texts of canonical lines, each read where it stands: raw characters, and escapes in their one form.
-ghost use Rattle.std.specs.Prelude.{◌≡◌, ◌++◌, ◌∷◌, [], ◌≤◌, length, take, true, IfSome};
+ghost use Rattle.std.specs.Prelude.{◌≡◌, ◌++◌, ◌∷◌, [], ◌≤◌, not, length, take, true, position, IfSome};
 ghost use Rattle.std.specs.Bool.{OnTrue};
 ghost use Rattle.std.specs.List.{list_all};
 ghost use Rattle.osm_model.specs.Text.{is_text};
@@ -7,10 +7,15 @@ ghost use Rattle.osm_model.specs.Escape.{escape, escape_char, is_raw_byte};
 ghost use Rattle.opl_line.specs.Straight.{AreRaw};
 
 use crate::cut::Cut;
+use crate::scan::{ByteClass, find};
 use crate::text::scalar_of;
 use osm_model::{Text, behind_escaped};
 use std::alloc::Global;
+use std::simd::prelude::*;
 use std::str;
+
+/// How many bytes are looked at together.
+const LANES: usize = 16;
 
 /// A text, and what stands behind it.
 #[inline(always)]
@@ -35,12 +40,35 @@ fn raw_length(bytes: &[u8]) -> usize
     ensures within { result ≤ length bytes.now }
     ensures raw { list_all is_raw_byte (take result bytes.now) ≡ true }
 {
-    'bytes: for place in 0..bytes.len() {
-        if !is_raw_byte(bytes[place]) {
-            return place;
-        }
+    match find(NotRawByte, bytes) {
+        Some(end) => end,
+        None => bytes.len(),
     }
-    bytes.len()
+}
+
+/// The bytes that are no raw characters by themselves.
+#[derive(Clone, Copy, Debug)]
+struct NotRawByte;
+
+impl ByteClass<LANES> for NotRawByte {
+    ghost has = { λ _ byte. not (is_raw_byte byte) };
+
+    #[inline(always)]
+    fn marks(self, bytes: &[u8], from: usize) -> u64 {
+        let lanes = Simd::<u8, LANES>::from_slice(&bytes[from..]);
+        let controls = lanes.simd_le(Simd::splat(b' '));
+        let edges = controls | lanes.simd_ge(Simd::splat(0x7F));
+        let percents = edges | lanes.simd_eq(Simd::splat(b'%'));
+        let commas = percents | lanes.simd_eq(Simd::splat(b','));
+        let equals = commas | lanes.simd_eq(Simd::splat(b'='));
+        let others = equals | lanes.simd_eq(Simd::splat(b'@'));
+        others.to_bitmask()
+    }
+
+    #[inline(always)]
+    fn contains(self, byte: u8) -> bool {
+        !is_raw_byte(byte)
+    }
 }
 
 /// Whether a byte is a raw character by itself.
