@@ -1,23 +1,16 @@
 -- Sixty-four bytes that are ASCII.
-use Rattle.std.proofs.Common.{◌≡◌, ℕ, zero, suc, ◌+◌, ◌-◌, ◌%◌, ◌^◌, ◌<◌, ◌≤◌, not, cond, leb, List, [], ◌∷◌, refl, length, get_or, map, replicate, sym, ap, ◌∙◌, arith, inl, inr}
+use Rattle.std.proofs.Common.{◌≡◌, ℕ, ◌+◌, ◌-◌, ◌%◌, ◌^◌, ◌<◌, ◌≤◌, not, cond, leb, List, length, get_or, map, replicate, sym, ◌∙◌, arith, inl, inr}
 use Rattle.std.proofs.lemmas.Bool.{cases_lt, leb-false}
 use Rattle.std.proofs.lemmas.Simd.{leading_from_mask_l, run_in_chunk_fails}
 use Rattle.std.proofs.lemmas.Str.Ascii.{IsAscii-from_reads}
 use Rattle.std.specs.List.{prefix_len}
 use Rattle.std.specs.Str.{IsAscii}
 use lib.Lanes.{chunk, zip2, mask_l, top}
-use Rattle.opl_line.proofs.LaneLaws.{marked}
+use Rattle.opl_line.proofs.LaneLaws.{splat_left, marked}
 
 -- each byte from a place on and below another is ASCII
 abbrev pub AsciiBetween : List ℕ → ℕ → ℕ → Type 0
 AsciiBetween bytes from end = (place : ℕ) → from ≤ place → place < end → get_or bytes place 0 < 128
-
--- one value beside each of a list
-splat_left : {X Y : Type 0} (f : ℕ → X → Y) (c : ℕ) (v : List X) (n : ℕ) → length v ≡ n → zip2 f (replicate n c) v ≡ map (f c) v
-splat_left f c [] zero e = refl
-splat_left f c [] (suc n) e = absurd (omega (arith, e))
-splat_left f c (x ∷ xs) zero e = absurd (omega (arith, e))
-splat_left f c (x ∷ xs) (suc n) e = ap (λ rest. f c x ∷ rest) (splat_left f c xs n (omega (arith, e)))
 
 -- the mask of the bytes that aren't
 module _ (v : List ℕ) (long : length v ≡ 64) where

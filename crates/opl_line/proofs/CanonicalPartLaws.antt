@@ -1,21 +1,14 @@
 -- What is read of a number in its one form is written so again.
-use Rattle.std.proofs.Common.{◌≡◌, ◌≢◌, ℕ, ℤ, zero, suc, ◌+◌, ◌-◌, ◌*◌, ◌/◌, ◌%◌, ◌^◌, ◌<◌, ◌≤◌, Bool, true, false, eqb, ◌&&◌, List, [], ◌∷◌, ◌++◌, length, take, drop, get_or, cond, leb, ltb, not, ◌||◌, ◌==◌, ◌⊎◌, ⊎_elim, Ok, Err, refl, sym, ap, ◌∙◌, arith, append_assoc}
-use Rattle.std.proofs.lemmas.Bool.{and_parts, leb-true, ltb-true, eqb-true, false≢true}
+use Rattle.std.proofs.Common.{◌≡◌, ◌≢◌, ℕ, ℤ, zero, suc, ◌+◌, ◌-◌, ◌*◌, ◌/◌, ◌%◌, ◌^◌, ◌<◌, ◌≤◌, Bool, true, false, eqb, List, [], ◌∷◌, ◌++◌, length, take, drop, get_or, cond, leb, ◌⊎◌, ⊎_elim, Ok, Err, refl, sym, ap, ◌∙◌, arith, append_assoc}
+use Rattle.std.proofs.lemmas.Bool.{and_parts, leb-true, eqb-true, false≢true}
 use Rattle.std.proofs.lemmas.Bool.Decides.{nat_tests}
 use Rattle.std.proofs.Math.Nat.{pow-succ', pow-le-pow_right, mul-pos, mul-lt-mul_of_pos_right}
 use Rattle.std.proofs.lemmas.Nat.{pow-add}
 use Rattle.std.proofs.lemmas.List.{append-nil, take-append-drop, take_rest, length-take-le, drop-drop}
-use Rattle.std.specs.List.{list_all, list_any, fold, All}
-use lib.Utf8.{scalar, scalars}
-use Rattle.std.proofs.lemmas.Str.{encode_ascii}
-use Rattle.std.proofs.lemmas.Str.Ascii.{IsAscii-from_all}
-use Rattle.std.proofs.lemmas.List.Elements.{All-nil, All-cons}
+use Rattle.std.specs.List.{list_all, fold}
 use Rattle.std.specs.Char.{is_ascii_digit, digit_char}
 use Rattle.osm_model.specs.Numeral.{numeral, padded}
 use Rattle.osm_model.specs.Decimal.{number_text, integer_text}
-use Rattle.std.specs.Str.{IsAscii}
-use Rattle.osm_model.specs.Text.{is_text}
-use Rattle.osm_model.specs.Escape.{escape, escape_char, is_raw, is_raw_byte}
 use Rattle.osm_model.specs.Coordinate.{without_last_zeros, fraction_text, degrees_text, coordinate_text}
 use Rattle.osm_model.proofs.NumeralLaws.{numeral-step, numeral-digit, padded-step, padded-digit}
 use Rattle.osm_model.proofs.CoordinateLaws.{fraction_next, fraction_is}
@@ -267,46 +260,3 @@ fraction_front (b ∷ bs) decimals count n scale is point within few all value b
     ap (λ t. t ∷ bs) point
     ∙ ap (λ t. 46 ∷ t) (sym is ∙ sym (take-append-drop count decimals))
     ∙ (λ i. sym spelled i ++ behind i)
-
-raw_byte_low : (b : ℕ) → is_raw_byte b ≡ true → b < 128
-raw_byte_low b raw = ltb-true b 0x80 (and_parts (is_raw b) (ltb b 0x80) raw).1
-
-raw_byte_raw : (b : ℕ) → is_raw_byte b ≡ true → is_raw b ≡ true
-raw_byte_raw b raw = (and_parts (is_raw b) (ltb b 0x80) raw).0
-
-raw_byte_escaped : (b : ℕ) → is_raw_byte b ≡ true → escape_char b ≡ b ∷ []
-unfolding escape_char
-raw_byte_escaped b raw = rw (raw_byte_raw b raw) (encode_ascii b (raw_byte_low b raw))
-
-all_low : (bytes : List ℕ) → list_all is_raw_byte bytes ≡ true → All (λ b. b < 128) bytes
-all_low [] raw = All-nil (λ b. b < 128)
-all_low (b ∷ bs) raw = let parts = and_parts (is_raw_byte b) (list_all is_raw_byte bs) raw in All-cons (λ x. x < 128) b bs (raw_byte_low b parts.0) (all_low bs parts.1)
-
-pub raw_ascii : (bytes : List ℕ) → list_all is_raw_byte bytes ≡ true → IsAscii bytes
-raw_ascii bytes raw = IsAscii-from_all bytes (all_low bytes raw)
-
-pub raw_escaped : (bytes : List ℕ) → list_all is_raw_byte bytes ≡ true → escape bytes ≡ bytes
-raw_escaped [] raw = refl
-raw_escaped (b ∷ bs) raw =
-    let parts = and_parts (is_raw_byte b) (list_all is_raw_byte bs) raw in
-    λ i. raw_byte_escaped b parts.0 i ++ raw_escaped bs parts.1 i
-
-low_scalar : (b : ℕ) → b < 128 → scalar b ≡ true
-low_scalar b low = grind (arith, nat_tests)
-
-raw_scalars : (bytes : List ℕ) → list_all is_raw_byte bytes ≡ true → scalars bytes ≡ true
-raw_scalars [] raw = refl
-raw_scalars (b ∷ bs) raw = let parts = and_parts (is_raw_byte b) (list_all is_raw_byte bs) raw in λ i. low_scalar b (raw_byte_low b parts.0) i && raw_scalars bs parts.1 i
-
-not_zero : (b : ℕ) → is_raw_byte b ≡ true → (b == 0) ≡ false
-not_zero b raw = grind (arith, nat_tests)
-
-raw_no_zero : (bytes : List ℕ) → list_all is_raw_byte bytes ≡ true → list_any (λ c. c == 0) bytes ≡ false
-raw_no_zero [] raw = refl
-raw_no_zero (b ∷ bs) raw =
-    let parts = and_parts (is_raw_byte b) (list_all is_raw_byte bs) raw in
-    let other : (b == 0) ≡ false = not_zero b parts.0 in
-    λ i. other i || raw_no_zero bs parts.1 i
-
-pub raw_valid : (bytes : List ℕ) → list_all is_raw_byte bytes ≡ true → is_text bytes ≡ true
-raw_valid bytes raw = (λ i. raw_scalars bytes raw i && not (raw_no_zero bytes raw i))

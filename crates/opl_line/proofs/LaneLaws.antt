@@ -1,8 +1,15 @@
 -- Several bytes that are compared with others together.
-use Rattle.std.proofs.Common.{◌≡◌, ℕ, ◌%◌, ◌^◌, ◌≤◌, Bool, true, false, ◌||◌, cond, eqb, List, length, map, replicate, refl, sym, ap, ◌∙◌, arith, bit_or}
+use Rattle.std.proofs.Common.{◌≡◌, ℕ, zero, suc, ◌%◌, ◌^◌, ◌≤◌, Bool, true, false, ◌||◌, cond, eqb, List, [], ◌∷◌, length, map, replicate, refl, sym, ap, ◌∙◌, arith, bit_or}
 use Rattle.std.proofs.lemmas.List.{length-map}
 use Rattle.std.proofs.lemmas.Simd.{map-map, zip2_splat, zip2_of_maps, mask_l-mod}
 use lib.Lanes.{zip2, mask_l, top}
+
+-- one value beside each of a list
+pub splat_left : {X Y : Type 0} (f : ℕ → X → Y) (c : ℕ) (v : List X) (n : ℕ) → length v ≡ n → zip2 f (replicate n c) v ≡ map (f c) v
+splat_left f c [] zero e = refl
+splat_left f c [] (suc n) e = absurd (omega (arith, e))
+splat_left f c (x ∷ xs) zero e = absurd (omega (arith, e))
+splat_left f c (x ∷ xs) (suc n) e = ap (λ rest. f c x ∷ rest) (splat_left f c xs n (omega (arith, e)))
 
 -- a lane for each byte, with all bits set where it passes
 abbrev pub lanes : (ℕ → Bool) → List ℕ → List ℕ

@@ -34,6 +34,7 @@ pub mod FrontTimeLaws
 pub mod FrontTagLaws
 pub mod AsciiLaws
 pub mod CanonicalPartLaws
+pub mod CanonicalTextLaws
 pub mod CanonicalTimeLaws
 pub mod CanonicalListLaws
 pub mod CanonicalLineLaws

@@ -5,10 +5,11 @@ use Rattle.std.proofs.lemmas.List.{take_all}
 use Rattle.std.specs.List.{list_all}
 use lib.Lanes.{zip2, mask_l, top}
 use Rattle.opl_line.specs.Cut.{lengthened, split_first}
+use Rattle.osm_model.specs.Escape.{is_raw_byte}
 use Rattle.opl_line.specs.Text.{stands_for_itself, is_plain}
 use Rattle.opl_line.proofs.ContentLaws.{all_weaker}
 use Rattle.opl_line.proofs.CutLaws.{split_at, split_nowhere}
-use Rattle.opl_line.proofs.LaneLaws.{lanes, compared, either, marked}
+use Rattle.opl_line.proofs.LaneLaws.{lanes, compared, splat_left, either, marked}
 
 plain_raw : (b : ℕ) → is_plain b ≡ true → stands_for_itself b ≡ true
 plain_raw b plain = grind (arith, nat_tests)
@@ -37,6 +38,13 @@ is_marked b = (((leb b 13 || eqb b 32) || eqb b 37) || eqb b 44) || eqb b 61
 abbrev is_other : ℕ → Bool
 is_other b = ((((((eqb b 0 || eqb b 9) || eqb b 10) || eqb b 13) || eqb b 32) || eqb b 37) || eqb b 44) || eqb b 61
 
+-- a byte that isn't a raw character by itself
+abbrev is_odd : ℕ → Bool
+is_odd b = ((((leb b 32 || leb 127 b) || eqb b 37) || eqb b 44) || eqb b 61) || eqb b 64
+
+told_odd : (b : ℕ) → is_odd b ≡ not (is_raw_byte b)
+told_odd b = grind (arith, nat_tests)
+
 told_other : (b : ℕ) → is_other b ≡ not (stands_for_itself b)
 told_other b = grind (arith, nat_tests)
 
@@ -56,6 +64,15 @@ module _ (n : ℕ) (few : n ≤ 64) (v : List ℕ) (long : length v ≡ n) where
       let others = either (λ x. ((leb x 13 || eqb x 32) || eqb x 37) || eqb x 44) (λ x. eqb x 61) v commas (equal 61) in
       marked is_marked v others (omega (arith, long, few)) ∙ ap (λ h. mask_l (map h v)) (λ i x. twice (is_marked x) i)
 
+  pub odd_marked : mask_l (map (top 7) (zip2 bit_or (zip2 bit_or (zip2 bit_or (zip2 bit_or (zip2 bit_or (zip2 (λ x y. cond (leb x y) 255 0) v (replicate n 32)) (zip2 (λ x y. cond (leb x y) 255 0) (replicate n 127) v)) (same 37)) (same 44)) (same 61)) (same 64))) % 2 ^ 64 ≡ mask_l (map (λ x. not (is_raw_byte x)) v)
+  odd_marked =
+      let edges = either (λ x. leb x 32) (λ x. leb 127 x) v (compared leb v n 32 long) (splat_left (λ x y. cond (leb x y) 255 0) 127 v n long) in
+      let percents = either (λ x. leb x 32 || leb 127 x) (λ x. eqb x 37) v edges (equal 37) in
+      let commas = either (λ x. (leb x 32 || leb 127 x) || eqb x 37) (λ x. eqb x 44) v percents (equal 44) in
+      let equals = either (λ x. ((leb x 32 || leb 127 x) || eqb x 37) || eqb x 44) (λ x. eqb x 61) v commas (equal 61) in
+      let others = either (λ x. (((leb x 32 || leb 127 x) || eqb x 37) || eqb x 44) || eqb x 61) (λ x. eqb x 64) v equals (equal 64) in
+      marked is_odd v others (omega (arith, long, few)) ∙ ap (λ h. mask_l (map h v)) (λ i x. told_odd x i)
+
   pub raw_marked : mask_l (map (top 7) (zip2 bit_or (zip2 bit_or (zip2 bit_or (zip2 bit_or (zip2 bit_or (zip2 bit_or (zip2 bit_or (same 0) (same 9)) (same 10)) (same 13)) (same 32)) (same 37)) (same 44)) (same 61))) % 2 ^ 64 ≡ mask_l (map (λ x. not (stands_for_itself x)) v)
   raw_marked =
       let tabs = either (λ x. eqb x 0) (λ x. eqb x 9) v (equal 0) (equal 9) in
@@ -67,15 +84,17 @@ module _ (n : ℕ) (few : n ≤ 64) (v : List ℕ) (long : length v ≡ n) where
       let others = either (λ x. (((((eqb x 0 || eqb x 9) || eqb x 10) || eqb x 13) || eqb x 32) || eqb x 37) || eqb x 44) (λ x. eqb x 61) v commas (equal 61) in
       marked is_other v others (omega (arith, long, few)) ∙ ap (λ h. mask_l (map h v)) (λ i x. told_other x i)
 
-abbrev not_plain : ℕ → Bool
-not_plain b = not (is_plain b)
+-- what passes before the first byte that doesn't
+module _ (passes : ℕ → Bool) where
+  abbrev fails : ℕ → Bool
+  fails b = not (passes b)
 
-front_plain : (bytes : List ℕ) → list_all is_plain (split_first not_plain bytes).0 ≡ true
-front_plain bytes = ap (λ q. list_all q (split_first not_plain bytes).0) (λ i b. twice (is_plain b) i) ∙ front_fails not_plain bytes
+  front_passes : (bytes : List ℕ) → list_all passes (split_first fails bytes).0 ≡ true
+  front_passes bytes = ap (λ q. list_all q (split_first fails bytes).0) (λ i b. twice (passes b) i) ∙ front_fails fails bytes
 
-pub plain_before : (bytes : List ℕ) (n : ℕ) → position not_plain bytes ≡ Some n → list_all is_plain (take n bytes) ≡ true
-plain_before bytes n found = sym (ap (λ parts. list_all is_plain parts.0) (split_at not_plain bytes n found).split) ∙ front_plain bytes
+  pub passing_before : (bytes : List ℕ) (n : ℕ) → position fails bytes ≡ Some n → list_all passes (take n bytes) ≡ true
+  passing_before bytes n found = sym (ap (λ parts. list_all passes parts.0) (split_at fails bytes n found).split) ∙ front_passes bytes
 
-pub plain_throughout : (bytes : List ℕ) → position not_plain bytes ≡ None → list_all is_plain (take (length bytes) bytes) ≡ true
-plain_throughout bytes none =
-    ap (list_all is_plain) (take_all (length bytes) bytes (omega arith)) ∙ sym (ap (λ parts. list_all is_plain parts.0) (split_nowhere not_plain bytes none)) ∙ front_plain bytes
+  pub passing_throughout : (bytes : List ℕ) → position fails bytes ≡ None → list_all passes (take (length bytes) bytes) ≡ true
+  passing_throughout bytes none =
+      ap (list_all passes) (take_all (length bytes) bytes (omega arith)) ∙ sym (ap (λ parts. list_all passes parts.0) (split_nowhere fails bytes none)) ∙ front_passes bytes

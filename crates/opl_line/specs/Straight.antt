@@ -1,5 +1,5 @@
 -- What a line in its canonical form says, stretch by stretch (own definitions of this project, for the reader that takes such a line straight on).
-use Rattle.std.specs.Prelude.{◌≡◌, ℕ, ℤ, Bool, true, List, ◌∷◌, ◌++◌, codes, None, if◌then◌else◌}
+use Rattle.std.specs.Prelude.{◌≡◌, ℕ, ℤ, Bool, true, List, ◌∷◌, ◌++◌, codes, encode_utf8_all, None, if◌then◌else◌}
 use Rattle.std.specs.List.{list_all}
 use Rattle.osm_model.specs.declared.kind.Kind.{Kind}
 use Rattle.osm_model.specs.declared.meta.Meta.{Meta}
@@ -10,10 +10,16 @@ use Rattle.osm_model.specs.Text.{is_text}
 use Rattle.osm_model.specs.New.{is_number, is_time, first_fault}
 use Rattle.osm_model.specs.Decimal.{number_text, integer_text}
 use Rattle.osm_model.specs.Time.{time_text}
-use Rattle.osm_model.specs.Escape.{escape}
+use Rattle.osm_model.specs.Escape.{escape, is_raw}
 use Rattle.osm_model.specs.Joined.{joined}
 use Rattle.osm_model.specs.Data.{kind_of, is_deleted, tags_of, ids_of, texts_of, version_of}
 use Rattle.osm_model.specs.Line.{list_text, tag_text, kind_fields, line}
+
+-- raw characters, in UTF-8
+pub record AreRaw (bytes : List ℕ) : Type 0 where
+  pub characters : List ℕ
+  pub spelled : bytes ≡ encode_utf8_all characters
+  pub raw : list_all is_raw characters ≡ true
 
 -- V for visible, D for deleted
 abbrev pub deleted_text : Bool → List ℕ

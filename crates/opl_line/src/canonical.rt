@@ -9,9 +9,8 @@ ghost use Rattle.osm_model.specs.Append.{location_text};
 ghost use Rattle.opl_line.specs.Straight.{IsHead, IsTail, IsCanonical, deleted_text};
 
 use crate::canonical_item::{CanonicalItem, behind_byte, canonical_list, canonical_object};
-use crate::canonical_part::{
-    canonical_coordinate, canonical_number, canonical_text, canonical_time,
-};
+use crate::canonical_part::{canonical_coordinate, canonical_number, canonical_time};
+use crate::canonical_texts::canonical_text;
 use osm_model::{Body, Kind, Members, Meta, References, Tags};
 use std::alloc::Global;
 

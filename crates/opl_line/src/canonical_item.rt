@@ -7,7 +7,8 @@ ghost use Rattle.osm_model.specs.Kind.{kind_letter};
 ghost use Rattle.osm_model.specs.Decimal.{integer_text};
 ghost use Rattle.osm_model.specs.Line.{list_text, tag_text, reference_text, member_text};
 
-use crate::canonical_part::{canonical_id, canonical_text};
+use crate::canonical_part::canonical_id;
+use crate::canonical_texts::canonical_text;
 use crate::item::{USUAL_ITEM, kind_of_letter};
 use osm_model::{Kind, Member, Tag};
 use std::alloc::Global;

@@ -1,22 +1,16 @@
 //! Parts of canonical lines, each read where it stands in its one form. What stands in another form is left to the
 //! readers of `front` and of whole pieces.
-ghost use Rattle.std.specs.Prelude.{◌≡◌, ◌++◌, ◌<◌, ◌≤◌, ◌^◌, length, take, true, IfSome};
-ghost use Rattle.std.specs.List.{list_all};
+ghost use Rattle.std.specs.Prelude.{◌≡◌, ◌++◌, ◌<◌, ◌≤◌, ◌^◌, true, IfSome};
 ghost use Rattle.osm_model.specs.Id.{is_id};
 ghost use Rattle.osm_model.specs.New.{is_number, is_time};
-ghost use Rattle.osm_model.specs.Text.{is_text};
 ghost use Rattle.osm_model.specs.Decimal.{number_text, integer_text};
 ghost use Rattle.osm_model.specs.Coordinate.{coordinate_text, degrees_text, fraction_text};
 ghost use Rattle.osm_model.specs.Time.{time_text};
-ghost use Rattle.osm_model.specs.Escape.{escape, is_raw_byte};
 
 use crate::content::GREATEST_NUMBER;
 use crate::front::{MOST_DIGITS, MOST_ID_DIGITS, TIME, leading_digits};
 use crate::number::{DEGREE, scale, split_sign, to_units};
 use crate::time::read_time;
-use osm_model::Text;
-use std::alloc::Global;
-use std::str;
 
 /// A version number, a changeset or a user id, and what stands behind it.
 #[inline(always)]
@@ -116,40 +110,4 @@ fn numeral(text: &[u8], most: usize) -> Option<(u64, &[u8])>
         return None;
     }
     Some((number, &text[length..]))
-}
-
-/// The raw characters of a text that are bytes by themselves, and what stands behind them.
-#[inline(always)]
-pub(crate) fn canonical_text(alloc: Global, bytes: &[u8]) -> Option<(Text, &[u8])>
-    ensures text { IfSome result (λ read. bytes.now ≡ escape read.0 ++ read.1.now) }
-    ensures valid { IfSome result (λ read. is_text read.0 ≡ true) }
-{
-    let length = raw_length(bytes);
-    let raw = unsafe { str::from_utf8_unchecked(&bytes[..length]) };
-    let Ok(text) = Text::from_str(alloc, raw) else {
-        return None;
-    };
-    Some((text, &bytes[length..]))
-}
-
-/// How many raw characters of one byte stand before the first other one.
-#[inline(always)]
-fn raw_length(bytes: &[u8]) -> usize
-    ensures within { result ≤ length bytes.now }
-    ensures raw { list_all is_raw_byte (take result bytes.now) ≡ true }
-{
-    'bytes: for place in 0..bytes.len() {
-        if !is_raw_byte(bytes[place]) {
-            return place;
-        }
-    }
-    bytes.len()
-}
-
-/// Whether a byte is a raw character by itself.
-#[inline(always)]
-fn is_raw_byte(byte: u8) -> bool
-    ensures { result ≡ is_raw_byte byte }
-{
-    matches!(byte, 0x21..=0x24 | 0x26..=0x2B | 0x2D..=0x3C | 0x3E..=0x3F | 0x41..=0x7E)
 }

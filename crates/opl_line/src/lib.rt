@@ -4,6 +4,7 @@
 mod canonical;
 mod canonical_item;
 mod canonical_part;
+mod canonical_texts;
 mod content;
 mod cut;
 mod field;

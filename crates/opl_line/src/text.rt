@@ -151,7 +151,7 @@ impl ByteClass<LANES> for NotRaw {
 }
 
 /// The character that 1 to 8 hexadecimal digits name, which is not U+0000.
-fn scalar_of(digits: &[u8]) -> Option<char>
+pub(crate) fn scalar_of(digits: &[u8]) -> Option<char>
     ensures { result ≡ spec.scalar_of digits.now }
 {
     if digits.is_empty() || digits.len() > 8 {

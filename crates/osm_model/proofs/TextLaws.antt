@@ -1,12 +1,12 @@
 -- Texts as characters and as bytes.
-use Rattle.std.proofs.Common.{◌≡◌, ℕ, false, eqb, ◌||◌, List, [], ◌∷◌, ◌++◌, refl, ◌∙◌, arith, length}
+use Rattle.std.proofs.Common.{◌≡◌, ℕ, false, eqb, ◌||◌, List, [], ◌∷◌, ◌++◌, refl, ap, ◌∙◌, arith, length}
 use lib.Utf8.{encode, encodes}
 use Rattle.std.specs.Str.{chars, IsUtf8}
 use Rattle.std.specs.String.{string_bytes}
 use Rattle.std.specs.declared.string.String.{String}
 use Rattle.std.specs.List.{list_any}
 use Rattle.std.specs.FinMap.{IsAntisymmetric, slice_cmp-IsAntisymmetric, nat_cmp-IsAntisymmetric}
-use Rattle.std.proofs.lemmas.Str.{encodes-chars, encodes_same, IsUtf8-string_bytes}
+use Rattle.std.proofs.lemmas.Str.{encodes-chars, encodes_same, chars-append, IsUtf8-string_bytes}
 use Rattle.std.proofs.lemmas.List.Folds.{list_any-append}
 use Rattle.std.proofs.lemmas.Bool.Decides.{nat_tests}
 use Rattle.osm_model.specs.Text.{text_cmp}
@@ -40,3 +40,6 @@ empty_by_length (b ∷ bs) = grind (arith, nat_tests)
 
 pub text_chars : (bs cs : List ℕ) → IsUtf8 bs → bs ≡ encodes cs → chars bs ≡ cs
 text_chars bs cs u e = encodes_same _ _ (encodes-chars bs u ∙ e)
+
+pub appended_chars : (before more now : List ℕ) → IsUtf8 before → now ≡ before ++ more → chars now ≡ chars before ++ chars more
+appended_chars before more now u e = ap chars e ∙ chars-append before more u

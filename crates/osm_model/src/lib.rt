@@ -5,6 +5,7 @@ mod append;
 mod body;
 mod calendar;
 mod escape;
+mod escaped;
 mod fault;
 mod history;
 mod id;
@@ -22,6 +23,7 @@ mod text;
 mod version;
 
 pub use body::Body;
+pub use escaped::behind_escaped;
 pub use fault::ValueFault;
 pub use history::History;
 pub use id::is_id;

@@ -1,5 +1,5 @@
 //! Texts.
-ghost use Rattle.std.specs.Prelude.{◌≡◌, [], IfOk, encode_utf8_all, string_bytes};
+ghost use Rattle.std.specs.Prelude.{◌≡◌, ◌++◌, [], IfOk, OnOk, OnErr, encode_utf8_all, string_bytes};
 ghost use Rattle.std.specs.Str.{chars};
 ghost use Rattle.osm_model.specs.Storage.{bytes_of};
 ghost use Rattle.osm_model.specs.Text.{is_text, is_empty};
@@ -50,6 +50,35 @@ impl Storage {
             Storage::Apart(string) => Ok(Storage::Apart(copy_apart(string)?)),
         }
     }
+
+    /// Appends characters. After an error nothing has changed.
+    fn push_str(&mut self, alloc: Global, characters: &str) -> Result<(), Memory>
+        ensures appended { OnOk result (chars (bytes_of self.new) ≡ chars (bytes_of self.old) ++ chars characters.now) }
+        ensures kept { OnErr result (bytes_of self.new ≡ bytes_of self.old) }
+    {
+        match self {
+            Storage::Within(string) => {
+                let within = string.as_str();
+                if within.len() + characters.len() <= SHORT {
+                    string.push_str(characters);
+                } else {
+                    *self = Storage::Apart(joined(alloc, within, characters)?);
+                }
+                Ok(())
+            }
+            Storage::Apart(string) => Ok(string.push_str(characters)?),
+        }
+    }
+}
+
+/// Characters and more characters behind them, in memory of their own.
+fn joined(alloc: Global, characters: &str, more: &str) -> Result<String, Memory>
+    ensures { IfOk result (λ s. string_bytes s ≡ characters.now ++ more.now) }
+{
+    let mut string = String::with_capacity(alloc, characters.len() + more.len())?;
+    string.push_str(characters)?;
+    string.push_str(more)?;
+    Ok(string)
 }
 
 /// A copy of bytes in memory of their own, out of the way of short texts.
@@ -105,6 +134,18 @@ impl Text {
         Text {
             storage: Storage::Apart(string),
         }
+    }
+
+    /// Appends characters, which are copied. After an error the text is as it was.
+    ///
+    /// # Errors
+    ///
+    /// For want of memory alone.
+    pub fn push_str(&mut self, alloc: Global, characters: &str) -> Result<(), Memory>
+        ensures appended { OnOk result (self.new ≡ self.old ++ chars characters.now) }
+        ensures kept { OnErr result (self.new ≡ self.old) }
+    {
+        self.storage.push_str(alloc, characters)
     }
 
     /// The text as a slice.

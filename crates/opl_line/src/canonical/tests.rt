@@ -46,6 +46,24 @@ r2 v3 dD c0 t i0 u T M";
 }
 
 #[test]
+fn escapes_are_read_straight_on(rt: HostRuntime) -> Result<(), Fail> {
+    let alloc = rt.alloc();
+    let lines = "\
+n1 v1 dV c5 t2014-05-06T07:08:09Z i5 uAnna%20%Groß T x8.6 y49.1
+n1 v1 dV c5 t2014-05-06T07:08:09Z i5 u%20% T x8.6 y49.1
+n1 v2 dV c9 t2015-01-02T03:04:05Z i6 u¡¢¬®¿ÀÿĀͿ֐׿ Tname=Улица%20%Ленина%20%7,ä%3d%b=c%2c%ö x8.6 y49
+n1 v3 dV c9 t2015-01-02T03:04:05Z i6 u%0600%%fffd%%1f600%%10ffff% Tname=%1e9e%%a0%%ad%%07%%7f% x8.6 y49
+w4 v1 dV c0 t i0 u Tname=a%20%name%20%that%20%takes%20%memory%20%of%20%its%20%own,note=%25%%25%%40% Nn1
+r2 v2 dV c0 t i0 u T Mw4@%20%,n7@end%20%ß,r-1@%0904%";
+    let mut reader = LineReader::keeping_lines(alloc);
+    for line in lines.lines() {
+        assert!(&rt; read_canonical(alloc, line.as_bytes()).is_some());
+        check_written(&rt, alloc, &mut reader, line, line)?;
+    }
+    Ok(())
+}
+
+#[test]
 fn other_lines_are_left(rt: HostRuntime) -> Result<(), Fail> {
     let alloc = rt.alloc();
     let rows = "\
@@ -65,7 +83,16 @@ n1 v1 dV c0 t i0 u Ta=1,a=1 x1 y2 => n1 v1 dV c0 t i0 u Ta=1 x1 y2
 n1 v1 dD c0 t i0 u Ta=1 x1 y2 => n1 v1 dD c0 t i0 u T x y
 n1 v1 dV c1 t2014-05-06T07:08:09Z i5 u%41% T x1 y2 => n1 v1 dV c1 t2014-05-06T07:08:09Z i5 uA T x1 y2
 w1 v1 dV c0 t i0 u T Nn1,n02 => w1 v1 dV c0 t i0 u T Nn1,n2
-r1 v1 dV c0 t i0 u T Mn1@a@b => r1 v1 dV c0 t i0 u T Mn1@a%40%b";
+r1 v1 dV c0 t i0 u T Mn1@a@b => r1 v1 dV c0 t i0 u T Mn1@a%40%b
+w1 v1 dV c0 t i0 u Ta=%2C% N => w1 v1 dV c0 t i0 u Ta=%2c% N
+w1 v1 dV c0 t i0 u Ta=%020%b N => w1 v1 dV c0 t i0 u Ta=%20%b N
+w1 v1 dV c0 t i0 u Ta=%600% N => w1 v1 dV c0 t i0 u Ta=%0600% N
+w1 v1 dV c0 t i0 u Ta=%df% N => w1 v1 dV c0 t i0 u Ta=ß N
+w1 v1 dV c0 t i0 u Ta=\u{1e9e} N => w1 v1 dV c0 t i0 u Ta=%1e9e% N
+w1 v1 dV c0 t i0 u Ta=\u{a0} N => w1 v1 dV c0 t i0 u Ta=%a0% N
+w1 v1 dV c0 t i0 u Ta=\u{ad} N => w1 v1 dV c0 t i0 u Ta=%ad% N
+w1 v1 dV c0 t i0 u Ta=ß@ N => w1 v1 dV c0 t i0 u Ta=ß%40% N
+w1 v1 dV c0 t i0 u Ta=b%20% Nn01 => w1 v1 dV c0 t i0 u Ta=b%20% Nn1";
     let mut reader = LineReader::keeping_lines(alloc);
     for row in rows.lines() {
         let (line, canonical) = row.split_once(" => ").ok_or("no answer")?;
@@ -86,6 +113,11 @@ n1 v1 dV c0 t i0 u T x214.7483648 y2
 n1 v1 dV c0 t i0 u T x y
 n1 v1 dV c0 t i0 u T x1 y2 Nn1
 w1 v1 dV c0 t i0 u T Nn1,
+w1 v1 dV c0 t i0 u Ta=%20 N
+w1 v1 dV c0 t i0 u Ta=%% N
+w1 v1 dV c0 t i0 u Ta=%00% N
+w1 v1 dV c0 t i0 u Ta=%d800% N
+w1 v1 dV c0 t i0 u Ta=ß
 q1 v1 dV c0 t i0 u T x1 y2";
     for line in lines.lines() {
         assert!(&rt; read_canonical(rt.alloc(), line.as_bytes()).is_none());

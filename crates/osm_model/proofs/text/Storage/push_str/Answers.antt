@@ -1,0 +1,17 @@
+use Rattle.std.proofs.Common.{rules, ◌≡◌, ◌++◌, string_bytes}
+use Rattle.std.proofs.lemmas.Str.{IsUtf8-string_bytes}
+use Rattle.osm_model.specs.Storage.{bytes_of}
+use Rattle.osm_model.proofs.TextLaws.{appended_chars}
+use Rattle.osm_model.proofs.text.Storage.push_str.Goals as goal
+
+pub returns-then-within-characters-le-SHORT-clause-appended : goal.returns-then-within-characters-le-SHORT-clause-appended
+returns-then-within-characters-le-SHORT-clause-appended c =
+    appended_chars (bytes_of c.args.self.now) c.args.characters.now c.push_str.new.self.bytes (search (rules, c.as_str-within.utf8)) (search rules)
+
+pub returns-in_ok-joined-in-Within-clause-appended : goal.returns-in_ok-joined-in-Within-clause-appended
+returns-in_ok-joined-in-Within-clause-appended c =
+    appended_chars (bytes_of c.args.self.now) c.args.characters.now (string_bytes c.in_ok-joined-in-Within.field-0) (search (rules, c.as_str-within.utf8)) (search rules)
+
+pub returns-in_ok-push_str-in-Apart-clause-appended : goal.returns-in_ok-push_str-in-Apart-clause-appended
+returns-in_ok-push_str-in-Apart-clause-appended c =
+    appended_chars (bytes_of c.args.self.now) c.args.characters.now (string_bytes c.push_str-in-Apart.new.self) (search (rules, IsUtf8-string_bytes c.in-Apart.string)) (search rules)
