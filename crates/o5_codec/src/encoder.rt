@@ -1,6 +1,7 @@
 //! Writing data sets.
 ghost use Rattle.std.specs.Prelude.{◌≡◌, ◌++◌, ◌<◌, length, IfOk, IfErr, OnOk, OnErr};
 ghost use Rattle.osm_model.specs.Data.{kind_of};
+ghost use Rattle.osm_model.specs.Extends.{Extends};
 ghost use Rattle.o5_codec.specs.Encoder as spec;
 
 use crate::EncodeFault;
@@ -18,8 +19,7 @@ pub struct Encoder {
     context: WrittenSegment,
     failed: bool,
     alloc: Global,
-    /// Buffers that are used again: a data set, its content, and a section within it.
-    set: Vec<u8>,
+    /// Buffers that are used again: the content of a data set, and a section within it.
     content: Draft,
     section: Draft,
 }
@@ -46,7 +46,6 @@ impl Encoder {
             context: WrittenSegment::new(alloc)?,
             failed: false,
             alloc,
-            set: Vec::new(alloc),
             content: Draft::new(alloc),
             section: Draft::new(alloc),
         })
@@ -106,14 +105,7 @@ impl Encoder {
         self.content.clear();
         self.context
             .append_content(&mut self.content, &mut self.section, v)?;
-        match self.content.as_piece() {
-            Some(content) if !begins && content.len() < 128 => append_short_set(out, kind, content),
-            _ => {
-                fill_set(&mut self.set, begins, kind, &self.content)?;
-                out.extend_from_slice(&self.set)?;
-                Ok(())
-            }
-        }
+        append_whole(out, begins, kind, &self.content)
     }
 }
 
@@ -133,34 +125,63 @@ fn begin_if(begins: bool, context: &mut WrittenSegment)
     }
 }
 
-/// Makes a data set with this content, behind a reset where it begins a segment.
-fn fill_set(set: &mut Vec<u8>, begins: bool, kind: Kind, content: &Draft) -> Result<(), Memory>
-    ensures { OnOk result (set.new.items ≡ spec.reset_before begins ++ spec.data_set kind content.now) }
-{
-    set.clear();
-    if begins {
-        set.push(0xff)?;
-    }
-    set.push(type_byte(kind))?;
-    append_number(set, content.len())?;
-    content.append_to(set)
-}
-
-/// Appends a data set whose content is short, where no segment begins.
-fn append_short_set(out: &mut Vec<u8>, kind: Kind, content: &[u8]) -> Result<(), Memory>
-    requires { length content.now < 128 }
-    ensures bytes { OnOk result (out.new.items ≡ out.old.items ++ spec.data_set kind content.now) }
+/// Appends a data set with this content, behind a reset where it begins a segment. After an error the bytes are those that
+/// stood there before.
+fn append_whole(out: &mut Vec<u8>, begins: bool, kind: Kind, content: &Draft) -> Result<(), Memory>
+    ensures bytes { OnOk result (out.new.items ≡ out.old.items ++ (spec.reset_before begins ++ spec.data_set kind content.now)) }
     ensures unchanged { OnErr result (out.new.items ≡ out.old.items) }
 {
     let before = out.len();
-    out.extend_from_slice(&[type_byte(kind), content.len() as u8])?;
-    match out.extend_from_slice(content) {
+    match append_parts(out, begins, kind, content) {
         Ok(()) => Ok(()),
         Err(_) => {
             out.truncate(before);
             Err(Memory)
         }
     }
+}
+
+/// Appends the parts of a data set with this content one after the other.
+#[inline(always)]
+fn append_parts(out: &mut Vec<u8>, begins: bool, kind: Kind, content: &Draft) -> Result<(), Memory>
+    ensures bytes { OnOk result (out.new.items ≡ out.old.items ++ (spec.reset_before begins ++ spec.data_set kind content.now)) }
+    ensures kept { Extends out.old.items out.new.items }
+{
+    match content.as_piece() {
+        Some(content) if !begins && content.len() < 128 => append_short_set(out, kind, content),
+        _ => append_any_set(out, begins, kind, content),
+    }
+}
+
+/// Appends a data set whose content is short, where no segment begins.
+#[inline(always)]
+fn append_short_set(out: &mut Vec<u8>, kind: Kind, content: &[u8]) -> Result<(), Memory>
+    requires { length content.now < 128 }
+    ensures bytes { OnOk result (out.new.items ≡ out.old.items ++ spec.data_set kind content.now) }
+    ensures kept { Extends out.old.items out.new.items }
+{
+    out.extend_from_slice(&[type_byte(kind), content.len() as u8])?;
+    out.extend_from_slice(content)?;
+    Ok(())
+}
+
+/// Appends a data set with any content, behind a reset where it begins a segment.
+#[inline(never)]
+fn append_any_set(
+    out: &mut Vec<u8>,
+    begins: bool,
+    kind: Kind,
+    content: &Draft,
+) -> Result<(), Memory>
+    ensures bytes { OnOk result (out.new.items ≡ out.old.items ++ (spec.reset_before begins ++ spec.data_set kind content.now)) }
+    ensures kept { Extends out.old.items out.new.items }
+{
+    if begins {
+        out.push(0xff)?;
+    }
+    out.push(type_byte(kind))?;
+    append_number(out, content.len())?;
+    content.append_to(out)
 }
 
 fn type_byte(kind: Kind) -> u8

@@ -1,5 +1,6 @@
 //! Bytes of a data set that are being written.
 ghost use Rattle.std.specs.Prelude.{◌≡◌, ◌++◌, ◌∷◌, [], length, OnOk, IfSome};
+ghost use Rattle.osm_model.specs.Extends.{Extends};
 ghost use Rattle.o5_codec.specs.Shortest.{shortest_number};
 
 use crate::write::block::{Block, ROOM};
@@ -69,7 +70,8 @@ impl Draft {
     ///
     /// For want of memory alone; a part of them may then stand there.
     pub(crate) fn append_to(&self, out: &mut Vec<u8>) -> Result<(), Memory>
-        ensures { OnOk result (out.new.items ≡ out.old.items ++ self.now) }
+        ensures appended { OnOk result (out.new.items ≡ out.old.items ++ self.now) }
+        ensures kept { Extends out.old.items out.new.items }
     {
         out.extend_from_slice(self.front.as_slice())?;
         out.extend_from_slice(self.block.as_slice())?;

@@ -1,5 +1,5 @@
 //! Numbers in their shortest form.
-ghost use Rattle.std.specs.Prelude.{◌≡◌, ◌++◌, OnOk};
+ghost use Rattle.std.specs.Prelude.{◌≡◌, ◌++◌, OnOk, OnErr};
 ghost use Rattle.o5_codec.specs.Number.{unsigned_of};
 ghost use Rattle.o5_codec.specs.Shortest.{shortest_number, shortest_signed};
 
@@ -13,7 +13,8 @@ use osm_model::Memory;
 ///
 /// For want of memory alone; nothing is appended then.
 pub(crate) fn append_number(out: &mut Vec<u8>, number: u64) -> Result<(), Memory>
-    ensures { OnOk result (out.new.items ≡ out.old.items ++ shortest_number number) }
+    ensures appended { OnOk result (out.new.items ≡ out.old.items ++ shortest_number number) }
+    ensures unchanged { OnErr result (out.new.items ≡ out.old.items) }
 {
     let mut block = Block::new();
     block.append_number(number);
