@@ -1,5 +1,5 @@
 //! The bodies of data sets.
-ghost use Rattle.std.specs.Prelude.{◌≡◌, ◌<◌, length, IfOk};
+ghost use Rattle.std.specs.Prelude.{◌≡◌, ◌<◌, [], length, IfOk};
 ghost use Rattle.o5_codec.specs.Answer.{Gives, Answers};
 ghost use Rattle.o5_codec.specs.Items.{items_at, and_one_more};
 ghost use Rattle.o5_codec.specs.Body as spec;
@@ -10,7 +10,7 @@ use crate::number::{count_ended, read_number, read_signed};
 use crate::segment::{ListsSeen, Segment};
 use crate::strings::{Form, read_spelled};
 use crate::text::to_text;
-use osm_model::{Body, Kind, Member, Members, References, Tag, Tags};
+use osm_model::{Body, Kind, Member, Members, Memory, References, Spare, Tag, Tags};
 
 impl ListsSeen {
     /// What the segment had behind a way with this section of references.
@@ -54,26 +54,31 @@ impl Bases {
 impl Segment {
     /// The body of an object of this kind, to the end of the bytes. Where none is left, the object was deleted.
     #[tactic(auto, unfolding(crate::specs::Body::body_at))]
-    pub(crate) fn read_body(&mut self, kind: Kind, bytes: &[u8]) -> Result<Body, O5Reason>
+    pub(crate) fn read_body(
+        &mut self,
+        kind: Kind,
+        bytes: &[u8],
+        spare: &mut Spare,
+    ) -> Result<Body, O5Reason>
         ensures { Answers (λ body. (body, self.new)) (spec.body_at kind self.old bytes.now) result }
     {
         if bytes.is_empty() {
             return Ok(Body::Deleted(kind));
         }
         match kind {
-            Kind::Node => self.read_node(bytes),
-            Kind::Way => self.read_way(bytes),
-            Kind::Relation => self.read_relation(bytes),
+            Kind::Node => self.read_node(bytes, spare),
+            Kind::Way => self.read_way(bytes, spare),
+            Kind::Relation => self.read_relation(bytes, spare),
         }
     }
 
     #[tactic(auto, unfolding(crate::specs::Body::node_at))]
-    fn read_node(&mut self, bytes: &[u8]) -> Result<Body, O5Reason>
+    fn read_node(&mut self, bytes: &[u8], spare: &mut Spare) -> Result<Body, O5Reason>
         ensures { Answers (λ body. (body, self.new)) (spec.node_at self.old bytes.now) result }
     {
         let (lon, rest) = self.read_longitude(bytes)?;
         let (lat, rest) = self.read_latitude(rest)?;
-        let tags = self.read_tags(rest)?;
+        let tags = self.read_tags(rest, spare)?;
         Ok(Body::Node { lon, lat, tags })
     }
 
@@ -92,31 +97,31 @@ impl Segment {
     }
 
     #[tactic(auto, unfolding(crate::specs::Body::way_at))]
-    fn read_way(&mut self, bytes: &[u8]) -> Result<Body, O5Reason>
+    fn read_way(&mut self, bytes: &[u8], spare: &mut Spare) -> Result<Body, O5Reason>
         ensures { Answers (λ body. (body, self.new)) (spec.way_at self.old bytes.now) result }
     {
         let (section, rest) = read_section(bytes)?;
         self.seen = self.seen.with_section(section)?;
-        let refs = self.read_references(section)?;
-        let tags = self.read_tags(rest)?;
+        let refs = self.read_references(section, spare)?;
+        let tags = self.read_tags(rest, spare)?;
         Ok(Body::Way { refs, tags })
     }
 
     #[tactic(auto, unfolding(crate::specs::Body::relation_at))]
-    fn read_relation(&mut self, bytes: &[u8]) -> Result<Body, O5Reason>
+    fn read_relation(&mut self, bytes: &[u8], spare: &mut Spare) -> Result<Body, O5Reason>
         ensures { Answers (λ body. (body, self.new)) (spec.relation_at self.old bytes.now) result }
     {
         let (section, rest) = read_section(bytes)?;
-        let members = self.read_members(section)?;
-        let tags = self.read_tags(rest)?;
+        let members = self.read_members(section, spare)?;
+        let tags = self.read_tags(rest, spare)?;
         Ok(Body::Relation { members, tags })
     }
 
     /// References to the end of the bytes.
-    fn read_references(&mut self, bytes: &[u8]) -> Result<References, O5Reason>
+    fn read_references(&mut self, bytes: &[u8], spare: &mut Spare) -> Result<References, O5Reason>
         ensures { Answers (λ ids. (ids, self.new)) (items_at spec.reference_at self.old bytes.now) result }
     {
-        let mut ids = Vec::with_capacity(self.table.allocator(), count_ended(bytes))?;
+        let mut ids = room_for_references(bytes, spare)?;
         let mut rest = bytes;
         while !rest.is_empty() {
             let (id, behind) = self.read_reference(rest)?;
@@ -135,10 +140,10 @@ impl Segment {
     }
 
     /// Members to the end of the bytes.
-    fn read_members(&mut self, bytes: &[u8]) -> Result<Members, O5Reason>
+    fn read_members(&mut self, bytes: &[u8], spare: &mut Spare) -> Result<Members, O5Reason>
         ensures { Answers (λ members. (members, self.new)) (items_at spec.member_at self.old bytes.now) result }
     {
-        let mut members = Vec::new(self.table.allocator());
+        let mut members = spare.take_members();
         let mut rest = bytes;
         while !rest.is_empty() {
             let (member, behind) = self.read_member(rest)?;
@@ -166,21 +171,21 @@ impl Segment {
 
     /// Tags to the end of the bytes.
     #[inline(always)]
-    fn read_tags(&mut self, bytes: &[u8]) -> Result<Tags, O5Reason>
+    fn read_tags(&mut self, bytes: &[u8], spare: &mut Spare) -> Result<Tags, O5Reason>
         ensures { Answers (λ tags. (tags, self.new)) (items_at spec.tag_at self.old bytes.now) result }
     {
         if bytes.is_empty() {
             return Ok(Tags::from_vec(Vec::new(self.table.allocator())));
         }
-        self.read_each_tag(bytes)
+        self.read_each_tag(bytes, spare)
     }
 
     /// Tags to the end of the bytes, of which there are some.
     #[inline(never)]
-    fn read_each_tag(&mut self, bytes: &[u8]) -> Result<Tags, O5Reason>
+    fn read_each_tag(&mut self, bytes: &[u8], spare: &mut Spare) -> Result<Tags, O5Reason>
         ensures { Answers (λ tags. (tags, self.new)) (items_at spec.tag_at self.old bytes.now) result }
     {
-        let mut tags = Vec::new(self.table.allocator());
+        let mut tags = spare.take_tags();
         let mut rest = bytes;
         while !rest.is_empty() {
             rest = self.add_tag(rest, &mut tags)?;
@@ -200,6 +205,17 @@ impl Segment {
         self.table.add_tag(&spelled, tags)?;
         Ok(rest)
     }
+}
+
+/// A list for the references of these bytes: one that has been used before, or with room for as many as there are.
+fn room_for_references(bytes: &[u8], spare: &mut Spare) -> Result<Vec<i64>, Memory>
+    ensures { IfOk result (λ ids. ids.items ≡ []) }
+{
+    let mut ids = spare.take_references();
+    if ids.capacity() == 0 {
+        ids.reserve(count_ended(bytes))?;
+    }
+    Ok(ids)
 }
 
 /// The section whose length stands in front of it, and the bytes behind it.

@@ -11,7 +11,7 @@ use crate::O5Reason;
 use crate::base::Bases;
 use crate::segment::{ListsSeen, Segment};
 use crate::table::Table;
-use osm_model::{Kind, Memory, Version};
+use osm_model::{Kind, Memory, Spare, Version};
 use std::alloc::Global;
 use std::marker::Model;
 
@@ -20,8 +20,8 @@ use std::marker::Model;
 pub struct Decoder {
     segment: Segment,
     failed: bool,
-    /// A version that isn't needed any more, whose memory the next one takes.
-    spare: Option<Version>,
+    /// What memory isn't needed any more, which the next version takes.
+    spare: Spare,
 }
 
 impl Model for Decoder {
@@ -48,7 +48,7 @@ impl Decoder {
         Ok(Decoder {
             segment: Segment::new(alloc),
             failed: false,
-            spare: None,
+            spare: Spare::new(alloc),
         })
     }
 
@@ -79,7 +79,7 @@ impl Decoder {
     pub fn reuse(&mut self, version: Version)
         ensures { self.new ≡ self.old }
     {
-        self.spare = Some(version);
+        self.spare.put(version);
     }
 
     /// Begins a segment: all bases are 0, and the string table is empty. A decoder that has failed stays so.
@@ -111,13 +111,13 @@ impl Segment {
         self.seen = ListsSeen::Neither;
     }
 
-    /// The version of a data set, in the memory of a version that isn't needed any more, if there is one.
+    /// The version of a data set, in memory that isn't needed any more, if there is some.
     #[tactic(auto, unfolding(crate::specs::Body::set_at))]
     fn read_set(
         &mut self,
         kind: Kind,
         content: &[u8],
-        spare: &mut Option<Version>,
+        spare: &mut Spare,
     ) -> Result<Version, O5Reason>
         requires { is_sound self.old ≡ true }
         ensures value { Answers (λ v. (v, self.new)) (set_at kind self.old content.now) result }
@@ -125,7 +125,7 @@ impl Segment {
     {
         let (id, rest) = self.read_id(content)?;
         let (meta, rest) = self.read_meta(rest)?;
-        let body = self.read_body(kind, rest)?;
+        let body = self.read_body(kind, rest, spare)?;
         // What a data set says is within all ranges, so that memory alone can be wanting.
         let alloc = self.table.allocator();
         Ok(Version::of_sound_data(alloc, spare, id, meta, body)?)

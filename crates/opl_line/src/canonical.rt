@@ -11,7 +11,7 @@ ghost use Rattle.opl_line.specs.Straight.{IsHead, IsTail, IsCanonical, deleted_t
 use crate::canonical_item::{CanonicalItem, behind_byte, canonical_list, canonical_object};
 use crate::canonical_part::{canonical_coordinate, canonical_number, canonical_time};
 use crate::canonical_texts::canonical_text;
-use osm_model::{Body, Kind, Members, Meta, References, Tags};
+use osm_model::{Body, Kind, Members, Meta, References, Spare, Tags};
 use std::alloc::Global;
 
 /// What stands before the tags.
@@ -23,13 +23,18 @@ struct Head {
     meta: Meta,
 }
 
-/// The id and the data of a line in its canonical form; `None` of another line, and where memory is wanting.
+/// The id and the data of a line in its canonical form, its lists in memory that isn't needed any more, if there is some;
+/// `None` of another line, and where memory is wanting.
 #[inline(always)]
-pub(crate) fn read_canonical(alloc: Global, line: &[u8]) -> Option<(i64, Meta, Body)>
+pub(crate) fn read_canonical(
+    alloc: Global,
+    spare: &mut Spare,
+    line: &[u8],
+) -> Option<(i64, Meta, Body)>
     ensures { IfSome result (λ read. IsCanonical line.now read.0 read.1 read.2) }
 {
     let (head, behind) = read_head(alloc, line)?;
-    let body = read_tail(alloc, head.kind, head.is_deleted, behind)?;
+    let body = read_tail(alloc, spare, head.kind, head.is_deleted, behind)?;
     if head.meta.version == 0 || !head.meta.is_dated() || !body.is_normal() {
         return None;
     }
@@ -78,14 +83,20 @@ fn canonical_deleted(text: &[u8]) -> Option<(bool, &[u8])>
 
 /// The body of what stands from the tags on.
 #[inline(always)]
-fn read_tail(alloc: Global, kind: Kind, is_deleted: bool, text: &[u8]) -> Option<Body>
+fn read_tail(
+    alloc: Global,
+    spare: &mut Spare,
+    kind: Kind,
+    is_deleted: bool,
+    text: &[u8],
+) -> Option<Body>
     ensures { IfSome result (IsTail text.now kind is_deleted) }
 {
     let text = behind_mark(text, b'T')?;
     if is_deleted {
         return read_deleted(kind, text);
     }
-    let (tags, behind) = canonical_list(alloc, text)?;
+    let (tags, behind) = canonical_list(alloc, spare, text)?;
     let tags = Tags::from_vec(tags);
     match kind {
         Kind::Node => {
@@ -93,11 +104,19 @@ fn read_tail(alloc: Global, kind: Kind, is_deleted: bool, text: &[u8]) -> Option
             Some(Body::Node { lon, lat, tags })
         }
         Kind::Way => {
-            let refs = References::from_vec(read_last_list(alloc, behind_mark(behind, b'N')?)?);
+            let refs = References::from_vec(read_last_list(
+                alloc,
+                spare,
+                behind_mark(behind, b'N')?,
+            )?);
             Some(Body::Way { refs, tags })
         }
         Kind::Relation => {
-            let members = Members::from_vec(read_last_list(alloc, behind_mark(behind, b'M')?)?);
+            let members = Members::from_vec(read_last_list(
+                alloc,
+                spare,
+                behind_mark(behind, b'M')?,
+            )?);
             Some(Body::Relation { members, tags })
         }
     }
@@ -130,11 +149,11 @@ fn read_location(text: &[u8]) -> Option<(i32, i32)>
 
 /// The items of a list that a line ends with.
 #[inline(always)]
-fn read_last_list<T: CanonicalItem>(alloc: Global, text: &[u8]) -> Option<Vec<T>>
+fn read_last_list<T: CanonicalItem>(alloc: Global, spare: &mut Spare, text: &[u8]) -> Option<Vec<T>>
     ensures text { IfSome result (λ items. text.now ≡ list_text T.form items.items) }
     ensures valid { IfSome result (λ items. list_all T.is_valid items.items ≡ true) }
 {
-    let (items, behind) = canonical_list(alloc, text)?;
+    let (items, behind) = canonical_list(alloc, spare, text)?;
     if behind.is_empty() { Some(items) } else { None }
 }
 

@@ -1,5 +1,5 @@
 //! Lists of canonical lines, each read where all its items stand in their one form.
-ghost use Rattle.std.specs.Prelude.{◌≡◌, ◌++◌, ◌∷◌, ◌&&◌, true, ℕ, List, Bool, IfSome};
+ghost use Rattle.std.specs.Prelude.{◌≡◌, [], ◌++◌, ◌∷◌, ◌&&◌, true, ℕ, List, Bool, IfSome};
 ghost use Rattle.std.specs.List.{list_all};
 ghost use Rattle.osm_model.specs.Id.{is_id};
 ghost use Rattle.osm_model.specs.Text.{is_text};
@@ -10,7 +10,7 @@ ghost use Rattle.osm_model.specs.Line.{list_text, tag_text, reference_text, memb
 use crate::canonical_part::canonical_id;
 use crate::canonical_texts::canonical_text;
 use crate::item::{USUAL_ITEM, kind_of_letter};
-use osm_model::{Kind, Member, Tag};
+use osm_model::{Kind, Member, Spare, Tag};
 use std::alloc::Global;
 
 /// What can stand in a list.
@@ -18,6 +18,10 @@ pub(crate) trait CanonicalItem: Drop + Sized {
     ghost form: { Self → List ℕ };
 
     ghost is_valid: { Self → Bool };
+
+    /// A list without items, in memory that isn't needed any more, if there is some.
+    fn take_list(spare: &mut Spare) -> Vec<Self>
+        ensures { result.items ≡ [] };
 
     /// The item that a text begins with, and what stands behind it.
     fn read_canonical(alloc: Global, text: &[u8]) -> Option<(Self, &[u8])>
@@ -30,6 +34,11 @@ impl CanonicalItem for Tag {
     ghost form = { tag_text };
 
     ghost is_valid = { λ tag. is_text tag.key && is_text tag.value };
+
+    #[inline(always)]
+    fn take_list(spare: &mut Spare) -> Vec<Tag> {
+        spare.take_tags()
+    }
 
     #[inline(always)]
     fn read_canonical(alloc: Global, text: &[u8]) -> Option<(Tag, &[u8])> {
@@ -46,6 +55,11 @@ impl CanonicalItem for i64 {
     ghost is_valid = { is_id };
 
     #[inline(always)]
+    fn take_list(spare: &mut Spare) -> Vec<i64> {
+        spare.take_references()
+    }
+
+    #[inline(always)]
     fn read_canonical(_alloc: Global, text: &[u8]) -> Option<(i64, &[u8])> {
         canonical_id(behind_byte(text, b'n')?)
     }
@@ -56,6 +70,11 @@ impl CanonicalItem for Member {
     ghost form = { member_text };
 
     ghost is_valid = { λ member. is_id member.id && is_text member.role };
+
+    #[inline(always)]
+    fn take_list(spare: &mut Spare) -> Vec<Member> {
+        spare.take_members()
+    }
 
     fn read_canonical(alloc: Global, text: &[u8]) -> Option<(Member, &[u8])> {
         let ((kind, id), behind) = canonical_object(text)?;
@@ -91,27 +110,42 @@ pub(crate) fn behind_byte(text: &[u8], byte: u8) -> Option<&[u8]>
 
 /// The items of a list, with a comma between each two, and what stands behind them.
 #[inline(always)]
-pub(crate) fn canonical_list<T: CanonicalItem>(
+pub(crate) fn canonical_list<'a, T: CanonicalItem>(
     alloc: Global,
-    text: &[u8],
-) -> Option<(Vec<T>, &[u8])>
+    spare: &mut Spare,
+    text: &'a [u8],
+) -> Option<(Vec<T>, &'a [u8])>
     ensures text { IfSome result (λ read. text.now ≡ list_text T.form read.0.items ++ read.1.now) }
     ensures valid { IfSome result (λ read. list_all T.is_valid read.0.items ≡ true) }
 {
     if text.is_empty() || text[0] == b' ' {
         return Some((Vec::new(alloc), text));
     }
-    canonical_items(alloc, text)
+    canonical_items(alloc, spare, text)
+}
+
+/// A list for the items that a text begins with: one that has been used before, or with room for usual ones.
+#[inline(always)]
+fn list_for<T: CanonicalItem>(spare: &mut Spare, text: &[u8]) -> Option<Vec<T>>
+    ensures { IfSome result (λ items. items.items ≡ []) }
+{
+    let mut items = T::take_list(spare);
+    if items.capacity() == 0 && items.reserve(text.len() / USUAL_ITEM + 1).is_err() {
+        return None;
+    }
+    Some(items)
 }
 
 /// The items of a list that isn't empty.
-fn canonical_items<T: CanonicalItem>(alloc: Global, text: &[u8]) -> Option<(Vec<T>, &[u8])>
+fn canonical_items<'a, T: CanonicalItem>(
+    alloc: Global,
+    spare: &mut Spare,
+    text: &'a [u8],
+) -> Option<(Vec<T>, &'a [u8])>
     ensures text { IfSome result (λ read. text.now ≡ list_text T.form read.0.items ++ read.1.now) }
     ensures valid { IfSome result (λ read. list_all T.is_valid read.0.items ≡ true) }
 {
-    let Ok(mut items) = Vec::with_capacity(alloc, text.len() / USUAL_ITEM + 1) else {
-        return None;
-    };
+    let mut items = list_for(spare, text)?;
     let mut rest = text;
     'items: loop {
         let (item, behind) = T::read_canonical(alloc, rest)?;

@@ -22,7 +22,7 @@ use crate::front::front_object;
 use crate::item::split_kind;
 use crate::number::read_id;
 use crate::utf8::to_str;
-use osm_model::{Body, Kind, Members, Memory, Meta, References, Tags, Text, Version};
+use osm_model::{Body, Kind, Members, Memory, Meta, References, Spare, Tags, Text, Version};
 use std::alloc::Global;
 use std::marker::Model;
 
@@ -46,8 +46,8 @@ pub fn read_line(alloc: Global, line: &[u8]) -> Result<Option<Version>, OplReaso
 #[derive(Drop)]
 pub struct LineReader {
     alloc: Global,
-    /// A version that isn't needed any more, whose memory the next one takes.
-    spare: Option<Version>,
+    /// What memory isn't needed any more, which the next version takes.
+    spare: Spare,
     /// Whether versions keep their canonical lines.
     keeps_lines: bool,
 }
@@ -64,7 +64,7 @@ impl LineReader {
     pub fn new(alloc: Global) -> LineReader {
         LineReader {
             alloc,
-            spare: None,
+            spare: Spare::new(alloc),
             keeps_lines: false,
         }
     }
@@ -75,7 +75,7 @@ impl LineReader {
     pub fn keeping_lines(alloc: Global) -> LineReader {
         LineReader {
             alloc,
-            spare: None,
+            spare: Spare::new(alloc),
             keeps_lines: true,
         }
     }
@@ -109,7 +109,7 @@ impl LineReader {
         ensures text { IfSome result (λ version. text.now ≡ line version) }
         ensures valid { IfSome result IsVersion }
     {
-        let (id, meta, body) = read_canonical(self.alloc, text)?;
+        let (id, meta, body) = read_canonical(self.alloc, &mut self.spare, text)?;
         let version = if self.keeps_lines {
             Version::of_canonical_line(self.alloc, &mut self.spare, id, meta, body, text)
         } else {
@@ -121,7 +121,7 @@ impl LineReader {
     /// Takes back a version that isn't needed any more. The next one takes its memory, so that none is asked for.
     #[inline(always)]
     pub fn reuse(&mut self, version: Version) {
-        self.spare = Some(version);
+        self.spare.put(version);
     }
 
     /// The version of a line that isn't skipped.

@@ -1,5 +1,5 @@
 -- Data without a fault makes a version.
-use Rattle.std.proofs.Common.{◌≡◌, ℕ, ◌<◌, ◌^◌, Bool, true, false, not, eqb, ◌&&◌, ◌∙◌, List, [], ◌∷◌, refl, sym, ap, arith, Option, Some, None, ℤ}
+use Rattle.std.proofs.Common.{rules, ◌≡◌, ℕ, ◌<◌, ◌^◌, Bool, true, false, not, eqb, ◌&&◌, ◌∙◌, List, [], ◌∷◌, refl, sym, ap, arith, Option, Some, None, ℤ}
 use Rattle.std.proofs.lemmas.Bool.Decides.{nat_tests}
 use Rattle.std.proofs.lemmas.List.Folds.{list_all-append}
 use Rattle.std.specs.Cmp.{first_so, second_so}
@@ -14,7 +14,8 @@ use Rattle.osm_model.specs.Id.{is_id}
 use Rattle.osm_model.specs.Text.{is_empty, is_text}
 use Rattle.osm_model.specs.Tags.{tag_cmp, texts_of_tags}
 use Rattle.osm_model.specs.Members.{roles_of}
-use Rattle.osm_model.specs.Data.{normal_body, version_of, ids_of, texts_of, tags_of}
+use Rattle.osm_model.specs.declared.kind.Kind.{Kind}
+use Rattle.osm_model.specs.Data.{VersionData, normal_body, version_of, ids_of, texts_of, tags_of}
 use Rattle.osm_model.specs.New.{first_fault, first_of_tests, is_number, is_time, is_dated}
 use Rattle.osm_model.specs.Valid.{IsInRange, IsVersion}
 use Rattle.osm_model.proofs.SetLaws.{strict-listed}
@@ -97,4 +98,20 @@ valid_version id meta b h location =
       texts = ap (λ b. is_text meta.user && b) (same_texts is_text b) ∙ p.texts;
       location = location;
       tags = sorted_tags b;
+    }
+
+-- a version whose body is taken away is one of a deleted object
+pub without_body : (v : VersionData) (k : Kind) → IsVersion v → IsVersion (record v { body = body.Deleted k })
+without_body v k h =
+    record {
+      ids = ap (λ b. b && true) (first_so (is_id v.id) _ h.ids);
+      number_above = h.number_above;
+      number_below = h.number_below;
+      changeset = h.changeset;
+      uid = h.uid;
+      time = h.time;
+      author = h.author;
+      texts = ap (λ b. b && true) (first_so (is_text v.user) _ h.texts);
+      location = search rules;
+      tags = sorted_tags (body.Deleted k);
     }

@@ -1,8 +1,8 @@
 //! Each public call once, with values worked out by hand.
 use crate::version::first_fault;
 use crate::{
-    Body, History, Kind, Member, Members, Memory, Meta, References, Tag, Tags, Text, ValueFault,
-    Version, is_id,
+    Body, History, Kind, Member, Members, Memory, Meta, References, Spare, Tag, Tags, Text,
+    ValueFault, Version, is_id,
 };
 use std::alloc::{AllocError, Global};
 use std::cmp::Ordering;
@@ -198,7 +198,13 @@ fn sound_data(rt: HostRuntime) -> Result<(), Fail> {
         uid: 0,
         user: Text::new(),
     };
-    let sound = Version::of_sound_data(alloc, &mut None, 7, meta, Body::Deleted(Kind::Way))?;
+    let sound = Version::of_sound_data(
+        alloc,
+        &mut Spare::new(alloc),
+        7,
+        meta,
+        Body::Deleted(Kind::Way),
+    )?;
     let same = Version::new(alloc, 7, number(alloc, 2), Body::Deleted(Kind::Way))?;
     assert_eq!(rt; sound, same);
     assert_eq!(rt; sound.kind(), Kind::Way);
@@ -211,13 +217,16 @@ fn memory_of_a_version_is_used_again(rt: HostRuntime) -> Result<(), Fail> {
     let refs = References::from_vec(vec![in alloc; 3, -1, 3]?);
     let tags = Tags::from_vec(vec![in alloc; tag(alloc, "c", "d")?, tag(alloc, "a", "b")?]?);
     let way = Version::new(alloc, 7, number(alloc, 2), Body::Way { refs, tags })?;
-    let mut spare = Some(way);
-    let tags = Tags::from_vec(vec![in alloc; tag(alloc, "e", "f")?]?);
+    let mut spare = Spare::new(alloc);
+    spare.put(way);
+    let mut tags = spare.take_tags();
+    tags.push(tag(alloc, "e", "f")?)?;
+    let tags = Tags::from_vec(tags);
     let (lon, lat) = (-5, 6);
     let (meta, body) = (number(alloc, 1), Body::Node { lon, lat, tags });
     assert!(rt; first_fault(9, &meta, &body).is_none());
     let node = Version::of_sound_data(alloc, &mut spare, 9, meta, body)?;
-    assert!(rt; spare.is_none());
+    assert!(rt; spare.take_references().capacity() >= 3);
     let tags = Tags::from_vec(vec![in alloc; tag(alloc, "e", "f")?]?);
     let same = Version::new(alloc, 9, number(alloc, 1), Body::Node { lon, lat, tags })?;
     assert_eq!(rt; node, same);

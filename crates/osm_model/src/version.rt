@@ -10,11 +10,12 @@ ghost use Rattle.osm_model.specs.Line.{line};
 ghost use Rattle.osm_model.specs.Kept.{IsKept};
 ghost use Rattle.osm_model.specs.New.{first_fault, version_or_fault};
 ghost use Rattle.osm_model.specs.Valid.{IsInRange, IsVersion};
+ghost use Rattle.osm_model.specs.declared.body.Body.TheVariants.{Deleted};
 ghost use Rattle.osm_model.specs.declared.fault.ValueFault.TheVariants as fault;
 
 use crate::id::is_id;
 use crate::same::Same;
-use crate::{Body, Kind, Memory, Meta, Text, ValueFault};
+use crate::{Body, Kind, Memory, Meta, Spare, Text, ValueFault};
 use std::alloc::Global;
 use std::cmp::Ordering;
 use std::marker::Model;
@@ -92,14 +93,45 @@ impl Parts {
         }
     }
 
-    /// The vector of the line at hand, emptied, so that its memory can be used again.
+    /// Keeps no line at hand any more.
     #[inline(always)]
-    fn take_room(&mut self, alloc: Global) -> Vec<u8>
-        ensures { result.items ≡ [] }
+    fn forget_line(&mut self)
+        ensures same { self.new ≡ record self.old { kept_line = self.new.kept_line } }
+        ensures line { self.new.kept_line.items ≡ [] }
     {
-        let mut room = mem::replace(&mut self.kept_line, Vec::new(alloc));
-        room.clear();
-        room
+        self.kept_line.clear();
+    }
+
+    /// Takes the body out, and leaves that of a deleted object of its kind, and no line.
+    #[inline(always)]
+    fn take_body(&mut self) -> Body
+        ensures id { self.new.id ≡ self.old.id }
+        ensures kind { self.new.kind ≡ self.old.kind }
+        ensures meta { self.new.meta ≡ self.old.meta }
+        ensures body { self.new.body ≡ Deleted self.old.kind }
+        ensures line { self.new.kept_line.items ≡ [] }
+    {
+        self.forget_line();
+        mem::replace(&mut self.body, Body::Deleted(self.kind))
+    }
+
+    /// Takes other data in the place of its own, the tags ascending, each once, and no line.
+    #[inline(always)]
+    fn refill(&mut self, id: i64, meta: Meta, body: Body)
+        ensures id { self.new.id ≡ id }
+        ensures kind { self.new.kind ≡ kind_of body }
+        ensures meta { self.new.meta ≡ meta }
+        ensures body { self.new.body ≡ normal_body body }
+        ensures location { IsInRange self.new.body }
+        ensures line { self.new.kept_line.items ≡ [] }
+    {
+        self.release();
+        self.forget_line();
+        self.id = id;
+        self.kind = body.kind();
+        // What is replaced holds no memory any more, so it is forgotten and not dropped.
+        mem::forget(mem::replace(&mut self.meta, meta));
+        mem::forget(mem::replace(&mut self.body, body.normal()));
     }
 
     /// The parts of a version of this data, its tags ascending, each once, with an empty vector that a line has room in.
@@ -135,7 +167,7 @@ impl Version {
         if let Some(fault) = first_fault(id, &meta, &body) {
             return Err(fault);
         }
-        match Version::of_sound_data(alloc, &mut None, id, meta, body) {
+        match Version::in_new_memory(alloc, id, meta, body) {
             Ok(version) => Ok(version),
             Err(_) => Err(ValueFault::Memory),
         }
@@ -150,7 +182,7 @@ impl Version {
     #[inline(always)]
     pub fn of_sound_data(
         alloc: Global,
-        spare: &mut Option<Version>,
+        spare: &mut Spare,
         id: i64,
         meta: Meta,
         body: Body,
@@ -159,8 +191,8 @@ impl Version {
         ensures value { IfOk result (λ version. version ≡ version_of id meta body) }
         ensures valid { IfOk result IsVersion }
     {
-        match spare.take() {
-            Some(spare) => Ok(Version::in_place_of(alloc, spare, id, meta, body)),
+        match spare.take_version() {
+            Some(spare) => Ok(Version::in_place_of(spare, id, meta, body)),
             None => Version::in_new_memory(alloc, id, meta, body),
         }
     }
@@ -180,16 +212,12 @@ impl Version {
 
     /// The version of data that has no fault, in the memory of one that isn't needed any more, so that none is wanted.
     #[inline(always)]
-    fn in_place_of(alloc: Global, mut spare: Version, id: i64, meta: Meta, body: Body) -> Version
+    fn in_place_of(mut spare: Version, id: i64, meta: Meta, body: Body) -> Version
         requires { first_fault id meta body ≡ None }
         ensures value { result ≡ version_of id meta body }
         ensures valid { IsVersion result }
     {
-        spare.parts.release();
-        let room = spare.parts.take_room(alloc);
-        // What is replaced holds no memory any more, so it is forgotten and not dropped.
-        let parts = Parts::normal(id, meta, body, room);
-        mem::forget(Box::replace(&mut spare.parts, parts));
+        spare.parts.refill(id, meta, body);
         spare
     }
 
@@ -202,7 +230,7 @@ impl Version {
     #[inline(always)]
     pub fn of_canonical_line(
         alloc: Global,
-        spare: &mut Option<Version>,
+        spare: &mut Spare,
         id: i64,
         meta: Meta,
         body: Body,
@@ -326,6 +354,12 @@ impl Version {
             return object;
         }
         self.number().cmp(&other.number())
+    }
+
+    /// Takes the body out. The version is one of a deleted object then, and keeps no line at hand.
+    #[inline(always)]
+    pub(crate) fn take_body(&mut self) -> Body {
+        self.parts.take_body()
     }
 
     /// An equal version, which keeps no line at hand.

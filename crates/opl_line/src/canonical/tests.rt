@@ -1,6 +1,7 @@
 //! Lines that are canonical, and lines that nearly are.
 use super::read_canonical;
 use crate::{LineReader, append_line};
+use osm_model::Spare;
 use std::alloc::Global;
 use std::process::Abort;
 use std::str;
@@ -39,7 +40,7 @@ r2 v2 dV c0 t i0 u T M
 r2 v3 dD c0 t i0 u T M";
     let mut reader = LineReader::keeping_lines(alloc);
     for line in lines.lines() {
-        assert!(&rt; read_canonical(alloc, line.as_bytes()).is_some());
+        assert!(&rt; read_canonical(alloc, &mut Spare::new(alloc), line.as_bytes()).is_some());
         check_written(&rt, alloc, &mut reader, line, line)?;
     }
     Ok(())
@@ -57,7 +58,7 @@ w4 v1 dV c0 t i0 u Tname=a%20%name%20%that%20%takes%20%memory%20%of%20%its%20%ow
 r2 v2 dV c0 t i0 u T Mw4@%20%,n7@end%20%ß,r-1@%0904%";
     let mut reader = LineReader::keeping_lines(alloc);
     for line in lines.lines() {
-        assert!(&rt; read_canonical(alloc, line.as_bytes()).is_some());
+        assert!(&rt; read_canonical(alloc, &mut Spare::new(alloc), line.as_bytes()).is_some());
         check_written(&rt, alloc, &mut reader, line, line)?;
     }
     Ok(())
@@ -96,7 +97,7 @@ w1 v1 dV c0 t i0 u Ta=b%20% Nn01 => w1 v1 dV c0 t i0 u Ta=b%20% Nn1";
     let mut reader = LineReader::keeping_lines(alloc);
     for row in rows.lines() {
         let (line, canonical) = row.split_once(" => ").ok_or("no answer")?;
-        assert!(&rt; read_canonical(alloc, line.as_bytes()).is_none());
+        assert!(&rt; read_canonical(alloc, &mut Spare::new(alloc), line.as_bytes()).is_none());
         check_written(&rt, alloc, &mut reader, line, canonical)?;
     }
     Ok(())
@@ -120,6 +121,8 @@ w1 v1 dV c0 t i0 u Ta=%d800% N
 w1 v1 dV c0 t i0 u Ta=ß
 q1 v1 dV c0 t i0 u T x1 y2";
     for line in lines.lines() {
-        assert!(&rt; read_canonical(rt.alloc(), line.as_bytes()).is_none());
+        assert!(&rt;
+            read_canonical(rt.alloc(), &mut Spare::new(rt.alloc()), line.as_bytes()).is_none()
+        );
     }
 }

@@ -5,7 +5,7 @@ use Rattle.o5_codec.proofs.ItemSteps.{items_begin, items_end, items_added, items
 use Rattle.o5_codec.proofs.segment.Segment.read_each_tag.Goals as goal
 
 pub loop-rest-init : goal.loop-rest-init
-loop-rest-init c = rw c.new-tags.ensures.items (items_begin tag_at c.args.self.now c.args.bytes.now)
+loop-rest-init c = rw c.take_tags-tags.ensures (items_begin tag_at c.args.self.now c.args.bytes.now)
 
 pub returns-in_err-rest : goal.returns-in_err-rest
 returns-in_err-rest c =

@@ -5,7 +5,7 @@ use Rattle.o5_codec.proofs.ItemSteps.{items_begin, items_end, items_more, items_
 use Rattle.o5_codec.proofs.segment.Segment.read_members.Goals as goal
 
 pub loop-rest-init : goal.loop-rest-init
-loop-rest-init c = rw c.new-members.ensures.items (items_begin member_at c.args.self.now c.args.bytes.now)
+loop-rest-init c = rw c.take_members-members.ensures (items_begin member_at c.args.self.now c.args.bytes.now)
 
 pub returns-in_err-member : goal.returns-in_err-member
 returns-in_err-member c =

@@ -8,7 +8,7 @@ use Rattle.o5_codec.proofs.ItemSteps.{items_begin, items_end, items_more, items_
 use Rattle.o5_codec.proofs.segment.Segment.read_references.Goals as goal
 
 pub loop-rest-init : goal.loop-rest-init
-loop-rest-init c = rw c.in_ok-ids.ensures.items (items_begin reference_at c.args.self.now c.args.bytes.now)
+loop-rest-init c = rw c.in_ok-ids.ensures (items_begin reference_at c.args.self.now c.args.bytes.now)
 
 pub returns-in_err-id : goal.returns-in_err-id
 returns-in_err-id c =

@@ -1,0 +1,111 @@
+//! Memory of versions that aren't needed any more, which later ones take.
+ghost use Rattle.std.specs.Prelude.{◌≡◌, []};
+
+use crate::{Body, Member, Tag, Version};
+use std::alloc::Global;
+use std::marker::Model;
+use std::mem;
+
+/// A version that isn't needed any more, and its lists, emptied. A reader that is given one back asks for no memory for the
+/// next.
+#[derive(Drop)]
+pub struct Spare {
+    version: Option<Version>,
+    references: Vec<i64>,
+    members: Vec<Member>,
+    tags: Vec<Tag>,
+}
+
+/// What is made in memory that was used before is what it would be in any, so contracts see nothing of it.
+impl Model for Spare {
+    ghost Value = { Unit {0} };
+
+    ghost view = { λ _. tt };
+}
+
+impl Spare {
+    /// No memory.
+    pub fn new(alloc: Global) -> Spare {
+        Spare {
+            version: None,
+            references: Vec::new(alloc),
+            members: Vec::new(alloc),
+            tags: Vec::new(alloc),
+        }
+    }
+
+    /// Takes a version that isn't needed any more.
+    #[inline(always)]
+    pub fn put(&mut self, mut version: Version) {
+        if version.body().has_memory() {
+            self.put_lists(version.take_body());
+        }
+        self.version = Some(version);
+    }
+
+    /// Takes the lists of a body.
+    #[inline(never)]
+    fn put_lists(&mut self, body: Body) {
+        match body {
+            Body::Deleted(_) => {}
+            Body::Node { tags, .. } => keep(&mut self.tags, tags.into_vec()),
+            Body::Way { refs, tags } => {
+                keep(&mut self.references, refs.into_vec());
+                keep(&mut self.tags, tags.into_vec());
+            }
+            Body::Relation { members, tags } => {
+                keep(&mut self.members, members.into_vec());
+                keep(&mut self.tags, tags.into_vec());
+            }
+        }
+    }
+
+    /// The version, if there is one.
+    #[inline(always)]
+    pub(crate) fn take_version(&mut self) -> Option<Version> {
+        self.version.take()
+    }
+
+    /// A list of references without any.
+    #[inline(always)]
+    pub fn take_references(&mut self) -> Vec<i64>
+        ensures { result.items ≡ [] }
+    {
+        take(&mut self.references)
+    }
+
+    /// A list of members without any.
+    #[inline(always)]
+    pub fn take_members(&mut self) -> Vec<Member>
+        ensures { result.items ≡ [] }
+    {
+        take(&mut self.members)
+    }
+
+    /// A list of tags without any.
+    #[inline(always)]
+    pub fn take_tags(&mut self) -> Vec<Tag>
+        ensures { result.items ≡ [] }
+    {
+        take(&mut self.tags)
+    }
+}
+
+/// Puts a list in the place of another, if it has room.
+#[inline(always)]
+fn keep<T: Drop>(kept: &mut Vec<T>, list: Vec<T>) {
+    if list.capacity() > 0 {
+        *kept = list;
+    }
+}
+
+/// Takes a list out, and empties it.
+#[inline(always)]
+fn take<T: Drop>(kept: &mut Vec<T>) -> Vec<T>
+    ensures { result.items ≡ [] }
+{
+    let alloc = *kept.allocator();
+    let mut list = mem::replace(kept, Vec::new(alloc));
+    list.clear();
+    list
+}
