@@ -17,9 +17,8 @@ impl Version {
         ensures appended { OnOk result (out.new.items ≡ out.old.items ++ line self.now) }
         ensures kept { Extends out.old.items out.new.items }
     {
-        let kept = self.kept_line();
-        if !kept.is_empty() {
-            out.extend_from_slice(kept)?;
+        if let Some(line) = self.line_at_hand() {
+            out.extend_from_slice(line)?;
             return Ok(());
         }
         append_head(self, out)?;

@@ -1,5 +1,5 @@
 //! Versions of objects.
-ghost use Rattle.std.specs.Prelude.{◌≡◌, [], ◌⊎◌, ◌<◌, ◌^◌, None, Some, Ok, Err, refl, IfOk, IfErr, MatchResult};
+ghost use Rattle.std.specs.Prelude.{◌≡◌, ◌↔◌, [], ◌⊎◌, ◌<◌, ◌^◌, None, Some, Ok, Err, refl, IsTrue, IfOk, IfErr, IfSome, MatchResult};
 ghost use Rattle.std.specs.Ordering.{eq_by_cmp, as_partial_cmp, nat_cmp};
 ghost use Rattle.std.specs.Cmp.{eq_by_cmp_equiv, partial_equiv_from_equiv, partial_order_from_agreeing_total};
 ghost use Rattle.std.specs.Cmp.Lexicographic.{slice_cmp};
@@ -7,7 +7,6 @@ ghost use Rattle.std.specs.Option.{ForSome};
 ghost use Rattle.osm_model.specs.Data.{kind_of, normal_body, version_of};
 ghost use Rattle.osm_model.specs.Order.{object_cmp, key_cmp, data_cmp, version_cmp, version_cmp_total};
 ghost use Rattle.osm_model.specs.Line.{line};
-ghost use Rattle.osm_model.specs.Kept.{IsKept};
 ghost use Rattle.osm_model.specs.New.{first_fault, version_or_fault};
 ghost use Rattle.osm_model.specs.Valid.{IsInRange, IsVersion};
 ghost use Rattle.osm_model.specs.declared.body.Body.TheVariants.{Deleted};
@@ -260,12 +259,13 @@ impl Version {
         }
     }
 
-    /// The canonical line, where it is at hand, and else nothing.
+    /// The canonical line, where it is at hand.
     #[inline(always)]
-    pub(crate) fn kept_line(&self) -> &[u8]
-        ensures { IsKept result.now self.now }
+    pub(crate) fn line_at_hand(&self) -> Option<&[u8]>
+        ensures { IfSome result (λ text. text.now ≡ line self.now) }
     {
-        &self.parts.kept_line
+        let kept = self.parts.kept_line.as_slice();
+        if kept.is_empty() { None } else { Some(kept) }
     }
 
     /// The id of the object, and that the version is within its ranges.
@@ -392,6 +392,16 @@ impl Version {
         time.then(deleted)
     }
 
+    /// Whether two versions hold equal data.
+    fn is_same_data(&self, other: &Version) -> bool
+        ensures { IsTrue result ↔ (self.now ≡ other.now) }
+    {
+        let (parts, others) = (&*self.parts, &*other.parts);
+        parts.id == others.id
+            && parts.meta.is_same(&others.meta)
+            && parts.body.is_same(&others.body)
+    }
+
     /// The order of the bytes of the lines.
     #[inline(never)]
     fn line_cmp(&self, other: &Version) -> Ordering
@@ -419,10 +429,10 @@ impl Version {
 
 impl Same for Version {
     fn is_same(&self, other: &Version) -> bool {
-        let (parts, others) = (&*self.parts, &*other.parts);
-        parts.id == others.id
-            && parts.meta.is_same(&others.meta)
-            && parts.body.is_same(&others.body)
+        match (self.line_at_hand(), other.line_at_hand()) {
+            (Some(line), Some(others)) => line == others,
+            _ => self.is_same_data(other),
+        }
     }
 }
 
