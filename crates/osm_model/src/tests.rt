@@ -2,7 +2,7 @@
 use crate::version::first_fault;
 use crate::{
     Body, History, Kind, Member, Members, Memory, Meta, References, Spare, Tag, Tags, Text,
-    ValueFault, Version, is_id,
+    ValueFault, Version, behind_escaped, is_id,
 };
 use std::alloc::{AllocError, Global};
 use std::cmp::Ordering;
@@ -164,6 +164,24 @@ fn kinds_have_ranks_and_letters(rt: HostRuntime) {
     ] {
         assert_eq!(rt; (kind.rank(), kind.letter()), (rank, letter));
     }
+}
+
+#[test]
+fn texts_grow(rt: HostRuntime) -> Result<(), Fail> {
+    let alloc = rt.alloc();
+    let mut grown = text(alloc, "short")?;
+    grown.push_str(alloc, ", ü")?;
+    assert_eq!(rt; grown.as_str(), "short, ü");
+    grown.push_str(alloc, ", and longer than lies within")?;
+    assert_eq!(rt; grown.as_str(), "short, ü, and longer than lies within");
+    Ok(())
+}
+
+#[test]
+fn characters_are_known_again(rt: HostRuntime) {
+    assert_eq!(rt; behind_escaped(b"%20%x", ' '), Some(b"x".as_slice()));
+    assert_eq!(rt; behind_escaped(b"ab", 'a'), Some(b"b".as_slice()));
+    assert!(rt; behind_escaped(b"%2C%", ',').is_none());
 }
 
 #[test]
