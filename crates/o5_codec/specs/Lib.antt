@@ -29,3 +29,4 @@ pub mod WritingLaws
 pub mod Block
 pub mod StoredInside
 pub mod EntryInside
+pub mod ByteStorage

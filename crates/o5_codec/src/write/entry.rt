@@ -11,9 +11,10 @@ ghost use Rattle.o5_codec.specs.Writing.{uid_string, user_entry, tag_entry, memb
 ghost use Rattle.o5_codec.specs.SameEntry.{same_entry_decides};
 
 use crate::strings::{Form, Strings};
-use crate::table::{LONGEST, is_short};
+use crate::table::is_short;
+use crate::write::block::Block;
+use crate::write::bytes::Bytes;
 use crate::write::draft::Draft;
-use crate::write::number::append_number;
 use osm_model::{Kind, Memory, Tag, Text};
 use std::alloc::Global;
 use std::hash::{Hash, Hasher};
@@ -23,7 +24,7 @@ use std::marker::Model;
 #[derive(Drop)]
 pub(crate) struct Entry {
     form: Form,
-    bytes: Vec<u8>,
+    bytes: Bytes,
     split: usize,
     /// The user id that the first string spells, where the entry was filled as a user's.
     uid: Option<u64>,
@@ -36,7 +37,7 @@ impl Model for Entry {
 
     ghost Value = { FormedEntry };
 
-    ghost view = { λ e. formed e.form (take e.split e.bytes.items) (drop e.split e.bytes.items) };
+    ghost view = { λ e. formed e.form (take e.split e.bytes) (drop e.split e.bytes) };
 
     ghost invariant = { IsEntry };
 }
@@ -82,26 +83,16 @@ impl Entry {
     pub(crate) fn new(alloc: Global) -> Entry {
         Entry {
             form: Form::Pair,
-            bytes: Vec::new(alloc),
+            bytes: Bytes::new(alloc),
             split: 0,
             uid: None,
         }
     }
 
-    /// An entry to be filled, with room for the strings of any entry of the table.
-    pub(crate) fn with_room(alloc: Global) -> Result<Entry, Memory> {
-        Ok(Entry {
-            form: Form::Pair,
-            bytes: Vec::with_capacity(alloc, LONGEST)?,
-            split: 0,
-            uid: None,
-        })
-    }
-
     fn strings(&self) -> Strings<'_>
         ensures { result ≡ self.now.strings }
     {
-        let (first, second) = self.bytes.split_at(self.split);
+        let (first, second) = self.bytes.as_slice().split_at(self.split);
         Strings { first, second }
     }
 
@@ -161,16 +152,18 @@ impl Entry {
         Ok(())
     }
 
-    /// A copy of another entry, in the buffer of this one.
-    pub(crate) fn refilled(mut self, other: &Entry) -> Result<Entry, Memory>
-        ensures { IfOk result (λ e. e ≡ other.now) }
+    /// An equal entry.
+    pub(crate) fn copy(&self, alloc: Global) -> Result<Entry, Memory>
+        ensures { IfOk result (λ e. e ≡ self.now) }
     {
-        let strings = other.strings();
-        self.clear(other.form);
-        self.extend_first(strings.first)?;
-        self.extend_second(strings.second)?;
-        self.uid = other.uid;
-        Ok(self)
+        let mut bytes = Bytes::new(alloc);
+        bytes.extend_from_slice(self.bytes.as_slice())?;
+        Ok(Entry {
+            form: self.form,
+            bytes,
+            split: self.split,
+            uid: self.uid,
+        })
     }
 
     /// Takes the pair of a user's id and name.
@@ -229,18 +222,16 @@ impl Entry {
         requires { self.old.strings.second ≡ [] }
         ensures { OnOk result (self.new ≡ formed self.old.form (self.old.strings.first ++ shortest_number number) []) }
     {
-        self.uid = None;
-        let appended = append_number(&mut self.bytes, number);
-        self.split = self.bytes.len();
-        appended
+        let mut digits = Block::new();
+        digits.append_number(number);
+        self.extend_first(digits.as_slice())
     }
 
     /// Appends bytes to the second string.
     fn extend_second(&mut self, more: &[u8]) -> Result<(), Memory>
         ensures { OnOk result (self.new ≡ formed self.old.form self.old.strings.first (self.old.strings.second ++ more.now)) }
     {
-        self.bytes.extend_from_slice(more)?;
-        Ok(())
+        self.bytes.extend_from_slice(more)
     }
 }
 

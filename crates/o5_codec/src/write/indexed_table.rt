@@ -170,24 +170,23 @@ impl IndexedTable {
         if !entry.is_short() {
             return Ok(());
         }
-        let (key, stored) = self.make_room();
-        let key = key.refilled(entry)?;
-        let stored = stored.refilled(entry)?;
+        self.make_room();
+        let key = entry.copy(self.alloc)?;
+        let stored = entry.copy(self.alloc)?;
         self.put(key, stored)
     }
 
-    /// Lets the oldest entry go where the table is full. Answers two buffers to use again.
-    fn make_room(&mut self) -> (Entry, Entry)
+    /// Lets the oldest entry go where the table is full.
+    fn make_room(&mut self)
         ensures { self.new ≡ take (limit - 1) self.old }
     {
         if self.entries.len() < LIMIT {
-            return (Entry::new(self.alloc), Entry::new(self.alloc));
+            return;
         }
         let Some(oldest) = self.entries.pop_back() else {
-            return (Entry::new(self.alloc), Entry::new(self.alloc));
+            return;
         };
-        let removed = self.numbers.remove_entry(&oldest);
-        (key_of(self.alloc, removed), oldest)
+        self.numbers.remove(&oldest);
     }
 
     /// Stores an entry that doesn't stand in the table, where it isn't full: as a key, and in the list.
@@ -211,12 +210,4 @@ fn number_after(number: u64) -> u64
     ensures { IsNext (2 ^ 64) number result }
 {
     if number == u64::MAX { 0 } else { number + 1 }
-}
-
-/// The buffer of a key that was taken out, if one was.
-fn key_of(alloc: Global, removed: Option<(Entry, u64)>) -> Entry {
-    match removed {
-        Some((key, _)) => key,
-        None => Entry::new(alloc),
-    }
 }

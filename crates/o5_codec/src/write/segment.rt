@@ -40,7 +40,7 @@ impl WrittenSegment {
         Ok(WrittenSegment {
             bases: Bases::new(),
             table: IndexedTable::new(alloc)?,
-            entry: Entry::with_room(alloc)?,
+            entry: Entry::new(alloc),
         })
     }
 
