@@ -2,6 +2,7 @@ pub mod NumberSteps
 pub mod AnswerSteps
 pub mod Newest
 pub mod TextSteps
+pub mod MeaningSteps
 pub mod ItemSteps
 pub mod SoundStrings
 pub mod SoundSteps

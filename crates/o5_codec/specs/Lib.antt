@@ -27,6 +27,7 @@ pub mod SameEntry
 pub mod Agreement
 pub mod WritingLaws
 pub mod Block
+pub mod Meaning
 pub mod StoredInside
 pub mod EntryInside
 pub mod ByteStorage

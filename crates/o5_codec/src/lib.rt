@@ -10,6 +10,7 @@ pub mod laws;
 mod number;
 mod reason;
 mod segment;
+mod stored;
 mod strings;
 mod table;
 mod text;

@@ -6,8 +6,9 @@ ghost use Rattle.o5_codec.specs.Text.{tag_of, user_of};
 ghost use Rattle.o5_codec.specs.Strings.{entry_of, strings_of, table_after};
 
 use crate::O5Reason;
+use crate::stored::Stored;
 use crate::strings::{Spelled, Strings};
-use crate::text::{add_tag, known_text, known_uid, to_user};
+use crate::text::{add_tag, to_user};
 use osm_model::{Memory, Tag, Text};
 use std::alloc::Global;
 use std::collections::VecDeque;
@@ -18,93 +19,6 @@ pub(crate) const LIMIT: usize = 15_000;
 
 /// How many bytes the two strings of a stored entry have together at most.
 pub(crate) const LONGEST: usize = 250;
-
-/// An entry: the bytes of its first string, behind them those of its second. Contracts see the two strings.
-///
-/// What they mean is kept beside them, since most entries are referred to again and again.
-#[derive(Drop)]
-struct Stored {
-    bytes: Vec<u8>,
-    split: usize,
-    /// The text of the first string.
-    first: Option<Text>,
-    /// The user id that the first string spells.
-    uid: Option<u32>,
-    /// The text of the second string.
-    second: Option<Text>,
-}
-
-impl Model for Stored {
-    ghost use Rattle.std.specs.Prelude.{take, drop};
-    ghost use Rattle.o5_codec.specs.Entry.{Entry};
-    ghost use Rattle.o5_codec.specs.Strings.{entry_of};
-    ghost use Rattle.o5_codec.specs.StoredInside.{IsStored};
-
-    ghost Value = { Entry };
-
-    ghost view = { λ e. entry_of (take e.split e.bytes.items) (drop e.split e.bytes.items) };
-
-    ghost invariant = { IsStored };
-}
-
-impl Stored {
-    /// A copy of two short strings, by one growth.
-    fn new(alloc: Global, strings: &Strings<'_>) -> Result<Stored, Memory>
-        requires { IsTrue (is_short strings.now) }
-        ensures { IfOk result (λ e. e ≡ strings.now) }
-    {
-        let mut bytes = Vec::with_capacity(alloc, strings.first.len() + strings.second.len())?;
-        bytes.extend_from_slice(strings.first)?;
-        bytes.extend_from_slice(strings.second)?;
-        Ok(Stored {
-            bytes,
-            split: strings.first.len(),
-            first: known_text(alloc, strings.first)?,
-            uid: known_uid(strings.first),
-            second: known_text(alloc, strings.second)?,
-        })
-    }
-
-    fn strings(&self) -> Strings<'_>
-        ensures { result ≡ self.now }
-    {
-        let (first, second) = self.bytes.split_at(self.split);
-        Strings { first, second }
-    }
-
-    /// The user id and the user name.
-    ///
-    /// # Errors
-    ///
-    /// As for [`to_user`].
-    #[inline(always)]
-    fn user(&self, alloc: Global) -> Result<(u32, Text), O5Reason>
-        ensures { Answers (λ user. user) (user_of self.now) result }
-    {
-        match (&self.uid, &self.second) {
-            (Some(uid), Some(name)) => Ok((*uid, name.copy()?)),
-            _ => to_user(alloc, &self.strings()),
-        }
-    }
-
-    /// Adds the tag to a list.
-    ///
-    /// # Errors
-    ///
-    /// As for [`add_tag`].
-    #[inline(always)]
-    fn add_tag(&self, alloc: Global, tags: &mut Vec<Tag>) -> Result<(), O5Reason>
-        ensures { Answers (λ _. tags.new.items) (and_added tags.old.items (tag_of self.now)) result }
-    {
-        match (&self.first, &self.second) {
-            (Some(key), Some(value)) => {
-                let (key, value) = (key.copy()?, value.copy()?);
-                Ok(tags.push(Tag { key, value })?)
-            }
-            _ => add_tag(alloc, &self.strings(), tags),
-        }
-    }
-}
 
 /// The entries that references can name, the one stored last first. Contracts see them as a list. Room is taken as entries come.
 #[derive(Drop)]

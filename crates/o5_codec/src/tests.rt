@@ -287,6 +287,27 @@ r 00 01 00 02 02 01 = BadMemberType";
 }
 
 #[test]
+fn takes_strings_by_what_they_mean(rt: HostRuntime) -> Result<(), Fail> {
+    let rows = "\
+02 01 00 00 00 00 61 00 62 00 = n1 v1 dV c0 t i0 u Ta=b x0 y0
+00 02 02 02 01 = n1 v2 dD c1 t1970-01-01T00:00:01Z i97 ub T x y
+
+02 01 00 00 00 00 61 61 00 62 00 = n1 v1 dV c0 t i0 u Taa=b x0 y0
+00 02 02 02 01 = BadNumber
+
+02 01 02 02 00 ff ff ff ff 0f 00 61 00 = n1 v1 dD c1 t1970-01-01T00:00:01Z i4294967295 ua T x y
+00 02 00 00 01 = n1 v2 dD c1 t1970-01-01T00:00:01Z i4294967295 ua T x y
+00 03 00 00 01 00 00 01 = NotUtf8
+
+02 01 02 02 00 80 01 00 61 00 = n1 v1 dD c1 t1970-01-01T00:00:01Z i128 ua T x y
+00 02 00 00 01 = n1 v2 dD c1 t1970-01-01T00:00:01Z i128 ua T x y
+
+02 01 00 00 00 00 61 00 62 63 64 65 66 67 68 69 6a 6b 6c 6d 6e 6f 70 71 72 73 74 75 76 77 78 79 7a 00 = n1 v1 dV c0 t i0 u Ta=bcdefghijklmnopqrstuvwxyz x0 y0
+00 02 02 02 01 00 00 01 = n1 v2 dV c1 t1970-01-01T00:00:01Z i97 ubcdefghijklmnopqrstuvwxyz Ta=bcdefghijklmnopqrstuvwxyz x0 y0";
+    read_all(&rt, rt.alloc(), rows)
+}
+
+#[test]
 fn keeps_bases_until_a_reset(rt: HostRuntime) -> Result<(), Fail> {
     let rows = "\
 02 01 00 0a 0e 00 61 00 00 = n1 v1 dV c0 t i0 u Ta= x0.0000005 y0.0000007

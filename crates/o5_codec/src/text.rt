@@ -1,5 +1,5 @@
 //! Texts in the strings of data sets.
-ghost use Rattle.std.specs.Prelude.{◌≡◌, Ok, IfOk, IfSome};
+ghost use Rattle.std.specs.Prelude.{◌≡◌, Ok, IfOk, IfSome, encode_utf8_all};
 ghost use Rattle.std.specs.Str.{chars};
 ghost use Rattle.o5_codec.specs.Answer.{Gives, Answers, and_added};
 ghost use Rattle.o5_codec.specs.Text.{text_of, tag_of, uid_of, user_of};
@@ -27,7 +27,8 @@ pub(crate) fn to_text(alloc: Global, bytes: &[u8]) -> Result<Text, O5Reason>
 /// A string as a slice of a text.
 #[inline(always)]
 fn to_str(bytes: &[u8]) -> Result<&str, O5Reason>
-    ensures { Gives (λ text. chars text.now) (text_of bytes.now) result }
+    ensures text { Gives (λ text. chars text.now) (text_of bytes.now) result }
+    ensures bytes { IfOk result (λ text. text.now ≡ bytes.now) }
 {
     if bytes.is_ascii() {
         return Ok(unsafe { str::from_utf8_unchecked(bytes) });
@@ -38,7 +39,8 @@ fn to_str(bytes: &[u8]) -> Result<&str, O5Reason>
 /// A string with characters of any kind as a slice of a text.
 #[inline(never)]
 fn any_to_str(bytes: &[u8]) -> Result<&str, O5Reason>
-    ensures { Gives (λ text. chars text.now) (text_of bytes.now) result }
+    ensures text { Gives (λ text. chars text.now) (text_of bytes.now) result }
+    ensures bytes { IfOk result (λ text. text.now ≡ bytes.now) }
 {
     match simdutf8::basic::from_utf8(bytes) {
         Ok(text) => Ok(text),
@@ -107,7 +109,8 @@ fn to_any_user(alloc: Global, strings: &Strings<'_>) -> Result<(u32, Text), O5Re
 ///
 /// For want of memory alone.
 pub(crate) fn known_text(alloc: Global, bytes: &[u8]) -> Result<Option<Text>, Memory>
-    ensures { IfOk result (λ known. IfSome known (λ text. text_of bytes.now ≡ Ok text)) }
+    ensures bytes { IfOk result (λ known. IfSome known (λ text. encode_utf8_all text ≡ bytes.now)) }
+    ensures text { IfOk result (λ known. IfSome known (λ text. text_of bytes.now ≡ Ok text)) }
 {
     match to_str(bytes) {
         Ok(text) => Ok(Some(Text::from_str(alloc, text)?)),

@@ -3,8 +3,8 @@ use Rattle.std.specs.Str.{chars}
 use Rattle.o5_codec.proofs.TextSteps.{text_read, text_refused}
 use Rattle.o5_codec.proofs.text.any_to_str.Goals as goal
 
-pub returns-in-Ok : goal.returns-in-Ok
-returns-in-Ok c = text_read _ _ c.in-Ok.ensures.1 (ap chars c.in-Ok.ensures.0)
+pub returns-in-Ok-clause-text : goal.returns-in-Ok-clause-text
+returns-in-Ok-clause-text c = text_read _ _ c.in-Ok.ensures.1 (ap chars c.in-Ok.ensures.0)
 
-pub returns-in-Err : goal.returns-in-Err
-returns-in-Err c = text_refused _ c.in-Err.ensures
+pub returns-in-Err-clause-text : goal.returns-in-Err-clause-text
+returns-in-Err-clause-text c = text_refused _ c.in-Err.ensures
