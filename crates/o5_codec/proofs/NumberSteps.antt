@@ -81,7 +81,7 @@ read_end bytes i value weight b r is small inside low fits =
     ∙ (let e : value + weight * b ≡ value + b * weight = omega arith in ap (λ n. Ok (n, rest)) e) in
     ap (λ r. and_then r within_word) read ∙ rw (lt-ltb (value + b * weight) (2 ^ 64) fits, take_rest bytes (i + 1)) refl
 
--- the same of a sum that is written in another way
+-- a number whose last group is read, as a sum that is written in any way
 pub read_sum : (bytes : List ℕ) (i value weight b sum : ℕ) → Read bytes i value weight → b ≡ get_or bytes i 0 → i < 10 → i < length bytes → b < 128 → sum ≡ value + b * weight → sum < 2 ^ 64 →
     number_at bytes ≡ Ok (sum, take (length bytes - (i + 1)) (drop (i + 1) bytes))
 read_sum bytes i value weight b sum r is small inside low same fits =

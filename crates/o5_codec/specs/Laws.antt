@@ -99,6 +99,6 @@ ListsAreNotMixed = (sets : List (Kind × List ℕ)) (versions : List VersionData
 abbrev pub SetsMakeVersions : Type 0
 SetsMakeVersions = (sets : List (Kind × List ℕ)) (versions : List VersionData) (end : Segment) → sets_at new_segment sets ≡ Ok (versions, end) → All IsVersion versions
 
--- the same of one data set, in a segment whose table has no zero bytes; it leaves such a segment
+-- One data set, in a segment whose table has no zero bytes, is within the ranges of versions, and leaves such a segment.
 abbrev pub SoundSetsMakeVersions : Type 0
 SoundSetsMakeVersions = (k : Kind) (s : Segment) (content : List ℕ) (x : VersionData × Segment) → is_sound s ≡ true → set_at k s content ≡ Ok x → IsVersion x.0 × (is_sound x.1 ≡ true)

@@ -31,7 +31,7 @@ unfoldable pub inline_at : Form → List ℕ → Result (Entry × List ℕ) O5Re
 inline_at Pair bytes = and_then (string_at bytes) (λ x. and_then (string_at x.1) (λ y. Ok (entry_of x.0 y.0, y.1)))
 inline_at Single bytes = and_then (string_at bytes) (λ x. Ok (entry_of x.0 [], x.1))
 
--- the same, as they are spelled
+-- the inline pair or single string whose strings stand behind its zero byte, as a thing that is spelled
 abbrev pub inline_spelled : Form → List ℕ → Result (Spelled × List ℕ) O5Reason
 inline_spelled form bytes = and_then (inline_at form bytes) (λ x. Ok (Inline x.0, x.1))
 

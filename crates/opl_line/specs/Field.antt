@@ -31,7 +31,7 @@ nothing_said = record {
 abbrev pub reading_number_32 : List ℕ → Result ℕ OplReason
 reading_number_32 = reading_number 4_294_967_295
 
--- the same, where an empty content is 0
+-- a number of 32 bits, where an empty content is 0
 abbrev pub reading_count : List ℕ → Result ℕ OplReason
 reading_count [] = Ok 0
 reading_count (b ∷ bs) = reading_number_32 (b ∷ bs)

@@ -13,7 +13,7 @@ pub record IsFrontAt {X : Type 0} (at : Cut) (reading : List ℕ → Result X Op
   pub split : split_first (is_end at) text ≡ (piece, behind)
   pub read : reading piece ≡ Ok value
 
--- the same of a blank
+-- the piece before the first blank is read as a value, and what stands behind the blank, if there is one
 abbrev pub IsFront : {X : Type 0} → (List ℕ → Result X OplReason) → List ℕ → X → Option (List ℕ) → Type 0
 IsFront reading text value behind = IsFrontAt Blanks reading text value behind
 

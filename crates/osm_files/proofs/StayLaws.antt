@@ -57,7 +57,7 @@ header_stays bytes more u =
 abbrev Number : Type 0
 Number = Result (ℕ × List ℕ) O5Reason
 
--- the same with more bytes behind it
+-- a number that was read, with more bytes behind it
 abbrev pub and_more : List ℕ → Number → Number
 and_more more (Ok x) = Ok (x.0, x.1 ++ more)
 and_more more (Err reason) = Err reason

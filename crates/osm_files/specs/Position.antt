@@ -88,7 +88,7 @@ pub record ReadsOn (p q : Told) : Type 0 where
   pub failed : q.failed ≡ p.failed
   pub ahead : Keeps (ahead p) (ahead q)
 
--- the same, of what the readers can give; what isn't said of bytes to come is said by itself
+-- A position reads on to another, of readers that can give what they can give; what isn't said of bytes to come is said by itself.
 pub record HasRead {R : Type 0} (can : R → Coming → Type 0) (p q : Position R) : Type 0 where
   pub place : q.place ≡ p.place
   pub stand : q.stand ≡ p.stand
@@ -126,6 +126,6 @@ Halts p c fault =
 abbrev pub StopsFilling : Told → Fault → Type 0
 StopsFilling p fault = (fault ≡ memory_fault) ⊎ IfSome (ahead p) (λ c. Halts p c fault)
 
--- the same, of what the reader can give
+-- why no more bytes can be read, of something that the reader can give
 abbrev pub StopsAt : {R : Type 0} → (R → Coming → Type 0) → Position R → Fault → Type 0
 StopsAt can p fault = GivesOne (can p.coming) (λ c. StopsFilling (telling p c) fault)

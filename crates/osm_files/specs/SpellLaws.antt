@@ -77,18 +77,19 @@ pub record CallsAreSpelled {O : Type 0} (holds : O → Content) : Type 0 where
   pub end : (format : Format) (number : ℕ) (versions : List VersionData) (s t : SinkState) (before mid now : O) (failed : Bool) (result : Result (Unit {0}) Fault) →
       HasPut format number versions (holds before) s (holds mid) → Calls (ends s) t stays (holds mid) (holds now) failed (ended s.format) result → WritesFile number (holds before) (holds now) failed (spell_list format versions) result
 
--- what a file spells is within the ranges of versions, and so are the members of the set that it holds
+-- what a file spells is within the ranges of versions
 abbrev pub FilesHoldVersions : Type 0
 FilesHoldVersions = (bytes : List ℕ) (versions : List VersionData) → IsFile bytes versions → All IsVersion versions
 
+-- the members of a set that a file holds are within the ranges of versions
 abbrev pub HeldAreVersions : Type 0
 HeldAreVersions = (bytes : List ℕ) (set : VersionSet) → Holds bytes set → AreVersions set
 
--- and so are the members of the union of two such sets
+-- the union of two sets within the ranges of versions is within them
 abbrev pub UnionsAreVersions : Type 0
 UnionsAreVersions = (a b : VersionSet) → AreVersions a → AreVersions b → AreVersions (union a b)
 
--- the same of the sets that three files hold
+-- three files make one file, whether the first two are joined first, or the last two
 abbrev pub FilesJoinInAnyGrouping : Type 0
 FilesJoinInAnyGrouping = (format left right : Format) (first second third : List ℕ) (a b c ab bc : VersionSet) → Holds first a → Holds second b → Holds third c →
     Holds (joined_file left a b) ab → Holds (joined_file right b c) bc →

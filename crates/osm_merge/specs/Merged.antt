@@ -44,7 +44,7 @@ pub record IsMergedAs (selection : Selection) (all : List VersionsToCome) (forma
   pub written : counts.written ≡ capped (size (selected selection (union_given all)))
   pub compared : IsBoundedFrom (few_of selection (length (versions_of all))) (length all) (length (versions_of all)) counts.compared
 
--- the same, where all versions are selected: the file of the union was appended
+-- a merge that selects all versions: the file of the union was appended
 abbrev pub MergesSources : List VersionsToCome → Format → Content → Content → Counts → Type 0
 MergesSources = IsMergedAs All
 
@@ -90,7 +90,7 @@ abbrev pub IsRefusedAs : Selection → List VersionsToCome → Format → ℕ �
 IsRefusedAs selection all format output before after failed fault =
     CutShort output before after failed (spell format (selected selection (union_given all))) fault ⊎ IsSourceFaultAs selection all format before after fault
 
--- the same, where all versions are selected
+-- why a merge that selects all versions was refused
 abbrev pub RefusesSources : List VersionsToCome → Format → ℕ → Content → Content → Bool → Fault → Type 0
 RefusesSources = IsRefusedAs All
 

@@ -90,7 +90,7 @@ is_full Latest = false
 abbrev pub begun : List MirrorData → ℕ → Track
 begun openings m = record { reach = Opening m ∷ []; pure = is_full (at openings m).keep }
 
--- the same tracks, but that of one mirror
+-- the tracks, with another one of one mirror
 abbrev pub retracked : (ℕ → Track) → ℕ → Track → ℕ → Track
 retracked tracks m track k = cond (nat_eq k m) track (tracks k)
 

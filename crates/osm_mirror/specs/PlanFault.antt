@@ -25,6 +25,6 @@ fault_at line reason = record { line = line; reason = reason }
 abbrev pub IsNone : {X : Type 0} → (X → Type 0) → PlanReason → Type 0
 IsNone {X} Says reason = (reason ≡ BadWord) × ((x : X) → ¬ Says x)
 
--- the same, or memory was refused
+-- words are ill-formed, or memory was refused
 abbrev pub IsNoneOrMemory : {X : Type 0} → (X → Type 0) → PlanReason → Type 0
 IsNoneOrMemory Says reason = (reason ≡ Memory) ⊎ IsNone Says reason

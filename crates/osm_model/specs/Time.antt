@@ -11,7 +11,7 @@ year_walk zero year days = (year, days)
 year_walk (suc most) year days =
     if nat_lt days (days_in_year year) then (year, days) else year_walk most (suc year) (days - days_in_year year)
 
--- the same for the months of a year
+-- the month of the day that comes so many days after the first of a month, and the days before it in that month; at most so many months are walked
 unfoldable pub month_walk : ℕ → ℕ → ℕ → ℕ → ℕ × ℕ
 month_walk zero year month days = (month, days)
 month_walk (suc most) year month days =
