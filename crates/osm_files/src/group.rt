@@ -54,10 +54,8 @@ impl Group {
             ≤ units_left units.old + length (list_of self.old)) }
     {
         'units: loop {
-            let unit = match units.next() {
-                Err(fault) => return Err(fault),
-                Ok(None) => return Ok(None),
-                Ok(Some(unit)) => unit,
+            let Some(unit) = units.next()? else {
+                return Ok(None);
             };
             let order = self.first.key_cmp(&unit.version);
             if order.is_lt() {

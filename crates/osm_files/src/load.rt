@@ -37,21 +37,14 @@ pub fn load_any<R: Input + Drop>(alloc: Global, input: usize, reader: R) -> Resu
     ensures refused { IfErr result (λ fault. GivesOne (R.can_give reader) (λ c. StopsLoading input c fault)) }
 {
     let mut reading = Reading::new(alloc, input, reader);
-    let format = match reading.format() {
-        Ok(format) => format,
-        Err(fault) => return Err(fault),
-    };
+    let format = reading.format()?;
     let mut versions: Vec<Version> = Vec::new(alloc);
     let mut sorted = true;
     'units: loop {
-        match reading.next() {
-            Ok(Some(unit)) => match add(&mut versions, sorted, unit.version) {
-                Ok(rises) => sorted = rises,
-                Err(fault) => return Err(fault),
-            },
-            Ok(None) => return gathered(versions, format, sorted),
-            Err(fault) => return Err(fault),
-        }
+        let Some(unit) = reading.next()? else {
+            return gathered(versions, format, sorted);
+        };
+        sorted = add(&mut versions, sorted, unit.version)?;
     }
 }
 

@@ -285,17 +285,10 @@ pub fn write_history<W: Output>(
         (W.holds out.old) (W.holds out.new) (W.failed out.new) (spelling.spell format history.now) result }
     ensures good { OnOk result (W.failed out.new ≡ false) }
 {
-    let mut sink = match Sink::new(alloc, format, number) {
-        Ok(sink) => sink,
-        Err(fault) => return Err(fault),
-    };
-    if let Err(fault) = sink.begin(out) {
-        return Err(fault);
-    }
+    let mut sink = Sink::new(alloc, format, number)?;
+    sink.begin(out)?;
     'puts: for place in 0..history.len() {
-        if let Err(fault) = sink.put(out, history.get(place)) {
-            return Err(fault);
-        }
+        sink.put(out, history.get(place))?;
     }
     sink.end(out)
 }

@@ -119,15 +119,11 @@ impl<R: Input> FileSource<R> {
         ensures number { self.new.units.input ≡ self.old.units.input }
         ensures fewer { IfOk result (λ given. IsSome given → left_at self.new < left_at self.old) }
     {
-        let first = match self.begin() {
-            Err(fault) => return Err(fault),
-            Ok(None) => return Ok(None),
-            Ok(Some(first)) => first,
+        let Some(first) = self.begin()? else {
+            return Ok(None);
         };
-        let second = match self.units.next() {
-            Err(fault) => return Err(fault),
-            Ok(None) => return Ok(Some(first)),
-            Ok(Some(second)) => second,
+        let Some(second) = self.units.next()? else {
+            return Ok(Some(first));
         };
         let order = first.key_cmp(&second.version);
         if order.is_lt() {
@@ -173,10 +169,7 @@ impl<R: Input> FileSource<R> {
             Err(_) => return Err(self.units.refuse(0, Reason::Memory)),
             Ok(group) => group,
         };
-        match group.gather(&mut self.units) {
-            Err(fault) => return Err(fault),
-            Ok(next) => self.pending = next,
-        }
+        self.pending = group.gather(&mut self.units)?;
         match group.into_ascending() {
             Err(_) => Err(self.units.refuse(0, Reason::Memory)),
             Ok(versions) => {

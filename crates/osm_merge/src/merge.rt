@@ -140,7 +140,7 @@ fn write_union<S: Source, W: Output, P: Progress>(
         };
         counts.read = counts.read.saturating_add(1);
         let mut spare = None;
-        if let Err(fault) = meet(
+        meet(
             selection,
             &mut last,
             version,
@@ -148,14 +148,9 @@ fn write_union<S: Source, W: Output, P: Progress>(
             &mut counts,
             sink,
             out,
-        ) {
-            return Err(fault);
-        }
+        )?;
         progress.tell(counts.read, counts.written);
-        match next_of(&mut sources[place], spare) {
-            Ok(next) => heads[place] = next,
-            Err(fault) => return Err(fault),
-        }
+        heads[place] = next_of(&mut sources[place], spare)?;
         replay(nodes, heads, place, &mut counts.compared);
     }
 }

@@ -41,15 +41,9 @@ pub fn run_check<R: Input + Drop>(alloc: Global, input: R) -> Result<CheckReport
     ensures report { IfOk result (λ report. GivesOne (R.can_give input) (λ c. Reports c report)) }
     ensures refused { IfErr result (λ fault. GivesOne (R.can_give input) (λ c. StopsLoading 0 c fault)) }
 {
-    let loaded = match load_any(alloc, 0, input) {
-        Ok(loaded) => loaded,
-        Err(fault) => return Err(fault),
-    };
+    let loaded = load_any(alloc, 0, input)?;
     let mut source = HistorySource::new(loaded.history);
-    let sizes = match count(&mut source) {
-        Ok(sizes) => sizes,
-        Err(fault) => return Err(fault),
-    };
+    let sizes = count(&mut source)?;
     Ok(CheckReport {
         format: loaded.format,
         versions: sizes.versions,
@@ -69,14 +63,8 @@ pub fn run_check_sorted<R: Input + Drop>(alloc: Global, input: R) -> Result<Chec
     ensures sorted { IfOk result (λ report. report.sorted ≡ true) }
     ensures refused { IfErr result (λ fault. GivesOne (R.can_give input) (λ c. StopsOpening 0 c fault)) }
 {
-    let (format, mut source) = match FileSource::open(alloc, 0, input) {
-        Ok(opened) => opened,
-        Err(fault) => return Err(fault),
-    };
-    let sizes = match count(&mut source) {
-        Ok(sizes) => sizes,
-        Err(fault) => return Err(fault),
-    };
+    let (format, mut source) = FileSource::open(alloc, 0, input)?;
+    let sizes = count(&mut source)?;
     Ok(CheckReport {
         format,
         versions: sizes.versions,
@@ -97,14 +85,11 @@ fn count<S: Source>(source: &mut S) -> Result<Sizes, Fault>
     };
     let mut last: Option<Version> = None;
     'versions: loop {
-        match source.next() {
-            Ok(Some(version)) => {
-                sizes = count_one(sizes, &last, &version);
-                give_back(source, last.replace(version));
-            }
-            Ok(None) => return Ok(sizes),
-            Err(fault) => return Err(fault),
-        }
+        let Some(version) = source.next()? else {
+            return Ok(sizes);
+        };
+        sizes = count_one(sizes, &last, &version);
+        give_back(source, last.replace(version));
     }
 }
 

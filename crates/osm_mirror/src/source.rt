@@ -66,10 +66,7 @@ pub fn open_inputs<R: Input + Drop>(
 {
     let mut sources = Vec::new(alloc);
     'files: for file in inputs {
-        match open_input(alloc, sources.len(), file) {
-            Ok(source) => sources.push(source)?,
-            Err(fault) => return Err(fault),
-        }
+        sources.push(open_input(alloc, sources.len(), file)?)?;
     }
     Ok(sources)
 }

@@ -1,5 +1,6 @@
 use Rattle.std.proofs.Common.{◌≡◌, ◌+◌, ◌<◌, ◌∷◌, ◌++◌, [], List, take, drop, length, ap, subst, arith}
 use Rattle.std.proofs.lemmas.List.{take_all}
+use Rattle.std.proofs.lemmas.Result.{err_from_is_err_and}
 use Rattle.osm_model.specs.Data.{VersionData}
 use Rattle.osm_model.specs.Sets.{listed}
 use Rattle.osm_model.proofs.SetLaws.{strict-listed}
@@ -8,19 +9,20 @@ use Rattle.osm_files.specs.Sink.{CutShort, WritesFile, HasPut}
 use Rattle.osm_files.proofs.SinkLaws.{begin_ok, begin_err, put_ok, put_err, end_written, may_put, cut_before_end, parts_at, front_at}
 use Rattle.osm_files.proofs.sink.write_history.Goals as goal
 
-pub returns-in-Err-begin-clause-written : goal.returns-in-Err-begin-clause-written
-returns-in-Err-begin-clause-written g c =
+pub returns-in_err-begin-clause-written : goal.returns-in_err-begin-clause-written
+returns-in_err-begin-clause-written g c =
     let f = c.args.format in
     let n = c.args.number in
     let before = g.W.Output.holds c.args.out.now in
     let now = g.W.Output.holds c.begin.new.out in
     let failed = g.W.Output.failed c.begin.new.out in
-    cut_before_end f n [] (listed c.args.history.now) before now failed c.in-Err-begin.fault
-    (begin_err f n c.in-Ok.sink c.in-Ok.ensures.ok c.begin.new.self before now failed c.in-Err-begin.fault c.in-Err-begin.ensures.calls)
+    let p = err_from_is_err_and c.from_residual-in_err-begin.result c.from_residual-in_err-begin.ensures.1 in
+    rw (p.1, p.2) (cut_before_end f n [] (listed c.args.history.now) before now failed c.in_err-begin.field-0.0
+    (begin_err f n c.in_ok-sink.sink c.in_ok-sink.ensures.ok c.begin.new.self before now failed c.in_err-begin.field-0.0 c.in_err-begin.ensures.calls))
 
 pub puts-init : goal.puts-init
 puts-init g c =
-    begin_ok c.args.format c.args.number c.in-Ok.sink c.in-Ok.ensures.ok c.begin.new.self (g.W.Output.holds c.args.out.now) (g.W.Output.holds c.begin.new.out) (g.W.Output.failed c.begin.new.out) c.in_default.ensures.calls
+    begin_ok c.args.format c.args.number c.in_ok-sink.sink c.in_ok-sink.ensures.ok c.begin.new.self (g.W.Output.holds c.args.out.now) (g.W.Output.holds c.begin.new.out) (g.W.Output.failed c.begin.new.out) c.in_ok-begin.ensures.calls
 
 pub put-requires-clause-open : goal.put-requires-clause-open
 put-requires-clause-open g c = (ap (λ s. s.begun) c.puts.invariant.state, ap (λ s. s.ended) c.puts.invariant.state)
@@ -33,8 +35,8 @@ put-requires-clause-follows g c = λ going.
     let within : i < length xs = omega (arith, c.puts-test.true, c.len-place-end.ensures) in
     may_put c.args.format c.args.number xs i v (g.W.Output.holds c.args.out.now) (g.W.Output.holds c.puts.out) c.puts.sink (strict-listed c.args.history.now) within c.get.ensures c.puts.invariant
 
-pub returns-in-Err-put-clause-written : goal.returns-in-Err-put-clause-written
-returns-in-Err-put-clause-written g c =
+pub returns-in_err-put-clause-written : goal.returns-in_err-put-clause-written
+returns-in_err-put-clause-written g c =
     let f = c.args.format in
     let n = c.args.number in
     let xs = listed c.args.history.now in
@@ -44,11 +46,12 @@ returns-in-Err-put-clause-written g c =
     let mid = g.W.Output.holds c.puts.out in
     let now = g.W.Output.holds c.put.new.out in
     let failed = g.W.Output.failed c.put.new.out in
-    let fault = c.in-Err-put.fault in
+    let fault = c.in_err-put.field-0.0 in
     let within : i < length xs = omega (arith, c.puts-test.true, c.len-place-end.ensures) in
-    let cut = put_err f n (take i xs) before mid c.puts.sink c.puts.invariant v c.put.new.self now failed fault c.in-Err-put.ensures.calls in
-    subst (λ (x : List VersionData). CutShort n before now failed (spell_list f x) fault) (parts_at xs i v within c.get.ensures)
-    (cut_before_end f n (take i xs ++ v ∷ []) (drop (i + 1) xs) before now failed fault cut)
+    let cut = put_err f n (take i xs) before mid c.puts.sink c.puts.invariant v c.put.new.self now failed fault c.in_err-put.ensures.calls in
+    let p = err_from_is_err_and c.from_residual-in_err-put.result c.from_residual-in_err-put.ensures.1 in
+    rw (p.1, p.2) (subst (λ (x : List VersionData). CutShort n before now failed (spell_list f x) fault) (parts_at xs i v within c.get.ensures)
+    (cut_before_end f n (take i xs ++ v ∷ []) (drop (i + 1) xs) before now failed fault cut))
 
 pub puts-preserved : goal.puts-preserved
 puts-preserved g c =
@@ -63,7 +66,7 @@ puts-preserved g c =
     let failed = g.W.Output.failed c.put.new.out in
     let within : i < length xs = omega (arith, c.puts-test.true, c.len-place-end.ensures) in
     subst (λ (x : List VersionData). HasPut f n x before c.put.new.self now) (front_at xs i v within c.get.ensures)
-    (put_ok f n (take i xs) before mid c.puts.sink c.puts.invariant v c.put.new.self now failed c.in_default-put.ensures.calls)
+    (put_ok f n (take i xs) before mid c.puts.sink c.puts.invariant v c.put.new.self now failed c.in_ok-put.ensures.calls)
 
 pub end-requires : goal.end-requires
 end-requires g c = (ap (λ s. s.begun) c.puts.invariant.state, ap (λ s. s.ended) c.puts.invariant.state)
