@@ -126,9 +126,7 @@ fn write_union<S: Source, W: Output, P: Progress>(
     ensures good { OnOk result (W.failed out.new ≡ false) }
     ensures ended { OnOk result (sink.new.ended ≡ true) }
 {
-    if let Err(fault) = sink.begin(out) {
-        return Err(fault);
-    }
+    sink.begin(out)?;
     let mut last: Option<Version> = None;
     if heads.is_empty() {
         return end_file(selection, &last, counts, sink, out);
@@ -193,9 +191,7 @@ fn meet<W: Output>(
         *spare = Some(version);
         return Ok(());
     }
-    if let Err(fault) = put_decided(selection, last, &version, counts, sink, out) {
-        return Err(fault);
-    }
+    put_decided(selection, last, &version, counts, sink, out)?;
     *spare = last.replace(version);
     Ok(())
 }
@@ -262,9 +258,7 @@ fn put_if<W: Output>(
     if !stays {
         return Ok(());
     }
-    if let Err(fault) = sink.put(out, version) {
-        return Err(fault);
-    }
+    sink.put(out, version)?;
     counts.written = counts.written.saturating_add(1);
     Ok(())
 }
@@ -300,13 +294,9 @@ fn end_file<W: Output>(
     ensures good { OnOk result (W.failed out.new ≡ false) }
     ensures ended { OnOk result (sink.new.ended ≡ true) }
 {
-    if let Err(fault) = put_last(selection, last, &mut counts, sink, out) {
-        return Err(fault);
-    }
-    match sink.end(out) {
-        Ok(()) => Ok(counts),
-        Err(fault) => Err(fault),
-    }
+    put_last(selection, last, &mut counts, sink, out)?;
+    sink.end(out)?;
+    Ok(counts)
 }
 
 /// Puts the version held back at the end, if it stays.

@@ -8,4 +8,4 @@ pub returns-clause-puts : goal.returns-clause-puts
 returns-clause-puts g c = λ format number put before has.
     subst (λ (more : List VersionData). HasPut format number (put ++ more) (g.W.Output.holds before) c.put_decided.new.sink (g.W.Output.holds c.put_decided.new.out))
     (ap (λ b. cond b (put_at c.args.selection c.args.last.now c.args.version) []) c.if-not-is_met.ensures.met)
-    (c.in_default.ensures.puts format number put before has)
+    (c.in_ok-put_decided.ensures.puts format number put before has)
