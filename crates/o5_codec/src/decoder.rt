@@ -60,7 +60,8 @@ impl Decoder {
     pub fn read_set(&mut self, kind: Kind, content: &[u8]) -> Result<Version, O5Reason>
         ensures state { Reads kind content.now self.old self.new result }
         ensures spelled { IfOk result (λ v. SpellsSet kind self.old.segment content.now (v, self.new.segment)) }
-        ensures refused { IfErr result (λ reason. self.old.failed ≡ false → (reason ≡ O5Reason.Memory) ⊎ SetReason kind self.old.segment content.now reason) }
+        ensures refused { IfErr result (λ reason.
+            self.old.failed ≡ false → (reason ≡ O5Reason.Memory) ⊎ SetReason kind self.old.segment content.now reason) }
     {
         if self.failed {
             return Err(O5Reason::Failed);

@@ -1,5 +1,5 @@
 //! The segment that data sets are read relative to, and the steps of a data set before its body.
-ghost use Rattle.std.specs.Prelude.{◌≡◌, [], IfOk};
+ghost use Rattle.std.specs.Prelude.{◌≡◌};
 ghost use Rattle.o5_codec.specs.Answer.{Gives, Answers};
 ghost use Rattle.o5_codec.specs.Segment as spec;
 

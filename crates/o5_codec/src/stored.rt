@@ -1,7 +1,6 @@
 //! The entries that are stored, which references name.
-ghost use Rattle.std.specs.Prelude.{◌≡◌, IfOk, IsTrue};
+ghost use Rattle.std.specs.Prelude.{◌≡◌, IfOk};
 ghost use Rattle.o5_codec.specs.Answer.{Answers, and_added};
-ghost use Rattle.o5_codec.specs.Table.{is_short};
 ghost use Rattle.o5_codec.specs.Text.{tag_of, user_of};
 ghost use Rattle.o5_codec.specs.Meaning.{bytes_of, IsMeant};
 

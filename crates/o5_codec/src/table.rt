@@ -1,5 +1,5 @@
 //! The string table of a segment.
-ghost use Rattle.std.specs.Prelude.{◌≡◌, [], ◌∷◌, take, IfOk, OnOk, IsTrue, option_copied};
+ghost use Rattle.std.specs.Prelude.{◌≡◌, [], ◌∷◌, take, OnOk, option_copied};
 ghost use Rattle.o5_codec.specs.Answer.{Gives, Answers, and_then, and_added};
 ghost use Rattle.o5_codec.specs.Table.{limit, is_short, stored, entry_at};
 ghost use Rattle.o5_codec.specs.Text.{tag_of, user_of};

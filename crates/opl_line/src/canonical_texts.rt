@@ -1,5 +1,5 @@
 //! Texts of canonical lines, each read where it stands: raw characters, and escapes in their one form.
-ghost use Rattle.std.specs.Prelude.{◌≡◌, ◌++◌, ◌∷◌, [], ◌≤◌, not, length, take, true, position, IfSome};
+ghost use Rattle.std.specs.Prelude.{◌≡◌, ◌++◌, ◌∷◌, [], ◌≤◌, not, length, take, true, IfSome};
 ghost use Rattle.std.specs.Bool.{OnTrue};
 ghost use Rattle.std.specs.List.{list_all};
 ghost use Rattle.osm_model.specs.Text.{is_text};

@@ -1,5 +1,5 @@
 //! Texts cut at some of their bytes.
-ghost use Rattle.std.specs.Prelude.{◌≡◌, ◌∷◌, ◌<◌, ◌≤◌, ℕ, not, ◌||◌, ◌==◌, true, length, take, position, IfSome, option_copied};
+ghost use Rattle.std.specs.Prelude.{◌≡◌, ◌∷◌, ◌<◌, ◌≤◌, ℕ, not, ◌||◌, ◌==◌, true, length, take, IfSome, option_copied};
 ghost use Rattle.std.specs.List.{list_all};
 ghost use Rattle.opl_line.specs.Cut.{is_end, split_first, cut, pieces_of};
 

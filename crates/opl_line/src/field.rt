@@ -272,7 +272,8 @@ fn said<'a, T: Drop>(
     front: Option<(T, Option<&'a str>)>,
 ) -> Option<Option<&'a str>>
     ensures left { MatchOption result ((front.entry ≡ None) × (kept.new ≡ kept.old)) (λ _. Unit {0}) }
-    ensures kept { MatchOption front.entry (Unit {0}) (λ read. (kept.new ≡ Some read.0) × IfSome result (λ behind. option_copied behind ≡ option_copied read.1)) }
+    ensures kept { MatchOption front.entry (Unit {0}) (λ read.
+        (kept.new ≡ Some read.0) × IfSome result (λ behind. option_copied behind ≡ option_copied read.1)) }
     ensures both { MatchOption front.entry (result ≡ None) (λ _. Unit {0}) }
 {
     let (value, behind) = front?;

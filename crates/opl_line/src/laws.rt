@@ -1,5 +1,6 @@
 //! Laws over the definitions, each the contract of a function with an empty body. Nothing is run to use them.
-ghost use Rattle.opl_line.specs.Canonical.{NumberIsReadBack, IdIsReadBack, TextIsReadBack, TimeIsReadBack, CoordinateIsReadBack, ListsAreSpelled, LineSpellsItsVersion, LineIsReadBack, LineStandsInOne};
+ghost use Rattle.opl_line.specs.Canonical.{NumberIsReadBack, IdIsReadBack, TextIsReadBack, TimeIsReadBack, CoordinateIsReadBack};
+ghost use Rattle.opl_line.specs.Canonical.{ListsAreSpelled, LineSpellsItsVersion, LineIsReadBack, LineStandsInOne};
 ghost use Rattle.opl_line.specs.LineReason.{ReasonIsTold, ToldIsReason, NeitherHasOneReason, ReasonSpellsNothing, MemoryIsNoReason};
 ghost use Rattle.opl_line.specs.Spells.{ReadIsSpelled, SpelledIsRead, OneReading, RefusedSpellsNothing, SkippedSpellsNothing};
 

@@ -1,5 +1,6 @@
 //! Texts in OPL lines, with their escapes.
-ghost use Rattle.std.specs.Prelude.{◌≡◌, ◌⊎◌, ◌<◌, ◌≤◌, true, false, not, None, length, take, string_bytes, option_copied, MatchOption, MatchResult, IfOk, IfSome};
+ghost use Rattle.std.specs.Prelude.{◌≡◌, ◌⊎◌, ◌<◌, ◌≤◌, true, false, not, None};
+ghost use Rattle.std.specs.Prelude.{length, take, string_bytes, option_copied, MatchOption, MatchResult, IfOk, IfSome};
 ghost use Rattle.std.specs.List.{list_all};
 ghost use Rattle.opl_line.specs.declared.cut.Cut.TheVariants.{Percents};
 ghost use Rattle.opl_line.specs.declared.reason.OplReason.TheVariants.{Memory, BadText};

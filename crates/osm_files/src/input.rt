@@ -1,5 +1,5 @@
 //! Inputs: where the bytes of a file come from.
-ghost use Rattle.std.specs.Prelude.{◌≡◌, ◌<◌, ◌≤◌, Ok, [], length, take, min, IfOk, IfErr, OnErr, refl};
+ghost use Rattle.std.specs.Prelude.{◌≡◌, ◌<◌, ◌≤◌, Ok, [], length, take, min, IfOk, OnErr, refl};
 ghost use Rattle.osm_files.specs.Input.{Coming, whole, breaks, Gave, CanGive, all_left, can_give_all};
 
 use std::io::Read;

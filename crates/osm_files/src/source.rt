@@ -1,5 +1,5 @@
 //! Sources: versions in ascending order, one after the other.
-ghost use Rattle.std.specs.Prelude.{◌≡◌, ℕ, ◌+◌, ◌<◌, ◌≤◌, [], ◌∷◌, length, Bool, true, false, None, Some, Ok, Err};
+ghost use Rattle.std.specs.Prelude.{◌≡◌, ℕ, ◌+◌, ◌<◌, [], ◌∷◌, Bool, true, false, None, Some, Ok, Err};
 ghost use Rattle.std.specs.Prelude.{option_to_list, is_err, IsSome, IfOk, IfErr, OnErr};
 ghost use Rattle.std.specs.Vec.Iter.{into_iter_items};
 ghost use Rattle.osm_model.specs.Data.{VersionData};

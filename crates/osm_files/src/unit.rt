@@ -1,5 +1,5 @@
 //! Units: the lines of OPL files and the data sets of o5 files, one at a time from the left.
-ghost use Rattle.std.specs.Prelude.{◌≡◌, ◌⊎◌, ℕ, true, false, Option, None, Some, Ok, List, ◌∷◌, ◌≤◌, length, take, position, IfOk, IfSome, OnOk};
+ghost use Rattle.std.specs.Prelude.{◌≡◌, ◌⊎◌, false, Option, None, Some, Ok, List, ◌≤◌, length, take, position, IfOk, OnOk};
 ghost use Rattle.std.specs.List.{list_any};
 ghost use Rattle.o5_codec.specs.Decoder.{new_segment};
 ghost use Rattle.opl_line.specs.Cut.{is_line_end, split_first};

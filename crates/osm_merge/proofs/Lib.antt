@@ -1,4 +1,5 @@
 mod OrderLaws
+mod RankLaws
 mod AscendingLaws
 mod TreeLaws
 pub mod GiveLaws

@@ -1,5 +1,5 @@
 -- The loop of the merge: what holds between two turns, and what the ends of the loop make of it.
-use Rattle.std.proofs.Common.{◌≡◌, ℕ, zero, suc, ◌+◌, ◌*◌, ◌-◌, ◌^◌, ◌<◌, ◌≤◌, min, Bool, true, false, cond, List, [], ◌∷◌, ◌++◌, map, take, length, get_or, refl, sym, ap, ◌∙◌, subst, arith, Option, Some, None, IfSome, IsSome, Result, Ok, Err, IfOk, IfErr, OnOk, inl, inr, get_or-set_other, get_or-set_same}
+use Rattle.std.proofs.Common.{◌≡◌, ℕ, zero, suc, ◌+◌, ◌*◌, ◌-◌, ◌^◌, ◌<◌, ◌≤◌, min, Bool, true, false, cond, List, [], ◌∷◌, ◌++◌, map, take, length, get_or, refl, sym, ap, ◌∙◌, subst, arith, Option, Some, None, IfSome, IsSome, Result, Ok, Err, IfOk, IfErr, inl, inr, get_or-set_other, get_or-set_same}
 use Rattle.std.proofs.Math.Nat.{add-mul}
 use Rattle.std.proofs.Math.ListN.{set, length-set}
 use Rattle.std.specs.List.{All}
@@ -8,8 +8,7 @@ use Rattle.std.proofs.lemmas.Bool.{false≢true, cases_eq, cases_lt}
 use Rattle.std.proofs.lemmas.List.{get_or_past, get_or_default, map-set, length-map, get_or-map}
 use Rattle.osm_model.specs.Data.{VersionData}
 use Rattle.osm_model.specs.Order.{version_cmp}
-use Rattle.osm_model.specs.Sets.{size, from_list}
-use Rattle.osm_model.proofs.VersionLaws.{listed-view}
+use Rattle.osm_model.specs.Sets.{size}
 use Rattle.osm_files.specs.declared.fault.Fault.{Fault}
 use Rattle.osm_files.specs.declared.format.Format.{Format}
 use Rattle.osm_files.specs.Output.{Content, Appended}
@@ -17,7 +16,7 @@ use Rattle.osm_files.specs.Source.{Step, Ascends}
 use Rattle.osm_files.specs.Stream.{whole}
 use Rattle.osm_files.specs.Spell.{spelled_open, spell_list, spell}
 use Rattle.osm_files.specs.Sink.{SinkState, IsOpen, CutShort, HasPut, MayFollow}
-use Rattle.osm_files.proofs.SpellLaws.{each_may_follow, list_spelled}
+use Rattle.osm_files.proofs.SpellLaws.{each_may_follow}
 use Rattle.osm_merge.specs.declared.merge.Counts.{Counts}
 use Rattle.osm_files.specs.Input.{Explained}
 use Rattle.osm_merge.specs.ToCome.{VersionsToCome, rest, head, behind_head, coming_at, AllAscend, AllStand}

@@ -1,5 +1,5 @@
 -- What was put, against the union, and the file of it.
-use Rattle.std.proofs.Common.{◌≡◌, ◌⊎◌, ℕ, suc, ◌<◌, ◌≤◌, Bool, true, false, not, ◌||◌, ◌&&◌, cond, List, [], ◌∷◌, ◌++◌, length, take, refl, sym, ap, ◌∙◌, subst, arith, Option, Some, None, IfSome, inl, inr, length-append}
+use Rattle.std.proofs.Common.{◌≡◌, ℕ, suc, ◌<◌, ◌≤◌, Bool, true, false, not, ◌||◌, ◌&&◌, cond, List, [], ◌∷◌, ◌++◌, length, take, refl, sym, ap, ◌∙◌, subst, arith, Option, Some, None, IfSome, inl, inr, length-append}
 use Rattle.std.specs.Ordering.{is_gt, eq_by_cmp}
 use Rattle.std.specs.declared.cmp.Ordering.TheVariants.{Less}
 use Rattle.std.specs.Cmp.{tied_itself, upto}
@@ -14,15 +14,15 @@ use Rattle.std.proofs.lemmas.Bool.{false≢true}
 use Rattle.osm_model.specs.Data.{VersionData}
 use Rattle.osm_model.specs.Order.{version_cmp, version_cmp_total}
 use Rattle.osm_model.specs.VersionSet.{VersionSet}
-use Rattle.osm_model.specs.Sets.{listed, from_list}
+use Rattle.osm_model.specs.Sets.{listed}
 use Rattle.osm_model.proofs.SetLaws.{strict-listed}
 use Rattle.osm_files.specs.declared.fault.Fault.{Fault}
 use Rattle.osm_files.specs.declared.format.Format.{Format}
 use Rattle.osm_files.specs.Fault.{memory_fault}
 use Rattle.osm_files.specs.Output.{Content, Appended}
-use Rattle.osm_files.specs.Spell.{ended, spelled_open, spell_list, spell}
+use Rattle.osm_files.specs.Spell.{spelled_open, spell_list, spell}
 use Rattle.osm_files.specs.Sink.{CutShort}
-use Rattle.osm_files.proofs.SpellLaws.{first_in_front, list_spelled}
+use Rattle.osm_files.proofs.SpellLaws.{first_in_front}
 use Rattle.osm_files.proofs.SinkLaws.{cut_before_end}
 use Rattle.osm_merge.specs.ToCome.{VersionsToCome, head, coming_at, IsFaultAtStart}
 use Rattle.osm_merge.specs.Members.{first}

@@ -1,5 +1,5 @@
 -- What a merge of sources writes, answers and counts.
-use Rattle.std.specs.Prelude.{◌≡◌, ◌⊎◌, ℕ, ◌+◌, ◌-◌, ◌*◌, ◌^◌, ◌<◌, ◌≤◌, Bool, true, not, if◌then◌else◌, List, [], ◌∷◌, length, take, Option, Some, None, IfSome}
+use Rattle.std.specs.Prelude.{◌≡◌, ◌⊎◌, ℕ, ◌+◌, ◌-◌, ◌*◌, ◌^◌, ◌<◌, ◌≤◌, Bool, not, if◌then◌else◌, List, [], ◌∷◌, length, take, Option, Some, None}
 use Rattle.std.specs.List as list
 use Rattle.std.specs.List.{filter}
 use Rattle.std.specs.Ordering.{is_gt}
@@ -9,7 +9,6 @@ use Rattle.osm_model.specs.VersionSet.{VersionSet}
 use Rattle.osm_model.specs.Sets.{listed, size}
 use Rattle.osm_files.specs.declared.fault.Fault.{Fault}
 use Rattle.osm_files.specs.declared.format.Format.{Format}
-use Rattle.osm_files.specs.Fault.{memory_fault, too_long_fault, write_fault}
 use Rattle.osm_files.specs.Output.{Content, Appended}
 use Rattle.osm_files.specs.Spell.{spelled_open, spell}
 use Rattle.osm_files.specs.Sink.{CutShort}

@@ -1,11 +1,10 @@
 //! The merge.
-ghost use Rattle.std.specs.Prelude.{◌≡◌, ◌≤◌, ◌<◌, ◌+◌, ◌-◌, ◌++◌, ℕ, false, true, [], List, Option, map, length, IsSome, IfOk, IfErr, IfSome, OnOk, OnErr};
+ghost use Rattle.std.specs.Prelude.{◌≡◌, ◌≤◌, ◌<◌, ◌+◌, ◌-◌, false, true, List, Option, length, IsSome, IfOk, IfErr, IfSome, OnOk};
 ghost use Rattle.std.specs.List.{All};
-ghost use Rattle.osm_model.specs.Data.{VersionData};
 ghost use Rattle.osm_files.specs.Sink.{IsOpen, new_sink};
 ghost use Rattle.osm_files.specs.Source.{Steps};
 ghost use Rattle.osm_merge.specs.Giving.{ForSome, ForStanding};
-ghost use Rattle.osm_merge.specs.Union.{capped, union_given};
+ghost use Rattle.osm_merge.specs.Union.{capped};
 ghost use Rattle.osm_merge.specs.Tree.{IsTree};
 ghost use Rattle.osm_merge.specs.Selected.{selected};
 ghost use Rattle.osm_merge.specs.Pass.{is_new, is_met, held_next, puts, put_at, put_at_end, only};
@@ -15,6 +14,7 @@ ghost use Rattle.osm_merge.specs.Merged.{MergesSources, IsMergedAs, RefusesSourc
 use crate::compare::compare;
 use crate::heads::first_versions;
 use crate::progress::{Progress, Silent};
+use crate::ranked::{Ranked, with_rank, without_rank};
 use crate::selection::{Selection, keeps, passes, puts_at_once, stays};
 use crate::tree::{build, replay};
 use osm_files::{Fault, Output, Sink, Source};
@@ -105,7 +105,7 @@ pub fn merge_selected<S: Source + Drop, W: Output, P: Progress>(
 fn write_union<S: Source, W: Output, P: Progress>(
     selection: Selection,
     sources: &mut [S],
-    heads: &mut [Option<Version>],
+    heads: &mut [Option<Ranked>],
     nodes: &mut [usize],
     mut counts: Counts,
     sink: &mut Sink,
@@ -127,7 +127,7 @@ fn write_union<S: Source, W: Output, P: Progress>(
     ensures ended { OnOk result (sink.new.ended ≡ true) }
 {
     sink.begin(out)?;
-    let mut last: Option<Version> = None;
+    let mut last: Option<Ranked> = None;
     if heads.is_empty() {
         return end_file(selection, &last, counts, sink, out);
     }
@@ -148,7 +148,8 @@ fn write_union<S: Source, W: Output, P: Progress>(
             out,
         )?;
         progress.tell(counts.read, counts.written);
-        heads[place] = next_of(&mut sources[place], spare)?;
+        let next = next_of(&mut sources[place], spare)?;
+        heads[place] = with_rank(next);
         replay(nodes, heads, place, &mut counts.compared);
     }
 }
@@ -170,8 +171,8 @@ fn next_of<S: Source>(source: &mut S, spare: Option<Version>) -> Result<Option<V
 #[inline(always)]
 fn meet<W: Output>(
     selection: Selection,
-    last: &mut Option<Version>,
-    version: Version,
+    last: &mut Option<Ranked>,
+    version: Ranked,
     spare: &mut Option<Version>,
     counts: &mut Counts,
     sink: &mut Sink,
@@ -188,35 +189,30 @@ fn meet<W: Output>(
     ensures least { IfSome last.old (λ _. capped (counts.old.compared + 1) ≤ counts.new.compared) }
 {
     if !is_met(selection, last, &version, &mut counts.compared) {
-        *spare = Some(version);
+        *spare = Some(version.into_version());
         return Ok(());
     }
-    put_decided(selection, last, &version, counts, sink, out)?;
-    *spare = last.replace(version);
+    put_decided(selection, last, version.version(), counts, sink, out)?;
+    *spare = without_rank(last.replace(version));
     Ok(())
 }
 
 /// Whether a version passes and is greater than the one held back.
 #[inline(always)]
-fn is_met(
-    selection: Selection,
-    last: &Option<Version>,
-    version: &Version,
-    compared: &mut u64,
-) -> bool
+fn is_met(selection: Selection, last: &Option<Ranked>, version: &Ranked, compared: &mut u64) -> bool
     ensures met { result ≡ is_met selection last.now version.now }
     ensures grows { compared.old ≤ compared.new }
     ensures most { compared.new ≤ compared.old + 1 }
     ensures least { IfSome last.now (λ _. capped (compared.old + 1) ≤ compared.new) }
 {
-    is_new(last, version, compared) && passes(selection, version)
+    is_new(last, version, compared) && passes(selection, version.version())
 }
 
 /// Puts what a version decides that comes behind the one held back.
 #[inline(always)]
 fn put_decided<W: Output>(
     selection: Selection,
-    last: &Option<Version>,
+    last: &Option<Ranked>,
     version: &Version,
     counts: &mut Counts,
     sink: &mut Sink,
@@ -234,7 +230,10 @@ fn put_decided<W: Output>(
     }
     match last {
         None => Ok(()),
-        Some(held) => put_if(keeps(selection, held, version), held, counts, sink, out),
+        Some(held) => {
+            let held = held.version();
+            put_if(keeps(selection, held, version), held, counts, sink, out)
+        }
     }
 }
 
@@ -265,7 +264,7 @@ fn put_if<W: Output>(
 
 /// Whether a version is greater than the one held back.
 #[inline(always)]
-fn is_new(last: &Option<Version>, version: &Version, compared: &mut u64) -> bool
+fn is_new(last: &Option<Ranked>, version: &Ranked, compared: &mut u64) -> bool
     ensures new { result ≡ is_new last.now version.now }
     ensures grows { compared.old ≤ compared.new }
     ensures most { compared.new ≤ compared.old + 1 }
@@ -280,7 +279,7 @@ fn is_new(last: &Option<Version>, version: &Version, compared: &mut u64) -> bool
 /// Puts the version held back, if it stays, ends the file, and answers the counts.
 fn end_file<W: Output>(
     selection: Selection,
-    last: &Option<Version>,
+    last: &Option<Ranked>,
     mut counts: Counts,
     sink: &mut Sink,
     out: &mut W,
@@ -302,7 +301,7 @@ fn end_file<W: Output>(
 /// Puts the version held back at the end, if it stays.
 fn put_last<W: Output>(
     selection: Selection,
-    last: &Option<Version>,
+    last: &Option<Ranked>,
     counts: &mut Counts,
     sink: &mut Sink,
     out: &mut W,
@@ -320,7 +319,10 @@ fn put_last<W: Output>(
     }
     match last {
         None => Ok(()),
-        Some(held) => put_if(stays(selection, held, None), held, counts, sink, out),
+        Some(held) => {
+            let held = held.version();
+            put_if(stays(selection, held, None), held, counts, sink, out)
+        }
     }
 }
 

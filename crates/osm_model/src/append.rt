@@ -1,5 +1,5 @@
 //! Canonical lines, appended to a vector.
-ghost use Rattle.std.specs.Prelude.{◌≡◌, ◌++◌, ◌∷◌, ◌≤◌, ℕ, ℤ, List, length, codes, OnOk};
+ghost use Rattle.std.specs.Prelude.{◌≡◌, ◌++◌, ◌∷◌, ◌≤◌, ℕ, List, length, OnOk};
 ghost use Rattle.osm_model.specs.Joined.{joined};
 ghost use Rattle.osm_model.specs.Escape.{escape, escape_char};
 ghost use Rattle.osm_model.specs.Line.{list_text, tag_text, reference_text, member_text, kind_fields, line};

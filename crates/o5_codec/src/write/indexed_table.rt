@@ -15,7 +15,8 @@ use std::alloc::Global;
 use std::collections::{HashMap, VecDeque};
 use std::marker::Model;
 
-/// The entries that references can name, the one stored last first, each with the number of its storing. Contracts see the list of the entries. Room is taken as they come.
+/// The entries that references can name, the one stored last first, each with the number of its storing. Contracts see the
+/// list of the entries. Room is taken as they come.
 #[derive(Drop)]
 pub(crate) struct IndexedTable {
     entries: VecDeque<Entry>,
@@ -62,7 +63,8 @@ impl IndexedTable {
         self.next = 0;
     }
 
-    /// Appends an entry, and remembers it for the slot: its reference where it stands in the table, else its strings inline, which are stored unless they are too long.
+    /// Appends an entry, and remembers it for the slot: its reference where it stands in the table, else its strings inline,
+    /// which are stored unless they are too long.
     ///
     /// # Errors
     ///

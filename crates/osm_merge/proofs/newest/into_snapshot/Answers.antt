@@ -1,7 +1,5 @@
-use Rattle.std.proofs.Common.{rules, ◌≡◌, ◌+◌, ◌<◌, ◌≤◌, length, arith, ap, sym, ◌∙◌, vec_len, List}
-use Rattle.osm_model.specs.Data.{VersionData}
+use Rattle.std.proofs.Common.{rules, ◌<◌, ◌≤◌, length, arith, ap, ◌∙◌, vec_len}
 use Rattle.osm_model.specs.Sets.{listed}
-use Rattle.osm_merge.specs.Selected.{snapshot}
 use Rattle.osm_merge.proofs.NewestLaws.{some_item, settling_begins, settling_skips, settling_moves, settled_list, settled_ascends, settled_set}
 use Rattle.osm_merge.proofs.newest.into_snapshot.Goals.{then-is_newest, else-is_newest}
 use Rattle.osm_merge.proofs.newest.into_snapshot.Goals as goal

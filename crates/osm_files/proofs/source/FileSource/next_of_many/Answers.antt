@@ -1,9 +1,9 @@
-use Rattle.std.proofs.Common.{◌≡◌, ◌∙◌, ◌+◌, [], ◌∷◌, ◌++◌, List, length, length-append, ap, sym, subst, arith, true, Ok, Err, option_to_list, is_some}
+use Rattle.std.proofs.Common.{◌≡◌, ◌∙◌, ◌+◌, [], ◌∷◌, List, length, length-append, ap, sym, subst, arith, true, Ok, Err, option_to_list, is_some}
 use Rattle.std.proofs.lemmas.List.{nil_from_length}
 use Rattle.std.proofs.lemmas.Result.{err_from_is_err_and}
 use Rattle.std.specs.Vec.Iter.{into_iter_items}
 use Rattle.osm_model.specs.Data.{VersionData}
-use Rattle.osm_files.specs.Groups.{ascending, FileStand, FileSteps, GathersOn, RefusesOn, IsGroup, begun, standing}
+use Rattle.osm_files.specs.Groups.{ascending, FileStand, FileSteps, RefusesOn, IsGroup, begun, standing}
 use Rattle.osm_files.proofs.GroupLaws.{ascending_some, one_in, some_from}
 use Rattle.osm_files.proofs.SourceSteps.{open_source, memory_step, gather_refused, gathered_memory, gathered_given, gathered_open}
 use Rattle.osm_files.proofs.source.FileSource.next_of_many.Goals as goal

@@ -1,4 +1,4 @@
-use Rattle.std.proofs.Common.{rules, ◌≡◌, ◌++◌, string_bytes}
+use Rattle.std.proofs.Common.{rules, string_bytes}
 use Rattle.std.proofs.lemmas.Str.{IsUtf8-string_bytes}
 use Rattle.osm_model.specs.Storage.{bytes_of}
 use Rattle.osm_model.proofs.TextLaws.{appended_chars}

@@ -1,4 +1,4 @@
-use Rattle.std.proofs.Common.{◌≡◌, ◌<◌, ◌≤◌, ◌^◌, ◌∷◌, sym, ap, ◌∙◌, length, arith, Some, None, subst}
+use Rattle.std.proofs.Common.{◌≡◌, ◌<◌, ◌≤◌, ◌^◌, sym, length, arith, Some, None, subst}
 use Rattle.o5_codec.specs.Table.{limit}
 use Rattle.o5_codec.specs.Formed.{reference_to}
 use Rattle.o5_codec.proofs.IndexSteps.{stored_one, changed_by, limit_is_small}
