@@ -1,5 +1,6 @@
 //! Laws of unions, snapshots and states, each the contract of a function with an empty body. Nothing is run to use them.
-ghost use Rattle.osm_merge.specs.Laws.{SnapshotOfUnion, SnapshotOfUnions, SnapshotOfSnapshot, StateOfUnion, StateOfUnions, UnionOfTheSame, UnionOfGroups, UnionWithEmpty, UnionStaysInRange};
+ghost use Rattle.osm_merge.specs.Laws.{SnapshotOfUnion, SnapshotOfUnions, SnapshotOfSnapshot, StateOfUnion, StateOfUnions};
+ghost use Rattle.osm_merge.specs.Laws.{UnionOfTheSame, UnionOfGroups, UnionWithEmpty, UnionStaysInRange};
 
 /// The union of some sets changes neither with their order nor with how often each is among them.
 pub fn union_of_the_same()
