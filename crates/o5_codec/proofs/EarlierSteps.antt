@@ -12,7 +12,7 @@ use Rattle.osm_model.specs.declared.body.Body.TheVariants.{Deleted, Node, Way, R
 use Rattle.osm_model.specs.Data.{VersionData, normal_body}
 use Rattle.o5_codec.specs.declared.base.Bases.{Bases}
 use Rattle.o5_codec.specs.declared.segment.Segment.{Segment}
-use Rattle.o5_codec.specs.declared.segment.Author.{Author}
+use Rattle.o5_codec.specs.Author.{Author}
 use Rattle.o5_codec.specs.declared.strings.Form.{Form}
 use Rattle.o5_codec.specs.declared.strings.Form.TheVariants.{Pair, Single}
 use Rattle.o5_codec.specs.Entry.{Entry}

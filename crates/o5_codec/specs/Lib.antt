@@ -6,6 +6,7 @@ pub mod Table
 pub mod Strings
 pub mod Base
 pub mod Text
+pub mod Author
 pub mod Segment
 pub mod Items
 pub mod Body

@@ -5,7 +5,7 @@ use Rattle.o5_codec.specs.declared.reason.O5Reason.{O5Reason}
 use Rattle.o5_codec.specs.declared.reason.O5Reason.TheVariants.{NoVersion}
 use Rattle.o5_codec.specs.declared.base.Bases.{Bases}
 use Rattle.o5_codec.specs.declared.segment.Segment.{Segment}
-use Rattle.o5_codec.specs.declared.segment.Author.{Author}
+use Rattle.o5_codec.specs.Author.{Author}
 use Rattle.o5_codec.specs.declared.strings.Form.TheVariants.{Pair}
 use Rattle.o5_codec.specs.Answer.{and_then}
 use Rattle.o5_codec.specs.Entry.{Entry}
@@ -70,3 +70,11 @@ meta_of version time a = record { version = version; time = time_of time; change
 unfoldable pub meta_at : Segment → List ℕ → Step Meta
 meta_at s bytes = and_then (version_at bytes) (λ v. and_then (time_at s v.1) (λ t. and_then (author_at t.0 t.1 t.2) (λ a.
     Ok (meta_of v.0 t.0 a.0, a.1, a.2))))
+
+-- metadata, the author replaced by the one read
+abbrev pub and_author : Meta → Step Author → Step Meta
+and_author m reading = and_then reading (λ a. Ok (record m { changeset = a.0.changeset; uid = a.0.uid; user = a.0.user }, a.1, a.2))
+
+-- metadata, the user replaced by the one read
+abbrev pub and_user_read : Meta → Step (ℕ × List ℕ) → Step Meta
+and_user_read m reading = and_then reading (λ x. Ok (record m { uid = x.0.0; user = x.0.1 }, x.1, x.2))

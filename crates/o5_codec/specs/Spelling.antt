@@ -10,7 +10,7 @@ use Rattle.osm_model.specs.declared.body.Body.TheVariants.{Deleted, Node, Way, R
 use Rattle.osm_model.specs.Data.{VersionData, version_of}
 use Rattle.o5_codec.specs.declared.reason.O5Reason.{O5Reason}
 use Rattle.o5_codec.specs.declared.segment.Segment.{Segment}
-use Rattle.o5_codec.specs.declared.segment.Author.{Author}
+use Rattle.o5_codec.specs.Author.{Author}
 use Rattle.o5_codec.specs.declared.segment.ListsSeen.{ListsSeen}
 use Rattle.o5_codec.specs.declared.base.Bases.{Bases}
 use Rattle.o5_codec.specs.declared.strings.Form.{Form}

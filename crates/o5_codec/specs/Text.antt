@@ -1,6 +1,7 @@
 -- Texts in the strings of data sets (the OSM wiki's page on o5m).
 use Rattle.std.specs.Prelude.{ℕ, ◌∷◌, List, [], Result, Ok, Err, if◌then◌else◌}
 use Rattle.std.specs.Str.{chars, is_utf8}
+use Rattle.osm_model.specs.declared.meta.Meta.{Meta}
 use Rattle.osm_model.specs.declared.tags.Tag.{Tag}
 use Rattle.o5_codec.specs.declared.reason.O5Reason.{O5Reason}
 use Rattle.o5_codec.specs.declared.reason.O5Reason.TheVariants.{BadNumber, NotUtf8}
@@ -30,3 +31,7 @@ uid_of (b ∷ bytes) = and_then (number_at (b ∷ bytes)) whole_number
 -- a user id and a user name
 unfoldable pub user_of : Entry → Result (ℕ × List ℕ) O5Reason
 user_of e = and_then (uid_of e.first) (λ uid. and_then (text_of e.second) (λ name. Ok (uid, name)))
+
+-- metadata, the user replaced by the one read
+abbrev pub and_user : Meta → Result (ℕ × List ℕ) O5Reason → Result Meta O5Reason
+and_user m reading = and_then reading (λ user. Ok (record m { uid = user.0; user = user.1 }))

@@ -52,34 +52,49 @@ impl Bases {
 }
 
 impl Segment {
-    /// The body of an object of this kind, to the end of the bytes. Where none is left, the object was deleted.
+    /// Puts the body of an object of this kind, to the end of the bytes, in the place of one that holds no memory. Where no byte
+    /// is left, the object was deleted.
     #[tactic(auto, unfolding(crate::specs::Body::body_at))]
     pub(crate) fn read_body(
         &mut self,
         kind: Kind,
         bytes: &[u8],
         spare: &mut Spare,
-    ) -> Result<Body, O5Reason>
-        ensures { Answers (λ body. (body, self.new)) (spec.body_at kind self.old bytes.now) result }
+        body: &mut Body,
+    ) -> Result<(), O5Reason>
+        ensures { Answers (λ _. (body.new, self.new)) (spec.body_at kind self.old bytes.now) result }
     {
         if bytes.is_empty() {
-            return Ok(Body::Deleted(kind));
+            body.replace(Body::Deleted(kind));
+            return Ok(());
         }
         match kind {
-            Kind::Node => self.read_node(bytes, spare),
-            Kind::Way => self.read_way(bytes, spare),
-            Kind::Relation => self.read_relation(bytes, spare),
+            Kind::Node => self.read_node(bytes, spare, body),
+            Kind::Way => self.read_way(bytes, spare, body),
+            Kind::Relation => self.read_relation(bytes, spare, body),
         }
     }
 
     #[tactic(auto, unfolding(crate::specs::Body::node_at))]
-    fn read_node(&mut self, bytes: &[u8], spare: &mut Spare) -> Result<Body, O5Reason>
-        ensures { Answers (λ body. (body, self.new)) (spec.node_at self.old bytes.now) result }
+    fn read_node(
+        &mut self,
+        bytes: &[u8],
+        spare: &mut Spare,
+        body: &mut Body,
+    ) -> Result<(), O5Reason>
+        ensures { Answers (λ _. (body.new, self.new)) (spec.node_at self.old bytes.now) result }
     {
         let (lon, rest) = self.read_longitude(bytes)?;
         let (lat, rest) = self.read_latitude(rest)?;
-        let tags = self.read_tags(rest, spare)?;
-        Ok(Body::Node { lon, lat, tags })
+        // Most nodes have no tags, and an empty list then needn't be moved.
+        if rest.is_empty() {
+            let tags = self.no_tags();
+            body.replace(Body::Node { lon, lat, tags });
+            return Ok(());
+        }
+        let tags = self.read_each_tag(rest, spare)?;
+        body.replace(Body::Node { lon, lat, tags });
+        Ok(())
     }
 
     #[tactic(auto, unfolding(crate::specs::Body::longitude_at))]
@@ -97,24 +112,31 @@ impl Segment {
     }
 
     #[tactic(auto, unfolding(crate::specs::Body::way_at))]
-    fn read_way(&mut self, bytes: &[u8], spare: &mut Spare) -> Result<Body, O5Reason>
-        ensures { Answers (λ body. (body, self.new)) (spec.way_at self.old bytes.now) result }
+    fn read_way(&mut self, bytes: &[u8], spare: &mut Spare, body: &mut Body) -> Result<(), O5Reason>
+        ensures { Answers (λ _. (body.new, self.new)) (spec.way_at self.old bytes.now) result }
     {
         let (section, rest) = read_section(bytes)?;
         self.seen = self.seen.with_section(section)?;
         let refs = self.read_references(section, spare)?;
         let tags = self.read_tags(rest, spare)?;
-        Ok(Body::Way { refs, tags })
+        body.replace(Body::Way { refs, tags });
+        Ok(())
     }
 
     #[tactic(auto, unfolding(crate::specs::Body::relation_at))]
-    fn read_relation(&mut self, bytes: &[u8], spare: &mut Spare) -> Result<Body, O5Reason>
-        ensures { Answers (λ body. (body, self.new)) (spec.relation_at self.old bytes.now) result }
+    fn read_relation(
+        &mut self,
+        bytes: &[u8],
+        spare: &mut Spare,
+        body: &mut Body,
+    ) -> Result<(), O5Reason>
+        ensures { Answers (λ _. (body.new, self.new)) (spec.relation_at self.old bytes.now) result }
     {
         let (section, rest) = read_section(bytes)?;
         let members = self.read_members(section, spare)?;
         let tags = self.read_tags(rest, spare)?;
-        Ok(Body::Relation { members, tags })
+        body.replace(Body::Relation { members, tags });
+        Ok(())
     }
 
     /// References to the end of the bytes.
@@ -175,9 +197,16 @@ impl Segment {
         ensures { Answers (λ tags. (tags, self.new)) (items_at spec.tag_at self.old bytes.now) result }
     {
         if bytes.is_empty() {
-            return Ok(Tags::from_vec(Vec::new(self.table.allocator())));
+            return Ok(self.no_tags());
         }
         self.read_each_tag(bytes, spare)
+    }
+
+    #[inline(always)]
+    fn no_tags(&self) -> Tags
+        ensures { result ≡ [] }
+    {
+        Tags::from_vec(Vec::new(self.table.allocator()))
     }
 
     /// Tags to the end of the bytes, of which there are some.

@@ -11,7 +11,7 @@ use crate::O5Reason;
 use crate::base::Bases;
 use crate::segment::{ListsSeen, Segment};
 use crate::table::Table;
-use osm_model::{Kind, Memory, Spare, Version};
+use osm_model::{Kind, Memory, Parts, Spare, Version};
 use std::alloc::Global;
 use std::marker::Model;
 
@@ -124,11 +124,12 @@ impl Segment {
         ensures value { Answers (λ v. (v, self.new)) (set_at kind self.old content.now) result }
         ensures sound { OnOk result (is_sound self.new ≡ true) }
     {
+        let mut parts = Parts::to_fill(self.table.allocator(), spare)?;
         let (id, rest) = self.read_id(content)?;
-        let (meta, rest) = self.read_meta(rest)?;
-        let body = self.read_body(kind, rest, spare)?;
-        // What a data set says is within all ranges, so that memory alone can be wanting.
-        let alloc = self.table.allocator();
-        Ok(Version::of_sound_data(alloc, spare, id, meta, body)?)
+        parts.id = id;
+        let rest = self.read_meta(rest, &mut parts.meta)?;
+        self.read_body(kind, rest, spare, &mut parts.body)?;
+        // What a data set says is within all ranges.
+        Ok(Version::of_sound_parts(parts))
     }
 }

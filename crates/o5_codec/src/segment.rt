@@ -29,14 +29,6 @@ pub struct Segment {
     pub(crate) seen: ListsSeen,
 }
 
-/// Who made a version.
-#[derive(Drop)]
-pub(crate) struct Author {
-    changeset: u32,
-    uid: u32,
-    user: Text,
-}
-
 impl Segment {
     /// The object's id, and the bytes behind it.
     #[tactic(auto, unfolding(crate::specs::Segment::id_at))]
@@ -46,15 +38,20 @@ impl Segment {
         self.bases.id.read(bytes)
     }
 
-    /// Version number, time, changeset and user, and the bytes behind them.
+    /// Puts version number, time, changeset and user in their places, and answers the bytes behind them.
     #[tactic(auto, unfolding(crate::specs::Segment::meta_at))]
-    pub(crate) fn read_meta<'a>(&mut self, bytes: &'a [u8]) -> Result<(Meta, &'a [u8]), O5Reason>
-        ensures { Answers (λ x. (x.0, self.new, x.1.now)) (spec.meta_at self.old bytes.now) result }
+    pub(crate) fn read_meta<'a>(
+        &mut self,
+        bytes: &'a [u8],
+        meta: &mut Meta,
+    ) -> Result<&'a [u8], O5Reason>
+        ensures { Answers (λ rest. (meta.new, self.new, rest.now)) (spec.meta_at self.old bytes.now) result }
     {
         let (version, rest) = read_version(bytes)?;
+        meta.version = u64::from(version);
         let (time, rest) = self.read_time(rest)?;
-        let (author, rest) = self.read_author(time, rest)?;
-        Ok((meta_of(version, time, author), rest))
+        meta.time = time_of(time);
+        self.read_author(time, rest, meta)
     }
 
     #[tactic(auto, unfolding(crate::specs::Segment::time_at))]
@@ -64,50 +61,42 @@ impl Segment {
         self.bases.time.read(bytes)
     }
 
-    /// Changeset and user of a version with this time, 0 being none, and the bytes behind them.
+    /// Puts changeset and user of a version with this time, 0 being none, in their places, and answers the bytes behind them.
     #[tactic(auto, unfolding(crate::specs::Segment::author_at))]
     fn read_author<'a>(
         &mut self,
         time: u32,
         bytes: &'a [u8],
-    ) -> Result<(Author, &'a [u8]), O5Reason>
-        ensures { Answers (λ x. (x.0, self.new, x.1.now)) (spec.author_at time self.old bytes.now) result }
+        meta: &mut Meta,
+    ) -> Result<&'a [u8], O5Reason>
+        ensures { Answers (λ rest. (meta.new, self.new, rest.now)) (spec.and_author meta.old (spec.author_at time self.old bytes.now)) result }
     {
         if time == 0 {
-            let author = Author {
-                changeset: 0,
-                uid: 0,
-                user: Text::new(),
-            };
-            return Ok((author, bytes));
+            meta.changeset = 0;
+            meta.uid = 0;
+            meta.user.replace(Text::new());
+            return Ok(bytes);
         }
         let (changeset, rest) = self.read_changeset(bytes)?;
-        self.read_author_behind(changeset, rest)
+        meta.changeset = u64::from(changeset);
+        self.read_author_behind(rest, meta)
     }
 
+    /// Puts the user in its place, where the changeset was put in its own, and answers the bytes behind it.
     #[tactic(auto, unfolding(crate::specs::Segment::author_behind))]
     fn read_author_behind<'a>(
         &mut self,
-        changeset: u32,
         bytes: &'a [u8],
-    ) -> Result<(Author, &'a [u8]), O5Reason>
-        ensures { Answers (λ x. (x.0, self.new, x.1.now)) (spec.author_behind (changeset, self.old, bytes.now)) result }
+        meta: &mut Meta,
+    ) -> Result<&'a [u8], O5Reason>
+        ensures { Answers (λ rest. (meta.new, self.new, rest.now)) (spec.and_author meta.old (spec.author_behind (meta.old.changeset, self.old, bytes.now))) result }
     {
         if bytes.is_empty() {
-            let author = Author {
-                changeset,
-                uid: 0,
-                user: Text::new(),
-            };
-            return Ok((author, bytes));
+            meta.uid = 0;
+            meta.user.replace(Text::new());
+            return Ok(bytes);
         }
-        let ((uid, user), rest) = self.read_user(bytes)?;
-        let author = Author {
-            changeset,
-            uid,
-            user,
-        };
-        Ok((author, rest))
+        self.read_user(bytes, meta)
     }
 
     #[tactic(auto, unfolding(crate::specs::Segment::changeset_at))]
@@ -117,15 +106,15 @@ impl Segment {
         self.bases.changeset.read(bytes)
     }
 
-    /// User id and user name, and the bytes behind them.
+    /// Puts user id and user name in their places, and answers the bytes behind them.
     #[tactic(auto, unfolding(crate::specs::Segment::user_at, crate::specs::Strings::strings_at))]
-    fn read_user<'a>(&mut self, bytes: &'a [u8]) -> Result<((u32, Text), &'a [u8]), O5Reason>
-        ensures { Answers (λ x. (x.0, self.new, x.1.now)) (spec.user_at self.old bytes.now) result }
+    fn read_user<'a>(&mut self, bytes: &'a [u8], meta: &mut Meta) -> Result<&'a [u8], O5Reason>
+        ensures { Answers (λ rest. (meta.new, self.new, rest.now)) (spec.and_user_read meta.old (spec.user_at self.old bytes.now)) result }
     {
         let (spelled, rest) = read_spelled(Form::Pair, bytes)?;
         self.table.store(&spelled)?;
-        let user = self.table.user(&spelled)?;
-        Ok((user, rest))
+        self.table.put_user(&spelled, meta)?;
+        Ok(rest)
     }
 }
 
@@ -142,19 +131,13 @@ fn read_version(bytes: &[u8]) -> Result<(u32, &[u8]), O5Reason>
     Ok((version, rest))
 }
 
-/// The metadata of a version with this time, 0 being none.
-fn meta_of(version: u32, time: u32, author: Author) -> Meta
-    ensures { result ≡ spec.meta_of version time author }
+/// A time, 0 being none.
+fn time_of(time: u32) -> Option<u64>
+    ensures { result ≡ spec.time_of time }
 {
-    Meta {
-        version: u64::from(version),
-        time: if time == 0 {
-            None
-        } else {
-            Some(u64::from(time))
-        },
-        changeset: u64::from(author.changeset),
-        uid: u64::from(author.uid),
-        user: author.user,
+    if time == 0 {
+        None
+    } else {
+        Some(u64::from(time))
     }
 }

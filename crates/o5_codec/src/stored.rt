@@ -1,14 +1,14 @@
 //! The entries that are stored, which references name.
 ghost use Rattle.std.specs.Prelude.{◌≡◌, IfOk};
 ghost use Rattle.o5_codec.specs.Answer.{Answers, and_added};
-ghost use Rattle.o5_codec.specs.Text.{tag_of, user_of};
+ghost use Rattle.o5_codec.specs.Text.{tag_of, user_of, and_user};
 ghost use Rattle.o5_codec.specs.Meaning.{bytes_of, IsMeant};
 
 use crate::O5Reason;
 use crate::strings::Strings;
-use crate::text::{add_tag, known_text, known_uid, to_user};
+use crate::text::{add_tag, known_text, known_uid, put_user};
 use arrayvec::ArrayVec;
-use osm_model::{Memory, Tag, Text};
+use osm_model::{Memory, Meta, Tag, Text};
 use std::alloc::Global;
 use std::marker::Model;
 
@@ -104,18 +104,21 @@ impl Stored {
         }
     }
 
-    /// The user id and the user name.
+    /// Puts the user id and the user name in their places.
     ///
     /// # Errors
     ///
-    /// As for [`to_user`].
+    /// As for [`put_user`].
     #[inline(always)]
-    pub(crate) fn user(&self, alloc: Global) -> Result<(u32, Text), O5Reason>
-        ensures { Answers (λ user. user) (user_of self.now) result }
+    pub(crate) fn put_user(&self, alloc: Global, meta: &mut Meta) -> Result<(), O5Reason>
+        ensures { Answers (λ _. meta.new) (and_user meta.old (user_of self.now)) result }
     {
         match (&self.first, &self.second) {
-            (Meaning::Uid(uid, _), Meaning::Text(name)) => Ok((*uid, name.copy()?)),
-            _ => to_user(alloc, &self.strings()),
+            (Meaning::Uid(uid, _), Meaning::Text(name)) => {
+                meta.uid = u64::from(*uid);
+                Ok(name.copy_to(&mut meta.user)?)
+            }
+            _ => put_user(alloc, &self.strings(), meta),
         }
     }
 

@@ -2,14 +2,14 @@
 ghost use Rattle.std.specs.Prelude.{◌≡◌, [], ◌∷◌, take, OnOk, option_copied};
 ghost use Rattle.o5_codec.specs.Answer.{Gives, Answers, and_then, and_added};
 ghost use Rattle.o5_codec.specs.Table.{limit, is_short, stored, entry_at};
-ghost use Rattle.o5_codec.specs.Text.{tag_of, user_of};
+ghost use Rattle.o5_codec.specs.Text.{tag_of, user_of, and_user};
 ghost use Rattle.o5_codec.specs.Strings.{entry_of, strings_of, table_after};
 
 use crate::O5Reason;
 use crate::stored::Stored;
 use crate::strings::{Spelled, Strings};
-use crate::text::{add_tag, to_user};
-use osm_model::{Memory, Tag, Text};
+use crate::text::{add_tag, put_user};
+use osm_model::{Memory, Meta, Tag};
 use std::alloc::Global;
 use std::collections::VecDeque;
 use std::marker::Model;
@@ -109,19 +109,19 @@ impl Table {
         }
     }
 
-    /// The user id and the user name of strings that stand inline or that a reference names.
+    /// Puts the user id and the user name of strings that stand inline or that a reference names in their places.
     ///
     /// # Errors
     ///
-    /// `BadReference` where the table has no such entry, else as for [`to_user`].
+    /// `BadReference` where the table has no such entry, else as for [`put_user`].
     #[inline(always)]
-    pub(crate) fn user(&self, spelled: &Spelled<'_>) -> Result<(u32, Text), O5Reason>
-        ensures { Answers (λ user. user) (and_then (strings_of self.now spelled.now) user_of) result }
+    pub(crate) fn put_user(&self, spelled: &Spelled<'_>, meta: &mut Meta) -> Result<(), O5Reason>
+        ensures { Answers (λ _. meta.new) (and_user meta.old (and_then (strings_of self.now spelled.now) user_of)) result }
     {
         match spelled {
-            Spelled::Inline(strings) => to_user(self.allocator(), strings),
+            Spelled::Inline(strings) => put_user(self.allocator(), strings, meta),
             Spelled::Reference(reference) => match self.get(*reference) {
-                Some(entry) => entry.user(self.allocator()),
+                Some(entry) => entry.put_user(self.allocator(), meta),
                 None => Err(O5Reason::BadReference),
             },
         }

@@ -2,13 +2,13 @@
 ghost use Rattle.std.specs.Prelude.{◌≡◌, Ok, IfOk, IfSome, encode_utf8_all};
 ghost use Rattle.std.specs.Str.{chars};
 ghost use Rattle.o5_codec.specs.Answer.{Gives, Answers, and_added};
-ghost use Rattle.o5_codec.specs.Text.{text_of, tag_of, uid_of, user_of};
+ghost use Rattle.o5_codec.specs.Text.{text_of, tag_of, uid_of, user_of, and_user};
 
 use crate::O5Reason;
 use crate::base::within_range;
 use crate::number::read_number;
 use crate::strings::Strings;
-use osm_model::{Memory, Tag, Text};
+use osm_model::{Memory, Meta, Tag, Text};
 use std::alloc::Global;
 
 /// A string as a text.
@@ -79,23 +79,28 @@ pub(crate) fn add_tag(
     Ok(tags.push(tag)?)
 }
 
-/// The user id and the user name of a pair.
+/// Puts the user id and the user name of a pair in their places.
 ///
 /// # Errors
 ///
 /// `BadNumber` and `OutOfRange` for the user id, `NotUtf8` for the name.
-#[inline(always)]
-pub(crate) fn to_user(alloc: Global, strings: &Strings<'_>) -> Result<(u32, Text), O5Reason>
-    ensures { Answers (λ user. user) (user_of strings.now) result }
+#[inline(never)]
+pub(crate) fn put_user(
+    alloc: Global,
+    strings: &Strings<'_>,
+    meta: &mut Meta,
+) -> Result<(), O5Reason>
+    ensures { Answers (λ _. meta.new) (and_user meta.old (user_of strings.now)) result }
 {
-    let (uid, name) = to_any_user(alloc, strings)?;
-    Ok((uid, name))
+    let (uid, name) = to_user(alloc, strings)?;
+    meta.uid = u64::from(uid);
+    meta.user.replace(name);
+    Ok(())
 }
 
-/// The user id and the user name of any pair, out of the way of users that are known.
-#[inline(never)]
+/// The user id and the user name of a pair.
 #[tactic(auto, unfolding(crate::specs::Text::user_of))]
-fn to_any_user(alloc: Global, strings: &Strings<'_>) -> Result<(u32, Text), O5Reason>
+fn to_user(alloc: Global, strings: &Strings<'_>) -> Result<(u32, Text), O5Reason>
     ensures { Answers (λ user. user) (user_of strings.now) result }
 {
     let uid = to_uid(strings.first)?;

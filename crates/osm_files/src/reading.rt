@@ -3,7 +3,6 @@ ghost use Rattle.std.specs.Prelude.{◌≡◌, ◌+◌, ◌<◌, ◌≤◌, ◌^
 ghost use Rattle.std.specs.Prelude.{is_err, IfOk, IfErr, OnOk, OnErr, IsSome, if◌then◌else◌};
 ghost use Rattle.osm_files.specs.Fault.{failed_fault, fault_at};
 ghost use Rattle.osm_files.specs.Units as spec;
-ghost use Rattle.opl_line.specs.Cut.{is_line_end, split_first};
 ghost use Rattle.osm_files.specs.Reading.{Finds, FindsLast};
 ghost use Rattle.osm_files.specs.Source.{StepsOn};
 ghost use Rattle.osm_files.specs.Load.{format_of, tells_format, is_o5m, TellsFormat};
@@ -16,7 +15,7 @@ use crate::format::Format;
 use crate::input::Input;
 use crate::placed::Placed;
 use crate::reason::Reason;
-use crate::unit::{O5M_HEADER, RESET, ReadUnit, Stage, read_line_unit};
+use crate::unit::{O5M_HEADER, RESET, ReadUnit, Stage};
 use crate::unread::Unread;
 use osm_model::Version;
 use std::alloc::Global;
@@ -87,7 +86,15 @@ impl<R: Input> Reading<R> {
         reading
     }
 
+    /// Asks for about so many bytes at a time from now on.
+    pub(crate) fn ask_for(&mut self, chunk: usize)
+        ensures { self.new ≡ self.old }
+    {
+        self.unread.ask_for(chunk);
+    }
+
     /// Reads more bytes, or finds that there are no more.
+    #[inline(never)]
     fn fill(&mut self) -> Result<(), Fault>
         requires { self.old.ended ≡ false }
         ensures on { OnOk result (HasRead R.can_give self.old self.new) }
@@ -135,11 +142,23 @@ impl<R: Input> Reading<R> {
         }
     }
 
-    /// Sees by the first byte of the file which grammar it has.
+    /// Sees by the first byte of the file which grammar it has, where it wasn't seen yet.
+    #[inline(always)]
     fn see(&mut self)
         ensures { self.new ≡ seen self.old }
     {
-        if self.stage.is_none() && !self.unread.as_slice().is_empty() {
+        if self.stage.is_none() {
+            self.see_first();
+        }
+    }
+
+    /// Sees by the first byte of the file which grammar it has.
+    #[inline(never)]
+    fn see_first(&mut self)
+        requires { self.old.stand ≡ None }
+        ensures { self.new ≡ seen self.old }
+    {
+        if !self.unread.as_slice().is_empty() {
             self.stage = Some(Stage::of(self.alloc, self.keeps_lines, self.unread.as_slice()));
         }
     }
@@ -185,6 +204,7 @@ impl<R: Input> Reading<R> {
     }
 
     /// What the last bytes of an ended input hold, where no unit stands whole.
+    #[inline(never)]
     fn read_last(&self) -> Result<Option<Version>, Reason>
         requires { self.now.stand ≡ None → self.now.held ≡ [] }
         ensures { FindsLast (spec.last_at (stand_at self.now) self.now.held) result }
@@ -222,7 +242,7 @@ impl<R: Input> Reading<R> {
     /// # Errors
     ///
     /// Why the next unit can't be read, or `Memory`.
-    #[inline(never)]
+    #[inline(always)]
     fn next_unit(&mut self) -> Result<Option<Placed>, Fault>
         requires { self.old.failed ≡ false }
         ensures step { StepsOn R.can_give self.old result self.new }
@@ -249,31 +269,7 @@ impl<R: Input> Reading<R> {
         }
     }
 
-    /// Whether the file is known to be an OPL file.
-    #[inline(always)]
-    fn is_among_lines(&self) -> bool
-        ensures { result ≡ true → self.now.stand ≡ Some spec.InOpl }
-    {
-        matches!(self.stage, Some(Stage::Lines(_)))
-    }
-
-    /// The line at the front of the bytes held, if its end is there; none where the file isn't known to be an OPL file.
-    #[inline(always)]
-    fn read_held_line(&mut self) -> Result<Option<ReadUnit>, Reason>
-        ensures same { self.new ≡ self.old }
-        ensures bound { self.old.place + length self.old.held < 2 ^ 62 }
-        ensures found { self.old.stand ≡ Some spec.InOpl
-            → Finds (spec.line_unit (split_first is_line_end self.old.held)) result spec.InOpl }
-    {
-        match &mut self.stage {
-            Some(Stage::Lines(lines)) => read_line_unit(lines, self.unread.as_slice(), 0),
-            _ => Ok(None),
-        }
-    }
-
     /// The next version; none at the end and ever after.
-    ///
-    /// Nearly always it is the version of a line that is held, of which the caller takes the code in.
     ///
     /// # Errors
     ///
@@ -290,17 +286,7 @@ impl<R: Input> Reading<R> {
         if self.failed {
             return Err(Fault::failed(self.input));
         }
-        if !self.is_among_lines() {
-            return self.next_unit();
-        }
-        match self.read_held_line() {
-            Ok(Some(line)) => match self.pass(line) {
-                Some(given) => Ok(Some(given)),
-                None => self.next_unit(),
-            },
-            Ok(None) => self.next_unit(),
-            Err(reason) => Err(self.refuse(self.place, reason)),
-        }
+        self.next_unit()
     }
 
     /// The format of the file, by its first bytes, of which none was gone over.

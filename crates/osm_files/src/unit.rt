@@ -77,7 +77,7 @@ fn find_end_behind(bytes: &[u8], searched: usize) -> Option<usize>
 
 /// The line at the front of the bytes, if its end is there. It isn't among so many of them, which were searched before.
 #[inline(always)]
-pub(crate) fn read_line_unit(
+fn read_line_unit(
     lines: &mut LineReader,
     bytes: &[u8],
     searched: usize,
@@ -291,7 +291,7 @@ impl Stage {
     {
         match self {
             Stage::Lines(lines) => read_line_unit(lines, bytes, searched),
-            Stage::Header => self.read_header(alloc, bytes),
+            Stage::Header => self.read_start(alloc, bytes),
             Stage::DataSets(decoder) => {
                 if ends_at(bytes) {
                     *self = Stage::End;
@@ -303,7 +303,19 @@ impl Stage {
         }
     }
 
+    /// The header. The answer is taken apart here, so that no room for it is cleared where none is read.
+    #[inline(always)]
+    fn read_start(&mut self, alloc: Global, bytes: &[u8]) -> Result<Option<ReadUnit>, Reason>
+        ensures found { Finds (spec.header_unit bytes.now) result (stand_of self.new) }
+        ensures good { IfOk result (λ unit. unit ≡ None ⊎ IsGood self.new) }
+        ensures unmoved { result ≡ Ok None → self.new ≡ self.old }
+    {
+        let unit = self.read_header(alloc, bytes)?;
+        Ok(unit)
+    }
+
     /// The header, behind which the data sets stand.
+    #[inline(never)]
     fn read_header(&mut self, alloc: Global, bytes: &[u8]) -> Result<Option<ReadUnit>, Reason>
         ensures found { Finds (spec.header_unit bytes.now) result (stand_of self.new) }
         ensures good { IfOk result (λ unit. unit ≡ None ⊎ IsGood self.new) }

@@ -9,6 +9,7 @@ ghost use Rattle.osm_model.specs.Data.{kind_of, is_deleted, tags_of, ids_of, tex
 
 use crate::same::Same;
 use crate::{Kind, Members, Memory, References, Tag, Tags};
+use std::mem;
 
 /// What a version holds besides its metadata.
 #[derive(Debug, Drop)]
@@ -101,39 +102,34 @@ impl Body {
         }
     }
 
-    /// The body with its tags ascending, each once.
+    /// Takes a body in the place of its own, which holds no memory and so is forgotten.
     #[inline(always)]
-    pub(crate) fn normal(self) -> Body
-        ensures value { result ≡ normal_body self }
-        ensures location { IsInRange result }
+    pub fn replace(&mut self, body: Body)
+        ensures { self.new ≡ body }
     {
-        if self.is_normal() {
-            return self;
-        }
-        self.sorted()
+        mem::forget(mem::replace(self, body));
     }
 
-    /// The body with its tags ascending, each once, whatever their order was.
-    #[cold]
-    #[inline(never)]
-    fn sorted(self) -> Body
-        ensures value { result ≡ normal_body self }
-        ensures location { IsInRange result }
+    /// Tells contracts that a location is within its range, as its numbers have 32 bits.
+    #[inline(always)]
+    pub(crate) fn tell_range(&self)
+        ensures { IsInRange self.now }
+    {
+        if let Body::Node { lon, lat, .. } = self {
+            let _location = (*lon, *lat);
+        }
+    }
+
+    /// Puts the tags in ascending order, each once.
+    #[inline(always)]
+    pub(crate) fn normalize(&mut self)
+        ensures { self.new ≡ normal_body self.old }
     {
         match self {
-            Body::Deleted(kind) => Body::Deleted(kind),
-            Body::Node { lon, lat, mut tags } => {
-                tags.normalize();
-                Body::Node { lon, lat, tags }
-            }
-            Body::Way { refs, mut tags } => {
-                tags.normalize();
-                Body::Way { refs, tags }
-            }
-            Body::Relation { members, mut tags } => {
-                tags.normalize();
-                Body::Relation { members, tags }
-            }
+            Body::Deleted(_) => {}
+            Body::Node { tags, .. } => tags.normalize(),
+            Body::Way { tags, .. } => tags.normalize(),
+            Body::Relation { tags, .. } => tags.normalize(),
         }
     }
 

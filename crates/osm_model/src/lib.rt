@@ -37,7 +37,7 @@ pub use references::References;
 pub use spare::Spare;
 pub use tags::{Tag, Tags};
 pub use text::Text;
-pub use version::Version;
+pub use version::{Parts, Version};
 
 #[cfg(test)]
 mod tests;

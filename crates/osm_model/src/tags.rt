@@ -118,12 +118,21 @@ impl Tags {
     }
 
     /// Puts the tags in ascending order, by the bytes of the key and then of the value, each once. It takes no memory.
+    #[inline(always)]
     pub(crate) fn normalize(&mut self)
         ensures { self.new ≡ normal self.old }
     {
-        if self.are_normal() {
-            return;
+        if !self.are_normal() {
+            self.sort();
         }
+    }
+
+    /// Puts the tags in ascending order, each once, whatever their order was.
+    #[cold]
+    #[inline(never)]
+    fn sort(&mut self)
+        ensures { self.new ≡ normal self.old }
+    {
         self.tags.sort_unstable();
         self.tags.dedup();
     }

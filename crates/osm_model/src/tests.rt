@@ -1,7 +1,7 @@
 //! Each public call once, with values worked out by hand.
 use crate::version::first_fault;
 use crate::{
-    Body, History, Kind, Member, Members, Memory, Meta, References, Spare, Tag, Tags, Text,
+    Body, History, Kind, Member, Members, Memory, Meta, Parts, References, Spare, Tag, Tags, Text,
     ValueFault, Version, behind_escaped, is_id,
 };
 use std::alloc::{AllocError, Global};
@@ -248,6 +248,27 @@ fn memory_of_a_version_is_used_again(rt: HostRuntime) -> Result<(), Fail> {
     let tags = Tags::from_vec(vec![in alloc; tag(alloc, "e", "f")?]?);
     let same = Version::new(alloc, 9, number(alloc, 1), Body::Node { lon, lat, tags })?;
     assert_eq!(rt; node, same);
+    Ok(())
+}
+
+#[test]
+fn parts_are_filled_in_place(rt: HostRuntime) -> Result<(), Fail> {
+    let alloc = rt.alloc();
+    let name = Text::from_str(alloc, "a name that is longer than 24 bytes")?;
+    let mut parts = Parts::to_fill(alloc, &mut Spare::new(alloc))?;
+    parts.id = 7;
+    parts.meta.version = 2;
+    parts.meta.time = Some(9);
+    name.copy_to(&mut parts.meta.user)?;
+    parts.body.replace(Body::Deleted(Kind::Way));
+    assert!(rt; first_fault(parts.id, &parts.meta, &parts.body).is_none());
+    let way = Version::of_sound_parts(parts);
+    assert_eq!(rt; way.user().as_str(), name.as_str());
+    let mut meta = number(alloc, 2);
+    meta.time = Some(9);
+    meta.user.replace(name);
+    let same = Version::new(alloc, 7, meta, Body::Deleted(Kind::Way))?;
+    assert_eq!(rt; way, same);
     Ok(())
 }
 

@@ -9,6 +9,7 @@ use crate::same::Same;
 use arrayvec::ArrayString;
 use std::alloc::Global;
 use std::marker::Model;
+use std::mem;
 
 /// The most bytes of a text that needs no memory of its own: most names of users, keys and values have fewer.
 const SHORT: usize = 24;
@@ -165,6 +166,38 @@ impl Text {
         Ok(Text {
             storage: self.storage.copy()?,
         })
+    }
+
+    /// Takes a text in the place of its own, which holds no memory and so is forgotten.
+    #[inline(always)]
+    pub fn replace(&mut self, text: Text)
+        ensures { self.new ≡ text }
+    {
+        mem::forget(mem::replace(self, text));
+    }
+
+    /// Puts an equal text in the place of one that holds no memory.
+    ///
+    /// # Errors
+    ///
+    /// For want of memory alone.
+    #[inline(always)]
+    pub fn copy_to(&self, place: &mut Text) -> Result<(), Memory>
+        ensures { OnOk result (place.new ≡ self.now) }
+    {
+        match &self.storage {
+            // An arm for each, so that a short text is copied once.
+            Storage::Within(string) => {
+                place.replace(Text {
+                    storage: Storage::Within(*string),
+                });
+                Ok(())
+            }
+            Storage::Apart(string) => {
+                place.replace(Text::from_string(copy_apart(string)?));
+                Ok(())
+            }
+        }
     }
 
     /// Whether the text may hold memory of its own.

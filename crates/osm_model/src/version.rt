@@ -32,14 +32,17 @@ pub struct Version {
     parts: Box<Parts>,
 }
 
-/// What a version holds.
+/// What a version holds, or is to hold: a reader fills the parts of the next version one by one, each in its place.
 #[derive(Debug, Drop)]
-struct Parts {
-    id: i64,
+pub struct Parts {
+    /// The id of the object.
+    pub id: i64,
     /// The kind of the body, which comparisons ask for.
     kind: Kind,
-    meta: Meta,
-    body: Body,
+    /// What is told beside the object and its body.
+    pub meta: Meta,
+    /// The body.
+    pub body: Body,
     /// The canonical line, where it is at hand, and else nothing. No canonical line is empty.
     kept_line: Vec<u8>,
 }
@@ -81,6 +84,55 @@ pub(crate) fn first_fault(id: i64, meta: &Meta, body: &Body) -> Option<ValueFaul
 }
 
 impl Parts {
+    /// Parts to be filled, in memory of a version that isn't needed any more, or else in new memory. Neither their user name
+    /// nor their body holds memory of its own.
+    ///
+    /// # Errors
+    ///
+    /// For want of memory alone, where none is given.
+    #[inline(always)]
+    pub fn to_fill(alloc: Global, spare: &mut Spare) -> Result<Box<Parts>, Memory> {
+        match spare.take_version() {
+            Some(version) => Ok(Parts::emptied(version)),
+            None => Parts::in_new_memory(alloc),
+        }
+    }
+
+    /// The parts of a version that isn't needed any more.
+    #[inline(always)]
+    fn emptied(version: Version) -> Box<Parts> {
+        let Version { mut parts } = version;
+        parts.release();
+        parts
+    }
+
+    /// Parts in new memory. The answer is taken apart here, so that no room for it is cleared where it isn't asked for.
+    #[inline(always)]
+    fn in_new_memory(alloc: Global) -> Result<Box<Parts>, Memory> {
+        let parts = Parts::nothing(alloc)?;
+        Ok(parts)
+    }
+
+    /// The parts of nothing, in new memory.
+    #[inline(never)]
+    fn nothing(alloc: Global) -> Result<Box<Parts>, Memory> {
+        let meta = Meta {
+            version: 0,
+            time: None,
+            changeset: 0,
+            uid: 0,
+            user: Text::new(),
+        };
+        let parts = Parts {
+            id: 0,
+            kind: Kind::Node,
+            meta,
+            body: Body::Deleted(Kind::Node),
+            kept_line: Vec::new(alloc),
+        };
+        Ok(Box::new(alloc, parts)?)
+    }
+
     /// Lets go what memory the parts hold; most hold none.
     #[inline(always)]
     fn release(&mut self) {
@@ -114,38 +166,33 @@ impl Parts {
         mem::replace(&mut self.body, Body::Deleted(self.kind))
     }
 
-    /// Takes other data in the place of its own, the tags ascending, each once, and no line.
+    /// Takes data in the place of its own.
     #[inline(always)]
-    fn refill(&mut self, id: i64, meta: Meta, body: Body)
+    fn fill(&mut self, id: i64, meta: Meta, body: Body)
         ensures id { self.new.id ≡ id }
-        ensures kind { self.new.kind ≡ kind_of body }
         ensures meta { self.new.meta ≡ meta }
-        ensures body { self.new.body ≡ normal_body body }
+        ensures body { self.new.body ≡ body }
+    {
+        self.id = id;
+        // What is replaced holds no memory, so it is forgotten and not dropped.
+        mem::forget(mem::replace(&mut self.meta, meta));
+        self.body.replace(body);
+    }
+
+    /// Makes the parts those of a version: the tags ascending, each once, and no line.
+    #[inline(always)]
+    fn finish(&mut self)
+        ensures id { self.new.id ≡ self.old.id }
+        ensures kind { self.new.kind ≡ kind_of self.old.body }
+        ensures meta { self.new.meta ≡ self.old.meta }
+        ensures body { self.new.body ≡ normal_body self.old.body }
         ensures location { IsInRange self.new.body }
         ensures line { self.new.kept_line.items ≡ [] }
     {
-        self.release();
         self.forget_line();
-        self.id = id;
-        self.kind = body.kind();
-        // What is replaced holds no memory any more, so it is forgotten and not dropped.
-        mem::forget(mem::replace(&mut self.meta, meta));
-        mem::forget(mem::replace(&mut self.body, body.normal()));
-    }
-
-    /// The parts of a version of this data, its tags ascending, each once, with an empty vector that a line has room in.
-    #[inline(always)]
-    fn normal(id: i64, meta: Meta, body: Body, room: Vec<u8>) -> Parts
-        ensures value { result ≡ record { id = id; kind = kind_of body; meta = meta; body = normal_body body; kept_line = room } }
-        ensures location { IsInRange result.body }
-    {
-        Parts {
-            id,
-            kind: body.kind(),
-            meta,
-            body: body.normal(),
-            kept_line: room,
-        }
+        self.kind = self.body.kind();
+        self.body.normalize();
+        self.body.tell_range();
     }
 }
 
@@ -166,7 +213,7 @@ impl Version {
         if let Some(fault) = first_fault(id, &meta, &body) {
             return Err(fault);
         }
-        match Version::in_new_memory(alloc, id, meta, body) {
+        match Version::of_sound_data(alloc, &mut Spare::new(alloc), id, meta, body) {
             Ok(version) => Ok(version),
             Err(_) => Err(ValueFault::Memory),
         }
@@ -190,34 +237,20 @@ impl Version {
         ensures value { IfOk result (λ version. version ≡ version_of id meta body) }
         ensures valid { IfOk result IsVersion }
     {
-        match spare.take_version() {
-            Some(spare) => Ok(Version::in_place_of(spare, id, meta, body)),
-            None => Version::in_new_memory(alloc, id, meta, body),
-        }
+        let mut parts = Parts::to_fill(alloc, spare)?;
+        parts.fill(id, meta, body);
+        Ok(Version::of_sound_parts(parts))
     }
 
-    /// The version of data that has no fault, in memory of its own.
+    /// The version of parts whose data has no fault, as [`Version::new`] makes it of them, without its tests.
     #[inline(always)]
-    fn in_new_memory(alloc: Global, id: i64, meta: Meta, body: Body) -> Result<Version, Memory>
-        requires { first_fault id meta body ≡ None }
-        ensures value { IfOk result (λ version. version ≡ version_of id meta body) }
-        ensures valid { IfOk result IsVersion }
-    {
-        let parts = Parts::normal(id, meta, body, Vec::new(alloc));
-        Ok(Version {
-            parts: Box::new(alloc, parts)?,
-        })
-    }
-
-    /// The version of data that has no fault, in the memory of one that isn't needed any more, so that none is wanted.
-    #[inline(always)]
-    fn in_place_of(mut spare: Version, id: i64, meta: Meta, body: Body) -> Version
-        requires { first_fault id meta body ≡ None }
-        ensures value { result ≡ version_of id meta body }
+    pub fn of_sound_parts(mut parts: Box<Parts>) -> Version
+        requires { first_fault parts.value.id parts.value.meta parts.value.body ≡ None }
+        ensures value { result ≡ version_of parts.value.id parts.value.meta parts.value.body }
         ensures valid { IsVersion result }
     {
-        spare.parts.refill(id, meta, body);
-        spare
+        parts.finish();
+        Version { parts }
     }
 
     /// The version of data that has no fault, as [`Version::of_sound_data`] makes it, which keeps its canonical line at

@@ -6,4 +6,4 @@ use Rattle.o5_codec.proofs.segment.Segment.read_tags.Goals as goal
 pub returns-then-is_empty : goal.returns-then-is_empty
 returns-then-is_empty c =
     items_none tag_at c.args.self.now c.args.bytes.now (empty_by_test _ c.if-is_empty.ensures)
-    ∙ ap (λ tags. Ok (tags, c.args.self.now)) (sym (c.from_vec.ensures ∙ c.new.ensures.items))
+    ∙ ap (λ tags. Ok (tags, c.args.self.now)) (sym c.no_tags.ensures)

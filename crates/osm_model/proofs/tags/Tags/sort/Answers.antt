@@ -3,7 +3,7 @@ use Rattle.std.proofs.lemmas.List.Filters.{dedup_is}
 use Rattle.osm_model.specs.Tags.{tag_cmp_total, normal}
 use Rattle.osm_model.proofs.SetLaws.{listed-of_sorted}
 use Rattle.osm_model.proofs.TagLaws.{tag_cmp-IsAntisymmetric}
-use Rattle.osm_model.proofs.tags.Tags.normalize.Goals as goal
+use Rattle.osm_model.proofs.tags.Tags.sort.Goals as goal
 
 pub returns : goal.returns
 returns c =
