@@ -66,6 +66,10 @@ pub trait Source {
     {}
 }
 
+/// How many bytes are held of all sources that are read side by side, where they are more than 16: as many as a second cache
+/// has room for.
+const HELD: usize = 1_048_576;
+
 /// A sorted file: the versions of one key after the other, each key group ascending and without repeats.
 ///
 /// A key group is nearly always one version, which is kept by itself.
@@ -107,6 +111,26 @@ impl<R: Input> FileSource<R> {
             pending: None,
             ready: Vec::new(alloc).into_iter(),
         })
+    }
+
+    /// A source as [`FileSource::new`] makes it, which is read beside others, so many in all. The more there are, the less it asks
+    /// for at a time, so that what is held of all of them stays near the processor.
+    ///
+    /// # Errors
+    ///
+    /// For want of memory alone.
+    pub fn beside(
+        alloc: Global,
+        input: usize,
+        reader: R,
+        sources: usize,
+    ) -> Result<FileSource<R>, Fault>
+        ensures opened { IfOk result (λ s. s ≡ opened_file input reader) }
+        ensures memory { IfErr result (λ fault. fault ≡ memory_fault) }
+    {
+        let mut source = FileSource::new(alloc, input, reader)?;
+        source.units.ask_for(HELD / sources.max(1));
+        Ok(source)
     }
 
     /// The first version of the next group, of which the others are made ready; none at the end.

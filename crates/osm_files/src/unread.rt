@@ -9,7 +9,10 @@ use std::alloc::Global;
 use std::marker::Model;
 
 /// The most bytes that are asked of an input at a time.
-const CHUNK: usize = 65536;
+const MOST: usize = 65536;
+
+/// The fewest that are asked for, where as many are wanted.
+const FEWEST: usize = 4096;
 
 /// The bytes that came from an input and weren't read. Contracts see their list.
 #[derive(Drop)]
@@ -18,16 +21,18 @@ pub(crate) struct Unread {
     room: Vec<u8>,
     from: usize,
     end: usize,
+    /// How many bytes are asked for at a time.
+    chunk: usize,
 }
 
 impl Model for Unread {
-    ghost use Rattle.std.specs.Prelude.{List, ℕ, ◌≤◌, ◌-◌, length, take, drop};
+    ghost use Rattle.std.specs.Prelude.{List, ℕ, ◌<◌, ◌≤◌, ◌-◌, length, take, drop};
 
     ghost Value = { List ℕ };
 
     ghost view = { λ h. take (h.end - h.from) (drop h.from h.room.items) };
 
-    ghost invariant = { λ h. (h.from ≤ h.end) × (h.end ≤ length h.room.items) };
+    ghost invariant = { λ h. (h.from ≤ h.end) × (h.end ≤ length h.room.items) × (0 < h.chunk) × (h.chunk ≤ 65536) };
 }
 
 impl Unread {
@@ -39,7 +44,15 @@ impl Unread {
             room: Vec::new(alloc),
             from: 0,
             end: 0,
+            chunk: MOST,
         }
+    }
+
+    /// Asks for about so many bytes at a time from now on.
+    pub(crate) fn ask_for(&mut self, chunk: usize)
+        ensures { self.new ≡ self.old }
+    {
+        self.chunk = chunk.min(MOST).max(FEWEST);
     }
 
     /// The bytes.
@@ -96,10 +109,10 @@ impl Unread {
         ensures unchanged { OnErr result (self.new ≡ self.old) }
     {
         self.compact();
-        if let Err(refused) = make_room(&mut self.room, self.end) {
+        if let Err(refused) = make_room(&mut self.room, self.end, self.chunk) {
             return Err(refused);
         }
-        match read_behind(reader, &mut self.room, self.end, most.min(CHUNK)) {
+        match read_behind(reader, &mut self.room, self.end, most.min(self.chunk)) {
             Ok(count) => {
                 self.end += count;
                 Ok(count)
@@ -132,18 +145,19 @@ fn read_behind<R: Input>(
     }
 }
 
-/// Makes room for a chunk behind so many bytes.
-fn make_room(room: &mut Vec<u8>, end: usize) -> Result<(), Reason>
-    requires { end ≤ length room.old.items }
-    ensures room { OnOk result (end + 65536 ≤ length room.new.items) }
+/// Makes room for a chunk of this size behind so many bytes.
+fn make_room(room: &mut Vec<u8>, end: usize, chunk: usize) -> Result<(), Reason>
+    requires within { end ≤ length room.old.items }
+    requires few { chunk ≤ 65536 }
+    ensures room { OnOk result (end + chunk ≤ length room.new.items) }
     ensures kept { take end room.new.items ≡ take end room.old.items }
     ensures longer { length room.old.items ≤ length room.new.items }
     ensures memory { IfErr result (λ refused. refused ≡ reason.Memory) }
 {
-    if room.len() - end >= CHUNK {
+    if room.len() - end >= chunk {
         return Ok(());
     }
-    match room.resize(end + CHUNK, 0) {
+    match room.resize(end + chunk, 0) {
         Ok(()) => Ok(()),
         Err(_) => Err(Reason::Memory),
     }

@@ -1,8 +1,7 @@
 -- What the commands write that read all of their inputs first, from the run over inputs of any order.
-use Rattle.std.proofs.Common.{◌≡◌, ◌⊎◌, inl, inr, ℕ, Bool, List, [], ◌∷◌, length, map, refl, sym, ap, ◌∙◌, subst, Option, Some, Result, Ok, Err, IfOk, IfErr, OnOk}
+use Rattle.std.proofs.Common.{◌≡◌, inl, inr, ℕ, Bool, List, [], ◌∷◌, map, refl, sym, subst, Result, Ok, Err, IfOk, IfErr}
 use Rattle.std.specs.List.{All}
 use Rattle.std.proofs.lemmas.List.{length-map}
-use Rattle.std.proofs.lemmas.List.Elements.{All-cons, All-nil}
 use Rattle.osm_model.specs.VersionSet.{VersionSet}
 use Rattle.osm_model.specs.Pairwise.{Pairwise}
 use Rattle.osm_files.specs.declared.fault.Fault.{Fault}
@@ -15,13 +14,12 @@ use Rattle.osm_merge.specs.declared.merge.Counts.{Counts}
 use Rattle.osm_merge.specs.declared.selection.Selection.{Selection}
 use Rattle.osm_merge.specs.Selected.{selected}
 use Rattle.osm_mirror.specs.declared.input.Order.{Order}
-use Rattle.osm_mirror.specs.declared.input.Order.TheVariants.{Any}
 use Rattle.osm_mirror.specs.declared.input.InputFile.{InputFile}
 use Rattle.osm_mirror.specs.Merge.{union_of}
 use Rattle.osm_files.specs.Fault.{memory_fault}
 use Rattle.osm_merge.specs.Giving.{AllGive, ForSome}
 use Rattle.osm_merge.proofs.GiveLaws.{give_one}
-use Rattle.osm_mirror.specs.Given.{GivesFile, GivesAs, FileGives, IsRead, IsUnread}
+use Rattle.osm_mirror.specs.Given.{GivesFile, GivesAs, FileGives, IsRead}
 use Rattle.osm_mirror.specs.Run.{IsRun, IsRunRefused, RefusesRun}
 use Rattle.osm_mirror.specs.Command.{IsWritten, IsNotWritten, any, in_any_order}
 use Rattle.osm_mirror.proofs.MergeLaws.{All-first, All-others}

@@ -1,5 +1,5 @@
 -- What mirrors hold of what reached them, one event after the other.
-use Rattle.std.proofs.Common.{◌≡◌, ◌≢◌, ◌⊎◌, ℕ, zero, suc, ◌+◌, ◌<◌, ◌≤◌, Bool, true, false, not, cond, ◌&&◌, ◌||◌, nat_eq, List, [], ◌∷◌, ◌++◌, map, length, get_or, set, take, refl, sym, ap, ◌∙◌, subst, arith, inl, inr, is_some, All, Result, Ok, Err, IfOk, OnErr}
+use Rattle.std.proofs.Common.{◌≡◌, ◌≢◌, ℕ, suc, ◌+◌, ◌<◌, ◌≤◌, Bool, true, false, not, ◌&&◌, ◌||◌, nat_eq, List, [], ◌∷◌, ◌++◌, map, length, get_or, set, take, refl, sym, ap, ◌∙◌, subst, arith, inl, inr, is_some, All, Result, Ok, Err, IfOk, OnErr}
 use Rattle.std.proofs.lemmas.Bool.{false≢true, cases_Bool, cases_lt, cond-true, cond-false, eqb-true, eqb-false, eq-eqb}
 use Rattle.std.proofs.lemmas.List.{get_or-set_same, get_or-set_other, length-set, get_or_default, length-map, get_or-map, get_or-take, set-get_or, length-take-le, take_more, take_all}
 use Rattle.std.proofs.Math.Seq.{map-set_same}
@@ -24,7 +24,7 @@ use Rattle.osm_mirror.specs.declared.event.Reply.{Reply}
 use Rattle.osm_mirror.specs.declared.event.Reply.TheVariants.{Taken, Refused}
 use Rattle.osm_mirror.specs.declared.keep.Taken.{Taken as Taken_of}
 use Rattle.osm_mirror.specs.Mirror.{MirrorData, kept, fresh, took, IsKept, TakesFile}
-use Rattle.osm_mirror.specs.Fleet.{at, AreKept, IsWithin, behind, IsAnswer, behind_all, AreAnswers, Source, Opening, File, Track, is_full, begun, retracked, reached, reached_all, tracks, set_of, united, IsPart, HoldsOf, Converges}
+use Rattle.osm_mirror.specs.Fleet.{at, AreKept, IsWithin, behind, IsAnswer, behind_all, AreAnswers, Source, Track, is_full, begun, retracked, reached, reached_all, set_of, united, IsPart, HoldsOf, Converges}
 
 -- ---- sets
 pub in_union : (s t : VersionSet) (v : VersionData) → contains (union s t) v ≡ (contains s v || contains t v)

@@ -45,9 +45,10 @@ fn open_sources<R: Input + Drop>(alloc: Global, inputs: Vec<R>) -> Result<Vec<Fi
     ensures opened { IfOk result (λ sources. sources.items ≡ opened 0 inputs.items) }
     ensures memory { IfErr result (λ fault. fault ≡ memory_fault) }
 {
+    let count = inputs.len();
     let mut sources = Vec::new(alloc);
     for reader in inputs {
-        sources.push(FileSource::new(alloc, sources.len(), reader)?)?;
+        sources.push(FileSource::beside(alloc, sources.len(), reader, count)?)?;
     }
     Ok(sources)
 }

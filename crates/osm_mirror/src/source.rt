@@ -64,34 +64,41 @@ pub fn open_inputs<R: Input + Drop>(
     ensures opened { IfOk result (λ sources. AreOpened R.can_give 0 inputs.items sources.items) }
     ensures refused { IfErr result (λ fault. ForSome (FileGives R.can_give) inputs.items (λ all. IsUnopened 0 all fault)) }
 {
+    let count = inputs.len();
     let mut sources = Vec::new(alloc);
     'files: for file in inputs {
-        sources.push(open_input(alloc, sources.len(), file)?)?;
+        sources.push(open_input(alloc, sources.len(), count, file)?)?;
     }
     Ok(sources)
 }
 
-/// The file as a source, which is the input of this number.
+/// The file as a source, which is the input of this number, of so many.
 fn open_input<R: Input + Drop>(
     alloc: Global,
     number: usize,
+    count: usize,
     file: InputFile<R>,
 ) -> Result<RunSource<R>, Fault>
     ensures opened { IfOk result (λ source. IsOpened R.can_give number file source) }
     ensures refused { IfErr result (λ fault. FileGivesOne R.can_give file (λ input. IsUnopened number (input ∷ []) fault)) }
 {
     match file.order {
-        Order::Sorted => stream(alloc, number, file.reader),
+        Order::Sorted => stream(alloc, number, count, file.reader),
         Order::Any => load(alloc, number, file.reader),
     }
 }
 
-/// A sorted file as a source. Nothing is read yet.
-fn stream<R: Input + Drop>(alloc: Global, number: usize, reader: R) -> Result<RunSource<R>, Fault>
+/// A sorted file as a source, one of so many. Nothing is read yet.
+fn stream<R: Input + Drop>(
+    alloc: Global,
+    number: usize,
+    count: usize,
+    reader: R,
+) -> Result<RunSource<R>, Fault>
     ensures opened { IfOk result (λ source. IsOpened R.can_give number (in_order Order.Sorted reader) source) }
     ensures memory { IfErr result (λ fault. fault ≡ memory_fault) }
 {
-    let source = FileSource::new(alloc, number, reader)?;
+    let source = FileSource::beside(alloc, number, reader, count)?;
     Ok(RunSource::Streamed(source))
 }
 

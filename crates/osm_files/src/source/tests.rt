@@ -47,6 +47,16 @@ fn group_is_sorted_without_repeats(rt: HostRuntime) -> Result<(), Fail> {
 }
 
 #[test]
+fn source_beside_others_gives_its_versions(rt: HostRuntime) -> Result<(), Fail> {
+    let alloc = rt.alloc();
+    let file = b"n2 v1 x1 y1\n";
+    let mut source = FileSource::beside(alloc, 2, SliceIn::new(file), 500)?;
+    assert!(rt; gives(alloc, &mut source, b"n2 v1 x1 y1")?);
+    assert!(rt; gives(alloc, &mut source, b"")?);
+    Ok(())
+}
+
+#[test]
 fn opened_source_tells_its_format(rt: HostRuntime) -> Result<(), Fail> {
     let alloc = rt.alloc();
     let (format, mut source) = FileSource::open(alloc, 2, SliceIn::new(NODE_THEN_DELETION))?;

@@ -8,5 +8,5 @@ loop-reader-preserved g c =
     let count : c.len.result ≡ length c.loop-reader.sources.items = search rules in
     let place : c.len.result ≡ 0 + length c.loop-reader.yielded = omega (arith, count, ap length c.loop-reader.invariant, length_opened 0 c.loop-reader.yielded) in
     c.in_ok-push.ensures.items
-    ∙ (λ i. c.loop-reader.invariant i ++ (c.in_ok-new.ensures.opened ∙ ap (λ n. opened_file n c.in-Some.reader) place) i ∷ [])
+    ∙ (λ i. c.loop-reader.invariant i ++ (c.in_ok-beside.ensures.opened ∙ ap (λ n. opened_file n c.in-Some.reader) place) i ∷ [])
     ∙ sym (opened_more 0 c.loop-reader.yielded c.in-Some.reader)
