@@ -43,10 +43,13 @@ unfoldable pub latitude_at : Segment → List ℕ → Step ℤ
 latitude_at s bytes = and_then (signed_at bytes) (λ x. and_then (moved_coordinate s.bases.lat x.0) (λ lat.
     Ok (lat, with_bases s (record s.bases { lat = lat }), x.1)))
 
+-- a node at this place: its tags
+abbrev pub placed_at : ℤ → ℤ → Segment → List ℕ → Whole Body
+placed_at lon lat s bytes = and_then (items_at tag_at s bytes) (λ tags. Ok (Node lon lat tags.0, tags.1))
+
 -- longitude, latitude and tags
 unfoldable pub node_at : Segment → List ℕ → Whole Body
-node_at s bytes = and_then (longitude_at s bytes) (λ x. and_then (latitude_at x.1 x.2) (λ y. and_then (items_at tag_at y.1 y.2) (λ tags.
-    Ok (Node x.0 y.0 tags.0, tags.1))))
+node_at s bytes = and_then (longitude_at s bytes) (λ x. and_then (latitude_at x.1 x.2) (λ y. placed_at x.0 y.0 y.1 y.2))
 
 -- what a length in front says, and what stands behind it
 abbrev pub cut_at : ℕ × List ℕ → Result (List ℕ × List ℕ) O5Reason

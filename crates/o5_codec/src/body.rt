@@ -92,7 +92,22 @@ impl Segment {
             body.replace(Body::Node { lon, lat, tags });
             return Ok(());
         }
-        let tags = self.read_each_tag(rest, spare)?;
+        self.read_tagged_node(lon, lat, rest, spare, body)
+    }
+
+    /// Puts the body of a node at this place, with the tags to the end of the bytes.
+    #[inline(always)]
+    fn read_tagged_node(
+        &mut self,
+        lon: i32,
+        lat: i32,
+        bytes: &[u8],
+        spare: &mut Spare,
+        body: &mut Body,
+    ) -> Result<(), O5Reason>
+        ensures { Answers (λ _. (body.new, self.new)) (spec.placed_at lon lat self.old bytes.now) result }
+    {
+        let tags = self.read_each_tag(bytes, spare)?;
         body.replace(Body::Node { lon, lat, tags });
         Ok(())
     }

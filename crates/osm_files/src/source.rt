@@ -66,9 +66,9 @@ pub trait Source {
     {}
 }
 
-/// How many bytes are held of all sources that are read side by side, where they are more than 16: as many as a second cache
-/// has room for.
-const HELD: usize = 1_048_576;
+/// How many bytes are held of all sources that are read side by side, where they are more than 8: half of what a second cache
+/// has room for, since the versions that wait lie there, too.
+const HELD: usize = 524_288;
 
 /// A sorted file: the versions of one key after the other, each key group ascending and without repeats.
 ///

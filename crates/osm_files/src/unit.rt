@@ -294,13 +294,22 @@ impl Stage {
             Stage::Header => self.read_start(alloc, bytes),
             Stage::DataSets(decoder) => {
                 if ends_at(bytes) {
-                    *self = Stage::End;
+                    self.end();
                     return passed(1);
                 }
                 read_data_set(decoder, bytes)
             }
             Stage::End => read_behind(bytes),
         }
+    }
+
+    /// Comes behind the end byte. A call of its own, so that room for what is let go isn't cleared before each data set.
+    #[inline(never)]
+    fn end(&mut self)
+        ensures place { stand_of self.new ≡ spec.BehindEnd }
+        ensures good { IsGood self.new }
+    {
+        *self = Stage::End;
     }
 
     /// The header. The answer is taken apart here, so that no room for it is cleared where none is read.

@@ -38,15 +38,15 @@ impl Spare {
     #[inline(always)]
     pub fn put(&mut self, mut version: Version) {
         if version.body().has_memory() {
-            self.put_lists(version.take_body());
+            self.put_lists(&mut version);
         }
         self.version = Some(version);
     }
 
-    /// Takes the lists of a body.
+    /// Takes the lists of a version.
     #[inline(never)]
-    fn put_lists(&mut self, body: Body) {
-        match body {
+    fn put_lists(&mut self, version: &mut Version) {
+        match version.take_body() {
             Body::Deleted(_) => {}
             Body::Node { tags, .. } => keep(&mut self.tags, tags.into_vec()),
             Body::Way { refs, tags } => {

@@ -185,19 +185,22 @@ impl Text {
     pub fn copy_to(&self, place: &mut Text) -> Result<(), Memory>
         ensures { OnOk result (place.new ≡ self.now) }
     {
-        match &self.storage {
-            // An arm for each, so that a short text is copied once.
-            Storage::Within(string) => {
-                place.replace(Text {
-                    storage: Storage::Within(*string),
-                });
+        match (&self.storage, &mut place.storage) {
+            (Storage::Within(string), Storage::Within(own)) => {
+                *own = *string;
                 Ok(())
             }
-            Storage::Apart(string) => {
-                place.replace(Text::from_string(copy_apart(string)?));
-                Ok(())
-            }
+            _ => self.copy_anew_to(place),
         }
+    }
+
+    /// Puts an equal text in the place of one that holds no memory, where one of them doesn't lie in the value itself.
+    #[inline(never)]
+    fn copy_anew_to(&self, place: &mut Text) -> Result<(), Memory>
+        ensures { OnOk result (place.new ≡ self.now) }
+    {
+        place.replace(self.copy()?);
+        Ok(())
     }
 
     /// Whether the text may hold memory of its own.
