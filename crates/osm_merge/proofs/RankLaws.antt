@@ -1,18 +1,19 @@
 -- A version of a lower rank is less.
-use Rattle.std.proofs.Common.{arith, ◌≡◌, ◌≢◌, ◌⊎◌, ℕ, ◌+◌, ◌*◌, ◌-◌, ◌^◌, ◌<◌, ◌≤◌, min, if◌then◌else◌, nat_lt, Bool, true, false, refl, sym, ap, ◌∙◌, inl, inr, unsigned_abs}
+use Rattle.std.proofs.Common.{arith, ◌≡◌, ◌≢◌, ◌⊎◌, ℕ, ◌+◌, ◌*◌, ◌-◌, ◌^◌, ◌<◌, ◌≤◌, min, if◌then◌else◌, nat_lt, Bool, true, false, refl, sym, ap, ◌∙◌, inl, inr, unsigned_abs, Option, Some, None}
 use Rattle.std.proofs.Math.Nat.{min-le_right}
 use Rattle.std.proofs.lemmas.Bool.{cases_lt, lt-ltb, le-ltb}
 use Rattle.std.specs.Cmp.{nat_cmp_is}
 use Rattle.std.specs.declared.cmp.Ordering.{Ordering}
 use Rattle.std.specs.declared.cmp.Ordering.TheVariants.{Less, Equal, Greater}
-use Rattle.std.specs.Ordering.{ordering_then, ordering_reverse, nat_cmp, bool_cmp}
+use Rattle.std.specs.Ordering.{ordering_then, ordering_reverse, nat_cmp, bool_cmp, is_gt}
 use Rattle.osm_model.specs.declared.kind.Kind.{Kind}
 use Rattle.osm_model.specs.declared.kind.Kind.TheVariants.{Node, Way, Relation}
 use Rattle.osm_model.specs.Kind.{kind_rank}
 use Rattle.osm_model.specs.Data.{VersionData, kind_of}
 use Rattle.osm_model.specs.Order.{is_positive, key_cmp, version_cmp, version_cmp_total}
 use Rattle.osm_files.proofs.RiseLaws.{less_by_key}
-use Rattle.osm_merge.specs.Rank.{class_of, reach_of, turn_of, rank_of}
+use Rattle.osm_merge.specs.Rank.{class_of, reach_of, turn_of, rank_of, head_rank}
+use Rattle.osm_merge.specs.Tree.{IsHeadUpTo}
 
 abbrev bit : Bool → ℕ
 bit b = if b then 1 else 0
@@ -151,3 +152,16 @@ by_rank v w r is other = elim (cases_lt (rank_of v) (rank_of w)) [
     | inr k ↦ absurd (other (is ∙ same (rank_of v) (rank_of w) (omega arith)))
   ]
 ]
+
+class_bound : (k : Kind) (b : Bool) → 2 * kind_rank k + bit b ≤ 5
+class_bound k b = omega (arith, at_most_two k, at_most_one b)
+
+-- every rank is in front of that of no head
+before_nothing : (v : VersionData) → rank_of v < 2 ^ 64 - 1
+before_nothing v = omega (arith, class_bound (kind_of v.body) (is_positive v.id), short_reach v v v, short_turn (unsigned_abs v.id) v.number)
+
+-- a head of a lower rank is not greater
+pub lower_head : (x y : Option VersionData) → head_rank x < head_rank y → IsHeadUpTo x y
+lower_head x None h = tt
+lower_head None (Some w) h = absurd (omega (arith, h, before_nothing w))
+lower_head (Some v) (Some w) h = ap is_gt (lower_is_less v w h)

@@ -1,5 +1,5 @@
 -- The rank of a version: the place of its key among all, as far as 64 bits tell it.
-use Rattle.std.specs.Prelude.{ℕ, ◌+◌, ◌*◌, ◌-◌, ◌^◌, min, nat_lt, if◌then◌else◌, unsigned_abs}
+use Rattle.std.specs.Prelude.{ℕ, ◌+◌, ◌*◌, ◌-◌, ◌^◌, min, nat_lt, if◌then◌else◌, unsigned_abs, Option, Some, None}
 use Rattle.osm_model.specs.Kind.{kind_rank}
 use Rattle.osm_model.specs.Data.{VersionData, kind_of}
 use Rattle.osm_model.specs.Order.{is_positive}
@@ -18,3 +18,8 @@ turn_of v = if nat_lt (unsigned_abs v.id) (2 ^ 45 - 1) then min v.number (2 ^ 16
 
 abbrev pub rank_of : VersionData → ℕ
 rank_of v = (class_of v * 2 ^ 45 + reach_of v) * 2 ^ 16 + turn_of v
+
+-- the rank of a head; where there is none, it is behind those of all versions
+abbrev pub head_rank : Option VersionData → ℕ
+head_rank None = 2 ^ 64 - 1
+head_rank (Some v) = rank_of v

@@ -14,7 +14,7 @@ ghost use Rattle.osm_merge.specs.Merged.{MergesSources, IsMergedAs, RefusesSourc
 use crate::compare::compare;
 use crate::heads::first_versions;
 use crate::progress::{Progress, Silent};
-use crate::ranked::{Ranked, with_rank, without_rank};
+use crate::ranked::{Head, Ranked, without_rank};
 use crate::selection::{Selection, keeps, passes, puts_at_once, stays};
 use crate::tree::{build, replay};
 use osm_files::{Fault, Output, Sink, Source};
@@ -105,7 +105,7 @@ pub fn merge_selected<S: Source + Drop, W: Output, P: Progress>(
 fn write_union<S: Source, W: Output, P: Progress>(
     selection: Selection,
     sources: &mut [S],
-    heads: &mut [Option<Ranked>],
+    heads: &mut [Head],
     nodes: &mut [usize],
     mut counts: Counts,
     sink: &mut Sink,
@@ -149,7 +149,7 @@ fn write_union<S: Source, W: Output, P: Progress>(
         )?;
         progress.tell(counts.read, counts.written);
         let next = next_of(&mut sources[place], spare)?;
-        heads[place] = with_rank(next);
+        heads[place] = Head::new(next);
         replay(nodes, heads, place, &mut counts.compared);
     }
 }
