@@ -45,7 +45,7 @@ impl History {
     pub fn from_versions(mut versions: Vec<Version>) -> Result<History, Memory>
         ensures { IfOk result (λ h. h ≡ set.from_list versions.items) }
     {
-        versions.sort_unstable();
+        versions.sort()?;
         versions.dedup();
         Ok(History { versions })
     }
