@@ -41,7 +41,12 @@ impl History {
         }
     }
 
-    /// The set of the versions of a list, which may stand in any order and be repeated.
+    /// The set of the versions of a list, which may stand in any order and be repeated. Where it is a few ascending stretches,
+    /// like sorted files one behind the other, these are merged.
+    ///
+    /// # Errors
+    ///
+    /// For want of memory alone.
     pub fn from_versions(mut versions: Vec<Version>) -> Result<History, Memory>
         ensures { IfOk result (λ h. h ≡ set.from_list versions.items) }
     {
