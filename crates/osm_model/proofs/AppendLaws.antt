@@ -1,5 +1,5 @@
 -- The stretches of a line, one behind the other.
-use Rattle.std.proofs.Common.{◌≡◌, ℕ, List, ◌∷◌, ◌++◌, codes, ap, sym, ◌∙◌, append_assoc}
+use Rattle.std.proofs.Common.{◌≡◌, ℕ, List, [], ◌∷◌, ◌++◌, codes, refl, ap, sym, ◌∙◌, append_assoc}
 use Rattle.std.specs.Str.{chars}
 use Rattle.osm_model.specs.Escape.{escape}
 use Rattle.osm_model.specs.Joined.{joined}
@@ -22,3 +22,15 @@ plain_stretch before all bytes front back now b e n = b ∙ ap (λ t. all ++ t) 
 -- the line is its head, the user name, the tags and the fields of its kind
 pub line-parts : (v : VersionData) → line v ≡ head_text v ++ (escape v.user ++ ((codes " T" ++ list_text tag_text (tags_of v.body)) ++ (32 ∷ joined 32 (kind_fields v.body))))
 line-parts v = line-from_object v ∙ simp append_assoc
+
+-- items in two stretches
+pub more_in_two : {X : Type 0} (text : X → List ℕ) (xs ys : List X) → more_text text (xs ++ ys) ≡ more_text text xs ++ more_text text ys
+more_in_two text [] ys = refl
+more_in_two text (x ∷ xs) ys = ap (λ t. 44 ∷ t) (ap (λ t. text x ++ t) (more_in_two text xs ys) ∙ sym (append_assoc (text x) (more_text text xs) (more_text text ys)))
+
+-- items are appended but for those behind them
+pub more_behind : {X : Type 0} (text : X → List ℕ) (all before now : List ℕ) (items few behind : List X) → items ≡ few ++ behind → all ≡ before ++ more_text text items → now ≡ before ++ more_text text few →
+    all ≡ now ++ more_text text behind
+more_behind text all before now items few behind i a n =
+    a ∙ ap (λ xs. before ++ more_text text xs) i ∙ ap (λ t. before ++ t) (more_in_two text few behind)
+    ∙ sym (append_assoc before (more_text text few) (more_text text behind)) ∙ ap (λ t. t ++ more_text text behind) (sym n)

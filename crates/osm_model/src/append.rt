@@ -1,9 +1,10 @@
 //! Canonical lines, appended to a vector.
-ghost use Rattle.std.specs.Prelude.{◌≡◌, ◌++◌, ◌∷◌, ◌≤◌, ℕ, List, length, OnOk};
+ghost use Rattle.std.specs.Prelude.{◌≡◌, ◌++◌, ◌∷◌, ◌≤◌, ℕ, List, codes, length, OnOk};
 ghost use Rattle.osm_model.specs.Joined.{joined};
 ghost use Rattle.osm_model.specs.Escape.{escape, escape_char};
 ghost use Rattle.osm_model.specs.Line.{list_text, tag_text, reference_text, member_text, kind_fields, line};
 ghost use Rattle.osm_model.specs.Append.{head_text, location_text};
+ghost use Rattle.osm_model.specs.Cursor.{more_text};
 ghost use Rattle.osm_model.specs.Extends.{Extends};
 
 use crate::escape::plain_length;
@@ -160,9 +161,48 @@ fn append_kind_fields(body: &Body, out: &mut Vec<u8>) -> Result<(), Memory>
             Ok(())
         }
         Body::Node { lon, lat, .. } => append_location(*lon, *lat, out),
-        Body::Way { refs, .. } => append_list(b" N", refs.as_slice(), out),
+        Body::Way { refs, .. } => append_references(refs.as_slice(), out),
         Body::Relation { members, .. } => append_list(b" M", members.as_slice(), out),
     }
+}
+
+/// How many references a stretch has room for, each of them behind a comma.
+const FEW: usize = 5;
+
+/// Appends the field of references.
+fn append_references(ids: &[i64], out: &mut Vec<u8>) -> Result<(), Memory>
+    ensures appended { OnOk result (out.new.items ≡ out.old.items ++ (codes " N" ++ list_text reference_text ids.now)) }
+    ensures kept { Extends out.old.items out.new.items }
+{
+    let Some((first, more)) = ids.split_first() else {
+        out.extend_from_slice(b" N")?;
+        return Ok(());
+    };
+    first.append_behind(b" N", out)?;
+    let mut rest = more;
+    while !rest.is_empty() {
+        let (few, behind) = rest.split_at(rest.len().min(FEW));
+        append_few_references(few, out)?;
+        rest = behind;
+    }
+    Ok(())
+}
+
+/// Appends a few references, each behind a comma, by one stretch.
+fn append_few_references(ids: &[i64], out: &mut Vec<u8>) -> Result<(), Memory>
+    requires few { length ids.now ≤ 5 }
+    ensures appended { OnOk result (out.new.items ≡ out.old.items ++ more_text reference_text ids.now) }
+    ensures kept { Extends out.old.items out.new.items }
+{
+    let mut piece = Stretch::new();
+    let mut count = ids.len();
+    while count > 0 {
+        count -= 1;
+        piece.prepend_integer(ids[count]);
+        piece.push_front(b'n');
+        piece.push_front(b',');
+    }
+    piece.append_to(out)
 }
 
 /// Appends the fields of a location.
