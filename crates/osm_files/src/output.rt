@@ -1,5 +1,6 @@
 //! Outputs: where the bytes of a file go.
-ghost use Rattle.std.specs.Prelude.{◌≡◌, ◌+◌, ◌<◌, ◌≤◌, ◌^◌, ◌⊎◌, ◌↔◌, ℕ, Bool, true, false, Some, List, [], length, take, IfOk, IsOk, OnErr, Err};
+ghost use Rattle.std.specs.Prelude.{◌≡◌, ◌+◌, ◌<◌, ◌≤◌, ◌^◌, ◌⊎◌, ◌↔◌, ℕ, Bool, true, false, Some, List, []};
+ghost use Rattle.std.specs.Prelude.{length, take, IfOk, IsOk, OnErr, Err};
 ghost use Rattle.osm_files.specs.Fault.{too_long_fault, write_fault};
 ghost use Rattle.osm_files.specs.Output.{Content, Appended, WriteFails, FlushFails, Writes, Collected};
 

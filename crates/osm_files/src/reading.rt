@@ -1,5 +1,6 @@
 //! Reading the units of an input, one by one, in whatever pieces its bytes come.
-ghost use Rattle.std.specs.Prelude.{◌≡◌, ◌+◌, ◌<◌, ◌≤◌, ◌^◌, ◌⊎◌, true, false, None, Some, Ok, Err, [], length, drop, take, option_map};
+ghost use Rattle.std.specs.Prelude.{◌≡◌, ◌+◌, ◌<◌, ◌≤◌, ◌^◌, ◌⊎◌, true, false, None, Some, Ok, Err, []};
+ghost use Rattle.std.specs.Prelude.{length, drop, take, option_map};
 ghost use Rattle.std.specs.Prelude.{is_err, IfOk, IfErr, OnOk, OnErr, IsSome, if◌then◌else◌};
 ghost use Rattle.osm_files.specs.Fault.{failed_fault, fault_at};
 ghost use Rattle.osm_files.specs.Units as spec;

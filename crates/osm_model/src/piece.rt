@@ -1,5 +1,6 @@
 //! Some bytes of a line, filled in place.
-ghost use Rattle.std.specs.Prelude.{◌≡◌, ◌++◌, ◌+◌, ◌/◌, ◌%◌, ◌∷◌, [], ◌≤◌, ◌<◌, ◌^◌, length, replicate, MatchOption, OnOk};
+ghost use Rattle.std.specs.Prelude.{◌≡◌, ◌++◌, ◌+◌, ◌/◌, ◌%◌, ◌∷◌, [], ◌≤◌, ◌<◌, ◌^◌};
+ghost use Rattle.std.specs.Prelude.{length, replicate, MatchOption, OnOk};
 ghost use Rattle.std.specs.Option.{ForSome};
 ghost use Rattle.osm_model.specs.Numeral.{numeral, padded};
 ghost use Rattle.osm_model.specs.Decimal.{number_text, sign_text, integer_text};
