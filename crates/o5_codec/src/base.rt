@@ -100,13 +100,13 @@ impl IdBase {
         ensures value { result ≡ spec.moved_id self.old difference }
         ensures base { IfOk result (λ id. self.new ≡ id) }
     {
-        match self.id.checked_add(difference) {
-            Some(id) if is_id(id) => {
-                self.id = id;
-                Ok(id)
-            }
-            _ => Err(O5Reason::OutOfRange),
+        // The base lies so near to 0 that a sum that wraps around is no id.
+        let id = self.id.wrapping_add(difference);
+        if !is_id(id) {
+            return Err(O5Reason::OutOfRange);
         }
+        self.id = id;
+        Ok(id)
     }
 
     /// Appends an id by its difference. The base moves to it.

@@ -89,7 +89,8 @@ impl Segment {
         bytes: &'a [u8],
         meta: &mut Meta,
     ) -> Result<&'a [u8], O5Reason>
-        ensures { Answers (λ rest. (meta.new, self.new, rest.now)) (spec.and_author meta.old (spec.author_behind (meta.old.changeset, self.old, bytes.now))) result }
+        ensures { Answers (λ rest. (meta.new, self.new, rest.now))
+            (spec.and_author meta.old (spec.author_behind (meta.old.changeset, self.old, bytes.now))) result }
     {
         if bytes.is_empty() {
             meta.uid = 0;

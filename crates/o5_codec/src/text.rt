@@ -108,7 +108,7 @@ fn to_user(alloc: Global, strings: &Strings<'_>) -> Result<(u32, Text), O5Reason
     Ok((uid, name))
 }
 
-/// The text of a string, where it is one.
+/// The text of a string, where it is one. Its copies are written many times, so it is looked at whether it is plain.
 ///
 /// # Errors
 ///
@@ -118,7 +118,11 @@ pub(crate) fn known_text(alloc: Global, bytes: &[u8]) -> Result<Option<Text>, Me
     ensures text { IfOk result (λ known. IfSome known (λ text. text_of bytes.now ≡ Ok text)) }
 {
     match to_str(bytes) {
-        Ok(text) => Ok(Some(Text::from_str(alloc, text)?)),
+        Ok(characters) => {
+            let mut text = Text::from_str(alloc, characters)?;
+            text.mark_plain();
+            Ok(Some(text))
+        }
         Err(_) => Ok(None),
     }
 }

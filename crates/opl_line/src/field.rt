@@ -1,5 +1,6 @@
 //! What the fields of an OPL line say.
-ghost use Rattle.std.specs.Prelude.{◌≡◌, ◌⊎◌, ◌<◌, length, slice_index, Ok, Err, Some, None, IfOk, IfSome, MatchOption, MatchResult, option_copied};
+ghost use Rattle.std.specs.Prelude.{◌≡◌, ◌⊎◌, ◌<◌, length, slice_index, Ok, Err, Some, None};
+ghost use Rattle.std.specs.Prelude.{IfOk, IfSome, MatchOption, MatchResult, option_copied};
 ghost use Rattle.opl_line.specs.declared.cut.Cut.TheVariants.{Blanks};
 ghost use Rattle.opl_line.specs.declared.reason.OplReason.TheVariants.{Memory};
 ghost use Rattle.opl_line.specs.Cut.{is_end, split_first, pieces_of};

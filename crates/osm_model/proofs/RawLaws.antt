@@ -2,7 +2,7 @@
 use Rattle.std.proofs.Common.{◌≡◌, ◌⊎◌, ℕ, zero, suc, ◌-◌, Bool, T, eqb, eqb→eq, eq-zero-or-pos, inl, inr, ◌+◌, ◌/◌, ◌%◌, ◌<◌, ◌≤◌, true, false, cond, ltb, leb, ◌&&◌, List, [], ◌∷◌, ◌++◌, length, get_or, take, drop, refl, sym, ap, ◌∙◌, subst, arith, append_assoc, if◌then◌else◌, ⊎_elim, add_assoc, add-zero, ◌≢◌}
 use Rattle.std.proofs.lemmas.Bool.Decides.{nat_tests}
 use Rattle.std.proofs.lemmas.Bool.{ltb-true, ltb-false, leb-true, and_parts, cases_lt}
-use Rattle.std.proofs.lemmas.List.{take-append-drop, take_at, length-append, drop_all, length-drop, length-take-le, get_or-drop}
+use Rattle.std.proofs.lemmas.List.{append-nil, take_all, take-append-drop, take_at, length-append, drop_all, length-drop, length-take-le, get_or-drop}
 use Rattle.std.proofs.lemmas.List.Sums.{take_while-cons}
 use Rattle.std.proofs.lemmas.Str.{chars-nil, chars_past_char, drop_past_char, IsUtf8-past_char, length-encode, len_utf8_ascii}
 use Rattle.std.specs.Char.{len_utf8}
@@ -12,7 +12,7 @@ use Rattle.std.specs.List.{take_while}
 use lib.Utf8.{encode, encodes}
 use lib.Ieee.Fits.{and_l, and_r}
 use Rattle.osm_model.specs.declared.escape.TheConstants.{RAW_BYTES}
-use Rattle.osm_model.specs.Escape.{is_raw, is_raw_byte, are_raw_bytes, escape, raw_width, raw_length}
+use Rattle.osm_model.specs.Escape.{is_raw, is_raw_byte, are_raw_bytes, escape, raw_width, raw_length, IsPlain}
 use Rattle.osm_model.proofs.EscapeLaws.{escape_char-raw}
 
 -- What a text's first two bytes tell of its first character's width. A character of one byte is that byte. One of two bytes after 0xC2 has the code of its second byte, and all after 0xC3 to 0xD7 are raw.
@@ -158,6 +158,12 @@ pub plain_all : (bs : List ℕ) (n : ℕ) → IsPlainTo bs n → length bs ≤ n
 plain_all bs n so_far all =
     let rest : raw_length (chars (drop n bs)) ≡ 0 = ap (λ t. raw_length (chars t)) (drop_all n bs all) ∙ ap raw_length chars-nil in
     omega (arith, rest, so_far.sum)
+
+-- a text is plain where its raw characters go on to its end
+pub plain_whole : (bs : List ℕ) (n : ℕ) → escape (chars bs) ≡ take n bs ++ escape (chars (drop n bs)) → length bs ≤ n → IsPlain bs
+plain_whole bs n e all =
+    let none : escape (chars (drop n bs)) ≡ [] = ap (λ t. escape (chars t)) (drop_all n bs all) ∙ ap escape chars-nil in
+    e ∙ (λ i. take_all n bs all i ++ none i) ∙ append-nil bs
 
 -- the width that each test of the first bytes gives
 pub width-byte : (width lead next len : ℕ) → IsLead width lead next len → (is_raw lead && ltb lead 0x80) ≡ true → 1 ≡ width

@@ -1,6 +1,7 @@
 -- How the characters of a text stand in OPL. The form of an escape is that of the OPL manual; which characters are raw, and how many digits an escape has, are own rules of this project.
-use Rattle.std.specs.Prelude.{ℕ, Bool, nat_lt, ◌+◌, ◌&&◌, ◌||◌, List, [], ◌∷◌, ◌++◌, length, slice_index, encode_utf8, encode_utf8_all, if◌then◌else◌}
+use Rattle.std.specs.Prelude.{◌≡◌, ℕ, Bool, nat_lt, ◌+◌, ◌&&◌, ◌||◌, List, [], ◌∷◌, ◌++◌, length, slice_index, encode_utf8, encode_utf8_all, if◌then◌else◌}
 use Rattle.std.specs.Char.{len_utf8}
+use Rattle.std.specs.Str.{chars}
 use Rattle.std.specs.Int.{is_in_range}
 use Rattle.std.specs.List.{flat_map, take_while}
 use Rattle.osm_model.specs.Numeral.{numeral, padded}
@@ -44,3 +45,7 @@ raw_width (c ∷ cs) = if is_raw c then len_utf8 c else 0
 -- how many bytes the raw characters take that stand before the first other one
 abbrev pub raw_length : List ℕ → ℕ
 raw_length cs = length (encode_utf8_all (take_while is_raw cs))
+
+-- texts, by their bytes, that stand in a line as they are
+abbrev pub IsPlain : List ℕ → Type 0
+IsPlain bytes = escape (chars bytes) ≡ bytes

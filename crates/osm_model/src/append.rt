@@ -56,7 +56,21 @@ fn append_head(version: &Version, out: &mut Vec<u8>) -> Result<(), Memory>
 }
 
 /// Appends the characters of a text, raw or as escapes.
+#[inline(always)]
 fn append_text(text: &Text, out: &mut Vec<u8>) -> Result<(), Memory>
+    ensures appended { OnOk result (out.new.items ≡ out.old.items ++ escape text.now) }
+    ensures kept { Extends out.old.items out.new.items }
+{
+    if let Some(plain) = text.plain() {
+        out.extend_from_slice(plain)?;
+        return Ok(());
+    }
+    append_characters(text, out)
+}
+
+/// Appends the characters of a text, each looked at.
+#[inline(never)]
+fn append_characters(text: &Text, out: &mut Vec<u8>) -> Result<(), Memory>
     ensures appended { OnOk result (out.new.items ≡ out.old.items ++ escape text.now) }
     ensures kept { Extends out.old.items out.new.items }
 {

@@ -16,6 +16,7 @@ mod members;
 mod memory;
 mod meta;
 mod piece;
+mod plain;
 mod references;
 mod same;
 mod spare;

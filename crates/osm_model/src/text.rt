@@ -1,18 +1,17 @@
 //! Texts.
-ghost use Rattle.std.specs.Prelude.{◌≡◌, ◌++◌, [], IfOk, OnOk, OnErr, encode_utf8_all, string_bytes};
+ghost use Rattle.std.specs.Prelude.{◌≡◌, ◌++◌, [], IfOk, IfSome, OnOk, OnErr, encode_utf8_all, string_bytes};
 ghost use Rattle.std.specs.Str.{chars};
+ghost use Rattle.osm_model.specs.Escape.{escape};
 ghost use Rattle.osm_model.specs.Storage.{bytes_of};
 ghost use Rattle.osm_model.specs.Text.{is_text, is_empty};
 
 use crate::Memory;
+use crate::plain::{PlainString, SHORT};
 use crate::same::Same;
 use arrayvec::ArrayString;
 use std::alloc::Global;
 use std::marker::Model;
 use std::mem;
-
-/// The most bytes of a text that needs no memory of its own: most names of users, keys and values have fewer.
-const SHORT: usize = 24;
 
 /// A text, which contracts see as the list of its characters. A short one lies in the value itself.
 #[derive(Debug, Drop)]
@@ -23,7 +22,9 @@ pub struct Text {
 /// Where the bytes of a text lie.
 #[derive(Debug, Drop)]
 enum Storage {
-    /// In the value itself.
+    /// In the value itself, and each character is written as itself in a line.
+    Plain(PlainString),
+    /// In the value itself, and nothing more is known of the characters.
     Within(ArrayString<SHORT>),
     /// In memory of their own.
     Apart(String),
@@ -36,6 +37,7 @@ impl Storage {
         ensures { result.now ≡ bytes_of self.now }
     {
         match self {
+            Storage::Plain(plain) => plain.as_str(),
             Storage::Within(string) => string.as_str(),
             Storage::Apart(string) => string.as_str(),
         }
@@ -47,6 +49,7 @@ impl Storage {
         ensures { IfOk result (λ p. bytes_of p ≡ bytes_of self.now) }
     {
         match self {
+            Storage::Plain(plain) => Ok(Storage::Plain(*plain)),
             Storage::Within(string) => Ok(Storage::Within(*string)),
             Storage::Apart(string) => Ok(Storage::Apart(copy_apart(string)?)),
         }
@@ -58,6 +61,16 @@ impl Storage {
         ensures kept { OnErr result (bytes_of self.new ≡ bytes_of self.old) }
     {
         match self {
+            Storage::Plain(plain) => {
+                let text = plain.as_str();
+                let mut string = plain.string();
+                if string.try_push_str(characters).is_ok() {
+                    *self = Storage::Within(string);
+                } else {
+                    *self = Storage::Apart(joined(alloc, text, characters)?);
+                }
+                Ok(())
+            }
             Storage::Within(string) => {
                 let within = string.as_str();
                 if within.len() + characters.len() <= SHORT {
@@ -149,6 +162,30 @@ impl Text {
         self.storage.push_str(alloc, characters)
     }
 
+    /// Finds out whether the text is plain, and keeps the answer: whether it lies in the value itself, and each of its characters
+    /// is written as itself in a line. A text known to be plain, and each copy of it, is written without another look. Takes no
+    /// memory.
+    pub fn mark_plain(&mut self)
+        ensures { self.new ≡ self.old }
+    {
+        if let Storage::Within(string) = &self.storage {
+            if let Some(plain) = PlainString::of(string) {
+                self.storage = Storage::Plain(plain);
+            }
+        }
+    }
+
+    /// The bytes of the text in a line, where it is known to be plain.
+    #[inline(always)]
+    pub(crate) fn plain(&self) -> Option<&[u8]>
+        ensures { IfSome result (λ bytes. bytes.now ≡ escape self.now) }
+    {
+        match &self.storage {
+            Storage::Plain(plain) => Some(plain.as_str().as_bytes()),
+            _ => None,
+        }
+    }
+
     /// The text as a slice.
     #[inline(always)]
     pub fn as_str(&self) -> &str
@@ -186,6 +223,10 @@ impl Text {
         ensures { OnOk result (place.new ≡ self.now) }
     {
         match (&self.storage, &mut place.storage) {
+            (Storage::Plain(plain), Storage::Plain(own)) => {
+                *own = *plain;
+                Ok(())
+            }
             (Storage::Within(string), Storage::Within(own)) => {
                 *own = *string;
                 Ok(())
@@ -194,7 +235,7 @@ impl Text {
         }
     }
 
-    /// Puts an equal text in the place of one that holds no memory, where one of them doesn't lie in the value itself.
+    /// Puts an equal text in the place of one that holds no memory, where they don't lie both in the value itself and in one way.
     #[inline(never)]
     fn copy_anew_to(&self, place: &mut Text) -> Result<(), Memory>
         ensures { OnOk result (place.new ≡ self.now) }
@@ -229,3 +270,6 @@ impl Same for Text {
         self.as_str() == other.as_str()
     }
 }
+
+#[cfg(test)]
+mod tests;

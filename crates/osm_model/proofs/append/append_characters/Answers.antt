@@ -5,7 +5,7 @@ use Rattle.osm_model.specs.Escape.{escape}
 use Rattle.osm_model.proofs.CursorLaws.{text_more, text_end}
 use Rattle.osm_model.proofs.AppendLaws.{plain_stretch}
 use Rattle.osm_model.proofs.ExtendsLaws.{extends_trans, extends_or_same}
-use Rattle.osm_model.proofs.append.append_text.Goals as goal
+use Rattle.osm_model.proofs.append.append_characters.Goals as goal
 
 pub returns-in_default-clause-appended : goal.returns-in_default-clause-appended
 returns-in_default-clause-appended c =

@@ -1,0 +1,48 @@
+//! Short texts of raw characters alone.
+ghost use Rattle.std.specs.Prelude.{◌≡◌, ◌↔◌, length, IsSome, IfSome};
+ghost use Rattle.std.specs.Str.{chars};
+ghost use Rattle.osm_model.specs.Escape.{raw_length, IsPlain};
+
+use crate::escape::plain_length;
+use arrayvec::ArrayString;
+
+/// The most bytes of a text that needs no memory of its own: most names of users, keys and values have fewer.
+pub(crate) const SHORT: usize = 24;
+
+/// A short text that stands in a line byte for byte, since each of its characters is written as itself.
+#[derive(Debug, Clone, Copy)]
+pub(crate) struct PlainString {
+    string: ArrayString<SHORT>,
+    ghost plain: { IsPlain string.bytes },
+}
+
+impl PlainString {
+    /// The string, where each of its characters is written as itself.
+    pub(crate) fn of(string: &ArrayString<SHORT>) -> Option<PlainString>
+        ensures variant { IsSome result ↔ (raw_length (chars string.now.bytes) ≡ length string.now.bytes) }
+        ensures bytes { IfSome result (λ p. p.string.bytes ≡ string.now.bytes) }
+    {
+        let text = string.as_str();
+        if plain_length(text) != text.len() {
+            return None;
+        }
+        Some(PlainString { string: *string })
+    }
+
+    /// The text as a slice.
+    #[inline(always)]
+    pub(crate) fn as_str(&self) -> &str
+        ensures bytes { result.now ≡ self.now.string.bytes }
+        ensures plain { IsPlain result.now }
+    {
+        self.string.as_str()
+    }
+
+    /// The text as a string that may be any.
+    #[inline(always)]
+    pub(crate) fn string(&self) -> ArrayString<SHORT>
+        ensures { result.bytes ≡ self.now.string.bytes }
+    {
+        self.string
+    }
+}

@@ -1,0 +1,101 @@
+//! Texts that were looked at, and found to be plain or not.
+use crate::same::Same;
+use crate::{Body, Kind, Meta, Text, Version};
+use std::alloc::Global;
+use std::test::Fail;
+
+/// Texts, how they stand in a line, and whether they are plain.
+const TEXTS: [(&str, &str, bool); 8] = [
+    ("", "", true),
+    ("Main-Street_1", "Main-Street_1", true),
+    ("ä", "ä", true),
+    ("a b", "a%20%b", false),
+    ("x=y", "x%3d%y", false),
+    ("東", "%6771%", false),
+    ("as_many_as_lie_within_it", "as_many_as_lie_within_it", true),
+    (
+        "one_more_than_lies_within",
+        "one_more_than_lies_within",
+        false,
+    ),
+];
+
+/// A text that was looked at.
+fn looked_at(alloc: Global, characters: &str) -> Result<Text, Fail> {
+    let mut text = Text::from_str(alloc, characters)?;
+    text.mark_plain();
+    Ok(text)
+}
+
+/// The line of a deletion by a user of this name.
+fn line(alloc: Global, user: Text) -> Result<Vec<u8>, Fail> {
+    let meta = Meta {
+        version: 1,
+        time: Some(1),
+        changeset: 1,
+        uid: 1,
+        user,
+    };
+    let version = Version::new(alloc, 1, meta, Body::Deleted(Kind::Node))?;
+    let mut out = Vec::new(alloc);
+    version.append_line(&mut out)?;
+    Ok(out)
+}
+
+#[test]
+fn a_look_changes_no_text(rt: HostRuntime) -> Result<(), Fail> {
+    let alloc = rt.alloc();
+    for (characters, escaped, is_plain) in TEXTS {
+        let text = looked_at(alloc, characters)?;
+        let other = Text::from_str(alloc, characters)?;
+        assert_eq!(rt;
+            (text.plain().is_some(), other.plain().is_some()),
+            (is_plain, false)
+        );
+        assert_eq!(rt; text.as_str(), characters);
+        assert!(rt; text.is_same(&other) && other.is_same(&text));
+        let expected = format!(in alloc; "n1 v1 dD c1 t1970-01-01T00:00:01Z i1 u{escaped} T x y")?;
+        let line_of_text = line(alloc, text)?;
+        assert_eq!(rt; line_of_text.as_slice(), expected.as_bytes());
+        assert_eq!(rt; line_of_text, line(alloc, other)?);
+    }
+    Ok(())
+}
+
+#[test]
+fn copies_of_plain_texts_are_plain(rt: HostRuntime) -> Result<(), Fail> {
+    let alloc = rt.alloc();
+    let (plain, other) = (looked_at(alloc, "ä")?, looked_at(alloc, "a b")?);
+    assert!(rt; plain.copy()?.plain().is_some());
+    let mut place = Text::new();
+    for (text, is_plain) in [
+        (&plain, true),
+        (&plain, true),
+        (&other, false),
+        (&plain, true),
+    ] {
+        text.copy_to(&mut place)?;
+        assert_eq!(rt;
+            (place.as_str(), place.plain().is_some()),
+            (text.as_str(), is_plain)
+        );
+    }
+    Ok(())
+}
+
+#[test]
+fn what_is_behind_a_plain_text_may_not_be(rt: HostRuntime) -> Result<(), Fail> {
+    let alloc = rt.alloc();
+    for (more, whole) in [
+        (" b", "a b"),
+        (
+            " of which not all lies within",
+            "a of which not all lies within",
+        ),
+    ] {
+        let mut text = looked_at(alloc, "a")?;
+        text.push_str(alloc, more)?;
+        assert_eq!(rt; (text.as_str(), text.plain().is_some()), (whole, false));
+    }
+    Ok(())
+}
