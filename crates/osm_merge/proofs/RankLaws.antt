@@ -157,7 +157,7 @@ class_bound : (k : Kind) (b : Bool) → 2 * kind_rank k + bit b ≤ 5
 class_bound k b = omega (arith, at_most_two k, at_most_one b)
 
 -- every rank is in front of that of no head
-before_nothing : (v : VersionData) → rank_of v < 2 ^ 64 - 1
+pub before_nothing : (v : VersionData) → rank_of v < 2 ^ 64 - 1
 before_nothing v = omega (arith, class_bound (kind_of v.body) (is_positive v.id), short_reach v v v, short_turn (unsigned_abs v.id) v.number)
 
 -- a head of a lower rank is not greater

@@ -13,12 +13,12 @@ const FAR: u64 = (1 << 45) - 1;
 const LATE: u64 = (1 << 16) - 1;
 
 /// The rank of an empty head, which is behind those of all versions.
-pub const NOTHING: u64 = u64::MAX;
+pub(crate) const NOTHING: u64 = u64::MAX;
 
 /// A version, and beside it its rank, by which nearly all comparisons are decided without a look at the version.
 /// Contracts see the version.
 #[derive(Drop)]
-pub struct Ranked {
+pub(crate) struct Ranked {
     rank: u64,
     version: Version,
 }
@@ -38,7 +38,7 @@ impl Model for Ranked {
 impl Ranked {
     /// The rank: of two versions that of the lower rank is less.
     #[inline(always)]
-    pub fn rank(&self) -> u64
+    pub(crate) fn rank(&self) -> u64
         ensures { result ≡ rank_of self.now }
     {
         self.rank
@@ -46,7 +46,7 @@ impl Ranked {
 
     /// The version.
     #[inline(always)]
-    pub fn version(&self) -> &Version
+    pub(crate) fn version(&self) -> &Version
         ensures { result.now ≡ self.now }
     {
         &self.version
@@ -54,7 +54,7 @@ impl Ranked {
 
     /// The version alone.
     #[inline(always)]
-    pub fn into_version(self) -> Version
+    pub(crate) fn into_version(self) -> Version
         ensures { result ≡ self }
     {
         self.version
@@ -64,7 +64,7 @@ impl Ranked {
 /// The next version of a source, which waits to be taken, or none. Its rank stands beside it, so that a game of two heads
 /// looks at nothing else. Contracts see the version, if there is one.
 #[derive(Drop)]
-pub struct Head {
+pub(crate) struct Head {
     rank: u64,
     version: Option<Version>,
 }
@@ -84,7 +84,7 @@ impl Model for Head {
 impl Head {
     /// The head of a source whose next version this is.
     #[inline(always)]
-    pub fn new(version: Option<Version>) -> Head
+    pub(crate) fn new(version: Option<Version>) -> Head
         ensures { result ≡ version }
     {
         match version {
@@ -101,7 +101,7 @@ impl Head {
 
     /// The rank: of two heads that of the lower rank is less.
     #[inline(always)]
-    pub fn rank(&self) -> u64
+    pub(crate) fn rank(&self) -> u64
         ensures { result ≡ head_rank self.now }
     {
         self.rank
@@ -109,7 +109,7 @@ impl Head {
 
     /// The version, if there is one.
     #[inline(always)]
-    pub fn version(&self) -> Option<&Version>
+    pub(crate) fn version(&self) -> Option<&Version>
         ensures { option_copied result ≡ self.now }
     {
         self.version.as_ref()
@@ -117,7 +117,7 @@ impl Head {
 
     /// Takes the version out, if there is one.
     #[inline(always)]
-    pub fn take(&mut self) -> Option<Ranked>
+    pub(crate) fn take(&mut self) -> Option<Ranked>
         ensures value { result ≡ self.old }
         ensures none { self.new ≡ None }
     {
@@ -131,7 +131,7 @@ impl Head {
 
 /// The version alone, where there is one.
 #[inline(always)]
-pub fn without_rank(ranked: Option<Ranked>) -> Option<Version>
+pub(crate) fn without_rank(ranked: Option<Ranked>) -> Option<Version>
     ensures { result ≡ ranked }
 {
     ranked.map(Ranked::into_version)

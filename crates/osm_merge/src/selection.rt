@@ -31,7 +31,7 @@ pub enum Selection {
 
 /// Whether all versions are selected, so that each is put as soon as it comes.
 #[inline(always)]
-pub fn puts_at_once(selection: Selection) -> bool
+pub(crate) fn puts_at_once(selection: Selection) -> bool
     ensures { result ≡ puts_at_once selection }
 {
     match selection {
@@ -47,7 +47,7 @@ pub fn puts_at_once(selection: Selection) -> bool
 
 /// Whether a version isn't left out before all else.
 #[inline(always)]
-pub fn passes(selection: Selection, version: &Version) -> bool
+pub(crate) fn passes(selection: Selection, version: &Version) -> bool
     ensures { result ≡ passes selection version.now }
 {
     match selection {
@@ -62,7 +62,7 @@ pub fn passes(selection: Selection, version: &Version) -> bool
 }
 
 /// Whether a version stays, where another one is behind it in the order.
-pub fn keeps(selection: Selection, version: &Version, behind: &Version) -> bool
+pub(crate) fn keeps(selection: Selection, version: &Version, behind: &Version) -> bool
     ensures { result ≡ keeps selection version.now (Some behind.now) }
 {
     if is_same_object(version, behind) {
@@ -73,7 +73,7 @@ pub fn keeps(selection: Selection, version: &Version, behind: &Version) -> bool
 }
 
 /// Whether a version stays, where the next version of its object has this time; none, where there is no next one.
-pub fn stays(selection: Selection, version: &Version, end: Option<u64>) -> bool
+pub(crate) fn stays(selection: Selection, version: &Version, end: Option<u64>) -> bool
     ensures { result ≡ stays selection version.now end }
 {
     match selection {

@@ -8,19 +8,19 @@ const DAYS_BEFORE_1970: u32 = 4_371_587;
 
 /// A day of the Gregorian calendar, from the year 0 on.
 #[derive(Clone, Copy)]
-pub struct Date {
-    pub year: u16,
+pub(crate) struct Date {
+    pub(crate) year: u16,
     /// From 1.
-    pub month: u8,
+    pub(crate) month: u8,
     /// From 1.
-    pub day: u8,
+    pub(crate) day: u8,
 }
 
 impl Date {
     ghost use Rattle.osm_model.specs.Time.{date_of};
 
     /// The date that many days after 1970-01-01.
-    pub fn from_day(day: u16) -> Date
+    pub(crate) fn from_day(day: u16) -> Date
         ensures value { result ≡ date_of day }
         ensures year { result.year < 10_000 }
         ensures month { result.month ≤ 12 }

@@ -6,7 +6,7 @@ ghost use Rattle.std.specs.Int.{is_in_range};
 ghost use Rattle.osm_model.specs.Escape as spec;
 
 /// Whether a character is written as itself in a line, and not as an escape.
-pub fn is_raw(c: char) -> bool
+pub(crate) fn is_raw(c: char) -> bool
     ensures { result ≡ spec.is_raw c }
 {
     matches!(
@@ -22,7 +22,7 @@ pub fn is_raw(c: char) -> bool
 }
 
 /// The hexadecimal digit of a number below 16, in lower case.
-pub fn hex_digit(number: u32) -> u8
+pub(crate) fn hex_digit(number: u32) -> u8
     requires { number < 16 }
     ensures { result ≡ digit_char number }
 {
@@ -35,7 +35,7 @@ pub fn hex_digit(number: u32) -> u8
 }
 
 /// The least number of digits in the escape of a code point.
-pub fn escape_width(code: u32) -> usize
+pub(crate) fn escape_width(code: u32) -> usize
     ensures value { result ≡ spec.escape_width code }
     ensures small { result ≤ 4 }
 {
@@ -43,7 +43,7 @@ pub fn escape_width(code: u32) -> usize
 }
 
 /// How many bytes of a text stand before its first character that is not raw.
-pub fn plain_length(text: &str) -> usize
+pub(crate) fn plain_length(text: &str) -> usize
     ensures length { result ≡ spec.raw_length (chars text.now) }
     ensures boundary { IsCharBoundary text.now result }
     ensures escape { spec.escape (chars text.now)

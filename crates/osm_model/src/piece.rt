@@ -19,17 +19,17 @@ const UNITS_IN_DEGREE: u64 = 10_000_000;
 const SECONDS_IN_DAY: u64 = 86_400;
 
 /// What a cursor holds of a line: a mark and a coordinate take at most 31 bytes.
-pub type CursorPiece = Piece<32>;
+pub(crate) type CursorPiece = Piece<32>;
 
 /// A stretch of an appended line: the fields before a user name take fewer than 128 bytes.
-pub type Stretch = Piece<128>;
+pub(crate) type Stretch = Piece<128>;
 
 /// At most `ROOM` bytes that are still to be given.
 ///
 /// They end where the room ends, so that a number is written in place from its last digit on, and a field in front of
 /// those behind it.
 #[derive(Drop)]
-pub struct Piece<const ROOM: usize> {
+pub(crate) struct Piece<const ROOM: usize> {
     bytes: [u8; ROOM],
     start: usize,
     ghost within: { start ≤ ROOM },
@@ -39,7 +39,7 @@ impl<const ROOM: usize> Piece<ROOM> {
     ghost use Rattle.osm_model.specs.Piece.{left};
 
     /// A piece with nothing left.
-    pub fn new() -> Self
+    pub(crate) fn new() -> Self
         ensures left { left result ≡ [] }
         ensures room { result.start ≡ ROOM }
     {
@@ -50,7 +50,7 @@ impl<const ROOM: usize> Piece<ROOM> {
     }
 
     /// The bytes that are left.
-    pub fn as_slice(&self) -> &[u8]
+    pub(crate) fn as_slice(&self) -> &[u8]
         ensures { result.now ≡ left self.now }
     {
         let room = &self.bytes[..];
@@ -58,7 +58,7 @@ impl<const ROOM: usize> Piece<ROOM> {
     }
 
     /// Appends the bytes that are left.
-    pub fn append_to(&self, out: &mut Vec<u8>) -> Result<(), Memory>
+    pub(crate) fn append_to(&self, out: &mut Vec<u8>) -> Result<(), Memory>
         ensures appended { OnOk result (out.new.items ≡ out.old.items ++ left self.now) }
         ensures kept { Extends out.old.items out.new.items }
     {
@@ -67,7 +67,7 @@ impl<const ROOM: usize> Piece<ROOM> {
     }
 
     /// The first byte that is left, which is taken.
-    pub fn take(&mut self) -> Option<u8>
+    pub(crate) fn take(&mut self) -> Option<u8>
         ensures { MatchOption result
             ((left self.old ≡ []) × (left self.new ≡ []))
             (λ byte. left self.old ≡ byte ∷ left self.new) }
@@ -81,7 +81,7 @@ impl<const ROOM: usize> Piece<ROOM> {
     }
 
     /// Takes all that is left.
-    pub fn clear(&mut self)
+    pub(crate) fn clear(&mut self)
         ensures left { left self.new ≡ [] }
         ensures room { self.new.start ≡ ROOM }
     {
@@ -89,7 +89,7 @@ impl<const ROOM: usize> Piece<ROOM> {
     }
 
     /// One byte more, in front.
-    pub fn push_front(&mut self, byte: u8)
+    pub(crate) fn push_front(&mut self, byte: u8)
         requires { 0 < self.old.start }
         ensures left { left self.new ≡ byte ∷ left self.old }
         ensures room { self.new.start + 1 ≡ self.old.start }
@@ -99,7 +99,7 @@ impl<const ROOM: usize> Piece<ROOM> {
     }
 
     /// More bytes, in front.
-    pub fn prepend(&mut self, bytes: &[u8])
+    pub(crate) fn prepend(&mut self, bytes: &[u8])
         requires { length bytes.now ≤ self.old.start }
         ensures left { left self.new ≡ bytes.now ++ left self.old }
         ensures room { self.new.start + length bytes.now ≡ self.old.start }
@@ -112,7 +112,7 @@ impl<const ROOM: usize> Piece<ROOM> {
     }
 
     /// A number in decimal, in front.
-    pub fn prepend_number(&mut self, number: u64)
+    pub(crate) fn prepend_number(&mut self, number: u64)
         requires { 20 ≤ self.old.start }
         ensures left { left self.new ≡ number_text number ++ left self.old }
         ensures room { self.new.start + length (number_text number) ≡ self.old.start }
@@ -134,7 +134,7 @@ impl<const ROOM: usize> Piece<ROOM> {
     }
 
     /// An integer in decimal, in front.
-    pub fn prepend_integer(&mut self, integer: i64)
+    pub(crate) fn prepend_integer(&mut self, integer: i64)
         requires { 21 ≤ self.old.start }
         ensures left { left self.new ≡ integer_text integer ++ left self.old }
         ensures short { self.old.start ≤ self.new.start + 21 }
@@ -144,7 +144,7 @@ impl<const ROOM: usize> Piece<ROOM> {
     }
 
     /// A coordinate in units of 10^-7 degree, in front.
-    pub fn prepend_coordinate(&mut self, units: i32)
+    pub(crate) fn prepend_coordinate(&mut self, units: i32)
         requires { 29 ≤ self.old.start }
         ensures left { left self.new ≡ coordinate_text units ++ left self.old }
         ensures short { self.old.start ≤ self.new.start + 29 }
@@ -201,7 +201,7 @@ impl<const ROOM: usize> Piece<ROOM> {
     }
 
     /// `yyyy-mm-ddThh:mm:ssZ` in front, or nothing where there is no time.
-    pub fn prepend_time(&mut self, time: Option<u64>)
+    pub(crate) fn prepend_time(&mut self, time: Option<u64>)
         requires room { 20 ≤ self.old.start }
         requires in_range { ForSome time (λ seconds. seconds < 2 ^ 32) }
         ensures left { left self.new ≡ time_text time ++ left self.old }
@@ -281,7 +281,7 @@ impl CursorPiece {
     ghost use Rattle.osm_model.specs.Piece.{left};
 
     /// These bytes, at most 32.
-    pub fn set_bytes(&mut self, bytes: &[u8])
+    pub(crate) fn set_bytes(&mut self, bytes: &[u8])
         requires { length bytes.now ≤ 32 }
         ensures { left self.new ≡ bytes.now }
     {
@@ -290,7 +290,7 @@ impl CursorPiece {
     }
 
     /// A mark of at most 2 bytes, and a number behind it.
-    pub fn set_number(&mut self, mark: &[u8], number: u64)
+    pub(crate) fn set_number(&mut self, mark: &[u8], number: u64)
         requires { length mark.now ≤ 2 }
         ensures { left self.new ≡ mark.now ++ number_text number }
     {
@@ -300,7 +300,7 @@ impl CursorPiece {
     }
 
     /// A mark of at most 2 bytes, and an integer behind it.
-    pub fn set_integer(&mut self, mark: &[u8], integer: i64)
+    pub(crate) fn set_integer(&mut self, mark: &[u8], integer: i64)
         requires { length mark.now ≤ 2 }
         ensures { left self.new ≡ mark.now ++ integer_text integer }
     {
@@ -310,7 +310,7 @@ impl CursorPiece {
     }
 
     /// A mark of at most 2 bytes, and behind it a coordinate in units of 10^-7 degree.
-    pub fn set_coordinate(&mut self, mark: &[u8], units: i32)
+    pub(crate) fn set_coordinate(&mut self, mark: &[u8], units: i32)
         requires { length mark.now ≤ 2 }
         ensures { left self.new ≡ mark.now ++ coordinate_text units }
     {
@@ -320,7 +320,7 @@ impl CursorPiece {
     }
 
     /// A mark of at most 2 bytes, and behind it a time in seconds since 1970-01-01T00:00:00Z.
-    pub fn set_time(&mut self, mark: &[u8], time: Option<u64>)
+    pub(crate) fn set_time(&mut self, mark: &[u8], time: Option<u64>)
         requires short { length mark.now ≤ 2 }
         requires in_range { ForSome time (λ seconds. seconds < 2 ^ 32) }
         ensures { left self.new ≡ mark.now ++ time_text time }
@@ -331,7 +331,7 @@ impl CursorPiece {
     }
 
     /// A character of a text, raw or as an escape.
-    pub fn set_escaped(&mut self, c: char)
+    pub(crate) fn set_escaped(&mut self, c: char)
         ensures { left self.new ≡ escape_char c }
     {
         if is_raw(c) {
