@@ -7,6 +7,7 @@ mod progress;
 mod refusal;
 mod request;
 mod running;
+mod stretches;
 mod target;
 
 use crate::words::request::Request;

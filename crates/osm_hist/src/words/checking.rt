@@ -55,17 +55,6 @@ fn report_of_held<'a, F: Read + Drop>(
     }
 }
 
-/// Whether a file of this name, which can be read again, isn't sorted.
-pub(super) fn is_out_of_order<'a, R: Files + AllocGlobal>(
-    rt: &R,
-    name: &'a str,
-) -> Result<bool, Refusal<'a>> {
-    match run_check_sorted(rt.alloc(), FromRead::new(open(rt, name)?)) {
-        Ok(_) => Ok(false),
-        Err(fault) => Ok(is_unsorted(&fault)),
-    }
-}
-
 /// Whether a file is refused for its order alone.
 pub(super) fn is_unsorted(fault: &Fault) -> bool {
     fault.reason == Reason::Unsorted

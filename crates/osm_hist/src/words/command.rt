@@ -18,8 +18,8 @@ const MERGE: &str = "Memory: each file is read one version at a time.\n\n\
 macro_rules! any_order_help {
     ($example:literal) => {
         concat!(
-            "Memory: a sorted file is read one version at a time. A file that isn't sorted is held in memory, and so ",
-            "is a pipe, which can't be read twice.\n\nExample: osm_hist ",
+            "Memory: a file that is sorted, or a few sorted ones behind each other, is read one version at a time. Any ",
+            "other file is held in memory, and so is a pipe, which can't be read twice.\n\nExample: osm_hist ",
             $example
         )
     };

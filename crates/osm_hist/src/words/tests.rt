@@ -15,6 +15,7 @@ mod plan;
 mod progress;
 mod sort;
 mod standard;
+mod stretches;
 mod time_filter;
 
 /// The line of a version.

@@ -107,7 +107,7 @@ fn standard_streams_are_named_in_faults(rt: HostRuntime) -> Result<(), Fail> {
 }
 
 #[test]
-fn unsorted_files_are_held_where_the_output_cannot_be_made_anew(
+fn unsorted_files_are_looked_through_where_the_output_cannot_be_made_anew(
     rt: HostRuntime,
 ) -> Result<(), Fail> {
     enter(&rt, "unsorted_to_standard")?;

@@ -1,0 +1,175 @@
+-- A file that is cut into files, one behind the other, holds the union of what they hold.
+use Rattle.std.proofs.Common.{◌≡◌, ◌⊎◌, ⊎_elim, ℕ, Bool, true, false, cond, List, [], ◌∷◌, ◌++◌, drop, map, filter, refl, sym, ap, ◌∙◌, append_assoc, append-nil, None}
+use Rattle.std.specs.List.{flat_map}
+use Rattle.std.proofs.lemmas.Grind.{flat_map-append}
+use Rattle.std.proofs.lemmas.List.{append_cancel_right}
+use Rattle.std.proofs.lemmas.List.Elements.{filter-append}
+use Rattle.osm_model.specs.Data.{VersionData}
+use Rattle.osm_model.specs.VersionSet.{VersionSet}
+use Rattle.osm_model.specs.Pairwise.{Pairwise}
+use Rattle.opl_line.specs.Cut.{begun_with, cut, is_line_end}
+use Rattle.opl_line.specs.Spells.{Spells}
+use Rattle.opl_line.proofs.CutLaws.{cut_split}
+use Rattle.o5_codec.specs.declared.segment.Segment.{Segment}
+use Rattle.o5_codec.specs.Decoder.{new_segment}
+use Rattle.osm_files.specs.Opl.{is_read, OplFile}
+use Rattle.osm_files.specs.O5.{o5m_header, o5c_header, end_byte, reset_byte, Part, Reset, Lone, Skipped, Object, part_bytes, PartsSpell, O5File}
+use Rattle.osm_files.specs.Units.{InOpl, BeforeHeader, start_of}
+use Rattle.osm_files.specs.Held.{IsFile, Holds}
+use Rattle.osm_merge.specs.ToCome.{VersionsToCome}
+use Rattle.osm_merge.specs.Union as merged
+use Rattle.osm_mirror.specs.Merge.{union_of}
+use Rattle.osm_files.specs.Spell.{spell}
+use Rattle.osm_files.proofs.SpellLaws.{held_is_one_set}
+use Rattle.osm_merge.specs.Selected.{selected}
+use Rattle.osm_mirror.specs.Stretches.{CutBehindLine, CutAtReset, IsCutInto, StretchesHoldTheFile, StretchesWriteTheFile}
+use Rattle.osm_mirror.proofs.MergeLaws.{set_given, union_given_is}
+
+-- ---- lines
+module _ {X Y : Type 0} (R : X → Y → Type 0) where
+  pairwise_append : (xs more : List X) (ys others : List Y) → Pairwise R xs ys → Pairwise R more others → Pairwise R (xs ++ more) (ys ++ others)
+  pairwise_append [] more [] others h g = g
+  pairwise_append [] more (y ∷ ys) others h g = absurd h
+  pairwise_append (x ∷ xs) more [] others h g = absurd h
+  pairwise_append (x ∷ xs) more (y ∷ ys) others h g = (h.0, pairwise_append xs more ys others h.1 g)
+
+module _ (p : ℕ → Bool) (last : ℕ) (ends : p last ≡ true) (rest : List ℕ) where
+  cut_behind : (front : List ℕ) → cut p (front ++ last ∷ rest) ≡ cut p front ++ cut p rest
+  cut_behind [] = rw ends refl
+  cut_behind (b ∷ front) =
+      let all : List (List ℕ) = cut p (front ++ last ∷ rest) in
+      elim (p b) as (λ t. cond t ([] ∷ all) (begun_with b all) ≡ cond t ([] ∷ cut p front) (begun_with b (cut p front)) ++ cut p rest) [
+        | true ↦ ap (λ pieces. [] ∷ pieces) (cut_behind front)
+        | false ↦ ap (begun_with b) (cut_behind front) ∙ rw (cut_split p front) refl
+      ]
+
+-- the lines that are read
+abbrev lines_of : List ℕ → List (List ℕ)
+lines_of bytes = filter is_read (cut is_line_end bytes)
+
+module _ (last : ℕ) (ends : is_line_end last ≡ true) (front : List ℕ) where
+  lines_behind : (rest : List ℕ) → lines_of (front ++ last ∷ rest) ≡ lines_of front ++ lines_of rest
+  lines_behind rest = ap (filter is_read) (cut_behind is_line_end last ends rest front) ∙ filter-append is_read (cut is_line_end front) (cut is_line_end rest)
+
+  opl_joined : (rest : List ℕ) (earlier later : List VersionData) → OplFile (front ++ last ∷ []) earlier → OplFile rest later
+      → OplFile (front ++ last ∷ rest) (earlier ++ later)
+  opl_joined rest earlier later one other =
+      let first : lines_of (front ++ last ∷ []) ≡ lines_of front = lines_behind [] ∙ append-nil (lines_of front) in
+      rw (lines_behind rest) (pairwise_append Spells (lines_of front) (lines_of rest) earlier later (rw first at one) other)
+
+-- ---- data sets
+module _ (more : List Part) (later : List VersionData) (spelled : PartsSpell new_segment more later) where
+  parts_joined : (s : Segment) (parts : List Part) (earlier : List VersionData) → PartsSpell s parts earlier
+      → PartsSpell s (parts ++ Reset ∷ more) (earlier ++ later)
+  parts_joined s [] earlier h = rw h spelled
+  parts_joined s (Reset ∷ parts) earlier h = parts_joined new_segment parts earlier h
+  parts_joined s (Lone b ∷ parts) earlier h = (h.0, parts_joined s parts earlier h.1)
+  parts_joined s (Skipped b size content ∷ parts) earlier h = (h.0, h.1, parts_joined s parts earlier h.2)
+  parts_joined s (Object k size content ∷ parts) earlier (sized, (v, next, others, is, spells, h)) =
+      (sized, (v, next, others ++ later, ap (λ vs. vs ++ later) is, spells, parts_joined next parts others h))
+
+abbrev Header : List ℕ → Type 0
+Header header = (header ≡ o5m_header) ⊎ (header ≡ o5c_header)
+
+module _ (header rest : List ℕ) (is : Header header) where
+  drop_header : drop 7 (header ++ rest) ≡ rest
+  drop_header = ⊎_elim (λ e. ap (λ h. drop 7 (h ++ rest)) e) (λ e. ap (λ h. drop 7 (h ++ rest)) e) is
+
+  header_starts : start_of (header ++ rest) ≡ BeforeHeader
+  header_starts = ⊎_elim (λ e. ap (λ h. start_of (h ++ rest)) e) (λ e. ap (λ h. start_of (h ++ rest)) e) is
+
+abbrev bytes_of : List Part → List ℕ
+bytes_of parts = flat_map part_bytes parts
+
+before_end : (front : List ℕ) (versions : List VersionData) (file : O5File (front ++ end_byte ∷ []) versions) → front ≡ file.header ++ bytes_of file.parts
+before_end front versions file =
+    append_cancel_right front (file.header ++ bytes_of file.parts) (end_byte ∷ [])
+    (file.whole ∙ sym (append_assoc file.header (bytes_of file.parts) (end_byte ∷ [])))
+
+behind_header : (header behind : List ℕ) (versions : List VersionData) → Header header → (file : O5File (header ++ behind) versions)
+    → behind ≡ bytes_of file.parts ++ end_byte ∷ []
+behind_header header behind versions is file =
+    sym (drop_header header behind is) ∙ ap (drop 7) file.whole ∙ drop_header file.header (bytes_of file.parts ++ end_byte ∷ []) file.begins
+
+o5_joined : (front header behind : List ℕ) (earlier later : List VersionData) → Header header
+    → O5File (front ++ end_byte ∷ []) earlier → O5File (header ++ behind) later → O5File (front ++ reset_byte ∷ behind) (earlier ++ later)
+o5_joined front header behind earlier later is one other =
+    let before = before_end front earlier one in
+    let after = behind_header header behind later is other in
+    record {
+      header = one.header;
+      parts = one.parts ++ Reset ∷ other.parts;
+      begins = one.begins;
+      whole =
+          (λ i. before i ++ reset_byte ∷ after i)
+          ∙ append_assoc one.header (bytes_of one.parts) (reset_byte ∷ (bytes_of other.parts ++ end_byte ∷ []))
+          ∙ ap (λ x. one.header ++ x) (sym (append_assoc (bytes_of one.parts) (reset_byte ∷ bytes_of other.parts) (end_byte ∷ [])))
+          ∙ ap (λ x. one.header ++ (x ++ end_byte ∷ [])) (sym (flat_map-append part_bytes one.parts (Reset ∷ other.parts)));
+      spelled = parts_joined other.parts later other.spelled new_segment one.parts earlier one.spelled;
+    }
+
+-- ---- files
+-- the first byte tells the grammar, whatever stands behind it
+starts_as : (front rest : List ℕ) (last : ℕ) → start_of (front ++ last ∷ rest) ≡ start_of (front ++ last ∷ [])
+starts_as [] rest last = refl
+starts_as (b ∷ front) rest last = refl
+
+starts_with_reset : (front rest : List ℕ) → start_of (front ++ end_byte ∷ []) ≡ BeforeHeader → start_of (front ++ reset_byte ∷ rest) ≡ BeforeHeader
+starts_with_reset [] rest at = refl
+starts_with_reset (b ∷ front) rest at = at
+
+module _ (file rest bytes : List ℕ) (earlier later : List VersionData) (one : IsFile file earlier) (other : IsFile rest later) where
+  behind_line : CutBehindLine file rest bytes → IsFile bytes (earlier ++ later)
+  behind_line c =
+      let is : bytes ≡ c.front ++ c.last ∷ rest = c.whole ∙ ap (λ f. f ++ rest) c.is_file ∙ append_assoc c.front (c.last ∷ []) rest in
+      let starts : start_of (c.front ++ c.last ∷ rest) ≡ InOpl = starts_as c.front rest c.last ∙ ap start_of (sym c.is_file) ∙ c.lines in
+      let lines : OplFile file earlier = rw c.lines at one in
+      rw (is, starts) (opl_joined c.last c.ends c.front rest earlier later (rw c.is_file at lines) (rw c.more_lines at other))
+
+  at_reset : CutAtReset file rest bytes → IsFile bytes (earlier ++ later)
+  at_reset c =
+      let starts : start_of (c.front ++ reset_byte ∷ c.behind) ≡ BeforeHeader =
+      starts_with_reset c.front c.behind (ap start_of (sym c.is_file) ∙ c.data_sets) in
+      let sets : O5File file earlier = rw c.data_sets at one in
+      let more : O5File (c.header ++ c.behind) later = rw (header_starts c.header c.behind c.is_header) at (rw c.is_rest at other) in
+      rw (c.whole, starts) (o5_joined c.front c.header c.behind earlier later c.is_header (rw c.is_file at sets) more)
+
+-- ---- the law
+-- files that are one behind the other spell this together, and hold these sets
+record Spelled (bytes : List ℕ) (held : List VersionSet) : Type 0 where
+  given : List VersionsToCome
+  file : IsFile bytes (merged.versions_of given)
+  sets : held ≡ map set_given given
+
+spelled : (bytes : List ℕ) (files : List (List ℕ)) (held : List VersionSet) → IsCutInto bytes files → Pairwise Holds files held → Spelled bytes held
+spelled bytes [] held cut holds = absurd cut
+spelled bytes (file ∷ files) [] cut holds = absurd holds
+spelled bytes (file ∷ []) (s ∷ t ∷ held) cut holds = absurd holds.1
+spelled bytes (file ∷ []) (s ∷ []) cut (h, holds) = record {
+  given = record { list = h.versions; refusal = None } ∷ [];
+  file = rw (cut, append-nil) h.file;
+  sets = ap (λ set. set ∷ []) h.members;
+}
+spelled bytes (file ∷ next ∷ files) (s ∷ held) (rest, cut, more_cut) (h, holds) =
+    let more = spelled rest (next ∷ files) held more_cut holds in
+    let later : List VersionData = merged.versions_of more.given in
+    record {
+      given = record { list = h.versions; refusal = None } ∷ more.given;
+      file = ⊎_elim (behind_line file rest bytes h.versions later h.file more.file) (at_reset file rest bytes h.versions later h.file more.file) cut;
+      sets = λ i. h.members i ∷ more.sets i;
+    }
+
+pub stretches_hold_the_file : StretchesHoldTheFile
+unfolding merged.union_given
+stretches_hold_the_file bytes files held short cut holds =
+    let all = spelled bytes files held cut holds in
+    record {
+      short = short;
+      versions = merged.versions_of all.given;
+      file = all.file;
+      members = ap union_of all.sets ∙ sym (union_given_is all.given);
+    }
+
+pub stretches_write_the_file : StretchesWriteTheFile
+stretches_write_the_file bytes set files held h cut holds selection format =
+    ap (λ s. spell format (selected selection s)) (held_is_one_set bytes set (union_of held) h (stretches_hold_the_file bytes files held h.short cut holds))
