@@ -14,7 +14,7 @@ const PROGRAM: &str = "Without a command, standard input is merged to standard o
 const MERGE: &str = "Memory: each file is read one version at a time.\n\n\
     Example: osm_hist merge --output all.opl monday.opl tuesday.o5m";
 
-/// What the help of a command that takes files in any order says of memory, with an example.
+/// What the help of a command that makes a file of files in any order says of memory, with an example.
 macro_rules! any_order_help {
     ($example:literal) => {
         concat!(
@@ -24,6 +24,11 @@ macro_rules! any_order_help {
         )
     };
 }
+
+/// What the help of `check` says of memory, with an example.
+const CHECK: &str =
+    "Memory: a sorted file is read one version at a time. A file that isn't sorted is held in memory, and so is a pipe, which \
+    can't be read twice.\n\nExample: osm_hist check download.o5m";
 
 /// What the help of `plan` says of the lines of a plan.
 const PLAN: &str =
@@ -123,7 +128,7 @@ fn check_command<'a>(alloc: Global) -> Result<Command<'a>, AllocError> {
         .help("The file to be checked, in OPL, o5m or o5c; - is standard input");
     Command::new(alloc, "check")
         .about("Prints a file's format, its versions and objects, and whether it is sorted")
-        .after_help(any_order_help!("check download.o5m"))
+        .after_help(CHECK)
         .arg(file)
 }
 
