@@ -16,12 +16,12 @@ use Rattle.osm_files.specs.Opl.{is_read, OplFile}
 use Rattle.osm_files.specs.O5.{o5m_header, o5c_header, end_byte, reset_byte, Part, Reset, Lone, Skipped, Object, part_bytes, PartsSpell, O5File}
 use Rattle.osm_files.specs.Units.{InOpl, BeforeHeader, start_of}
 use Rattle.osm_files.specs.Held.{IsFile, Holds}
-use Rattle.osm_merge.specs.ToCome.{VersionsToCome}
-use Rattle.osm_merge.specs.Union as merged
-use Rattle.osm_mirror.specs.Merge.{union_of}
 use Rattle.osm_files.specs.Spell.{spell}
 use Rattle.osm_files.proofs.SpellLaws.{held_is_one_set}
 use Rattle.osm_merge.specs.Selected.{selected}
+use Rattle.osm_merge.specs.ToCome.{VersionsToCome}
+use Rattle.osm_merge.specs.Union as merged
+use Rattle.osm_mirror.specs.Merge.{union_of}
 use Rattle.osm_mirror.specs.Stretches.{CutBehindLine, CutAtReset, IsCutInto, StretchesHoldTheFile, StretchesWriteTheFile}
 use Rattle.osm_mirror.proofs.MergeLaws.{set_given, union_given_is}
 

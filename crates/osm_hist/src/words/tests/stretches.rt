@@ -6,7 +6,7 @@ use std::rt::Files;
 use std::test::Fail;
 use std::time::Clock;
 
-/// The lines of three nodes, of which the last stands twice, in three stretches.
+/// The lines of three nodes, of which two stand twice, in three stretches.
 const STRETCHES: &str = "n2 v1 x1 y1\nn3 v1 x1 y1\nn1 v1 x1 y1\nn3 v1 x1 y1\nn2 v1 x1 y1\n";
 
 /// The lines of the three nodes, sorted.
