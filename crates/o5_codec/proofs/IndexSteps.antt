@@ -182,7 +182,7 @@ pub some_room : 0 < limit
 unfolding limit
 some_room = omega arith
 
-pub limit_is_small : limit ≤ 2 ^ 64
+pub limit_is_small : limit ≤ 2 ^ 16
 unfolding limit
 limit_is_small = omega arith
 

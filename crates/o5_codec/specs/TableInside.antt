@@ -7,4 +7,4 @@ use Rattle.o5_codec.specs.Formed.{same_entry}
 use Rattle.o5_codec.specs.Indexed.{IsIndexed}
 
 abbrev pub IsTable : Inside → Type 0
-IsTable t = IsIndexed (2 ^ 64) limit t.next t.entries.items (λ e. hash.get_by (same_entry e) t.numbers)
+IsTable t = IsIndexed (2 ^ 16) limit t.next t.entries.items (λ e. hash.get_by (same_entry e) t.numbers)

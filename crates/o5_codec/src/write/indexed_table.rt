@@ -17,13 +17,16 @@ use std::marker::Model;
 
 /// The entries that references can name, the one stored last first, each with the number of its storing. Contracts see the
 /// list of the entries. Room is taken as they come.
+///
+/// Numbers count modulo 2^16, which tells the entries apart, as there are fewer; so what is remembered of them is small.
 #[derive(Drop)]
 pub(crate) struct IndexedTable {
     entries: VecDeque<Entry>,
-    numbers: HashMap<Entry, u64>,
-    next: u64,
-    /// For each slot, the number of the storing of the entry that was written last of those of the slot. It may be gone: what stands there is compared.
-    remembered: Vec<u64>,
+    numbers: HashMap<Entry, u16>,
+    next: u16,
+    /// For each slot, the number of the storing of the entry that was written last of those of the slot. It may be gone, and its
+    /// number another one's: what stands there is compared.
+    remembered: Vec<u16>,
     alloc: Global,
 }
 
@@ -81,7 +84,7 @@ impl IndexedTable {
         match self.reference_to(entry) {
             Some(reference) => {
                 self.remember(slot, self.next.wrapping_sub(reference));
-                out.append_number(reference)
+                out.append_number(u64::from(reference))
             }
             None => {
                 self.remember(slot, self.next);
@@ -136,16 +139,13 @@ impl IndexedTable {
         ensures { IfSome result (λ x. reference_to x.0.now self.now ≡ Some x.1) }
     {
         let number = *self.remembered.get(slot.place())?;
-        if number >= self.next {
-            return None;
-        }
-        let before = self.next - number - 1;
-        let entry = self.entries.get(before as usize)?;
-        Some((entry, before + 1))
+        let before = usize::from(self.next.wrapping_sub(number).wrapping_sub(1));
+        let entry = self.entries.get(before)?;
+        Some((entry, before as u64 + 1))
     }
 
     /// Remembers the number of a storing for a slot.
-    fn remember(&mut self, slot: Slot, number: u64)
+    fn remember(&mut self, slot: Slot, number: u16)
         ensures { self.new ≡ self.old }
     {
         if let Some(place) = self.remembered.get_mut(slot.place()) {
@@ -154,14 +154,14 @@ impl IndexedTable {
     }
 
     /// The reference that names the entry, where it stands in the table: 1 is the entry stored last.
-    fn reference_to(&self, entry: &Entry) -> Option<u64>
+    fn reference_to(&self, entry: &Entry) -> Option<u16>
         ensures { result ≡ reference_to entry.now self.now }
     {
         let number = *self.numbers.get(entry)?;
         if number < self.next {
             return Some(self.next - number);
         }
-        Some(self.next + (u64::MAX - number) + 1)
+        Some(self.next + (u16::MAX - number) + 1)
     }
 
     /// Stores an entry that doesn't stand in the table, unless it is too long.
@@ -207,9 +207,9 @@ impl IndexedTable {
     }
 }
 
-/// The number of the storing after this one, modulo 2^64.
-fn number_after(number: u64) -> u64
-    ensures { IsNext (2 ^ 64) number result }
+/// The number of the storing after this one.
+fn number_after(number: u16) -> u16
+    ensures { IsNext (2 ^ 16) number result }
 {
-    if number == u64::MAX { 0 } else { number + 1 }
+    if number == u16::MAX { 0 } else { number + 1 }
 }

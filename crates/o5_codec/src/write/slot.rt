@@ -2,7 +2,7 @@
 use osm_model::Kind;
 
 /// How many slots there are.
-pub(crate) const SLOTS: usize = 16_384;
+pub(crate) const SLOTS: usize = 65_536;
 
 /// One of the slots. Entries that are written again and again mostly have slots of their own.
 #[derive(Clone, Copy, Debug, PartialEq, Eq)]

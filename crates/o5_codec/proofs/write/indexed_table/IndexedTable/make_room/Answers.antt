@@ -7,7 +7,7 @@ use Rattle.o5_codec.proofs.write.indexed_table.IndexedTable.make_room.Goals as g
 pub invariant_of-self-2 : goal.invariant_of-self-2
 invariant_of-self-2 c =
     let changed = changed_by c.in-Some.oldest None c.self.inside.numbers c.remove.new.self c.remove.ensures.updates in
-    evicted (2 ^ 64) limit c.self.inside.next _ c.in-Some.oldest _ _ (rw c.in-Some.ensures.items at c.self.invariant) changed
+    evicted (2 ^ 16) limit c.self.inside.next _ c.in-Some.oldest _ _ (rw c.in-Some.ensures.items at c.self.invariant) changed
 
 pub returns-then-len-lt-LIMIT : goal.returns-then-len-lt-LIMIT
 unfolding limit
