@@ -5,14 +5,14 @@ use Rattle.std.proofs.lemmas.List.{append-nil}
 use Rattle.std.specs.declared.cmp.Ordering.{Ordering}
 use Rattle.std.specs.declared.cmp.Ordering.TheVariants.{Less, Equal, Greater}
 use Rattle.std.specs.Cmp.{tied_itself}
-use Rattle.std.specs.Ordering.{eq_by_cmp, is_eq, is_lt, ordering_reverse, ordering_then}
+use Rattle.std.specs.Ordering.{eq_by_cmp, is_eq, is_lt, ordering_reverse}
 use Rattle.std.specs.List.{AllByRecursion}
 use Rattle.std.specs.List.Sorted.{IsStrictlySortedBy}
 use Rattle.osm_model.specs.Data.{VersionData}
 use Rattle.osm_model.specs.Order.{key_cmp, key_cmp_total, version_cmp, version_cmp_total}
 use Rattle.osm_model.specs.Sets.{from_list}
 use Rattle.osm_model.proofs.SetLaws.{strict-listed, listed-from_list}
-use Rattle.osm_model.proofs.VersionLaws.{version_cmp-IsAntisymmetric}
+use Rattle.osm_model.proofs.VersionLaws.{version_cmp-IsAntisymmetric, less_by_key}
 use Rattle.osm_files.specs.declared.fault.Fault.{Fault}
 use Rattle.osm_files.specs.Fault.{memory_fault, failed_fault}
 use Rattle.osm_files.specs.Groups.{ascending, last_group, groups, sorted_source, gathered, IsGroup, Gathers, StillSet, as_set, still_given, FileStand, FileCanGive, FileSteps, FileAscends, gathered_at, given_at, IsKnown, known_or_whole, one_given}
@@ -24,12 +24,6 @@ use Rattle.osm_files.proofs.FillLaws.{weaker}
 use Rattle.osm_files.proofs.GroupLaws.{has, has_ascending, ascending_is, ascending_nil}
 
 -- ---- keys
-less_first : (o p : Ordering) → o ≡ Less → ordering_then o p ≡ Less
-less_first o p e = ap (λ r. ordering_then r p) e
-
-pub less_by_key : (v w : VersionData) → key_cmp v w ≡ Less → version_cmp v w ≡ Less
-less_by_key v w e = less_first _ _ (less_first _ _ (less_first _ _ e))
-
 -- the same key on the right
 less_on : (v first w : VersionData) → key_cmp v first ≡ Less → key_cmp first w ≡ Equal → key_cmp v w ≡ Less
 less_on v first w less same =

@@ -9,7 +9,6 @@ pub mod laws;
 mod merge;
 mod newest;
 mod progress;
-mod ranked;
 mod selection;
 mod taking;
 mod tree;

@@ -12,13 +12,12 @@ ghost use Rattle.osm_merge.specs.Put.{TakesEach, PutsMore, EndsFile, CountsMore}
 ghost use Rattle.osm_merge.specs.Merged.{MergesSources, IsMergedAs, RefusesSources, IsRefusedAs, Grows};
 
 use crate::compare::compare;
-use crate::heads::first_versions;
+use crate::heads::{Head, first_versions};
 use crate::progress::{Progress, Silent};
-use crate::ranked::{Head, Ranked, without_rank};
 use crate::selection::{Selection, keeps, passes, puts_at_once, stays};
 use crate::tree::{build, replay};
 use osm_files::{Fault, Output, Sink, Source};
-use osm_model::Version;
+use osm_model::{Ranked, Version};
 use std::alloc::Global;
 
 /// What a merge did. A count that would pass 2^64 - 1 stays there.
@@ -193,7 +192,7 @@ fn meet<W: Output>(
         return Ok(());
     }
     put_decided(selection, last, version.version(), counts, sink, out)?;
-    *spare = without_rank(last.replace(version));
+    *spare = last.replace(version).map(Ranked::into_version);
     Ok(())
 }
 

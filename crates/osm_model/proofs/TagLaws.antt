@@ -1,15 +1,17 @@
 -- Tags that tie are equal, and the texts of tags.
-use Rattle.std.proofs.Common.{arith, ◌≡◌, ℕ, ◌<◌, length, Bool, true, false, not, ◌||◌, ◌&&◌, List, [], ◌∷◌, refl, sym, ap, ◌∙◌, subst}
+use Rattle.std.proofs.Common.{arith, ◌≡◌, ◌↔◌, ℕ, zero, suc, ◌+◌, ◌<◌, length, slice_index_or, Bool, true, false, not, ◌||◌, ◌&&◌, List, [], ◌∷◌, refl, sym, ap, ◌∙◌, subst}
 use Rattle.std.specs.declared.cmp.Ordering.{Ordering}
 use Rattle.std.specs.declared.cmp.Ordering.TheVariants.{Less, Equal, Greater}
-use Rattle.std.specs.Bool.{OnTrue}
+use Rattle.std.specs.Bool.{IsTrue}
+use Rattle.std.proofs.lemmas.Bool.{false≢true}
 use Rattle.std.specs.Ordering.{ordering_then, is_lt}
 use Rattle.std.specs.List.{list_any, list_all, IsAllAdjacentAnswer}
 use Rattle.std.specs.List.Sorted.{IsStrictlySortedBy}
 use Rattle.std.specs.FinMap.{IsAntisymmetric}
 use Rattle.osm_model.specs.declared.tags.Tag.{Tag}
 use Rattle.osm_model.specs.Tags.{tag_cmp, tag_cmp_total, normal, texts_of_tags}
-use Rattle.osm_model.proofs.SetLaws.{list_any-listed, listed-from_list, strict_from_neighbours}
+use Rattle.osm_model.specs.Sets.{from_list}
+use Rattle.osm_model.proofs.SetLaws.{list_any-listed, listed-from_list, strict-listed, strict_from_neighbours}
 use Rattle.osm_model.proofs.TextLaws.{text_cmp-IsAntisymmetric}
 
 pub first_equal : (a b : Ordering) → ordering_then a b ≡ Equal → a ≡ Equal
@@ -53,16 +55,27 @@ list_all-normal p ts =
     ∙ ap not (list_any-listed tag_cmp_total tag_cmp-IsAntisymmetric (λ t. not (p t.key && p t.value)) ts)
     ∙ sym (list_all-texts_of_tags p ts ∙ list_all-none _ ts)
 
--- what a test of each two neighbours tells
-ascending_from_test : (b : Bool) (xs ts : List Tag) → xs ≡ ts → IsAllAdjacentAnswer (λ x y a. a ≡ is_lt (tag_cmp x y)) xs b → OnTrue b (IsStrictlySortedBy tag_cmp ts)
-ascending_from_test true xs ts e h = subst (IsStrictlySortedBy tag_cmp) e (strict_from_neighbours tag_cmp_total xs h)
-ascending_from_test false xs ts e h = tt
+-- of a list that ascends, each tag stands below the next one
+below_next : (ts : List Tag) → IsStrictlySortedBy tag_cmp ts → (k : ℕ) (d : Tag) → k + 1 < length ts → is_lt (tag_cmp (slice_index_or ts k d) (slice_index_or ts (k + 1) d)) ≡ true
+unfolding IsStrictlySortedBy
+below_next [] up k d low = absurd (omega arith)
+below_next (t ∷ []) up k d low = absurd (omega arith)
+below_next (t ∷ u ∷ ts) up zero d low = ap is_lt up.0.0
+below_next (t ∷ u ∷ ts) up (suc k) d low = let next : suc k + 1 ≡ suc (k + 1) = omega arith in rw next (below_next (u ∷ ts) up.1 k d (omega arith))
 
--- tags that ascend are those of their set
-pub normal_from_test : (b : Bool) (xs ts : List Tag) → xs ≡ ts → IsAllAdjacentAnswer (λ x y a. a ≡ is_lt (tag_cmp x y)) xs b → OnTrue b (normal ts ≡ ts)
-normal_from_test true xs ts e h = listed-from_list tag_cmp_total tag_cmp-IsAntisymmetric ts (ascending_from_test true xs ts e h)
-normal_from_test false xs ts e h = tt
+-- two neighbours that don't ascend
+descends : (ts : List Tag) → IsStrictlySortedBy tag_cmp ts → (k : ℕ) → k + 1 < length ts → ((d : Tag) → false ≡ is_lt (tag_cmp (slice_index_or ts k d) (slice_index_or ts (k + 1) d))) → ⊥
+descends [] up k low h = absurd (omega arith)
+descends (t ∷ ts) up k low h = false≢true (h t ∙ below_next (t ∷ ts) up k t low)
+
+-- what a test of each two neighbours tells: tags that ascend, and they alone, are those of their set
+pub normal_test : (b : Bool) (xs ts : List Tag) → xs ≡ ts → IsAllAdjacentAnswer (λ x y a. a ≡ is_lt (tag_cmp x y)) xs b → IsTrue b ↔ (normal ts ≡ ts)
+normal_test true xs ts e h = (λ _. listed-from_list tag_cmp_total tag_cmp-IsAntisymmetric ts (subst (IsStrictlySortedBy tag_cmp) e (strict_from_neighbours tag_cmp_total xs h)), λ _. refl)
+normal_test false xs ts e h = (
+  λ holds. absurd (false≢true holds),
+  λ same. absurd (descends xs (subst (IsStrictlySortedBy tag_cmp) (same ∙ sym e) (strict-listed (from_list {R = tag_cmp} ts))) h.0 h.1 h.2),
+)
 
 -- one tag ascends, and so does none
 pub few_normal : (ts : List Tag) → length ts < 2 → normal ts ≡ ts
-few_normal ts few = normal_from_test true ts ts refl (λ k d below. absurd (omega (arith, few, below)))
+few_normal ts few = (normal_test true ts ts refl (λ k d below. absurd (omega (arith, few, below)))).0 refl

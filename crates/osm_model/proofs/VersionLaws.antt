@@ -9,7 +9,7 @@ use Rattle.std.specs.Ordering.{ordering_then, eq_by_cmp, is_eq}
 use Rattle.std.specs.FinMap.{IsAntisymmetric, slice_cmp-IsAntisymmetric, nat_cmp-IsAntisymmetric}
 use Rattle.std.specs.List.Sorted.{IsStrictlySortedBy}
 use Rattle.osm_model.specs.Data.{VersionData}
-use Rattle.osm_model.specs.Order.{version_cmp, version_cmp_total}
+use Rattle.osm_model.specs.Order.{key_cmp, version_cmp, version_cmp_total}
 use Rattle.osm_model.specs.Sets.{listed, from_list, union}
 use Rattle.osm_model.specs.Merged.{merged}
 use Rattle.osm_model.proofs.LineLaws.{line_injective}
@@ -42,3 +42,11 @@ listed-view vs h = listed-from_list version_cmp_total version_cmp-IsAntisymmetri
 pub union-view : (vs ws : List VersionData) → IsStrictlySortedBy version_cmp vs → IsStrictlySortedBy version_cmp ws → union (from_list {R = version_cmp} vs) (from_list ws) ≡ from_list (merged version_cmp vs ws)
 union-view vs ws h k =
     rw (listed-view vs h, listed-view ws k, ← from_list-merged version_cmp_total version_cmp-IsAntisymmetric vs ws)
+
+-- ---- keys
+less_first : (o p : Ordering) → o ≡ Less → ordering_then o p ≡ Less
+less_first o p e = ap (λ r. ordering_then r p) e
+
+-- the keys decide, where they differ
+pub less_by_key : (v w : VersionData) → key_cmp v w ≡ Less → version_cmp v w ≡ Less
+less_by_key v w e = less_first _ _ (less_first _ _ (less_first _ _ e))

@@ -21,6 +21,7 @@ pub mod Joined
 pub mod Pairwise
 pub mod Line
 pub mod Order
+pub mod Rank
 pub mod Merged
 pub mod VersionSet
 pub mod Laws

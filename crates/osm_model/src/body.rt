@@ -1,6 +1,5 @@
 //! The bodies of versions.
-ghost use Rattle.std.specs.Prelude.{◌≡◌, IfOk};
-ghost use Rattle.std.specs.Bool.{OnTrue};
+ghost use Rattle.std.specs.Prelude.{◌≡◌, ◌↔◌, IfOk, IsTrue};
 ghost use Rattle.std.specs.List.{list_all};
 ghost use Rattle.osm_model.specs.Id.{is_id};
 ghost use Rattle.osm_model.specs.Text.{is_text};
@@ -91,7 +90,7 @@ impl Body {
     /// Whether the tags ascend by the bytes of key and value, each once.
     #[inline(always)]
     pub fn is_normal(&self) -> bool
-        ensures { OnTrue result (normal_body self.now ≡ self.now) }
+        ensures { IsTrue result ↔ (normal_body self.now ≡ self.now) }
     {
         match self {
             Body::Deleted(_) => true,

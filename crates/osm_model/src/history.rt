@@ -5,6 +5,7 @@ ghost use Rattle.osm_model.specs.Order.{version_cmp};
 ghost use Rattle.osm_model.specs.Sets as set;
 ghost use Rattle.osm_model.specs.Merged.{merged};
 
+use crate::ranked::{with_ranks, without_ranks};
 use crate::{Memory, Version};
 use std::alloc::Global;
 use std::cmp::Ordering;
@@ -47,11 +48,13 @@ impl History {
     /// # Errors
     ///
     /// For want of memory alone.
-    pub fn from_versions(mut versions: Vec<Version>) -> Result<History, Memory>
+    pub fn from_versions(versions: Vec<Version>) -> Result<History, Memory>
         ensures { IfOk result (λ h. h ≡ set.from_list versions.items) }
     {
-        versions.sort()?;
-        versions.dedup();
+        let mut ranked = with_ranks(versions)?;
+        ranked.sort()?;
+        ranked.dedup();
+        let versions = without_ranks(ranked)?;
         Ok(History { versions })
     }
 

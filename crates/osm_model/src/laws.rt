@@ -1,5 +1,5 @@
 //! Laws over the definitions, each the contract of a function with an empty body. Nothing is run to use them.
-ghost use Rattle.osm_model.specs.Laws.{LineTellsAllData, OrderIsTotal};
+ghost use Rattle.osm_model.specs.Laws.{LineTellsAllData, LowerRankIsLess, OrderIsTotal};
 ghost use Rattle.osm_model.specs.KindLaw.{KindsDontFall};
 ghost use Rattle.osm_model.specs.TimeLaw.{TimeLaw};
 
@@ -11,6 +11,11 @@ pub fn line_tells_all_data()
 /// The order of versions is total, and equal on equal versions alone.
 pub fn order_is_total()
     ensures { OrderIsTotal }
+{}
+
+/// A version of a lower rank is less.
+pub fn lower_rank_is_less()
+    ensures { LowerRankIsLess }
 {}
 
 /// The text of a time spells its date and time of day.

@@ -1,8 +1,7 @@
 //! Tags.
-ghost use Rattle.std.specs.Prelude.{◌≡◌, Some, refl, IfOk};
+ghost use Rattle.std.specs.Prelude.{◌≡◌, ◌↔◌, Some, refl, IfOk, IsTrue};
 ghost use Rattle.std.specs.Ordering.{eq_by_cmp, as_partial_cmp};
 ghost use Rattle.std.specs.Cmp.{eq_by_cmp_equiv, partial_equiv_from_equiv, partial_order_from_agreeing_total};
-ghost use Rattle.std.specs.Bool.{OnTrue};
 ghost use Rattle.std.specs.List.{list_all};
 ghost use Rattle.osm_model.specs.Text.{is_text};
 ghost use Rattle.osm_model.specs.Tags.{tag_cmp, tag_cmp_total, normal, texts_of_tags};
@@ -141,7 +140,7 @@ impl Tags {
     #[tactic(auto, using(crate::proofs::TagLaws::few_normal))]
     #[inline(always)]
     pub(crate) fn are_normal(&self) -> bool
-        ensures { OnTrue result (normal self.now ≡ self.now) }
+        ensures { IsTrue result ↔ (normal self.now ≡ self.now) }
     {
         self.tags.len() < 2 || are_ascending(&self.tags)
     }
@@ -170,7 +169,7 @@ impl Tags {
 /// Whether each tag stands below the next one.
 #[inline(never)]
 fn are_ascending(tags: &[Tag]) -> bool
-    ensures { OnTrue result (normal tags.now ≡ tags.now) }
+    ensures { IsTrue result ↔ (normal tags.now ≡ tags.now) }
 {
     tags.is_sorted_by(|left, right| left.cmp(right).is_lt())
 }

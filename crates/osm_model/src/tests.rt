@@ -1,8 +1,8 @@
 //! Each public call once, with values worked out by hand.
 use crate::version::first_fault;
 use crate::{
-    Body, History, Kind, Member, Members, Memory, Meta, Parts, References, Spare, Tag, Tags, Text,
-    ValueFault, Version, behind_escaped, is_id,
+    Body, History, Kind, Member, Members, Memory, Meta, Parts, Ranked, References, Spare, Tag,
+    Tags, Text, ValueFault, Version, behind_escaped, is_id,
 };
 use std::alloc::{AllocError, Global};
 use std::cmp::Ordering;
@@ -507,6 +507,42 @@ fn versions_are_ordered(rt: HostRuntime) -> Result<(), Fail> {
     for (i, left) in versions.iter().enumerate() {
         for (j, right) in versions.iter().enumerate() {
             assert!(rt; compare(left, right, i.cmp(&j)));
+        }
+    }
+    Ok(())
+}
+
+#[test]
+fn versions_have_ranks(rt: HostRuntime) -> Result<(), Fail> {
+    let alloc = rt.alloc();
+    // the class, the size of the id, and the number
+    let near = node(alloc, 3, 2, 0, 0)?;
+    assert_eq!(rt; near.rank(), (((1 << 45) + 3) << 16) + 2);
+    assert_eq!(rt; node(alloc, -3, 2, 0, 0)?.rank(), (3 << 16) + 2);
+    // of an id that is too far, a rank tells the class alone
+    let far = node(alloc, 1 << 45, 2, 0, 0)?;
+    assert_eq!(rt; far.rank(), ((1 << 46) - 1) << 16);
+    let ranked = Ranked::of_rank(near.rank(), near);
+    assert_eq!(rt;
+        (ranked.rank(), ranked.version().number()),
+        ((((1 << 45) + 3) << 16) + 2, 2)
+    );
+    assert_eq!(rt; ranked.into_version().id(), 3);
+    Ok(())
+}
+
+#[test]
+fn versions_with_ranks_are_ordered(rt: HostRuntime) -> Result<(), Fail> {
+    let alloc = rt.alloc();
+    let mut versions = Vec::new(alloc);
+    for version in ascending(alloc)? {
+        versions.push(Ranked::new(version))?;
+    }
+    for (i, left) in versions.iter().enumerate() {
+        for (j, right) in versions.iter().enumerate() {
+            assert_eq!(rt; left.cmp(right), i.cmp(&j));
+            assert_eq!(rt; left == right, i == j);
+            assert_eq!(rt; left.version().cmp_closely(right.version()), i.cmp(&j));
         }
     }
     Ok(())
