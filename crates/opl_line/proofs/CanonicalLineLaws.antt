@@ -80,10 +80,10 @@ whole_line text behind k id deleted meta b head tail some dated normal =
       fault = without_fault id meta b (record {
         ids = (λ i. head.object i && tail.ids i);
         number = some;
-        numbers = (λ i. head.number i && (head.changeset i && (head.uid i && true)));
-        time = head.time;
+        numbers = (λ i. head.number i && (head.upload.changeset i && (head.upload.uid i && true)));
+        time = head.upload.time;
         dated = dated;
-        texts = (λ i. head.user i && tail.texts i);
+        texts = (λ i. head.upload.user i && tail.texts i);
       });
       spelled = head.spelled
           ∙ ap (λ t. head_text k id deleted meta ++ t) tail.spelled

@@ -15,4 +15,6 @@ pub mod Within
 pub mod Canonical
 pub mod LineReason
 pub mod Front
+pub mod Uploaded
+pub mod Upload
 pub mod Straight

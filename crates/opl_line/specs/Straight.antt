@@ -7,10 +7,10 @@ use Rattle.osm_model.specs.declared.body.Body.{Body}
 use Rattle.osm_model.specs.Kind.{kind_letter}
 use Rattle.osm_model.specs.Id.{is_id}
 use Rattle.osm_model.specs.Text.{is_text}
-use Rattle.osm_model.specs.New.{is_number, is_time, first_fault}
+use Rattle.osm_model.specs.New.{is_number, first_fault}
+use Rattle.opl_line.specs.Uploaded.{upload_text, IsUploaded}
 use Rattle.osm_model.specs.Decimal.{number_text, integer_text}
-use Rattle.osm_model.specs.Time.{time_text}
-use Rattle.osm_model.specs.Escape.{escape, is_raw}
+use Rattle.osm_model.specs.Escape.{is_raw}
 use Rattle.osm_model.specs.Joined.{joined}
 use Rattle.osm_model.specs.Data.{kind_of, is_deleted, tags_of, ids_of, texts_of, version_of}
 use Rattle.osm_model.specs.Line.{list_text, tag_text, kind_fields, line}
@@ -29,26 +29,24 @@ deleted_text deleted = if deleted then codes "D" else codes "V"
 abbrev pub head_text : Kind → ℤ → Bool → Meta → List ℕ
 head_text kind id deleted meta =
     kind_letter kind
-    ∷ (integer_text id
-    ++ (codes " v" ++ (number_text meta.version
-    ++ (codes " d" ++ (deleted_text deleted
-    ++ (codes " c" ++ (number_text meta.changeset
-    ++ (codes " t" ++ (time_text meta.time
-    ++ (codes " i" ++ (number_text meta.uid ++ (codes " u" ++ escape meta.user))))))))))))
+    ∷ (integer_text id ++ (codes " v" ++ (number_text meta.version ++ (codes " d" ++ (deleted_text deleted ++ upload_text meta)))))
 
 -- the fields from the tags on
 abbrev pub tail_text : Body → List ℕ
 tail_text b = codes " T" ++ (list_text tag_text (tags_of b) ++ 32 ∷ joined 32 (kind_fields b))
+
+-- what stands from the changeset to the user name is within its ranges
+pub record IsAuthored (text : List ℕ) (version : ℕ) (meta : Meta) (behind : List ℕ) : Type 0 where
+  pub spelled : text ≡ upload_text meta ++ behind
+  pub number : meta.version ≡ version
+  pub range : IsUploaded meta
 
 -- what stands before the tags is within its ranges
 pub record IsHead (text : List ℕ) (kind : Kind) (id : ℤ) (deleted : Bool) (meta : Meta) (behind : List ℕ) : Type 0 where
   pub spelled : text ≡ head_text kind id deleted meta ++ behind
   pub object : is_id id ≡ true
   pub number : is_number meta.version ≡ true
-  pub changeset : is_number meta.changeset ≡ true
-  pub time : is_time meta.time ≡ true
-  pub uid : is_number meta.uid ≡ true
-  pub user : is_text meta.user ≡ true
+  pub upload : IsUploaded meta
 
 -- what stands from the tags on is within its ranges
 pub record IsTail (text : List ℕ) (kind : Kind) (deleted : Bool) (b : Body) : Type 0 where

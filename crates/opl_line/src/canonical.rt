@@ -6,11 +6,12 @@ ghost use Rattle.osm_model.specs.declared.body.Body.TheVariants.{Deleted};
 ghost use Rattle.osm_model.specs.Joined.{joined};
 ghost use Rattle.osm_model.specs.Line.{list_text, empty_fields};
 ghost use Rattle.osm_model.specs.Append.{location_text};
-ghost use Rattle.opl_line.specs.Straight.{IsHead, IsTail, IsCanonical, deleted_text};
+ghost use Rattle.opl_line.specs.Straight.{IsAuthored, IsHead, IsTail, IsCanonical, deleted_text};
 
 use crate::canonical_item::{CanonicalItem, behind_byte, canonical_list, canonical_object};
 use crate::canonical_part::{canonical_coordinate, canonical_number, canonical_time};
 use crate::canonical_texts::canonical_text;
+use crate::upload::Upload;
 use osm_model::{Body, Kind, Members, Meta, References, Spare, Tags};
 use std::alloc::Global;
 
@@ -23,17 +24,19 @@ struct Head {
     meta: Meta,
 }
 
-/// The id and the data of a line in its canonical form, its lists in memory that isn't needed any more, if there is some;
-/// `None` of another line, and where memory is wanting.
+/// The id and the data of a line in its canonical form, its lists in memory that isn't needed any more, if there is some,
+/// and its changeset, time and user copied where they are those of the lines before; `None` of another line, and where
+/// memory is wanting.
 #[inline(always)]
 pub(crate) fn read_canonical(
     alloc: Global,
     spare: &mut Spare,
+    upload: &mut Upload,
     line: &[u8],
 ) -> Option<(i64, Meta, Body)>
     ensures { IfSome result (λ read. IsCanonical line.now read.0 read.1 read.2) }
 {
-    let (head, behind) = read_head(alloc, line)?;
+    let (head, behind) = read_head(alloc, upload, line)?;
     let body = read_tail(alloc, spare, head.kind, head.is_deleted, behind)?;
     if head.meta.version == 0 || !head.meta.is_dated() || !body.is_normal() {
         return None;
@@ -43,13 +46,46 @@ pub(crate) fn read_canonical(
 
 /// What stands before the tags, and what stands behind it.
 #[inline(always)]
-fn read_head(alloc: Global, line: &[u8]) -> Option<(Head, &[u8])>
+fn read_head<'a>(alloc: Global, upload: &mut Upload, line: &'a [u8]) -> Option<(Head, &'a [u8])>
     ensures { IfSome result (λ read. IsHead line.now read.0.kind read.0.id read.0.is_deleted read.0.meta read.1.now) }
 {
     let ((kind, id), behind) = canonical_object(line)?;
     let (version, behind) = canonical_number(behind_mark(behind, b'v')?)?;
     let (is_deleted, behind) = canonical_deleted(behind_mark(behind, b'd')?)?;
-    let (changeset, behind) = canonical_number(behind_mark(behind, b'c')?)?;
+    let (meta, behind) = read_meta(alloc, upload, version, behind)?;
+    let head = Head {
+        kind,
+        id,
+        is_deleted,
+        meta,
+    };
+    Some((head, behind))
+}
+
+/// What is told beside the object and its body of a version of this number, and what stands behind it.
+#[inline(always)]
+fn read_meta<'a>(
+    alloc: Global,
+    upload: &mut Upload,
+    version: u64,
+    text: &'a [u8],
+) -> Option<(Meta, &'a [u8])>
+    ensures { IfSome result (λ read. IsAuthored text.now version read.0 read.1.now) }
+{
+    if let Some(read) = upload.read(version, text) {
+        return Some(read);
+    }
+    let (meta, behind) = read_fields(alloc, version, text)?;
+    upload.note(&meta, text, behind);
+    Some((meta, behind))
+}
+
+/// The same, read field by field.
+#[inline(always)]
+fn read_fields(alloc: Global, version: u64, text: &[u8]) -> Option<(Meta, &[u8])>
+    ensures { IfSome result (λ read. IsAuthored text.now version read.0 read.1.now) }
+{
+    let (changeset, behind) = canonical_number(behind_mark(text, b'c')?)?;
     let (time, behind) = canonical_time(behind_mark(behind, b't')?);
     let (uid, behind) = canonical_number(behind_mark(behind, b'i')?)?;
     let (user, behind) = canonical_text(alloc, behind_mark(behind, b'u')?)?;
@@ -60,13 +96,7 @@ fn read_head(alloc: Global, line: &[u8]) -> Option<(Head, &[u8])>
         uid,
         user,
     };
-    let head = Head {
-        kind,
-        id,
-        is_deleted,
-        meta,
-    };
-    Some((head, behind))
+    Some((meta, behind))
 }
 
 /// Whether an object was deleted, and what stands behind it.

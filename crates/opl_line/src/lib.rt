@@ -18,6 +18,7 @@ mod reason;
 mod scan;
 mod text;
 mod time;
+mod upload;
 mod utf8;
 
 pub use line::{LineReader, append_line, read_line, write_line};

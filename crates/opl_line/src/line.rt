@@ -21,6 +21,7 @@ use crate::field::Fields;
 use crate::front::front_object;
 use crate::item::split_kind;
 use crate::number::read_id;
+use crate::upload::Upload;
 use crate::utf8::to_str;
 use osm_model::{Body, Kind, Members, Memory, Meta, References, Spare, Tags, Text, Version};
 use std::alloc::Global;
@@ -48,6 +49,8 @@ pub struct LineReader {
     alloc: Global,
     /// What memory isn't needed any more, which the next version takes.
     spare: Spare,
+    /// What the lines before told of their upload, which the next line often tells, too.
+    upload: Upload,
     /// Whether versions keep their canonical lines.
     keeps_lines: bool,
 }
@@ -65,6 +68,7 @@ impl LineReader {
         LineReader {
             alloc,
             spare: Spare::new(alloc),
+            upload: Upload::new(alloc),
             keeps_lines: false,
         }
     }
@@ -76,6 +80,7 @@ impl LineReader {
         LineReader {
             alloc,
             spare: Spare::new(alloc),
+            upload: Upload::new(alloc),
             keeps_lines: true,
         }
     }
@@ -109,7 +114,7 @@ impl LineReader {
         ensures text { IfSome result (λ version. text.now ≡ line version) }
         ensures valid { IfSome result IsVersion }
     {
-        let (id, meta, body) = read_canonical(self.alloc, &mut self.spare, text)?;
+        let (id, meta, body) = read_canonical(self.alloc, &mut self.spare, &mut self.upload, text)?;
         let version = if self.keeps_lines {
             Version::of_canonical_line(self.alloc, &mut self.spare, id, meta, body, text)
         } else {

@@ -1,5 +1,6 @@
 //! Lines that are canonical, and lines that nearly are.
 use super::read_canonical;
+use crate::upload::Upload;
 use crate::{LineReader, append_line};
 use osm_model::Spare;
 use std::alloc::Global;
@@ -40,7 +41,15 @@ r2 v2 dV c0 t i0 u T M
 r2 v3 dD c0 t i0 u T M";
     let mut reader = LineReader::keeping_lines(alloc);
     for line in lines.lines() {
-        assert!(&rt; read_canonical(alloc, &mut Spare::new(alloc), line.as_bytes()).is_some());
+        assert!(&rt;
+            read_canonical(
+                alloc,
+                &mut Spare::new(alloc),
+                &mut Upload::new(alloc),
+                line.as_bytes()
+            )
+            .is_some()
+        );
         check_written(&rt, alloc, &mut reader, line, line)?;
     }
     Ok(())
@@ -58,7 +67,15 @@ w4 v1 dV c0 t i0 u Tname=a%20%name%20%that%20%takes%20%memory%20%of%20%its%20%ow
 r2 v2 dV c0 t i0 u T Mw4@%20%,n7@end%20%ß,r-1@%0904%";
     let mut reader = LineReader::keeping_lines(alloc);
     for line in lines.lines() {
-        assert!(&rt; read_canonical(alloc, &mut Spare::new(alloc), line.as_bytes()).is_some());
+        assert!(&rt;
+            read_canonical(
+                alloc,
+                &mut Spare::new(alloc),
+                &mut Upload::new(alloc),
+                line.as_bytes()
+            )
+            .is_some()
+        );
         check_written(&rt, alloc, &mut reader, line, line)?;
     }
     Ok(())
@@ -97,7 +114,15 @@ w1 v1 dV c0 t i0 u Ta=b%20% Nn01 => w1 v1 dV c0 t i0 u Ta=b%20% Nn1";
     let mut reader = LineReader::keeping_lines(alloc);
     for row in rows.lines() {
         let (line, canonical) = row.split_once(" => ").ok_or("no answer")?;
-        assert!(&rt; read_canonical(alloc, &mut Spare::new(alloc), line.as_bytes()).is_none());
+        assert!(&rt;
+            read_canonical(
+                alloc,
+                &mut Spare::new(alloc),
+                &mut Upload::new(alloc),
+                line.as_bytes()
+            )
+            .is_none()
+        );
         check_written(&rt, alloc, &mut reader, line, canonical)?;
     }
     Ok(())
@@ -122,7 +147,46 @@ w1 v1 dV c0 t i0 u Ta=ß
 q1 v1 dV c0 t i0 u T x1 y2";
     for line in lines.lines() {
         assert!(&rt;
-            read_canonical(rt.alloc(), &mut Spare::new(rt.alloc()), line.as_bytes()).is_none()
+            read_canonical(
+                rt.alloc(),
+                &mut Spare::new(rt.alloc()),
+                &mut Upload::new(rt.alloc()),
+                line.as_bytes()
+            )
+            .is_none()
         );
     }
+}
+
+/// Neighbours of which some were uploaded together, and others differ from those before in one thing.
+const NEIGHBOURS: &str = "\
+n1 v1 dV c5 t2014-05-06T07:08:09Z i5 uanna T x8.6 y49.1
+n2 v1 dV c5 t2014-05-06T07:08:09Z i5 uanna T x8.6 y49.2
+n3 v2 dV c5 t2014-05-06T07:08:09Z i5 uanna Ta=b x8.6 y49.3
+n3 v3 dD c5 t2014-05-06T07:08:09Z i5 uanna T x y
+n4 v1 dV c5 t2014-05-06T07:08:09Z i5 uannabel T x8.6 y49.4
+n5 v1 dV c5 t2014-05-06T07:08:09Z i5 uann T x8.6 y49.5
+n6 v1 dV c5 t2014-05-06T07:08:09Z i55 uann T x8.6 y49.6
+n7 v1 dV c5 t2014-05-06T07:08:10Z i55 uann T x8.6 y49.7
+n8 v1 dV c55 t2014-05-06T07:08:10Z i55 uann T x8.6 y49.8
+n9 v1 dV c0 t i0 u T x8.6 y49.9
+n10 v1 dV c0 t i0 u T x8.6 y50
+n11 v1 dV c0 t i0 u T x8.6 y50.1
+w1 v1 dV c5 t2014-05-06T07:08:09Z i5 uanna%20%B. Ta=b Nn1,n2
+w2 v1 dV c5 t2014-05-06T07:08:09Z i5 uanna%20%B. T Nn2,n3
+w3 v1 dV c5 t2014-05-06T07:08:09Z i5 uanna%20%B. T Nn3,n4
+r1 v1 dV c5 t2014-05-06T07:08:09Z i5 uanna%20%B. T Mw1@";
+
+#[test]
+fn neighbours_are_read_as_alone(rt: HostRuntime) -> Result<(), Fail> {
+    let alloc = rt.alloc();
+    let mut upload = Upload::new(alloc);
+    let mut reader = LineReader::new(alloc);
+    for line in NEIGHBOURS.lines() {
+        assert!(&rt;
+            read_canonical(alloc, &mut Spare::new(alloc), &mut upload, line.as_bytes()).is_some()
+        );
+        check_written(&rt, alloc, &mut reader, line, line)?;
+    }
+    Ok(())
 }
