@@ -19,6 +19,7 @@ pub mod RefusalNames
 pub mod AnswerLaws
 pub mod UserLaws
 pub mod EntryBytes
+pub mod FrontLaws
 pub mod ShortestSteps
 pub mod IndexSteps
 pub mod TurnSteps

@@ -8,7 +8,7 @@ ghost use Rattle.o5_codec.specs.Decoder.{no_bases};
 ghost use Rattle.o5_codec.specs.Shortest.{difference};
 
 use crate::O5Reason;
-use crate::number::read_signed;
+use crate::number::{behind_zero, read_signed};
 use crate::write::draft::Draft;
 use crate::write::number::append_signed;
 use osm_model::{Memory, is_id};
@@ -141,7 +141,8 @@ impl Model for NumberBase {
 }
 
 impl NumberBase {
-    /// The number whose difference stands at the front, and the bytes behind it. The base moves to the number.
+    /// The number whose difference stands at the front, and the bytes behind it. The base moves to the number. Versions that
+    /// were uploaded together mostly stand together, and so most differences are 0.
     ///
     /// # Errors
     ///
@@ -152,6 +153,10 @@ impl NumberBase {
         ensures base { IfOk result (λ x. self.new ≡ x.0) }
         ensures shorter { IfOk result (λ x. length x.1.now < length bytes.now) }
     {
+        if let Some(rest) = behind_zero(bytes) {
+            let number = self.move_by(0)?;
+            return Ok((number, rest));
+        }
         let (difference, rest) = read_signed(bytes)?;
         let number = self.move_by(difference)?;
         Ok((number, rest))

@@ -1,5 +1,5 @@
 //! Writing data sets.
-ghost use Rattle.std.specs.Prelude.{◌≡◌, ◌++◌, ◌<◌, length, IfOk, IfErr, OnOk, OnErr};
+ghost use Rattle.std.specs.Prelude.{◌≡◌, ◌++◌, ◌<◌, ◌≤◌, length, drop, IfOk, IfErr, OnOk, OnErr};
 ghost use Rattle.osm_model.specs.Data.{kind_of};
 ghost use Rattle.osm_model.specs.Extends.{Extends};
 ghost use Rattle.o5_codec.specs.Encoder as spec;
@@ -19,8 +19,8 @@ pub struct Encoder {
     context: WrittenSegment,
     failed: bool,
     alloc: Global,
-    /// Buffers that are used again: the content of a data set, and a section within it.
-    content: Draft,
+    /// Buffers that are used again: a data set, with room for its type and length in front, and a section within it.
+    set: Draft,
     section: Draft,
 }
 
@@ -46,7 +46,7 @@ impl Encoder {
             context: WrittenSegment::new(alloc)?,
             failed: false,
             alloc,
-            content: Draft::new(alloc),
+            set: Draft::new(alloc),
             section: Draft::new(alloc),
         })
     }
@@ -92,7 +92,7 @@ impl Encoder {
     }
 
     /// Appends the data set of a version, where the encoder hasn't failed.
-    #[tactic(auto, unfolding(crate::specs::Encoder::context_of, crate::specs::Encoder::spelled_set, crate::specs::Encoder::written_after))]
+    #[tactic(auto, using(crate::proofs::FrontLaws::behind_two), unfolding(crate::specs::Encoder::context_of, crate::specs::Encoder::spelled_set, crate::specs::Encoder::written_after))]
     fn append_version(&mut self, out: &mut Vec<u8>, v: &Version) -> Result<(), Memory>
         ensures bytes { OnOk result (out.new.items ≡ out.old.items ++ spec.spelled_set self.old.written v.now) }
         ensures written { OnOk result (self.new ≡ record { written = spec.written_after self.old.written v.now; failed = self.old.failed }) }
@@ -102,10 +102,10 @@ impl Encoder {
         let begins = begins_segment(self.last, kind);
         begin_if(begins, &mut self.context);
         self.last = kind;
-        self.content.clear();
+        self.set.begin();
         self.context
-            .append_content(&mut self.content, &mut self.section, v)?;
-        append_whole(out, begins, kind, &self.content)
+            .append_content(&mut self.set, &mut self.section, v)?;
+        append_whole(out, begins, kind, &mut self.set)
     }
 }
 
@@ -125,14 +125,15 @@ fn begin_if(begins: bool, context: &mut WrittenSegment)
     }
 }
 
-/// Appends a data set with this content, behind a reset where it begins a segment. After an error the bytes are those that
-/// stood there before.
-fn append_whole(out: &mut Vec<u8>, begins: bool, kind: Kind, content: &Draft) -> Result<(), Memory>
-    ensures bytes { OnOk result (out.new.items ≡ out.old.items ++ (spec.reset_before begins ++ spec.data_set kind content.now)) }
+/// Appends a data set whose content stands behind room for two bytes, and a reset before it where it begins a segment. After an
+/// error the bytes are those that stood there before.
+fn append_whole(out: &mut Vec<u8>, begins: bool, kind: Kind, set: &mut Draft) -> Result<(), Memory>
+    requires { 2 ≤ length set.old }
+    ensures bytes { OnOk result (out.new.items ≡ out.old.items ++ (spec.reset_before begins ++ spec.data_set kind (drop 2 set.old))) }
     ensures unchanged { OnErr result (out.new.items ≡ out.old.items) }
 {
     let before = out.len();
-    match append_parts(out, begins, kind, content) {
+    match append_parts(out, begins, kind, set) {
         Ok(()) => Ok(()),
         Err(_) => {
             out.truncate(before);
@@ -141,47 +142,48 @@ fn append_whole(out: &mut Vec<u8>, begins: bool, kind: Kind, content: &Draft) ->
     }
 }
 
-/// Appends the parts of a data set with this content one after the other.
+/// Appends the parts of a data set one after the other.
 #[inline(always)]
-fn append_parts(out: &mut Vec<u8>, begins: bool, kind: Kind, content: &Draft) -> Result<(), Memory>
-    ensures bytes { OnOk result (out.new.items ≡ out.old.items ++ (spec.reset_before begins ++ spec.data_set kind content.now)) }
+fn append_parts(out: &mut Vec<u8>, begins: bool, kind: Kind, set: &mut Draft) -> Result<(), Memory>
+    requires { 2 ≤ length set.old }
+    ensures bytes { OnOk result (out.new.items ≡ out.old.items ++ (spec.reset_before begins ++ spec.data_set kind (drop 2 set.old))) }
     ensures kept { Extends out.old.items out.new.items }
 {
-    match content.as_piece() {
-        Some(content) if !begins && content.len() < 128 => append_short_set(out, kind, content),
-        _ => append_any_set(out, begins, kind, content),
+    let length = set.len() - 2;
+    if begins || length >= 128 {
+        return append_any_set(out, begins, kind, set);
     }
+    append_short_set(out, kind, set)
 }
 
 /// Appends a data set whose content is short, where no segment begins.
 #[inline(always)]
-fn append_short_set(out: &mut Vec<u8>, kind: Kind, content: &[u8]) -> Result<(), Memory>
-    requires { length content.now < 128 }
-    ensures bytes { OnOk result (out.new.items ≡ out.old.items ++ spec.data_set kind content.now) }
+fn append_short_set(out: &mut Vec<u8>, kind: Kind, set: &mut Draft) -> Result<(), Memory>
+    requires some { 2 ≤ length set.old }
+    requires short { length set.old < 130 }
+    ensures bytes { OnOk result (out.new.items ≡ out.old.items ++ spec.data_set kind (drop 2 set.old)) }
     ensures kept { Extends out.old.items out.new.items }
 {
-    out.extend_from_slice(&[type_byte(kind), content.len() as u8])?;
-    out.extend_from_slice(content)?;
-    Ok(())
+    let length = (set.len() - 2) as u8;
+    if !set.set_front(type_byte(kind), length) {
+        return append_any_set(out, false, kind, set);
+    }
+    set.append_to(out)
 }
 
 /// Appends a data set with any content, behind a reset where it begins a segment.
 #[inline(never)]
-fn append_any_set(
-    out: &mut Vec<u8>,
-    begins: bool,
-    kind: Kind,
-    content: &Draft,
-) -> Result<(), Memory>
-    ensures bytes { OnOk result (out.new.items ≡ out.old.items ++ (spec.reset_before begins ++ spec.data_set kind content.now)) }
+fn append_any_set(out: &mut Vec<u8>, begins: bool, kind: Kind, set: &Draft) -> Result<(), Memory>
+    requires { 2 ≤ length set.now }
+    ensures bytes { OnOk result (out.new.items ≡ out.old.items ++ (spec.reset_before begins ++ spec.data_set kind (drop 2 set.now))) }
     ensures kept { Extends out.old.items out.new.items }
 {
     if begins {
         out.push(0xff)?;
     }
     out.push(type_byte(kind))?;
-    append_number(out, content.len())?;
-    content.append_to(out)
+    append_number(out, set.len() - 2)?;
+    set.append_behind_front(out)
 }
 
 fn type_byte(kind: Kind) -> u8

@@ -1,5 +1,5 @@
 //! Numbers in groups of seven bits.
-ghost use Rattle.std.specs.Prelude.{◌≡◌, ◌<◌, length, Ok, IfOk, IfSome};
+ghost use Rattle.std.specs.Prelude.{◌≡◌, ◌<◌, length, pos, Ok, IfOk, IfSome};
 ghost use Rattle.o5_codec.specs.Answer.{Gives};
 ghost use Rattle.o5_codec.specs.Number.{number_at, signed_at, signed_of};
 
@@ -133,6 +133,17 @@ pub(crate) fn read_signed(bytes: &[u8]) -> Result<(i64, &[u8]), O5Reason>
 {
     let (number, rest) = read_number(bytes)?;
     Ok((to_signed(number), rest))
+}
+
+/// The bytes behind the signed number 0, where that stands at the front in its shortest form.
+#[inline(always)]
+#[tactic(auto, unfolding(crate::specs::Number::signed_at, crate::specs::Number::number_at, crate::specs::Number::groups_at))]
+pub(crate) fn behind_zero(bytes: &[u8]) -> Option<&[u8]>
+    ensures value { IfSome result (λ rest. signed_at bytes.now ≡ Ok (pos 0, rest.now)) }
+    ensures shorter { IfSome result (λ rest. length rest.now < length bytes.now) }
+{
+    let (first, rest) = bytes.split_first()?;
+    if *first == 0 { Some(rest) } else { None }
 }
 
 /// The signed number that an unsigned one stands for: even ones for 0, 1, 2 and so on, odd ones for -1, -2 and so on.

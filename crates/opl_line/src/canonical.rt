@@ -75,16 +75,6 @@ fn read_meta<'a>(
     if let Some(read) = upload.read(version, text) {
         return Some(read);
     }
-    let (meta, behind) = read_fields(alloc, version, text)?;
-    upload.note(&meta, text, behind);
-    Some((meta, behind))
-}
-
-/// The same, read field by field.
-#[inline(always)]
-fn read_fields(alloc: Global, version: u64, text: &[u8]) -> Option<(Meta, &[u8])>
-    ensures { IfSome result (λ read. IsAuthored text.now version read.0 read.1.now) }
-{
     let (changeset, behind) = canonical_number(behind_mark(text, b'c')?)?;
     let (time, behind) = canonical_time(behind_mark(behind, b't')?);
     let (uid, behind) = canonical_number(behind_mark(behind, b'i')?)?;
@@ -96,6 +86,7 @@ fn read_fields(alloc: Global, version: u64, text: &[u8]) -> Option<(Meta, &[u8])
         uid,
         user,
     };
+    upload.note(&meta, text, behind);
     Some((meta, behind))
 }
 

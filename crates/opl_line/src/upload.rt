@@ -1,9 +1,9 @@
 //! What lines of versions that were uploaded together share.
-ghost use Rattle.std.specs.Prelude.{◌≡◌, ◌≤◌, ◌++◌, ℕ, List, length, IfSome};
+ghost use Rattle.std.specs.Prelude.{◌≡◌, ◌++◌, IfSome};
 ghost use Rattle.opl_line.specs.Straight.{IsAuthored};
 ghost use Rattle.opl_line.specs.Uploaded.{AreFieldsOf};
 
-use osm_model::{Meta, Text};
+use osm_model::Meta;
 use std::alloc::Global;
 use std::marker::Model;
 
@@ -37,17 +37,10 @@ impl Model for Upload {
 impl Upload {
     /// No upload yet.
     pub(crate) fn new(alloc: Global) -> Upload {
-        let meta = Meta {
-            version: 0,
-            time: None,
-            changeset: 0,
-            uid: 0,
-            user: Text::new(),
-        };
         Upload {
             last_changeset: 0,
             last_time: None,
-            meta,
+            meta: Meta::nothing(),
             fields: Vec::new(alloc),
         }
     }

@@ -13,6 +13,7 @@ mod State
 mod Settling
 mod MergeLaws
 pub mod UnionLaws
+mod RepeatLaws
 mod Running
 pub mod SnapLaws
 pub mod UnionAllLaws

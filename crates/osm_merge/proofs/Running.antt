@@ -27,6 +27,11 @@ use Rattle.osm_merge.specs.declared.selection.Selection.{Selection}
 use Rattle.osm_merge.specs.declared.selection.Selection.TheVariants as selections
 use Rattle.osm_merge.specs.Selected.{selected}
 use Rattle.osm_merge.specs.Pass.{passes, passing, passes_all, put_of, put_at, put_at_end, puts, puts_at_once, keeps, is_met, held_next, met_next}
+use Rattle.std.specs.Bool.{OnTrue}
+use Rattle.osm_merge.specs.declared.repeats.Tie.{Tie}
+use Rattle.osm_merge.specs.declared.repeats.Repeats.{Repeats}
+use Rattle.osm_merge.specs.Repeats.{after_taking, IsTied, IsPastAt, IsKnown, IsToldBy, one_if, told_by}
+use Rattle.osm_merge.proofs.RepeatLaws.{nothing_known, told_after, known_after}
 use Rattle.osm_merge.specs.Put.{TakesEach, PutsMore, EndsFile}
 use Rattle.osm_merge.specs.Tree.{IsHeadUpTo, IsTree}
 use Rattle.osm_merge.specs.Merged.{IsBoundedFrom, few_of, IsMergedAs, Grows, last_of, up_to, written_so_far, written_before, IsRefusedAs}
@@ -50,7 +55,7 @@ pub record IsStanding (selection : Selection) (all : List VersionsToCome) (heads
 -- these was put, in a file of this format to the output of this number. Whatever can come now is explained by something that
 -- could come at first.
 pub record IsRunning (selection : Selection) {S : Type 0} (can : S → VersionsToCome → Type 0) (heads0 : List (Option VersionData)) (sources0 : List S) (format : Format) (number : ℕ) {O : Type 0} (holds : O → Content) (before : O)
-    (heads : List (Option VersionData)) (nodes : List ℕ) (sources : List S) (sink : SinkState) (now : O) (last : Option VersionData) (read written compared : ℕ) : Type 0 where
+    (heads : List (Option VersionData)) (nodes : List ℕ) (sources : List S) (sink : SinkState) (now : O) (last : Option VersionData) (read written compared : ℕ) (repeats : Repeats) : Type 0 where
   pub met : List VersionData
   pub top : Option VersionData
   pub taken : ℕ
@@ -63,7 +68,8 @@ pub record IsRunning (selection : Selection) {S : Type 0} (can : S → VersionsT
   pub read_is : read ≡ capped taken
   pub written_is : written ≡ capped (length (put_of selection met))
   pub most : (depth : ℕ) → length heads ≤ 2 ^ depth → compared ≤ (length heads - 1) + taken * (depth + 1)
-  pub least : passes_all selection ≡ true → capped (taken - 1) ≤ compared
+  pub least : passes_all selection ≡ true → capped ((taken - 1) + told_by repeats) ≤ compared
+  pub known : IsKnown selection last heads repeats
   pub fresh : passes_all selection ≡ true → last ≡ None → taken ≡ 0
   pub run : Explained (AllGive can sources0) (AllGive can sources) (λ first later. (all : List VersionsToCome) → AllAscend all → AllStand all heads0 (map Some first) → IsStanding selection all heads (map Some later) met last top taken)
 
@@ -72,7 +78,7 @@ none_met selection all up = record { size = refl; ascends = nothing_ascends vers
 
 pub run_start : (selection : Selection) {S : Type 0} (can : S → VersionsToCome → Type 0) (heads : List (Option VersionData)) (sources : List S) (format : Format) (number : ℕ) {O : Type 0} (holds : O → Content) (before : O) (nodes : List ℕ) (sink : SinkState) (now : O) (read written compared : ℕ)
     → HasPut format number [] (holds before) sink (holds now) → IsTree heads nodes 1 0 → 0 < length heads → length sources ≡ length heads → read ≡ 0 → written ≡ 0 → compared ≤ length heads - 1
-    → IsRunning selection can heads sources format number holds before heads nodes sources sink now None read written compared
+    → IsRunning selection can heads sources format number holds before heads nodes sources sink now None read written compared (record { tie = None; taken = None })
 run_start selection can heads sources format number holds before nodes sink now read written compared has tree some size none_read none_written few = record {
   met = [];
   top = None;
@@ -87,6 +93,7 @@ run_start selection can heads sources format number holds before nodes sink now 
   written_is = none_written ∙ ap (λ (vs : List VersionData). capped (length vs)) (sym (put_nothing selection));
   most = λ depth high. omega (arith, few);
   least = λ p. omega arith;
+  known = nothing_known selection heads;
   fresh = λ p e. refl;
   run = λ later g. (later, g, λ all up stand. record { states = all; stand = stand; merging = none_met selection all up });
 }
@@ -139,15 +146,46 @@ stand_more states heads told w given after s inside low step =
     }
 
 -- ---- the counts
-least_more : (M t c0 c1 c2 : ℕ) → min (t - 1) M ≤ c0 → min (c0 + 1) M ≤ c1 → c1 ≤ c2 → min ((t + 1) - 1) M ≤ c2
-least_more M t c0 c1 c2 a b d = omega arith
+-- a version that was compared with the one held back, and one that wasn't, as a comparison had told of it
+least_more : (M t o c0 c1 : ℕ) → min ((t - 1) + o) M ≤ c0 → min (c0 + 1) M ≤ c1 → min (((t + 1) - 1) + o) M ≤ c1
+least_more M t o c0 c1 a b = omega arith
 
-least_first : (M t c2 : ℕ) → t ≡ 0 → min ((t + 1) - 1) M ≤ c2
-least_first M t c2 h = omega arith
+least_first : (M t o c0 c1 : ℕ) → t ≡ 0 → min ((t - 1) + o) M ≤ c0 → c0 ≤ c1 → min (((t + 1) - 1) + o) M ≤ c1
+least_first M t o c0 c1 h a d = omega arith
 
-least_next : (last : Option VersionData) (t c0 c1 c2 : ℕ) → capped (t - 1) ≤ c0 → (last ≡ None → t ≡ 0) → IfSome last (λ _. capped (c0 + 1) ≤ c1) → c1 ≤ c2 → capped ((t + 1) - 1) ≤ c2
-least_next None t c0 c1 c2 a f b d = least_first (2 ^ 64 - 1) t c2 (f refl)
-least_next (Some l) t c0 c1 c2 a f b d = least_more (2 ^ 64 - 1) t c0 c1 c2 a b d
+least_known : (M t o c0 c1 : ℕ) → min ((t - 1) + (o + 1)) M ≤ c0 → c0 ≤ c1 → min (((t + 1) - 1) + o) M ≤ c1
+least_known M t o c0 c1 a d = omega arith
+
+least_alone : (M t o c : ℕ) → min ((t - 1) + o) M ≤ c → min (t - 1) M ≤ c
+least_alone M t o c a = omega arith
+
+least_fewer : (M t o p c : ℕ) → min ((t - 1) + (o + p)) M ≤ c → min ((t - 1) + o) M ≤ c
+least_fewer M t o p c a = omega arith
+
+least_behind : (last : Option VersionData) (t o p c0 c1 : ℕ) → capped ((t - 1) + (o + p)) ≤ c0 → (last ≡ None → t ≡ 0) → IfSome last (λ _. capped (c0 + 1) ≤ c1) → c0 ≤ c1 → capped (((t + 1) - 1) + o) ≤ c1
+least_behind None t o p c0 c1 a f b d = least_first (2 ^ 64 - 1) t o c0 c1 (f refl) (least_fewer (2 ^ 64 - 1) t o p c0 a) d
+least_behind (Some l) t o p c0 c1 a f b d = least_more (2 ^ 64 - 1) t o c0 c1 (least_fewer (2 ^ 64 - 1) t o p c0 a) b
+
+least_turn : (repeats : Repeats) (w : ℕ) (last : Option VersionData) (is_repeated : Bool) (t c0 c1 : ℕ) → capped ((t - 1) + told_by repeats) ≤ c0 → (last ≡ None → t ≡ 0) → OnTrue is_repeated (repeats.taken ≡ Some w)
+    → (is_repeated ≡ false → IfSome last (λ _. capped (c0 + 1) ≤ c1)) → c0 ≤ c1 → capped (((t + 1) - 1) + one_if repeats.tie) ≤ c1
+least_turn repeats w last is_repeated t c0 c1 a f on b d =
+    elim is_repeated as (λ r. OnTrue r (repeats.taken ≡ Some w) → (r ≡ false → IfSome last (λ _. capped (c0 + 1) ≤ c1)) → capped (((t + 1) - 1) + one_if repeats.tie) ≤ c1) [
+      | true ↦ λ on b. least_known (2 ^ 64 - 1) t (one_if repeats.tie) c0 c1 (subst (λ (o : Option ℕ). capped ((t - 1) + (one_if repeats.tie + one_if o)) ≤ c0) on a) d
+      | false ↦ λ on b. least_behind last t (one_if repeats.tie) (one_if repeats.taken) c0 c1 a f (b refl) d
+    ] on b
+
+least_ties : (M t q o p c : ℕ) → q + p ≡ o → min (t + o) M ≤ c → min ((t + p) + q) M ≤ c
+least_ties M t q o p c e a = omega (arith, e)
+
+least_told : (M t q p c : ℕ) → min ((t + p) + q) M ≤ c → min (t + (q + p)) M ≤ c
+least_told M t q p c a = omega arith
+
+-- and behind the games that were played again
+least_next : (tie : Option Tie) (w : ℕ) (t c1 : ℕ) (tie2 : Option Tie) (c2 : ℕ) → capped (t + one_if tie) ≤ c1 → IsToldBy (after_taking tie w).tie c1 tie2 c2 → capped (t + told_by (record { tie = tie2; taken = (after_taking tie w).taken })) ≤ c2
+least_next tie w t c1 tie2 c2 a told =
+    let after = after_taking tie w in
+    let taken : ℕ = one_if after.taken in
+    least_told (2 ^ 64 - 1) t (one_if tie2) taken c2 (told (t + taken) (least_ties (2 ^ 64 - 1) t (one_if after.tie) (one_if tie) taken c1 (told_after tie w) a))
 
 capped_more : (M n r : ℕ) → r ≡ min n M → min (r + 1) M ≡ min (n + 1) M
 capped_more M n r h = omega arith
@@ -222,8 +260,8 @@ not_nothing (u ∷ us) v e = cc
 
 -- ---- one turn
 module _ {selection : Selection} {S : Type 0} {can : S → VersionsToCome → Type 0} {heads0 : List (Option VersionData)} {sources0 : List S} {format : Format} {number : ℕ} {O : Type 0} {holds : O → Content} {before : O}
-    {heads : List (Option VersionData)} {nodes : List ℕ} {sources : List S} {sink : SinkState} {now : O} {last : Option VersionData} {read written compared : ℕ}
-    (r : IsRunning selection can heads0 sources0 format number holds before heads nodes sources sink now last read written compared) (w : ℕ) (top : w ≡ get_or nodes 1 0) where
+    {heads : List (Option VersionData)} {nodes : List ℕ} {sources : List S} {sink : SinkState} {now : O} {last : Option VersionData} {read written compared : ℕ} {repeats : Repeats}
+    (r : IsRunning selection can heads0 sources0 format number holds before heads nodes sources sink now last read written compared repeats) (w : ℕ) (top : w ≡ get_or nodes 1 0) where
   pub inside : w < length heads
   inside = subst (λ q. q < length heads) (sym top) (r.tree.below 1 (omega arith) (let s = r.some in omega arith))
 
@@ -350,10 +388,11 @@ module _ {selection : Selection} {S : Type 0} {can : S → VersionsToCome → Ty
         → IsTree (set heads w given) nodes2 1 0
         → read2 ≡ capped (read + 1)
         → ((put : List VersionData) → written ≡ capped (length put) → written2 ≡ capped (length (put ++ puts selection last v)))
-        → compared1 ≤ compared + 1 → IfSome last (λ _. capped (compared + 1) ≤ compared1)
-        → compared1 ≤ compared2 → ((depth : ℕ) → length (set heads w given) ≤ 2 ^ depth → compared2 ≤ compared1 + depth)
-        → IsRunning selection can heads0 sources0 format number holds before (set heads w given) nodes2 (set sources w new) sink2 now2 last2 read2 written2 compared2
-    run_more nodes2 sink2 now2 failed2 last2 given d new read2 written2 compared1 compared2 p last_is step tree read_is writes most least grows replayed =
+        → (is_repeated : Bool) → OnTrue is_repeated (repeats.taken ≡ Some w) → compared ≤ compared1 → compared1 ≤ compared + 1 → (is_repeated ≡ false → IfSome last (λ _. capped (compared + 1) ≤ compared1))
+        → ((depth : ℕ) → length (set heads w given) ≤ 2 ^ depth → compared2 ≤ compared1 + depth)
+        → (repeats1 : Repeats) → repeats1 ≡ after_taking repeats.tie w → (tie2 : Option Tie) → IsTied (set heads w given) tie2 → IsToldBy repeats1.tie compared1 tie2 compared2
+        → IsRunning selection can heads0 sources0 format number holds before (set heads w given) nodes2 (set sources w new) sink2 now2 last2 read2 written2 compared2 (record { tie = tie2; taken = repeats1.taken })
+    run_more nodes2 sink2 now2 failed2 last2 given d new read2 written2 compared1 compared2 p last_is step tree read_is writes is_repeated on grows most least replayed repeats1 is1 tie2 tied2 told =
         let size : length (set heads w given) ≡ length heads = length-set heads w given in
         let sizes : length (set sources w new) ≡ length sources = length-set sources w new in
         record {
@@ -373,7 +412,15 @@ module _ {selection : Selection} {S : Type 0} {can : S → VersionsToCome → Ty
               let later = replayed depth high in
               let times : (r.taken + 1) * (depth + 1) ≡ r.taken * (depth + 1) + 1 * (depth + 1) = add-mul r.taken 1 (depth + 1) in
               omega (arith, old, later, times, size);
-          least = λ p. least_next last r.taken compared compared1 compared2 (r.least p) (r.fresh p) least grows;
+          least = λ p.
+              let turn = least_turn repeats w last is_repeated r.taken compared compared1 (r.least p) (r.fresh p) on least grows in
+              subst (λ (s : Repeats). capped (((r.taken + 1) - 1) + told_by (record { tie = tie2; taken = s.taken })) ≤ compared2) (sym is1)
+              (least_next repeats.tie w ((r.taken + 1) - 1) compared1 tie2 compared2 turn (subst (λ (s : Repeats). IsToldBy s.tie compared1 tie2 compared2) is1 told));
+          known = record {
+            tied = tied2;
+            past = subst (λ (l : Option VersionData). IsPastAt selection l (set heads w given) repeats1.taken) (sym last_is)
+                (subst (λ (s : Repeats). IsPastAt selection (held_next selection last v) (set heads w given) s.taken) (sym is1) (known_after selection last heads w v given at_w repeats.tie r.known.tied).1);
+          };
           fresh = λ p e. absurd (some_held selection last v (all_pass selection p v) (sym last_is ∙ e));
           run = λ later g. (
               let b = stepped (λ e l. Step (Some e) (Ok given) (Some l)) d new step later g in
@@ -420,11 +467,11 @@ none_left heads nodes w t top at_w i =
     ]
 
 pub run_done : {selection : Selection} {S : Type 0} {can : S → VersionsToCome → Type 0} {heads0 : List (Option VersionData)} {sources0 : List S} {format : Format} {number : ℕ} {O : Type 0} {holds : O → Content} {before : O}
-    {heads : List (Option VersionData)} {nodes : List ℕ} {sources : List S} {sink : SinkState} {now : O} {last : Option VersionData} (one : S → VersionsToCome) → ((s : S) → can s (one s)) → (counts : Counts) (w : ℕ)
-    → IsRunning selection can heads0 sources0 format number holds before heads nodes sources sink now last counts.read counts.written counts.compared
+    {heads : List (Option VersionData)} {nodes : List ℕ} {sources : List S} {sink : SinkState} {now : O} {last : Option VersionData} {repeats : Repeats} (one : S → VersionsToCome) → ((s : S) → can s (one s)) → (counts : Counts) (w : ℕ)
+    → IsRunning selection can heads0 sources0 format number holds before heads nodes sources sink now last counts.read counts.written counts.compared repeats
     → w ≡ get_or nodes 1 0 → get_or heads w None ≡ None
     → IsDone selection last can heads0 sources0 format number holds before sink now counts
-run_done {selection = selection} {can = can} {heads = heads} {nodes = nodes} {sources = sources} {last = last} one possible counts w r top at_w =
+run_done {selection = selection} {can = can} {heads = heads} {nodes = nodes} {sources = sources} {last = last} {repeats = repeats} one possible counts w r top at_w =
     let none = none_left heads nodes w r.tree top at_w in
     let q = r.run (map one sources) (give_one can one possible sources) in
     record {
@@ -452,7 +499,7 @@ run_done {selection = selection} {can = can} {heads = heads} {nodes = nodes} {so
                 most = λ depth high.
                     let old = r.most depth (subst (λ n. n ≤ 2 ^ depth) (sym many) high) in
                     subst (λ t. counts.compared ≤ (length all - 1) + t * (depth + 1)) taken_is (subst (λ k. counts.compared ≤ (k - 1) + r.taken * (depth + 1)) many old);
-                least = few_least selection (length (versions_of all)) counts.compared (λ p. subst (λ t. capped (t - 1) ≤ counts.compared) taken_is (r.least p));
+                least = few_least selection (length (versions_of all)) counts.compared (λ p. subst (λ t. capped (t - 1) ≤ counts.compared) taken_is (least_alone (2 ^ 64 - 1) r.taken (told_by repeats) counts.compared (r.least p)));
               };
             },
       );

@@ -6,6 +6,7 @@ pub mod Rank
 pub mod Tree
 pub mod Selected
 pub mod Pass
+pub mod Repeats
 pub mod Put
 pub mod Merged
 pub mod Laws

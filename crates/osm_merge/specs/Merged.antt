@@ -26,7 +26,7 @@ pub record IsBoundedFrom (few sources given compared : ℕ) : Type 0 where
   pub most : (depth : ℕ) → sources ≤ 2 ^ depth → compared ≤ (sources - 1) + given * (depth + 1)
   pub least : capped few ≤ compared
 
--- where each version but the first is compared with the one before it, it is at least n - 1
+-- where each version but the first is compared with the one before it, or was with an equal one, it is at least n - 1
 abbrev pub IsBounded : (sources given compared : ℕ) → Type 0
 IsBounded sources given compared = IsBoundedFrom (given - 1) sources given compared
 

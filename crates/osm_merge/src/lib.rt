@@ -9,6 +9,7 @@ pub mod laws;
 mod merge;
 mod newest;
 mod progress;
+mod repeats;
 mod selection;
 mod taking;
 mod tree;

@@ -1,5 +1,5 @@
 //! The merge.
-ghost use Rattle.std.specs.Prelude.{◌≡◌, ◌≤◌, ◌<◌, ◌+◌, ◌-◌, false, true, List, Option, length, IsSome, IfOk, IfErr, IfSome, OnOk};
+ghost use Rattle.std.specs.Prelude.{◌≡◌, ◌≤◌, ◌<◌, ◌+◌, ◌-◌, false, true, List, Option, None, length, IsSome, IfOk, IfErr, IfSome, OnOk};
 ghost use Rattle.std.specs.List.{All};
 ghost use Rattle.osm_files.specs.Sink.{IsOpen, new_sink};
 ghost use Rattle.osm_files.specs.Source.{Steps};
@@ -14,6 +14,7 @@ ghost use Rattle.osm_merge.specs.Merged.{MergesSources, IsMergedAs, RefusesSourc
 use crate::compare::compare;
 use crate::heads::{Head, first_versions};
 use crate::progress::{Progress, Silent};
+use crate::repeats::Repeats;
 use crate::selection::{Selection, keeps, passes, puts_at_once, stays};
 use crate::tree::{build, replay};
 use osm_files::{Fault, Output, Sink, Source};
@@ -94,8 +95,18 @@ pub fn merge_selected<S: Source + Drop, W: Output, P: Progress>(
     let inputs: &mut [S] = &mut sources;
     let mut heads = first_versions(alloc, inputs)?;
     let mut nodes = build(alloc, &heads, &mut counts.compared)?;
+    // In the caller's memory, since kept in registers it would push out what each version asks for.
+    let mut repeats = Repeats::none();
     write_union(
-        selection, inputs, &mut heads, &mut nodes, counts, sink, out, progress,
+        selection,
+        inputs,
+        &mut heads,
+        &mut nodes,
+        &mut repeats,
+        counts,
+        sink,
+        out,
+        progress,
     )
 }
 
@@ -106,11 +117,13 @@ fn write_union<S: Source, W: Output, P: Progress>(
     sources: &mut [S],
     heads: &mut [Head],
     nodes: &mut [usize],
+    repeats: &mut Repeats,
     mut counts: Counts,
     sink: &mut Sink,
     out: &mut W,
     progress: &mut P,
 ) -> Result<Counts, Fault>
+    requires known { repeats.old ≡ record { tie = None; taken = None } }
     requires sink { sink.old ≡ new_sink sink.old.format sink.old.number }
     requires size { length heads.old ≡ length sources.old }
     requires tree { IsTree heads.old nodes.old 1 0 }
@@ -139,6 +152,7 @@ fn write_union<S: Source, W: Output, P: Progress>(
         let mut spare = None;
         meet(
             selection,
+            repeats.is_taken(place),
             &mut last,
             version,
             &mut spare,
@@ -149,7 +163,8 @@ fn write_union<S: Source, W: Output, P: Progress>(
         progress.tell(counts.read, counts.written);
         let next = next_of(&mut sources[place], spare)?;
         heads[place] = Head::new(next);
-        replay(nodes, heads, place, &mut counts.compared);
+        repeats.note_taken(place);
+        replay(nodes, heads, place, &mut repeats.tie, &mut counts.compared);
     }
 }
 
@@ -166,10 +181,12 @@ fn next_of<S: Source>(source: &mut S, spare: Option<Version>) -> Result<Option<V
 }
 
 /// Meets the next version. One that passes and is greater than the one held back decides what is put, and is held back then;
-/// any other one is let go. What isn't needed any more of the two is spare then.
+/// any other one is let go, and so is one that is known to repeat one taken before. What isn't needed any more of the two is
+/// spare then.
 #[inline(always)]
 fn meet<W: Output>(
     selection: Selection,
+    is_repeated: bool,
     last: &mut Option<Ranked>,
     version: Ranked,
     spare: &mut Option<Version>,
@@ -179,15 +196,16 @@ fn meet<W: Output>(
 ) -> Result<(), Fault>
     requires open { IsOpen sink.old }
     requires takes { is_met selection last.old version ≡ true → TakesEach (put_at selection last.old version) sink.old }
+    requires repeated { is_repeated ≡ true → is_met selection last.old version ≡ false }
     ensures puts { PutsMore W.holds (puts selection last.old version) sink.old sink.new out.old out.new (W.failed out.new) result }
     ensures last { OnOk result (last.new ≡ held_next selection last.old version) }
     ensures read { counts.new.read ≡ counts.old.read }
     ensures written { OnOk result (CountsMore (puts selection last.old version) counts.old.written counts.new.written) }
     ensures grows { counts.old.compared ≤ counts.new.compared }
     ensures most { counts.new.compared ≤ counts.old.compared + 1 }
-    ensures least { IfSome last.old (λ _. capped (counts.old.compared + 1) ≤ counts.new.compared) }
+    ensures least { is_repeated ≡ false → IfSome last.old (λ _. capped (counts.old.compared + 1) ≤ counts.new.compared) }
 {
-    if !is_met(selection, last, &version, &mut counts.compared) {
+    if is_repeated || !is_met(selection, last, &version, &mut counts.compared) {
         *spare = Some(version.into_version());
         return Ok(());
     }

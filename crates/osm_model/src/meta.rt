@@ -1,5 +1,5 @@
 //! What is told of a version beside its object and body.
-ghost use Rattle.std.specs.Prelude.{◌≡◌, [], ◌∷◌, IfOk};
+ghost use Rattle.std.specs.Prelude.{◌≡◌, [], ◌∷◌, None, IfOk};
 ghost use Rattle.std.specs.List.{list_all};
 ghost use Rattle.osm_model.specs.New.{is_number, is_time, is_dated};
 
@@ -25,6 +25,19 @@ pub struct Meta {
 const NUMBER_LIMIT: u64 = 1 << 32;
 
 impl Meta {
+    /// No version number, no author and no time, as where nothing is told yet.
+    pub fn nothing() -> Meta
+        ensures { result ≡ record { version = 0; time = None; changeset = 0; uid = 0; user = [] } }
+    {
+        Meta {
+            version: 0,
+            time: None,
+            changeset: 0,
+            uid: 0,
+            user: Text::new(),
+        }
+    }
+
     /// Whether the version number, the changeset and the user id are within their ranges, but for version number 0.
     pub(crate) fn are_numbers(&self) -> bool
         ensures { result ≡ list_all is_number (self.now.version ∷ self.now.changeset ∷ self.now.uid ∷ []) }

@@ -209,13 +209,8 @@ fn texts_of_any_length(rt: HostRuntime) -> Result<(), Fail> {
 #[test]
 fn sound_data(rt: HostRuntime) -> Result<(), Fail> {
     let alloc = rt.alloc();
-    let meta = Meta {
-        version: 2,
-        time: None,
-        changeset: 0,
-        uid: 0,
-        user: Text::new(),
-    };
+    let mut meta = Meta::nothing();
+    meta.version = 2;
     let sound = Version::of_sound_data(
         alloc,
         &mut Spare::new(alloc),

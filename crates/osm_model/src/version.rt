@@ -116,17 +116,10 @@ impl Parts {
     /// The parts of nothing, in new memory.
     #[inline(never)]
     fn nothing(alloc: Global) -> Result<Box<Parts>, Memory> {
-        let meta = Meta {
-            version: 0,
-            time: None,
-            changeset: 0,
-            uid: 0,
-            user: Text::new(),
-        };
         let parts = Parts {
             id: 0,
             kind: Kind::Node,
-            meta,
+            meta: Meta::nothing(),
             body: Body::Deleted(Kind::Node),
             kept_line: Vec::new(alloc),
         };

@@ -1,5 +1,5 @@
 //! Up to 128 bytes of a data set, filled in place.
-ghost use Rattle.std.specs.Prelude.{◌≡◌, ◌≤◌, ◌<◌, ◌+◌, ◌++◌, ◌∷◌, [], length, OnOk};
+ghost use Rattle.std.specs.Prelude.{◌≡◌, ◌≤◌, ◌<◌, ◌+◌, ◌++◌, ◌∷◌, [], length, drop, OnOk};
 ghost use Rattle.o5_codec.specs.Shortest.{shortest_number};
 
 use osm_model::Memory;
@@ -36,6 +36,22 @@ impl Block {
         self.end = 0;
     }
 
+    /// Lets all bytes go, and leaves room for two in front, which are set later.
+    pub(crate) fn begin(&mut self)
+        ensures { length (filled self.new) ≡ 2 }
+    {
+        self.end = 2;
+    }
+
+    /// Sets the first two bytes.
+    pub(crate) fn set_front(&mut self, one: u8, two: u8)
+        requires { 2 ≤ length (filled self.old) }
+        ensures { filled self.new ≡ one ∷ two ∷ drop 2 (filled self.old) }
+    {
+        self.bytes[0] = one;
+        self.bytes[1] = two;
+    }
+
     /// How many bytes there are.
     pub(crate) fn len(&self) -> usize
         ensures place { result ≡ self.now.end }
@@ -62,7 +78,7 @@ impl Block {
         ensures bytes { OnOk result (front.new.items ++ filled self.new ≡ front.old.items ++ filled self.old) }
         ensures room { OnOk result (self.new.end + count ≤ 128) }
     {
-        if count <= ROOM - self.end {
+        if self.end <= ROOM - count {
             return Ok(());
         }
         self.flush(front)
@@ -109,14 +125,14 @@ impl Block {
         requires { self.old.end + 10 ≤ 128 }
         ensures { filled self.new ≡ filled self.old ++ shortest_number number }
     {
-        if number >= 128 * 2_097_152 {
-            return self.append_long_number(number);
-        }
         let end = self.end;
         if number < 128 {
             self.bytes[end] = number as u8;
             self.end = end + 1;
             return;
+        }
+        if number >= 128 * 2_097_152 {
+            return self.append_long_number(number);
         }
         self.bytes[end] = (number % 128) as u8 + 128;
         let two = number / 128;

@@ -1,5 +1,6 @@
 //! Bytes of a data set that are being written.
-ghost use Rattle.std.specs.Prelude.{◌≡◌, ◌++◌, ◌∷◌, [], length, OnOk, IfSome};
+ghost use Rattle.std.specs.Prelude.{◌≡◌, ◌≤◌, ◌++◌, ◌∷◌, [], length, drop, OnOk, IfSome};
+ghost use Rattle.std.specs.Bool.{OnTrue, OnFalse};
 ghost use Rattle.osm_model.specs.Extends.{Extends};
 ghost use Rattle.o5_codec.specs.Shortest.{shortest_number};
 
@@ -46,6 +47,27 @@ impl Draft {
         self.block.clear();
     }
 
+    /// Lets all bytes go, and leaves room for two in front, which are set later.
+    pub(crate) fn begin(&mut self)
+        ensures { length self.new ≡ 2 }
+    {
+        self.front.clear();
+        self.block.begin();
+    }
+
+    /// Sets the first two bytes, where all are few enough to stand in the block alone, and answers whether they are.
+    pub(crate) fn set_front(&mut self, one: u8, two: u8) -> bool
+        requires { 2 ≤ length self.old }
+        ensures set { OnTrue result (self.new ≡ one ∷ two ∷ drop 2 self.old) }
+        ensures unchanged { OnFalse result (self.new ≡ self.old) }
+    {
+        if !self.front.is_empty() {
+            return false;
+        }
+        self.block.set_front(one, two);
+        true
+    }
+
     /// How many bytes there are.
     pub(crate) fn len(&self) -> u64
         ensures { result ≡ length self.now }
@@ -53,28 +75,37 @@ impl Draft {
         self.front.len() as u64 + self.block.len() as u64
     }
 
-    /// All bytes, where they are few enough to stand in the block alone.
-    pub(crate) fn as_piece(&self) -> Option<&[u8]>
-        ensures { IfSome result (λ bytes. bytes.now ≡ self.now) }
-    {
-        if self.front.is_empty() {
-            Some(self.block.as_slice())
-        } else {
-            None
-        }
-    }
-
     /// Appends all bytes to others.
     ///
     /// # Errors
     ///
     /// For want of memory alone; a part of them may then stand there.
+    #[inline(always)]
     pub(crate) fn append_to(&self, out: &mut Vec<u8>) -> Result<(), Memory>
         ensures appended { OnOk result (out.new.items ≡ out.old.items ++ self.now) }
         ensures kept { Extends out.old.items out.new.items }
     {
-        out.extend_from_slice(self.front.as_slice())?;
+        if !self.front.is_empty() {
+            out.extend_from_slice(self.front.as_slice())?;
+        }
         out.extend_from_slice(self.block.as_slice())?;
+        Ok(())
+    }
+
+    /// Appends all bytes but the first two to others.
+    ///
+    /// # Errors
+    ///
+    /// For want of memory alone; a part of them may then stand there.
+    pub(crate) fn append_behind_front(&self, out: &mut Vec<u8>) -> Result<(), Memory>
+        requires { 2 ≤ length self.now }
+        ensures appended { OnOk result (out.new.items ≡ out.old.items ++ drop 2 self.now) }
+        ensures kept { Extends out.old.items out.new.items }
+    {
+        let front = self.front.as_slice();
+        let gone = front.len().min(2);
+        out.extend_from_slice(front.split_at(gone).1)?;
+        out.extend_from_slice(self.block.as_slice().split_at(2 - gone).1)?;
         Ok(())
     }
 

@@ -39,9 +39,6 @@ pub(crate) fn append_signed(out: &mut Draft, number: i64) -> Result<(), Memory>
 fn to_unsigned(number: i64) -> u64
     ensures { result ≡ unsigned_of number }
 {
-    if number < 0 {
-        ((-1 - number) as u64) * 2 + 1
-    } else {
-        (number as u64) * 2
-    }
+    let twice = number.cast_unsigned().wrapping_mul(2);
+    if number < 0 { u64::MAX - twice } else { twice }
 }

@@ -163,6 +163,17 @@ fn each_comparison_is_counted(rt: HostRuntime) -> Result<(), Fail> {
     Ok(())
 }
 
+/// Of two sources with the same three versions: five games are played, and three versions are compared with the one put last,
+/// as the first has none before it, and two of the others are known to repeat one.
+#[test]
+fn what_was_found_equal_is_not_compared_again(rt: HostRuntime) -> Result<(), Fail> {
+    let same: (&[Node], Option<Fault>) = (&[(1, 1, 0), (2, 1, 0), (3, 1, 0)], None);
+    let (answer, _text) = merge(rt.alloc(), Format::Opl, &[same, same])?;
+    let counts = answer?;
+    assert_eq!(rt; (counts.read, counts.written, counts.compared), (6, 3, 8));
+    Ok(())
+}
+
 #[test]
 fn versions_of_one_key_both_stay(rt: HostRuntime) -> Result<(), Fail> {
     let sources: [(&[Node], Option<Fault>); 2] = [

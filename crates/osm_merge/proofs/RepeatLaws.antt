@@ -1,0 +1,72 @@
+-- What is known of equal heads, from turn to turn.
+use Rattle.std.proofs.Common.{◌≡◌, ℕ, ◌==◌, true, false, cond, ◌&&◌, List, get_or, refl, sym, ap, ◌∙◌, subst, Option, Some, None, get_or-set_other}
+use Rattle.std.proofs.Math.ListN.{set}
+use Rattle.std.specs.Ordering.{is_lt}
+use Rattle.std.specs.Cmp.{tied_itself}
+use Rattle.std.proofs.lemmas.Bool.{eqb-true, eqb-false}
+use Rattle.osm_model.specs.Data.{VersionData}
+use Rattle.osm_model.specs.Order.{version_cmp_total}
+use Rattle.osm_merge.specs.declared.selection.Selection.{Selection}
+use Rattle.osm_merge.specs.declared.repeats.Tie.{Tie}
+use Rattle.osm_merge.specs.declared.repeats.Repeats.{Repeats}
+use Rattle.osm_merge.specs.Pass.{passes, is_met, held_next}
+use Rattle.osm_merge.specs.Repeats.{opposite, taken_with, after_taking, IsTied, IsPast, IsPastAt, IsKnown, one_if, told_by}
+
+-- a version is not met behind itself
+pub past_itself : (selection : Selection) (held : Option VersionData) (v : VersionData) → is_met selection (held_next selection held v) v ≡ false
+past_itself selection held v =
+    elim (is_met selection held v) as (λ b. is_met selection held v ≡ b → is_met selection (cond b (Some v) held) v ≡ false) [
+      | true ↦ λ h. ap (λ r. is_lt r && passes selection v) (tied_itself version_cmp_total v)
+      | false ↦ λ h. h
+    ] refl
+
+-- nothing is known at first
+pub nothing_known : (selection : Selection) (heads : List (Option VersionData)) → IsKnown selection None heads (record { tie = None; taken = None })
+nothing_known selection heads = record { tied = tt; past = tt }
+
+-- a head that is known not to be met
+pub known_past : {selection : Selection} {held : Option VersionData} {heads : List (Option VersionData)} {repeats : Repeats} (place : ℕ) (v : VersionData) → IsKnown selection held heads repeats → repeats.taken ≡ Some place → get_or heads place None ≡ Some v
+    → is_met selection held v ≡ false
+known_past {selection} {held} {heads} place v known is at =
+    subst (IsPast selection held) at (subst (IsPastAt selection held heads) is known.past)
+
+told_with : (tie : Tie) (o : Option ℕ) → told_by (taken_with o tie) ≡ 1
+told_with tie None = refl
+told_with tie (Some other) = refl
+
+-- nothing more is known once a head was taken
+pub told_after : (tie : Option Tie) (place : ℕ) → told_by (after_taking tie place) ≡ one_if tie
+told_after None place = refl
+told_after (Some tie) place = told_with tie (opposite tie place)
+
+-- a head elsewhere that is equal to one that was taken is not met any more
+module _ (selection : Selection) (held : Option VersionData) (heads : List (Option VersionData)) (w : ℕ) (v : VersionData) (given : Option VersionData) (at_w : get_or heads w None ≡ Some v) where
+  abbrev heads2 : List (Option VersionData)
+  heads2 = set heads w given
+
+  -- what is known once the head was taken
+  abbrev IsKnownNow : Repeats → Type 0
+  IsKnownNow repeats = IsTied heads2 repeats.tie × IsPastAt selection (held_next selection held v) heads2 repeats.taken
+
+  stays_at : (place : ℕ) → (place == w) ≡ false → get_or heads2 place None ≡ get_or heads place None
+  stays_at place h = get_or-set_other heads w place given None (eqb-false place w h)
+
+  past_at : (place : ℕ) → (place == w) ≡ false → get_or heads place None ≡ get_or heads w None → IsPastAt selection (held_next selection held v) heads2 (Some place)
+  past_at place h same = subst (IsPast selection (held_next selection held v)) (sym (stays_at place h ∙ same ∙ at_w)) (past_itself selection held v)
+
+  pub known_after : (tie : Option Tie) → IsTied heads tie → IsKnownNow (after_taking tie w)
+  known_after None tied = (tt, tt)
+  known_after (Some tie) tied =
+      elim (tie.one == w) as (λ b. (tie.one == w) ≡ b → IsKnownNow (taken_with (cond b (cond (tie.other == w) None (Some tie.other)) (cond (tie.other == w) (Some tie.one) None)) tie)) [
+        | true ↦ λ h.
+            let one_is : tie.one ≡ w = eqb-true tie.one w h in
+            elim (tie.other == w) as (λ b. (tie.other == w) ≡ b → IsKnownNow (taken_with (cond b None (Some tie.other)) tie)) [
+              | true ↦ λ k. (ap (λ i. get_or heads2 i None) (one_is ∙ sym (eqb-true tie.other w k)), tt)
+              | false ↦ λ k. (tt, past_at tie.other k (sym tied ∙ ap (λ i. get_or heads i None) one_is))
+            ] refl
+        | false ↦ λ h.
+            elim (tie.other == w) as (λ b. (tie.other == w) ≡ b → IsKnownNow (taken_with (cond b (Some tie.one) None) tie)) [
+              | true ↦ λ k. (tt, past_at tie.one h (tied ∙ ap (λ i. get_or heads i None) (eqb-true tie.other w k)))
+              | false ↦ λ k. (stays_at tie.one h ∙ tied ∙ sym (stays_at tie.other k), tt)
+            ] refl
+      ] refl
