@@ -57,7 +57,7 @@ fn assert_sorted<R: Files + Clock + AllocGlobal + Abort>(
 fn stretches_are_read_side_by_side(rt: HostRuntime) -> Result<(), Fail> {
     enter(&rt, "side_by_side")?;
     // The versions of stretches are counted for each, and compared.
-    let counts = "5 versions read, 3 written, 10 comparisons";
+    let counts = "5 versions read, 3 written, 8 comparisons";
     assert_sorted(&rt, STRETCHES.as_bytes(), counts, NODES)?;
     leave(&rt, "side_by_side")?;
     Ok(())
