@@ -68,18 +68,38 @@ padded_pair n small =
     ∙ ap (λ t. t ++ digit_char (n % 10) ∷ []) (padded-digit 10 (n / 10) (omega arith) (omega arith))
     ∙ (λ i. digit_char-decimal (n / 10) (omega arith) i ∷ digit_char-decimal (n % 10) (omega arith) i ∷ [])
 
--- a number below 10000 in four
-pub padded_pairs : (n : ℕ) → n < 10_000 → padded 4 (number_text n) ≡ padded 2 (number_text (n / 100)) ++ padded 2 (number_text (n % 100))
+-- the last two digits apart
+pub padded_behind : (width n : ℕ) → padded (suc (suc (suc width))) (number_text n) ≡ padded (suc width) (number_text (n / 100)) ++ padded 2 (number_text (n % 100))
 unfolding number_text
-padded_pairs n small =
+padded_behind width n =
     let first : n / 10 / 10 ≡ n / 100 = omega arith in
     let third : n / 10 % 10 ≡ n % 100 / 10 = omega arith in
     let last : n % 10 ≡ n % 100 % 10 = omega arith in
-    let tens : padded 3 (numeral 10 (n / 10)) ≡ padded 2 (numeral 10 (n / 100)) ++ digit_char (n % 100 / 10) ∷ [] =
-    padded-step 10 1 (n / 10) (omega arith) ∙ (λ i. padded 2 (numeral 10 (first i)) ++ digit_char (third i) ∷ []) in
+    let tens : padded (suc (suc width)) (numeral 10 (n / 10)) ≡ padded (suc width) (numeral 10 (n / 100)) ++ digit_char (n % 100 / 10) ∷ [] =
+    padded-step 10 width (n / 10) (omega arith) ∙ (λ i. padded (suc width) (numeral 10 (first i)) ++ digit_char (third i) ∷ []) in
     let ones : padded 2 (numeral 10 (n % 100)) ≡ digit_char (n % 100 / 10) ∷ digit_char (n % 100 % 10) ∷ [] =
     padded-step 10 0 (n % 100) (omega arith) ∙ ap (λ t. t ++ digit_char (n % 100 % 10) ∷ []) (padded-digit 10 (n % 100 / 10) (omega arith) (omega arith)) in
-    padded-step 10 2 n (omega arith)
+    padded-step 10 (suc width) n (omega arith)
     ∙ (λ i. tens i ++ digit_char (last i) ∷ [])
-    ∙ append_assoc (padded 2 (numeral 10 (n / 100))) (digit_char (n % 100 / 10) ∷ []) (digit_char (n % 100 % 10) ∷ [])
-    ∙ ap (λ t. padded 2 (numeral 10 (n / 100)) ++ t) (sym ones)
+    ∙ append_assoc (padded (suc width) (numeral 10 (n / 100))) (digit_char (n % 100 / 10) ∷ []) (digit_char (n % 100 % 10) ∷ [])
+    ∙ ap (λ t. padded (suc width) (numeral 10 (n / 100)) ++ t) (sym ones)
+
+-- a number below 10000 in four digits
+pub padded_pairs : (n : ℕ) → padded 4 (number_text n) ≡ padded 2 (number_text (n / 100)) ++ padded 2 (number_text (n % 100))
+padded_pairs n = padded_behind 1 n
+
+-- a number below 10^7 in seven
+pub padded_seven : (n : ℕ) →
+    padded 7 (number_text n) ≡ padded 2 (number_text (n / 100_000)) ++ (padded 2 (number_text (n / 1000 % 100)) ++ (padded 2 (number_text (n / 10 % 100)) ++ (48 + n % 10) ∷ []))
+unfolding number_text
+padded_seven n =
+    let pairs = padded_behind 3 (n / 10) in
+    let high : n / 10 / 100 ≡ n / 1000 = omega arith in
+    let top : n / 1000 / 100 ≡ n / 100_000 = omega arith in
+    let last : digit_char (n % 10) ≡ 48 + n % 10 = digit_char-decimal (n % 10) (omega arith) in
+    let first_four = padded_pairs (n / 1000) ∙ (λ i. padded 2 (numeral 10 (top i)) ++ padded 2 (numeral 10 (n / 1000 % 100))) in
+    let first_six = pairs ∙ (λ i. padded 4 (numeral 10 (high i)) ++ padded 2 (numeral 10 (n / 10 % 100))) ∙ ap (λ t. t ++ padded 2 (numeral 10 (n / 10 % 100))) first_four in
+    padded-step 10 5 n (omega arith)
+    ∙ (λ i. first_six i ++ last i ∷ [])
+    ∙ append_assoc (padded 2 (numeral 10 (n / 100_000)) ++ padded 2 (numeral 10 (n / 1000 % 100))) (padded 2 (numeral 10 (n / 10 % 100))) ((48 + n % 10) ∷ [])
+    ∙ append_assoc (padded 2 (numeral 10 (n / 100_000))) (padded 2 (numeral 10 (n / 1000 % 100))) (padded 2 (numeral 10 (n / 10 % 100)) ++ (48 + n % 10) ∷ [])

@@ -1,7 +1,7 @@
 -- The table of two digits.
 use Rattle.std.proofs.Common.{◌≡◌, ℕ, zero, suc, ◌+◌, ◌-◌, ◌*◌, ◌/◌, ◌%◌, ◌<◌, Bool, true, T, eqb, eqb→eq, eq-zero-or-pos, inl, inr, ◌&&◌, get_or, arith}
 use lib.Ieee.Fits.{and_l, and_r}
-use Rattle.osm_model.specs.declared.piece.TheConstants.{PAIRS}
+use Rattle.osm_model.specs.declared.put.TheConstants.{PAIRS}
 
 abbrev is_pair : ℕ → Bool
 is_pair n = eqb (get_or PAIRS (2 * n) 0) (48 + n / 10) && eqb (get_or PAIRS (2 * n + 1) 0) (48 + n % 10)

@@ -103,7 +103,7 @@ spelled : (year month day second : ℕ) → year < 10_000 → month < 100 → da
     date_text (record { year = year; month = month; day = day }) ++ 84 ∷ (clock_text second ++ 90 ∷ []) ≡ spelled_time year month day (second / 3600) (second / 60 % 60) (second % 60)
 unfolding date_text clock_text
 spelled year month day second hy hm hd hs =
-    let y : padded 4 (number_text year) ≡ pair (year / 100) ++ pair (year % 100) = padded_pairs year hy ∙ (λ i. padded_pair (year / 100) (omega arith) i ++ padded_pair (year % 100) (omega arith) i) in
+    let y : padded 4 (number_text year) ≡ pair (year / 100) ++ pair (year % 100) = padded_pairs year ∙ (λ i. padded_pair (year / 100) (omega arith) i ++ padded_pair (year % 100) (omega arith) i) in
     let m = padded_pair month hm in
     let d = padded_pair day hd in
     let hour = padded_pair (second / 3600) (omega arith) in

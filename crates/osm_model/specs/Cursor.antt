@@ -85,14 +85,14 @@ abbrev pub coming : VersionData → Next → List ℕ
 coming v next = escape (chars next.text.now) ++ after v next.place
 
 -- the bytes are those of the piece, at least one, and then what comes behind it
-abbrev pub Gives : VersionData → List ℕ → Piece 32 → Next → Type 0
+abbrev pub Gives : VersionData → List ℕ → Piece → Next → Type 0
 Gives v bytes piece next = (bytes ≡ left piece ++ coming v next) × (0 < length (left piece))
 
 -- likewise, but there may be no bytes, and then nothing is answered
-abbrev pub GivesOrEnds : VersionData → List ℕ → Piece 32 → Option Next → Type 0
+abbrev pub GivesOrEnds : VersionData → List ℕ → Piece → Option Next → Type 0
 GivesOrEnds v bytes piece answer = MatchOption answer (bytes ≡ []) (λ next. Gives v bytes piece next)
 
-abbrev pub run_text : Run → Piece 32 → List ℕ
+abbrev pub run_text : Run → Piece → List ℕ
 run_text run.Piece piece = left piece
 run_text (run.Plain bytes) piece = bytes.now
 

@@ -3,5 +3,5 @@ use Rattle.std.specs.Prelude.{ℕ, List, drop}
 use Rattle.osm_model.specs.declared.piece.Piece.{Piece}
 
 -- the bytes of a piece that are left
-abbrev pub left : {room : ℕ} → Piece room → List ℕ
+abbrev pub left : Piece → List ℕ
 left piece = drop piece.start piece.bytes

@@ -1,5 +1,5 @@
 //! Canonical lines, appended to a vector.
-ghost use Rattle.std.specs.Prelude.{◌≡◌, ◌++◌, ◌∷◌, ◌≤◌, ℕ, List, codes, length, OnOk};
+ghost use Rattle.std.specs.Prelude.{◌≡◌, ◌++◌, ◌∷◌, ◌≤◌, ℕ, List, codes, length, drop, OnOk};
 ghost use Rattle.osm_model.specs.Joined.{joined};
 ghost use Rattle.osm_model.specs.Escape.{escape, escape_char};
 ghost use Rattle.osm_model.specs.Line.{list_text, tag_text, reference_text, member_text, kind_fields, line};
@@ -8,8 +8,23 @@ ghost use Rattle.osm_model.specs.Cursor.{more_text};
 ghost use Rattle.osm_model.specs.Extends.{Extends};
 
 use crate::escape::plain_length;
-use crate::piece::{CursorPiece, Stretch};
+use crate::piece::Piece;
+use crate::put::{put, put_byte, put_coordinate, put_integer, put_number, put_time};
 use crate::{Body, Member, Memory, Tag, Text, Version};
+
+/// How many bytes a stretch of a line has room for, which is appended at once: the fields before a user name take fewer.
+const ROOM: usize = 128;
+
+/// Appends the bytes of some room from a place on.
+#[inline(always)]
+fn append_from(room: &[u8], start: usize, out: &mut Vec<u8>) -> Result<(), Memory>
+    requires { start ≤ length room.now }
+    ensures appended { OnOk result (out.new.items ≡ out.old.items ++ drop start room.now) }
+    ensures kept { Extends out.old.items out.new.items }
+{
+    out.extend_from_slice(&room[start..])?;
+    Ok(())
+}
 
 impl Version {
     /// Appends the canonical OPL line, without a line end. After an error a part of it may stand there,
@@ -34,25 +49,26 @@ fn append_head(version: &Version, out: &mut Vec<u8>) -> Result<(), Memory>
     ensures appended { OnOk result (out.new.items ≡ out.old.items ++ head_text version.now) }
     ensures kept { Extends out.old.items out.new.items }
 {
-    let mut piece = Stretch::new();
-    piece.prepend(b" u");
-    piece.prepend_number(version.uid());
-    piece.prepend(b" i");
-    piece.prepend_time(version.time());
-    piece.prepend(b" t");
-    piece.prepend_number(version.changeset());
-    piece.prepend(b" c");
-    piece.push_front(if version.body().is_deleted() {
+    let mut room = [0; ROOM];
+    let start = put(&mut room, ROOM, b" u");
+    let start = put_number(&mut room, start, version.uid());
+    let start = put(&mut room, start, b" i");
+    let start = put_time(&mut room, start, version.time());
+    let start = put(&mut room, start, b" t");
+    let start = put_number(&mut room, start, version.changeset());
+    let start = put(&mut room, start, b" c");
+    let visible = if version.body().is_deleted() {
         b'D'
     } else {
         b'V'
-    });
-    piece.prepend(b" d");
-    piece.prepend_number(version.number());
-    piece.prepend(b" v");
-    piece.prepend_integer(version.id());
-    piece.push_front(version.kind().letter());
-    piece.append_to(out)
+    };
+    let start = put_byte(&mut room, start, visible);
+    let start = put(&mut room, start, b" d");
+    let start = put_number(&mut room, start, version.number());
+    let start = put(&mut room, start, b" v");
+    let start = put_integer(&mut room, start, version.id());
+    let start = put_byte(&mut room, start, version.kind().letter());
+    append_from(&room, start, out)
 }
 
 /// Appends the characters of a text, raw or as escapes.
@@ -92,7 +108,7 @@ fn append_escaped(c: char, out: &mut Vec<u8>) -> Result<(), Memory>
     ensures appended { OnOk result (out.new.items ≡ out.old.items ++ escape_char c) }
     ensures kept { Extends out.old.items out.new.items }
 {
-    let mut piece = CursorPiece::new();
+    let mut piece = Piece::new();
     piece.set_escaped(c);
     piece.append_to(out)
 }
@@ -124,11 +140,11 @@ impl Listed for i64 {
     ghost text = { reference_text };
 
     fn append_behind(&self, mark: &[u8], out: &mut Vec<u8>) -> Result<(), Memory> {
-        let mut piece = Stretch::new();
-        piece.prepend_integer(*self);
-        piece.push_front(b'n');
-        piece.prepend(mark);
-        piece.append_to(out)
+        let mut room = [0; ROOM];
+        let start = put_integer(&mut room, ROOM, *self);
+        let start = put_byte(&mut room, start, b'n');
+        let start = put(&mut room, start, mark);
+        append_from(&room, start, out)
     }
 }
 
@@ -136,12 +152,12 @@ impl Listed for Member {
     ghost text = { member_text };
 
     fn append_behind(&self, mark: &[u8], out: &mut Vec<u8>) -> Result<(), Memory> {
-        let mut piece = Stretch::new();
-        piece.push_front(b'@');
-        piece.prepend_integer(self.id);
-        piece.push_front(self.kind.letter());
-        piece.prepend(mark);
-        piece.append_to(out)?;
+        let mut room = [0; ROOM];
+        let start = put_byte(&mut room, ROOM, b'@');
+        let start = put_integer(&mut room, start, self.id);
+        let start = put_byte(&mut room, start, self.kind.letter());
+        let start = put(&mut room, start, mark);
+        append_from(&room, start, out)?;
         append_text(&self.role, out)
     }
 }
@@ -208,15 +224,15 @@ fn append_few_references(ids: &[i64], out: &mut Vec<u8>) -> Result<(), Memory>
     ensures appended { OnOk result (out.new.items ≡ out.old.items ++ more_text reference_text ids.now) }
     ensures kept { Extends out.old.items out.new.items }
 {
-    let mut piece = Stretch::new();
+    let mut room = [0; ROOM];
+    let mut start = ROOM;
     let mut count = ids.len();
     while count > 0 {
         count -= 1;
-        piece.prepend_integer(ids[count]);
-        piece.push_front(b'n');
-        piece.push_front(b',');
+        start = put_integer(&mut room, start, ids[count]);
+        start = put(&mut room, start, b",n");
     }
-    piece.append_to(out)
+    append_from(&room, start, out)
 }
 
 /// Appends the fields of a location.
@@ -224,10 +240,10 @@ fn append_location(lon: i32, lat: i32, out: &mut Vec<u8>) -> Result<(), Memory>
     ensures appended { OnOk result (out.new.items ≡ out.old.items ++ location_text lon lat) }
     ensures kept { Extends out.old.items out.new.items }
 {
-    let mut piece = Stretch::new();
-    piece.prepend_coordinate(lat);
-    piece.prepend(b" y");
-    piece.prepend_coordinate(lon);
-    piece.prepend(b" x");
-    piece.append_to(out)
+    let mut room = [0; ROOM];
+    let start = put_coordinate(&mut room, ROOM, lat);
+    let start = put(&mut room, start, b" y");
+    let start = put_coordinate(&mut room, start, lon);
+    let start = put(&mut room, start, b" x");
+    append_from(&room, start, out)
 }

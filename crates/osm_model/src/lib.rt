@@ -17,6 +17,7 @@ mod memory;
 mod meta;
 mod piece;
 mod plain;
+mod put;
 mod ranked;
 mod references;
 mod same;

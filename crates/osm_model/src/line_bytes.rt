@@ -10,7 +10,7 @@ ghost use Rattle.osm_model.specs.Line.{list_text, tag_text, reference_text, memb
 ghost use Rattle.osm_model.specs.Cursor.{after, from_field, from_kind, coming, more_text, items_text, run_text, run_of, behind, still, Gives, GivesOrEnds};
 
 use crate::escape::plain_length;
-use crate::piece::CursorPiece;
+use crate::piece::Piece;
 use crate::{Body, Member, Tag, Text, Version};
 
 /// A field of a line.
@@ -91,7 +91,7 @@ impl<'a> Next<'a> {
 }
 
 /// Fills the piece with a field, and tells what comes behind it.
-fn give_field<'a>(version: &'a Version, field: Field, piece: &mut CursorPiece) -> Next<'a>
+fn give_field<'a>(version: &'a Version, field: Field, piece: &mut Piece) -> Next<'a>
     ensures { Gives version.now (from_field version.now field) piece.new result }
 {
     match field {
@@ -149,7 +149,7 @@ fn first_tag(version: &Version) -> Next<'_>
 }
 
 /// Fills the piece with what stands behind a tag.
-fn give_next_tag<'a>(version: &'a Version, tags: &'a [Tag], piece: &mut CursorPiece) -> Next<'a>
+fn give_next_tag<'a>(version: &'a Version, tags: &'a [Tag], piece: &mut Piece) -> Next<'a>
     ensures { Gives version.now (more_text tag_text tags.now ++ from_kind version.now) piece.new result }
 {
     match tags.split_first() {
@@ -168,7 +168,7 @@ fn give_next_tag<'a>(version: &'a Version, tags: &'a [Tag], piece: &mut CursorPi
 }
 
 /// Fills the piece with the first field behind the tags, or with its mark.
-fn give_kind_field<'a>(version: &'a Version, piece: &mut CursorPiece) -> Next<'a>
+fn give_kind_field<'a>(version: &'a Version, piece: &mut Piece) -> Next<'a>
     ensures { Gives version.now (from_kind version.now) piece.new result }
 {
     match version.body() {
@@ -198,7 +198,7 @@ fn give_kind_field<'a>(version: &'a Version, piece: &mut CursorPiece) -> Next<'a
 }
 
 /// Fills the piece with the first of these references, if there is one.
-fn give_reference<'a>(is_first: bool, ids: &'a [i64], piece: &mut CursorPiece) -> Option<Next<'a>>
+fn give_reference<'a>(is_first: bool, ids: &'a [i64], piece: &mut Piece) -> Option<Next<'a>>
     ensures { (v : VersionData) → GivesOrEnds v (items_text is_first reference_text ids.now) piece.new result }
 {
     let (id, more) = ids.split_first()?;
@@ -217,11 +217,7 @@ fn give_reference<'a>(is_first: bool, ids: &'a [i64], piece: &mut CursorPiece) -
 }
 
 /// Fills the piece with the object of the first of these members, if there is one.
-fn give_member<'a>(
-    is_first: bool,
-    members: &'a [Member],
-    piece: &mut CursorPiece,
-) -> Option<Next<'a>>
+fn give_member<'a>(is_first: bool, members: &'a [Member], piece: &mut Piece) -> Option<Next<'a>>
     ensures { (v : VersionData) → GivesOrEnds v (items_text is_first member_text members.now) piece.new result }
 {
     let (member, more) = members.split_first()?;
@@ -234,7 +230,7 @@ fn give_member<'a>(
 }
 
 /// Fills the piece with what stands at a place, and tells what comes behind it; `None` at the end.
-fn give<'a>(version: &'a Version, place: Place<'a>, piece: &mut CursorPiece) -> Option<Next<'a>>
+fn give<'a>(version: &'a Version, place: Place<'a>, piece: &mut Piece) -> Option<Next<'a>>
     ensures { GivesOrEnds version.now (after version.now place.entry) piece.new result }
 {
     match place {
@@ -274,7 +270,7 @@ enum Run<'a> {
 }
 
 /// The run at the front of a text, and the rest of the text; `None` for the empty text.
-fn give_text<'a>(text: &'a str, piece: &mut CursorPiece) -> Option<(Run<'a>, &'a str)>
+fn give_text<'a>(text: &'a str, piece: &mut Piece) -> Option<(Run<'a>, &'a str)>
     ensures { MatchOption result
         (chars text.now ≡ [])
         (λ p. (escape (chars text.now) ≡ run_text p.0 piece.new ++ escape (chars p.1.now)) × (0 < length (run_text p.0 piece.new))) }
@@ -296,7 +292,7 @@ fn give_text<'a>(text: &'a str, piece: &mut CursorPiece) -> Option<(Run<'a>, &'a
 #[derive(Drop)]
 pub struct LineBytes<'a> {
     version: &'a Version,
-    piece: CursorPiece,
+    piece: Piece,
     run: Run<'a>,
     next: Next<'a>,
 }
@@ -309,7 +305,7 @@ impl Version {
     {
         LineBytes {
             version: self,
-            piece: CursorPiece::new(),
+            piece: Piece::new(),
             run: Run::Piece,
             next: Next::at(Place::Field(Field::Object)),
         }

@@ -1,9 +1,9 @@
 //! Pieces of a line, byte for byte.
-use crate::piece::CursorPiece;
+use crate::piece::Piece;
 
 #[test]
 fn writes_characters(rt: HostRuntime) {
-    let mut piece = CursorPiece::new();
+    let mut piece = Piece::new();
     for (c, text) in [
         ('\0', "%00%"),
         ('\n', "%0a%"),
@@ -42,7 +42,7 @@ fn writes_characters(rt: HostRuntime) {
 
 #[test]
 fn writes_coordinates(rt: HostRuntime) {
-    let mut piece = CursorPiece::new();
+    let mut piece = Piece::new();
     for (units, text) in [
         (-2_147_483_648, " x-214.7483648"),
         (2_147_483_647, " x214.7483647"),
@@ -60,7 +60,7 @@ fn writes_coordinates(rt: HostRuntime) {
 
 #[test]
 fn writes_times(rt: HostRuntime) {
-    let mut piece = CursorPiece::new();
+    let mut piece = Piece::new();
     for (seconds, text) in [
         (1, " t1970-01-01T00:00:01Z"),
         (951_782_400, " t2000-02-29T00:00:00Z"),
@@ -77,7 +77,7 @@ fn writes_times(rt: HostRuntime) {
 
 #[test]
 fn writes_numbers(rt: HostRuntime) {
-    let mut piece = CursorPiece::new();
+    let mut piece = Piece::new();
     for (number, text) in [
         (18_446_744_073_709_551_615, " v18446744073709551615"),
         (0, " v0"),
@@ -96,7 +96,7 @@ fn writes_numbers(rt: HostRuntime) {
 
 #[test]
 fn gives_its_bytes(rt: HostRuntime) {
-    let mut piece = CursorPiece::new();
+    let mut piece = Piece::new();
     piece.set_bytes(b"dV");
     for byte in [Some(b'd'), Some(b'V'), None] {
         assert_eq!(rt; piece.take(), byte);

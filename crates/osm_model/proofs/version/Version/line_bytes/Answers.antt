@@ -7,4 +7,4 @@ pub returns-clause-runs : goal.returns-clause-runs
 returns-clause-runs c = coming_is c.args.self.now c.at.result [] _ c.at.ensures.text c.at.ensures.place ∙ sym (line-from_object c.args.self.now)
 
 pub returns-clause-bytes : goal.returns-clause-bytes
-returns-clause-bytes c = ap (λ t. t ++ coming c.args.self.now c.at.result) c.new.ensures.left ∙ returns-clause-runs c
+returns-clause-bytes c = ap (λ t. t ++ coming c.args.self.now c.at.result) c.new.ensures ∙ returns-clause-runs c

@@ -1,0 +1,9 @@
+use Rattle.std.proofs.Common.{◌≡◌, ◌+◌, ◌++◌, length, drop, replicate}
+use Rattle.osm_model.proofs.put.put_zeros.Given as goal
+
+abbrev pub invariant-loop-place : goal.invariant-loop-place
+invariant-loop-place l = record {
+  written : drop l.start l.room ≡ replicate l._place 48 ++ drop l.fn.end l.fn.room;
+  start : l.start + l._place ≡ l.fn.end;
+  size : length l.room ≡ length l.fn.room;
+}

@@ -1,0 +1,318 @@
+//! Parts of a line, put into room in front of what stands there already.
+//!
+//! Each is told from where on the room holds bytes, and answers from where on it does then. So a number is written in place from
+//! its last digit on, and a field in front of those behind it; and where the bytes begin is handed on from one to the next, and
+//! needn't be looked up in memory for each.
+ghost use Rattle.std.specs.Prelude.{◌≡◌, ◌++◌, ◌+◌, ◌/◌, ◌%◌, ◌∷◌, ◌≤◌, ◌<◌, ◌^◌, length, drop, replicate};
+ghost use Rattle.std.specs.Option.{ForSome};
+ghost use Rattle.osm_model.specs.Numeral.{numeral, padded};
+ghost use Rattle.osm_model.specs.Decimal.{number_text, sign_text, integer_text};
+ghost use Rattle.osm_model.specs.Coordinate.{fraction_text, coordinate_text};
+ghost use Rattle.osm_model.specs.Time.{date_of, date_text, clock_text, time_text};
+
+use crate::calendar::Date;
+use crate::escape::hex_digit;
+
+/// The units of a coordinate in one degree.
+const UNITS_IN_DEGREE: u64 = 10_000_000;
+
+const SECONDS_IN_DAY: u64 = 86_400;
+
+/// One byte.
+#[inline(always)]
+pub(crate) fn put_byte(room: &mut [u8], end: usize, byte: u8) -> usize
+    requires within { end ≤ length room.old }
+    requires fits { 0 < end }
+    ensures written { drop result room.new ≡ byte ∷ drop end room.old }
+    ensures start { result + 1 ≡ end }
+    ensures size { length room.new ≡ length room.old }
+{
+    let start = end - 1;
+    room[start] = byte;
+    start
+}
+
+/// Some bytes.
+#[inline(always)]
+pub(crate) fn put(room: &mut [u8], end: usize, bytes: &[u8]) -> usize
+    requires within { end ≤ length room.old }
+    requires fits { length bytes.now ≤ end }
+    ensures written { drop result room.new ≡ bytes.now ++ drop end room.old }
+    ensures start { result + length bytes.now ≡ end }
+    ensures size { length room.new ≡ length room.old }
+{
+    let start = end - bytes.len();
+    room[start..end].copy_from_slice(bytes);
+    start
+}
+
+/// A number in decimal.
+#[inline(always)]
+pub(crate) fn put_number(room: &mut [u8], end: usize, number: u64) -> usize
+    requires within { end ≤ length room.old }
+    requires fits { 20 ≤ end }
+    ensures written { drop result room.new ≡ number_text number ++ drop end room.old }
+    ensures start { result + length (number_text number) ≡ end }
+    ensures short { end ≤ result + 20 }
+    ensures size { length room.new ≡ length room.old }
+{
+    itoa::write_digits(number, room, end)
+}
+
+/// A minus sign, where the integer is below 0.
+#[inline(always)]
+fn put_sign(room: &mut [u8], end: usize, integer: i64) -> usize
+    requires within { end ≤ length room.old }
+    requires fits { 0 < end }
+    ensures written { drop result room.new ≡ sign_text integer ++ drop end room.old }
+    ensures onward { result ≤ end }
+    ensures short { end ≤ result + 1 }
+    ensures size { length room.new ≡ length room.old }
+{
+    if integer < 0 {
+        put_byte(room, end, b'-')
+    } else {
+        end
+    }
+}
+
+/// An integer in decimal.
+pub(crate) fn put_integer(room: &mut [u8], end: usize, integer: i64) -> usize
+    requires within { end ≤ length room.old }
+    requires fits { 21 ≤ end }
+    ensures written { drop result room.new ≡ integer_text integer ++ drop end room.old }
+    ensures onward { result ≤ end }
+    ensures short { end ≤ result + 21 }
+    ensures size { length room.new ≡ length room.old }
+{
+    let digits = put_number(room, end, integer.unsigned_abs());
+    put_sign(room, digits, integer)
+}
+
+/// A coordinate in units of 10^-7 degree.
+pub(crate) fn put_coordinate(room: &mut [u8], end: usize, units: i32) -> usize
+    requires within { end ≤ length room.old }
+    requires fits { 29 ≤ end }
+    ensures written { drop result room.new ≡ coordinate_text units ++ drop end room.old }
+    ensures onward { result ≤ end }
+    ensures short { end ≤ result + 29 }
+    ensures size { length room.new ≡ length room.old }
+{
+    let size = u64::from(units.unsigned_abs());
+    let fraction = put_fraction(room, end, size % UNITS_IN_DEGREE);
+    let degrees = put_number(room, fraction, size / UNITS_IN_DEGREE);
+    put_sign(room, degrees, i64::from(units))
+}
+
+/// The point and the decimals of a part of a degree, or nothing where it is 0. Most have all seven decimals.
+#[inline(always)]
+fn put_fraction(room: &mut [u8], end: usize, units: u64) -> usize
+    requires within { end ≤ length room.old }
+    requires fits { 20 ≤ end }
+    requires part { units < 10_000_000 }
+    ensures written { drop result room.new ≡ fraction_text units ++ drop end room.old }
+    ensures onward { result ≤ end }
+    ensures short { end ≤ result + 8 }
+    ensures size { length room.new ≡ length room.old }
+{
+    if units % 10 != 0 {
+        return put_seven_decimals(room, end, units);
+    }
+    if units == 0 {
+        return end;
+    }
+    put_fewer_decimals(room, end, units)
+}
+
+/// The point and seven decimals.
+#[inline(always)]
+fn put_seven_decimals(room: &mut [u8], end: usize, units: u64) -> usize
+    requires within { end ≤ length room.old }
+    requires fits { 8 ≤ end }
+    requires part { units < 10_000_000 }
+    ensures written { drop result room.new ≡ 46 ∷ padded 7 (number_text units) ++ drop end room.old }
+    ensures start { result + 8 ≡ end }
+    ensures size { length room.new ≡ length room.old }
+{
+    let first = (units / 100_000) as u8;
+    let second = (units / 1000 % 100) as u8;
+    let third = (units / 10 % 100) as u8;
+    let last = (units % 10) as u8;
+    let decimals = [
+        b'.',
+        tens(first),
+        ones(first),
+        tens(second),
+        ones(second),
+        tens(third),
+        ones(third),
+        b'0' + last,
+    ];
+    put(room, end, &decimals)
+}
+
+/// The point and the decimals of a part of a degree whose last decimals are zeros, which are left out.
+fn put_fewer_decimals(room: &mut [u8], end: usize, units: u64) -> usize
+    requires within { end ≤ length room.old }
+    requires fits { 20 ≤ end }
+    requires some { 0 < units }
+    requires part { units < 10_000_000 }
+    ensures written { drop result room.new ≡ fraction_text units ++ drop end room.old }
+    ensures onward { result ≤ end }
+    ensures short { end ≤ result + 8 }
+    ensures size { length room.new ≡ length room.old }
+{
+    let mut digits = units;
+    let mut places = 7;
+    while digits % 10 == 0 {
+        digits /= 10;
+        places -= 1;
+    }
+    let decimals = put_padded(room, end, digits, places);
+    put_byte(room, decimals, b'.')
+}
+
+/// A number in decimal with zeros in front up to a width.
+fn put_padded(room: &mut [u8], end: usize, number: u64, width: usize) -> usize
+    requires within { end ≤ length room.old }
+    requires room { 20 ≤ end }
+    requires some { 0 < width }
+    requires narrow { width ≤ 20 }
+    requires fits { number < 10 ^ width }
+    ensures written { drop result room.new ≡ padded width (number_text number) ++ drop end room.old }
+    ensures start { result + width ≡ end }
+    ensures size { length room.new ≡ length room.old }
+{
+    let digits = put_number(room, end, number);
+    put_zeros(room, digits, width - (end - digits))
+}
+
+/// That many zeros.
+pub(crate) fn put_zeros(room: &mut [u8], end: usize, count: usize) -> usize
+    requires within { end ≤ length room.old }
+    requires fits { count ≤ end }
+    ensures written { drop result room.new ≡ replicate count 48 ++ drop end room.old }
+    ensures start { result + count ≡ end }
+    ensures size { length room.new ≡ length room.old }
+{
+    let mut start = end;
+    for _place in 0..count {
+        start = put_byte(room, start, b'0');
+    }
+    start
+}
+
+/// `yyyy-mm-ddThh:mm:ssZ`, or nothing where there is no time.
+#[inline(always)]
+pub(crate) fn put_time(room: &mut [u8], end: usize, time: Option<u64>) -> usize
+    requires within { end ≤ length room.old }
+    requires fits { 20 ≤ end }
+    requires in_range { ForSome time (λ seconds. seconds < 2 ^ 32) }
+    ensures written { drop result room.new ≡ time_text time ++ drop end room.old }
+    ensures onward { result ≤ end }
+    ensures short { end ≤ result + 20 }
+    ensures size { length room.new ≡ length room.old }
+{
+    let Some(seconds) = time else {
+        return end;
+    };
+    let mark = put_byte(room, end, b'Z');
+    let clock = put_clock(room, mark, (seconds % SECONDS_IN_DAY) as u32);
+    let mark = put_byte(room, clock, b'T');
+    put_date(room, mark, (seconds / SECONDS_IN_DAY) as u16)
+}
+
+/// The date that many days after 1970-01-01.
+#[inline(always)]
+fn put_date(room: &mut [u8], end: usize, day: u16) -> usize
+    requires within { end ≤ length room.old }
+    requires fits { 10 ≤ end }
+    ensures written { drop result room.new ≡ date_text (date_of day) ++ drop end room.old }
+    ensures start { result + 10 ≡ end }
+    ensures size { length room.new ≡ length room.old }
+{
+    let date = Date::from_day(day);
+    let century = (date.year / 100) as u8;
+    let year = (date.year % 100) as u8;
+    let text = [
+        tens(century),
+        ones(century),
+        tens(year),
+        ones(year),
+        b'-',
+        tens(date.month),
+        ones(date.month),
+        b'-',
+        tens(date.day),
+        ones(date.day),
+    ];
+    put(room, end, &text)
+}
+
+/// A second of the day as `hh:mm:ss`.
+#[inline(always)]
+fn put_clock(room: &mut [u8], end: usize, second: u32) -> usize
+    requires within { end ≤ length room.old }
+    requires fits { 8 ≤ end }
+    requires in_day { second < 86_400 }
+    ensures written { drop result room.new ≡ clock_text second ++ drop end room.old }
+    ensures start { result + 8 ≡ end }
+    ensures size { length room.new ≡ length room.old }
+{
+    let hour = (second / 3600) as u8;
+    let minute = (second / 60 % 60) as u8;
+    let second = (second % 60) as u8;
+    let text = [
+        tens(hour),
+        ones(hour),
+        b':',
+        tens(minute),
+        ones(minute),
+        b':',
+        tens(second),
+        ones(second),
+    ];
+    put(room, end, &text)
+}
+
+/// A number in hexadecimal.
+pub(crate) fn put_hex(room: &mut [u8], end: usize, number: u32) -> usize
+    requires within { end ≤ length room.old }
+    requires fits { 8 ≤ end }
+    ensures written { drop result room.new ≡ numeral 16 number ++ drop end room.old }
+    ensures start { result + length (numeral 16 number) ≡ end }
+    ensures short { end ≤ result + 8 }
+    ensures size { length room.new ≡ length room.old }
+{
+    let mut start = end;
+    let mut rest = number;
+    while rest >= 16 {
+        start = put_byte(room, start, hex_digit(rest % 16));
+        rest /= 16;
+    }
+    put_byte(room, start, hex_digit(rest))
+}
+
+/// The two digits of each number below 100, one number after the other.
+static PAIRS: [u8; 200] = *b"\
+    00010203040506070809101112131415161718192021222324\
+    25262728293031323334353637383940414243444546474849\
+    50515253545556575859606162636465666768697071727374\
+    75767778798081828384858687888990919293949596979899\
+";
+
+/// The first digit of a number below 100.
+fn tens(number: u8) -> u8
+    requires { number < 100 }
+    ensures { result ≡ 48 + number / 10 }
+{
+    PAIRS[2 * usize::from(number)]
+}
+
+/// The last digit of a number below 100.
+fn ones(number: u8) -> u8
+    requires { number < 100 }
+    ensures { result ≡ 48 + number % 10 }
+{
+    PAIRS[2 * usize::from(number) + 1]
+}
