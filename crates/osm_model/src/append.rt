@@ -1,30 +1,24 @@
 //! Canonical lines, appended to a vector.
-ghost use Rattle.std.specs.Prelude.{◌≡◌, ◌++◌, ◌∷◌, ◌≤◌, ℕ, List, codes, length, drop, OnOk};
+ghost use Rattle.std.specs.Prelude.{◌≡◌, ◌++◌, ◌+◌, [], ◌∷◌, ◌≤◌, ℕ, List, codes, length, drop, OnOk};
 ghost use Rattle.osm_model.specs.Joined.{joined};
 ghost use Rattle.osm_model.specs.Escape.{escape, escape_char};
 ghost use Rattle.osm_model.specs.Line.{list_text, tag_text, reference_text, member_text, kind_fields, line};
 ghost use Rattle.osm_model.specs.Append.{head_text, location_text};
 ghost use Rattle.osm_model.specs.Cursor.{more_text};
 ghost use Rattle.osm_model.specs.Extends.{Extends};
+ghost use Rattle.osm_model.specs.declared.body.Body.TheVariants.{Node};
 
 use crate::escape::plain_length;
 use crate::piece::Piece;
+use crate::plain::SHORT;
 use crate::put::{put, put_byte, put_coordinate, put_integer, put_number, put_time};
 use crate::{Body, Member, Memory, Tag, Text, Version};
 
 /// How many bytes a stretch of a line has room for, which is appended at once: the fields before a user name take fewer.
 const ROOM: usize = 128;
 
-/// Appends the bytes of some room from a place on.
-#[inline(always)]
-fn append_from(room: &[u8], start: usize, out: &mut Vec<u8>) -> Result<(), Memory>
-    requires { start ≤ length room.now }
-    ensures appended { OnOk result (out.new.items ≡ out.old.items ++ drop start room.now) }
-    ensures kept { Extends out.old.items out.new.items }
-{
-    out.extend_from_slice(&room[start..])?;
-    Ok(())
-}
+/// How many bytes the line of a node has at most that has no tags, and a user name that is known to be plain.
+const BARE_NODE: usize = ROOM + SHORT + 64;
 
 impl Version {
     /// Appends the canonical OPL line, without a line end. After an error a part of it may stand there,
@@ -37,11 +31,58 @@ impl Version {
             out.extend_from_slice(line)?;
             return Ok(());
         }
-        append_head(self, out)?;
-        append_text(self.user(), out)?;
-        append_list(b" T", self.body().tags(), out)?;
-        append_kind_fields(self.body(), out)
+        match (self.user().plain(), self.body()) {
+            (Some(user), Body::Node { lon, lat, tags }) if tags.as_slice().is_empty() => {
+                append_bare_node(self, user, *lon, *lat, out)
+            }
+            _ => append_parts(self, out),
+        }
     }
+}
+
+/// Appends the line of a node without tags at once: most nodes have none.
+#[inline(always)]
+fn append_bare_node(
+    node: &Version,
+    user: &[u8],
+    lon: i32,
+    lat: i32,
+    out: &mut Vec<u8>,
+) -> Result<(), Memory>
+    requires body { node.now.body ≡ Node lon lat [] }
+    requires user { user.now ≡ escape node.now.user }
+    requires short { length user.now ≤ 24 }
+    ensures appended { OnOk result (out.new.items ≡ out.old.items ++ line node.now) }
+    ensures kept { Extends out.old.items out.new.items }
+{
+    let mut room = [0; BARE_NODE];
+    let start = put_location(&mut room, BARE_NODE, lon, lat);
+    let start = put(&mut room, start, b" T");
+    let start = put(&mut room, start, user);
+    let start = put_head(&mut room, start, node);
+    append_from(&room, start, out)
+}
+
+/// Appends a line part by part.
+fn append_parts(version: &Version, out: &mut Vec<u8>) -> Result<(), Memory>
+    ensures appended { OnOk result (out.new.items ≡ out.old.items ++ line version.now) }
+    ensures kept { Extends out.old.items out.new.items }
+{
+    append_head(version, out)?;
+    append_text(version.user(), out)?;
+    append_list(b" T", version.body().tags(), out)?;
+    append_kind_fields(version.body(), out)
+}
+
+/// Appends the bytes of some room from a place on.
+#[inline(always)]
+fn append_from(room: &[u8], start: usize, out: &mut Vec<u8>) -> Result<(), Memory>
+    requires { start ≤ length room.now }
+    ensures appended { OnOk result (out.new.items ≡ out.old.items ++ drop start room.now) }
+    ensures kept { Extends out.old.items out.new.items }
+{
+    out.extend_from_slice(&room[start..])?;
+    Ok(())
 }
 
 /// Appends the fields before the user name, and the mark of the user name.
@@ -50,25 +91,37 @@ fn append_head(version: &Version, out: &mut Vec<u8>) -> Result<(), Memory>
     ensures kept { Extends out.old.items out.new.items }
 {
     let mut room = [0; ROOM];
-    let start = put(&mut room, ROOM, b" u");
-    let start = put_number(&mut room, start, version.uid());
-    let start = put(&mut room, start, b" i");
-    let start = put_time(&mut room, start, version.time());
-    let start = put(&mut room, start, b" t");
-    let start = put_number(&mut room, start, version.changeset());
-    let start = put(&mut room, start, b" c");
+    let start = put_head(&mut room, ROOM, version);
+    append_from(&room, start, out)
+}
+
+/// Puts the fields before the user name, and the mark of the user name, into room.
+#[inline(always)]
+fn put_head(room: &mut [u8], end: usize, version: &Version) -> usize
+    requires within { end ≤ length room.old }
+    requires fits { 128 ≤ end }
+    ensures written { drop result room.new ≡ head_text version.now ++ drop end room.old }
+    ensures onward { result ≤ end }
+    ensures size { length room.new ≡ length room.old }
+{
+    let start = put(room, end, b" u");
+    let start = put_number(room, start, version.uid());
+    let start = put(room, start, b" i");
+    let start = put_time(room, start, version.time());
+    let start = put(room, start, b" t");
+    let start = put_number(room, start, version.changeset());
+    let start = put(room, start, b" c");
     let visible = if version.body().is_deleted() {
         b'D'
     } else {
         b'V'
     };
-    let start = put_byte(&mut room, start, visible);
-    let start = put(&mut room, start, b" d");
-    let start = put_number(&mut room, start, version.number());
-    let start = put(&mut room, start, b" v");
-    let start = put_integer(&mut room, start, version.id());
-    let start = put_byte(&mut room, start, version.kind().letter());
-    append_from(&room, start, out)
+    let start = put_byte(room, start, visible);
+    let start = put(room, start, b" d");
+    let start = put_number(room, start, version.number());
+    let start = put(room, start, b" v");
+    let start = put_integer(room, start, version.id());
+    put_byte(room, start, version.kind().letter())
 }
 
 /// Appends the characters of a text, raw or as escapes.
@@ -241,9 +294,22 @@ fn append_location(lon: i32, lat: i32, out: &mut Vec<u8>) -> Result<(), Memory>
     ensures kept { Extends out.old.items out.new.items }
 {
     let mut room = [0; ROOM];
-    let start = put_coordinate(&mut room, ROOM, lat);
-    let start = put(&mut room, start, b" y");
-    let start = put_coordinate(&mut room, start, lon);
-    let start = put(&mut room, start, b" x");
+    let start = put_location(&mut room, ROOM, lon, lat);
     append_from(&room, start, out)
+}
+
+/// Puts the fields of a location into room.
+#[inline(always)]
+fn put_location(room: &mut [u8], end: usize, lon: i32, lat: i32) -> usize
+    requires within { end ≤ length room.old }
+    requires fits { 62 ≤ end }
+    ensures written { drop result room.new ≡ location_text lon lat ++ drop end room.old }
+    ensures onward { result ≤ end }
+    ensures short { end ≤ result + 62 }
+    ensures size { length room.new ≡ length room.old }
+{
+    let start = put_coordinate(room, end, lat);
+    let start = put(room, start, b" y");
+    let start = put_coordinate(room, start, lon);
+    put(room, start, b" x")
 }

@@ -1,5 +1,5 @@
 //! Short texts of raw characters alone.
-ghost use Rattle.std.specs.Prelude.{◌≡◌, ◌↔◌, length, IsSome, IfSome};
+ghost use Rattle.std.specs.Prelude.{◌≡◌, ◌≤◌, ◌↔◌, length, IsSome, IfSome};
 ghost use Rattle.std.specs.Str.{chars};
 ghost use Rattle.osm_model.specs.Escape.{raw_length, IsPlain};
 
@@ -34,6 +34,7 @@ impl PlainString {
     pub(crate) fn as_str(&self) -> &str
         ensures bytes { result.now ≡ self.now.string.bytes }
         ensures plain { IsPlain result.now }
+        ensures short { length result.now ≤ 24 }
     {
         self.string.as_str()
     }

@@ -1,5 +1,5 @@
 //! Texts.
-ghost use Rattle.std.specs.Prelude.{◌≡◌, ◌++◌, [], IfOk, IfSome, OnOk, OnErr, encode_utf8_all, string_bytes};
+ghost use Rattle.std.specs.Prelude.{◌≡◌, ◌≤◌, ◌++◌, [], IfOk, IfSome, OnOk, OnErr, length, encode_utf8_all, string_bytes};
 ghost use Rattle.std.specs.Str.{chars};
 ghost use Rattle.osm_model.specs.Escape.{escape};
 ghost use Rattle.osm_model.specs.Storage.{bytes_of};
@@ -178,7 +178,8 @@ impl Text {
     /// The bytes of the text in a line, where it is known to be plain.
     #[inline(always)]
     pub(crate) fn plain(&self) -> Option<&[u8]>
-        ensures { IfSome result (λ bytes. bytes.now ≡ escape self.now) }
+        ensures text { IfSome result (λ bytes. bytes.now ≡ escape self.now) }
+        ensures short { IfSome result (λ bytes. length bytes.now ≤ 24) }
     {
         match &self.storage {
             Storage::Plain(plain) => Some(plain.as_str().as_bytes()),

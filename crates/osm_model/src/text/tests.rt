@@ -1,6 +1,6 @@
 //! Texts that were looked at, and found to be plain or not.
 use crate::same::Same;
-use crate::{Body, Kind, Meta, Text, Version};
+use crate::{Body, Kind, Meta, Tags, Text, Version};
 use std::alloc::Global;
 use std::test::Fail;
 
@@ -29,6 +29,11 @@ fn looked_at(alloc: Global, characters: &str) -> Result<Text, Fail> {
 
 /// The line of a deletion by a user of this name.
 fn line(alloc: Global, user: Text) -> Result<Vec<u8>, Fail> {
+    line_with(alloc, user, Body::Deleted(Kind::Node))
+}
+
+/// The line of a version with this body by a user of this name.
+fn line_with(alloc: Global, user: Text, body: Body) -> Result<Vec<u8>, Fail> {
     let meta = Meta {
         version: 1,
         time: Some(1),
@@ -36,7 +41,7 @@ fn line(alloc: Global, user: Text) -> Result<Vec<u8>, Fail> {
         uid: 1,
         user,
     };
-    let version = Version::new(alloc, 1, meta, Body::Deleted(Kind::Node))?;
+    let version = Version::new(alloc, 1, meta, body)?;
     let mut out = Vec::new(alloc);
     version.append_line(&mut out)?;
     Ok(out)
@@ -58,6 +63,31 @@ fn a_look_changes_no_text(rt: HostRuntime) -> Result<(), Fail> {
         let line_of_text = line(alloc, text)?;
         assert_eq!(rt; line_of_text.as_slice(), expected.as_bytes());
         assert_eq!(rt; line_of_text, line(alloc, other)?);
+    }
+    Ok(())
+}
+
+/// A node without tags.
+fn bare_node(alloc: Global) -> Body {
+    Body::Node {
+        lon: 95_400_001,
+        lat: -5_000_000,
+        tags: Tags::from_vec(Vec::new(alloc)),
+    }
+}
+
+#[test]
+fn a_node_without_tags_has_one_line(rt: HostRuntime) -> Result<(), Fail> {
+    let alloc = rt.alloc();
+    for (characters, escaped, _) in TEXTS {
+        let expected = format!(in alloc;
+            "n1 v1 dV c1 t1970-01-01T00:00:01Z i1 u{escaped} T x9.5400001 y-0.5"
+        )?;
+        let text = looked_at(alloc, characters)?;
+        assert_eq!(rt;
+            line_with(alloc, text, bare_node(alloc))?.as_slice(),
+            expected.as_bytes()
+        );
     }
     Ok(())
 }
