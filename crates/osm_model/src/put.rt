@@ -14,7 +14,7 @@ use crate::calendar::Date;
 use crate::escape::hex_digit;
 
 /// The units of a coordinate in one degree.
-const UNITS_IN_DEGREE: u64 = 10_000_000;
+const UNITS_IN_DEGREE: u32 = 10_000_000;
 
 const SECONDS_IN_DAY: u64 = 86_400;
 
@@ -98,15 +98,15 @@ pub(crate) fn put_coordinate(room: &mut [u8], end: usize, units: i32) -> usize
     ensures short { end ≤ result + 29 }
     ensures size { length room.new ≡ length room.old }
 {
-    let size = u64::from(units.unsigned_abs());
+    let size = units.unsigned_abs();
     let fraction = put_fraction(room, end, size % UNITS_IN_DEGREE);
-    let degrees = put_number(room, fraction, size / UNITS_IN_DEGREE);
+    let degrees = put_number(room, fraction, u64::from(size / UNITS_IN_DEGREE));
     put_sign(room, degrees, i64::from(units))
 }
 
 /// The point and the decimals of a part of a degree, or nothing where it is 0. Most have all seven decimals.
 #[inline(always)]
-fn put_fraction(room: &mut [u8], end: usize, units: u64) -> usize
+fn put_fraction(room: &mut [u8], end: usize, units: u32) -> usize
     requires within { end ≤ length room.old }
     requires fits { 20 ≤ end }
     requires part { units < 10_000_000 }
@@ -126,7 +126,7 @@ fn put_fraction(room: &mut [u8], end: usize, units: u64) -> usize
 
 /// The point and seven decimals.
 #[inline(always)]
-fn put_seven_decimals(room: &mut [u8], end: usize, units: u64) -> usize
+fn put_seven_decimals(room: &mut [u8], end: usize, units: u32) -> usize
     requires within { end ≤ length room.old }
     requires fits { 8 ≤ end }
     requires part { units < 10_000_000 }
@@ -152,7 +152,7 @@ fn put_seven_decimals(room: &mut [u8], end: usize, units: u64) -> usize
 }
 
 /// The point and the decimals of a part of a degree whose last decimals are zeros, which are left out.
-fn put_fewer_decimals(room: &mut [u8], end: usize, units: u64) -> usize
+fn put_fewer_decimals(room: &mut [u8], end: usize, units: u32) -> usize
     requires within { end ≤ length room.old }
     requires fits { 20 ≤ end }
     requires some { 0 < units }
@@ -168,7 +168,7 @@ fn put_fewer_decimals(room: &mut [u8], end: usize, units: u64) -> usize
         digits /= 10;
         places -= 1;
     }
-    let decimals = put_padded(room, end, digits, places);
+    let decimals = put_padded(room, end, u64::from(digits), places);
     put_byte(room, decimals, b'.')
 }
 
