@@ -1,5 +1,5 @@
 //! Some bytes of a line, filled in place.
-ghost use Rattle.std.specs.Prelude.{◌≡◌, ◌++◌, ◌+◌, ◌∷◌, [], ◌≤◌, ◌<◌, ◌^◌};
+ghost use Rattle.std.specs.Prelude.{◌≡◌, ◌++◌, ◌∷◌, [], ◌≤◌, ◌<◌, ◌^◌};
 ghost use Rattle.std.specs.Prelude.{length, MatchOption, OnOk};
 ghost use Rattle.std.specs.Option.{ForSome};
 ghost use Rattle.osm_model.specs.Decimal.{number_text, integer_text};
@@ -67,13 +67,6 @@ impl Piece {
         let byte = self.bytes[self.start];
         self.start += 1;
         Some(byte)
-    }
-
-    /// Takes all that is left.
-    pub(crate) fn clear(&mut self)
-        ensures { left self.new ≡ [] }
-    {
-        self.start = ROOM;
     }
 
     /// These bytes, at most 32.

@@ -101,7 +101,4 @@ fn gives_its_bytes(rt: HostRuntime) {
     for byte in [Some(b'd'), Some(b'V'), None] {
         assert_eq!(rt; piece.take(), byte);
     }
-    piece.set_bytes(b"dV");
-    piece.clear();
-    assert!(rt; piece.as_slice().is_empty());
 }
