@@ -66,16 +66,16 @@ fn merge_command<'a>(alloc: Global) -> Result<Command<'a>, AllocError> {
 }
 
 fn apply_command<'a>(alloc: Global) -> Result<Command<'a>, AllocError> {
-    let with_history = Arg::new(alloc, "with-history")
-        .long("with-history")
-        .action(ArgAction::SetTrue)
-        .help("Writes all versions, deletions included");
     writing_command(alloc, "apply")?
         .about("Applies changes: writes the newest version of each object that isn't deleted")
         .after_help(any_order_help!(
             "apply --output today.o5m --format o5m yesterday.o5m changes.o5c"
         ))
-        .arg(with_history)?
+        .arg(flag_arg(
+            alloc,
+            "with-history",
+            "Writes all versions, deletions included",
+        ))?
         .arg(sorted_arg(alloc))?
         .arg(files_arg(
             alloc,
@@ -84,29 +84,20 @@ fn apply_command<'a>(alloc: Global) -> Result<Command<'a>, AllocError> {
 }
 
 fn time_filter_command<'a>(alloc: Global) -> Result<Command<'a>, AllocError> {
-    let file = Arg::new(alloc, "files")
-        .value_name("FILE")
-        .required(true)
-        .action(ArgAction::Set)
-        .help("The file of a history, in OPL, o5m or o5c; - is standard input");
-    let time = Arg::new(alloc, "time")
-        .value_name("TIME")
-        .required(true)
-        .action(ArgAction::Set)
-        .help("The moment, as 2014-05-06T07:08:09Z");
-    let end = Arg::new(alloc, "end")
-        .value_name("TIME")
-        .action(ArgAction::Set)
-        .help("The end of the period that begins then: all versions of that period are written");
     writing_command(alloc, "time-filter")?
         .about("Writes the objects as they stood at a moment, or their versions of a period")
         .after_help(any_order_help!(
             "time-filter --output new-year.opl history.opl 2020-01-01T00:00:00Z"
         ))
         .arg(sorted_arg(alloc))?
-        .arg(file)?
-        .arg(time)?
-        .arg(end)
+        .arg(required_arg(
+            alloc,
+            "files",
+            "FILE",
+            "The file of a history, in OPL, o5m or o5c; - is standard input",
+        ))?
+        .arg(required_arg(alloc, "time", "TIME", "The moment, as 2014-05-06T07:08:09Z"))?
+        .arg(end_arg(alloc))
 }
 
 fn sort_command<'a>(alloc: Global) -> Result<Command<'a>, AllocError> {
@@ -121,75 +112,93 @@ fn sort_command<'a>(alloc: Global) -> Result<Command<'a>, AllocError> {
 }
 
 fn check_command<'a>(alloc: Global) -> Result<Command<'a>, AllocError> {
-    let file = Arg::new(alloc, "file")
-        .value_name("FILE")
-        .required(true)
-        .action(ArgAction::Set)
-        .help("The file to be checked, in OPL, o5m or o5c; - is standard input");
     Command::new(alloc, "check")
         .about("Prints a file's format, its versions and objects, and whether it is sorted")
         .after_help(CHECK)
-        .arg(file)
+        .arg(required_arg(
+            alloc,
+            "file",
+            "FILE",
+            "The file to be checked, in OPL, o5m or o5c; - is standard input",
+        ))
 }
 
 fn plan_command<'a>(alloc: Global) -> Result<Command<'a>, AllocError> {
-    let plan = Arg::new(alloc, "plan")
-        .value_name("PLAN")
-        .required(true)
-        .action(ArgAction::Set)
-        .help("The file of the plan");
     Command::new(alloc, "plan")
         .about(
             "Runs a plan: mirrors take files and pass them on, and what they hold in the end is written",
         )
         .after_help(PLAN)
-        .arg(plan)
+        .arg(required_arg(alloc, "plan", "PLAN", "The file of the plan"))
 }
 
 /// A command of this name that writes a file.
 fn writing_command<'a>(alloc: Global, name: &'a str) -> Result<Command<'a>, AllocError> {
-    let output = Arg::new(alloc, "output")
-        .long("output")
-        .value_name("OUT")
-        .required(true)
-        .action(ArgAction::Set)
-        .help(
-            "The file to be written; - is standard output, and a pipe or a device is written as it is",
-        );
-    let format = Arg::new(alloc, "format")
+    Command::new(alloc, name)
+        .arg(output_arg(alloc))?
+        .arg(format_arg(alloc))?
+        .arg(flag_arg(
+            alloc,
+            "fsync",
+            "Puts the file on the disk before it gets its name",
+        ))?
+        .arg(flag_arg(
+            alloc,
+            "progress",
+            "Tells on standard error, while it runs, how much was read and written",
+        ))
+}
+
+fn output_arg<'a>(alloc: Global) -> Arg<'a> {
+    let help =
+        "The file to be written; - is standard output, and a pipe or a device is written as it is";
+    required_arg(alloc, "output", "OUT", help).long("output")
+}
+
+fn format_arg<'a>(alloc: Global) -> Arg<'a> {
+    Arg::new(alloc, "format")
         .long("format")
         .value_name("FORMAT")
         .value_parser(FORMAT_NAMES.as_slice())
         .default_value("opl")
         .action(ArgAction::Set)
-        .help("Its format, whatever its name ends in");
-    let fsync = Arg::new(alloc, "fsync")
-        .long("fsync")
-        .action(ArgAction::SetTrue)
-        .help("Puts the file on the disk before it gets its name");
-    let progress = Arg::new(alloc, "progress")
-        .long("progress")
-        .action(ArgAction::SetTrue)
-        .help("Tells on standard error, while it runs, how much was read and written");
-    Command::new(alloc, name)
-        .arg(output)?
-        .arg(format)?
-        .arg(fsync)?
-        .arg(progress)
+        .help("Its format, whatever its name ends in")
+}
+
+fn end_arg<'a>(alloc: Global) -> Arg<'a> {
+    Arg::new(alloc, "end")
+        .value_name("TIME")
+        .action(ArgAction::Set)
+        .help("The end of the period that begins then: all versions of that period are written")
 }
 
 fn files_arg<'a>(alloc: Global, help: &'a str) -> Arg<'a> {
-    Arg::new(alloc, "files")
-        .value_name("FILE")
-        .required(true)
+    required_arg(alloc, "files", "FILE", help)
         .num_args(1..)
         .action(ArgAction::Append)
-        .help(help)
 }
 
 fn sorted_arg<'a>(alloc: Global) -> Arg<'a> {
-    Arg::new(alloc, "sorted")
-        .long("sorted")
+    flag_arg(
+        alloc,
+        "sorted",
+        "Refuses a file that isn't sorted, so that none is held in memory",
+    )
+}
+
+/// A word that has to be given.
+fn required_arg<'a>(alloc: Global, name: &'a str, value_name: &'a str, help: &'a str) -> Arg<'a> {
+    Arg::new(alloc, name)
+        .value_name(value_name)
+        .required(true)
+        .action(ArgAction::Set)
+        .help(help)
+}
+
+/// An option without a value.
+fn flag_arg<'a>(alloc: Global, name: &'a str, help: &'a str) -> Arg<'a> {
+    Arg::new(alloc, name)
+        .long(name)
         .action(ArgAction::SetTrue)
-        .help("Refuses a file that isn't sorted, so that none is held in memory")
+        .help(help)
 }
