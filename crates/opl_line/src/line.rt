@@ -1,5 +1,6 @@
 //! OPL lines, read and written.
 ghost use Rattle.std.specs.Prelude.{◌≡◌, ◌⊎◌, ◌++◌, true, false, Err, IfOk, IfErr, IfSome, OnOk, MatchOption, MatchResult, option_copied};
+ghost use Rattle.osm_model.specs.Cursor.{still};
 ghost use Rattle.osm_model.specs.Extends.{Extends};
 ghost use Rattle.osm_model.specs.Line.{line};
 ghost use Rattle.osm_model.specs.Id.{is_id};
@@ -23,7 +24,9 @@ use crate::item::split_kind;
 use crate::number::read_id;
 use crate::upload::Upload;
 use crate::utf8::to_str;
-use osm_model::{Body, Kind, Members, Memory, Meta, References, Spare, Tags, Text, Version};
+use osm_model::{
+    Body, Kind, LineBytes, Members, Memory, Meta, References, Spare, Tags, Text, Version,
+};
 use std::alloc::Global;
 use std::marker::Model;
 
@@ -51,8 +54,6 @@ pub struct LineReader {
     spare: Spare,
     /// What the lines before told of their upload, which the next line often tells, too.
     upload: Upload,
-    /// Whether versions keep their canonical lines.
-    keeps_lines: bool,
 }
 
 /// What a line is read as depends on that line alone, so contracts see nothing of its reader.
@@ -69,19 +70,6 @@ impl LineReader {
             alloc,
             spare: Spare::new(alloc),
             upload: Upload::new(alloc),
-            keeps_lines: false,
-        }
-    }
-
-    /// A reader whose versions keep the lines that they were read from, where these are canonical. It serves who writes
-    /// versions soon again, since [`Version::append_line`] then copies the line, which takes memory until the version is
-    /// given back.
-    pub fn keeping_lines(alloc: Global) -> LineReader {
-        LineReader {
-            alloc,
-            spare: Spare::new(alloc),
-            upload: Upload::new(alloc),
-            keeps_lines: true,
         }
     }
 
@@ -115,12 +103,7 @@ impl LineReader {
         ensures valid { IfSome result IsVersion }
     {
         let (id, meta, body) = read_canonical(self.alloc, &mut self.spare, &mut self.upload, text)?;
-        let version = if self.keeps_lines {
-            Version::of_canonical_line(self.alloc, &mut self.spare, id, meta, body, text)
-        } else {
-            Version::of_sound_data(self.alloc, &mut self.spare, id, meta, body)
-        };
-        version.ok()
+        Version::of_sound_data(self.alloc, &mut self.spare, id, meta, body).ok()
     }
 
     /// Takes back a version that isn't needed any more. The next one takes its memory, so that none is asked for.
@@ -246,11 +229,23 @@ pub fn append_line(out: &mut Vec<u8>, version: &Version) -> Result<(), Memory>
     version.append_line(out)
 }
 
-/// The canonical line of a version, without a line end.
+/// The canonical line of a version, without a line end. It is written by [`Version::line_bytes`], a run of bytes at a time;
+/// [`append_line`] writes the same bytes faster.
 pub fn write_line(alloc: Global, version: &Version) -> Result<Vec<u8>, Memory>
     ensures { IfOk result (λ text. text.items ≡ line version.now) }
 {
     let mut text = Vec::new(alloc);
-    append_line(&mut text, version)?;
+    append_runs(version.line_bytes(), &mut text)?;
     Ok(text)
+}
+
+/// Appends the bytes that a cursor has not given yet.
+fn append_runs(mut bytes: LineBytes<'_>, out: &mut Vec<u8>) -> Result<(), Memory>
+    ensures { OnOk result (out.new.items ≡ out.old.items ++ still bytes.entry) }
+{
+    out.extend_from_slice(bytes.run())?;
+    while bytes.advance() {
+        out.extend_from_slice(bytes.run())?;
+    }
+    Ok(())
 }

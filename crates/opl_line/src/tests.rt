@@ -1,17 +1,25 @@
 //! Lines with their answers, worked out by hand from the rules of the format.
 use crate::{LineReader, OplReason, append_line, find_line_end, read_line, read_time, write_line};
+use osm_model::{Body, Meta, Tags, Text, Version};
 use std::alloc::Global;
 use std::process::Abort;
 use std::str;
 use std::test::Fail;
 
+/// Checks that `write_line` and `append_line` both write this line of a version.
+fn check_line(rt: &impl Abort, alloc: Global, version: &Version, line: &str) -> Result<(), Fail> {
+    let text = write_line(alloc, version)?;
+    assert_eq!(rt; str::from_utf8(&text)?, line);
+    let mut appended = Vec::new(alloc);
+    append_line(&mut appended, version)?;
+    assert_eq!(rt; appended, text);
+    Ok(())
+}
+
 /// What a line is read as: its canonical line, the name of the reason, or `skipped`.
 fn check(rt: &impl Abort, alloc: Global, line: &[u8], answer: &str) -> Result<(), Fail> {
     match read_line(alloc, line) {
-        Ok(Some(version)) => {
-            let text = write_line(alloc, &version)?;
-            assert_eq!(rt; str::from_utf8(&text)?, answer);
-        }
+        Ok(Some(version)) => check_line(rt, alloc, &version, answer)?,
         Ok(None) => assert_eq!(rt; "skipped", answer),
         Err(reason) => assert_eq!(rt; reason.name(), answer),
     }
@@ -47,6 +55,63 @@ w1 v1 Tb=1,a=2,b=1,b=0,= => w1 v1 dV c0 t i0 u T=,a=2,b=0,b=1 N
 n1 v1 c4294967295 i0004294967295 t2106-02-07T06:28:15Z dD => n1 v1 dD c4294967295 t2106-02-07T06:28:15Z i4294967295 u T x y
 w1 v1 t1972-02-29T23:59:59Z ua@\u{a0}%7%%10FFFF%%00000041% => w1 v1 dV c0 t1972-02-29T23:59:59Z i0 ua%40%%a0%%07%%10ffff%A T N";
     check_rows(&rt, rt.alloc(), rows)
+}
+
+/// Canonical lines of each kind, with texts, lists and numbers of each size.
+const CANONICAL: [&str; 8] = [
+    "n-4611686018427387903 v4294967295 dV c4294967295 t2106-02-07T06:28:15Z i4294967295 u T x-214.7483648 y214.7483647",
+    "n0 v1 dV c0 t i0 u Tname=one_more_than_lies_within_it x0.0000001 y-0.0000001",
+    "n0 v1 dD c0 t1970-01-01T00:00:01Z i0 uone_more_than_lies_within_it T x y",
+    "w7 v10 dV c9 t2000-02-29T12:34:56Z i99 uä%20%%1f600%%07% T=%6771%,a=ß%2c%b Nn1,n-2,n3,n-4,n5,n-6,n7",
+    "w4611686018427387903 v1 dV c0 t i0 u T Nn-4611686018427387903,n4611686018427387903,n0,n0,n0",
+    "w-1 v100 dD c100 t1972-02-29T23:59:59Z i1 u%25% T N",
+    "r-1 v1 dV c0 t i0 u T Mn-4611686018427387903@,w0@%40%,r4611686018427387903@one_more_than_lies_within_it",
+    "r1 v1 dD c0 t i0 u T M",
+];
+
+#[test]
+fn both_writers_write_one_line(rt: HostRuntime) -> Result<(), Fail> {
+    for line in CANONICAL {
+        check(&rt, rt.alloc(), line.as_bytes(), line)?;
+    }
+    Ok(())
+}
+
+#[test]
+fn both_writers_write_users_that_are_plain(rt: HostRuntime) -> Result<(), Fail> {
+    let alloc = rt.alloc();
+    for (name, escaped) in [
+        ("", ""),
+        ("anna", "anna"),
+        ("as_many_as_lie_within_it", "as_many_as_lie_within_it"),
+        ("a b", "a%20%b"),
+    ] {
+        let mut user = Text::from_str(alloc, name)?;
+        user.mark_plain();
+        let meta = Meta {
+            version: 1,
+            time: Some(1),
+            changeset: 2,
+            uid: 3,
+            user,
+        };
+        let tags = Tags::from_vec(Vec::new(alloc));
+        let node = Version::new(
+            alloc,
+            4,
+            meta,
+            Body::Node {
+                lon: 5,
+                lat: -6,
+                tags,
+            },
+        )?;
+        let line = format!(in alloc;
+            "n4 v1 dV c2 t1970-01-01T00:00:01Z i3 u{escaped} T x0.0000005 y-0.0000006"
+        )?;
+        check_line(&rt, alloc, &node, &line)?;
+    }
+    Ok(())
 }
 
 #[test]

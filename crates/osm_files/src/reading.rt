@@ -34,8 +34,6 @@ pub(crate) struct Reading<R: Input> {
     place: u64,
     /// Where the reading stands, once the first byte was seen, which tells the grammar.
     stage: Option<Stage>,
-    /// Whether the versions of lines keep these.
-    keeps_lines: bool,
     ended: bool,
     failed: bool,
 }
@@ -72,19 +70,9 @@ impl<R: Input> Reading<R> {
             unread: Unread::new(alloc),
             place: 0,
             stage: None,
-            keeps_lines: false,
             ended: false,
             failed: false,
         }
-    }
-
-    /// A reading whose versions keep their canonical lines, so that they are written by a copy.
-    pub(crate) fn keeping_lines(alloc: Global, input: usize, reader: R) -> Reading<R>
-        ensures { result ≡ record { input = input; place = 0; held = []; coming = reader; stand = None; ended = false; failed = false } }
-    {
-        let mut reading = Reading::new(alloc, input, reader);
-        reading.keeps_lines = true;
-        reading
     }
 
     /// Asks for about so many bytes at a time from now on.
@@ -160,7 +148,7 @@ impl<R: Input> Reading<R> {
         ensures { self.new ≡ seen self.old }
     {
         if !self.unread.as_slice().is_empty() {
-            self.stage = Some(Stage::of(self.alloc, self.keeps_lines, self.unread.as_slice()));
+            self.stage = Some(Stage::of(self.alloc, self.unread.as_slice()));
         }
     }
 

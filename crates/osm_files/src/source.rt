@@ -107,7 +107,7 @@ impl<R: Input> FileSource<R> {
     {
         Ok(FileSource {
             alloc,
-            units: Reading::keeping_lines(alloc, input, reader),
+            units: Reading::new(alloc, input, reader),
             pending: None,
             ready: Vec::new(alloc).into_iter(),
         })

@@ -239,14 +239,13 @@ fn read_behind(bytes: &[u8]) -> Result<Option<ReadUnit>, Reason>
 }
 
 impl Stage {
-    /// Where the reading of a file with these bytes begins, whose versions keep their canonical lines or not.
-    pub(crate) fn of(alloc: Global, keeps_lines: bool, bytes: &[u8]) -> Stage
+    /// Where the reading of a file with these bytes begins.
+    pub(crate) fn of(alloc: Global, bytes: &[u8]) -> Stage
         ensures place { stand_of result ≡ spec.start_of bytes.now }
         ensures good { IsGood result }
     {
         match bytes.first() {
             Some(byte) if *byte == RESET => Stage::Header,
-            _ if keeps_lines => Stage::Lines(LineReader::keeping_lines(alloc)),
             _ => Stage::Lines(LineReader::new(alloc)),
         }
     }

@@ -8,7 +8,6 @@ pub mod Data
 pub mod New
 pub mod Valid
 pub mod Sets
-pub mod Kept
 pub mod Inside
 pub mod Numeral
 pub mod Decimal

@@ -27,10 +27,6 @@ impl Version {
         ensures appended { OnOk result (out.new.items ≡ out.old.items ++ line self.now) }
         ensures kept { Extends out.old.items out.new.items }
     {
-        if let Some(line) = self.line_at_hand() {
-            out.extend_from_slice(line)?;
-            return Ok(());
-        }
         match (self.user().plain(), self.body()) {
             (Some(user), Body::Node { lon, lat, tags }) if tags.as_slice().is_empty() => {
                 append_bare_node(self, user, *lon, *lat, out)

@@ -1,5 +1,5 @@
 //! Versions of objects.
-ghost use Rattle.std.specs.Prelude.{◌≡◌, ◌↔◌, [], ◌⊎◌, ◌<◌, ◌^◌, None, Some, Ok, Err, refl, IsTrue, IfOk, IfErr, IfSome, MatchResult};
+ghost use Rattle.std.specs.Prelude.{◌≡◌, ◌⊎◌, ◌<◌, ◌^◌, None, Some, Ok, Err, refl, IfOk, IfErr, MatchResult};
 ghost use Rattle.std.specs.Ordering.{eq_by_cmp, as_partial_cmp, nat_cmp};
 ghost use Rattle.std.specs.Cmp.{eq_by_cmp_equiv, partial_equiv_from_equiv, partial_order_from_agreeing_total};
 ghost use Rattle.std.specs.Cmp.Lexicographic.{slice_cmp};
@@ -43,8 +43,6 @@ pub struct Parts {
     pub meta: Meta,
     /// The body.
     pub body: Body,
-    /// The canonical line, where it is at hand, and else nothing. No canonical line is empty.
-    kept_line: Vec<u8>,
 }
 
 impl Model for Version {
@@ -121,7 +119,6 @@ impl Parts {
             kind: Kind::Node,
             meta: Meta::nothing(),
             body: Body::Deleted(Kind::Node),
-            kept_line: Vec::new(alloc),
         };
         Ok(Box::new(alloc, parts)?)
     }
@@ -137,25 +134,14 @@ impl Parts {
         }
     }
 
-    /// Keeps no line at hand any more.
-    #[inline(always)]
-    fn forget_line(&mut self)
-        ensures same { self.new ≡ record self.old { kept_line = self.new.kept_line } }
-        ensures line { self.new.kept_line.items ≡ [] }
-    {
-        self.kept_line.clear();
-    }
-
-    /// Takes the body out, and leaves that of a deleted object of its kind, and no line.
+    /// Takes the body out, and leaves that of a deleted object of its kind.
     #[inline(always)]
     fn take_body(&mut self) -> Body
         ensures id { self.new.id ≡ self.old.id }
         ensures kind { self.new.kind ≡ self.old.kind }
         ensures meta { self.new.meta ≡ self.old.meta }
         ensures body { self.new.body ≡ Deleted self.old.kind }
-        ensures line { self.new.kept_line.items ≡ [] }
     {
-        self.forget_line();
         mem::replace(&mut self.body, Body::Deleted(self.kind))
     }
 
@@ -172,7 +158,7 @@ impl Parts {
         self.body.replace(body);
     }
 
-    /// Makes the parts those of a version: the tags ascending, each once, and no line.
+    /// Makes the parts those of a version: the tags ascending, each once.
     #[inline(always)]
     fn finish(&mut self)
         ensures id { self.new.id ≡ self.old.id }
@@ -180,9 +166,7 @@ impl Parts {
         ensures meta { self.new.meta ≡ self.old.meta }
         ensures body { self.new.body ≡ normal_body self.old.body }
         ensures location { IsInRange self.new.body }
-        ensures line { self.new.kept_line.items ≡ [] }
     {
-        self.forget_line();
         self.kind = self.body.kind();
         self.body.normalize();
         self.body.tell_range();
@@ -244,54 +228,6 @@ impl Version {
     {
         parts.finish();
         Version { parts }
-    }
-
-    /// The version of data that has no fault, as [`Version::of_sound_data`] makes it, which keeps its canonical line at
-    /// hand for [`Version::append_line`]. It keeps none where there is no memory for it.
-    ///
-    /// # Errors
-    ///
-    /// As for [`Version::of_sound_data`].
-    #[inline(always)]
-    pub fn of_canonical_line(
-        alloc: Global,
-        spare: &mut Spare,
-        id: i64,
-        meta: Meta,
-        body: Body,
-        text: &[u8],
-    ) -> Result<Version, Memory>
-        requires sound { first_fault id meta body ≡ None }
-        requires canonical { text.now ≡ line (version_of id meta body) }
-        ensures value { IfOk result (λ version. version ≡ version_of id meta body) }
-        ensures valid { IfOk result IsVersion }
-    {
-        let mut version = Version::of_sound_data(alloc, spare, id, meta, body)?;
-        version.keep_line(text);
-        Ok(version)
-    }
-
-    /// Keeps the canonical line at hand, or none where there is no memory for it.
-    #[inline(always)]
-    fn keep_line(&mut self, text: &[u8])
-        requires { text.now ≡ line self.old }
-        ensures value { self.new ≡ self.old }
-        ensures valid { IsVersion self.new }
-    {
-        let kept = &mut self.parts.kept_line;
-        kept.clear();
-        if kept.extend_from_slice(text).is_err() {
-            kept.clear();
-        }
-    }
-
-    /// The canonical line, where it is at hand.
-    #[inline(always)]
-    pub(crate) fn line_at_hand(&self) -> Option<&[u8]>
-        ensures { IfSome result (λ text. text.now ≡ line self.now) }
-    {
-        let kept = self.parts.kept_line.as_slice();
-        if kept.is_empty() { None } else { Some(kept) }
     }
 
     /// The id of the object, and that the version is within its ranges.
@@ -382,13 +318,13 @@ impl Version {
         self.number().cmp(&other.number())
     }
 
-    /// Takes the body out. The version is one of a deleted object then, and keeps no line at hand.
+    /// Takes the body out. The version is one of a deleted object then.
     #[inline(always)]
     pub(crate) fn take_body(&mut self) -> Body {
         self.parts.take_body()
     }
 
-    /// An equal version, which keeps no line at hand.
+    /// An equal version.
     pub fn copy(&self) -> Result<Version, Memory>
         ensures { IfOk result (λ v. v ≡ self.now) }
     {
@@ -398,7 +334,6 @@ impl Version {
             kind: self.parts.kind,
             meta: self.parts.meta.copy()?,
             body: self.parts.body.copy()?,
-            kept_line: Vec::new(alloc),
         };
         Ok(Version {
             parts: Box::new(alloc, parts)?,
@@ -416,16 +351,6 @@ impl Version {
         let time = self.time().unwrap_or(0).cmp(&other.time().unwrap_or(0));
         let deleted = self.body().is_deleted().cmp(&other.body().is_deleted());
         time.then(deleted)
-    }
-
-    /// Whether two versions hold equal data.
-    fn is_same_data(&self, other: &Version) -> bool
-        ensures { IsTrue result ↔ (self.now ≡ other.now) }
-    {
-        let (parts, others) = (&*self.parts, &*other.parts);
-        parts.id == others.id
-            && parts.meta.is_same(&others.meta)
-            && parts.body.is_same(&others.body)
     }
 
     /// The order of the bytes of the lines.
@@ -455,10 +380,10 @@ impl Version {
 
 impl Same for Version {
     fn is_same(&self, other: &Version) -> bool {
-        match (self.line_at_hand(), other.line_at_hand()) {
-            (Some(line), Some(others)) => line == others,
-            _ => self.is_same_data(other),
-        }
+        let (parts, others) = (&*self.parts, &*other.parts);
+        parts.id == others.id
+            && parts.meta.is_same(&others.meta)
+            && parts.body.is_same(&others.body)
     }
 }
 

@@ -8,7 +8,7 @@ use std::process::Abort;
 use std::str;
 use std::test::Fail;
 
-/// Reads a line by a reader that keeps lines, and checks the canonical line that is written of it.
+/// Reads a line, and checks the canonical line that is written of it.
 fn check_written(
     rt: &impl Abort,
     alloc: Global,
@@ -39,7 +39,7 @@ w-999999999999999999 v3 dD c0 t i0 u T N
 r2 v1 dV c12 t1970-01-01T00:00:01Z i0 u Ttype=route Mw4@,n7@end,r-1@x
 r2 v2 dV c0 t i0 u T M
 r2 v3 dD c0 t i0 u T M";
-    let mut reader = LineReader::keeping_lines(alloc);
+    let mut reader = LineReader::new(alloc);
     for line in lines.lines() {
         assert!(&rt;
             read_canonical(
@@ -65,7 +65,7 @@ n1 v2 dV c9 t2015-01-02T03:04:05Z i6 u¡¢¬®¿ÀÿĀͿ֐׿ Tname=Улица%20
 n1 v3 dV c9 t2015-01-02T03:04:05Z i6 u%0600%%fffd%%1f600%%10ffff% Tname=%1e9e%%a0%%ad%%07%%7f% x8.6 y49
 w4 v1 dV c0 t i0 u Tname=a%20%name%20%that%20%takes%20%memory%20%of%20%its%20%own,note=%25%%25%%40% Nn1
 r2 v2 dV c0 t i0 u T Mw4@%20%,n7@end%20%ß,r-1@%0904%";
-    let mut reader = LineReader::keeping_lines(alloc);
+    let mut reader = LineReader::new(alloc);
     for line in lines.lines() {
         assert!(&rt;
             read_canonical(
@@ -111,7 +111,7 @@ w1 v1 dV c0 t i0 u Ta=\u{a0} N => w1 v1 dV c0 t i0 u Ta=%a0% N
 w1 v1 dV c0 t i0 u Ta=\u{ad} N => w1 v1 dV c0 t i0 u Ta=%ad% N
 w1 v1 dV c0 t i0 u Ta=ß@ N => w1 v1 dV c0 t i0 u Ta=ß%40% N
 w1 v1 dV c0 t i0 u Ta=b%20% Nn01 => w1 v1 dV c0 t i0 u Ta=b%20% Nn1";
-    let mut reader = LineReader::keeping_lines(alloc);
+    let mut reader = LineReader::new(alloc);
     for row in rows.lines() {
         let (line, canonical) = row.split_once(" => ").ok_or("no answer")?;
         assert!(&rt;
