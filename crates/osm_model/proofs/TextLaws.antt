@@ -1,7 +1,7 @@
 -- Texts as characters and as bytes.
-use Rattle.std.proofs.Common.{◌≡◌, ℕ, false, eqb, ◌||◌, List, [], ◌∷◌, ◌++◌, refl, ap, ◌∙◌, arith, length}
+use Rattle.std.proofs.Common.{◌≡◌, ◌≤◌, ℕ, false, eqb, ◌||◌, List, [], ◌∷◌, ◌++◌, refl, ap, sym, subst, ◌∙◌, arith, length}
 use lib.Utf8.{encode, encodes}
-use Rattle.std.specs.Str.{chars, IsUtf8}
+use Rattle.std.specs.Str.{chars, IsUtf8, encode_utf8_all}
 use Rattle.std.specs.String.{string_bytes}
 use Rattle.std.specs.declared.string.String.{String}
 use Rattle.std.specs.List.{list_any}
@@ -43,3 +43,7 @@ text_chars bs cs u e = encodes_same _ _ (encodes-chars bs u ∙ e)
 
 pub appended_chars : (before more now : List ℕ) → IsUtf8 before → now ≡ before ++ more → chars now ≡ chars before ++ chars more
 appended_chars before more now u e = ap chars e ∙ chars-append before more u
+
+-- a text whose bytes lie in a few is short
+pub short_text : (bytes all text : List ℕ) → IsUtf8 bytes → bytes ≡ all → chars all ≡ text → length bytes ≤ 24 → length (encode_utf8_all text) ≤ 24
+short_text bytes all text utf8 same is short = subst (λ t. length t ≤ 24) (sym (encodes-chars bytes utf8) ∙ ap encode_utf8_all (ap chars same ∙ is)) short

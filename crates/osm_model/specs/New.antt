@@ -1,5 +1,5 @@
 -- Which data makes a version, and why other data doesn't (own rules of this project).
-use Rattle.std.specs.Prelude.{ℕ, ℤ, ◌^◌, Bool, true, not, ◌&&◌, ◌||◌, nat_lt, List, [], ◌∷◌, Option, Some, None, is_some, Result, Ok, Err, ◌==◌, if◌then◌else◌}
+use Rattle.std.specs.Prelude.{◌≡◌, ◌≤◌, ℕ, ℤ, ◌^◌, Bool, true, not, ◌&&◌, ◌||◌, nat_lt, List, [], ◌∷◌, Option, Some, None, is_some, Result, Ok, Err, ◌==◌, if◌then◌else◌, length, encode_utf8_all}
 use Rattle.std.specs.List.{list_all}
 use Rattle.osm_model.specs.declared.body.Body.{Body}
 use Rattle.osm_model.specs.declared.meta.Meta.{Meta}
@@ -48,3 +48,7 @@ unless_faulty (Some fault) v = Err fault
 -- What `Version::new` answers: the version of the data, or the first fault.
 abbrev pub version_or_fault : ℤ → Meta → Body → Result VersionData ValueFault
 version_or_fault id meta body = unless_faulty (first_fault id meta body) (version_of id meta body)
+
+-- parts that a reader fills: the body has no ids and no texts, and the user name has at most 24 bytes
+abbrev pub IsToFill : Meta → Body → Type 0
+IsToFill meta body = (ids_of body ≡ []) × (texts_of body ≡ []) × (length (encode_utf8_all meta.user) ≤ 24)

@@ -1,10 +1,13 @@
 //! The bodies of versions.
-ghost use Rattle.std.specs.Prelude.{◌≡◌, ◌↔◌, IfOk, IsTrue};
+ghost use Rattle.std.specs.Prelude.{◌≡◌, ◌↔◌, [], IfOk, IsTrue};
+ghost use Rattle.std.specs.Bool.{OnFalse};
 ghost use Rattle.std.specs.List.{list_all};
 ghost use Rattle.osm_model.specs.Id.{is_id};
 ghost use Rattle.osm_model.specs.Text.{is_text};
 ghost use Rattle.osm_model.specs.Valid.{IsInRange};
 ghost use Rattle.osm_model.specs.Data.{kind_of, is_deleted, tags_of, ids_of, texts_of, normal_body};
+ghost use Rattle.osm_model.specs.declared.kind.Kind.TheVariants as kind;
+ghost use Rattle.osm_model.specs.declared.body.Body.TheVariants.{Deleted};
 
 use crate::same::Same;
 use crate::{Kind, Members, Memory, References, Tag, Tags};
@@ -79,7 +82,10 @@ impl Body {
 
     /// Whether the body may hold memory.
     #[inline(always)]
-    pub(crate) fn has_memory(&self) -> bool {
+    pub(crate) fn has_memory(&self) -> bool
+        ensures ids { OnFalse result (ids_of self.now ≡ []) }
+        ensures texts { OnFalse result (texts_of self.now ≡ []) }
+    {
         match self {
             Body::Deleted(_) => false,
             Body::Node { tags, .. } => tags.has_memory(),
@@ -101,12 +107,24 @@ impl Body {
         }
     }
 
-    /// Takes a body in the place of its own, which holds no memory and so is forgotten.
+    /// Replaces the body. It is the assignment `*self = body`, fast where the old body holds no memory.
     #[inline(always)]
     pub fn replace(&mut self, body: Body)
         ensures { self.new ≡ body }
     {
+        if self.has_memory() {
+            self.release();
+        }
+        // The old body holds no memory here, so it is forgotten and not dropped.
         mem::forget(mem::replace(self, body));
+    }
+
+    /// Drops what the body holds.
+    #[inline(never)]
+    pub(crate) fn release(&mut self)
+        ensures { self.new ≡ Deleted kind.Node }
+    {
+        *self = Body::Deleted(Kind::Node);
     }
 
     /// Tells contracts that a location is within its range, as its numbers have 32 bits.

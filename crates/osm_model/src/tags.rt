@@ -1,5 +1,6 @@
 //! Tags.
-ghost use Rattle.std.specs.Prelude.{◌≡◌, ◌↔◌, Some, refl, IfOk, IsTrue};
+ghost use Rattle.std.specs.Prelude.{◌≡◌, ◌↔◌, [], Some, refl, IfOk, IsTrue};
+ghost use Rattle.std.specs.Bool.{OnFalse};
 ghost use Rattle.std.specs.Ordering.{eq_by_cmp, as_partial_cmp};
 ghost use Rattle.std.specs.Cmp.{eq_by_cmp_equiv, partial_equiv_from_equiv, partial_order_from_agreeing_total};
 ghost use Rattle.std.specs.List.{list_all};
@@ -112,7 +113,9 @@ impl Tags {
 
     /// Whether the tags may hold memory.
     #[inline(always)]
-    pub(crate) fn has_memory(&self) -> bool {
+    pub(crate) fn has_memory(&self) -> bool
+        ensures { OnFalse result (self.now ≡ []) }
+    {
         self.tags.capacity() > 0
     }
 

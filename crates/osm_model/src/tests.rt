@@ -255,6 +255,10 @@ fn parts_are_filled_in_place(rt: HostRuntime) -> Result<(), Fail> {
     parts.meta.version = 2;
     parts.meta.time = Some(9);
     name.copy_to(&mut parts.meta.user)?;
+    name.copy_to(&mut parts.meta.user)?;
+    let refs = References::from_vec(vec![in alloc; 3, -1]?);
+    let tags = no_tags(alloc);
+    parts.body.replace(Body::Way { refs, tags });
     parts.body.replace(Body::Deleted(Kind::Way));
     assert!(rt; first_fault(parts.id, &parts.meta, &parts.body).is_none());
     let way = Version::of_sound_parts(parts);

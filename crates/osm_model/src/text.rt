@@ -1,5 +1,6 @@
 //! Texts.
 ghost use Rattle.std.specs.Prelude.{◌≡◌, ◌≤◌, ◌++◌, [], IfOk, IfSome, OnOk, OnErr, length, encode_utf8_all, string_bytes};
+ghost use Rattle.std.specs.Bool.{OnFalse};
 ghost use Rattle.std.specs.Str.{chars};
 ghost use Rattle.osm_model.specs.Escape.{escape};
 ghost use Rattle.osm_model.specs.Storage.{bytes_of};
@@ -206,15 +207,27 @@ impl Text {
         })
     }
 
-    /// Takes a text in the place of its own, which holds no memory and so is forgotten.
+    /// Replaces the text. It is the assignment `*self = text`, fast where the old text holds no memory of its own.
     #[inline(always)]
     pub fn replace(&mut self, text: Text)
         ensures { self.new ≡ text }
     {
+        if self.has_memory() {
+            self.release();
+        }
+        // The old text holds no memory here, so it is forgotten and not dropped.
         mem::forget(mem::replace(self, text));
     }
 
-    /// Puts an equal text in the place of one that holds no memory.
+    /// Drops the characters and their memory.
+    #[inline(never)]
+    pub(crate) fn release(&mut self)
+        ensures { self.new ≡ [] }
+    {
+        *self = Text::new();
+    }
+
+    /// Replaces another text by an equal one, as [`Text::replace`] does.
     ///
     /// # Errors
     ///
@@ -236,7 +249,7 @@ impl Text {
         }
     }
 
-    /// Puts an equal text in the place of one that holds no memory, where they don't lie both in the value itself and in one way.
+    /// Replaces another text by an equal one, where they don't both lie in the value itself and in one way.
     #[inline(never)]
     fn copy_anew_to(&self, place: &mut Text) -> Result<(), Memory>
         ensures { OnOk result (place.new ≡ self.now) }
@@ -247,8 +260,20 @@ impl Text {
 
     /// Whether the text may hold memory of its own.
     #[inline(always)]
-    pub(crate) fn has_memory(&self) -> bool {
-        matches!(self.storage, Storage::Apart(_))
+    pub(crate) fn has_memory(&self) -> bool
+        ensures { OnFalse result (length (encode_utf8_all self.now) ≤ 24) }
+    {
+        match &self.storage {
+            Storage::Plain(plain) => {
+                let _short = plain.as_str();
+                false
+            }
+            Storage::Within(string) => {
+                let _short = string.as_str();
+                false
+            }
+            Storage::Apart(_) => true,
+        }
     }
 
     /// Whether the text has no character.

@@ -7,7 +7,7 @@ ghost use Rattle.std.specs.Option.{ForSome};
 ghost use Rattle.osm_model.specs.Data.{kind_of, normal_body, version_of};
 ghost use Rattle.osm_model.specs.Order.{object_cmp, key_cmp, data_cmp, version_cmp, version_cmp_total};
 ghost use Rattle.osm_model.specs.Line.{line};
-ghost use Rattle.osm_model.specs.New.{first_fault, version_or_fault};
+ghost use Rattle.osm_model.specs.New.{IsToFill, first_fault, version_or_fault};
 ghost use Rattle.osm_model.specs.Valid.{IsInRange, IsVersion};
 ghost use Rattle.osm_model.specs.declared.body.Body.TheVariants.{Deleted};
 ghost use Rattle.osm_model.specs.declared.fault.ValueFault.TheVariants as fault;
@@ -82,14 +82,16 @@ pub(crate) fn first_fault(id: i64, meta: &Meta, body: &Body) -> Option<ValueFaul
 }
 
 impl Parts {
-    /// Parts to be filled, in memory of a version that isn't needed any more, or else in new memory. Neither their user name
-    /// nor their body holds memory of its own.
+    /// Parts to be filled, in memory of a version that isn't needed any more, or else in new memory. Their body has no ids and no
+    /// texts, and their user name has at most 24 bytes: neither holds memory of its own.
     ///
     /// # Errors
     ///
     /// For want of memory alone, where none is given.
     #[inline(always)]
-    pub fn to_fill(alloc: Global, spare: &mut Spare) -> Result<Box<Parts>, Memory> {
+    pub fn to_fill(alloc: Global, spare: &mut Spare) -> Result<Box<Parts>, Memory>
+        ensures { IfOk result (λ parts. IsToFill parts.value.meta parts.value.body) }
+    {
         match spare.take_version() {
             Some(version) => Ok(Parts::emptied(version)),
             None => Parts::in_new_memory(alloc),
@@ -98,7 +100,9 @@ impl Parts {
 
     /// The parts of a version that isn't needed any more.
     #[inline(always)]
-    fn emptied(version: Version) -> Box<Parts> {
+    fn emptied(version: Version) -> Box<Parts>
+        ensures { IsToFill result.value.meta result.value.body }
+    {
         let Version { mut parts } = version;
         parts.release();
         parts
@@ -106,14 +110,18 @@ impl Parts {
 
     /// Parts in new memory. The answer is taken apart here, so that no room for it is cleared where it isn't asked for.
     #[inline(always)]
-    fn in_new_memory(alloc: Global) -> Result<Box<Parts>, Memory> {
+    fn in_new_memory(alloc: Global) -> Result<Box<Parts>, Memory>
+        ensures { IfOk result (λ parts. IsToFill parts.value.meta parts.value.body) }
+    {
         let parts = Parts::nothing(alloc)?;
         Ok(parts)
     }
 
     /// The parts of nothing, in new memory.
     #[inline(never)]
-    fn nothing(alloc: Global) -> Result<Box<Parts>, Memory> {
+    fn nothing(alloc: Global) -> Result<Box<Parts>, Memory>
+        ensures { IfOk result (λ parts. IsToFill parts.value.meta parts.value.body) }
+    {
         let parts = Parts {
             id: 0,
             kind: Kind::Node,
@@ -125,12 +133,14 @@ impl Parts {
 
     /// Lets go what memory the parts hold; most hold none.
     #[inline(always)]
-    fn release(&mut self) {
+    fn release(&mut self)
+        ensures { IsToFill self.new.meta self.new.body }
+    {
         if self.body.has_memory() {
-            self.body = Body::Deleted(Kind::Node);
+            self.body.release();
         }
         if self.meta.user.has_memory() {
-            self.meta.user = Text::new();
+            self.meta.user.release();
         }
     }
 
