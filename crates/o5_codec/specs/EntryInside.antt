@@ -5,5 +5,5 @@ use Rattle.o5_codec.specs.Writing.{uid_string}
 
 -- the first string of a user's entry is that of the user id
 pub record IsEntry (e : Inside) : Type 0 where
-  pub within : e.split ≤ length e.bytes
-  pub user : IfSome e.uid (λ uid. take e.split e.bytes ≡ uid_string uid)
+  pub within : e.split ≤ length e.bytes.items
+  pub user : IfSome e.uid (λ uid. take e.split e.bytes.items ≡ uid_string uid)

@@ -31,4 +31,3 @@ pub mod Block
 pub mod Meaning
 pub mod StoredInside
 pub mod EntryInside
-pub mod ByteStorage

@@ -1,7 +1,6 @@
 //! What stands in data sets, as it is written.
 pub(crate) mod block;
 pub(crate) mod body;
-pub(crate) mod bytes;
 pub(crate) mod draft;
 pub(crate) mod entry;
 pub(crate) mod indexed_table;

@@ -13,18 +13,22 @@ ghost use Rattle.o5_codec.specs.SameEntry.{same_entry_decides};
 use crate::strings::{Form, Strings};
 use crate::table::is_short;
 use crate::write::block::Block;
-use crate::write::bytes::Bytes;
 use crate::write::draft::Draft;
 use osm_model::{Kind, Memory, Tag, Text};
+use smallvec::SmallVec;
 use std::alloc::Global;
 use std::hash::{Hash, Hasher};
 use std::marker::Model;
 
-/// A pair or a single string, as bytes: the first string, behind it the second. Contracts see the form and the strings.
+/// The number of bytes that an entry keeps without an allocation. Most pairs of a key and a value, and most names, have fewer.
+const FEW: usize = 24;
+
+/// A pair or a single string. The bytes are those of the first string and then those of the second. Contracts see the form and
+/// the strings.
 #[derive(Drop)]
 pub(crate) struct Entry {
     form: Form,
-    bytes: Bytes,
+    bytes: SmallVec<u8, FEW>,
     split: usize,
     /// The user id that the first string spells, where the entry was filled as a user's.
     uid: Option<u64>,
@@ -37,7 +41,7 @@ impl Model for Entry {
 
     ghost Value = { FormedEntry };
 
-    ghost view = { λ e. formed e.form (take e.split e.bytes) (drop e.split e.bytes) };
+    ghost view = { λ e. formed e.form (take e.split e.bytes.items) (drop e.split e.bytes.items) };
 
     ghost invariant = { IsEntry };
 }
@@ -83,7 +87,7 @@ impl Entry {
     pub(crate) fn new(alloc: Global) -> Entry {
         Entry {
             form: Form::Pair,
-            bytes: Bytes::new(alloc),
+            bytes: SmallVec::new(alloc),
             split: 0,
             uid: None,
         }
@@ -156,11 +160,9 @@ impl Entry {
     pub(crate) fn copy(&self, alloc: Global) -> Result<Entry, Memory>
         ensures { IfOk result (λ e. e ≡ self.now) }
     {
-        let mut bytes = Bytes::new(alloc);
-        bytes.extend_from_slice(self.bytes.as_slice())?;
         Ok(Entry {
             form: self.form,
-            bytes,
+            bytes: SmallVec::from_slice(alloc, self.bytes.as_slice())?,
             split: self.split,
             uid: self.uid,
         })
@@ -197,11 +199,12 @@ impl Entry {
         self.extend_first(role.as_str().as_bytes())
     }
 
+    /// Takes two empty strings. The room of a long string is given back.
     fn clear(&mut self, form: Form)
         ensures { self.new ≡ formed form [] [] }
     {
         self.form = form;
-        self.bytes.clear();
+        self.bytes = SmallVec::new(*self.bytes.allocator());
         self.split = 0;
         self.uid = None;
     }
@@ -231,7 +234,7 @@ impl Entry {
     fn extend_second(&mut self, more: &[u8]) -> Result<(), Memory>
         ensures { OnOk result (self.new ≡ formed self.old.form self.old.strings.first (self.old.strings.second ++ more.now)) }
     {
-        self.bytes.extend_from_slice(more)
+        Ok(self.bytes.extend_from_slice(more)?)
     }
 }
 
