@@ -1,13 +1,13 @@
--- What storing an entry and letting the oldest go do to the numbers.
-use Rattle.std.proofs.Common.{◌≡◌, ℕ, zero, suc, ◌+◌, ◌-◌, ◌<◌, ◌≤◌, ◌^◌, Bool, true, false, cond, List, [], ◌∷◌, ◌++◌, length, take, length-append, refl, sym, ap, ◌∙◌, subst, arith, Option, Some, None, inl, inr}
+-- What storing an entry and evicting the oldest one do to the numbers.
+use Rattle.std.proofs.Common.{◌≡◌, ℕ, zero, suc, ◌+◌, ◌-◌, ◌<◌, ◌≤◌, ◌^◌, Bool, true, false, cond, List, [], ◌∷◌, ◌++◌, length, take, drop, reverse, length-append, refl, sym, ap, ◌∙◌, subst, arith, Option, Some, None, inl, inr, nat_lt, if◌then◌else◌}
 use Rattle.std.specs.Option.{option_map}
 use Rattle.std.specs.List.{slice_get}
 use Rattle.std.specs.HashMap as hash
 use Rattle.std.specs.HashMap.{HashMap}
-use Rattle.std.proofs.lemmas.List.{length-take}
+use Rattle.std.proofs.lemmas.List.{take_all, take_at, length-reverse, reverse-append}
 use Rattle.std.specs.Map.{lookup, KeepsOthers}
 use Rattle.std.specs.Cmp.{decided, IsEquivalence}
-use Rattle.std.proofs.lemmas.Bool.{cases_Bool, cond-true, cond-false}
+use Rattle.std.proofs.lemmas.Bool.{cases_Bool, cases_lt, lt-ltb, le-ltb, cond-true, cond-false}
 use Rattle.o5_codec.specs.Table.{limit}
 use Rattle.o5_codec.specs.Formed.{FormedEntry, same_entry, reference_to}
 use Rattle.o5_codec.specs.SameEntry.{same_entry_decides}
@@ -76,7 +76,8 @@ are_none m next None (Some n) e f = absurd (cc)
 are_none m next (Some i) None e f = absurd (cc)
 are_none m next (Some i) (Some n) e f = absurd (cc)
 
-pub evicted : (m most next : ℕ) (table : List FormedEntry) (last : FormedEntry) (number number' : FormedEntry → Option ℕ) →
+-- the last entry goes
+evicted : (m most next : ℕ) (table : List FormedEntry) (last : FormedEntry) (number number' : FormedEntry → Option ℕ) →
     IsIndexed m most next (table ++ last ∷ []) number → IsChanged last None number number' → IsIndexed m most next table number'
 evicted m most next table last number number' h changed =
     let rest : AreDistinct table × (reference_to last table ≡ None) = distinct_last table last h.distinct in
@@ -107,7 +108,8 @@ numbered_more m next after k (Some i) (Some n) up few w h = (
 first_number : (m next after : ℕ) → next < m → IsNext m next after → Numbered m after (Some 1) (Some next)
 first_number m next after h up = (h, elim up [ inl round ↦ inr (omega arith) | inr on ↦ inl (omega arith) ])
 
-pub stored_one : (m most next after : ℕ) (table : List FormedEntry) (e : FormedEntry) (number number' : FormedEntry → Option ℕ) →
+-- an entry comes
+stored_one : (m most next after : ℕ) (table : List FormedEntry) (e : FormedEntry) (number number' : FormedEntry → Option ℕ) →
     IsIndexed m most next table number → length table < most → length table < m → reference_to e table ≡ None → IsNext m next after → IsChanged e (Some next) number number' →
     IsIndexed m most after (e ∷ table) number'
 stored_one m most next after table e number number' h room small absent up changed = record {
@@ -124,8 +126,63 @@ stored_one m most next after table e number number' h room small absent up chang
   ];
 }
 
+fewer : (m most more next : ℕ) (table : List FormedEntry) (number : FormedEntry → Option ℕ) → IsIndexed m more next table number → length table ≤ most → IsIndexed m most next table number
+fewer m most more next table number h few = record { few = few; below = h.below; distinct = h.distinct; each = h.each }
+
+-- an entry comes, and none goes yet
+stored_over : (m most next after : ℕ) (table : List FormedEntry) (e : FormedEntry) (number number' : FormedEntry → Option ℕ) → most < m →
+    IsIndexed m most next table number → reference_to e table ≡ None → IsNext m next after → IsChanged e (Some next) number number' →
+    IsIndexed m (suc most) after (e ∷ table) number'
+stored_over m most next after table e number number' small h absent up changed =
+    stored_one m (suc most) next after table e number number' (fewer m (suc most) most next table number h (omega (arith, h.few)))
+    (omega (arith, h.few)) (omega (arith, h.few)) absent up changed
+
+-- the item that a push to a ring of this capacity evicts
+abbrev pub gone_from : {X : Type 0} → ℕ → List X → X → Option X
+gone_from capacity xs x = if nat_lt (length xs) capacity then None else slice_get (xs ++ x ∷ []) 0
+
+has_first : {X : Type 0} (xs : List X) (x : X) → slice_get (xs ++ x ∷ []) 0 ≡ None → ⊥
+has_first [] x none = cc
+has_first (y ∷ ys) x none = cc
+
+first_of : {X : Type 0} (xs : List X) (x : X) → slice_get xs 0 ≡ Some x → xs ≡ x ∷ drop 1 xs
+first_of [] x at = absurd (cc)
+first_of (y ∷ ys) x at = let same : y ≡ x = cc in ap (λ z. z ∷ ys) same
+
+-- an entry comes into a ring that has room
+pub put_free : (m most next after capacity : ℕ) (xs : List FormedEntry) (e : FormedEntry) (number number' : FormedEntry → Option ℕ) → most < m → capacity ≡ most →
+    IsIndexed m most next (reverse xs) number → reference_to e (reverse xs) ≡ None → IsNext m next after → IsChanged e (Some next) number number' →
+    None ≡ gone_from capacity xs e → IsIndexed m most after (take most (e ∷ reverse xs)) number'
+put_free m most next after capacity xs e number number' small full h absent up changed gone =
+    let over = stored_over m most next after (reverse xs) e number number' small h absent up changed in
+    let none : None ≡ gone_from most xs e = subst (λ k. None ≡ gone_from k xs e) full gone in
+    elim (cases_lt (length xs) most) [
+      | inl lt ↦ (let few : length (e ∷ reverse xs) ≤ most = omega (arith, length-reverse xs) in
+          subst (λ t. IsIndexed m most after t number') (sym (take_all most (e ∷ reverse xs) few)) (fewer m most (suc most) after (e ∷ reverse xs) number' over few))
+      | inr le ↦ absurd (has_first xs e (sym (rw (le-ltb (length xs) most le) at none)))
+    ]
+
+-- an entry comes into a full ring, and the oldest one goes
+pub put_full : (m most next after capacity : ℕ) (xs : List FormedEntry) (e last : FormedEntry) (number number' number'' : FormedEntry → Option ℕ) → most < m → capacity ≡ most →
+    IsIndexed m most next (reverse xs) number → reference_to e (reverse xs) ≡ None → IsNext m next after → IsChanged e (Some next) number number' →
+    Some last ≡ gone_from capacity xs e → IsChanged last None number' number'' → IsIndexed m most after (take most (e ∷ reverse xs)) number''
+put_full m most next after capacity xs e last number number' number'' small full h absent up changed gone removed =
+    let over = stored_over m most next after (reverse xs) e number number' small h absent up changed in
+    let some : Some last ≡ gone_from most xs e = subst (λ k. Some last ≡ gone_from k xs e) full gone in
+    elim (cases_lt (length xs) most) [
+      | inl lt ↦ absurd (let clash : Some last ≡ None = rw (lt-ltb (length xs) most lt) at some in cc)
+      | inr le ↦ (let at : slice_get (xs ++ e ∷ []) 0 ≡ Some last = sym (rw (le-ltb (length xs) most le) at some) in
+          let rest : List FormedEntry = drop 1 (xs ++ e ∷ []) in
+          let turned : e ∷ reverse xs ≡ reverse rest ++ last ∷ [] = sym (reverse-append xs (e ∷ [])) ∙ ap reverse (first_of (xs ++ e ∷ []) last at) ∙ reverse-append (last ∷ []) rest in
+          let both : suc (length (reverse xs)) ≡ length (reverse rest) + 1 = ap length turned ∙ length-append (reverse rest) (last ∷ []) in
+          let long : length (reverse rest) ≡ most = omega (arith, h.few, length-reverse xs) in
+          subst (λ t. IsIndexed m most after t number'') (sym (ap (take most) turned ∙ take_at (reverse rest) (last ∷ []) most long))
+          (fewer m most (suc most) after (reverse rest) number''
+          (evicted m (suc most) after (reverse rest) last number' number'' (subst (λ t. IsIndexed m (suc most) after t number') turned over) removed) (omega arith)))
+    ]
+
 -- the reference at a number, below next and not
-pub found_low : (m most next n : ℕ) (r : Option ℕ) → Numbered m next r (Some n) → Within most r → most ≤ m → n < next → r ≡ Some (next - n)
+pub found_low : (m most next n : ℕ) (r : Option ℕ) → Numbered m next r (Some n) → Within most r → most < m → n < next → r ≡ Some (next - n)
 found_low m most next n None h w small lt = absurd h
 found_low m most next n (Some i) h w small lt = ap (λ k. Some k) (elim h.1 [ inl a ↦ omega arith | inr b ↦ absurd (omega arith) ])
 
@@ -171,23 +228,9 @@ pub changed_by : {S : Type 0} (e : FormedEntry) (w : Option ℕ) (old new : Hash
     IsChanged e w (λ f. hash.get_by (same_entry f) old) (λ f. hash.get_by (same_entry f) new)
 changed_by e w old new h = record { here = h.1; others = λ f n. others_stay e f _ _ h.3 n }
 
-pub none_in_front : (e : FormedEntry) (n : ℕ) (table : List FormedEntry) → reference_to e table ≡ None → reference_to e (take n table) ≡ None
-none_in_front e zero table h = refl
-none_in_front e (suc n) [] h = refl
-none_in_front e (suc n) (x ∷ table) h =
-    let parts : (same_entry e x ≡ false) × (reference_to e table ≡ None) = none_before _ _ h in
-    cond-false (same_entry e x) _ _ parts.0 ∙ ap (option_map (λ n. n + 1)) (none_in_front e n table parts.1)
-
-pub some_room : 0 < limit
-unfolding limit
-some_room = omega arith
-
-pub limit_is_small : limit ≤ 2 ^ 16
+pub limit_is_small : limit < 2 ^ 64
 unfolding limit
 limit_is_small = omega arith
-
-pub room_made : (t : List FormedEntry) → length (take (limit - 1) t) < limit
-room_made t = let h : 0 < limit = some_room in omega (arith, length-take (limit - 1) t)
 
 -- an entry that stands in a table of distinct ones has the reference of its place
 pub standing : (table : List FormedEntry) (i : ℕ) (e : FormedEntry) → AreDistinct table → slice_get table i ≡ Some e → reference_to e table ≡ Some (i + 1)

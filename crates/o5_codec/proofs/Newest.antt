@@ -1,22 +1,47 @@
--- The items stored last, the one stored last first.
-use Rattle.std.proofs.Common.{◌≡◌, ℕ, zero, suc, ◌-◌, ◌≤◌, List, [], ◌∷◌, take, refl, ap, sym, ◌∙◌, arith, Option, Some, None}
+-- A ring has its oldest item first, and a table is its reverse: the last items of a list are the first of its reverse.
+use Rattle.std.proofs.Common.{◌≡◌, ℕ, zero, suc, ◌-◌, ◌<◌, ◌≤◌, List, [], ◌∷◌, ◌++◌, reverse, length, take, drop, refl, ap, sym, ◌∙◌, arith, Some, None, nat_lt, if◌then◌else◌, inl, inr, length-drop}
+use Rattle.std.proofs.lemmas.List.{take-append-drop, reverse-append, length-reverse, take_all, take_at, get_or-reverse}
+use Rattle.std.proofs.lemmas.Bool.{cases_lt, lt-ltb, le-ltb}
 use Rattle.std.proofs.lemmas.Option.{slice_get-get_or, slice_get_past}
-use Rattle.std.specs.Borrow.{Bor}
 use Rattle.std.specs.List.{slice_get}
-use Rattle.std.specs.Option.{option_copied}
-use Rattle.std.specs.Slice.{IsItemAt}
+use Rattle.circular_buffer.specs.Buffer.{Buffer, buffer, keep_last}
 use Rattle.o5_codec.specs.Entry.{Entry}
-use Rattle.o5_codec.specs.Table.{limit, entry_at}
+use Rattle.o5_codec.specs.Table.{entry_at}
 
--- the item that a deque lends is that of its list
-pub lent_item : {X : Type 0} (xs : List X) (i : ℕ) (r : Option (Bor X)) → IsItemAt xs i r → option_copied r ≡ slice_get xs i
-lent_item xs i None item = sym (slice_get_past xs i item.3)
-lent_item xs i (Some x) item = sym (slice_get-get_or xs i x.now item.3.0 ∙ ap (λ y. Some y) (sym item.1))
+reverse_last : {X : Type 0} (n : ℕ) (ys : List X) → reverse (keep_last n ys) ≡ take n (reverse ys)
+reverse_last n ys = elim (cases_lt n (length ys)) [
+  | inl more ↦ (let k : ℕ = length ys - n in
+      let front : reverse ys ≡ reverse (drop k ys) ++ reverse (take k ys) = ap reverse (sym (take-append-drop k ys)) ∙ reverse-append (take k ys) (drop k ys) in
+      let long : length (reverse (drop k ys)) ≡ n = length-reverse (drop k ys) ∙ length-drop k ys ∙ omega arith in
+      sym (ap (take n) front ∙ take_at (reverse (drop k ys)) (reverse (take k ys)) n long))
+  | inr all ↦ (let k : length ys - n ≡ 0 = omega arith in
+      rw k (sym (take_all n (reverse ys) (omega (arith, length-reverse ys)))))
+]
 
--- storing an item lets the oldest go
-pub newest_first : {X : Type 0} (x : X) (t : List X) → x ∷ take (limit - 1) t ≡ take limit (x ∷ t)
-unfolding limit
-newest_first x t = refl
+stored : {X : Type 0} (n : ℕ) (xs : List X) (x : X) → reverse (keep_last n (xs ++ x ∷ [])) ≡ take n (x ∷ reverse xs)
+stored n xs x = reverse_last n (xs ++ x ∷ []) ∙ ap (take n) (reverse-append xs (x ∷ []))
+
+-- the items of a ring after a push, the newest first
+pub pushed : {X : Type 0} (n : ℕ) (old new : Buffer X) (x : X) → new ≡ buffer (keep_last old.capacity (old.items ++ x ∷ [])) old.capacity → old.capacity ≡ n →
+    reverse new.items ≡ take n (x ∷ reverse old.items)
+pushed n old new x is room =
+    ap (λ b. reverse b.items) is ∙ ap (λ k. reverse (keep_last k (old.items ++ x ∷ []))) room ∙ stored n old.items x
+
+at_back : {X : Type 0} (xs : List X) (i : ℕ) (d : X) → i < length xs → slice_get xs (length xs - i - 1) ≡ slice_get (reverse xs) i
+at_back xs i d h =
+    let same : length xs - i - 1 ≡ length xs - 1 - i = omega arith in
+    ap (slice_get xs) same
+    ∙ slice_get-get_or xs (length xs - 1 - i) d (omega arith)
+    ∙ ap (λ x. Some x) (sym (get_or-reverse xs i d h))
+    ∙ sym (slice_get-get_or (reverse xs) i d (omega (arith, length-reverse xs)))
+
+-- the item at an index from the back of a ring
+pub from_back : {X : Type 0} (xs : List X) (i : ℕ) → (if nat_lt i (length xs) then slice_get xs (length xs - i - 1) else None) ≡ slice_get (reverse xs) i
+from_back [] i = rw (le-ltb i 0 (omega arith)) refl
+from_back (y ∷ ys) i = elim (cases_lt i (length (y ∷ ys))) [
+  | inl lt ↦ rw (lt-ltb i (length (y ∷ ys)) lt) (at_back (y ∷ ys) i y lt)
+  | inr past ↦ rw (le-ltb i (length (y ∷ ys)) past) (sym (slice_get_past (reverse (y ∷ ys)) i (omega (arith, length-reverse (y ∷ ys)))))
+]
 
 pub entry_from : (table : List Entry) (n : ℕ) → (n ≡ 0 → ⊥) → slice_get table (n - 1) ≡ entry_at table n
 entry_from table zero h = absurd (h refl)

@@ -37,16 +37,16 @@ impl Model for Decoder {
 }
 
 impl Decoder {
-    /// A decoder at the begin of a segment. The room of its string table grows with the entries.
+    /// A decoder at the start of a segment, with room for all entries of its string table.
     ///
     /// # Errors
     ///
-    /// For want of memory alone; none is taken before the first entry.
+    /// `Memory` if that room can't be allocated.
     pub fn new(alloc: Global) -> Result<Decoder, Memory>
         ensures { IfOk result (λ d. d ≡ reading_in new_segment) }
     {
         Ok(Decoder {
-            segment: Segment::new(alloc),
+            segment: Segment::new(alloc)?,
             failed: false,
             spare: Spare::new(alloc),
         })
@@ -93,14 +93,14 @@ impl Decoder {
 
 impl Segment {
     /// A segment that had nothing.
-    fn new(alloc: Global) -> Segment
-        ensures { result ≡ new_segment }
+    fn new(alloc: Global) -> Result<Segment, Memory>
+        ensures { IfOk result (λ s. s ≡ new_segment) }
     {
-        Segment {
+        Ok(Segment {
             bases: Bases::new(),
-            table: Table::new(alloc),
+            table: Table::new(alloc)?,
             seen: ListsSeen::Neither,
-        }
+        })
     }
 
     /// Forgets what the segment had.

@@ -33,11 +33,11 @@ impl Model for Encoder {
 }
 
 impl Encoder {
-    /// An encoder behind the header of a file. The room of its string table grows with the entries.
+    /// An encoder after the header of a file, with room for all entries of its string table.
     ///
     /// # Errors
     ///
-    /// For want of memory alone.
+    /// `Memory` if that room can't be allocated.
     pub fn new(alloc: Global) -> Result<Encoder, Memory>
         ensures { IfOk result (λ e. e ≡ spec.writing_on spec.nothing_written) }
     {

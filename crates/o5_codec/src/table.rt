@@ -1,5 +1,5 @@
 //! The string table of a segment.
-ghost use Rattle.std.specs.Prelude.{◌≡◌, [], ◌∷◌, take, OnOk, option_copied};
+ghost use Rattle.std.specs.Prelude.{◌≡◌, [], ◌∷◌, take, IfOk, OnOk, option_copied};
 ghost use Rattle.o5_codec.specs.Answer.{Gives, Answers, and_then, and_added};
 ghost use Rattle.o5_codec.specs.Table.{limit, is_short, stored, entry_at};
 ghost use Rattle.o5_codec.specs.Text.{tag_of, user_of, and_user};
@@ -9,9 +9,9 @@ use crate::O5Reason;
 use crate::stored::Stored;
 use crate::strings::{Spelled, Strings};
 use crate::text::{add_tag, put_user};
+use circular_buffer::HeapCircularBuffer;
 use osm_model::{Memory, Meta, Tag};
 use std::alloc::Global;
-use std::collections::VecDeque;
 use std::marker::Model;
 
 /// How many entries the table holds at most.
@@ -20,40 +20,45 @@ pub(crate) const LIMIT: usize = 15_000;
 /// How many bytes the two strings of a stored entry have together at most.
 pub(crate) const LONGEST: usize = 250;
 
-/// The entries that references can name, the one stored last first. Contracts see them as a list. Room is taken as entries come.
+/// The entries that references can name, in a ring. Contracts see their list, the one stored last first.
+///
+/// The ring's block is allocated once. Its pages cost no resident memory before an entry is written into them.
 #[derive(Drop)]
 pub(crate) struct Table {
-    entries: VecDeque<Stored>,
+    ring: HeapCircularBuffer<Stored>,
 }
 
 impl Model for Table {
-    ghost use Rattle.std.specs.Prelude.{List};
+    ghost use Rattle.std.specs.Prelude.{◌≡◌, List, reverse};
     ghost use Rattle.o5_codec.specs.Entry.{Entry};
+    ghost use Rattle.o5_codec.specs.Table.{limit};
 
     ghost Value = { List Entry };
 
-    ghost view = { λ t. t.entries.items };
+    ghost view = { λ t. reverse t.ring.items };
+
+    ghost invariant = { λ t. t.ring.capacity ≡ limit };
 }
 
 impl Table {
-    /// The empty table.
-    pub(crate) fn new(alloc: Global) -> Table
-        ensures { result ≡ [] }
+    /// The empty table, with room for all its entries.
+    pub(crate) fn new(alloc: Global) -> Result<Table, Memory>
+        ensures { IfOk result (λ t. t ≡ []) }
     {
-        Table {
-            entries: VecDeque::new(alloc),
-        }
+        Ok(Table {
+            ring: HeapCircularBuffer::with_capacity(alloc, LIMIT)?,
+        })
     }
 
     pub(crate) fn allocator(&self) -> Global {
-        *self.entries.allocator()
+        *self.ring.allocator()
     }
 
     /// Forgets all entries.
     pub(crate) fn clear(&mut self)
         ensures { self.new ≡ [] }
     {
-        self.entries.clear();
+        self.ring.clear();
     }
 
     /// Stores strings that stand inline, unless they are too long.
@@ -74,18 +79,16 @@ impl Table {
         let strings = Strings { first, second };
         if is_short(&strings) {
             let entry = Stored::new(self.allocator(), &strings)?;
-            self.push(entry)?;
+            self.push(entry);
         }
         Ok(())
     }
 
-    /// Stores an entry. The oldest one goes where the table is full.
-    fn push(&mut self, entry: Stored) -> Result<(), Memory>
-        ensures { OnOk result (self.new ≡ take limit (entry ∷ self.old)) }
+    /// Stores an entry. A full table drops its oldest one.
+    fn push(&mut self, entry: Stored)
+        ensures { self.new ≡ take limit (entry ∷ self.old) }
     {
-        self.entries.truncate(LIMIT - 1);
-        self.entries.push_front(entry)?;
-        Ok(())
+        self.ring.push_back(entry);
     }
 
     /// The strings that stand inline or that a reference names.
@@ -152,7 +155,7 @@ impl Table {
         if reference == 0 {
             return None;
         }
-        self.entries.get((reference - 1) as usize)
+        self.ring.nth_back((reference - 1) as usize)
     }
 }
 

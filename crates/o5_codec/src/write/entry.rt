@@ -20,11 +20,11 @@ use std::alloc::Global;
 use std::hash::{Hash, Hasher};
 use std::marker::Model;
 
-/// The number of bytes that an entry keeps without an allocation. Most pairs of a key and a value, and most names, have fewer.
+/// The number of bytes that an entry keeps without an allocation. Most pairs, and most names, have fewer.
 const FEW: usize = 24;
 
-/// A pair or a single string. The bytes are those of the first string and then those of the second. Contracts see the form and
-/// the strings.
+/// A pair or a single string. The bytes are those of the first string and then those of the second. Contracts see the
+/// form and the strings.
 #[derive(Drop)]
 pub(crate) struct Entry {
     form: Form,

@@ -1,58 +1,61 @@
 //! The string table of a segment that is written.
-ghost use Rattle.std.specs.Prelude.{◌≡◌, ◌-◌, ◌<◌, ◌∷◌, ◌^◌, ◌++◌, [], length, take, IfOk, OnOk, None, Some, IfSome};
+ghost use Rattle.std.specs.Prelude.{◌≡◌, ◌∷◌, ◌^◌, ◌++◌, [], take, IfOk, OnOk, None, Some, IfSome};
 ghost use Rattle.o5_codec.specs.Table.{limit};
 ghost use Rattle.o5_codec.specs.declared.strings.Form.TheVariants.{Pair, Single};
-ghost use Rattle.o5_codec.specs.Formed.{formed, reference_to, kept, spelled_by, kept_by};
+ghost use Rattle.std.specs.HashMap as hash;
+ghost use Rattle.o5_codec.specs.Formed.{formed, same_entry, reference_to, kept, spelled_by, kept_by};
 ghost use Rattle.o5_codec.specs.Indexed.{IsNext};
 ghost use Rattle.o5_codec.specs.Writing.{uid_string, member_string};
 
 use crate::table::LIMIT;
 use crate::write::draft::Draft;
 use crate::write::entry::Entry;
-use crate::write::slot::{SLOTS, Slot};
+use crate::write::slot::{Slot, SlotCache};
+use circular_buffer::HeapCircularBuffer;
 use osm_model::{Kind, Memory};
 use std::alloc::Global;
-use std::collections::{HashMap, VecDeque};
+use std::collections::HashMap;
 use std::marker::Model;
 
-/// The entries that references can name, the one stored last first, each with the number of its storing. Contracts see the
-/// list of the entries. Room is taken as they come.
+/// The entries that references can name, in a ring, and the number of the storing of each in a hash map. Contracts see
+/// the list of the entries, the one stored last first.
 ///
-/// Numbers count modulo 2^16, which tells the entries apart, as there are fewer; so what is remembered of them is small.
+/// The ring's block is allocated once. Its pages cost no resident memory before an entry is written into them.
 #[derive(Drop)]
 pub(crate) struct IndexedTable {
-    entries: VecDeque<Entry>,
-    numbers: HashMap<Entry, u16>,
-    next: u16,
-    /// For each slot, the number of the storing of the entry that was written last of those of the slot. It may be gone, and its
-    /// number another one's: what stands there is compared.
-    remembered: Vec<u16>,
+    ring: HeapCircularBuffer<Entry>,
+    /// The number of each entry's storing in the segment, modulo 2^64.
+    numbers: HashMap<Entry, u64>,
+    /// The number of the next storing.
+    next: u64,
+    /// A cache of `numbers`.
+    cache: SlotCache,
     alloc: Global,
 }
 
 impl Model for IndexedTable {
-    ghost use Rattle.std.specs.Prelude.{List};
+    ghost use Rattle.std.specs.Prelude.{List, reverse};
     ghost use Rattle.o5_codec.specs.Formed.{FormedEntry};
 
     ghost Value = { List FormedEntry };
 
     ghost use Rattle.o5_codec.specs.TableInside.{IsTable};
 
-    ghost view = { λ t. t.entries.items };
+    ghost view = { λ t. reverse t.ring.items };
 
     ghost invariant = { IsTable };
 }
 
 impl IndexedTable {
-    /// The empty table.
+    /// The empty table, with room for all its entries.
     pub(crate) fn new(alloc: Global) -> Result<IndexedTable, Memory>
         ensures { IfOk result (λ t. t ≡ []) }
     {
         Ok(IndexedTable {
-            entries: VecDeque::new(alloc),
+            ring: HeapCircularBuffer::with_capacity(alloc, LIMIT)?,
             numbers: HashMap::new(alloc),
             next: 0,
-            remembered: Vec::from_elem(alloc, 0, SLOTS)?,
+            cache: SlotCache::new(alloc)?,
             alloc,
         })
     }
@@ -61,17 +64,17 @@ impl IndexedTable {
     pub(crate) fn clear(&mut self)
         ensures { self.new ≡ [] }
     {
-        self.entries.clear();
+        self.ring.clear();
         self.numbers.clear();
         self.next = 0;
     }
 
-    /// Appends an entry, and remembers it for the slot: its reference where it stands in the table, else its strings inline,
-    /// which are stored unless they are too long.
+    /// Appends an entry: its reference if the table has it, else its strings inline, which are stored unless they are
+    /// too long. The cache then has the entry in the slot.
     ///
     /// # Errors
     ///
-    /// For want of memory alone.
+    /// `Memory` when out of memory.
     pub(crate) fn append(
         &mut self,
         out: &mut Draft,
@@ -83,18 +86,18 @@ impl IndexedTable {
     {
         match self.reference_to(entry) {
             Some(reference) => {
-                self.remember(slot, self.next.wrapping_sub(reference));
-                out.append_number(u64::from(reference))
+                self.cache.remember(slot, self.next.wrapping_sub(reference));
+                out.append_number(reference)
             }
             None => {
-                self.remember(slot, self.next);
+                self.cache.remember(slot, self.next);
                 entry.append_inline(out)?;
                 self.store(entry)
             }
         }
     }
 
-    /// The reference that names a user's entry, where it is remembered.
+    /// The reference that names a user's entry, if the cache has it.
     #[inline(always)]
     pub(crate) fn user_reference(&self, uid: u64, name: &[u8]) -> Option<u64>
         ensures { IfSome result (λ n. reference_to (formed Pair (uid_string uid) name.now) self.now ≡ Some n) }
@@ -107,7 +110,7 @@ impl IndexedTable {
         }
     }
 
-    /// The reference that names a tag's entry, where it is remembered.
+    /// The reference that names a tag's entry, if the cache has it.
     #[inline(always)]
     pub(crate) fn tag_reference(&self, key: &[u8], value: &[u8]) -> Option<u64>
         ensures { IfSome result (λ n. reference_to (formed Pair key.now value.now) self.now ≡ Some n) }
@@ -120,7 +123,7 @@ impl IndexedTable {
         }
     }
 
-    /// The reference that names a member's entry, where it is remembered.
+    /// The reference that names a member's entry, if the cache has it.
     #[inline(always)]
     pub(crate) fn member_reference(&self, kind: Kind, role: &[u8]) -> Option<u64>
         ensures { IfSome result (λ n. reference_to (formed Single (member_string kind role.now) []) self.now ≡ Some n) }
@@ -133,38 +136,28 @@ impl IndexedTable {
         }
     }
 
-    /// The entry that is remembered for a slot, if it stands in the table, and its reference.
+    /// The entry that the cache has in a slot, if it is still in the table, and its reference.
     #[inline(always)]
     fn remembered(&self, slot: Slot) -> Option<(&Entry, u64)>
         ensures { IfSome result (λ x. reference_to x.0.now self.now ≡ Some x.1) }
     {
-        let number = *self.remembered.get(slot.place())?;
-        let before = usize::from(self.next.wrapping_sub(number).wrapping_sub(1));
-        let entry = self.entries.get(before)?;
-        Some((entry, before as u64 + 1))
+        let later = usize::from(self.cache.stored_later(slot, self.next)?);
+        let entry = self.ring.nth_back(later)?;
+        Some((entry, later as u64 + 1))
     }
 
-    /// Remembers the number of a storing for a slot.
-    fn remember(&mut self, slot: Slot, number: u16)
-        ensures { self.new ≡ self.old }
-    {
-        if let Some(place) = self.remembered.get_mut(slot.place()) {
-            *place = number;
-        }
-    }
-
-    /// The reference that names the entry, where it stands in the table: 1 is the entry stored last.
-    fn reference_to(&self, entry: &Entry) -> Option<u16>
+    /// The reference that names the entry, if the table has it: 1 is the entry stored last.
+    fn reference_to(&self, entry: &Entry) -> Option<u64>
         ensures { result ≡ reference_to entry.now self.now }
     {
         let number = *self.numbers.get(entry)?;
         if number < self.next {
             return Some(self.next - number);
         }
-        Some(self.next + (u16::MAX - number) + 1)
+        Some(self.next + (u64::MAX - number) + 1)
     }
 
-    /// Stores an entry that doesn't stand in the table, unless it is too long.
+    /// Stores an entry that the table doesn't have, unless it is too long.
     fn store(&mut self, entry: &Entry) -> Result<(), Memory>
         requires { reference_to entry.now self.old ≡ None }
         ensures { OnOk result (self.new ≡ kept entry.now self.old) }
@@ -172,44 +165,37 @@ impl IndexedTable {
         if !entry.is_short() {
             return Ok(());
         }
-        self.make_room();
         let key = entry.copy(self.alloc)?;
         let stored = entry.copy(self.alloc)?;
         self.put(key, stored)
     }
 
-    /// Lets the oldest entry go where the table is full.
-    fn make_room(&mut self)
-        ensures { self.new ≡ take (limit - 1) self.old }
-    {
-        if self.entries.len() < LIMIT {
-            return;
-        }
-        let Some(oldest) = self.entries.pop_back() else {
-            return;
-        };
-        self.numbers.remove(&oldest);
-    }
-
-    /// Stores an entry that doesn't stand in the table, where it isn't full: as a key, and in the list.
+    /// Stores an entry that the table doesn't have, in the map and in the ring. A full ring evicts its oldest entry.
     fn put(&mut self, key: Entry, stored: Entry) -> Result<(), Memory>
-        requires room { length self.old < limit }
         requires same { key ≡ stored }
         requires absent { reference_to key self.old ≡ None }
-        ensures { OnOk result (self.new ≡ stored ∷ self.old) }
+        ensures { OnOk result (self.new ≡ take limit (stored ∷ self.old)) }
     {
-        self.entries.reserve(1)?;
         self.numbers.insert(key, self.next)?;
-        self.entries.push_front_reserved(stored);
         let after = number_after(self.next);
         self.next = after;
+        if let Some(evicted) = self.ring.push_back(stored) {
+            remove(&mut self.numbers, evicted);
+        }
         Ok(())
     }
 }
 
-/// The number of the storing after this one.
-fn number_after(number: u16) -> u16
-    ensures { IsNext (2 ^ 16) number result }
+/// Removes an entry from the numbers, and drops it.
+fn remove(numbers: &mut HashMap<Entry, u64>, entry: Entry)
+    ensures { hash.UpdatesBy same_entry (same_entry entry) numbers.old numbers.new None }
 {
-    if number == u16::MAX { 0 } else { number + 1 }
+    numbers.remove(&entry);
+}
+
+/// The number of the storing after this one.
+fn number_after(number: u64) -> u64
+    ensures { IsNext (2 ^ 64) number result }
+{
+    if number == u64::MAX { 0 } else { number + 1 }
 }

@@ -1,8 +1,51 @@
-//! Slots, of which each remembers one entry of the string table.
-use osm_model::Kind;
+//! A cache of the numbers that the writer's string table has in its hash map.
+//!
+//! The map hashes all bytes of an entry, and the entry has to be filled before. So the table first asks this cache, which
+//! finds an entry by a few of its bytes. The cache may be wrong: several entries share a slot, and an entry that leaves
+//! the table stays in its slot. The table therefore compares the entry that it finds in this way, and asks the map if it
+//! is another one. No byte that is written depends on the cache.
+use osm_model::{Kind, Memory};
+use std::alloc::Global;
 
-/// How many slots there are.
-pub(crate) const SLOTS: usize = 65_536;
+/// The number of slots.
+const SLOTS: usize = 65_536;
+
+/// A slot keeps the number of a storing modulo this. A table has fewer entries.
+const NUMBERS: u64 = 65_536;
+
+/// For each slot, the number of the storing of the entry that was written last of those of the slot.
+#[derive(Drop)]
+pub(crate) struct SlotCache {
+    numbers: Vec<u16>,
+}
+
+impl SlotCache {
+    /// A cache whose slots all have the number 0.
+    pub(crate) fn new(alloc: Global) -> Result<SlotCache, Memory> {
+        Ok(SlotCache {
+            numbers: Vec::from_elem(alloc, 0, SLOTS)?,
+        })
+    }
+
+    /// The number of entries that were stored later than the one in the slot. `next` is the number of the next storing.
+    #[inline(always)]
+    pub(crate) fn stored_later(&self, slot: Slot, next: u64) -> Option<u16> {
+        let number = *self.numbers.get(slot.index())?;
+        Some(lowest_bits(next).wrapping_sub(number).wrapping_sub(1))
+    }
+
+    /// Sets the number of a slot.
+    pub(crate) fn remember(&mut self, slot: Slot, number: u64) {
+        if let Some(kept) = self.numbers.get_mut(slot.index()) {
+            *kept = lowest_bits(number);
+        }
+    }
+}
+
+/// A number modulo `NUMBERS`.
+fn lowest_bits(number: u64) -> u16 {
+    (number % NUMBERS) as u16
+}
 
 /// One of the slots. Entries that are written again and again mostly have slots of their own.
 #[derive(Clone, Copy, Debug, PartialEq, Eq)]
@@ -30,13 +73,13 @@ impl Slot {
         )
     }
 
-    /// Its place among the slots.
-    pub(crate) fn place(self) -> usize {
+    /// Its index among the slots.
+    fn index(self) -> usize {
         (self.0 % SLOTS as u64) as usize
     }
 }
 
-/// A number that tells most strings from one another: it goes by their length and three of their bytes.
+/// A number that differs for most strings. It depends on their length and on three of their bytes.
 #[inline(always)]
 fn digest(string: &[u8]) -> u64 {
     let Some(last) = string.last() else {

@@ -6,20 +6,20 @@ use Rattle.o5_codec.proofs.write.indexed_table.IndexedTable.reference_to.Goals a
 
 pub returns-then-number-self : goal.returns-then-number-self
 returns-then-number-self c =
-    let at = found_in _ _ _ _ _ _ _ c.self.invariant c.in_ok-number.ensures.value in
+    let at = found_in _ _ _ _ _ _ _ c.self.invariant.indexed c.in_ok-number.ensures.value in
     sym (found_low _ _ _ _ _ at.0 at.1 limit_is_small c.if-number-self.true) ∙ ap (reference_to c.args.entry.now) c.self.view_is
 
 pub overflow_add-result-2 : goal.overflow_add-result-2
 unfolding limit
 overflow_add-result-2 c =
-    let at = found_in _ _ _ _ _ _ _ c.self.invariant c.in_ok-number.ensures.value in
-    let room : c.self.inside.next + 2 ^ 16 ≤ c.in_ok-number.field-0.now + limit = room_above _ _ _ _ _ at.0 at.1 c.if-number-self.false in
-    let below : c.in_ok-number.field-0.now < 2 ^ 16 = number_below _ _ _ _ at.0 in
+    let at = found_in _ _ _ _ _ _ _ c.self.invariant.indexed c.in_ok-number.ensures.value in
+    let room : c.self.inside.next + 2 ^ 64 ≤ c.in_ok-number.field-0.now + limit = room_above _ _ _ _ _ at.0 at.1 c.if-number-self.false in
+    let below : c.in_ok-number.field-0.now < 2 ^ 64 = number_below _ _ _ _ at.0 in
     omega arith
 
 pub returns : goal.returns
 returns c =
-    let at = found_in _ _ _ _ _ _ _ c.self.invariant c.in_ok-number.ensures.value in
-    let below : c.in_ok-number.field-0.now < 2 ^ 16 = number_below _ _ _ _ at.0 in
-    let same : c.self.inside.next + (65535 - c.in_ok-number.field-0.now) + 1 ≡ c.self.inside.next + 2 ^ 16 - c.in_ok-number.field-0.now = omega arith in
+    let at = found_in _ _ _ _ _ _ _ c.self.invariant.indexed c.in_ok-number.ensures.value in
+    let below : c.in_ok-number.field-0.now < 2 ^ 64 = number_below _ _ _ _ at.0 in
+    let same : c.self.inside.next + (18446744073709551615 - c.in_ok-number.field-0.now) + 1 ≡ c.self.inside.next + 2 ^ 64 - c.in_ok-number.field-0.now = omega arith in
     ap (λ n. Some n) same ∙ sym (found_high _ _ _ _ _ at.0 at.1 c.if-number-self.false) ∙ ap (reference_to c.args.entry.now) c.self.view_is
