@@ -1,6 +1,7 @@
 -- An entry is told by its form, by the bytes of both strings together, and by where the first string ends.
-use Rattle.std.proofs.Common.{◌≡◌, ℕ, ◌++◌, Bool, true, false, ◌&&◌, List, take, drop, refl, ap, sym, ◌∙◌}
+use Rattle.std.proofs.Common.{◌≡◌, ℕ, ◌++◌, Bool, true, false, ◌&&◌, List, take, drop, refl, ap, sym, ◌∙◌, inl, inr}
 use Rattle.std.proofs.lemmas.List.{take-append-drop}
+use Rattle.std.proofs.lemmas.Bool.{cases_Bool}
 use Rattle.std.specs.Str.{bytes_eq}
 use Rattle.std.specs.Cmp.Lexicographic.{bytes_decides}
 use Rattle.o5_codec.specs.declared.strings.Form.{Form}
@@ -33,3 +34,10 @@ same_bytes f g i j xs ys place form =
     (λ e. both_equal f g i xs ys form ((bytes_decides xs ys).0 e))
     (λ e. (bytes_decides xs ys).1 (whole f g i i xs ys ((same_entry_decides (cut f i xs) (cut g i ys)).0 e)))
     ∙ ap (λ k. same_entry (cut f i xs) (cut g k ys)) place
+
+-- entries whose bytes differ by some measure are not the same
+pub told_apart : (measure : List ℕ → ℕ) (f g : Form) (i j : ℕ) (xs ys : List ℕ) → (measure xs ≡ measure ys → ⊥) → false ≡ same_entry (cut f i xs) (cut g j ys)
+told_apart measure f g i j xs ys differ = elim (cases_Bool (same_entry (cut f i xs) (cut g j ys))) [
+  | inl same ↦ absurd (differ (ap measure (whole f g i j xs ys ((same_entry_decides (cut f i xs) (cut g j ys)).0 same))))
+  | inr other ↦ sym other
+]

@@ -31,3 +31,4 @@ pub mod Block
 pub mod Meaning
 pub mod StoredInside
 pub mod EntryInside
+pub mod Digest

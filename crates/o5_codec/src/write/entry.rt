@@ -1,11 +1,13 @@
 //! Entries of the string table.
-ghost use Rattle.std.specs.Prelude.{◌≡◌, ◌++◌, ◌∷◌, [], IfOk, OnOk};
+ghost use Rattle.std.specs.Prelude.{◌≡◌, ◌++◌, [], IfOk, OnOk};
+ghost use Rattle.std.specs.Hash as fed;
 ghost use Rattle.std.specs.Bool.{OnTrue};
 ghost use Rattle.o5_codec.specs.declared.strings.Form.TheVariants.{Pair, Single};
 ghost use Rattle.std.specs.Cmp.{decided, partial_equiv_from_equiv};
 ghost use Rattle.std.proofs.Common.{ap};
 ghost use Rattle.o5_codec.specs.Table.{is_short};
-ghost use Rattle.o5_codec.specs.Shortest.{shortest_number};
+ghost use Rattle.o5_codec.specs.Block.{filled};
+ghost use Rattle.o5_codec.specs.Digest.{digest};
 ghost use Rattle.o5_codec.specs.Formed.{formed, same_form, same_entry, inline_bytes};
 ghost use Rattle.o5_codec.specs.Writing.{uid_string, user_entry, tag_entry, member_string, member_entry};
 ghost use Rattle.o5_codec.specs.SameEntry.{same_entry_decides};
@@ -17,7 +19,7 @@ use crate::write::draft::Draft;
 use osm_model::{Kind, Memory, Tag, Text};
 use smallvec::SmallVec;
 use std::alloc::Global;
-use std::hash::{Hash, Hasher};
+use std::hash::{DefaultHasher, Hash, Hasher};
 use std::marker::Model;
 
 /// The number of bytes that an entry keeps without an allocation. Most pairs, and most names, have fewer.
@@ -25,11 +27,16 @@ const FEW: usize = 24;
 
 /// A pair or a single string. The bytes are those of the first string and then those of the second. Contracts see the
 /// form and the strings.
+///
+/// Two entries are compared by their digests first, and the map of the table hashes the digest. It is SipHash with a fixed key, so
+/// strings whose digests are equal have to be searched for.
 #[derive(Drop)]
 pub(crate) struct Entry {
     form: Form,
     bytes: SmallVec<u8, FEW>,
     split: usize,
+    /// The digest of the bytes.
+    digest: u64,
     /// The user id that the first string spells, where the entry was filled as a user's.
     uid: Option<u64>,
 }
@@ -63,6 +70,9 @@ impl PartialEq for Entry {
     ghost laws = { partial_equiv_from_equiv (decided same_entry same_entry_decides) };
 
     fn eq(&self, other: &Entry) -> bool {
+        if self.digest != other.digest {
+            return false;
+        }
         let same = self.split == other.split && self.form.is_same(other.form);
         same && self.bytes.as_slice() == other.bytes.as_slice()
     }
@@ -73,12 +83,12 @@ impl Eq for Entry {
 }
 
 impl Hash for Entry {
-    ghost hash_input = { λ e. (e.strings.first ++ e.strings.second) ∷ [] };
+    ghost hash_input = { λ e. fed.u64 (digest (e.strings.first ++ e.strings.second)) };
 
-    ghost respects_eq = { λ x y same. ap (λ e. (e.strings.first ++ e.strings.second) ∷ []) ((same_entry_decides x y).0 same) };
+    ghost respects_eq = { λ x y same. ap (λ e. fed.u64 (digest (e.strings.first ++ e.strings.second))) ((same_entry_decides x y).0 same) };
 
     fn hash<H: Hasher>(&self, state: &mut H) {
-        state.write(self.bytes.as_slice());
+        state.write_u64(self.digest);
     }
 }
 
@@ -89,6 +99,7 @@ impl Entry {
             form: Form::Pair,
             bytes: SmallVec::new(alloc),
             split: 0,
+            digest: digest_of(&[]),
             uid: None,
         }
     }
@@ -164,6 +175,7 @@ impl Entry {
             form: self.form,
             bytes: SmallVec::from_slice(alloc, self.bytes.as_slice())?,
             split: self.split,
+            digest: self.digest,
             uid: self.uid,
         })
     }
@@ -172,11 +184,8 @@ impl Entry {
     pub(crate) fn fill_user(&mut self, uid: u64, user: &Text) -> Result<(), Memory>
         ensures { OnOk result (self.new ≡ user_entry uid user.now) }
     {
-        self.clear(Form::Pair);
-        if uid != 0 {
-            self.extend_number(uid)?;
-        }
-        self.extend_second(user.as_str().as_bytes())?;
+        let digits = uid_digits(uid);
+        self.fill(Form::Pair, &[], digits.as_slice(), user.as_str().as_bytes())?;
         self.uid = Some(uid);
         Ok(())
     }
@@ -185,57 +194,58 @@ impl Entry {
     pub(crate) fn fill_tag(&mut self, tag: &Tag) -> Result<(), Memory>
         ensures { OnOk result (self.new ≡ tag_entry tag.now) }
     {
-        self.clear(Form::Pair);
-        self.extend_first(tag.key.as_str().as_bytes())?;
-        self.extend_second(tag.value.as_str().as_bytes())
+        let (key, value) = (tag.key.as_str(), tag.value.as_str());
+        self.fill(Form::Pair, &[], key.as_bytes(), value.as_bytes())
     }
 
     /// Takes the single string of a member: the digit of its kind, and its role.
     pub(crate) fn fill_member(&mut self, kind: Kind, role: &Text) -> Result<(), Memory>
         ensures { OnOk result (self.new ≡ member_entry kind role.now) }
     {
-        self.clear(Form::Single);
-        self.extend_first(&[b'0' + kind.rank()])?;
-        self.extend_first(role.as_str().as_bytes())
+        let digit = [b'0' + kind.rank()];
+        self.fill(Form::Single, &digit, role.as_str().as_bytes(), &[])
     }
 
-    /// Takes two empty strings. The room of a long string is given back.
-    fn clear(&mut self, form: Form)
-        ensures { self.new ≡ formed form [] [] }
+    /// Takes two strings, of which `front` and `rest` are the first. The room of a long string is given back.
+    fn fill(&mut self, form: Form, front: &[u8], rest: &[u8], second: &[u8]) -> Result<(), Memory>
+        ensures { OnOk result (self.new ≡ formed form (front.now ++ rest.now) second.now) }
     {
-        self.form = form;
-        self.bytes = SmallVec::new(*self.bytes.allocator());
-        self.split = 0;
-        self.uid = None;
-    }
-
-    /// Appends bytes to the first string, the second one being empty.
-    fn extend_first(&mut self, more: &[u8]) -> Result<(), Memory>
-        requires { self.old.strings.second ≡ [] }
-        ensures { OnOk result (self.new ≡ formed self.old.form (self.old.strings.first ++ more.now) []) }
-    {
-        self.uid = None;
-        self.bytes.extend_from_slice(more)?;
-        self.split = self.bytes.len();
+        let mut bytes = SmallVec::new(*self.bytes.allocator());
+        bytes.extend_from_slice(front)?;
+        bytes.extend_from_slice(rest)?;
+        let split = bytes.len();
+        bytes.extend_from_slice(second)?;
+        let digest = digest_of(bytes.as_slice());
+        *self = Entry {
+            form,
+            bytes,
+            split,
+            digest,
+            uid: None,
+        };
         Ok(())
     }
+}
 
-    /// Appends a number to the first string, the second one being empty.
-    fn extend_number(&mut self, number: u64) -> Result<(), Memory>
-        requires { self.old.strings.second ≡ [] }
-        ensures { OnOk result (self.new ≡ formed self.old.form (self.old.strings.first ++ shortest_number number) []) }
-    {
-        let mut digits = Block::new();
-        digits.append_number(number);
-        self.extend_first(digits.as_slice())
-    }
+/// The digest of an entry's bytes.
+#[tactic(auto, unfolding(crate::specs::Digest::digest))]
+fn digest_of(bytes: &[u8]) -> u64
+    ensures { result ≡ digest bytes.now }
+{
+    let mut hasher = DefaultHasher::new();
+    hasher.write(bytes);
+    hasher.finish()
+}
 
-    /// Appends bytes to the second string.
-    fn extend_second(&mut self, more: &[u8]) -> Result<(), Memory>
-        ensures { OnOk result (self.new ≡ formed self.old.form self.old.strings.first (self.old.strings.second ++ more.now)) }
-    {
-        Ok(self.bytes.extend_from_slice(more)?)
+/// The string of a user id.
+fn uid_digits(uid: u64) -> Block
+    ensures { filled result ≡ uid_string uid }
+{
+    let mut digits = Block::new();
+    if uid != 0 {
+        digits.append_number(uid);
     }
+    digits
 }
 
 /// Whether a string is the digit of a member's kind, and behind it this role.
