@@ -28,4 +28,8 @@ pub use sink::{Sink, write_history};
 pub use source::{FileSource, Source};
 
 #[cfg(test)]
+mod devices;
+#[cfg(test)]
 mod tests;
+#[cfg(test)]
+mod texts;

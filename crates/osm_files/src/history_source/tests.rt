@@ -2,25 +2,24 @@
 use super::HistorySource;
 use crate::input::SliceIn;
 use crate::load::load_any;
-use crate::source::Source;
 use crate::tests::UNSORTED;
-use opl_line::read_line;
+use crate::texts::{push_fault, push_given};
 use std::alloc::Global;
-use std::test::Fail;
 
-/// Whether the source gives the version of this line next, or none for an empty line.
-fn gives(alloc: Global, source: &mut HistorySource, line: &[u8]) -> Result<bool, Fail> {
-    Ok(source.next()? == read_line(alloc, line)?)
+/// What a history gives as a source that was loaded from a file.
+fn held_text(alloc: Global, file: &[u8]) -> String {
+    let mut text = String::new(alloc);
+    match load_any(alloc, 0, SliceIn::new(file)) {
+        Err(fault) => push_fault(&mut text, fault),
+        Ok(loaded) => push_given(alloc, &mut text, &mut HistorySource::new(loaded.history)),
+    }
+    text
 }
 
 #[test]
-fn loaded_file_is_given_in_order(rt: HostRuntime) -> Result<(), Fail> {
-    let alloc = rt.alloc();
-    let loaded = load_any(alloc, 0, SliceIn::new(UNSORTED))?;
-    let mut source = HistorySource::new(loaded.history);
-    assert!(rt; gives(alloc, &mut source, b"n1 v1 x1 y1")?);
-    assert!(rt; gives(alloc, &mut source, b"n2 v1 x1 y1")?);
-    assert!(rt; gives(alloc, &mut source, b"")?);
-    assert!(rt; gives(alloc, &mut source, b"")?);
-    Ok(())
+fn loaded_file_is_given_in_order(rt: HostRuntime) {
+    assert_eq!(rt;
+        held_text(rt.alloc(), UNSORTED).as_str(),
+        "n1 v1 dV c0 t i0 u T x1 y1\nn2 v1 dV c0 t i0 u T x1 y1\nend\nend\nend\n"
+    );
 }

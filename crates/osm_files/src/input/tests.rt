@@ -1,55 +1,58 @@
 //! Inputs that end and inputs that fail.
-use super::{Broken, FromRead, Input, SliceIn};
-use std::io;
-use std::io::Read;
+use super::{FromRead, Input, SliceIn};
+use crate::devices::Pieces;
+use std::alloc::Global;
+use std::cell::Cell;
 
-/// A reader that gives one byte a read, and then answers an error.
-#[derive(Drop)]
-struct Breaking<'a> {
-    rest: &'a [u8],
-}
-
-impl Read for Breaking<'_> {
-    fn read(&mut self, buffer: &mut [u8]) -> io::Result<usize> {
-        let Some((first, rest)) = self.rest.split_first() else {
-            return Err(io::Error::from(io::ErrorKind::Interrupted));
-        };
-        let Some(place) = buffer.first_mut() else {
-            return Ok(0);
-        };
-        *place = *first;
-        self.rest = rest;
-        Ok(1)
-    }
-}
-
-#[test]
-fn slice_is_given_in_parts(rt: HostRuntime) {
-    let mut input = SliceIn::new(b"abc");
+/// Appends the bytes of one read into two bytes, or that the input is broken.
+fn push_read<I: Input>(text: &mut String, input: &mut I) {
     let mut buffer = [0u8; 2];
-    assert_eq!(rt; input.read(&mut buffer), Ok(2));
-    assert_eq!(rt; buffer, *b"ab");
+    let given = match input.read(&mut buffer) {
+        Ok(count) => str::from_utf8(&buffer[..count]).unwrap_or("?"),
+        Err(_) => "broken",
+    };
+    let _ = writeln!(text, "{given}");
+}
+
+/// What four reads give.
+fn read_text<I: Input>(alloc: Global, input: &mut I) -> String {
+    let mut text = String::new(alloc);
+    for _ in 0..4 {
+        push_read(&mut text, input);
+    }
+    text
+}
+
+/// What four reads give of a reader that gives one byte a read and then fails.
+fn broken_text(alloc: Global) -> String {
+    let read = Cell::new(0usize);
+    let pieces = Pieces {
+        rest: b"n1",
+        step: 1,
+        read: &read,
+        fails: true,
+    };
+    read_text(alloc, &mut FromRead::new(pieces))
+}
+
+#[test]
+fn inputs_are_read_to_their_ends(rt: HostRuntime) {
+    let alloc = rt.alloc();
+    assert_eq!(rt;
+        read_text(alloc, &mut SliceIn::new(b"abc")).as_str(),
+        "ab\nc\n\n\n"
+    );
+    assert_eq!(rt;
+        read_text(alloc, &mut FromRead::new(b"n3".as_slice())).as_str(),
+        "n3\n\n\n\n"
+    );
+    assert_eq!(rt; broken_text(alloc).as_str(), "n\n1\nbroken\nbroken\n");
+}
+
+#[test]
+fn no_room_takes_no_bytes(rt: HostRuntime) {
+    let mut input = SliceIn::new(b"c");
     assert_eq!(rt; input.read(&mut []), Ok(0));
+    let mut buffer = [0u8; 2];
     assert_eq!(rt; input.read(&mut buffer), Ok(1));
-    assert_eq!(rt; buffer[0], b'c');
-    assert_eq!(rt; input.read(&mut buffer), Ok(0));
-}
-
-#[test]
-fn reader_is_read_to_its_end(rt: HostRuntime) {
-    let mut input = FromRead::new(b"n3".as_slice());
-    let mut buffer = [0u8; 8];
-    assert_eq!(rt; input.read(&mut buffer), Ok(2));
-    assert_eq!(rt; &buffer[..2], b"n3".as_slice());
-    assert_eq!(rt; input.read(&mut buffer), Ok(0));
-}
-
-#[test]
-fn error_in_mid_stream_is_answered(rt: HostRuntime) {
-    let mut input = FromRead::new(Breaking { rest: b"n1" });
-    let mut buffer = [0u8; 8];
-    assert_eq!(rt; input.read(&mut buffer), Ok(1));
-    assert_eq!(rt; input.read(&mut buffer), Ok(1));
-    assert_eq!(rt; input.read(&mut buffer), Err(Broken));
-    assert_eq!(rt; input.read(&mut buffer), Err(Broken));
 }

@@ -1,158 +1,71 @@
 //! Files in any order, loaded from inputs that end and inputs that fail.
-use super::{Loaded, load_any};
+use crate::devices::Dripping;
 use crate::fault::Fault;
-use crate::format::Format;
-use crate::input::{Broken, Input, SliceIn};
+use crate::input::SliceIn;
 use crate::reason::Reason;
 use crate::tests::{NODE_THEN_DELETION, UNSORTED};
-use o5_codec::O5Reason;
-use opl_line::OplReason;
+use crate::texts::{loaded_text, push_fault};
 use std::alloc::Global;
-use std::test::Fail;
 
-/// An input that gives one byte a read, and then ends or fails.
-#[derive(Drop)]
-struct Dripping<'a> {
-    rest: &'a [u8],
-    fails: bool,
+/// What loading the input returns that gives these bytes one by one, and then ends or fails.
+fn dripping_text(alloc: Global, bytes: &[u8], fails: bool) -> String {
+    loaded_text(alloc, 3, Dripping { rest: bytes, fails })
 }
 
-impl Input for Dripping<'_> {
-    ghost use Rattle.std.specs.Prelude.{◌≡◌, refl};
+const NODE_AND_DELETION_LOADED: &str =
+    "o5m sorted\nn1 v1 dV c1 t1970-01-01T00:00:01Z i1 ua T x0 y0\nn1 v2 dD c1 t1970-01-01T00:00:02Z i1 ua T x y\n";
 
-    ghost can_give = { λ s c. c ≡ record { bytes = s.rest.now; broken = s.fails } };
-
-    ghost one = { λ s. record { bytes = s.rest.now; broken = s.fails } };
-
-    ghost possible = { λ s. refl };
-
-    fn read(&mut self, buffer: &mut [u8]) -> Result<usize, Broken> {
-        let Some((first, rest)) = self.rest.split_first() else {
-            return if self.fails { Err(Broken) } else { Ok(0) };
-        };
-        let Some(place) = buffer.first_mut() else {
-            return Ok(0);
-        };
-        *place = *first;
-        self.rest = rest;
-        Ok(1)
+#[test]
+fn files_are_loaded(rt: HostRuntime) {
+    for (file, text) in [
+        (b"".as_slice(), "opl sorted\n"),
+        (
+            UNSORTED,
+            "opl unsorted\nn1 v1 dV c0 t i0 u T x1 y1\nn2 v1 dV c0 t i0 u T x1 y1\n",
+        ),
+        (NODE_THEN_DELETION, NODE_AND_DELETION_LOADED),
+        (
+            b"\xff\xe0\x04o5c2\x10\x0b\x02\x01\x02\x02\x00\x01\x00a\x00\x00\x00\xfe",
+            "o5c sorted\nn1 v1 dV c1 t1970-01-01T00:00:01Z i1 ua T x0 y0\n",
+        ),
+        (
+            b"\xff\xe0\x04o5m2\x10\x0b\x02\x01\x02\x02\x00\x01\x00a\x00\x00\x00\x10\x05\x00\x02\x02\x00\x01\xfe\x00",
+            "file 3, byte 28: AfterEnd\n",
+        ),
+        (b"\xff\xe0\x04o5m3\xfe", "file 3, byte 0: BadHeader\n"),
+    ] {
+        assert_eq!(rt;
+            loaded_text(rt.alloc(), 3, SliceIn::new(file)).as_str(),
+            text
+        );
+        assert_eq!(rt; dripping_text(rt.alloc(), file, false).as_str(), text);
     }
 }
 
-/// A node in o5c.
-const O5C: &[u8] = b"\xff\xe0\x04o5c2\x10\x0b\x02\x01\x02\x02\x00\x01\x00a\x00\x00\x00\xfe";
-
-/// The format of the input with these bytes, the number of its versions, and whether it is sorted.
-fn loaded(alloc: Global, bytes: &[u8]) -> Result<(Format, usize, bool), Fault> {
-    let loaded = load_any(alloc, 3, SliceIn::new(bytes))?;
-    Ok((loaded.format, loaded.history.len(), loaded.sorted))
-}
-
-/// What loading the input answers that gives these bytes one by one, and then ends or fails.
-fn load_dripping(alloc: Global, bytes: &[u8], fails: bool) -> Result<Loaded, Fault> {
-    load_any(alloc, 3, Dripping { rest: bytes, fails })
-}
-
-/// That the input with number 3 is refused for this reason at this place.
-fn refused(place: u64, reason: Reason) -> Option<Fault> {
-    Some(Fault {
+/// Whether the file of a node and its deletion is refused after `length` bytes where the input fails there.
+fn is_refused_after(alloc: Global, length: usize) -> bool {
+    let mut text = String::new(alloc);
+    let fault = Fault {
         input: 3,
-        place,
-        reason,
-    })
-}
-
-#[test]
-fn files_of_three_formats_are_loaded(rt: HostRuntime) -> Result<(), Fail> {
-    assert_eq!(rt; loaded(rt.alloc(), b"")?, (Format::Opl, 0, true));
-    assert_eq!(rt; loaded(rt.alloc(), UNSORTED)?, (Format::Opl, 2, false));
-    assert_eq!(rt;
-        loaded(rt.alloc(), NODE_THEN_DELETION)?,
-        (Format::O5m, 2, true)
-    );
-    assert_eq!(rt; loaded(rt.alloc(), O5C)?, (Format::O5c, 1, true));
-    Ok(())
-}
-
-#[test]
-fn versions_stand_in_their_order(rt: HostRuntime) -> Result<(), Fail> {
-    let loaded = load_dripping(rt.alloc(), UNSORTED, false)?;
-    assert!(rt; !loaded.sorted);
-    assert_eq!(rt; loaded.history.len(), 2);
-    assert_eq!(rt; loaded.history.get(0).id(), 1);
-    assert_eq!(rt; loaded.history.get(1).id(), 2);
-    Ok(())
-}
-
-#[test]
-fn bytes_one_by_one_are_the_same_file(rt: HostRuntime) -> Result<(), Fail> {
-    let loaded = load_dripping(rt.alloc(), NODE_THEN_DELETION, false)?;
-    assert_eq!(rt; loaded.format, Format::O5m);
-    assert_eq!(rt; loaded.history.len(), 2);
-    assert!(rt; loaded.sorted);
-    Ok(())
-}
-
-/// Whether the file of a node and its deletion, cut to this length, is refused for this reason at this place.
-fn is_cut(alloc: Global, length: usize, place: u64, reason: Reason) -> bool {
+        place: length as u64,
+        reason: Reason::ReadFault,
+    };
+    push_fault(&mut text, fault);
     match NODE_THEN_DELETION.get(..length) {
-        Some(cut) => loaded(alloc, cut).err() == refused(place, reason),
+        Some(front) => dripping_text(alloc, front, true) == text,
         None => false,
     }
 }
 
 #[test]
-fn cut_files_are_refused_at_their_places(rt: HostRuntime) {
-    let truncated = Reason::O5(O5Reason::Truncated);
-    for (lengths, place, reason) in [
-        (1..7, 0, Reason::BadHeader),
-        (7..8, 7, Reason::NoEnd),
-        (8..20, 7, truncated),
-        (20..21, 20, Reason::NoEnd),
-        (21..27, 20, truncated),
-        (27..28, 27, Reason::NoEnd),
-    ] {
-        for length in lengths {
-            assert!(rt; is_cut(rt.alloc(), length, place, reason));
-        }
-    }
-}
-
-#[test]
-fn byte_behind_the_end_is_refused(rt: HostRuntime) -> Result<(), Fail> {
-    let mut longer = Vec::new(rt.alloc());
-    longer.extend_from_slice(NODE_THEN_DELETION)?;
-    longer.push(0)?;
-    assert_eq!(rt; longer.len(), 29);
-    assert_eq!(rt;
-        loaded(rt.alloc(), &longer).err(),
-        refused(28, Reason::AfterEnd)
-    );
-    Ok(())
-}
-
-#[test]
-fn header_of_another_format_is_refused(rt: HostRuntime) {
-    assert_eq!(rt;
-        loaded(rt.alloc(), b"\xff\xe0\x04o5m3\xfe").err(),
-        refused(0, Reason::BadHeader)
-    );
-}
-
-#[test]
-fn failing_inputs_are_refused_at_their_places(rt: HostRuntime) {
+fn failing_devices(rt: HostRuntime) {
     for length in 0..NODE_THEN_DELETION.len() + 1 {
-        assert_eq!(rt;
-            load_dripping(rt.alloc(), &NODE_THEN_DELETION[..length], true).err(),
-            refused(length as u64, Reason::ReadFault)
-        );
+        assert!(rt; is_refused_after(rt.alloc(), length));
     }
-    assert_eq!(rt;
-        load_dripping(rt.alloc(), b"c5 k1\nn1 v1", true).err(),
-        refused(0, Reason::Opl(OplReason::UnknownKind))
-    );
-    assert_eq!(rt;
-        load_dripping(rt.alloc(), b"n1 v1 x1 y1\nc5 k1", true).err(),
-        refused(17, Reason::ReadFault)
-    );
+    for (file, text) in [
+        (b"c5 k1\nn1 v1".as_slice(), "file 3, byte 0: UnknownKind\n"),
+        (b"n1 v1 x1 y1\nc5 k1", "file 3, byte 17: ReadFault\n"),
+    ] {
+        assert_eq!(rt; dripping_text(rt.alloc(), file, true).as_str(), text);
+    }
 }

@@ -1,95 +1,93 @@
 //! Outputs that take what they are given, and outputs that fail.
 use super::{Output, ToWrite, VecOut, write_all};
+use crate::devices::{Device, Full};
 use crate::fault::{Fault, LENGTH_LIMIT};
-use crate::input::Broken;
-use crate::reason::Reason;
-use std::io;
-use std::io::Write;
-use std::test::Fail;
+use crate::texts::push_fault;
+use std::alloc::Global;
 
-/// A writer that takes one byte a write, until it has taken as many as it has room for; then it answers errors, or
-/// takes nothing.
-#[derive(Drop)]
-struct Filling<'a> {
-    taken: &'a mut Vec<u8>,
-    room: usize,
-    answers_errors: bool,
-}
-
-impl Write for Filling<'_> {
-    fn write(&mut self, bytes: &[u8]) -> io::Result<usize> {
-        if self.taken.len() >= self.room && self.answers_errors {
-            return Err(io::Error::from(io::ErrorKind::Interrupted));
+/// Appends `ok`, or the fault of a call.
+fn push_outcome(text: &mut String, outcome: Result<(), Fault>) {
+    match outcome {
+        Ok(()) => {
+            let _ = text.push_str("ok\n");
         }
-        match bytes.first() {
-            Some(byte) if self.taken.len() < self.room => {
-                self.taken.push(*byte)?;
-                Ok(1)
-            }
-            _ => Ok(0),
-        }
-    }
-
-    fn flush(&mut self) -> io::Result<()> {
-        Ok(())
+        Err(fault) => push_fault(text, fault),
     }
 }
 
-#[test]
-fn memory_takes_all(rt: HostRuntime) -> Result<(), Fail> {
-    let mut out = VecOut::new(rt.alloc());
-    assert_eq!(rt; out.write(b"n1 "), Ok(3));
-    write_all(&mut out, 0, 3, b"v1\n")?;
-    assert_eq!(rt; out.flush(), Ok(()));
-    assert_eq!(rt; out.into_vec().as_slice(), b"n1 v1\n".as_slice());
-    Ok(())
+/// Appends what is returned by a write of a line to the output 2 after 10 bytes, by a write of nothing, and by a flush.
+fn push_writes<W: Output>(text: &mut String, out: &mut W) {
+    push_outcome(text, write_all(out, 2, 10, b"n1 v1\n"));
+    let is_written = out.write(b"").is_ok();
+    let is_flushed = out.flush().is_ok();
+    let _ = writeln!(text, "{is_written} {is_flushed}");
 }
 
-#[test]
-fn short_writes_are_continued(rt: HostRuntime) -> Result<(), Fail> {
-    let mut taken = Vec::new(rt.alloc());
-    let writer = Filling {
+/// Appends the bytes that an output took.
+fn push_taken(text: &mut String, taken: &[u8]) {
+    let _ = text.push_str(str::from_utf8(taken).unwrap_or("?"));
+}
+
+/// What memory returns to these writes, and what it took.
+fn memory_text(alloc: Global) -> String {
+    let mut text = String::new(alloc);
+    let mut out = VecOut::new(alloc);
+    push_writes(&mut text, &mut out);
+    push_taken(&mut text, &out.into_vec());
+    text
+}
+
+/// What a device of this room returns to these writes, and what it took.
+fn device_text(alloc: Global, room: usize, full: Full) -> String {
+    let mut text = String::new(alloc);
+    let mut taken = Vec::new(alloc);
+    let mut out = ToWrite::new(Device {
         taken: &mut taken,
-        room: 9,
-        answers_errors: true,
-    };
-    let mut out = ToWrite::new(writer);
-    write_all(&mut out, 0, 0, b"n1 v1\n")?;
-    assert_eq!(rt; out.flush(), Ok(()));
-    assert_eq!(rt; taken.as_slice(), b"n1 v1\n".as_slice());
-    Ok(())
+        room,
+        full,
+        flushes: true,
+    });
+    push_writes(&mut text, &mut out);
+    push_taken(&mut text, &taken);
+    text
 }
 
 #[test]
-fn failure_is_answered_from_then_on(rt: HostRuntime) {
-    for answers_errors in [false, true] {
-        let mut taken = Vec::new(rt.alloc());
-        let writer = Filling {
-            taken: &mut taken,
-            room: 4,
-            answers_errors,
-        };
-        let mut out = ToWrite::new(writer);
-        let fault = Fault {
-            input: 2,
-            place: 14,
-            reason: Reason::WriteFault,
-        };
-        assert_eq!(rt; write_all(&mut out, 2, 10, b"n1 v1\n"), Err(fault));
-        assert_eq!(rt; out.write(b""), Err(Broken));
-        assert_eq!(rt; out.flush(), Err(Broken));
-        assert_eq!(rt; taken.as_slice(), b"n1 v".as_slice());
+fn outputs_take_what_they_have_room_for(rt: HostRuntime) {
+    let alloc = rt.alloc();
+    assert_eq!(rt; memory_text(alloc).as_str(), "ok\ntrue true\nn1 v1\n");
+    for (room, full, text) in [
+        (9, Full::Refuses, "ok\ntrue true\nn1 v1\n"),
+        (
+            4,
+            Full::Refuses,
+            "file 2, byte 14: WriteFault\nfalse false\nn1 v",
+        ),
+        (
+            4,
+            Full::TakesNothing,
+            "file 2, byte 14: WriteFault\nfalse false\nn1 v",
+        ),
+    ] {
+        assert_eq!(rt; device_text(alloc, room, full).as_str(), text);
     }
+}
+
+/// What memory returns to a write that would make the output 1 too long, and to one that would not; and what it took.
+fn long_text(alloc: Global) -> String {
+    let mut text = String::new(alloc);
+    let mut out = VecOut::new(alloc);
+    let written = LENGTH_LIMIT - 3;
+    push_outcome(&mut text, write_all(&mut out, 1, written, b"n1\n"));
+    push_outcome(&mut text, write_all(&mut out, 1, written, b"n1"));
+    push_taken(&mut text, &out.into_vec());
+    text
 }
 
 #[test]
 fn too_long_output_is_not_written(rt: HostRuntime) {
-    let mut out = VecOut::new(rt.alloc());
-    let written = LENGTH_LIMIT - 3;
     assert_eq!(rt;
-        write_all(&mut out, 1, written, b"n1\n"),
-        Err(Fault::too_long(1))
+        long_text(rt.alloc()).as_str(),
+        "file 1, byte 4611686018427387904: TooLong\nok\nn1"
     );
-    assert_eq!(rt; write_all(&mut out, 1, written, b"n1"), Ok(()));
-    assert_eq!(rt; out.into_vec().as_slice(), b"n1".as_slice());
 }

@@ -1,54 +1,19 @@
 //! Files as a sink writes them, and sinks over outputs that fail.
+ghost use Rattle.std.specs.Prelude.{◌≡◌};
+ghost use Rattle.osm_files.specs.Sink.{new_sink};
+
 use super::{Sink, write_history};
+use crate::devices::{Device, Full};
 use crate::fault::Fault;
 use crate::format::Format;
-use crate::output::{ToWrite, VecOut};
+use crate::input::SliceIn;
+use crate::load::load_any;
+use crate::output::{Output, ToWrite, VecOut};
 use crate::reason::Reason;
+use crate::tests::NODE_THEN_DELETION;
 use opl_line::read_line;
-use osm_model::{History, Version};
+use osm_model::Version;
 use std::alloc::Global;
-use std::io;
-use std::io::Write;
-use std::test::Fail;
-
-/// What a full device does.
-#[derive(Clone, Copy, PartialEq, Eq, Drop)]
-enum Full {
-    Refuses,
-    TakesNothing,
-}
-
-/// A writer that takes one byte a write, as long as it has room, and then fails; its flush fails if it is told to.
-#[derive(Drop)]
-struct Device<'a> {
-    taken: &'a mut Vec<u8>,
-    room: usize,
-    full: Full,
-    flushes: bool,
-}
-
-impl Write for Device<'_> {
-    fn write(&mut self, bytes: &[u8]) -> io::Result<usize> {
-        if self.taken.len() >= self.room && self.full == Full::Refuses {
-            return Err(io::Error::from(io::ErrorKind::Interrupted));
-        }
-        match bytes.first() {
-            Some(byte) if self.taken.len() < self.room => {
-                self.taken.push(*byte)?;
-                Ok(1)
-            }
-            _ => Ok(0),
-        }
-    }
-
-    fn flush(&mut self) -> io::Result<()> {
-        if self.flushes {
-            Ok(())
-        } else {
-            Err(io::Error::from(io::ErrorKind::Interrupted))
-        }
-    }
-}
 
 const NODE: &[u8] = b"n1 v1 dV c1 t1970-01-01T00:00:01Z i1 ua T x0 y0\n";
 
@@ -57,161 +22,160 @@ const NODE_AND_DELETION: &[u8] =
 
 const WAYS: &[u8] = b"w5 v1 dV c0 t i0 u T N\nw5 v2 dD c0 t i0 u T N\n";
 
-/// The history of the lines of a text.
-fn history_of(alloc: Global, text: &[u8]) -> Result<History, Fail> {
-    let mut versions: Vec<Version> = Vec::new(alloc);
-    for line in text.split(|byte| *byte == b'\n') {
-        if let Some(version) = read_line(alloc, line)? {
-            versions.push(version)?;
-        }
+/// Writes the file of the versions of a text to the output 2.
+fn write_text<W: Output>(
+    alloc: Global,
+    format: Format,
+    text: &[u8],
+    out: &mut W,
+) -> Result<(), Fault> {
+    match load_any(alloc, 0, SliceIn::new(text)) {
+        Err(fault) => Err(fault),
+        Ok(loaded) => write_history(alloc, 2, format, &loaded.history, out),
     }
-    Ok(History::from_versions(versions)?)
 }
 
 /// The file of the versions of a text.
-fn spelled(alloc: Global, format: Format, text: &[u8]) -> Result<Vec<u8>, Fail> {
+fn spelled(alloc: Global, format: Format, text: &[u8]) -> Vec<u8> {
     let mut out = VecOut::new(alloc);
-    write_history(alloc, 0, format, &history_of(alloc, text)?, &mut out)?;
-    Ok(out.into_vec())
+    let _ = write_text(alloc, format, text, &mut out);
+    out.into_vec()
 }
 
-/// Whether the versions of this canonical text are written as that text, and as these data sets behind their headers.
-fn is_written(alloc: Global, text: &[u8], sets: &[u8]) -> Result<bool, Fail> {
-    let lines = spelled(alloc, Format::Opl, text)?;
-    let o5m = spelled(alloc, Format::O5m, text)?;
-    let o5c = spelled(alloc, Format::O5c, text)?;
-    Ok(
-        lines.as_slice() == text
-            && o5m.strip_prefix(b"\xff\xe0\x04o5m2") == Some(sets)
-            && o5c.strip_prefix(b"\xff\xe0\x04o5c2") == Some(sets),
-    )
+/// Whether the versions of a text are written as this header and these data sets.
+fn is_spelled(alloc: Global, format: Format, text: &[u8], header: &[u8], sets: &[u8]) -> bool {
+    spelled(alloc, format, text).strip_prefix(header) == Some(sets)
 }
 
-#[test]
-fn nothing_is_written(rt: HostRuntime) -> Result<(), Fail> {
-    assert!(rt; is_written(rt.alloc(), b"", b"\xfe")?);
-    Ok(())
+/// Whether the versions of this canonical text are written as that text, and as these data sets after their headers.
+fn is_written(alloc: Global, text: &[u8], sets: &[u8]) -> bool {
+    is_spelled(alloc, Format::Opl, text, b"", text)
+        && is_spelled(alloc, Format::O5m, text, b"\xff\xe0\x04o5m2", sets)
+        && is_spelled(alloc, Format::O5c, text, b"\xff\xe0\x04o5c2", sets)
 }
 
 #[test]
-fn one_node_is_written(rt: HostRuntime) -> Result<(), Fail> {
+fn empty_inputs(rt: HostRuntime) {
+    assert!(rt; is_written(rt.alloc(), b"", b"\xfe"));
+}
+
+#[test]
+fn one_node_o5m(rt: HostRuntime) {
     let sets = b"\x10\x0b\x02\x01\x02\x02\x00\x01\x00a\x00\x00\x00\xfe";
-    assert!(rt; is_written(rt.alloc(), NODE, sets)?);
-    Ok(())
+    assert!(rt; is_written(rt.alloc(), NODE, sets));
 }
 
 #[test]
-fn deletion_refers_to_the_user(rt: HostRuntime) -> Result<(), Fail> {
+fn node_then_deletion_o5m(rt: HostRuntime) {
     let sets = b"\x10\x0b\x02\x01\x02\x02\x00\x01\x00a\x00\x00\x00\x10\x05\x00\x02\x02\x00\x01\xfe";
-    assert!(rt; is_written(rt.alloc(), NODE_AND_DELETION, sets)?);
-    Ok(())
+    assert!(rt; is_written(rt.alloc(), NODE_AND_DELETION, sets));
 }
 
 #[test]
-fn way_without_references_is_written(rt: HostRuntime) -> Result<(), Fail> {
+fn way_without_references(rt: HostRuntime) {
     let sets = b"\xff\x11\x04\x0a\x01\x00\x00\x11\x03\x00\x02\x00\xfe";
-    assert!(rt; is_written(rt.alloc(), WAYS, sets)?);
-    Ok(())
+    assert!(rt; is_written(rt.alloc(), WAYS, sets));
 }
 
-/// What writing a history as o5m answers, to a device that is the output with number 2, and what the device took.
+/// What writing a node and its deletion as o5m returns, to a device of this room; and whether the device took the first
+/// `room` bytes of the file.
 fn write_to_device(
     alloc: Global,
-    history: &History,
     room: usize,
     full: Full,
     flushes: bool,
-) -> (Result<(), Fault>, Vec<u8>) {
+) -> (Result<(), Fault>, bool) {
     let mut taken = Vec::new(alloc);
-    let device = Device {
+    let mut out = ToWrite::new(Device {
         taken: &mut taken,
         room,
         full,
         flushes,
-    };
-    let mut out = ToWrite::new(device);
-    let answer = write_history(alloc, 2, Format::O5m, history, &mut out);
-    (answer, taken)
+    });
+    let outcome = write_text(alloc, Format::O5m, NODE_AND_DELETION, &mut out);
+    let is_front = NODE_THEN_DELETION.get(..room) == Some(taken.as_slice());
+    (outcome, is_front)
 }
 
-/// That the output with number 2 failed when it had taken so many bytes.
-fn write_fault(place: usize) -> Result<(), Fault> {
-    Err(Fault {
+/// The output 2 failed after it took `place` bytes.
+fn write_fault(place: usize) -> Fault {
+    Fault {
         input: 2,
         place: place as u64,
         reason: Reason::WriteFault,
-    })
+    }
 }
 
 #[test]
-fn front_stands_where_the_output_fails(rt: HostRuntime) -> Result<(), Fail> {
-    let history = history_of(rt.alloc(), NODE_AND_DELETION)?;
-    let whole = spelled(rt.alloc(), Format::O5m, NODE_AND_DELETION)?;
+fn front_is_written_where_the_output_fails(rt: HostRuntime) {
     for full in [Full::Refuses, Full::TakesNothing] {
-        for room in 0..whole.len() {
-            let (answer, taken) = write_to_device(rt.alloc(), &history, room, full, true);
-            assert_eq!(rt; answer, write_fault(room));
-            assert_eq!(rt; taken.as_slice(), &whole[..room]);
+        for room in 0..NODE_THEN_DELETION.len() {
+            let (outcome, is_front) = write_to_device(rt.alloc(), room, full, true);
+            assert!(rt; outcome == Err(write_fault(room)) && is_front);
         }
     }
-    Ok(())
 }
 
 #[test]
-fn flush_that_fails_is_a_write_fault(rt: HostRuntime) -> Result<(), Fail> {
-    let history = history_of(rt.alloc(), NODE_AND_DELETION)?;
-    let whole = spelled(rt.alloc(), Format::O5m, NODE_AND_DELETION)?;
-    let (answer, taken) = write_to_device(rt.alloc(), &history, 28, Full::Refuses, true);
-    assert_eq!(rt; answer, Ok(()));
-    assert_eq!(rt; taken.as_slice(), whole.as_slice());
-    let (answer, taken) = write_to_device(rt.alloc(), &history, 28, Full::Refuses, false);
-    assert_eq!(rt; answer, write_fault(28));
-    assert_eq!(rt; taken.as_slice(), whole.as_slice());
-    Ok(())
+fn flush_that_fails_is_a_write_fault(rt: HostRuntime) {
+    for (flushes, wanted) in [(true, Ok(())), (false, Err(write_fault(28)))] {
+        let (outcome, is_front) = write_to_device(rt.alloc(), 28, Full::Refuses, flushes);
+        assert!(rt; outcome == wanted && is_front);
+    }
 }
 
-/// What the calls of a sink write of one version.
-fn put_alone(alloc: Global, version: &Version) -> Result<Vec<u8>, Fault> {
-    let mut out = VecOut::new(alloc);
-    let mut sink = Sink::new(alloc, Format::Opl, 0)?;
-    sink.begin(&mut out)?;
-    sink.put(&mut out, version)?;
-    sink.end(&mut out)?;
-    Ok(out.into_vec())
-}
-
-#[test]
-fn calls_write_at_once(rt: HostRuntime) -> Result<(), Fail> {
-    let version = read_line(rt.alloc(), b"n1 v2 dD")?.expect(&rt, "a version");
-    let written = put_alone(rt.alloc(), &version)?;
-    assert!(rt; written.as_slice() == b"n1 v2 dD c0 t i0 u T x y\n".as_slice());
-    Ok(())
-}
-
-/// What a sink answers to a version that doesn't fit on its device, and then to its end; and what the device took.
-fn put_on_a_full_device(
-    alloc: Global,
+/// What a new sink returns to a version and to its end, or why it can't begin.
+fn put_one<W: Output>(
+    sink: &mut Sink,
+    out: &mut W,
     version: &Version,
-) -> Result<([Result<(), Fault>; 2], Vec<u8>), Fault> {
-    let mut taken = Vec::new(alloc);
+) -> Result<[Result<(), Fault>; 2], Fault>
+    requires { sink.old ≡ new_sink sink.old.format sink.old.number }
+{
+    sink.begin(out)?;
+    let put = sink.put(out, version);
+    let end = sink.end(out);
+    Ok([put, end])
+}
+
+/// What a sink of this format returns that is the output 2, to a deletion and to its end.
+fn put_deletion<W: Output>(
+    alloc: Global,
+    format: Format,
+    out: &mut W,
+) -> Result<[Result<(), Fault>; 2], Fault> {
+    let Ok(Some(version)) = read_line(alloc, b"n1 v2 dD") else {
+        return Err(Fault::memory());
+    };
+    match Sink::new(alloc, format, 2) {
+        Err(fault) => Err(fault),
+        Ok(mut sink) => put_one(&mut sink, out, &version),
+    }
+}
+
+#[test]
+fn calls_write_at_once(rt: HostRuntime) {
+    let mut out = VecOut::new(rt.alloc());
+    let outcomes = put_deletion(rt.alloc(), Format::Opl, &mut out);
+    let written = out.into_vec();
+    assert!(rt;
+        outcomes == Ok([Ok(()), Ok(())])
+            && written.as_slice() == b"n1 v2 dD c0 t i0 u T x y\n".as_slice()
+    );
+}
+
+#[test]
+fn refused_sink_fails_from_then_on(rt: HostRuntime) {
+    let mut taken = Vec::new(rt.alloc());
     let mut out = ToWrite::new(Device {
         taken: &mut taken,
         room: 9,
         full: Full::TakesNothing,
         flushes: true,
     });
-    let mut sink = Sink::new(alloc, Format::O5c, 2)?;
-    sink.begin(&mut out)?;
-    let put = sink.put(&mut out, version);
-    let end = sink.end(&mut out);
-    Ok(([put, end], taken))
-}
-
-#[test]
-fn refused_sink_answers_failed(rt: HostRuntime) -> Result<(), Fail> {
-    let version = read_line(rt.alloc(), b"n1 v2 dD")?.expect(&rt, "a version");
-    let (answers, taken) = put_on_a_full_device(rt.alloc(), &version)?;
-    assert!(rt; answers == [write_fault(9), Err(Fault::failed(2))]);
-    assert!(rt; taken.as_slice() == b"\xff\xe0\x04o5c2\x10\x03".as_slice());
-    Ok(())
+    let outcomes = put_deletion(rt.alloc(), Format::O5c, &mut out);
+    let wanted = [Err(write_fault(9)), Err(Fault::failed(2))];
+    assert!(rt;
+        outcomes == Ok(wanted) && taken.as_slice() == b"\xff\xe0\x04o5c2\x10\x03".as_slice()
+    );
 }

@@ -1,0 +1,97 @@
+//! Readers, inputs and writers for the tests, which move few bytes a call and fail.
+use crate::input::{Broken, Input};
+use std::cell::Cell;
+use std::io;
+use std::io::{Read, Write};
+
+/// A reader that gives `step` bytes a read and counts them, and then ends or fails.
+#[derive(Drop)]
+pub(crate) struct Pieces<'a> {
+    pub(crate) rest: &'a [u8],
+    pub(crate) step: usize,
+    pub(crate) read: &'a Cell<usize>,
+    pub(crate) fails: bool,
+}
+
+impl Read for Pieces<'_> {
+    fn read(&mut self, buffer: &mut [u8]) -> io::Result<usize> {
+        if self.rest.is_empty() && self.fails {
+            return Err(io::Error::from(io::ErrorKind::Interrupted));
+        }
+        let count = self.step.min(self.rest.len()).min(buffer.len());
+        let (front, rest) = self.rest.split_at(count);
+        buffer[..count].copy_from_slice(front);
+        self.rest = rest;
+        self.read.set(self.read.get().saturating_add(count));
+        Ok(count)
+    }
+}
+
+/// An input that gives one byte a read, and then ends or fails.
+#[derive(Drop)]
+pub(crate) struct Dripping<'a> {
+    pub(crate) rest: &'a [u8],
+    pub(crate) fails: bool,
+}
+
+impl Input for Dripping<'_> {
+    ghost use Rattle.osm_files.specs.Input.{whole};
+    ghost use Rattle.std.specs.Prelude.{[]};
+
+    ghost can_give = { λ _ _. Unit {0} };
+
+    ghost one = { λ _. whole [] };
+
+    ghost possible = { λ _. tt };
+
+    fn read(&mut self, buffer: &mut [u8]) -> Result<usize, Broken> {
+        let Some((first, rest)) = self.rest.split_first() else {
+            return if self.fails { Err(Broken) } else { Ok(0) };
+        };
+        let Some(place) = buffer.first_mut() else {
+            return Ok(0);
+        };
+        *place = *first;
+        self.rest = rest;
+        Ok(1)
+    }
+}
+
+/// What a full device does.
+#[derive(Clone, Copy, PartialEq, Eq, Drop)]
+pub(crate) enum Full {
+    Refuses,
+    TakesNothing,
+}
+
+/// A writer that takes one byte a write, as long as it has room, and then fails. Its flush fails unless `flushes`.
+#[derive(Drop)]
+pub(crate) struct Device<'a> {
+    pub(crate) taken: &'a mut Vec<u8>,
+    pub(crate) room: usize,
+    pub(crate) full: Full,
+    pub(crate) flushes: bool,
+}
+
+impl Write for Device<'_> {
+    fn write(&mut self, bytes: &[u8]) -> io::Result<usize> {
+        if self.taken.len() >= self.room && self.full == Full::Refuses {
+            return Err(io::Error::from(io::ErrorKind::Interrupted));
+        }
+        match bytes.first() {
+            Some(byte) if self.taken.len() < self.room => {
+                self.taken.push(*byte)?;
+                Ok(1)
+            }
+            _ => Ok(0),
+        }
+    }
+
+    fn flush(&mut self) -> io::Result<()> {
+        if self.flushes {
+            Ok(())
+        } else {
+            Err(io::Error::from(io::ErrorKind::Interrupted))
+        }
+    }
+}
