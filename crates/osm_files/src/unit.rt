@@ -1,5 +1,5 @@
 //! Units: the lines of OPL files and the data sets of o5 files, one at a time from the left.
-ghost use Rattle.std.specs.Prelude.{◌≡◌, ◌⊎◌, false, Option, None, Some, Ok, List, ◌≤◌, length, take, position, IfOk, OnOk};
+ghost use Rattle.std.specs.Prelude.{◌≡◌, ◌⊎◌, false, Option, None, Some, Ok, Err, List, ◌≤◌, length, take, position, IfOk, OnOk};
 ghost use Rattle.std.specs.List.{list_any};
 ghost use Rattle.o5_codec.specs.Decoder.{new_segment};
 ghost use Rattle.opl_line.specs.Cut.{is_line_end, split_first};
@@ -262,7 +262,7 @@ impl Stage {
         match self {
             Stage::Lines(_) => read_last_line(alloc, bytes),
             Stage::Header => Err(Reason::BadHeader),
-            Stage::DataSets(_) => Err(why_cut(bytes)),
+            Stage::DataSets(_) => read_last_set(bytes),
             Stage::End => Ok(None),
         }
     }
@@ -352,6 +352,13 @@ fn read_last_line(alloc: Global, bytes: &[u8]) -> Result<Option<Version>, Reason
     ensures { FindsLast (spec.line_found (reading_line bytes.now)) result }
 {
     Ok(read_line(alloc, bytes)?)
+}
+
+/// No file ends among its data sets, whatever its last bytes are.
+fn read_last_set(bytes: &[u8]) -> Result<Option<Version>, Reason>
+    ensures { result ≡ Err (spec.cut_reason bytes.now) }
+{
+    Err(why_cut(bytes))
 }
 
 /// Why a file is no whole one that ends with these bytes, among its data sets.
