@@ -1,8 +1,7 @@
 //! Versions as lines, for the tests, and histories of them.
 use osm_files::{Format, SliceIn, VecOut, load_any, write_history};
-use osm_model::History;
+use osm_model::{History, Memory};
 use std::alloc::Global;
-use std::test::Fail;
 
 /// A node that came after 10 seconds.
 pub const CAME_AT_10: &[u8] = b"n1 v1 dV c0 t1970-01-01T00:00:10Z i0 u T x1 y1\n";
@@ -41,23 +40,34 @@ pub const AT_9_EAST: &[u8] = b"n1 v1 dV c0 t i0 u T x9 y1\n";
 pub const WAY: &[u8] = b"w1 v1 dV c0 t i0 u T N\n";
 
 /// These lines, one after the other.
-pub fn text(alloc: Global, lines: &[&[u8]]) -> Result<Vec<u8>, Fail> {
+pub fn text(alloc: Global, lines: &[&[u8]]) -> Vec<u8> {
     let mut text = Vec::new(alloc);
     for line in lines {
-        text.extend_from_slice(line)?;
+        let _ = text.extend_from_slice(line);
     }
-    Ok(text)
+    text
+}
+
+/// The history of the versions that a file holds; an empty one where it is refused.
+pub fn history_of(alloc: Global, file: &[u8]) -> History {
+    match load_any(alloc, 0, SliceIn::new(file)) {
+        Ok(loaded) => loaded.history,
+        Err(_) => History::new(alloc),
+    }
 }
 
 /// The history of the versions that these lines spell.
-pub fn history(alloc: Global, lines: &[&[u8]]) -> Result<History, Fail> {
-    let text = text(alloc, lines)?;
-    Ok(load_any(alloc, 0, SliceIn::new(&text))?.history)
+pub fn history(alloc: Global, lines: &[&[u8]]) -> History {
+    let text = text(alloc, lines);
+    history_of(alloc, &text)
 }
 
-/// The lines of the versions of a history.
-pub fn lines_of(alloc: Global, history: &History) -> Result<Vec<u8>, Fail> {
+/// Whether a history was made, and holds the versions that these lines spell.
+pub fn holds(alloc: Global, made: Result<History, Memory>, lines: &[&[u8]]) -> bool {
+    let Ok(history) = made else {
+        return false;
+    };
     let mut out = VecOut::new(alloc);
-    write_history(alloc, 0, Format::Opl, history, &mut out)?;
-    Ok(out.into_vec())
+    let is_written = write_history(alloc, 0, Format::Opl, &history, &mut out).is_ok();
+    is_written && out.into_vec() == text(alloc, lines)
 }

@@ -2,9 +2,9 @@
 use super::{at, between, snapshot, visible};
 use crate::rows::{
     AT_9_EAST, AT_10_EAST, CAME_AT_10, DELETED_AT_30, DELETED_NEXT, DELETED_TOO, MOVED_AT_5,
-    MOVED_AT_20, OTHER_AT_20, OTHER_MOVED_AT_20, VISIBLE, WAY, history, lines_of, text,
+    MOVED_AT_20, OTHER_AT_20, OTHER_MOVED_AT_20, VISIBLE, WAY, history, holds,
 };
-use std::test::Fail;
+use std::alloc::Global;
 
 type Lines = &'static [&'static [u8]];
 
@@ -16,13 +16,16 @@ const SNAPSHOTS: &[(Lines, Lines)] = &[
     (&[], &[]),
 ];
 
+/// Whether the snapshot of these lines is those.
+fn is_snapshot(alloc: Global, lines: &[&[u8]], newest: &[&[u8]]) -> bool {
+    holds(alloc, snapshot(alloc, &history(alloc, lines)), newest)
+}
+
 #[test]
-fn snapshot_is_the_newest_version_of_each_object(rt: HostRuntime) -> Result<(), Fail> {
+fn snapshot_is_the_newest_version_of_each_object(rt: HostRuntime) {
     for (lines, newest) in SNAPSHOTS {
-        let chosen = snapshot(rt.alloc(), &history(rt.alloc(), lines)?)?;
-        assert_eq!(rt; lines_of(rt.alloc(), &chosen)?, text(rt.alloc(), newest)?);
+        assert!(rt; is_snapshot(rt.alloc(), lines, newest));
     }
-    Ok(())
 }
 
 const MOVED: Lines = &[CAME_AT_10, MOVED_AT_20, DELETED_AT_30];
@@ -39,13 +42,16 @@ const SEEN: &[(Lines, Lines)] = &[
     (&[DELETED_NEXT], &[]),
 ];
 
+/// Whether those of these lines that are visible are those.
+fn is_visible_part(alloc: Global, lines: &[&[u8]], seen: &[&[u8]]) -> bool {
+    holds(alloc, visible(alloc, &history(alloc, lines)), seen)
+}
+
 #[test]
-fn visible_leaves_deletions_out(rt: HostRuntime) -> Result<(), Fail> {
+fn visible_leaves_deletions_out(rt: HostRuntime) {
     for (lines, seen) in SEEN {
-        let chosen = visible(rt.alloc(), &history(rt.alloc(), lines)?)?;
-        assert_eq!(rt; lines_of(rt.alloc(), &chosen)?, text(rt.alloc(), seen)?);
+        assert!(rt; is_visible_part(rt.alloc(), lines, seen));
     }
-    Ok(())
 }
 
 const STATES: &[(Lines, u32, Lines)] = &[
@@ -58,13 +64,16 @@ const STATES: &[(Lines, u32, Lines)] = &[
     (TIMELESS, 0, &[DELETED_NEXT]),
 ];
 
+/// Whether the state of these lines at this time is those.
+fn is_state(alloc: Global, lines: &[&[u8]], time: u32, state: &[&[u8]]) -> bool {
+    holds(alloc, at(alloc, &history(alloc, lines), time), state)
+}
+
 #[test]
-fn state_is_taken_of_what_came_by_then(rt: HostRuntime) -> Result<(), Fail> {
+fn state_at_moment(rt: HostRuntime) {
     for (lines, time, state) in STATES {
-        let chosen = at(rt.alloc(), &history(rt.alloc(), lines)?, *time)?;
-        assert_eq!(rt; lines_of(rt.alloc(), &chosen)?, text(rt.alloc(), state)?);
+        assert!(rt; is_state(rt.alloc(), lines, *time, state));
     }
-    Ok(())
 }
 
 const PERIODS: &[(Lines, u32, u32, Lines)] = &[
@@ -79,11 +88,18 @@ const PERIODS: &[(Lines, u32, u32, Lines)] = &[
     (TIMELESS, 1, 2, &[DELETED_NEXT]),
 ];
 
+/// Whether the history of these lines from one time up to another one is those.
+fn is_period(alloc: Global, lines: &[&[u8]], from: u32, to: u32, period: &[&[u8]]) -> bool {
+    holds(
+        alloc,
+        between(alloc, &history(alloc, lines), from, to),
+        period,
+    )
+}
+
 #[test]
-fn period_holds_what_stood_in_it(rt: HostRuntime) -> Result<(), Fail> {
-    for (lines, from, to, stood) in PERIODS {
-        let chosen = between(rt.alloc(), &history(rt.alloc(), lines)?, *from, *to)?;
-        assert_eq!(rt; lines_of(rt.alloc(), &chosen)?, text(rt.alloc(), stood)?);
+fn period_table(rt: HostRuntime) {
+    for (lines, from, to, period) in PERIODS {
+        assert!(rt; is_period(rt.alloc(), lines, *from, *to, period));
     }
-    Ok(())
 }

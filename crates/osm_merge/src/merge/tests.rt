@@ -2,18 +2,14 @@
 use super::{Counts, Selection, merge_into, merge_selected};
 use crate::progress::Silent;
 use crate::rows::{
-    CAME_AT_10, DELETED_AT_30, DELETED_NEXT, DELETED_TOO, MOVED_AT_5, MOVED_AT_20, OTHER_AT_20,
-    OTHER_MOVED_AT_20, VISIBLE, WAY, history, text,
+    AT_9_EAST, AT_10_EAST, CAME_AT_10, DELETED_AT_30, DELETED_NEXT, DELETED_TOO, MOVED_AT_5,
+    MOVED_AT_20, OTHER_AT_20, OTHER_MOVED_AT_20, VISIBLE, WAY, history, history_of, text,
 };
 use osm_files::{Broken, Fault, Format, Output, Reason, Sink, Source, VecOut};
-use osm_model::{Body, History, Meta, Tags, Text, Version};
+use osm_model::{History, Version};
 use std::alloc::{AllocGlobal, Global};
 use std::cell::Cell;
 use std::process::Abort;
-use std::test::Fail;
-
-/// A node's id, its version number and its longitude; it stands at latitude 1.
-type Node = (i64, u64, i32);
 
 /// A source of the versions of a history, which counts what it gave.
 #[derive(Drop)]
@@ -70,167 +66,222 @@ impl Source for Held<'_> {
     }
 }
 
-/// A source of these nodes, which has this number and ends with this fault if there is one.
-fn source_of<'a>(
+/// Which call merges: the one that writes all, or the one that selects.
+#[derive(Clone, Copy)]
+enum Call {
+    Merge,
+    Select(Selection),
+}
+
+/// What a call over these sources returns, whose output has the number of the sources.
+fn merge_to<S: Source + Drop, W: Output>(
     alloc: Global,
-    number: usize,
-    nodes: &[Node],
+    call: Call,
+    format: Format,
+    sources: Vec<S>,
+    out: &mut W,
+) -> Result<Counts, Fault> {
+    let mut sink = match Sink::new(alloc, format, sources.len()) {
+        Ok(sink) => sink,
+        Err(fault) => return Err(fault),
+    };
+    match call {
+        Call::Merge => merge_into(alloc, sources, &mut sink, out),
+        Call::Select(selection) => {
+            merge_selected(alloc, selection, sources, &mut sink, out, &mut Silent)
+        }
+    }
+}
+
+/// Sources of these lines, of which the one that the fault names ends with it.
+fn sources_of<'a>(
+    alloc: Global,
+    sources: &[&[&[u8]]],
     fault: Option<Fault>,
     given: &'a Cell<usize>,
-) -> Result<Held<'a>, Fail> {
-    let mut versions = Vec::new(alloc);
-    for node in nodes {
-        versions.push(version(alloc, *node)?)?;
-    }
-    Ok(Held {
-        history: History::from_versions(versions)?,
-        place: 0,
-        fault,
-        number,
-        has_failed: false,
-        given,
-    })
-}
-
-fn version(alloc: Global, (id, number, lon): Node) -> Result<Version, Fail> {
-    let meta = Meta {
-        version: number,
-        time: None,
-        changeset: 0,
-        uid: 0,
-        user: Text::new(),
-    };
-    let body = Body::Node {
-        lon,
-        lat: 10_000_000,
-        tags: Tags::from_vec(Vec::new(alloc)),
-    };
-    Ok(Version::new(alloc, id, meta, body)?)
-}
-
-/// What a merge of these sources answers, each with its fault if it has one, and what it wrote.
-fn merge(
-    alloc: Global,
-    format: Format,
-    sources: &[(&[Node], Option<Fault>)],
-) -> Result<(Result<Counts, Fault>, Vec<u8>), Fail> {
-    let count = Cell::new(0);
+) -> Vec<Held<'a>> {
     let mut inputs = Vec::new(alloc);
-    for (nodes, fault) in sources {
-        inputs.push(source_of(alloc, inputs.len(), nodes, *fault, &count)?)?;
+    for (number, lines) in sources.iter().enumerate() {
+        let _ = inputs.push(Held {
+            history: history(alloc, lines),
+            place: 0,
+            fault: fault.filter(|fault| fault.input == number),
+            number,
+            has_failed: false,
+            given,
+        });
     }
-    let mut sink = Sink::new(alloc, format, sources.len())?;
+    inputs
+}
+
+/// What a call over sources of these lines returns, and what it wrote.
+fn merged(
+    alloc: Global,
+    call: Call,
+    format: Format,
+    sources: &[&[&[u8]]],
+    fault: Option<Fault>,
+) -> (Result<Counts, Fault>, Vec<u8>) {
+    let given = Cell::new(0usize);
     let mut out = VecOut::new(alloc);
-    let answer = merge_into(alloc, inputs, &mut sink, &mut out);
-    Ok((answer, out.into_vec()))
+    let inputs = sources_of(alloc, sources, fault, &given);
+    let outcome = merge_to(alloc, call, format, inputs, &mut out);
+    (outcome, out.into_vec())
 }
 
-const FIRST: (&[Node], Option<Fault>) = (&[(1, 1, 15_000_000)], None);
+/// Sources of these lines, the call over them, how many versions are read, and the lines that are written.
+type Row = (
+    &'static [&'static [&'static [u8]]],
+    Call,
+    u64,
+    &'static [&'static [u8]],
+);
 
-const SECOND: (&[Node], Option<Fault>) = (&[(1, 2, 15_000_000)], None);
-
-const BOTH: &[u8] = b"n1 v1 dV c0 t i0 u T x1.5 y1\nn1 v2 dV c0 t i0 u T x1.5 y1\n";
-
-#[test]
-fn order_and_repetition_make_no_difference(rt: HostRuntime) -> Result<(), Fail> {
-    let (answer, text) = merge(rt.alloc(), Format::Opl, &[FIRST, SECOND])?;
-    assert_eq!(rt; text.as_slice(), BOTH);
-    let counts = answer?;
-    assert_eq!(rt; (counts.read, counts.written), (2, 2));
-    let (answer, text) = merge(rt.alloc(), Format::Opl, &[SECOND, FIRST, FIRST])?;
-    assert_eq!(rt; text.as_slice(), BOTH);
-    let counts = answer?;
-    assert_eq!(rt; (counts.read, counts.written), (3, 2));
-    assert!(rt; counts.compared >= 2 && counts.compared <= 11);
-    Ok(())
+/// Whether the call over sources of these lines writes those, and counts both.
+fn is_merged(alloc: Global, row: &Row) -> bool {
+    let (sources, call, read, lines) = row;
+    let (outcome, written) = merged(alloc, *call, Format::Opl, sources, None);
+    let is_written = written == text(alloc, lines);
+    match outcome {
+        Ok(counts) => is_written && counts.read == *read && counts.written == lines.len() as u64,
+        Err(_) => false,
+    }
 }
 
-#[test]
-fn each_comparison_is_counted(rt: HostRuntime) -> Result<(), Fail> {
-    let one: (&[Node], Option<Fault>) = (&[(1, 1, 15_000_000), (1, 2, 15_000_000)], None);
-    let (answer, _text) = merge(rt.alloc(), Format::Opl, &[one])?;
-    let counts = answer?;
-    assert!(rt; counts.compared >= 1 && counts.compared <= 2);
-    let sources: [(&[Node], Option<Fault>); 4] = [
-        (&[(1, 1, 0), (5, 1, 0)], None),
-        (&[(2, 1, 0), (6, 1, 0)], None),
-        (&[(3, 1, 0), (7, 1, 0)], None),
-        (&[(4, 1, 0), (8, 1, 0)], None),
-    ];
-    let (answer, _text) = merge(rt.alloc(), Format::Opl, &sources)?;
-    let counts = answer?;
-    assert!(rt; counts.compared >= 7 && counts.compared <= 27);
-    Ok(())
+/// Sees that the merges of these rows write their lines, and count them.
+fn assert_rows<R: AllocGlobal + Abort>(rt: &R, rows: &[Row]) {
+    for row in rows {
+        assert!(rt; is_merged(rt.alloc(), row));
+    }
 }
 
-/// Of two sources with the same three versions: five games are played, and three versions are compared with the one put last,
-/// as the first has none before it, and two of the others are known to repeat one.
-#[test]
-fn what_was_found_equal_is_not_compared_again(rt: HostRuntime) -> Result<(), Fail> {
-    let same: (&[Node], Option<Fault>) = (&[(1, 1, 0), (2, 1, 0), (3, 1, 0)], None);
-    let (answer, _text) = merge(rt.alloc(), Format::Opl, &[same, same])?;
-    let counts = answer?;
-    assert_eq!(rt; (counts.read, counts.written, counts.compared), (6, 3, 8));
-    Ok(())
-}
+const FIRST: &[u8] = b"n1 v1 dV c0 t i0 u T x1.5 y1\n";
+
+const SECOND: &[u8] = b"n1 v2 dV c0 t i0 u T x1.5 y1\n";
+
+const MERGES: &[Row] = &[
+    (&[&[FIRST], &[SECOND]], Call::Merge, 2, &[FIRST, SECOND]),
+    (
+        &[&[SECOND], &[FIRST], &[FIRST]],
+        Call::Merge,
+        3,
+        &[FIRST, SECOND],
+    ),
+    (
+        &[&[AT_9_EAST], &[AT_10_EAST]],
+        Call::Merge,
+        2,
+        &[AT_10_EAST, AT_9_EAST],
+    ),
+    (&[], Call::Merge, 0, &[]),
+];
 
 #[test]
-fn versions_of_one_key_both_stay(rt: HostRuntime) -> Result<(), Fail> {
-    let sources: [(&[Node], Option<Fault>); 2] = [
-        (&[(1, 1, 90_000_000)], None),
-        (&[(1, 1, 100_000_000)], None),
-    ];
-    let (answer, text) = merge(rt.alloc(), Format::Opl, &sources)?;
-    assert!(rt; answer.is_ok());
-    assert_eq!(rt;
-        text.as_slice(),
-        b"n1 v1 dV c0 t i0 u T x10 y1\nn1 v1 dV c0 t i0 u T x9 y1\n".as_slice()
-    );
-    Ok(())
+fn order_and_repetition_make_no_difference(rt: HostRuntime) {
+    assert_rows(&rt, MERGES);
+}
+
+/// The file that a merge of no sources writes.
+fn empty_file(alloc: Global, format: Format) -> Vec<u8> {
+    let (_, written) = merged(alloc, Call::Merge, format, &[], None);
+    written
 }
 
 #[test]
-fn no_sources_make_an_empty_file(rt: HostRuntime) -> Result<(), Fail> {
-    let none = Counts {
-        read: 0,
-        written: 0,
-        compared: 0,
-    };
+fn empty_inputs(rt: HostRuntime) {
     for (format, file) in [
         (Format::Opl, b"".as_slice()),
         (Format::O5m, b"\xff\xe0\x04o5m2\xfe".as_slice()),
         (Format::O5c, b"\xff\xe0\x04o5c2\xfe".as_slice()),
     ] {
-        let (answer, text) = merge(rt.alloc(), format, &[])?;
-        assert_eq!(rt; answer, Ok(none));
-        assert_eq!(rt; text.as_slice(), file);
+        assert_eq!(rt; empty_file(rt.alloc(), format).as_slice(), file);
     }
-    Ok(())
+}
+
+/// A node of this id, without a time.
+const N1: &[u8] = b"n1 v1 dV c0 t i0 u T x1 y1\n";
+
+const N2: &[u8] = b"n2 v1 dV c0 t i0 u T x1 y1\n";
+
+const N3: &[u8] = b"n3 v1 dV c0 t i0 u T x1 y1\n";
+
+const N4: &[u8] = b"n4 v1 dV c0 t i0 u T x1 y1\n";
+
+const N5: &[u8] = b"n5 v1 dV c0 t i0 u T x1 y1\n";
+
+const N6: &[u8] = b"n6 v1 dV c0 t i0 u T x1 y1\n";
+
+const N7: &[u8] = b"n7 v1 dV c0 t i0 u T x1 y1\n";
+
+const N8: &[u8] = b"n8 v1 dV c0 t i0 u T x1 y1\n";
+
+/// Sources, and the least and the most comparisons of their merge. Of two sources with the same three versions five games are
+/// played, and three versions are compared with the one put last, as the first has none before it, and two of the others are
+/// known to repeat one.
+const COMPARISONS: &[(&[&[&[u8]]], u64, u64)] = &[
+    (&[], 0, 0),
+    (&[&[FIRST, SECOND]], 1, 2),
+    (&[&[SECOND], &[FIRST], &[FIRST]], 2, 11),
+    (&[&[N1, N5], &[N2, N6], &[N3, N7], &[N4, N8]], 7, 27),
+    (&[&[N1, N2, N3], &[N1, N2, N3]], 8, 8),
+];
+
+/// How many comparisons a merge of these sources makes.
+fn compared(alloc: Global, sources: &[&[&[u8]]]) -> Option<u64> {
+    let (outcome, _) = merged(alloc, Call::Merge, Format::Opl, sources, None);
+    match outcome {
+        Ok(counts) => Some(counts.compared),
+        Err(_) => None,
+    }
 }
 
 #[test]
-fn what_stands_before_a_fault_is_written(rt: HostRuntime) -> Result<(), Fail> {
-    let fault = Fault {
-        input: 1,
-        place: 40,
-        reason: Reason::NoEnd,
-    };
-    let sources: [(&[Node], Option<Fault>); 3] = [
-        (&[(1, 1, 10_000_000), (4, 1, 10_000_000)], None),
-        (&[(2, 1, 10_000_000), (3, 1, 10_000_000)], Some(fault)),
-        (&[(5, 1, 10_000_000)], None),
-    ];
-    let (answer, text) = merge(rt.alloc(), Format::Opl, &sources)?;
-    assert_eq!(rt; answer, Err(fault));
-    assert_eq!(rt;
-        text.as_slice(),
-        b"n1 v1 dV c0 t i0 u T x1 y1\nn2 v1 dV c0 t i0 u T x1 y1\nn3 v1 dV c0 t i0 u T x1 y1\n".as_slice()
-    );
-    let (answer, text) = merge(rt.alloc(), Format::O5m, &[FIRST, (&[], Some(fault))])?;
-    assert_eq!(rt; answer, Err(fault));
-    assert!(rt; text.is_empty());
-    Ok(())
+fn comparison_bounds(rt: HostRuntime) {
+    for (sources, least, most) in COMPARISONS {
+        let compared = compared(rt.alloc(), sources);
+        assert!(rt; compared.is_some_and(|compared| *least <= compared && compared <= *most));
+    }
 }
+
+/// A fault of the second source at its end.
+const CUT: Fault = Fault {
+    input: 1,
+    place: 40,
+    reason: Reason::NoEnd,
+};
+
+/// Whether the call over sources of these lines, of which the second is cut, returns the fault after it wrote those lines.
+fn is_cut(
+    alloc: Global,
+    call: Call,
+    format: Format,
+    sources: &[&[&[u8]]],
+    lines: &[&[u8]],
+) -> bool {
+    let (outcome, written) = merged(alloc, call, format, sources, Some(CUT));
+    outcome == Err(CUT) && written == text(alloc, lines)
+}
+
+#[test]
+fn read_ahead(rt: HostRuntime) {
+    let sources: [&[&[u8]]; 3] = [&[N1, N4], &[N2, N3], &[N5]];
+    assert!(rt;
+        is_cut(
+            rt.alloc(),
+            Call::Merge,
+            Format::Opl,
+            &sources,
+            &[N1, N2, N3]
+        )
+    );
+    assert!(rt; is_cut(rt.alloc(), Call::Merge, Format::O5m, &[&[FIRST], &[]], &[]));
+    // The version of node 3 is held back, since the one behind it isn't known.
+    let newest: [&[&[u8]]; 2] = [&[N1, N4], &[NEXT_OF_1, N3]];
+    let call = Call::Select(Selection::Newest);
+    assert!(rt; is_cut(rt.alloc(), call, Format::Opl, &newest, &[NEXT_OF_1]));
+}
+
+const NEXT_OF_1: &[u8] = b"n1 v2 dV c0 t i0 u T x1 y1\n";
 
 /// An output that notes how many versions the sources gave for which it took no line yet.
 #[derive(Drop)]
@@ -263,96 +314,49 @@ impl Output for Ahead<'_> {
     }
 }
 
-#[test]
-fn merge_reads_one_version_ahead_of_each_source(rt: HostRuntime) -> Result<(), Fail> {
-    let count = Cell::new(0);
-    let most = Cell::new(0);
-    let mut inputs = Vec::new(rt.alloc());
-    for first in 1..4 {
-        let mut nodes = Vec::new(rt.alloc());
-        for step in 0..100 {
-            nodes.push((
-                3i64.saturating_mul(step).saturating_add(first),
-                1,
-                10_000_000,
-            ))?;
-        }
-        inputs.push(source_of(rt.alloc(), inputs.len(), &nodes, None, &count)?)?;
+/// A hundred nodes, each with the third id after the one before.
+fn every_third(alloc: Global, first: u32) -> History {
+    let mut text = String::new(alloc);
+    for step in 0..100u32 {
+        let id = step.saturating_mul(3).saturating_add(first);
+        let _ = writeln!(text, "n{id} v1 x1 y1");
     }
-    let mut sink = Sink::new(rt.alloc(), Format::Opl, 3)?;
+    history_of(alloc, text.as_bytes())
+}
+
+/// What a merge of three such sources returns.
+fn merge_thirds<W: Output>(
+    alloc: Global,
+    given: &Cell<usize>,
+    out: &mut W,
+) -> Result<Counts, Fault> {
+    let mut inputs = Vec::new(alloc);
+    for first in 1..4u32 {
+        let number = inputs.len();
+        let _ = inputs.push(Held {
+            history: every_third(alloc, first),
+            place: 0,
+            fault: None,
+            number,
+            has_failed: false,
+            given,
+        });
+    }
+    merge_to(alloc, Call::Merge, Format::Opl, inputs, out)
+}
+
+#[test]
+fn merge_reads_one_version_ahead_of_each_source(rt: HostRuntime) {
+    let given = Cell::new(0usize);
+    let most = Cell::new(0usize);
     let mut out = Ahead {
-        given: &count,
+        given: &given,
         lines: 0,
         most: &most,
     };
-    let counts = merge_into(rt.alloc(), inputs, &mut sink, &mut out)?;
-    assert_eq!(rt; (counts.read, counts.written), (300, 300));
-    assert_eq!(rt; (count.get(), most.get()), (300, 3));
-    Ok(())
-}
-
-/// What a merge of the newest versions of these sources answers, each with its fault if it has one, and what it wrote.
-fn merge_newest(
-    alloc: Global,
-    sources: &[(&[Node], Option<Fault>)],
-) -> Result<(Result<Counts, Fault>, Vec<u8>), Fail> {
-    let count = Cell::new(0);
-    let mut inputs = Vec::new(alloc);
-    for (nodes, fault) in sources {
-        inputs.push(source_of(alloc, inputs.len(), nodes, *fault, &count)?)?;
-    }
-    let mut sink = Sink::new(alloc, Format::Opl, sources.len())?;
-    let mut out = VecOut::new(alloc);
-    let answer = merge_selected(
-        alloc,
-        Selection::Newest,
-        inputs,
-        &mut sink,
-        &mut out,
-        &mut Silent,
-    );
-    Ok((answer, out.into_vec()))
-}
-
-/// What a merge of sources of these lines counts, and what it writes of what is selected.
-fn merge_of(
-    alloc: Global,
-    selection: Selection,
-    sources: &[&[&[u8]]],
-) -> Result<(Counts, Vec<u8>), Fail> {
-    let count = Cell::new(0);
-    let mut inputs = Vec::new(alloc);
-    for lines in sources {
-        inputs.push(Held {
-            history: history(alloc, lines)?,
-            place: 0,
-            fault: None,
-            number: inputs.len(),
-            has_failed: false,
-            given: &count,
-        })?;
-    }
-    let mut sink = Sink::new(alloc, Format::Opl, sources.len())?;
-    let mut out = VecOut::new(alloc);
-    let counts = merge_selected(alloc, selection, inputs, &mut sink, &mut out, &mut Silent)?;
-    Ok((counts, out.into_vec()))
-}
-
-/// Sources of these lines, what is selected of their union, and the lines that are written.
-type Row = (
-    &'static [&'static [&'static [u8]]],
-    Selection,
-    &'static [&'static [u8]],
-);
-
-/// Sees that the merges of these rows write their lines, and count them.
-fn assert_rows<R: AllocGlobal + Abort>(rt: &R, rows: &[Row]) -> Result<(), Fail> {
-    for (sources, selection, lines) in rows {
-        let (counts, written) = merge_of(rt.alloc(), *selection, sources)?;
-        assert_eq!(rt; written, text(rt.alloc(), lines)?);
-        assert_eq!(rt; counts.written, lines.len() as u64);
-    }
-    Ok(())
+    let outcome = merge_thirds(rt.alloc(), &given, &mut out);
+    assert!(rt; outcome.is_ok_and(|counts| counts.read == 300 && counts.written == 300));
+    assert_eq!(rt; (given.get(), most.get()), (300, 3));
 }
 
 const MOVED: &[&[&[u8]]] = &[&[CAME_AT_10, DELETED_AT_30], &[MOVED_AT_20, DELETED_AT_30]];
@@ -364,55 +368,87 @@ const TURNED: &[&[&[u8]]] = &[&[MOVED_AT_5, WAY], &[CAME_AT_10, WAY]];
 const PERIODS: &[Row] = &[
     (
         MOVED,
-        Selection::Between { from: 20, to: 30 },
+        Call::Select(Selection::Between { from: 20, to: 30 }),
+        4,
         &[MOVED_AT_20],
     ),
     (
         MOVED,
-        Selection::Between { from: 15, to: 31 },
+        Call::Select(Selection::Between { from: 15, to: 31 }),
+        4,
         &[CAME_AT_10, MOVED_AT_20, DELETED_AT_30],
     ),
     (
         MOVED,
-        Selection::Between { from: 31, to: 40 },
+        Call::Select(Selection::Between { from: 31, to: 40 }),
+        4,
         &[DELETED_AT_30],
     ),
-    (MOVED, Selection::Between { from: 5, to: 10 }, &[]),
+    (
+        MOVED,
+        Call::Select(Selection::Between { from: 5, to: 10 }),
+        4,
+        &[],
+    ),
     (
         OTHER,
-        Selection::Between { from: 20, to: 21 },
+        Call::Select(Selection::Between { from: 20, to: 21 }),
+        2,
         &[OTHER_AT_20, OTHER_MOVED_AT_20],
     ),
     (
         OTHER,
-        Selection::Between { from: 21, to: 22 },
+        Call::Select(Selection::Between { from: 21, to: 22 }),
+        2,
         &[OTHER_MOVED_AT_20],
     ),
     (
         TURNED,
-        Selection::Between { from: 6, to: 11 },
+        Call::Select(Selection::Between { from: 6, to: 11 }),
+        4,
         &[MOVED_AT_5, WAY],
     ),
 ];
 
 #[test]
-fn periods_of_two_sources(rt: HostRuntime) -> Result<(), Fail> {
-    assert_rows(&rt, PERIODS)
+fn period_table(rt: HostRuntime) {
+    assert_rows(&rt, PERIODS);
 }
 
 const STATES: &[Row] = &[
-    (TURNED, Selection::StateVisible(4), &[WAY]),
-    (TURNED, Selection::StateVisible(7), &[MOVED_AT_5, WAY]),
-    (TURNED, Selection::StateVisible(10), &[MOVED_AT_5, WAY]),
-    (MOVED, Selection::State(29), &[MOVED_AT_20]),
-    (MOVED, Selection::State(30), &[DELETED_AT_30]),
-    (MOVED, Selection::StateVisible(29), &[MOVED_AT_20]),
-    (MOVED, Selection::StateVisible(30), &[]),
+    (TURNED, Call::Select(Selection::StateVisible(4)), 4, &[WAY]),
+    (
+        TURNED,
+        Call::Select(Selection::StateVisible(7)),
+        4,
+        &[MOVED_AT_5, WAY],
+    ),
+    (
+        TURNED,
+        Call::Select(Selection::StateVisible(10)),
+        4,
+        &[MOVED_AT_5, WAY],
+    ),
+    (MOVED, Call::Select(Selection::State(29)), 4, &[MOVED_AT_20]),
+    (
+        MOVED,
+        Call::Select(Selection::State(30)),
+        4,
+        &[DELETED_AT_30],
+    ),
+    (
+        MOVED,
+        Call::Select(Selection::StateVisible(29)),
+        4,
+        &[MOVED_AT_20],
+    ),
+    (MOVED, Call::Select(Selection::StateVisible(30)), 4, &[]),
+    (MOVED, Call::Select(Selection::NewestVisible), 4, &[]),
 ];
 
 #[test]
-fn states_of_two_sources(rt: HostRuntime) -> Result<(), Fail> {
-    assert_rows(&rt, STATES)
+fn state_at_moment(rt: HostRuntime) {
+    assert_rows(&rt, STATES);
 }
 
 const APART: &[&[&[u8]]] = &[&[VISIBLE, WAY], &[DELETED_NEXT]];
@@ -420,44 +456,38 @@ const APART: &[&[&[u8]]] = &[&[VISIBLE, WAY], &[DELETED_NEXT]];
 const TIED: &[&[&[u8]]] = &[&[DELETED_TOO], &[VISIBLE, WAY]];
 
 const NEWEST: &[Row] = &[
-    (APART, Selection::All, &[VISIBLE, DELETED_NEXT, WAY]),
-    (APART, Selection::Visible, &[VISIBLE, WAY]),
-    (APART, Selection::Newest, &[DELETED_NEXT, WAY]),
-    (APART, Selection::NewestVisible, &[WAY]),
-    (TIED, Selection::All, &[VISIBLE, DELETED_TOO, WAY]),
-    (TIED, Selection::Visible, &[VISIBLE, WAY]),
-    (TIED, Selection::Newest, &[DELETED_TOO, WAY]),
-    (TIED, Selection::NewestVisible, &[WAY]),
-    (&[], Selection::Newest, &[]),
+    (
+        APART,
+        Call::Select(Selection::All),
+        3,
+        &[VISIBLE, DELETED_NEXT, WAY],
+    ),
+    (APART, Call::Select(Selection::Visible), 3, &[VISIBLE, WAY]),
+    (
+        APART,
+        Call::Select(Selection::Newest),
+        3,
+        &[DELETED_NEXT, WAY],
+    ),
+    (APART, Call::Select(Selection::NewestVisible), 3, &[WAY]),
+    (
+        TIED,
+        Call::Select(Selection::All),
+        3,
+        &[VISIBLE, DELETED_TOO, WAY],
+    ),
+    (TIED, Call::Select(Selection::Visible), 3, &[VISIBLE, WAY]),
+    (
+        TIED,
+        Call::Select(Selection::Newest),
+        3,
+        &[DELETED_TOO, WAY],
+    ),
+    (TIED, Call::Select(Selection::NewestVisible), 3, &[WAY]),
+    (&[], Call::Select(Selection::Newest), 0, &[]),
 ];
 
 #[test]
-fn newest_versions_of_two_sources(rt: HostRuntime) -> Result<(), Fail> {
-    assert_rows(&rt, NEWEST)
-}
-
-#[test]
-fn what_is_left_out_is_read(rt: HostRuntime) -> Result<(), Fail> {
-    let (counts, written) = merge_of(rt.alloc(), Selection::NewestVisible, MOVED)?;
-    assert!(rt; written.is_empty());
-    assert_eq!(rt; (counts.read, counts.written), (4, 0));
-    Ok(())
-}
-
-#[test]
-fn newest_versions_before_a_fault(rt: HostRuntime) -> Result<(), Fail> {
-    let fault = Fault {
-        input: 1,
-        place: 40,
-        reason: Reason::NoEnd,
-    };
-    let sources: [(&[Node], Option<Fault>); 2] = [
-        (&[(1, 1, 10_000_000), (4, 1, 10_000_000)], None),
-        (&[(1, 2, 10_000_000), (3, 1, 10_000_000)], Some(fault)),
-    ];
-    let (answer, text) = merge_newest(rt.alloc(), &sources)?;
-    assert_eq!(rt; answer, Err(fault));
-    // The version of node 3 is held back, since the one behind it isn't known.
-    assert_eq!(rt; text.as_slice(), b"n1 v2 dV c0 t i0 u T x1 y1\n".as_slice());
-    Ok(())
+fn newest_versions_of_two_sources(rt: HostRuntime) {
+    assert_rows(&rt, NEWEST);
 }

@@ -1,20 +1,18 @@
 //! Histories taken in, beside the plain union and its snapshot.
 use super::{absorb, absorb_newest};
 use crate::chosen::snapshot;
-use osm_files::{SliceIn, load_any};
-use osm_model::History;
+use crate::rows::history_of;
+use osm_model::{History, Memory};
 use std::alloc::Global;
-use std::test::Fail;
 
-/// A version of this number of so many nodes, whose ids are so far apart.
-fn nodes(alloc: Global, count: u32, apart: u32, number: u32) -> Result<History, Fail> {
-    let mut text = Vec::new(alloc);
+/// A version of this number of `count` nodes, whose ids are `apart` from each other.
+fn nodes(alloc: Global, count: u32, apart: u32, number: u32) -> History {
+    let mut text = String::new(alloc);
     for place in 0..count {
         let id = place.saturating_mul(apart);
-        let line = format!(in alloc; "n{id} v{number} dV c0 t i0 u T x1 y1\n")?;
-        text.extend_from_slice(line.as_bytes())?;
+        let _ = writeln!(text, "n{id} v{number} dV c0 t i0 u T x1 y1");
     }
-    Ok(load_any(alloc, 0, SliceIn::new(&text))?.history)
+    history_of(alloc, text.as_bytes())
 }
 
 /// What is taken into these 300 versions: nothing, older and newer versions, the same ones, all objects and some, others behind.
@@ -29,37 +27,65 @@ const TAKEN: &[(u32, u32, u32)] = &[
     (900, 1, 4),
 ];
 
-/// Whether a history that takes another one in holds the union.
-fn holds_union(alloc: Global, held: &History, more: &History) -> Result<bool, Fail> {
+/// A history that took another one in.
+fn union_taken(alloc: Global, held: &History, more: History) -> Result<History, Memory> {
     let mut taken = held.copy()?;
-    absorb(alloc, &mut taken, more.copy()?)?;
-    Ok(taken.into_versions() == held.join(more)?.into_versions())
+    absorb(alloc, &mut taken, more)?;
+    Ok(taken)
 }
 
-#[test]
-fn a_history_absorbs_another(rt: HostRuntime) -> Result<(), Fail> {
-    let alloc = rt.alloc();
-    let held = nodes(alloc, 300, 1, 2)?;
-    for (count, apart, number) in TAKEN {
-        assert!(rt; holds_union(alloc, &held, &nodes(alloc, *count, *apart, *number)?)?);
-    }
-    Ok(())
-}
-
-/// Whether a snapshot that takes another history in is the snapshot of the union.
-fn holds_newest(alloc: Global, held: &History, more: &History) -> Result<bool, Fail> {
+/// The snapshot of a history, which took another one in.
+fn newest_taken(alloc: Global, held: &History, more: History) -> Result<History, Memory> {
     let mut taken = snapshot(alloc, held)?;
-    absorb_newest(alloc, &mut taken, more.copy()?)?;
-    Ok(taken.into_versions() == snapshot(alloc, &held.join(more)?)?.into_versions())
+    absorb_newest(alloc, &mut taken, more)?;
+    Ok(taken)
+}
+
+/// Whether two histories were made, and are the same.
+fn are_same(one: Result<History, Memory>, other: Result<History, Memory>) -> bool {
+    let (Ok(one), Ok(other)) = (one, other) else {
+        return false;
+    };
+    one.into_versions() == other.into_versions()
+}
+
+/// Whether the 300 versions that take these in are the union.
+fn holds_union(alloc: Global, count: u32, apart: u32, number: u32) -> bool {
+    let held = nodes(alloc, 300, 1, 2);
+    let more = nodes(alloc, count, apart, number);
+    let union = held.join(&more);
+    are_same(union_taken(alloc, &held, more), union)
 }
 
 #[test]
-fn a_snapshot_absorbs_another_history(rt: HostRuntime) -> Result<(), Fail> {
-    let alloc = rt.alloc();
-    let held = nodes(alloc, 300, 1, 2)?;
+fn a_history_absorbs_another(rt: HostRuntime) {
     for (count, apart, number) in TAKEN {
-        let more = nodes(alloc, *count, *apart, *number)?.join(&nodes(alloc, 20, 31, 2)?)?;
-        assert!(rt; holds_newest(alloc, &held, &more)?);
+        assert!(rt; holds_union(rt.alloc(), *count, *apart, *number));
     }
-    Ok(())
+}
+
+/// These versions, and some of the 300.
+fn more_nodes(alloc: Global, count: u32, apart: u32, number: u32) -> History {
+    let more = nodes(alloc, count, apart, number);
+    match more.join(&nodes(alloc, 20, 31, 2)) {
+        Ok(both) => both,
+        Err(_) => more,
+    }
+}
+
+/// Whether the snapshot of the 300 versions that takes these in is the snapshot of the union.
+fn holds_newest(alloc: Global, count: u32, apart: u32, number: u32) -> bool {
+    let held = nodes(alloc, 300, 1, 2);
+    let more = more_nodes(alloc, count, apart, number);
+    let Ok(union) = held.join(&more) else {
+        return false;
+    };
+    are_same(newest_taken(alloc, &held, more), snapshot(alloc, &union))
+}
+
+#[test]
+fn a_snapshot_absorbs_another_history(rt: HostRuntime) {
+    for (count, apart, number) in TAKEN {
+        assert!(rt; holds_newest(rt.alloc(), *count, *apart, *number));
+    }
 }
