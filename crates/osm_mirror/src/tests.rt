@@ -4,11 +4,10 @@ use crate::{
     CheckReport, InputFile, Order, read_moment, run_apply, run_check, run_check_sorted, run_merge,
     run_period_filter, run_selected, run_sort, run_time_filter,
 };
-use osm_files::{Broken, Fault, Format, Input, Reason, SliceIn, VecOut};
+use osm_files::{Broken, Fault, Format, Input, SliceIn, VecOut};
 use osm_merge::{Counts, Selection, Silent};
 use std::alloc::Global;
 use std::process::Abort;
-use std::test::Fail;
 
 const FORMATS: [Format; 3] = [Format::Opl, Format::O5m, Format::O5c];
 
@@ -44,12 +43,18 @@ impl Command {
     }
 }
 
+/// Any order, or else sorted.
+fn any_if(is_any: bool) -> Order {
+    if is_any { Order::Any } else { Order::Sorted }
+}
+
 /// Which of some sorted files are read as such; the others are read as files of any order.
 #[derive(Clone, Copy)]
 enum Mix {
     AllSorted,
     NoneSorted,
     EverySecond,
+    OddAny,
 }
 
 impl Mix {
@@ -57,117 +62,185 @@ impl Mix {
         match self {
             Mix::AllSorted => Order::Sorted,
             Mix::NoneSorted => Order::Any,
-            Mix::EverySecond => {
-                if place % 2 == 0 {
-                    Order::Any
-                } else {
-                    Order::Sorted
-                }
-            }
+            Mix::EverySecond => any_if(place % 2 == 0),
+            Mix::OddAny => any_if(place % 2 == 1),
         }
     }
 }
 
-const MIXES: [Mix; 3] = [Mix::AllSorted, Mix::NoneSorted, Mix::EverySecond];
+const MIXES: [Mix; 4] = [
+    Mix::AllSorted,
+    Mix::NoneSorted,
+    Mix::EverySecond,
+    Mix::OddAny,
+];
 
-fn readers<'a>(alloc: Global, files: &'a [Vec<u8>]) -> Result<Vec<SliceIn<'a>>, Fault> {
+/// Readers of these files.
+fn readers<'a>(alloc: Global, files: &'a [&'a [u8]]) -> Vec<SliceIn<'a>> {
     let mut inputs = Vec::new(alloc);
     for file in files {
-        inputs.push(SliceIn::new(file.as_slice()))?;
+        let _ = inputs.push(SliceIn::new(*file));
     }
-    Ok(inputs)
+    inputs
+}
+
+/// Readers of these files, some of them read as sorted ones.
+fn mixed<'a>(alloc: Global, files: &'a [&'a [u8]], mix: Mix) -> Vec<InputFile<SliceIn<'a>>> {
+    let mut inputs = Vec::new(alloc);
+    for (place, file) in files.iter().enumerate() {
+        let _ = inputs.push(InputFile {
+            reader: SliceIn::new(*file),
+            order: mix.order(place),
+        });
+    }
+    inputs
 }
 
 /// What is selected of these files, some of them read as sorted ones.
 fn select(
     alloc: Global,
     selection: Selection,
-    files: &[Vec<u8>],
+    files: &[&[u8]],
     mix: Mix,
     format: Format,
     out: &mut VecOut,
 ) -> Result<Counts, Fault> {
-    let mut inputs = Vec::new(alloc);
-    for file in files {
-        let order = mix.order(inputs.len());
-        inputs.push(InputFile {
-            reader: SliceIn::new(file.as_slice()),
-            order,
-        })?;
-    }
-    run_selected(alloc, selection, inputs, format, out, &mut Silent)
+    run_selected(
+        alloc,
+        selection,
+        mixed(alloc, files, mix),
+        format,
+        out,
+        &mut Silent,
+    )
 }
 
-/// What the command over these files appends and answers. The filters read the first one alone.
+/// What the command over these files appends and returns. The filters read only the first one.
 fn run(
     alloc: Global,
     command: Command,
-    files: &[Vec<u8>],
+    files: &[&[u8]],
     format: Format,
     out: &mut VecOut,
 ) -> Result<Counts, Fault> {
-    let one = files.first().map_or(b"".as_slice(), |file| file.as_slice());
+    let one = files.first().copied().unwrap_or(b"");
     match command {
-        Command::Sort => run_sort(alloc, readers(alloc, files)?, format, out),
+        Command::Sort => run_sort(alloc, readers(alloc, files), format, out),
         Command::Apply { with_history } => {
-            run_apply(alloc, readers(alloc, files)?, with_history, format, out)
+            run_apply(alloc, readers(alloc, files), with_history, format, out)
         }
-        Command::TimeFilter(time) => {
-            run_time_filter(alloc, SliceIn::new(one), time, format, out)
-        }
+        Command::TimeFilter(time) => run_time_filter(alloc, SliceIn::new(one), time, format, out),
         Command::PeriodFilter { from, to } => {
             run_period_filter(alloc, SliceIn::new(one), from, to, format, out)
         }
-        Command::Select(selection) => {
-            let counts = select(alloc, selection, files, Mix::NoneSorted, format, out)?;
-            Ok(Counts {
-                compared: 0,
-                ..counts
-            })
-        }
+        Command::Select(selection) => select(alloc, selection, files, Mix::NoneSorted, format, out),
     }
+}
+
+/// The bytes that a run wrote; a word that is no file where it was refused.
+fn bytes_of(out: VecOut, outcome: Result<Counts, Fault>) -> Vec<u8> {
+    let mut bytes = out.into_vec();
+    if outcome.is_err() {
+        let _ = bytes.extend_from_slice(b"refused");
+    }
+    bytes
+}
+
+/// What the command writes of these files.
+fn made(alloc: Global, command: Command, files: &[&[u8]], format: Format) -> Vec<u8> {
+    let mut out = VecOut::new(alloc);
+    let outcome = run(alloc, command, files, format, &mut out);
+    bytes_of(out, outcome)
+}
+
+/// What the run writes that selects the same of these files, some of them read as sorted ones.
+fn chosen(
+    alloc: Global,
+    selection: Selection,
+    files: &[&[u8]],
+    mix: Mix,
+    format: Format,
+) -> Vec<u8> {
+    let mut out = VecOut::new(alloc);
+    let outcome = select(alloc, selection, files, mix, format, &mut out);
+    bytes_of(out, outcome)
 }
 
 /// The file with the same versions in this format, sorted.
-fn in_format(alloc: Global, file: &[u8], format: Format) -> Result<Vec<u8>, Fault> {
-    let mut inputs = Vec::new(alloc);
-    inputs.push(SliceIn::new(file))?;
-    let mut out = VecOut::new(alloc);
-    run_sort(alloc, inputs, format, &mut out)?;
-    Ok(out.into_vec())
+fn in_format(alloc: Global, file: &[u8], format: Format) -> Vec<u8> {
+    made(alloc, Command::Sort, &[file], format)
 }
 
-/// Sees what the command makes of files that hold the versions of these: this file, in each format, and the same as the
-/// run that reads some of them side by side.
-fn assert_made<R: AllocGlobal + Abort>(
-    rt: &R,
+/// Whether the command, and the runs that select the same, make this file of these.
+fn is_made_of(
     alloc: Global,
     command: Command,
     files: &[&[u8]],
-    wanted: &[u8],
-) -> Result<(), Fail> {
-    for given in FORMATS {
-        let mut inputs = Vec::new(alloc);
-        for file in files {
-            inputs.push(in_format(alloc, *file, given)?)?;
-        }
-        for format in FORMATS {
-            let expected = in_format(alloc, wanted, format)?;
-            let mut out = VecOut::new(alloc);
-            let counts = run(alloc, command, &inputs, format, &mut out)?;
-            assert_eq!(rt; counts.compared, 0);
-            let text = out.into_vec();
-            assert_eq!(rt; text.as_slice(), expected.as_slice());
-            for mix in MIXES {
-                let mut mixed = VecOut::new(alloc);
-                select(alloc, command.selection(), &inputs, mix, format, &mut mixed)?;
-                assert_eq!(rt; mixed.into_vec().as_slice(), expected.as_slice());
-            }
-        }
+    format: Format,
+    file: &[u8],
+) -> bool {
+    let mut is_made = made(alloc, command, files, format).as_slice() == file;
+    for mix in MIXES {
+        is_made &= chosen(alloc, command.selection(), files, mix, format).as_slice() == file;
     }
-    assert_eq!(rt; in_format(alloc, wanted, Format::Opl)?.as_slice(), wanted);
-    Ok(())
+    is_made
 }
+
+/// Whether the command makes this file, in each format, of these files.
+fn is_made_in_all(alloc: Global, command: Command, files: &[&[u8]], wanted: &[u8]) -> bool {
+    let mut is_made = true;
+    for format in FORMATS {
+        let file = in_format(alloc, wanted, format);
+        is_made &= is_made_of(alloc, command, files, format, &file);
+    }
+    is_made
+}
+
+/// Whether the command makes this file, in each format, of one or two files that are given in this format.
+fn is_made_from(
+    alloc: Global,
+    command: Command,
+    files: &[&[u8]],
+    given: Format,
+    wanted: &[u8],
+) -> bool {
+    let first = in_format(alloc, files.first().copied().unwrap_or(b""), given);
+    let second = in_format(alloc, files.last().copied().unwrap_or(b""), given);
+    if files.len() == 1 {
+        is_made_in_all(alloc, command, &[first.as_slice()], wanted)
+    } else {
+        is_made_in_all(
+            alloc,
+            command,
+            &[first.as_slice(), second.as_slice()],
+            wanted,
+        )
+    }
+}
+
+/// A command, one or two files, and the canonical lines that it makes of them.
+type Row = (Command, &'static [&'static [u8]], &'static [u8]);
+
+/// Sees that the commands of these rows make their lines, whatever the formats are.
+fn assert_rows<R: AllocGlobal + Abort>(rt: &R, rows: &[Row]) {
+    for (command, files, wanted) in rows {
+        for given in FORMATS {
+            assert!(rt; is_made_from(rt.alloc(), *command, files, given, wanted));
+        }
+        assert_eq!(rt;
+            made(rt.alloc(), *command, files, Format::Opl).as_slice(),
+            *wanted
+        );
+    }
+}
+
+const GONE: Command = Command::Apply {
+    with_history: false,
+};
+
+const KEPT: Command = Command::Apply { with_history: true };
+
+const SNAPSHOT: Command = Command::Select(Selection::Newest);
 
 const CREATED: &[u8] = b"n1 v1 dV x1 y1\n";
 
@@ -175,104 +248,107 @@ const DELETED: &[u8] = b"n1 v2 dD\n";
 
 const CREATED_THEN_DELETED: &[u8] = b"n1 v1 dV c0 t i0 u T x1 y1\nn1 v2 dD c0 t i0 u T x y\n";
 
-#[test]
-fn apply_deletion(rt: HostRuntime) -> Result<(), Fail> {
-    let alloc = rt.alloc();
-    let gone = Command::Apply {
-        with_history: false,
-    };
-    let kept = Command::Apply { with_history: true };
-    assert_made(&rt, alloc, gone, &[CREATED, DELETED], b"")?;
-    assert_made(&rt, alloc, gone, &[DELETED, CREATED], b"")?;
-    assert_made(&rt, alloc, kept, &[CREATED, DELETED], CREATED_THEN_DELETED)?;
-    Ok(())
-}
+const FIRST: &[u8] = b"n1 v1 dV c0 t i0 u T x1 y1\n";
+
+const DELETION: &[u8] = b"n1 v2 dD c0 t i0 u T x y\n";
+
+const DELETIONS: &[Row] = &[
+    (GONE, &[CREATED, DELETED], b""),
+    (GONE, &[DELETED, CREATED], b""),
+    (KEPT, &[CREATED, DELETED], CREATED_THEN_DELETED),
+];
 
 #[test]
-fn deletion_from_second_file(rt: HostRuntime) -> Result<(), Fail> {
-    let alloc = rt.alloc();
-    let snapshot = Command::Select(Selection::Newest);
-    let first = b"n1 v1 dV c0 t i0 u T x1 y1\n";
-    let deletion = b"n1 v2 dD c0 t i0 u T x y\n";
-    assert_made(&rt, alloc, snapshot, &[CREATED], first)?;
-    assert_made(&rt, alloc, snapshot, &[CREATED, DELETED], deletion)?;
-    assert_made(&rt, alloc, snapshot, &[DELETED, CREATED], deletion)?;
-    assert_made(
-        &rt,
-        alloc,
+fn apply_deletion(rt: HostRuntime) {
+    assert_rows(&rt, DELETIONS);
+}
+
+const SECOND_FILE: &[Row] = &[
+    (SNAPSHOT, &[CREATED], FIRST),
+    (SNAPSHOT, &[CREATED, DELETED], DELETION),
+    (SNAPSHOT, &[DELETED, CREATED], DELETION),
+    (Command::Sort, &[DELETED, CREATED], CREATED_THEN_DELETED),
+];
+
+#[test]
+fn deletion_from_second_file(rt: HostRuntime) {
+    assert_rows(&rt, SECOND_FILE);
+}
+
+const AT_9_EAST: &[u8] = b"n1 v1 dV c0 t i0 u T x9 y1\n";
+
+const TWO_LOCATIONS: &[Row] = &[
+    (
         Command::Sort,
-        &[DELETED, CREATED],
-        CREATED_THEN_DELETED,
-    )?;
-    Ok(())
-}
+        &[b"n1 v1 dV x9 y1\n", b"n1 v1 dV x10 y1\n"],
+        b"n1 v1 dV c0 t i0 u T x10 y1\nn1 v1 dV c0 t i0 u T x9 y1\n",
+    ),
+    (
+        SNAPSHOT,
+        &[b"n1 v1 dV x9 y1\n", b"n1 v1 dV x10 y1\n"],
+        AT_9_EAST,
+    ),
+    (
+        GONE,
+        &[b"n1 v1 dV x9 y1\n", b"n1 v1 dV x10 y1\n"],
+        AT_9_EAST,
+    ),
+];
 
 #[test]
-fn same_key_two_locations(rt: HostRuntime) -> Result<(), Fail> {
-    let alloc = rt.alloc();
-    let files = [
-        b"n1 v1 dV x9 y1\n".as_slice(),
-        b"n1 v1 dV x10 y1\n".as_slice(),
-    ];
-    let both = b"n1 v1 dV c0 t i0 u T x10 y1\nn1 v1 dV c0 t i0 u T x9 y1\n";
-    let greater = b"n1 v1 dV c0 t i0 u T x9 y1\n";
-    let gone = Command::Apply {
-        with_history: false,
-    };
-    assert_made(&rt, alloc, Command::Sort, &files, both)?;
-    assert_made(
-        &rt,
-        alloc,
-        Command::Select(Selection::Newest),
-        &files,
-        greater,
-    )?;
-    assert_made(&rt, alloc, gone, &files, greater)?;
-    Ok(())
+fn same_key_two_locations(rt: HostRuntime) {
+    assert_rows(&rt, TWO_LOCATIONS);
 }
 
-#[test]
-fn visible_and_deleted_tie(rt: HostRuntime) -> Result<(), Fail> {
-    let alloc = rt.alloc();
-    let files = [b"n1 v1 dD\n".as_slice(), b"n1 v1 dV x1 y1\n".as_slice()];
-    let both = b"n1 v1 dV c0 t i0 u T x1 y1\nn1 v1 dD c0 t i0 u T x y\n";
-    let deletion = b"n1 v1 dD c0 t i0 u T x y\n";
-    let gone = Command::Apply {
-        with_history: false,
-    };
-    assert_made(&rt, alloc, Command::Sort, &files, both)?;
-    assert_made(
-        &rt,
-        alloc,
-        Command::Select(Selection::Newest),
-        &files,
-        deletion,
-    )?;
-    assert_made(&rt, alloc, gone, &files, b"")?;
-    Ok(())
-}
+const TIE: &[Row] = &[
+    (
+        Command::Sort,
+        &[b"n1 v1 dD\n", b"n1 v1 dV x1 y1\n"],
+        b"n1 v1 dV c0 t i0 u T x1 y1\nn1 v1 dD c0 t i0 u T x y\n",
+    ),
+    (
+        SNAPSHOT,
+        &[b"n1 v1 dD\n", b"n1 v1 dV x1 y1\n"],
+        b"n1 v1 dD c0 t i0 u T x y\n",
+    ),
+    (GONE, &[b"n1 v1 dD\n", b"n1 v1 dV x1 y1\n"], b""),
+];
 
 #[test]
-fn byte_order_ties(rt: HostRuntime) -> Result<(), Fail> {
-    let alloc = rt.alloc();
-    let snapshot = Command::Select(Selection::Newest);
-    let letter = "n1 v1 dV c0 t i0 u Té=1 x1 y1\n".as_bytes();
-    let picture = b"n1 v1 dV c0 t i0 u T%1f600%=1 x1 y1\n";
-    assert_made(&rt, alloc, snapshot, &[letter, picture], letter)?;
-    let reference = b"w1 v1 dV c0 t i0 u T Nn1\n";
-    assert_made(&rt, alloc, snapshot, &[reference, b"w1 v1\n"], reference)?;
-    let half = b"n1 v1 dV c0 t i0 u T x1.5 y1\n";
-    assert_made(&rt, alloc, snapshot, &[b"n1 v1 x1 y1\n", half], half)?;
-    Ok(())
+fn visible_and_deleted_tie(rt: HostRuntime) {
+    assert_rows(&rt, TIE);
 }
 
+const LETTER: &[u8] = b"n1 v1 dV c0 t i0 u T\xc3\xa9=1 x1 y1\n";
+
+const REFERENCE: &[u8] = b"w1 v1 dV c0 t i0 u T Nn1\n";
+
+const HALF: &[u8] = b"n1 v1 dV c0 t i0 u T x1.5 y1\n";
+
+const TIES: &[Row] = &[
+    (
+        SNAPSHOT,
+        &[LETTER, b"n1 v1 dV c0 t i0 u T%1f600%=1 x1 y1\n"],
+        LETTER,
+    ),
+    (SNAPSHOT, &[REFERENCE, b"w1 v1\n"], REFERENCE),
+    (SNAPSHOT, &[b"n1 v1 x1 y1\n", HALF], HALF),
+];
+
 #[test]
-fn sort_ids(rt: HostRuntime) -> Result<(), Fail> {
-    let file = b"n3 v1 x1 y1\nn-2 v1 x1 y1\nn0 v1 x1 y1\nn-1 v1 x1 y1\n";
-    let sorted =
-        b"n0 v1 dV c0 t i0 u T x1 y1\nn-1 v1 dV c0 t i0 u T x1 y1\nn-2 v1 dV c0 t i0 u T x1 y1\nn3 v1 dV c0 t i0 u T x1 y1\n";
-    assert_made(&rt, rt.alloc(), Command::Sort, &[file], sorted)?;
-    Ok(())
+fn byte_order_ties(rt: HostRuntime) {
+    assert_rows(&rt, TIES);
+}
+
+const IDS: &[Row] = &[(
+    Command::Sort,
+    &[b"n3 v1 x1 y1\nn-2 v1 x1 y1\nn0 v1 x1 y1\nn-1 v1 x1 y1\n"],
+    b"n0 v1 dV c0 t i0 u T x1 y1\nn-1 v1 dV c0 t i0 u T x1 y1\nn-2 v1 dV c0 t i0 u T x1 y1\nn3 v1 dV c0 t i0 u T x1 y1\n",
+)];
+
+#[test]
+fn sort_ids(rt: HostRuntime) {
+    assert_rows(&rt, IDS);
 }
 
 /// The later version has the earlier time.
@@ -281,109 +357,143 @@ const LATER_IS_EARLIER: &[u8] =
 
 const AT_FIVE: &[u8] = b"n1 v2 dV c0 t1970-01-01T00:00:05Z i0 u T x2 y1\n";
 
+const MOMENTS: &[Row] = &[
+    (Command::TimeFilter(7), &[LATER_IS_EARLIER], AT_FIVE),
+    (Command::TimeFilter(4), &[LATER_IS_EARLIER], b""),
+    (Command::TimeFilter(10), &[LATER_IS_EARLIER], AT_FIVE),
+];
+
 #[test]
-fn moment_seven(rt: HostRuntime) -> Result<(), Fail> {
-    let alloc = rt.alloc();
-    assert_made(
-        &rt,
-        alloc,
-        Command::TimeFilter(7),
+fn moment_seven(rt: HostRuntime) {
+    assert_rows(&rt, MOMENTS);
+}
+
+const P: &[u8] =
+    b"n1 v1 t1970-01-01T00:00:10Z x1 y1\nn1 v2 t1970-01-01T00:00:20Z x2 y1\nn1 v3 dD t1970-01-01T00:00:30Z\n";
+
+const Q: &[u8] = b"n2 v1 t1970-01-01T00:00:20Z x1 y1\nn2 v2 t1970-01-01T00:00:20Z x2 y1\n";
+
+const PERIODS: &[Row] = &[
+    (
+        Command::PeriodFilter { from: 20, to: 30 },
+        &[P],
+        b"n1 v2 dV c0 t1970-01-01T00:00:20Z i0 u T x2 y1\n",
+    ),
+    (
+        Command::PeriodFilter { from: 15, to: 31 },
+        &[P],
+        b"n1 v1 dV c0 t1970-01-01T00:00:10Z i0 u T x1 y1\nn1 v2 dV c0 t1970-01-01T00:00:20Z i0 u T x2 y1\nn1 v3 dD c0 t1970-01-01T00:00:30Z i0 u T x y\n",
+    ),
+    (
+        Command::PeriodFilter { from: 31, to: 40 },
+        &[P],
+        b"n1 v3 dD c0 t1970-01-01T00:00:30Z i0 u T x y\n",
+    ),
+    (Command::PeriodFilter { from: 5, to: 10 }, &[P], b""),
+    (
+        Command::PeriodFilter { from: 20, to: 21 },
+        &[Q],
+        b"n2 v1 dV c0 t1970-01-01T00:00:20Z i0 u T x1 y1\nn2 v2 dV c0 t1970-01-01T00:00:20Z i0 u T x2 y1\n",
+    ),
+    (
+        Command::PeriodFilter { from: 21, to: 22 },
+        &[Q],
+        b"n2 v2 dV c0 t1970-01-01T00:00:20Z i0 u T x2 y1\n",
+    ),
+    (
+        Command::PeriodFilter { from: 6, to: 11 },
         &[LATER_IS_EARLIER],
         AT_FIVE,
-    )?;
-    assert_made(&rt, alloc, Command::TimeFilter(4), &[LATER_IS_EARLIER], b"")?;
-    assert_made(
-        &rt,
-        alloc,
-        Command::TimeFilter(10),
-        &[LATER_IS_EARLIER],
-        AT_FIVE,
-    )?;
-    Ok(())
-}
-
-/// Sees what stands of a file from one moment up to another.
-fn assert_period<R: AllocGlobal + Abort>(
-    rt: &R,
-    alloc: Global,
-    file: &[u8],
-    from: u32,
-    to: u32,
-    wanted: &[u8],
-) -> Result<(), Fail> {
-    assert_made(
-        rt,
-        alloc,
-        Command::PeriodFilter { from, to },
-        &[file],
-        wanted,
-    )
-}
+    ),
+];
 
 #[test]
-fn period_table(rt: HostRuntime) -> Result<(), Fail> {
-    let alloc = rt.alloc();
-    let p =
-        b"n1 v1 t1970-01-01T00:00:10Z x1 y1\nn1 v2 t1970-01-01T00:00:20Z x2 y1\nn1 v3 dD t1970-01-01T00:00:30Z\n";
-    let second = b"n1 v2 dV c0 t1970-01-01T00:00:20Z i0 u T x2 y1\n";
-    let all =
-        b"n1 v1 dV c0 t1970-01-01T00:00:10Z i0 u T x1 y1\nn1 v2 dV c0 t1970-01-01T00:00:20Z i0 u T x2 y1\nn1 v3 dD c0 t1970-01-01T00:00:30Z i0 u T x y\n";
-    let deletion = b"n1 v3 dD c0 t1970-01-01T00:00:30Z i0 u T x y\n";
-    assert_period(&rt, alloc, p, 20, 30, second)?;
-    assert_period(&rt, alloc, p, 15, 31, all)?;
-    assert_period(&rt, alloc, p, 31, 40, deletion)?;
-    assert_period(&rt, alloc, p, 5, 10, b"")?;
-    let q = b"n2 v1 t1970-01-01T00:00:20Z x1 y1\nn2 v2 t1970-01-01T00:00:20Z x2 y1\n";
-    let both =
-        b"n2 v1 dV c0 t1970-01-01T00:00:20Z i0 u T x1 y1\nn2 v2 dV c0 t1970-01-01T00:00:20Z i0 u T x2 y1\n";
-    let later = b"n2 v2 dV c0 t1970-01-01T00:00:20Z i0 u T x2 y1\n";
-    assert_period(&rt, alloc, q, 20, 21, both)?;
-    assert_period(&rt, alloc, q, 21, 22, later)?;
-    assert_period(&rt, alloc, LATER_IS_EARLIER, 6, 11, AT_FIVE)?;
-    Ok(())
+fn period_table(rt: HostRuntime) {
+    assert_rows(&rt, PERIODS);
 }
 
-/// A file of some bytes.
-fn file(alloc: Global, bytes: &[u8]) -> Result<Vec<u8>, Fault> {
-    let mut file = Vec::new(alloc);
-    file.extend_from_slice(bytes)?;
-    Ok(file)
-}
+const EMPTY: &[&[u8]] = &[b"", b""];
+
+const STATE: Command = Command::TimeFilter(7);
+
+const PERIOD: Command = Command::PeriodFilter { from: 1, to: 7 };
+
+/// Without a time a version came before every moment.
+const LITTLE: &[Row] = &[
+    (Command::Sort, EMPTY, b""),
+    (GONE, EMPTY, b""),
+    (STATE, EMPTY, b""),
+    (PERIOD, EMPTY, b""),
+    (GONE, &[CREATED, b""], FIRST),
+    (GONE, &[DELETED], b""),
+    (STATE, &[CREATED], FIRST),
+    (STATE, &[DELETED], b""),
+    (PERIOD, &[DELETED], DELETION),
+];
 
 #[test]
-fn versions_are_counted(rt: HostRuntime) -> Result<(), Fail> {
-    let alloc = rt.alloc();
-    let mut files = Vec::new(alloc);
-    files.push(file(alloc, CREATED)?)?;
-    files.push(file(alloc, DELETED)?)?;
-    files.push(file(alloc, CREATED)?)?;
-    let gone = Command::Apply {
-        with_history: false,
-    };
-    for (command, written) in [(Command::Sort, 2), (gone, 0)] {
-        let mut out = VecOut::new(alloc);
-        let counts = run(alloc, command, &files, Format::O5m, &mut out)?;
-        assert_eq!(rt;
-            (counts.read, counts.written, counts.compared),
-            (3, written, 0)
-        );
-    }
-    Ok(())
+fn little_is_made_of_little(rt: HostRuntime) {
+    assert_rows(&rt, LITTLE);
 }
 
-#[test]
-fn unsorted_file(rt: HostRuntime) -> Result<(), Fail> {
-    let alloc = rt.alloc();
-    let unsorted = Some(Fault {
-        input: 0,
-        place: 12,
-        reason: Reason::Unsorted,
-    });
-    let mut files = Vec::new(alloc);
-    files.push(file(alloc, UNSORTED)?)?;
+/// What a command counts of these files: read, written and compared.
+fn counted(alloc: Global, command: Command, files: &[&[u8]]) -> Option<(u64, u64, u64)> {
     let mut out = VecOut::new(alloc);
-    let merged = run_merge(alloc, readers(alloc, &files)?, Format::Opl, &mut out);
-    assert_eq!(rt; merged.err(), unsorted);
+    match run(alloc, command, files, Format::O5m, &mut out) {
+        Ok(counts) => Some((counts.read, counts.written, counts.compared)),
+        Err(_) => None,
+    }
+}
+
+#[test]
+fn versions_are_counted(rt: HostRuntime) {
+    let files = [CREATED, DELETED, CREATED];
+    for (command, written) in [(Command::Sort, 2), (GONE, 0), (KEPT, 2)] {
+        assert!(rt; counted(rt.alloc(), command, &files) == Some((3, written, 0)));
+    }
+}
+
+/// Appends the fault of a run, or that there is none.
+fn push_fault(text: &mut String, outcome: Result<Counts, Fault>) {
+    let _ = match outcome {
+        Ok(_) => writeln!(text, "done"),
+        Err(fault) => writeln!(text, "{fault}"),
+    };
+}
+
+/// Appends what a check returns.
+fn push_report(text: &mut String, outcome: Result<CheckReport, Fault>) {
+    let report = match outcome {
+        Ok(report) => report,
+        Err(fault) => {
+            let _ = writeln!(text, "{fault}");
+            return;
+        }
+    };
+    let format = report.format.name();
+    let order = if report.sorted { "sorted" } else { "unsorted" };
+    let _ = writeln!(
+        text,
+        "{format}: {} versions, {} objects, {order}",
+        report.versions, report.objects
+    );
+}
+
+/// What the two checks of a file return.
+fn checked_text(alloc: Global, file: &[u8]) -> String {
+    let mut text = String::new(alloc);
+    push_report(&mut text, run_check(alloc, SliceIn::new(file)));
+    push_report(&mut text, run_check_sorted(alloc, SliceIn::new(file)));
+    text
+}
+
+/// What the runs over a file return that want it sorted, and how many bytes they write.
+fn sorted_text(alloc: Global, file: &[u8]) -> String {
+    let mut text = String::new(alloc);
+    let mut out = VecOut::new(alloc);
+    let files = [file];
+    let merged = run_merge(alloc, readers(alloc, &files), Format::Opl, &mut out);
+    push_fault(&mut text, merged);
     let selected = select(
         alloc,
         Selection::All,
@@ -392,111 +502,63 @@ fn unsorted_file(rt: HostRuntime) -> Result<(), Fail> {
         Format::Opl,
         &mut out,
     );
-    assert_eq!(rt; selected.err(), unsorted);
-    assert_eq!(rt;
-        run_check_sorted(alloc, SliceIn::new(UNSORTED)).err(),
-        unsorted
-    );
-    let sorted = b"n1 v1 dV c0 t i0 u T x1 y1\nn2 v1 dV c0 t i0 u T x1 y1\n";
-    assert_eq!(rt;
-        in_format(alloc, UNSORTED, Format::Opl)?.as_slice(),
-        sorted.as_slice()
-    );
-    let report = CheckReport {
-        format: Format::Opl,
-        versions: 2,
-        objects: 2,
-        sorted: false,
-    };
-    assert_eq!(rt; run_check(alloc, SliceIn::new(UNSORTED))?, report);
-    Ok(())
+    push_fault(&mut text, selected);
+    let _ = writeln!(text, "{}", out.into_vec().len());
+    text
 }
 
 #[test]
-fn check_and_cut(rt: HostRuntime) -> Result<(), Fail> {
+fn unsorted_file(rt: HostRuntime) {
     let alloc = rt.alloc();
-    let report = CheckReport {
-        format: Format::O5m,
-        versions: 2,
-        objects: 1,
-        sorted: true,
-    };
-    assert_eq!(rt; run_check(alloc, SliceIn::new(NODE_THEN_DELETION))?, report);
     assert_eq!(rt;
-        run_check_sorted(alloc, SliceIn::new(NODE_THEN_DELETION))?,
-        report
+        sorted_text(alloc, UNSORTED).as_str(),
+        "file 0, byte 12: Unsorted\nfile 0, byte 12: Unsorted\n0\n"
     );
-    let cut = &NODE_THEN_DELETION[..27];
-    let fault = Fault {
-        input: 0,
-        place: 27,
-        reason: Reason::NoEnd,
-    };
-    assert_eq!(rt; run_check(alloc, SliceIn::new(cut)).err(), Some(fault));
     assert_eq!(rt;
-        run_check_sorted(alloc, SliceIn::new(cut)).err(),
-        Some(fault)
+        in_format(alloc, UNSORTED, Format::Opl).as_slice(),
+        b"n1 v1 dV c0 t i0 u T x1 y1\nn2 v1 dV c0 t i0 u T x1 y1\n".as_slice()
     );
-    Ok(())
+    assert_eq!(rt;
+        checked_text(alloc, UNSORTED).as_str(),
+        "opl: 2 versions, 2 objects, unsorted\nfile 0, byte 12: Unsorted\n"
+    );
 }
 
 #[test]
-fn nothing_is_written_before_all_are_read(rt: HostRuntime) -> Result<(), Fail> {
+fn check_and_cut(rt: HostRuntime) {
     let alloc = rt.alloc();
-    let mut files = Vec::new(alloc);
-    files.push(file(alloc, CREATED)?)?;
-    files.push(file(alloc, &NODE_THEN_DELETION[..27])?)?;
-    files.push(file(alloc, DELETED)?)?;
-    let fault = Some(Fault {
-        input: 1,
-        place: 27,
-        reason: Reason::NoEnd,
-    });
+    assert_eq!(rt;
+        checked_text(alloc, NODE_THEN_DELETION).as_str(),
+        "o5m: 2 versions, 1 objects, sorted\no5m: 2 versions, 1 objects, sorted\n"
+    );
+    assert_eq!(rt;
+        checked_text(alloc, &NODE_THEN_DELETION[..27]).as_str(),
+        "file 0, byte 27: NoEnd\nfile 0, byte 27: NoEnd\n"
+    );
+}
+
+/// What runs return over three files of which the second is cut, and how many bytes they write. The first and the third file are
+/// streamed in the second run.
+fn cut_text(alloc: Global, format: Format) -> String {
+    let mut text = String::new(alloc);
+    let mut out = VecOut::new(alloc);
+    let files = [CREATED, &NODE_THEN_DELETION[..27], DELETED];
+    let sorted = run(alloc, Command::Sort, &files, format, &mut out);
+    push_fault(&mut text, sorted);
+    let mixed = select(alloc, Selection::All, &files, Mix::OddAny, format, &mut out);
+    push_fault(&mut text, mixed);
+    let _ = writeln!(text, "{}", out.into_vec().len());
+    text
+}
+
+#[test]
+fn nothing_is_written_before_all_are_read(rt: HostRuntime) {
     for format in FORMATS {
-        let mut out = VecOut::new(alloc);
         assert_eq!(rt;
-            run(alloc, Command::Sort, &files, format, &mut out).err(),
-            fault
+            cut_text(rt.alloc(), format).as_str(),
+            "file 1, byte 27: NoEnd\nfile 1, byte 27: NoEnd\n0\n"
         );
-        let mut inputs = Vec::new(alloc);
-        for file in &files {
-            let order = if inputs.len() == 1 {
-                Order::Any
-            } else {
-                Order::Sorted
-            };
-            inputs.push(InputFile {
-                reader: SliceIn::new(file.as_slice()),
-                order,
-            })?;
-        }
-        let mixed = run_selected(alloc, Selection::All, inputs, format, &mut out, &mut Silent);
-        assert_eq!(rt; mixed.err(), fault);
-        assert!(rt; out.into_vec().is_empty());
     }
-    Ok(())
-}
-
-#[test]
-fn little_is_made_of_little(rt: HostRuntime) -> Result<(), Fail> {
-    let alloc = rt.alloc();
-    let gone = Command::Apply {
-        with_history: false,
-    };
-    let state = Command::TimeFilter(7);
-    let period = Command::PeriodFilter { from: 1, to: 7 };
-    for command in [Command::Sort, gone, state, period] {
-        assert_made(&rt, alloc, command, &[b"", b""], b"")?;
-    }
-    // without a time a version came before every moment
-    let first = b"n1 v1 dV c0 t i0 u T x1 y1\n";
-    let deletion = b"n1 v2 dD c0 t i0 u T x y\n";
-    assert_made(&rt, alloc, gone, &[CREATED, b""], first)?;
-    assert_made(&rt, alloc, gone, &[DELETED], b"")?;
-    assert_made(&rt, alloc, state, &[CREATED], first)?;
-    assert_made(&rt, alloc, state, &[DELETED], b"")?;
-    assert_made(&rt, alloc, period, &[DELETED], deletion)?;
-    Ok(())
 }
 
 /// An input that gives one byte a read, and then ends or fails.
@@ -507,13 +569,14 @@ struct Dripping<'a> {
 }
 
 impl Input for Dripping<'_> {
-    ghost use Rattle.std.specs.Prelude.{◌≡◌, refl};
+    ghost use Rattle.osm_files.specs.Input.{whole};
+    ghost use Rattle.std.specs.Prelude.{[]};
 
-    ghost can_give = { λ s c. c ≡ record { bytes = s.rest.now; broken = s.fails } };
+    ghost can_give = { λ _ _. Unit {0} };
 
-    ghost one = { λ s. record { bytes = s.rest.now; broken = s.fails } };
+    ghost one = { λ _. whole [] };
 
-    ghost possible = { λ s. refl };
+    ghost possible = { λ _. tt };
 
     fn read(&mut self, buffer: &mut [u8]) -> Result<usize, Broken> {
         let Some((first, rest)) = self.rest.split_first() else {
@@ -528,7 +591,7 @@ impl Input for Dripping<'_> {
     }
 }
 
-/// A file that fails behind its last byte.
+/// A file that fails after its last byte.
 fn failing<'a>() -> Dripping<'a> {
     Dripping {
         rest: DELETED,
@@ -536,100 +599,97 @@ fn failing<'a>() -> Dripping<'a> {
     }
 }
 
-/// A file that ends, and one that fails behind its last byte.
-fn one_fails<'a>(alloc: Global) -> Result<Vec<Dripping<'a>>, Fault> {
+/// A file that ends, and one that fails after its last byte.
+fn one_fails<'a>(alloc: Global) -> Vec<Dripping<'a>> {
     let mut inputs = Vec::new(alloc);
-    inputs.push(Dripping {
+    let _ = inputs.push(Dripping {
         rest: CREATED,
         fails: false,
-    })?;
-    inputs.push(failing())?;
-    Ok(inputs)
+    });
+    let _ = inputs.push(failing());
+    inputs
 }
 
-#[test]
-fn an_input_that_fails_is_named(rt: HostRuntime) -> Result<(), Fail> {
-    let alloc = rt.alloc();
+/// What the commands return whose input fails, and how many bytes they write.
+fn failing_text(alloc: Global) -> String {
+    let mut text = String::new(alloc);
     let mut out = VecOut::new(alloc);
-    let fault = Fault {
-        input: 1,
-        place: 9,
-        reason: Reason::ReadFault,
-    };
-    let sorted = run_sort(alloc, one_fails(alloc)?, Format::Opl, &mut out);
-    assert_eq!(rt; sorted.err(), Some(fault));
-    let applied = run_apply(alloc, one_fails(alloc)?, true, Format::O5m, &mut out);
-    assert_eq!(rt; applied.err(), Some(fault));
-    let alone = Some(Fault { input: 0, ..fault });
-    assert_eq!(rt; run_check(alloc, failing()).err(), alone);
-    assert_eq!(rt; run_check_sorted(alloc, failing()).err(), alone);
+    let sorted = run_sort(alloc, one_fails(alloc), Format::Opl, &mut out);
+    push_fault(&mut text, sorted);
+    let applied = run_apply(alloc, one_fails(alloc), true, Format::O5m, &mut out);
+    push_fault(&mut text, applied);
     let state = run_time_filter(alloc, failing(), 7, Format::O5c, &mut out);
-    assert_eq!(rt; state.err(), alone);
+    push_fault(&mut text, state);
     let period = run_period_filter(alloc, failing(), 1, 7, Format::Opl, &mut out);
-    assert_eq!(rt; period.err(), alone);
-    assert!(rt; out.into_vec().is_empty());
-    Ok(())
+    push_fault(&mut text, period);
+    push_report(&mut text, run_check(alloc, failing()));
+    push_report(&mut text, run_check_sorted(alloc, failing()));
+    let _ = writeln!(text, "{}", out.into_vec().len());
+    text
 }
 
 #[test]
-fn inputs_that_tell_what_they_give_are_merged(rt: HostRuntime) -> Result<(), Fail> {
-    let alloc = rt.alloc();
-    let mut files = Vec::new(alloc);
-    files.push(file(alloc, CREATED)?)?;
-    files.push(file(alloc, DELETED)?)?;
+fn an_input_that_fails_is_named(rt: HostRuntime) {
+    assert_eq!(rt;
+        failing_text(rt.alloc()).as_str(),
+        "file 1, byte 9: ReadFault\nfile 1, byte 9: ReadFault\nfile 0, byte 9: ReadFault\nfile 0, byte 9: ReadFault\n\
+        file 0, byte 9: ReadFault\nfile 0, byte 9: ReadFault\n0\n"
+    );
+}
+
+/// The merge of these files that tell what they give, and what is selected of them.
+fn told(alloc: Global, files: &[&[u8]], selection: Option<Selection>) -> Vec<u8> {
     let mut out = VecOut::new(alloc);
-    run_told(alloc, readers(alloc, &files)?, Format::Opl, &mut out)?;
-    assert_eq!(rt; out.into_vec().as_slice(), CREATED_THEN_DELETED);
-    Ok(())
+    let outcome = match selection {
+        None => run_told(alloc, readers(alloc, files), Format::Opl, &mut out),
+        Some(selection) => run_selected_told(
+            alloc,
+            selection,
+            mixed(alloc, files, Mix::NoneSorted),
+            Format::Opl,
+            &mut out,
+            &mut Silent,
+        ),
+    };
+    bytes_of(out, outcome)
 }
 
 #[test]
-fn what_is_selected_of_inputs_that_tell_is_written(rt: HostRuntime) -> Result<(), Fail> {
-    let alloc = rt.alloc();
-    let mut inputs = Vec::new(alloc);
-    inputs.push(InputFile {
-        reader: SliceIn::new(CREATED_THEN_DELETED),
-        order: Order::Any,
-    })?;
-    let mut out = VecOut::new(alloc);
-    run_selected_told(
-        alloc,
-        Selection::Newest,
-        inputs,
-        Format::Opl,
-        &mut out,
-        &mut Silent,
-    )?;
-    let deletion = b"n1 v2 dD c0 t i0 u T x y\n".as_slice();
-    assert_eq!(rt; out.into_vec().as_slice(), deletion);
-    Ok(())
+fn inputs_that_tell_what_they_give_are_merged(rt: HostRuntime) {
+    assert_eq!(rt;
+        told(rt.alloc(), &[CREATED, DELETED], None).as_slice(),
+        CREATED_THEN_DELETED
+    );
+    assert_eq!(rt;
+        told(rt.alloc(), &[CREATED_THEN_DELETED], Some(Selection::Newest)).as_slice(),
+        DELETION
+    );
 }
 
 #[test]
-fn old_order_files(rt: HostRuntime) -> Result<(), Fail> {
-    let alloc = rt.alloc();
-    let mut files = Vec::new(alloc);
-    files.push(file(
-        alloc,
-        b"\xff\xe0\x04o5m2\x10\x03\x02\x01\x00\x10\x0b\x00\x01\x00\x80\xda\xc4\x09\x80\xda\xc4\x09\xfe",
-    )?)?;
+fn old_order_files(rt: HostRuntime) {
+    let file =
+        b"\xff\xe0\x04o5m2\x10\x03\x02\x01\x00\x10\x0b\x00\x01\x00\x80\xda\xc4\x09\x80\xda\xc4\x09\xfe";
     let sorted =
         b"\xff\xe0\x04o5m2\x10\x0b\x02\x01\x00\x80\xda\xc4\x09\x80\xda\xc4\x09\x10\x03\x00\x01\x00\xfe";
     for mix in MIXES {
-        let mut out = VecOut::new(alloc);
-        select(alloc, Selection::All, &files, mix, Format::O5m, &mut out)?;
-        assert_eq!(rt; out.into_vec().as_slice(), sorted.as_slice());
+        assert_eq!(rt;
+            chosen(rt.alloc(), Selection::All, &[file], mix, Format::O5m).as_slice(),
+            sorted.as_slice()
+        );
     }
-    Ok(())
 }
 
 #[test]
-fn moments_are_read(rt: HostRuntime) -> Result<(), Fail> {
-    assert_eq!(rt; read_moment(b"1970-01-01T00:00:07Z"), Some(7));
-    assert_eq!(rt; read_moment(b"2106-02-07T06:28:15Z"), Some(4_294_967_295));
-    assert_eq!(rt; read_moment(b"1970-01-01T00:00:00Z"), None);
-    assert_eq!(rt; read_moment(b"2106-02-07T06:28:16Z"), None);
-    assert_eq!(rt; read_moment(b"7"), None);
-    assert_eq!(rt; read_moment(b""), None);
-    Ok(())
+fn moments_are_read(rt: HostRuntime) {
+    for (text, moment) in [
+        (b"1970-01-01T00:00:07Z".as_slice(), Some(7)),
+        (b"2106-02-07T06:28:15Z", Some(4_294_967_295)),
+        (b"1970-01-01T00:00:00Z", None),
+        (b"2106-02-07T06:28:16Z", None),
+        (b"7", None),
+        (b"", None),
+    ] {
+        assert!(rt; read_moment(text) == moment);
+    }
 }

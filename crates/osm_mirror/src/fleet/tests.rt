@@ -3,11 +3,8 @@ use super::Fleet;
 use crate::event::{Event, Reply};
 use crate::keep::Keep;
 use crate::mirror::Mirror;
-use opl_line::OplReason;
-use osm_files::{Fault, Format, Reason};
-use osm_model::Memory;
-use std::process::Abort;
-use std::test::Fail;
+use osm_files::Format;
+use std::alloc::Global;
 
 const FORMATS: [Format; 3] = [Format::Opl, Format::O5m, Format::O5c];
 
@@ -35,88 +32,114 @@ const FILES: [&[u8]; 5] = [
 /// The snapshot of all that the files hold.
 const NEWEST: &[u8] = b"n1 v2 dD c0 t i0 u T x y\nn2 v1 dV c0 t i0 u T x9 y1\n";
 
-/// Lets these events happen.
-fn run<R: Abort>(rt: &R, fleet: &mut Fleet, events: &[Event]) -> Result<Vec<Reply>, Fail> {
-    assert!(rt; fleet.may_run(events));
-    Ok(fleet.run(events)?)
+/// Lets these events happen, and returns the replies; none where the events name other mirrors.
+fn run(alloc: Global, fleet: &mut Fleet, events: &[Event]) -> Vec<Reply> {
+    if fleet.may_run(events)
+        && let Ok(replies) = fleet.run(events)
+    {
+        return replies;
+    }
+    Vec::new(alloc)
 }
 
 /// What the mirror of this number holds, as OPL.
-fn written<R: Abort>(rt: &R, fleet: &Fleet, place: usize) -> Result<Vec<u8>, Fail> {
-    assert!(rt; place < fleet.len());
-    Ok(fleet.mirror(place).write(Format::Opl)?)
+fn written(alloc: Global, fleet: &Fleet, place: usize) -> Vec<u8> {
+    if place < fleet.len()
+        && let Ok(file) = fleet.mirror(place).write(Format::Opl)
+    {
+        return file;
+    }
+    Vec::new(alloc)
 }
 
 /// The snapshot of what the mirror of this number holds, as OPL.
-fn newest<R: AllocGlobal + Abort>(rt: &R, fleet: &Fleet, place: usize) -> Result<Vec<u8>, Fail> {
-    let mut latest = Mirror::new_latest(rt.alloc());
-    latest.take(&written(rt, fleet, place)?)?;
-    Ok(latest.write(Format::Opl)?)
+fn newest(alloc: Global, fleet: &Fleet, place: usize) -> Vec<u8> {
+    let mut latest = Mirror::new_latest(alloc);
+    let file = written(alloc, fleet, place);
+    if latest.take(&file).is_ok()
+        && let Ok(snapshot) = latest.write(Format::Opl)
+    {
+        return snapshot;
+    }
+    file
 }
 
-/// Sees that the snapshots of nine new mirrors are one once these events happened.
-fn assert_one_map<R: AllocGlobal + Abort>(rt: &R, events: &[Event]) -> Result<(), Fail> {
-    let mut fleet = Fleet::new(rt.alloc(), &KINDS)?;
-    let replies = run(rt, &mut fleet, events)?;
-    assert_eq!(rt; (fleet.len(), replies.len()), (KINDS.len(), events.len()));
+/// Whether each mirror of a fleet has the snapshot of all that the files hold.
+fn has_one_map(alloc: Global, fleet: &Fleet) -> bool {
     for place in 0..fleet.len() {
-        assert_eq!(rt; newest(rt, &fleet, place)?.as_slice(), NEWEST);
+        if newest(alloc, fleet, place).as_slice() != NEWEST {
+            return false;
+        }
     }
-    Ok(())
+    fleet.len() == KINDS.len()
+}
+
+/// The number of replies to these events of nine new mirrors, which have one snapshot then; 0 where they have not.
+fn replies_to_one_map(alloc: Global, events: &[Event]) -> usize {
+    let Ok(mut fleet) = Fleet::new(alloc, &KINDS) else {
+        return 0;
+    };
+    let count = run(alloc, &mut fleet, events).len();
+    if has_one_map(alloc, &fleet) { count } else { 0 }
 }
 
 /// The first mirrors take a file each; the last file is none.
-fn deliver(events: &mut Vec<Event>) -> Result<(), Memory> {
+fn deliver<'a>(events: &mut Vec<Event<'a>>) {
     for (mirror, file) in FILES.iter().enumerate() {
-        events.push(Event::Take {
+        let _ = events.push(Event::Take {
             mirror,
             file: *file,
-        })?;
+        });
     }
-    Ok(())
+}
+
+/// A mirror passes to another one, in the format of this turn.
+fn pass(events: &mut Vec<Event>, from: usize, to: usize, turn: usize) {
+    let format = FORMATS[turn % 3];
+    let _ = events.push(Event::Pass { from, to, format });
 }
 
 /// All mirrors pass to the first one, and that one to all, itself included.
-fn meet(events: &mut Vec<Event>) -> Result<(), Memory> {
+fn meet(events: &mut Vec<Event>) {
     for other in 0..KINDS.len() {
-        let format = FORMATS[other % 3];
-        events.push(Event::Pass {
-            from: other,
-            to: 0,
-            format,
-        })?;
+        pass(events, other, 0, other);
     }
     for other in 0..KINDS.len() {
-        let format = FORMATS[other % 3];
-        events.push(Event::Pass {
-            from: 0,
-            to: other,
-            format,
-        })?;
+        pass(events, 0, other, other);
     }
-    Ok(())
 }
 
-#[test]
-fn mirrors_in_a_ring(rt: HostRuntime) -> Result<(), Fail> {
-    let mut events = Vec::new(rt.alloc());
-    deliver(&mut events)?;
+/// Each mirror passes to the next one, and the last one to the first, twice.
+fn replies_in_a_ring(alloc: Global) -> usize {
+    let mut events = Vec::new(alloc);
+    deliver(&mut events);
     for step in 0..2 * KINDS.len() {
-        events.push(Event::Pass {
-            from: step % KINDS.len(),
-            to: (step + 1) % KINDS.len(),
-            format: FORMATS[step % 3],
-        })?;
+        pass(
+            &mut events,
+            step % KINDS.len(),
+            (step + 1) % KINDS.len(),
+            step,
+        );
     }
-    assert_one_map(&rt, &events)
+    replies_to_one_map(alloc, &events)
 }
 
 #[test]
-fn mirrors_in_a_star(rt: HostRuntime) -> Result<(), Fail> {
-    let mut events = Vec::new(rt.alloc());
-    deliver(&mut events)?;
-    meet(&mut events)?;
-    assert_one_map(&rt, &events)
+fn mirrors_in_a_ring(rt: HostRuntime) {
+    assert_eq!(rt; replies_in_a_ring(rt.alloc()), 23);
+}
+
+/// All mirrors meet in the first one.
+fn replies_in_a_star(alloc: Global) -> usize {
+    let mut events = Vec::new(alloc);
+    deliver(&mut events);
+    meet(&mut events);
+    replies_to_one_map(alloc, &events)
+}
+
+#[test]
+fn mirrors_in_a_star(rt: HostRuntime) {
+    assert_eq!(rt; replies_in_a_star(rt.alloc()), 23);
 }
 
 /// An event that looks like chance: the digits of a number say which mirrors, which file and which format.
@@ -138,47 +161,79 @@ fn chance(number: usize) -> Event<'static> {
     }
 }
 
-#[test]
-fn mirrors_by_chance(rt: HostRuntime) -> Result<(), Fail> {
-    let mut events = Vec::new(rt.alloc());
+/// Sixty events by chance, before the mirrors meet.
+fn replies_by_chance(alloc: Global) -> usize {
+    let mut events = Vec::new(alloc);
     let mut number: usize = 1;
     for _ in 0..60 {
         number = number.wrapping_mul(7_621) % 65_521;
-        events.push(chance(number))?;
+        let _ = events.push(chance(number));
     }
-    deliver(&mut events)?;
-    meet(&mut events)?;
-    assert_one_map(&rt, &events)
+    deliver(&mut events);
+    meet(&mut events);
+    replies_to_one_map(alloc, &events)
 }
 
 #[test]
-fn two_mirrors_pass_to_each_other(rt: HostRuntime) -> Result<(), Fail> {
-    let alloc = rt.alloc();
-    let mut fleet = Fleet::new(alloc, &[Keep::Full, Keep::Latest])?;
-    let mut events = Vec::new(alloc);
+fn mirrors_by_chance(rt: HostRuntime) {
+    assert_eq!(rt; replies_by_chance(rt.alloc()), 83);
+}
+
+/// A full and a latest mirror take the files in turns, and pass to each other twice in each format.
+fn two_mirrors_events<'a>(events: &mut Vec<Event<'a>>) {
     for (place, file) in FILES.iter().enumerate() {
-        events.push(Event::Take {
+        let _ = events.push(Event::Take {
             mirror: place % 2,
             file: *file,
-        })?;
+        });
     }
     for step in 0..12 {
-        events.push(Event::Pass {
-            from: step % 2,
-            to: (step + 1) % 2,
-            format: FORMATS[step / 4],
-        })?;
+        pass(events, step % 2, (step + 1) % 2, step / 4);
     }
-    let replies = run(&rt, &mut fleet, &events)?;
-    assert_eq!(rt; replies.len(), 17);
-    assert_eq!(rt; written(&rt, &fleet, 1)?, newest(&rt, &fleet, 0)?);
-    Ok(())
+}
+
+/// The number of replies to these, after which the snapshot of the full mirror is what the latest one holds; 0 where it isn't.
+fn replies_of_two_mirrors(alloc: Global) -> usize {
+    let Ok(mut fleet) = Fleet::new(alloc, &[Keep::Full, Keep::Latest]) else {
+        return 0;
+    };
+    let mut events = Vec::new(alloc);
+    two_mirrors_events(&mut events);
+    let count = run(alloc, &mut fleet, &events).len();
+    let is_first = newest(alloc, &fleet, 0).as_slice() == NEWEST;
+    let is_second = written(alloc, &fleet, 1).as_slice() == NEWEST;
+    if is_first && is_second { count } else { 0 }
 }
 
 #[test]
-fn same_key_two_locations(rt: HostRuntime) -> Result<(), Fail> {
-    let alloc = rt.alloc();
-    let mut fleet = Fleet::new(alloc, &[Keep::Latest, Keep::Latest])?;
+fn two_mirrors_pass_to_each_other(rt: HostRuntime) {
+    assert_eq!(rt; replies_of_two_mirrors(rt.alloc()), 17);
+}
+
+/// Appends a reply.
+fn push_reply(text: &mut String, reply: &Reply) {
+    let _ = match *reply {
+        Reply::Taken => writeln!(text, "taken"),
+        Reply::Refused(fault) => writeln!(text, "{fault}"),
+    };
+}
+
+/// The replies of new mirrors of these kinds, and what the last one writes then.
+fn fleet_text(alloc: Global, kinds: &[Keep], events: &[Event]) -> String {
+    let mut text = String::new(alloc);
+    let Ok(mut fleet) = Fleet::new(alloc, kinds) else {
+        return text;
+    };
+    for reply in &run(alloc, &mut fleet, events) {
+        push_reply(&mut text, reply);
+    }
+    let file = written(alloc, &fleet, fleet.len().saturating_sub(1));
+    let _ = text.push_str(str::from_utf8(&file).unwrap_or("?"));
+    text
+}
+
+#[test]
+fn same_key_two_locations(rt: HostRuntime) {
     let events = [
         Event::Take {
             mirror: 0,
@@ -195,18 +250,13 @@ fn same_key_two_locations(rt: HostRuntime) -> Result<(), Fail> {
         },
     ];
     assert_eq!(rt;
-        run(&rt, &mut fleet, &events)?.as_slice(),
-        [Reply::Taken; 3].as_slice()
+        fleet_text(rt.alloc(), &[Keep::Latest, Keep::Latest], &events).as_str(),
+        "taken\ntaken\ntaken\nn2 v1 dV c0 t i0 u T x9 y1\n"
     );
-    let wanted = b"n2 v1 dV c0 t i0 u T x9 y1\n".as_slice();
-    assert_eq!(rt; written(&rt, &fleet, 1)?.as_slice(), wanted);
-    Ok(())
 }
 
 #[test]
-fn a_refused_event_has_its_reply(rt: HostRuntime) -> Result<(), Fail> {
-    let alloc = rt.alloc();
-    let mut fleet = Fleet::new(alloc, &[Keep::Full])?;
+fn a_refused_event_has_its_reply(rt: HostRuntime) {
     let events = [
         Event::Take {
             mirror: 0,
@@ -221,15 +271,8 @@ fn a_refused_event_has_its_reply(rt: HostRuntime) -> Result<(), Fail> {
             format: Format::Opl,
         },
     ];
-    let replies = run(&rt, &mut fleet, &events)?;
-    let fault = Fault {
-        input: 0,
-        place: 0,
-        reason: Reason::Opl(OplReason::NoLocation),
-    };
-    let wanted = [Reply::Taken, Reply::Refused(fault), Reply::Taken];
-    assert_eq!(rt; replies.as_slice(), wanted.as_slice());
-    let held = b"n1 v1 dV c0 t i0 u T x1 y1\n".as_slice();
-    assert_eq!(rt; written(&rt, &fleet, 0)?.as_slice(), held);
-    Ok(())
+    assert_eq!(rt;
+        fleet_text(rt.alloc(), &[Keep::Full], &events).as_str(),
+        "taken\nfile 0, byte 0: NoLocation\ntaken\nn1 v1 dV c0 t i0 u T x1 y1\n"
+    );
 }

@@ -1,428 +1,472 @@
 //! Whole files merged, with what is written and refused worked out by hand.
 use crate::merge::run_merge;
-use o5_codec::O5Reason;
-use opl_line::OplReason;
-use osm_files::{Fault, Format, FromRead, Reason, SliceIn, ToWrite, VecOut};
+use osm_files::{Fault, Format, FromRead, Input, Reason, SliceIn, ToWrite, VecOut};
 use osm_merge::Counts;
 use std::alloc::Global;
 use std::io;
 use std::io::{Read, Write};
 use std::process::Abort;
-use std::test::Fail;
 
-const A: &str = "n1 v1 dV x1.5 y2\n";
+const A: &[u8] = b"n1 v1 dV x1.5 y2\n";
 
-const B: &str = "n1 v2 dV x1.5 y3\n";
+const B: &[u8] = b"n1 v2 dV x1.5 y3\n";
 
-const BOTH: &str = "n1 v1 dV c0 t i0 u T x1.5 y2\nn1 v2 dV c0 t i0 u T x1.5 y3\n";
+const BOTH: &[u8] = b"n1 v1 dV c0 t i0 u T x1.5 y2\nn1 v2 dV c0 t i0 u T x1.5 y3\n";
 
-/// What a merge of these files writes, and its counts.
-fn merged(alloc: Global, files: &[&[u8]]) -> Result<(Vec<u8>, Counts), Fault> {
+/// Readers of these files.
+fn readers<'a>(alloc: Global, files: &'a [&'a [u8]]) -> Vec<SliceIn<'a>> {
     let mut inputs = Vec::new(alloc);
     for file in files {
-        inputs.push(SliceIn::new(*file))?;
+        let _ = inputs.push(SliceIn::new(*file));
     }
+    inputs
+}
+
+/// What a merge of these files in this format returns, and the bytes that it wrote.
+fn merged<R: Input + Drop>(
+    alloc: Global,
+    inputs: Vec<R>,
+    format: Format,
+) -> (Result<Counts, Fault>, Vec<u8>) {
     let mut out = VecOut::new(alloc);
-    let counts = run_merge(alloc, inputs, Format::Opl, &mut out)?;
-    Ok((out.into_vec(), counts))
+    let outcome = run_merge(alloc, inputs, format, &mut out);
+    (outcome, out.into_vec())
 }
 
-/// Sees that so many versions were read and written.
-fn assert_counts<R: AllocGlobal + Abort>(rt: &R, counts: Counts, read: u64, written: u64) {
-    assert_eq!(rt; counts.read, read);
-    assert_eq!(rt; counts.written, written);
-}
-
-/// Why a merge of this one file is refused.
-fn refusal(alloc: Global, file: &[u8]) -> Option<Fault> {
-    merged(alloc, &[file]).err()
-}
-
-fn at(place: u64, reason: OplReason) -> Option<Fault> {
-    Some(Fault {
-        input: 0,
-        place,
-        reason: Reason::Opl(reason),
-    })
-}
-
-#[test]
-fn merge_two_versions(rt: HostRuntime) -> Result<(), Fail> {
-    let alloc = rt.alloc();
-    let (text, numbers) = merged(alloc, &[A.as_bytes(), B.as_bytes()])?;
-    assert_eq!(rt; text.as_slice(), BOTH.as_bytes());
-    assert_counts(&rt, numbers, 2, 2);
-    let (again, more) = merged(alloc, &[B.as_bytes(), A.as_bytes(), A.as_bytes()])?;
-    assert_eq!(rt; again.as_slice(), BOTH.as_bytes());
-    assert_counts(&rt, more, 3, 2);
-    Ok(())
-}
-
-#[test]
-fn empty_inputs(rt: HostRuntime) -> Result<(), Fail> {
-    let alloc = rt.alloc();
-    let (text, numbers) = merged(alloc, &[])?;
-    assert!(rt; text.is_empty());
-    assert_counts(&rt, numbers, 0, 0);
-    let (nothing, none) = merged(alloc, &[b"", b"\n\r\n# n1 v1 \xff\n"])?;
-    assert!(rt; nothing.is_empty());
-    assert_counts(&rt, none, 0, 0);
-    Ok(())
-}
-
-#[test]
-fn same_key_two_locations(rt: HostRuntime) -> Result<(), Fail> {
-    let alloc = rt.alloc();
-    let both = b"n1 v1 dV c0 t i0 u T x10 y1\nn1 v1 dV c0 t i0 u T x9 y1\n";
-    let (text, numbers) = merged(alloc, &[b"n1 v1 dV x9 y1\n", b"n1 v1 dV x10 y1\n"])?;
-    assert_eq!(rt; text.as_slice(), both.as_slice());
-    assert_counts(&rt, numbers, 2, 2);
-    Ok(())
-}
-
-#[test]
-fn visible_and_deleted_tie(rt: HostRuntime) -> Result<(), Fail> {
-    let both = b"n1 v1 dV c0 t i0 u T x1 y1\nn1 v1 dD c0 t i0 u T x y\n";
-    let (text, _) = merged(rt.alloc(), &[b"n1 v1 dD\n", b"n1 v1 dV x1 y1\n"])?;
-    assert_eq!(rt; text.as_slice(), both.as_slice());
-    Ok(())
-}
-
-#[test]
-fn key_group_in_any_order(rt: HostRuntime) -> Result<(), Fail> {
-    let alloc = rt.alloc();
-    let both = b"n1 v1 dV c0 t i0 u T x10 y1\nn1 v1 dV c0 t i0 u T x9 y1\n";
-    let (text, _) = merged(alloc, &[b"n1 v1 dV x9 y1\nn1 v1 dV x10 y1\n"])?;
-    assert_eq!(rt; text.as_slice(), both.as_slice());
-    let (again, numbers) = merged(
-        alloc,
-        &[b"n1 v1 dV x9 y1\nn1 v1 dV x10 y1\nn1 v1 dV x9 y1\n"],
-    )?;
-    assert_eq!(rt; again.as_slice(), both.as_slice());
-    assert_counts(&rt, numbers, 2, 2);
-    Ok(())
-}
-
-#[test]
-fn lines_are_read_as_they_are_written_elsewhere(rt: HostRuntime) -> Result<(), Fail> {
-    let alloc = rt.alloc();
-    // blanks, fields in any order, leading zeros, CR and LF, a last line without its end, contents of a deletion
-    let file =
-        b"# a comment\r\nn-0\tv01  x-0.0 y00 \r\rn1 y0.0000001 x-180 T u i0 t c0 dV v2\nn2 v1 dD x1 y";
-    let (text, _) = merged(alloc, &[file])?;
-    assert_eq!(rt;
-        text.as_slice(),
-        b"n0 v1 dV c0 t i0 u T x0 y0\nn1 v2 dV c0 t i0 u T x-180 y0.0000001\nn2 v1 dD c0 t i0 u T x y\n".as_slice()
-    );
-    Ok(())
-}
-
-#[test]
-fn a_faulty_line_is_refused_at_its_place(rt: HostRuntime) -> Result<(), Fail> {
-    let alloc = rt.alloc();
-    let unsorted = Fault {
-        input: 0,
-        place: 12,
-        reason: Reason::Unsorted,
+/// What a merge of these files to OPL writes, and then what it counts, or why it is refused.
+fn merged_text(alloc: Global, files: &[&[u8]]) -> String {
+    let mut text = String::new(alloc);
+    let (outcome, written) = merged(alloc, readers(alloc, files), Format::Opl);
+    let _ = text.push_str(str::from_utf8(&written).unwrap_or("?"));
+    let _ = match outcome {
+        Ok(counts) => writeln!(text, "read {}, written {}", counts.read, counts.written),
+        Err(fault) => writeln!(text, "{fault}"),
     };
-    assert_eq!(rt;
-        refusal(alloc, b"n2 v1 x1 y1\nn1 v1 x1 y1\n"),
-        Some(unsorted)
-    );
-    assert_eq!(rt; refusal(alloc, b"n1 dV x1 y1"), at(0, OplReason::NoVersion));
-    assert_eq!(rt;
-        refusal(alloc, b"n1 v0 dV x1 y1"),
-        at(0, OplReason::NoVersion)
-    );
-    assert_eq!(rt;
-        refusal(alloc, b"n1 v1 dV x y"),
-        at(0, OplReason::NoLocation)
-    );
-    assert_eq!(rt; refusal(alloc, b"\n\n \n"), at(2, OplReason::UnknownKind));
-    assert_eq!(rt;
-        refusal(alloc, b"n1 v1 x1 y1\nn1 vx x1 y1\n"),
-        at(12, OplReason::BadNumber)
-    );
-    let second = merged(alloc, &[A.as_bytes(), b"n1 v1 d"]).err();
-    let fault = Fault {
-        input: 1,
-        place: 0,
-        reason: Reason::Opl(OplReason::BadText),
-    };
-    assert_eq!(rt; second, Some(fault));
-    Ok(())
+    text
 }
 
-/// Sees that a merge of these files writes this text.
-fn assert_merged<R: AllocGlobal + Abort>(rt: &R, files: &[&[u8]], text: &str) {
-    match merged(rt.alloc(), files) {
-        Ok((written, _)) => assert_eq!(rt; written.as_slice(), text.as_bytes()),
-        Err(_) => panic!(rt; "the merge was refused"),
+/// Files, and the text of their merge to OPL.
+type Row = (&'static [&'static [u8]], &'static str);
+
+/// Sees that the merges of these rows give their texts.
+fn assert_rows<R: AllocGlobal + Abort>(rt: &R, rows: &[Row]) {
+    for (files, text) in rows {
+        assert_eq!(rt; merged_text(rt.alloc(), files).as_str(), *text);
     }
 }
 
+const TWO_VERSIONS: &[Row] = &[
+    (
+        &[A, B],
+        "n1 v1 dV c0 t i0 u T x1.5 y2\nn1 v2 dV c0 t i0 u T x1.5 y3\nread 2, written 2\n",
+    ),
+    (
+        &[B, A, A],
+        "n1 v1 dV c0 t i0 u T x1.5 y2\nn1 v2 dV c0 t i0 u T x1.5 y3\nread 3, written 2\n",
+    ),
+];
+
 #[test]
-fn real_line_is_written_as_it_is_read(rt: HostRuntime) {
-    let line = "n1 v3 dV c12 t2014-05-06T07:08:09Z i5 uanna Tnatural=tree x8.6868047 y49.0000001\n";
-    assert_merged(&rt, &[line.as_bytes()], line);
+fn merge_two_versions(rt: HostRuntime) {
+    assert_rows(&rt, TWO_VERSIONS);
 }
+
+const NOTHING: &[Row] = &[
+    (&[], "read 0, written 0\n"),
+    (&[b"", b"\n\r\n# n1 v1 \xff\n"], "read 0, written 0\n"),
+];
+
+#[test]
+fn empty_inputs(rt: HostRuntime) {
+    assert_rows(&rt, NOTHING);
+    assert_written(&rt, EMPTY);
+}
+
+const TWO_LOCATIONS: &[Row] = &[(
+    &[b"n1 v1 dV x9 y1\n", b"n1 v1 dV x10 y1\n"],
+    "n1 v1 dV c0 t i0 u T x10 y1\nn1 v1 dV c0 t i0 u T x9 y1\nread 2, written 2\n",
+)];
+
+#[test]
+fn same_key_two_locations(rt: HostRuntime) {
+    assert_rows(&rt, TWO_LOCATIONS);
+}
+
+const TIE: &[Row] = &[(
+    &[b"n1 v1 dD\n", b"n1 v1 dV x1 y1\n"],
+    "n1 v1 dV c0 t i0 u T x1 y1\nn1 v1 dD c0 t i0 u T x y\nread 2, written 2\n",
+)];
+
+#[test]
+fn visible_and_deleted_tie(rt: HostRuntime) {
+    assert_rows(&rt, TIE);
+}
+
+const ANY_ORDER: &[Row] = &[
+    (
+        &[b"n1 v1 dV x9 y1\nn1 v1 dV x10 y1\n"],
+        "n1 v1 dV c0 t i0 u T x10 y1\nn1 v1 dV c0 t i0 u T x9 y1\nread 2, written 2\n",
+    ),
+    (
+        &[b"n1 v1 dV x9 y1\nn1 v1 dV x10 y1\nn1 v1 dV x9 y1\n"],
+        "n1 v1 dV c0 t i0 u T x10 y1\nn1 v1 dV c0 t i0 u T x9 y1\nread 2, written 2\n",
+    ),
+];
+
+#[test]
+fn key_group_in_any_order(rt: HostRuntime) {
+    assert_rows(&rt, ANY_ORDER);
+}
+
+/// Blanks, fields in any order, leading zeros, CR and LF, a last line without its end, contents of a deletion.
+const WRITTEN_ELSEWHERE: &[Row] = &[
+    (
+        &[
+            b"# a comment\r\nn-0\tv01  x-0.0 y00 \r\rn1 y0.0000001 x-180 T u i0 t c0 dV v2\nn2 v1 dD x1 y",
+        ],
+        "n0 v1 dV c0 t i0 u T x0 y0\nn1 v2 dV c0 t i0 u T x-180 y0.0000001\nn2 v1 dD c0 t i0 u T x y\nread 3, written 3\n",
+    ),
+    (
+        &[b"\r\n\nn1 v1 dD\r\r\n\n#\rn2 v1 dD"],
+        "n1 v1 dD c0 t i0 u T x y\nn2 v1 dD c0 t i0 u T x y\nread 2, written 2\n",
+    ),
+    (
+        &[b"n1 v1 dD\n\rn2 v1 dD\r"],
+        "n1 v1 dD c0 t i0 u T x y\nn2 v1 dD c0 t i0 u T x y\nread 2, written 2\n",
+    ),
+    (
+        &[b"# n1 v1 dD \xff\nn1 v1 dD \t \nn2\tv1  dD\n"],
+        "n1 v1 dD c0 t i0 u T x y\nn2 v1 dD c0 t i0 u T x y\nread 2, written 2\n",
+    ),
+    (
+        &[
+            b"w5 v1 Nn1,n-2\nr6 v1 dV Mw5@outer,n1@\n",
+            b"w5 v2 dD Nn1\r\nr6 v1 Tb=1,a=2 Mw5@outer,n1@",
+        ],
+        "w5 v1 dV c0 t i0 u T Nn1,n-2\nw5 v2 dD c0 t i0 u T N\nr6 v1 dV c0 t i0 u T Mw5@outer,n1@\nr6 v1 dV c0 t i0 u Ta=2,b=1 Mw5@outer,n1@\nread 4, written 4\n",
+    ),
+];
+
+#[test]
+fn lines_are_read_as_they_are_written_elsewhere(rt: HostRuntime) {
+    assert_rows(&rt, WRITTEN_ELSEWHERE);
+}
+
+const UNSORTED: &[Row] = &[(
+    &[b"n2 v1 x1 y1\nn1 v1 x1 y1\n"],
+    "file 0, byte 12: Unsorted\n",
+)];
+
+#[test]
+fn unsorted_file(rt: HostRuntime) {
+    assert_rows(&rt, UNSORTED);
+}
+
+const FAULTY: &[Row] = &[
+    (&[b"n1 dV x1 y1"], "file 0, byte 0: NoVersion\n"),
+    (&[b"n1 v0 dV x1 y1"], "file 0, byte 0: NoVersion\n"),
+    (&[b"n1 v1 dV x y"], "file 0, byte 0: NoLocation\n"),
+    (&[b"\n\n \n"], "file 0, byte 2: UnknownKind\n"),
+    (
+        &[b"n1 v1 x1 y1\nn1 vx x1 y1\n"],
+        "file 0, byte 12: BadNumber\n",
+    ),
+    (&[A, b"n1 v1 d"], "file 1, byte 0: BadText\n"),
+    (&[b"n1 v1 dD\rn2 \x80"], "file 0, byte 9: NotUtf8\n"),
+    (&[b"n1 v1 c5 x1 y1"], "file 0, byte 0: NoTime\n"),
+    (&[b"\n n1 v1"], "file 0, byte 1: UnknownKind\n"),
+    (&[b"n1 v1 Ta=b=c x1 y1"], "file 0, byte 0: BadList\n"),
+    (&[b"n1 v1 ua=b x1 y1"], "file 0, byte 0: BadText\n"),
+];
+
+#[test]
+fn a_faulty_line_is_refused_at_its_place(rt: HostRuntime) {
+    assert_rows(&rt, FAULTY);
+}
+
+const REAL: &[Row] = &[
+    (
+        &[b"n1 v3 dV c12 t2014-05-06T07:08:09Z i5 uanna Tnatural=tree x8.6868047 y49.0000001\n"],
+        "n1 v3 dV c12 t2014-05-06T07:08:09Z i5 uanna Tnatural=tree x8.6868047 y49.0000001\nread 1, written 1\n",
+    ),
+    (
+        &[
+            b"\xff\xe0\x04o5m2\xdc\x01\x02\xf3\xff\x10\x0b\x02\x01\x02\x02\x00\x01\x00a\x00\x00\x00\xfe",
+        ],
+        "n1 v1 dV c1 t1970-01-01T00:00:01Z i1 ua T x0 y0\nread 1, written 1\n",
+    ),
+];
+
+#[test]
+fn real_line_and_skipped_sets(rt: HostRuntime) {
+    assert_rows(&rt, REAL);
+}
+
+const TEXTS: &[Row] = &[(
+    &[b"r7 v1 dV c1 t1970-01-01T00:00:01Z i1 ua%20%b T%1F600%=%3d%,%e9%=1 Mn1@\xe2\x82\xac\n"],
+    "r7 v1 dV c1 t1970-01-01T00:00:01Z i1 ua%20%b Té=1,%1f600%=%3d% Mn1@%20ac%\nread 1, written 1\n",
+)];
 
 #[test]
 fn canonical_texts(rt: HostRuntime) {
-    let file = "r7 v1 dV c1 t1970-01-01T00:00:01Z i1 ua%20%b T%1F600%=%3d%,%e9%=1 Mn1@€\n";
-    let line = "r7 v1 dV c1 t1970-01-01T00:00:01Z i1 ua%20%b Té=1,%1f600%=%3d% Mn1@%20ac%\n";
-    assert_merged(&rt, &[file.as_bytes()], line);
+    assert_rows(&rt, TEXTS);
 }
 
-#[test]
-fn ways_relations_and_deletions_of_both(rt: HostRuntime) {
-    let first = b"w5 v1 Nn1,n-2\nr6 v1 dV Mw5@outer,n1@\n";
-    let second = b"w5 v2 dD Nn1\r\nr6 v1 Tb=1,a=2 Mw5@outer,n1@";
-    let text =
-        "w5 v1 dV c0 t i0 u T Nn1,n-2\nw5 v2 dD c0 t i0 u T N\nr6 v1 dV c0 t i0 u T Mw5@outer,n1@\nr6 v1 dV c0 t i0 u Ta=2,b=1 Mw5@outer,n1@\n";
-    assert_merged(&rt, &[first, second], text);
-}
+const TIES: &[Row] = &[
+    (
+        &[b"n1 v1 x1 y1 T\xc3\xa9=1\n", b"n1 v1 x1 y1 T%1f600%=1\n"],
+        "n1 v1 dV c0 t i0 u T%1f600%=1 x1 y1\nn1 v1 dV c0 t i0 u Té=1 x1 y1\nread 2, written 2\n",
+    ),
+    (
+        &[b"w1 v1 Nn1\n", b"w1 v1\n"],
+        "w1 v1 dV c0 t i0 u T N\nw1 v1 dV c0 t i0 u T Nn1\nread 2, written 2\n",
+    ),
+    (
+        &[b"n1 v1 x1.5 y1\n", b"n1 v1 x1 y1\n"],
+        "n1 v1 dV c0 t i0 u T x1 y1\nn1 v1 dV c0 t i0 u T x1.5 y1\nread 2, written 2\n",
+    ),
+];
 
 #[test]
 fn byte_order_ties(rt: HostRuntime) {
-    assert_merged(
-        &rt,
-        &["n1 v1 x1 y1 Té=1\n".as_bytes(), b"n1 v1 x1 y1 T%1f600%=1\n"],
-        "n1 v1 dV c0 t i0 u T%1f600%=1 x1 y1\nn1 v1 dV c0 t i0 u Té=1 x1 y1\n",
-    );
-    assert_merged(
-        &rt,
-        &[b"w1 v1 Nn1\n", b"w1 v1\n"],
-        "w1 v1 dV c0 t i0 u T N\nw1 v1 dV c0 t i0 u T Nn1\n",
-    );
-    assert_merged(
-        &rt,
-        &[b"n1 v1 x1.5 y1\n", b"n1 v1 x1 y1\n"],
-        "n1 v1 dV c0 t i0 u T x1 y1\nn1 v1 dV c0 t i0 u T x1.5 y1\n",
-    );
+    assert_rows(&rt, TIES);
 }
+
+const MIXED: &[Row] = &[
+    (
+        &[b"\xff\xe0\x04o5m2\x11\x05\x02\x01\x00\x01\x02\x12\x08\x00\x01\x00\x04\x02\x000\x00\xfe"],
+        "file 0, byte 14: MixedSegment\n",
+    ),
+    (
+        &[
+            b"\xff\xe0\x04o5m2\x11\x05\x02\x01\x00\x01\x02\xff\x12\x08\x00\x01\x00\x04\x02\x000\x00\xfe",
+        ],
+        "w1 v1 dV c0 t i0 u T Nn1\nr0 v1 dV c0 t i0 u T Mn1@\nread 2, written 2\n",
+    ),
+];
 
 #[test]
-fn line_ends_in_odd_places(rt: HostRuntime) {
-    let lines = "n1 v1 dD c0 t i0 u T x y\nn2 v1 dD c0 t i0 u T x y\n";
-    assert_merged(&rt, &[b"\r\n\nn1 v1 dD\r\r\n\n#\rn2 v1 dD"], lines);
-    assert_merged(&rt, &[b"n1 v1 dD\n\rn2 v1 dD\r"], lines);
-    assert_merged(
-        &rt,
-        &[b"# n1 v1 dD \xff\nn1 v1 dD \t \nn2\tv1  dD\n"],
-        lines,
-    );
+fn mixed_segment(rt: HostRuntime) {
+    assert_rows(&rt, MIXED);
 }
 
-#[test]
-fn faults_of_lines_in_a_file(rt: HostRuntime) {
-    let alloc = rt.alloc();
-    assert_eq!(rt;
-        refusal(alloc, b"n1 v1 dD\rn2 \x80"),
-        at(9, OplReason::NotUtf8)
-    );
-    assert_eq!(rt; refusal(alloc, b"n1 v1 c5 x1 y1"), at(0, OplReason::NoTime));
-    assert_eq!(rt; refusal(alloc, b"\n n1 v1"), at(1, OplReason::UnknownKind));
-    assert_eq!(rt;
-        refusal(alloc, b"n1 v1 Ta=b=c x1 y1"),
-        at(0, OplReason::BadList)
-    );
-    assert_eq!(rt;
-        refusal(alloc, b"n1 v1 ua=b x1 y1"),
-        at(0, OplReason::BadText)
-    );
-}
-
-/// What a merge of these files writes in this format.
-fn merged_as(alloc: Global, files: &[&[u8]], format: Format) -> Result<Vec<u8>, Fault> {
-    let mut inputs = Vec::new(alloc);
-    for file in files {
-        inputs.push(SliceIn::new(*file))?;
-    }
-    let mut out = VecOut::new(alloc);
-    run_merge(alloc, inputs, format, &mut out)?;
-    Ok(out.into_vec())
-}
-
-/// Sees that a merge of these files in this format writes these bytes.
-fn assert_written<R: AllocGlobal + Abort>(rt: &R, files: &[&[u8]], format: Format, bytes: &[u8]) {
-    match merged_as(rt.alloc(), files, format) {
-        Ok(written) => assert_eq!(rt; written.as_slice(), bytes),
-        Err(_) => panic!(rt; "the merge was refused"),
-    }
-}
-
-/// Sees that an o5m file is refused for this reason at this place.
-fn assert_refused_at<R: AllocGlobal + Abort>(rt: &R, file: &[u8], place: u64, reason: Reason) {
-    let fault = Fault {
-        input: 0,
-        place,
-        reason,
-    };
-    assert_eq!(rt; refusal(rt.alloc(), file), Some(fault));
-}
-
-#[test]
-fn node_then_deletion_in_three_formats(rt: HostRuntime) {
-    let lines =
-        b"n1 v1 dV c1 t1970-01-01T00:00:01Z i1 ua T x0 y0\nn1 v2 dD c1 t1970-01-01T00:00:02Z i1 ua T x y\n";
-    let o5m =
-        b"\xff\xe0\x04o5m2\x10\x0b\x02\x01\x02\x02\x00\x01\x00a\x00\x00\x00\x10\x05\x00\x02\x02\x00\x01\xfe";
-    let o5c =
-        b"\xff\xe0\x04o5c2\x10\x0b\x02\x01\x02\x02\x00\x01\x00a\x00\x00\x00\x10\x05\x00\x02\x02\x00\x01\xfe";
-    for file in [lines.as_slice(), o5m.as_slice(), o5c.as_slice()] {
-        assert_written(&rt, &[file], Format::Opl, lines);
-        assert_written(&rt, &[file, lines], Format::O5m, o5m);
-        assert_written(&rt, &[o5m, file, o5c], Format::O5c, o5c);
-    }
-}
-
-#[test]
-fn empty_inputs_in_three_formats(rt: HostRuntime) {
-    assert_written(&rt, &[], Format::O5m, b"\xff\xe0\x04o5m2\xfe");
-    assert_written(
-        &rt,
-        &[b"\xff\xe0\x04o5m2\xfe", b""],
-        Format::O5c,
-        b"\xff\xe0\x04o5c2\xfe",
-    );
-    assert_written(&rt, &[b"\xff\xe0\x04o5c2\xfe"], Format::Opl, b"");
-}
-
-#[test]
-fn way_without_references(rt: HostRuntime) {
-    let o5m = b"\xff\xe0\x04o5m2\xff\x11\x04\x0a\x01\x00\x00\x11\x03\x00\x02\x00\xfe";
-    assert_written(&rt, &[b"w5 v1 dV\n", b"w5 v2 dD\n"], Format::O5m, o5m);
-    assert_written(
-        &rt,
-        &[o5m],
-        Format::Opl,
-        b"w5 v1 dV c0 t i0 u T N\nw5 v2 dD c0 t i0 u T N\n",
-    );
-}
-
-#[test]
-fn longitude_wrap(rt: HostRuntime) {
-    let plain =
-        b"\xff\xe0\x04o5m2\x10\x09\x02\x01\x00\xff\xc7\xce\xb4\x0d\x00\x10\x09\x02\x01\x00\x80\x90\x9d\xe9\x1a\x00\xfe";
-    let wrapped =
-        b"\xff\xe0\x04o5m2\x10\x09\x02\x01\x00\xff\xc7\xce\xb4\x0d\x00\x10\x09\x02\x01\x00\xff\xef\xe2\x96\x05\x00\xfe";
-    assert_written(&rt, &[plain], Format::O5m, plain);
-    assert_written(&rt, &[wrapped], Format::O5m, plain);
-}
-
-#[test]
-fn old_order_files(rt: HostRuntime) {
-    let deletion_first =
-        b"\xff\xe0\x04o5m2\x10\x03\x02\x01\x00\x10\x0b\x00\x01\x00\x80\xda\xc4\x09\x80\xda\xc4\x09\xfe";
-    let written =
-        b"\xff\xe0\x04o5m2\x10\x0b\x02\x01\x00\x80\xda\xc4\x09\x80\xda\xc4\x09\x10\x03\x00\x01\x00\xfe";
-    assert_written(&rt, &[deletion_first], Format::O5m, written);
-    assert_written(&rt, &[written], Format::O5m, written);
-}
-
-#[test]
-fn cut_file(rt: HostRuntime) {
-    let file =
-        b"\xff\xe0\x04o5m2\x10\x0b\x02\x01\x02\x02\x00\x01\x00a\x00\x00\x00\x10\x05\x00\x02\x02\x00\x01\xfe";
-    for length in 1..28usize {
-        let (place, reason) = match length {
-            1..=6 => (0, Reason::BadHeader),
-            7 => (7, Reason::NoEnd),
-            8..=19 => (7, Reason::O5(O5Reason::Truncated)),
-            20 => (20, Reason::NoEnd),
-            21..=26 => (20, Reason::O5(O5Reason::Truncated)),
-            _ => (27, Reason::NoEnd),
-        };
-        assert_refused_at(&rt, &file[..length], place, reason);
-    }
-    let longer =
-        b"\xff\xe0\x04o5m2\x10\x0b\x02\x01\x02\x02\x00\x01\x00a\x00\x00\x00\x10\x05\x00\x02\x02\x00\x01\xfe\x00";
-    assert_refused_at(&rt, longer, 28, Reason::AfterEnd);
-}
+const HOSTILE: &[Row] = &[
+    (
+        &[b"\xff\xe0\x04o5m2\x10\xff\xff\xff\xff\xff\xff\xff\xff\xff\x01\xfe"],
+        "file 0, byte 7: Truncated\n",
+    ),
+    (
+        &[b"\xff\xe0\x04o5m2\x10\xff\xff\xff\xff\xff\xff\xff\xff\xff\x02\xfe"],
+        "file 0, byte 7: BadNumber\n",
+    ),
+    (
+        &[b"\xff\xe0\x04o5m2\x10\x80\x80\x80\x80\x80\x80\x80\x80\x80\x80\x00\xfe"],
+        "file 0, byte 7: BadNumber\n",
+    ),
+    (
+        &[b"\xff\xe0\x04o5m2\x10\x80\x80\x80\x80\x80\x80\x80\x80\x80\x80"],
+        "file 0, byte 7: Truncated\n",
+    ),
+    (
+        &[b"\xff\xe0\x04o5m2\x10\x01\x80\xfe"],
+        "file 0, byte 7: BadNumber\n",
+    ),
+];
 
 #[test]
 fn hostile_numbers(rt: HostRuntime) {
-    let bad = Reason::O5(O5Reason::BadNumber);
-    let cut = Reason::O5(O5Reason::Truncated);
-    assert_refused_at(
-        &rt,
-        b"\xff\xe0\x04o5m2\x10\xff\xff\xff\xff\xff\xff\xff\xff\xff\x01\xfe",
-        7,
-        cut,
-    );
-    assert_refused_at(
-        &rt,
-        b"\xff\xe0\x04o5m2\x10\xff\xff\xff\xff\xff\xff\xff\xff\xff\x02\xfe",
-        7,
-        bad,
-    );
-    assert_refused_at(
-        &rt,
-        b"\xff\xe0\x04o5m2\x10\x80\x80\x80\x80\x80\x80\x80\x80\x80\x80\x00\xfe",
-        7,
-        bad,
-    );
-    assert_refused_at(
-        &rt,
-        b"\xff\xe0\x04o5m2\x10\x80\x80\x80\x80\x80\x80\x80\x80\x80\x80",
-        7,
-        cut,
-    );
-    assert_refused_at(&rt, b"\xff\xe0\x04o5m2\x10\x01\x80\xfe", 7, bad);
+    assert_rows(&rt, HOSTILE);
 }
+
+/// A node and its deletion in o5m.
+const NODE_THEN_DELETION: &[u8] =
+    b"\xff\xe0\x04o5m2\x10\x0b\x02\x01\x02\x02\x00\x01\x00a\x00\x00\x00\x10\x05\x00\x02\x02\x00\x01\xfe";
+
+/// The text of a merge of this file, of which `length` bytes are left.
+fn cut_text(alloc: Global, length: usize) -> String {
+    merged_text(alloc, &[NODE_THEN_DELETION.get(..length).unwrap_or(b"?")])
+}
+
+const BYTE_AFTER_THE_END: &[Row] = &[(
+    &[
+        b"\xff\xe0\x04o5m2\x10\x0b\x02\x01\x02\x02\x00\x01\x00a\x00\x00\x00\x10\x05\x00\x02\x02\x00\x01\xfe\x00",
+    ],
+    "n1 v1 dV c1 t1970-01-01T00:00:01Z i1 ua T x0 y0\nfile 0, byte 28: AfterEnd\n",
+)];
 
 #[test]
-fn skipped_sets_and_mixed_segments(rt: HostRuntime) {
-    let skipped =
-        b"\xff\xe0\x04o5m2\xdc\x01\x02\xf3\xff\x10\x0b\x02\x01\x02\x02\x00\x01\x00a\x00\x00\x00\xfe";
-    assert_written(
-        &rt,
-        &[skipped],
-        Format::Opl,
-        b"n1 v1 dV c1 t1970-01-01T00:00:01Z i1 ua T x0 y0\n",
-    );
-    let mixed =
-        b"\xff\xe0\x04o5m2\x11\x05\x02\x01\x00\x01\x02\x12\x08\x00\x01\x00\x04\x02\x000\x00\xfe";
-    assert_refused_at(&rt, mixed, 14, Reason::O5(O5Reason::MixedSegment));
-    let apart =
-        b"\xff\xe0\x04o5m2\x11\x05\x02\x01\x00\x01\x02\xff\x12\x08\x00\x01\x00\x04\x02\x000\x00\xfe";
-    assert_written(
-        &rt,
-        &[apart],
-        Format::Opl,
-        b"w1 v1 dV c0 t i0 u T Nn1\nr0 v1 dV c0 t i0 u T Mn1@\n",
-    );
+fn cut_file(rt: HostRuntime) {
+    for (lengths, text) in [
+        (0..1usize, "read 0, written 0\n"),
+        (1..7, "file 0, byte 0: BadHeader\n"),
+        (7..8, "file 0, byte 7: NoEnd\n"),
+        (8..20, "file 0, byte 7: Truncated\n"),
+        (20..21, "file 0, byte 20: NoEnd\n"),
+        (21..27, "file 0, byte 20: Truncated\n"),
+        (
+            27..28,
+            "n1 v1 dV c1 t1970-01-01T00:00:01Z i1 ua T x0 y0\nfile 0, byte 27: NoEnd\n",
+        ),
+    ] {
+        for length in lengths {
+            assert_eq!(rt; cut_text(rt.alloc(), length).as_str(), text);
+        }
+    }
+    assert_rows(&rt, BYTE_AFTER_THE_END);
 }
 
-/// How many comparisons a merge of these files makes.
-fn compared(alloc: Global, files: &[&[u8]]) -> Result<u64, Fault> {
-    let (_, counts) = merged(alloc, files)?;
-    Ok(counts.compared)
+/// The bytes that a merge of these files in this format writes; none where it is refused.
+fn written(alloc: Global, files: &[&[u8]], format: Format) -> Vec<u8> {
+    let (outcome, written) = merged(alloc, readers(alloc, files), format);
+    if outcome.is_ok() {
+        written
+    } else {
+        Vec::new(alloc)
+    }
 }
+
+/// Files, a format, and the bytes that are written.
+type Written = (&'static [&'static [u8]], Format, &'static [u8]);
+
+/// Sees that the merges of these rows write their bytes.
+fn assert_written<R: AllocGlobal + Abort>(rt: &R, rows: &[Written]) {
+    for (files, format, bytes) in rows {
+        assert_eq!(rt; written(rt.alloc(), files, *format).as_slice(), *bytes);
+    }
+}
+
+const EMPTY: &[Written] = &[
+    (&[], Format::O5m, b"\xff\xe0\x04o5m2\xfe"),
+    (
+        &[b"\xff\xe0\x04o5m2\xfe", b""],
+        Format::O5c,
+        b"\xff\xe0\x04o5c2\xfe",
+    ),
+    (&[b"\xff\xe0\x04o5c2\xfe"], Format::Opl, b""),
+];
+
+/// The lines of the node and its deletion.
+const LINES: &[u8] =
+    b"n1 v1 dV c1 t1970-01-01T00:00:01Z i1 ua T x0 y0\nn1 v2 dD c1 t1970-01-01T00:00:02Z i1 ua T x y\n";
+
+/// The same in o5c.
+const O5C: &[u8] =
+    b"\xff\xe0\x04o5c2\x10\x0b\x02\x01\x02\x02\x00\x01\x00a\x00\x00\x00\x10\x05\x00\x02\x02\x00\x01\xfe";
+
+const THREE_FORMATS: &[Written] = &[
+    (&[LINES], Format::Opl, LINES),
+    (&[NODE_THEN_DELETION], Format::Opl, LINES),
+    (&[O5C], Format::Opl, LINES),
+    (&[LINES, LINES], Format::O5m, NODE_THEN_DELETION),
+    (
+        &[NODE_THEN_DELETION, LINES],
+        Format::O5m,
+        NODE_THEN_DELETION,
+    ),
+    (&[O5C, LINES], Format::O5m, NODE_THEN_DELETION),
+    (&[NODE_THEN_DELETION, LINES, O5C], Format::O5c, O5C),
+    (
+        &[NODE_THEN_DELETION, NODE_THEN_DELETION, O5C],
+        Format::O5c,
+        O5C,
+    ),
+    (&[NODE_THEN_DELETION, O5C, O5C], Format::O5c, O5C),
+];
 
 #[test]
-fn comparison_bounds(rt: HostRuntime) -> Result<(), Fail> {
-    let alloc = rt.alloc();
-    assert_eq!(rt; compared(alloc, &[])?, 0);
-    let one = compared(alloc, &[BOTH.as_bytes()])?;
-    assert!(rt; one >= 1 && one <= 2);
-    let three = compared(alloc, &[B.as_bytes(), A.as_bytes(), A.as_bytes()])?;
-    assert!(rt; three >= 2 && three <= 11);
-    let four = compared(
-        alloc,
+fn node_then_deletion_o5m(rt: HostRuntime) {
+    assert_written(&rt, THREE_FORMATS);
+}
+
+const WAYS: &[Written] = &[
+    (
+        &[b"w5 v1 dV\n", b"w5 v2 dD\n"],
+        Format::O5m,
+        b"\xff\xe0\x04o5m2\xff\x11\x04\x0a\x01\x00\x00\x11\x03\x00\x02\x00\xfe",
+    ),
+    (
+        &[b"\xff\xe0\x04o5m2\xff\x11\x04\x0a\x01\x00\x00\x11\x03\x00\x02\x00\xfe"],
+        Format::Opl,
+        b"w5 v1 dV c0 t i0 u T N\nw5 v2 dD c0 t i0 u T N\n",
+    ),
+];
+
+#[test]
+fn way_without_references(rt: HostRuntime) {
+    assert_written(&rt, WAYS);
+}
+
+/// Two nodes half a turn east and west of each other, by the plain difference, and by one that goes round.
+const PLAIN: &[u8] =
+    b"\xff\xe0\x04o5m2\x10\x09\x02\x01\x00\xff\xc7\xce\xb4\x0d\x00\x10\x09\x02\x01\x00\x80\x90\x9d\xe9\x1a\x00\xfe";
+
+const WRAPPED: &[u8] =
+    b"\xff\xe0\x04o5m2\x10\x09\x02\x01\x00\xff\xc7\xce\xb4\x0d\x00\x10\x09\x02\x01\x00\xff\xef\xe2\x96\x05\x00\xfe";
+
+const LONGITUDES: &[Written] = &[
+    (&[PLAIN], Format::O5m, PLAIN),
+    (&[WRAPPED], Format::O5m, PLAIN),
+];
+
+#[test]
+fn longitude_wrap(rt: HostRuntime) {
+    assert_written(&rt, LONGITUDES);
+}
+
+const DELETION_LAST: &[u8] =
+    b"\xff\xe0\x04o5m2\x10\x0b\x02\x01\x00\x80\xda\xc4\x09\x80\xda\xc4\x09\x10\x03\x00\x01\x00\xfe";
+
+const OLD_ORDER: &[Written] = &[
+    (
+        &[
+            b"\xff\xe0\x04o5m2\x10\x03\x02\x01\x00\x10\x0b\x00\x01\x00\x80\xda\xc4\x09\x80\xda\xc4\x09\xfe",
+        ],
+        Format::O5m,
+        DELETION_LAST,
+    ),
+    (&[DELETION_LAST], Format::O5m, DELETION_LAST),
+];
+
+#[test]
+fn old_order_files(rt: HostRuntime) {
+    assert_written(&rt, OLD_ORDER);
+}
+
+/// How many comparisons a merge of these files makes; the most there are where it is refused.
+fn compared(alloc: Global, files: &[&[u8]]) -> u64 {
+    let mut out = VecOut::new(alloc);
+    match run_merge(alloc, readers(alloc, files), Format::Opl, &mut out) {
+        Ok(counts) => counts.compared,
+        Err(_) => u64::MAX,
+    }
+}
+
+/// Files, and the least and the most comparisons of their merge.
+const COMPARISONS: &[(&[&[u8]], u64, u64)] = &[
+    (&[], 0, 0),
+    (&[BOTH], 1, 2),
+    (&[B, A, A], 2, 11),
+    (
         &[
             b"n1 v1 dD\nn5 v1 dD\n",
             b"n2 v1 dD\nn6 v1 dD\n",
             b"n3 v1 dD\nn7 v1 dD\n",
             b"n4 v1 dD\nn8 v1 dD\n",
         ],
-    )?;
-    assert!(rt; four >= 7 && four <= 27);
-    Ok(())
+        7,
+        27,
+    ),
+];
+
+#[test]
+fn comparison_bounds(rt: HostRuntime) {
+    for (files, least, most) in COMPARISONS {
+        let compared = compared(rt.alloc(), files);
+        assert!(rt; *least <= compared && compared <= *most);
+    }
 }
 
-/// A writer that takes one byte a write, as long as it has room, and then fails; its flush fails if it is told to.
+/// A writer that takes one byte a write, as long as it has room, and then fails. Its flush fails unless `flushes`.
 #[derive(Drop)]
 struct Narrow<'a> {
     taken: &'a mut Vec<u8>,
@@ -450,50 +494,37 @@ impl Write for Narrow<'_> {
     }
 }
 
-/// What a writer with room for so many bytes has taken of a merge of A and B, and the answer.
-fn merged_to(alloc: Global, room: usize, flushes: bool) -> Result<(Vec<u8>, Option<Fault>), Fail> {
-    let mut inputs = Vec::new(alloc);
-    inputs.push(SliceIn::new(A.as_bytes()))?;
-    inputs.push(SliceIn::new(B.as_bytes()))?;
+/// Whether a merge of A and B to a writer of this room fails there, and the writer took the front of the file.
+fn fails_after(alloc: Global, room: usize, flushes: bool) -> bool {
     let mut taken = Vec::new(alloc);
     let device = Narrow {
         taken: &mut taken,
         room,
         flushes,
     };
-    let answer = run_merge(alloc, inputs, Format::Opl, &mut ToWrite::new(device)).err();
-    Ok((taken, answer))
-}
-
-#[test]
-fn writers_that_fail(rt: HostRuntime) -> Result<(), Fail> {
-    for room in 0..58usize {
-        let (taken, answer) = merged_to(rt.alloc(), room, true)?;
-        let fault = Fault {
-            input: 2,
-            place: room as u64,
-            reason: Reason::WriteFault,
-        };
-        assert_eq!(rt; answer, Some(fault));
-        assert_eq!(rt; taken.as_slice(), &BOTH.as_bytes()[..room]);
-    }
-    Ok(())
-}
-
-#[test]
-fn writer_that_fails_at_the_flush(rt: HostRuntime) -> Result<(), Fail> {
-    let (taken, answer) = merged_to(rt.alloc(), 58, false)?;
+    let outcome = run_merge(
+        alloc,
+        readers(alloc, &[A, B]),
+        Format::Opl,
+        &mut ToWrite::new(device),
+    );
     let fault = Fault {
         input: 2,
-        place: 58,
+        place: room as u64,
         reason: Reason::WriteFault,
     };
-    assert_eq!(rt; answer, Some(fault));
-    assert_eq!(rt; taken.as_slice(), BOTH.as_bytes());
-    Ok(())
+    outcome == Err(fault) && BOTH.get(..room) == Some(taken.as_slice())
 }
 
-/// A reader that gives so many bytes a read, and fails at the end if it is told to.
+#[test]
+fn failing_devices(rt: HostRuntime) {
+    for room in 0..58usize {
+        assert!(rt; fails_after(rt.alloc(), room, true));
+    }
+    assert!(rt; fails_after(rt.alloc(), 58, false));
+}
+
+/// A reader that gives `step` bytes a read, and then ends or fails.
 #[derive(Drop)]
 struct Slow<'a> {
     rest: &'a [u8],
@@ -514,101 +545,99 @@ impl Read for Slow<'_> {
     }
 }
 
-/// What a merge writes to OPL of files that come in pieces of so many bytes, the last of which is broken off if it is told to.
-fn merged_slowly(
-    alloc: Global,
-    files: &[&[u8]],
-    step: usize,
-    fails: bool,
-) -> Result<Vec<u8>, Fault> {
+/// What a merge of two files to OPL writes that come by `step` bytes a read, and why it is refused, if it is. The second file may fail.
+fn slow_text(alloc: Global, files: [&[u8]; 2], step: usize, fails: bool) -> String {
     let mut inputs = Vec::new(alloc);
-    for (place, file) in files.iter().enumerate() {
-        inputs.push(FromRead::new(Slow {
-            rest: *file,
-            step,
-            fails: fails && place + 1 == files.len(),
-        }))?;
+    let [rest, second] = files;
+    let _ = inputs.push(FromRead::new(Slow {
+        rest,
+        step,
+        fails: false,
+    }));
+    let _ = inputs.push(FromRead::new(Slow {
+        rest: second,
+        step,
+        fails,
+    }));
+    let mut text = String::new(alloc);
+    let (outcome, written) = merged(alloc, inputs, Format::Opl);
+    let _ = text.push_str(str::from_utf8(&written).unwrap_or("?"));
+    if let Err(fault) = outcome {
+        let _ = writeln!(text, "{fault}");
     }
-    let mut out = VecOut::new(alloc);
-    run_merge(alloc, inputs, Format::Opl, &mut out)?;
-    Ok(out.into_vec())
+    text
 }
 
 #[test]
-fn files_come_in_any_pieces(rt: HostRuntime) -> Result<(), Fail> {
-    let o5m =
-        b"\xff\xe0\x04o5m2\x10\x0b\x02\x01\x02\x02\x00\x01\x00a\x00\x00\x00\x10\x05\x00\x02\x02\x00\x01\xfe";
-    let lines =
-        b"n1 v1 dV c1 t1970-01-01T00:00:01Z i1 ua T x0 y0\nn1 v2 dD c1 t1970-01-01T00:00:02Z i1 ua T x y\n";
+fn files_come_in_any_pieces(rt: HostRuntime) {
+    let text =
+        "n1 v1 dV c1 t1970-01-01T00:00:01Z i1 ua T x0 y0\nn1 v2 dD c1 t1970-01-01T00:00:02Z i1 ua T x y\n";
     for step in 1..4usize {
-        let text = merged_slowly(rt.alloc(), &[o5m.as_slice(), lines.as_slice()], step, false)?;
-        assert_eq!(rt; text.as_slice(), lines.as_slice());
+        assert_eq!(rt;
+            slow_text(rt.alloc(), [NODE_THEN_DELETION, LINES], step, false).as_str(),
+            text
+        );
     }
-    Ok(())
 }
 
 #[test]
 fn a_reader_that_fails_is_named(rt: HostRuntime) {
-    let answer = merged_slowly(rt.alloc(), &[A.as_bytes(), B.as_bytes()], 1, true).err();
-    let fault = Fault {
-        input: 1,
-        place: 17,
-        reason: Reason::ReadFault,
-    };
-    assert_eq!(rt; answer, Some(fault));
+    assert_eq!(rt;
+        slow_text(rt.alloc(), [A, B], 1, true).as_str(),
+        "file 1, byte 17: ReadFault\n"
+    );
 }
 
-/// So many files in turns, the first of them being the one at this place.
-fn in_turns<'a>(
+/// What a merge in this format writes of `count` files that hold the same versions, in each format by turns, the first one being
+/// the one at this place.
+fn in_turns(
     alloc: Global,
-    opl: &'a [u8],
-    o5m: &'a [u8],
-    o5c: &'a [u8],
+    files: [&[u8]; 3],
     first: usize,
     count: usize,
-) -> Result<Vec<&'a [u8]>, Fail> {
-    let mut turns = Vec::new(alloc);
-    let mut place = first;
-    for _ in 0..count {
-        let (file, next) = match place {
-            0 => (opl, 1),
-            1 => (o5m, 2),
-            _ => (o5c, 0),
-        };
-        turns.push(file)?;
-        place = next;
+    format: Format,
+) -> Vec<u8> {
+    let mut inputs = Vec::new(alloc);
+    for turn in 0..count {
+        let _ = inputs.push(SliceIn::new(files[first.saturating_add(turn) % 3]));
     }
-    Ok(turns)
+    let (outcome, written) = merged(alloc, inputs, format);
+    if outcome.is_ok() {
+        written
+    } else {
+        Vec::new(alloc)
+    }
 }
 
-/// Sees that so many files in turns, whichever is first, make the same file in each format.
-fn assert_mixed<R: AllocGlobal + Abort>(
-    rt: &R,
-    opl: &[u8],
-    o5m: &[u8],
-    o5c: &[u8],
-    count: usize,
-) -> Result<(), Fail> {
+/// Whether `count` files by turns make these files, whichever is first.
+fn is_same_in_turns(alloc: Global, files: [&[u8]; 3], count: usize) -> bool {
     for first in 0..3usize {
-        let turns = in_turns(rt.alloc(), opl, o5m, o5c, first, count)?;
-        assert_written(rt, &turns, Format::Opl, opl);
-        assert_written(rt, &turns, Format::O5m, o5m);
-        assert_written(rt, &turns, Format::O5c, o5c);
+        for (format, file) in [Format::Opl, Format::O5m, Format::O5c]
+            .into_iter()
+            .zip(files)
+        {
+            if in_turns(alloc, files, first, count, format).as_slice() != file {
+                return false;
+            }
+        }
     }
-    Ok(())
+    true
+}
+
+/// A node, a way and a relation.
+const ALL_KINDS: &[u8] =
+    b"n1 v1 dV c1 t1970-01-01T00:00:01Z i1 ua T x0 y0\nw5 v1 dV c0 t i0 u Ta=b Nn1,n-2\nr6 v2 dV c0 t i0 u T Mw5@outer,n1@\n";
+
+/// Whether `count` files of these make one file in each format.
+fn is_one_mixture(alloc: Global, count: usize) -> bool {
+    let o5m = written(alloc, &[ALL_KINDS], Format::O5m);
+    let o5c = written(alloc, &[ALL_KINDS], Format::O5c);
+    is_same_in_turns(alloc, [ALL_KINDS, &o5m, &o5c], count)
 }
 
 #[test]
-fn mixtures_of_formats(rt: HostRuntime) -> Result<(), Fail> {
-    let alloc = rt.alloc();
-    let lines =
-        b"n1 v1 dV c1 t1970-01-01T00:00:01Z i1 ua T x0 y0\nw5 v1 dV c0 t i0 u Ta=b Nn1,n-2\nr6 v2 dV c0 t i0 u T Mw5@outer,n1@\n";
-    let o5m = merged_as(alloc, &[lines], Format::O5m)?;
-    let o5c = merged_as(alloc, &[lines], Format::O5c)?;
-    assert_mixed(&rt, lines, &o5m, &o5c, 1)?;
-    assert_mixed(&rt, lines, &o5m, &o5c, 2)?;
-    assert_mixed(&rt, lines, &o5m, &o5c, 3)?;
-    assert_mixed(&rt, lines, &o5m, &o5c, 7)?;
-    assert_mixed(&rt, lines, &o5m, &o5c, 64)?;
-    Ok(())
+fn mixtures_of_formats(rt: HostRuntime) {
+    for count in [1, 2, 3, 7, 64] {
+        assert!(rt; is_one_mixture(rt.alloc(), count));
+    }
 }

@@ -1,82 +1,137 @@
 //! Mirrors over small files, with what they write worked out by hand.
 use super::Mirror;
-use crate::keep::Taken;
-use osm_files::{Fault, Format, Reason};
+use crate::keep::{Keep, Taken};
+use osm_files::{Fault, Format};
 use std::alloc::Global;
-use std::test::Fail;
 
 const CREATED: &[u8] = b"n1 v1 dV x1 y1\n";
 
 const DELETED: &[u8] = b"n1 v2 dD\n";
 
-const DELETION: &[u8] = b"n1 v2 dD c0 t i0 u T x y\n";
-
-const BOTH: &[u8] = b"n1 v1 dV c0 t i0 u T x1 y1\nn1 v2 dD c0 t i0 u T x y\n";
-
 /// A node and its deletion in o5m: 28 bytes, of which the last is the end byte.
 const NODE_THEN_DELETION: &[u8] =
     b"\xff\xe0\x04o5m2\x10\x0b\x02\x01\x02\x02\x00\x01\x00a\x00\x00\x00\x10\x05\x00\x02\x02\x00\x01\xfe";
 
-/// What a mirror that took these files writes as OPL.
-fn written(mut mirror: Mirror, files: &[&[u8]]) -> Result<Vec<u8>, Fault> {
+/// A mirror that keeps this, and holds nothing yet.
+fn new_mirror(alloc: Global, keep: Keep) -> Mirror {
+    match keep {
+        Keep::Full => Mirror::new_full(alloc),
+        Keep::Latest => Mirror::new_latest(alloc),
+    }
+}
+
+/// Appends how many versions a mirror took, or why it took none.
+fn push_taken(text: &mut String, outcome: Result<Taken, Fault>) {
+    let _ = match outcome {
+        Ok(taken) => writeln!(text, "{} taken", taken.versions),
+        Err(fault) => writeln!(text, "{fault}"),
+    };
+}
+
+/// Appends what a mirror writes as OPL.
+fn push_written(text: &mut String, mirror: &Mirror) {
+    let Ok(file) = mirror.write(Format::Opl) else {
+        return;
+    };
+    let _ = text.push_str(str::from_utf8(&file).unwrap_or("?"));
+}
+
+/// What a mirror returns to these files that keeps this, and what it writes then.
+fn mirror_text(alloc: Global, keep: Keep, files: &[&[u8]]) -> String {
+    let mut text = String::new(alloc);
+    let mut mirror = new_mirror(alloc, keep);
     for file in files {
-        mirror.take(*file)?;
+        push_taken(&mut text, mirror.take(file));
     }
-    mirror.write(Format::Opl)
+    push_written(&mut text, &mirror);
+    text
 }
 
-#[test]
-fn deletion_from_second_file(rt: HostRuntime) -> Result<(), Fail> {
-    let alloc = rt.alloc();
-    let rows = [
-        (Mirror::new_latest(alloc), [DELETED, DELETED], DELETION),
-        (Mirror::new_latest(alloc), [CREATED, DELETED], DELETION),
-        (Mirror::new_latest(alloc), [DELETED, CREATED], DELETION),
-        (Mirror::new_full(alloc), [DELETED, CREATED], BOTH),
-    ];
-    for (mirror, files, wanted) in rows {
-        assert_eq!(rt; written(mirror, &files)?.as_slice(), wanted);
-    }
-    Ok(())
-}
+/// What a mirror keeps, the files that it takes, and the text of these calls.
+type Row = (Keep, &'static [&'static [u8]], &'static str);
 
-/// How many bytes of the file are left, where it is refused, and why.
-const CUTS: [(usize, u64, Reason); 6] = [
-    (1, 0, Reason::BadHeader),
-    (6, 0, Reason::BadHeader),
-    (7, 7, Reason::NoEnd),
-    (20, 20, Reason::NoEnd),
-    (27, 27, Reason::NoEnd),
-    (8, 7, Reason::O5(o5_codec::O5Reason::Truncated)),
+/// Mirrors that take one file, and mirrors that take another one after it.
+const SECOND_FILE: [Row; 6] = [
+    (
+        Keep::Latest,
+        &[CREATED],
+        "1 taken\nn1 v1 dV c0 t i0 u T x1 y1\n",
+    ),
+    (
+        Keep::Latest,
+        &[DELETED],
+        "1 taken\nn1 v2 dD c0 t i0 u T x y\n",
+    ),
+    (
+        Keep::Latest,
+        &[DELETED, DELETED],
+        "1 taken\n1 taken\nn1 v2 dD c0 t i0 u T x y\n",
+    ),
+    (
+        Keep::Latest,
+        &[CREATED, DELETED],
+        "1 taken\n1 taken\nn1 v2 dD c0 t i0 u T x y\n",
+    ),
+    (
+        Keep::Latest,
+        &[DELETED, CREATED],
+        "1 taken\n1 taken\nn1 v2 dD c0 t i0 u T x y\n",
+    ),
+    (
+        Keep::Full,
+        &[DELETED, CREATED],
+        "1 taken\n1 taken\nn1 v1 dV c0 t i0 u T x1 y1\nn1 v2 dD c0 t i0 u T x y\n",
+    ),
 ];
 
 #[test]
-fn cut_file(rt: HostRuntime) -> Result<(), Fail> {
-    let alloc = rt.alloc();
-    let mut mirror = Mirror::new_full(alloc);
-    mirror.take(CREATED)?;
-    for (length, place, reason) in CUTS {
-        let fault = Fault {
-            input: 0,
-            place,
-            reason,
-        };
-        assert_eq!(rt;
-            mirror.take(&NODE_THEN_DELETION[..length.min(NODE_THEN_DELETION.len())]),
-            Err(fault)
-        );
+fn deletion_from_second_file(rt: HostRuntime) {
+    for (keep, files, text) in SECOND_FILE {
+        assert_eq!(rt; mirror_text(rt.alloc(), keep, files).as_str(), text);
     }
-    assert_eq!(rt; written(mirror, &[DELETED])?.as_slice(), BOTH);
-    Ok(())
+}
+
+/// The file of a node and its deletion, of which `length` bytes are left.
+fn cut(length: usize) -> &'static [u8] {
+    NODE_THEN_DELETION.get(..length).unwrap_or(b"")
 }
 
 #[test]
-fn unsorted_file(rt: HostRuntime) -> Result<(), Fail> {
-    let mut mirror = Mirror::new_latest(rt.alloc());
-    let taken = mirror.take(b"n2 v1 x1 y1\nn1 v1 x1 y1\n");
-    assert_eq!(rt; taken, Ok(Taken { versions: 2 }));
-    let again = mirror.copy()?;
-    assert_eq!(rt; again.held().len(), 2);
-    assert_eq!(rt; again.write(Format::O5c), mirror.write(Format::O5c));
-    Ok(())
+fn cut_file(rt: HostRuntime) {
+    let files = [
+        CREATED,
+        cut(1),
+        cut(6),
+        cut(7),
+        cut(8),
+        cut(20),
+        cut(27),
+        DELETED,
+    ];
+    let text =
+        "1 taken\nfile 0, byte 0: BadHeader\nfile 0, byte 0: BadHeader\nfile 0, byte 7: NoEnd\nfile 0, byte 7: Truncated\n\
+        file 0, byte 20: NoEnd\nfile 0, byte 27: NoEnd\n1 taken\nn1 v1 dV c0 t i0 u T x1 y1\nn1 v2 dD c0 t i0 u T x y\n";
+    assert_eq!(rt; mirror_text(rt.alloc(), Keep::Full, &files).as_str(), text);
+}
+
+/// What a latest mirror returns to a file, and what it and a copy of it write then; and the number of versions that the copy holds.
+fn copied_text(alloc: Global, file: &[u8]) -> String {
+    let mut text = String::new(alloc);
+    let mut mirror = Mirror::new_latest(alloc);
+    push_taken(&mut text, mirror.take(file));
+    if let Ok(again) = mirror.copy() {
+        let held = again.held().len();
+        let is_same = again.write(Format::O5c) == mirror.write(Format::O5c);
+        let _ = writeln!(text, "{held} held, {is_same}");
+        push_written(&mut text, &again);
+    }
+    text
+}
+
+#[test]
+fn unsorted_file(rt: HostRuntime) {
+    assert_eq!(rt;
+        copied_text(rt.alloc(), b"n2 v1 x1 y1\nn1 v1 x1 y1\n").as_str(),
+        "2 taken\n2 held, true\nn1 v1 dV c0 t i0 u T x1 y1\nn2 v1 dV c0 t i0 u T x1 y1\n"
+    );
 }
