@@ -23,8 +23,8 @@ use Rattle.osm_files.specs.O5.{reset_byte}
 use Rattle.osm_files.specs.Units.{InOpl, unit_at, units, start_of}
 use Rattle.osm_files.specs.Verdict.{length_limit, too_long, file_units, versions_of, verdict, is_below, is_below_last}
 use Rattle.osm_files.specs.Held.{IsFile, Holds, HoldsSorted}
-use Rattle.osm_files.specs.Position.{Told, ahead, units_from, named, to_come, still_to_come, ReadsOn, GoesOn, stand_at, stand_in, fault_of, StopsFilling}
-use Rattle.osm_files.specs.Load.{format_of, tells_format, Loads, StopsLoading}
+use Rattle.osm_files.specs.Position.{Told, at_start, ahead, units_from, named, to_come, still_to_come, ReadsOn, GoesOn, stand_at, stand_in, fault_of, StopsFilling}
+use Rattle.osm_files.specs.Load.{format_of, tells_format, IsRead, Loads, StopsLoading}
 use Rattle.osm_files.proofs.UnitLaws.{some_is_not_none}
 use Rattle.osm_files.proofs.FileLaws.{one_list, accepted_without_verdict, units_closed}
 use Rattle.osm_files.proofs.FillLaws.{weaker}
@@ -191,12 +191,16 @@ module _ (input : ℕ) (c : Coming) (versions : List VersionData) (none : (named
 
 -- an input of which nothing was read
 abbrev pub fresh : ℕ → Option Coming → Told
-fresh input coming = record { input = input; place = 0; held = []; coming = coming; stand = None; ended = false; failed = false }
+fresh = at_start
 
 module _ (input : ℕ) where
-  pub loads : (c : Coming) (format : Format) (versions : List VersionData) (sorted : Bool) (loaded : Loaded) → IfSome (ahead (fresh input (Some c))) (λ c. format ≡ format_of c.bytes) → IsTrue sorted ↔ IsSorted key_cmp versions
-      → IfSome (still_to_come (fresh input (Some c))) (λ s. (s.refusal ≡ None) × (versions_of s.list ≡ versions)) → loaded ≡ record { history = from_list {R = version_cmp} versions; format = format; sorted = sorted } → Loads c loaded
-  loads c format versions sorted loaded tells is all gathered = subst (Loads c) (sym gathered) (loads_all input c versions all.0 all.1 format sorted tells is)
+  pub is_read : (c : Coming) (format : Format) (versions : List VersionData) (sorted : Bool) → IfSome (ahead (fresh input (Some c))) (λ c. format ≡ format_of c.bytes) → IsTrue sorted ↔ IsSorted key_cmp versions
+      → IfSome (still_to_come (fresh input (Some c))) (λ s. (s.refusal ≡ None) × (versions_of s.list ≡ versions)) → IsRead input c versions format sorted
+  is_read c format versions sorted tells is all = record { unrefused = all.0; all = all.1; tells = tells; rises = is }
+
+  pub loads : (c : Coming) (format : Format) (versions : List VersionData) (sorted : Bool) (loaded : Loaded) → IsRead input c versions format sorted
+      → loaded ≡ record { history = from_list {R = version_cmp} versions; format = format; sorted = sorted } → Loads c loaded
+  loads c format versions sorted loaded read gathered = subst (Loads c) (sym gathered) (loads_all input c versions read.unrefused read.all format sorted read.tells read.rises)
 
   pub stops : (c : Coming) (fault : Fault) → (fault ≡ memory_fault) ⊎ IfSome (still_to_come (fresh input (Some c))) (λ s. s.refusal ≡ Some fault) → StopsLoading input c fault
   stops c fault h = h

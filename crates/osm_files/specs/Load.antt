@@ -1,5 +1,8 @@
 -- What a whole file is loaded as.
 use Rattle.std.specs.Prelude.{◌≡◌, ◌↔◌, ◌⊎◌, ℕ, ◌==◌, ◌||◌, not, nat_le, Bool, false, IsTrue, List, [], ◌∷◌, length, take, bytes_eq, Some, None, IfSome, if◌then◌else◌}
+use Rattle.std.specs.List.Sorted.{IsSorted}
+use Rattle.osm_model.specs.Data.{VersionData}
+use Rattle.osm_model.specs.Order.{key_cmp}
 use Rattle.osm_files.specs.declared.fault.Fault.{Fault}
 use Rattle.osm_files.specs.declared.format.Format.{Format}
 use Rattle.osm_files.specs.declared.format.Format.TheVariants.{Opl, O5m, O5c}
@@ -9,6 +12,7 @@ use Rattle.osm_files.specs.Groups.{FileStand, FileCanGive, sorted_source}
 use Rattle.osm_files.specs.Input.{Coming, Explained}
 use Rattle.osm_files.specs.O5.{o5m_header, reset_byte}
 use Rattle.osm_files.specs.Held.{Holds, HoldsSorted}
+use Rattle.osm_files.specs.Verdict.{versions_of}
 use Rattle.osm_files.specs.Position.{Told, units_from, named, ahead, GoesOn}
 
 -- the header of o5m files stands at the front
@@ -35,6 +39,14 @@ pub record Loads (c : Coming) (loaded : Loaded) : Type 0 where
   pub holds : Holds c.bytes loaded.history
   pub format : loaded.format ≡ format_of c.bytes
   pub sorted : IsTrue loaded.sorted ↔ HoldsSorted c.bytes loaded.history
+
+-- an input was read to its end: none of its units is refused, these are its versions, in this order, this is its format, and this
+-- is whether it is sorted
+pub record IsRead (input : ℕ) (c : Coming) (versions : List VersionData) (format : Format) (sorted : Bool) : Type 0 where
+  pub unrefused : (named input (units_from None 0 c)).refusal ≡ None
+  pub all : versions_of (named input (units_from None 0 c)).list ≡ versions
+  pub tells : format ≡ format_of c.bytes
+  pub rises : IsTrue sorted ↔ IsSorted key_cmp versions
 
 -- A source of this input's file was opened, and its format told: whatever it can give, the reader could give a file of this
 -- format, of which it gives what a sorted file's source does.

@@ -1,5 +1,5 @@
 -- Where a reading of units stands in its input, and what is still to come from there.
-use Rattle.std.specs.Prelude.{◌≡◌, ◌⊎◌, ℕ, ◌≤◌, ◌+◌, ◌-◌, Bool, nat_lt, List, ◌∷◌, ◌++◌, ◌^◌, length, take, true, Option, Some, None, option_map, IfSome, is_some, slice_get, Result, Ok, Err, if◌then◌else◌}
+use Rattle.std.specs.Prelude.{◌≡◌, ◌⊎◌, ℕ, ◌≤◌, ◌+◌, ◌-◌, Bool, nat_lt, List, ◌∷◌, ◌++◌, ◌^◌, [], length, take, true, false, Option, Some, None, option_map, IfSome, is_some, slice_get, Result, Ok, Err, if◌then◌else◌}
 use Rattle.osm_files.specs.declared.fault.Fault.{Fault}
 use Rattle.osm_files.specs.declared.reason.Reason.{Reason}
 use Rattle.osm_files.specs.declared.reason.Reason.TheVariants.{ReadFault, Memory}
@@ -21,6 +21,10 @@ pub record Position (C : Type 0) : Type 0 where
   pub stand : Option Stand
   pub ended : Bool
   pub failed : Bool
+
+-- the position in an input of which nothing was read
+abbrev pub at_start : {C : Type 0} → ℕ → C → Position C
+at_start input coming = record { input = input; place = 0; held = []; coming = coming; stand = None; ended = false; failed = false }
 
 -- a position that tells what is to come, where that is known
 abbrev pub Told : Type 0

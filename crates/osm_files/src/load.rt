@@ -4,7 +4,8 @@ ghost use Rattle.osm_model.specs.Order.{version_cmp};
 ghost use Rattle.osm_model.specs.Sets.{from_list};
 ghost use Rattle.osm_files.specs.Fault.{memory_fault};
 ghost use Rattle.osm_files.specs.Input.{GivesOne};
-ghost use Rattle.osm_files.specs.Load.{Loads, StopsLoading};
+ghost use Rattle.osm_files.specs.Load.{IsRead, Loads, StopsLoading};
+ghost use Rattle.osm_files.specs.Position.{at_start};
 ghost use Rattle.osm_files.specs.Verdict.{is_below_last};
 
 use crate::fault::Fault;
@@ -37,14 +38,34 @@ pub fn load_any<R: Input + Drop>(alloc: Global, input: usize, reader: R) -> Resu
     ensures refused { IfErr result (λ fault. GivesOne (R.can_give reader) (λ c. StopsLoading input c fault)) }
 {
     let mut reading = Reading::new(alloc, input, reader);
-    let format = reading.format()?;
     let mut versions: Vec<Version> = Vec::new(alloc);
+    let read = read_versions(&mut reading, &mut versions);
+    drop(reading);
+    match read {
+        Ok((format, sorted)) => gathered(versions, format, sorted),
+        Err(fault) => Err(fault),
+    }
+}
+
+/// Reads all versions of a file, and returns its format and whether it is sorted.
+fn read_versions<R: Input>(
+    reading: &mut Reading<R>,
+    versions: &mut Vec<Version>,
+) -> Result<(Format, bool), Fault>
+    requires begins { reading.old ≡ at_start reading.old.input reading.old.coming }
+    requires empty { versions.old.items ≡ [] }
+    ensures read { IfOk result (λ read. GivesOne (R.can_give reading.old.coming) (λ c.
+        IsRead reading.old.input c versions.new.items read.0 read.1)) }
+    ensures refused { IfErr result (λ fault. GivesOne (R.can_give reading.old.coming) (λ c.
+        StopsLoading reading.old.input c fault)) }
+{
+    let format = reading.format()?;
     let mut sorted = true;
     'units: loop {
         let Some(unit) = reading.next()? else {
-            return gathered(versions, format, sorted);
+            return Ok((format, sorted));
         };
-        sorted = add(&mut versions, sorted, unit.version)?;
+        sorted = add(versions, sorted, unit.version)?;
     }
 }
 

@@ -1,83 +1,19 @@
-use Rattle.std.proofs.Common.{◌≡◌, ◌↔◌, ◌++◌, ◌∷◌, [], arith, inl, refl, ap, sym, subst, List, IsTrue, IfSome, Err, Some}
-use Rattle.std.specs.List.Sorted.{IsSorted}
-use Rattle.std.proofs.lemmas.Result.{IfOk-weaker, IfErr-weaker, err_from_is_err_and}
-use Rattle.osm_model.specs.Data.{VersionData}
-use Rattle.osm_model.specs.Order.{key_cmp}
-use Rattle.osm_files.specs.Load.{format_of}
-use Rattle.osm_files.specs.Position.{Position, Told, telling, ahead, still_to_come, GoesOn}
-use Rattle.osm_files.specs.Source.{Step}
-use Rattle.osm_files.specs.Stream.{Placed}
-use Rattle.osm_files.proofs.LoadLaws.{LoadsOn, fresh, load_step, load_ends, load_stops, loads, stops, stops_at_once, loads_begin, sorted_on}
+use Rattle.std.proofs.Common.{inl, subst}
+use Rattle.std.proofs.lemmas.Result.{IfOk-weaker, IfErr-weaker}
+use Rattle.osm_files.specs.Input.{GivesOne}
+use Rattle.osm_files.specs.Load.{IsRead}
+use Rattle.osm_files.specs.Position.{Position}
+use Rattle.osm_files.proofs.LoadLaws.{loads}
 use Rattle.osm_files.proofs.load.load_any.Goals as goal
 
-pub units-init : goal.units-init
-units-init g c =
-    rw c.new-versions.ensures.items (record {
-      loads = λ later k. (
-          let z = c.in_ok-format.ensures.tells later k in
-          let begins = ap (λ (v : Position _). telling v z.0) c.new-reading.ensures in (
-            z.0,
-            subst (λ (v : Position _). g.R.Input.can_give v.coming z.0) c.new-reading.ensures z.1,
-            (
-              loads_begin (fresh c.args.input (Some z.0)) (telling c.format.new.self later) (subst (λ (q : Told). GoesOn q (telling c.format.new.self later)) begins z.2.0) refl,
-              subst (λ (q : Told). IfSome (ahead q) (λ x. c.in_ok-format.format ≡ format_of x.bytes)) begins z.2.1,
-            ),
-          ));
-      sorted = (λ t k d from within. absurd (omega (arith, within)), λ s. refl);
-    })
-
-pub units-preserved : goal.units-preserved
-units-preserved g c =
-    let vs = c.units.versions.items in
-    let u = c.in-Some.unit in
-    let added : c.add.new.versions.items ≡ vs ++ u.version ∷ [] = c.in_ok-sorted.ensures.added in
-    record {
-      loads = λ later k. (
-          let y = (rw c.in-Some.is at c.in_ok-unit.ensures.step) later k in
-          let x = c.units.invariant.loads y.0 y.1 in
-          let p = fresh c.args.input (Some x.0) in
-          let on = load_step (still_to_come p) vs (still_to_come (telling c.units.reading y.0)) (still_to_come (telling c.next.new.self later)) x.2.0 u y.2 in
-          (x.0, x.1, (subst (λ (xs : List VersionData). LoadsOn (still_to_come p) xs (still_to_come (telling c.next.new.self later))) (sym {A = List VersionData} added) on, x.2.1)));
-      sorted = subst (λ (x : List VersionData). IsTrue c.in_ok-sorted.sorted ↔ IsSorted key_cmp x) (sym {A = List VersionData} added) (sorted_on vs u.version c.units.sorted c.in_ok-sorted.sorted c.units.invariant.sorted c.in_ok-sorted.ensures.sorted);
-    }
-
-pub returns-in_default-clause-loaded : goal.returns-in_default-clause-loaded
-returns-in_default-clause-loaded g c =
-    let vs = c.units.versions.items in
-    let later = g.R.Input.one c.next.new.self.coming in
-    let y = (rw c.in_default.is at c.in_ok-unit.ensures.step) later (g.R.Input.possible c.next.new.self.coming) in
-    let x = c.units.invariant.loads y.0 y.1 in
-    let p = fresh c.args.input (Some x.0) in
-    let all = load_ends (still_to_come p) vs (still_to_come (telling c.units.reading y.0)) (still_to_come (telling c.next.new.self later)) x.2.0 y.2 in
-    IfOk-weaker c.gathered.result _ _ (λ loaded e. (x.0, x.1, loads c.args.input x.0 c.in_ok-format.format vs c.units.sorted loaded x.2.1 c.units.invariant.sorted all e)) c.gathered.ensures.loaded
-
-pub returns-in_err-unit-clause-refused : goal.returns-in_err-unit-clause-refused
-returns-in_err-unit-clause-refused g c =
-    let later = g.R.Input.one c.next.new.self.coming in
-    let y = c.in_err-unit.ensures.step later (g.R.Input.possible c.next.new.self.coming) in
-    let x = c.units.invariant.loads y.0 y.1 in
-    let p = fresh c.args.input (Some x.0) in
-    let e = err_from_is_err_and c.from_residual-in_err-unit.result c.from_residual-in_err-unit.ensures.1 in
-    rw (e.1, e.2) ((x.0, x.1, stops c.args.input x.0 c.in_err-unit.field-0.0 (load_stops (still_to_come p) c.units.versions.items (still_to_come (telling c.units.reading y.0)) (still_to_come (telling c.next.new.self later)) x.2.0 c.in_err-unit.field-0.0 y.2)))
-
-pub returns-in_err-format-clause-refused : goal.returns-in_err-format-clause-refused
-returns-in_err-format-clause-refused g c =
-    let later = g.R.Input.one c.format.new.self.coming in
-    let y = c.in_err-format.ensures.refused later (g.R.Input.possible c.format.new.self.coming) in
-    let step = subst (λ (q : Told). Step {A = Placed} (still_to_come q) (Err c.in_err-format.field-0.0) (still_to_come (telling c.format.new.self later))) (ap (λ v. telling v y.0) c.new-reading.ensures) y.2 in
-    let e = err_from_is_err_and c.from_residual.result c.from_residual.ensures.1 in
-    rw (e.1, e.2) ((y.0, subst (λ (v : Position _). g.R.Input.can_give v.coming y.0) c.new-reading.ensures y.1, stops c.args.input y.0 c.in_err-format.field-0.0 (stops_at_once (still_to_come (fresh c.args.input (Some y.0))) (still_to_come (telling c.format.new.self later)) c.in_err-format.field-0.0 step)))
+pub returns-in-Ok-clause-loaded : goal.returns-in-Ok-clause-loaded
+returns-in-Ok-clause-loaded g c =
+    let vs = c.read_versions-read.new.versions.items in
+    let x = subst (λ (p : Position _). GivesOne (g.R.Input.can_give p.coming) (λ d. IsRead p.input d vs c.in-Ok.format c.in-Ok.sorted)) c.new-reading.ensures c.in-Ok.ensures.read in
+    IfOk-weaker c.gathered.result _ _ (λ loaded e. (x.0, x.1, loads c.args.input x.0 c.in-Ok.format vs c.in-Ok.sorted loaded x.2 e)) c.gathered.ensures.loaded
 
 -- memory was refused
-pub returns-in_err-sorted-clause-refused : goal.returns-in_err-sorted-clause-refused
-returns-in_err-sorted-clause-refused g c =
-    let y = (rw c.in-Some.is at c.in_ok-unit.ensures.step) (g.R.Input.one c.next.new.self.coming) (g.R.Input.possible c.next.new.self.coming) in
-    let x = c.units.invariant.loads y.0 y.1 in
-    let e = err_from_is_err_and c.from_residual-in_err-sorted.result c.from_residual-in_err-sorted.ensures.1 in
-    rw (e.1, e.2) ((x.0, x.1, inl c.in_err-sorted.ensures.memory))
-
-pub returns-in_default-clause-refused : goal.returns-in_default-clause-refused
-returns-in_default-clause-refused g c =
-    let y = (rw c.in_default.is at c.in_ok-unit.ensures.step) (g.R.Input.one c.next.new.self.coming) (g.R.Input.possible c.next.new.self.coming) in
-    let x = c.units.invariant.loads y.0 y.1 in
-    IfErr-weaker c.gathered.result _ _ (λ fault e. (x.0, x.1, inl e)) c.gathered.ensures.memory
+pub returns-in-Ok-clause-refused : goal.returns-in-Ok-clause-refused
+returns-in-Ok-clause-refused g c =
+    let one = g.R.Input.one c.args.reader in
+    IfErr-weaker c.gathered.result _ _ (λ fault e. (one, g.R.Input.possible c.args.reader, inl e)) c.gathered.ensures.memory
