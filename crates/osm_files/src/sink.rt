@@ -286,6 +286,16 @@ pub fn write_history<W: Output>(
     ensures good { OnOk result (W.failed out.new ≡ false) }
 {
     let mut sink = Sink::new(alloc, format, number)?;
+    put_all(&mut sink, history, out)
+}
+
+/// Begins the file of a new sink, writes the versions of a history, and ends the file.
+fn put_all<W: Output>(sink: &mut Sink, history: &History, out: &mut W) -> Result<(), Fault>
+    requires unused { sink.old ≡ spec.new_sink sink.old.format sink.old.number }
+    ensures written { spec.WritesFile sink.old.number
+        (W.holds out.old) (W.holds out.new) (W.failed out.new) (spelling.spell sink.old.format history.now) result }
+    ensures good { OnOk result (W.failed out.new ≡ false) }
+{
     sink.begin(out)?;
     'puts: for place in 0..history.len() {
         sink.put(out, history.get(place))?;

@@ -7,22 +7,22 @@ use Rattle.osm_model.proofs.SetLaws.{strict-listed}
 use Rattle.osm_files.specs.Spell.{spell_list}
 use Rattle.osm_files.specs.Sink.{CutShort, WritesFile, HasPut}
 use Rattle.osm_files.proofs.SinkLaws.{begin_ok, begin_err, put_ok, put_err, end_written, may_put, cut_before_end, parts_at, front_at}
-use Rattle.osm_files.proofs.sink.write_history.Goals as goal
+use Rattle.osm_files.proofs.sink.put_all.Goals as goal
 
 pub returns-in_err-begin-clause-written : goal.returns-in_err-begin-clause-written
 returns-in_err-begin-clause-written g c =
-    let f = c.args.format in
-    let n = c.args.number in
+    let f = c.args.sink.now.format in
+    let n = c.args.sink.now.number in
     let before = g.W.Output.holds c.args.out.now in
     let now = g.W.Output.holds c.begin.new.out in
     let failed = g.W.Output.failed c.begin.new.out in
-    let p = err_from_is_err_and c.from_residual-in_err-begin.result c.from_residual-in_err-begin.ensures.1 in
+    let p = err_from_is_err_and c.from_residual.result c.from_residual.ensures.1 in
     rw (p.1, p.2) (cut_before_end f n [] (listed c.args.history.now) before now failed c.in_err-begin.field-0.0
-    (begin_err f n c.in_ok-sink.sink c.in_ok-sink.ensures.ok c.begin.new.self before now failed c.in_err-begin.field-0.0 c.in_err-begin.ensures.calls))
+    (begin_err f n c.args.sink.now c.requires.unused c.begin.new.self before now failed c.in_err-begin.field-0.0 c.in_err-begin.ensures.calls))
 
 pub puts-init : goal.puts-init
 puts-init g c =
-    begin_ok c.args.format c.args.number c.in_ok-sink.sink c.in_ok-sink.ensures.ok c.begin.new.self (g.W.Output.holds c.args.out.now) (g.W.Output.holds c.begin.new.out) (g.W.Output.failed c.begin.new.out) c.in_ok-begin.ensures.calls
+    begin_ok c.args.sink.now.format c.args.sink.now.number c.args.sink.now c.requires.unused c.begin.new.self (g.W.Output.holds c.args.out.now) (g.W.Output.holds c.begin.new.out) (g.W.Output.failed c.begin.new.out) c.in_ok-begin.ensures.calls
 
 pub put-requires-clause-open : goal.put-requires-clause-open
 put-requires-clause-open g c = (ap (λ s. s.begun) c.puts.invariant.state, ap (λ s. s.ended) c.puts.invariant.state)
@@ -33,12 +33,12 @@ put-requires-clause-follows g c = λ going.
     let i = c.puts.place in
     let v = c.get.result.now in
     let within : i < length xs = omega (arith, c.puts-test.true, c.len-place-end.ensures) in
-    may_put c.args.format c.args.number xs i v (g.W.Output.holds c.args.out.now) (g.W.Output.holds c.puts.out) c.puts.sink (strict-listed c.args.history.now) within c.get.ensures c.puts.invariant
+    may_put c.args.sink.now.format c.args.sink.now.number xs i v (g.W.Output.holds c.args.out.now) (g.W.Output.holds c.puts.out) c.puts.sink (strict-listed c.args.history.now) within c.get.ensures c.puts.invariant
 
 pub returns-in_err-put-clause-written : goal.returns-in_err-put-clause-written
 returns-in_err-put-clause-written g c =
-    let f = c.args.format in
-    let n = c.args.number in
+    let f = c.args.sink.now.format in
+    let n = c.args.sink.now.number in
     let xs = listed c.args.history.now in
     let i = c.puts.place in
     let v = c.get.result.now in
@@ -55,8 +55,8 @@ returns-in_err-put-clause-written g c =
 
 pub puts-preserved : goal.puts-preserved
 puts-preserved g c =
-    let f = c.args.format in
-    let n = c.args.number in
+    let f = c.args.sink.now.format in
+    let n = c.args.sink.now.number in
     let xs = listed c.args.history.now in
     let i = c.puts.place in
     let v = c.get.result.now in
@@ -73,8 +73,8 @@ end-requires g c = (ap (λ s. s.begun) c.puts.invariant.state, ap (λ s. s.ended
 
 pub returns-clause-written : goal.returns-clause-written
 returns-clause-written g c =
-    let f = c.args.format in
-    let n = c.args.number in
+    let f = c.args.sink.now.format in
+    let n = c.args.sink.now.number in
     let xs = listed c.args.history.now in
     let i = c.puts.place in
     let before = g.W.Output.holds c.args.out.now in

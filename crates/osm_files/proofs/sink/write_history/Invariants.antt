@@ -1,7 +1,0 @@
-use Rattle.std.proofs.Common.{take}
-use Rattle.osm_model.specs.Sets.{listed}
-use Rattle.osm_files.specs.Sink.{HasPut}
-use Rattle.osm_files.proofs.sink.write_history.Given as goal
-
-abbrev pub invariant-puts : goal.invariant-puts
-invariant-puts g l = HasPut l.fn.format l.number (take l.place (listed l.history)) (g.W.Output.holds l.fn.out) l.sink (g.W.Output.holds l.out)
