@@ -64,7 +64,9 @@ pub fn run_check_sorted<R: Input + Drop>(alloc: Global, input: R) -> Result<Chec
     ensures refused { IfErr result (λ fault. GivesOne (R.can_give input) (λ c. StopsOpening 0 c fault)) }
 {
     let (format, mut source) = FileSource::open(alloc, 0, input)?;
-    let sizes = count(&mut source)?;
+    let counted = count(&mut source);
+    drop(source);
+    let sizes = counted?;
     Ok(CheckReport {
         format,
         versions: sizes.versions,
