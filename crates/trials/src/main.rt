@@ -1,8 +1,18 @@
-//! Makes the calls of the libraries that can answer want of memory, and those over devices that fail, as its words ask.
+//! Calls of the libraries: measured, with memory refused, and over devices that fail.
 //!
-//! The words are a call, as `load_any`, and what it is given. A file is given as `@NAME`, as `@NAME:STEP` where it gives
-//! so many bytes a read, or as `@NAME:STEP:END` where it fails behind so many bytes. What the call answered is printed.
-//! Without words the calls are named, a line each.
+//! The arguments are a call, as `load_any`, and what it is given. A file is given as `@NAME`, as `@NAME:STEP` where a read
+//! gives at most STEP bytes, or as `@NAME:STEP:END` where the file fails after END bytes. The program prints the result of the call.
+//!
+//! `measure` takes a measurement and its amount, and prints what was measured:
+//!
+//! - `measure versions 200000`: versions compared, and appended as lines, beside a plain copy of the same bytes.
+//! - `measure lines 100`: megabytes of OPL lines, read and written, beside a plain pass over them.
+//! - `measure read-sets 1000000`: nodes read from data sets.
+//! - `measure write-sets 1000000`: nodes, and a fifth as many ways, written as data sets.
+//! - `measure take 1000000`: a file of 10,000 changes taken by mirrors that hold that number of versions, and runs of a fleet.
+//! - `measure file map.opl`: the units of a file only, through a source, and by `load_any`.
+//!
+//! Without arguments the program takes each measurement of a small amount, and then prints the names of the calls, one a line.
 #![tactic(auto)]
 
 use crate::given::Given;
@@ -13,6 +23,7 @@ use std::io::Write;
 
 mod device;
 mod given;
+mod measure;
 mod mirrors;
 mod runs;
 mod selections;
@@ -33,9 +44,15 @@ const GROUPS: [&[&str]; 6] = [
 
 fn main(rt: HostRuntime) -> Result<()> {
     let words: Vec<String> = env::args(&rt)?.skip(1).collect(rt.alloc())?;
-    let answer = match words.split_first() {
-        Some((call, words)) => answer(rt.alloc(), call.as_str(), &Given::read(&rt, words)?)?,
-        None => names(rt.alloc())?,
+    let answer = match words.as_slice() {
+        [] => {
+            measure::measure_a_little(&rt)?;
+            names(rt.alloc())?
+        }
+        [call, measurement, amount] if call.as_str() == "measure" => {
+            measure::measure(&rt, measurement.as_str(), amount.as_str())?.into_bytes()
+        }
+        [call, words @ ..] => answer(rt.alloc(), call.as_str(), &Given::read(&rt, words)?)?,
     };
     rt.stdout().write_all(&answer)?;
     Ok(())

@@ -1,6 +1,6 @@
 //! Versions compared, and appended as lines.
-use crate::rate::rate;
-use crate::sample::{tag, text};
+use super::rate::rate;
+use super::sample::{tag, text};
 use anyhow::Result;
 use osm_model::{Body, Meta, References, Tags, Version};
 use std::alloc::Global;

@@ -1,5 +1,5 @@
 //! A file of changes taken by mirrors that hold many versions, and runs of a fleet over small files.
-use crate::sample::text;
+use super::sample::text;
 use anyhow::{Result, bail};
 use opl_line::append_line;
 use osm_files::{Format, SliceIn, load_any};

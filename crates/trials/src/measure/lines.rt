@@ -1,6 +1,6 @@
 //! OPL lines read into versions, and written.
-use crate::rate::megabytes;
-use crate::versions::append_lines;
+use super::rate::megabytes;
+use super::versions::append_lines;
 use anyhow::{Result, bail};
 use opl_line::read_line;
 use osm_model::Version;

@@ -1,6 +1,6 @@
 //! Nodes, and ways with four tags, written as data sets.
-use crate::rate::rate;
-use crate::sample::tag;
+use super::rate::rate;
+use super::sample::tag;
 use anyhow::{Result, bail};
 use o5_codec::Encoder;
 use osm_model::{Body, Kind, Meta, References, Tags, Text, Version};

@@ -1,5 +1,5 @@
 //! A file's units read alone, through a `FileSource` to its end, and by `load_any`.
-use crate::rate::megabytes;
+use super::rate::megabytes;
 use anyhow::{Result, bail};
 use o5_codec::{Decoder, read_number};
 use opl_line::{find_line_end, read_line};

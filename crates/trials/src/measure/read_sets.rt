@@ -1,5 +1,5 @@
 //! Nodes read from data sets, with users by reference.
-use crate::rate::rate;
+use super::rate::rate;
 use anyhow::Result;
 use o5_codec::Decoder;
 use osm_model::Kind;

@@ -1,6 +1,6 @@
 use Rattle.std.proofs.Common.{ap, sym, ◌∙◌}
 use Rattle.o5_codec.specs.Encoder.{written_after}
-use Rattle.bench.proofs.write_sets.write_all.Goals as goal
+use Rattle.trials.proofs.measure.write_sets.write_all.Goals as goal
 
 pub loop-version-preserved : goal.loop-version-preserved
 unfolding written_after
