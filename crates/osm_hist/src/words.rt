@@ -2,6 +2,7 @@
 mod checking;
 mod command;
 mod files;
+mod part;
 mod planning;
 mod progress;
 mod refusal;
@@ -11,6 +12,7 @@ mod stretches;
 mod target;
 
 use crate::words::request::Request;
+pub(crate) use part::PartFile;
 pub(crate) use refusal::Refusal;
 use std::convert::AsStr;
 use std::fmt::Display;
@@ -27,6 +29,7 @@ use std::time::Clock;
 pub fn run_words<R, S, I, O, E>(rt: &R, words: &[S], input: I, mut out: O, mut err: E) -> u8
 where
     R: Files + Clock + AllocGlobal,
+    R::File: PartFile,
     S: AsStr,
     I: Read + Drop,
     O: Write + Drop,
@@ -48,13 +51,14 @@ fn answer<'a, R, S, I, O, E>(
 ) -> Result<(), Refusal<'a>>
 where
     R: Files + Clock + AllocGlobal,
+    R::File: PartFile,
     S: AsStr,
     I: Read + Drop,
     O: Write + Drop,
     E: Write + IsTerminal,
 {
     match Request::parse(rt.alloc(), words)? {
-        Request::Files(run) => running::run_files(rt, run, input, out, err),
+        Request::Files(run) => running::run_files(rt, &run, input, out, err),
         Request::Check(check) => checking::check_file(rt, &check, input, out),
         Request::Plan(run) => planning::run_plan(rt, &run, out),
         Request::Help(text) => print(out, &text),

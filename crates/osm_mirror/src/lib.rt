@@ -30,6 +30,8 @@ pub use keep::{Keep, Taken};
 pub use merge::run_merge;
 pub use mirror::Mirror;
 pub use moment::read_moment;
+pub use osm_merge::{Counts, Progress, Selection};
+pub use osm_model::Memory;
 pub use plan::{Plan, read_plan};
 pub use plan_fault::{PlanFault, PlanReason};
 pub use plan_line::{PlanWrite, Step};

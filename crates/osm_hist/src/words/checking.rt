@@ -1,5 +1,5 @@
 //! Checking a file.
-use super::files::{input_name, open, open_word};
+use super::files::{Stream, input_name, open, open_word};
 use super::print;
 use super::refusal::Refusal;
 use super::request::FileCheck;
@@ -38,7 +38,10 @@ fn report_of<'a, R: Files + AllocGlobal, I: Read + Drop>(
     }
     match run_check_sorted(rt.alloc(), FromRead::new(file)) {
         Ok(report) => Ok(report),
-        Err(fault) if is_unsorted(&fault) => report_of_held(rt.alloc(), word, open(rt, word)?),
+        Err(fault) if is_unsorted(&fault) => {
+            let again: Stream<R::File, I> = Stream::File(open(rt, word)?);
+            report_of_held(rt.alloc(), word, again)
+        }
         Err(fault) => Err(refused(rt.alloc(), word, &fault)),
     }
 }

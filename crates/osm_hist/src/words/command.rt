@@ -38,92 +38,103 @@ const PLAN: &str =
     Memory: all files that are taken and all that the mirrors hold are in memory.\n\n\
     Example: osm_hist plan mirrors.plan";
 
-/// The command that reads the words.
-pub(super) fn command<'a>(alloc: Global) -> Result<Command<'a>, AllocError> {
-    Command::new(alloc, "osm_hist")
+/// A command, or the refusal of memory for it.
+type Made<'a> = Result<Command<'a>, AllocError>;
+
+/// The command that reads the arguments.
+pub(super) fn command<'a>(alloc: Global) -> Made<'a> {
+    let commands = [
+        merge_command(alloc),
+        apply_command(alloc),
+        time_filter_command(alloc),
+        sort_command(alloc),
+        check_command(alloc),
+        plan_command(alloc),
+    ];
+    let program = Command::new(alloc, "osm_hist")
         .about("Merges, cuts and checks files of OpenStreetMap histories")
         .version(VERSION)
         .after_help(PROGRAM)
-        .bin_name("osm_hist")?
         .no_binary_name(true)
         .subcommand_required(true)
-        .subcommand(merge_command(alloc)?)?
-        .subcommand(apply_command(alloc)?)?
-        .subcommand(time_filter_command(alloc)?)?
-        .subcommand(sort_command(alloc)?)?
-        .subcommand(check_command(alloc)?)?
-        .subcommand(plan_command(alloc)?)
+        .bin_name("osm_hist");
+    commands.into_iter().fold(program, with_command)
 }
 
-fn merge_command<'a>(alloc: Global) -> Result<Command<'a>, AllocError> {
-    writing_command(alloc, "merge")?
+/// A command with one more command below it.
+fn with_command<'a>(program: Made<'a>, command: Made<'a>) -> Made<'a> {
+    match (program, command) {
+        (Ok(program), Ok(command)) => program.subcommand(command),
+        _ => Err(AllocError),
+    }
+}
+
+/// A command with one more argument.
+fn with_arg<'a>(command: Made<'a>, arg: Arg<'a>) -> Made<'a> {
+    match command {
+        Ok(command) => command.arg(arg),
+        Err(error) => Err(error),
+    }
+}
+
+fn merge_command<'a>(alloc: Global) -> Made<'a> {
+    let command = Command::new(alloc, "merge")
         .about("Merges sorted files into one")
-        .after_help(MERGE)
-        .arg(files_arg(
-            alloc,
-            "The files to be merged, each sorted, in OPL, o5m or o5c; - is standard input",
-        ))
+        .after_help(MERGE);
+    let help = "The files to be merged, each sorted, in OPL, o5m or o5c; - is standard input";
+    with_arg(writing(alloc, command), files_arg(alloc, help))
 }
 
-fn apply_command<'a>(alloc: Global) -> Result<Command<'a>, AllocError> {
-    writing_command(alloc, "apply")?
+fn apply_command<'a>(alloc: Global) -> Made<'a> {
+    let command = Command::new(alloc, "apply")
         .about("Applies changes: writes the newest version of each object that isn't deleted")
         .after_help(any_order_help!(
             "apply --output today.o5m --format o5m yesterday.o5m changes.o5c"
-        ))
-        .arg(flag_arg(
-            alloc,
-            "with-history",
-            "Writes all versions, deletions included",
-        ))?
-        .arg(sorted_arg(alloc))?
-        .arg(files_arg(
-            alloc,
-            "The files and changes, in OPL, o5m or o5c; - is standard input",
-        ))
+        ));
+    let history = flag_arg(
+        alloc,
+        "with-history",
+        "Writes all versions, deletions included",
+    );
+    let help = "The files and changes, in OPL, o5m or o5c; - is standard input";
+    let command = with_arg(
+        with_arg(writing(alloc, command), history),
+        sorted_arg(alloc),
+    );
+    with_arg(command, files_arg(alloc, help))
 }
 
-fn time_filter_command<'a>(alloc: Global) -> Result<Command<'a>, AllocError> {
-    writing_command(alloc, "time-filter")?
+fn time_filter_command<'a>(alloc: Global) -> Made<'a> {
+    let command = Command::new(alloc, "time-filter")
         .about("Writes the objects as they stood at a moment, or their versions of a period")
         .after_help(any_order_help!(
             "time-filter --output new-year.opl history.opl 2020-01-01T00:00:00Z"
-        ))
-        .arg(sorted_arg(alloc))?
-        .arg(required_arg(
-            alloc,
-            "files",
-            "FILE",
-            "The file of a history, in OPL, o5m or o5c; - is standard input",
-        ))?
-        .arg(required_arg(alloc, "time", "TIME", "The moment, as 2014-05-06T07:08:09Z"))?
-        .arg(end_arg(alloc))
+        ));
+    let help = "The file of a history, in OPL, o5m or o5c; - is standard input";
+    let file = required_arg(alloc, "files", "FILE", help);
+    let time = required_arg(alloc, "time", "TIME", "The moment, as 2014-05-06T07:08:09Z");
+    let command = with_arg(with_arg(writing(alloc, command), sorted_arg(alloc)), file);
+    with_arg(with_arg(command, time), end_arg(alloc))
 }
 
-fn sort_command<'a>(alloc: Global) -> Result<Command<'a>, AllocError> {
-    writing_command(alloc, "sort")?
+fn sort_command<'a>(alloc: Global) -> Made<'a> {
+    let command = Command::new(alloc, "sort")
         .about("Sorts files in any order into one")
-        .after_help(any_order_help!("sort --output sorted.opl unsorted.opl"))
-        .arg(sorted_arg(alloc))?
-        .arg(files_arg(
-            alloc,
-            "The files to be sorted, in OPL, o5m or o5c; - is standard input",
-        ))
+        .after_help(any_order_help!("sort --output sorted.opl unsorted.opl"));
+    let help = "The files to be sorted, in OPL, o5m or o5c; - is standard input";
+    let command = with_arg(writing(alloc, command), sorted_arg(alloc));
+    with_arg(command, files_arg(alloc, help))
 }
 
-fn check_command<'a>(alloc: Global) -> Result<Command<'a>, AllocError> {
+fn check_command<'a>(alloc: Global) -> Made<'a> {
+    let help = "The file to be checked, in OPL, o5m or o5c; - is standard input";
     Command::new(alloc, "check")
         .about("Prints a file's format, its versions and objects, and whether it is sorted")
         .after_help(CHECK)
-        .arg(required_arg(
-            alloc,
-            "file",
-            "FILE",
-            "The file to be checked, in OPL, o5m or o5c; - is standard input",
-        ))
+        .arg(required_arg(alloc, "file", "FILE", help))
 }
 
-fn plan_command<'a>(alloc: Global) -> Result<Command<'a>, AllocError> {
+fn plan_command<'a>(alloc: Global) -> Made<'a> {
     Command::new(alloc, "plan")
         .about(
             "Runs a plan: mirrors take files and pass them on, and what they hold in the end is written",
@@ -132,21 +143,20 @@ fn plan_command<'a>(alloc: Global) -> Result<Command<'a>, AllocError> {
         .arg(required_arg(alloc, "plan", "PLAN", "The file of the plan"))
 }
 
-/// A command of this name that writes a file.
-fn writing_command<'a>(alloc: Global, name: &'a str) -> Result<Command<'a>, AllocError> {
-    Command::new(alloc, name)
-        .arg(output_arg(alloc))?
-        .arg(format_arg(alloc))?
-        .arg(flag_arg(
-            alloc,
-            "fsync",
-            "Puts the file on the disk before it gets its name",
-        ))?
-        .arg(flag_arg(
-            alloc,
-            "progress",
-            "Tells on standard error, while it runs, how much was read and written",
-        ))
+/// A command with the options of one that writes a file.
+fn writing<'a>(alloc: Global, command: Command<'a>) -> Made<'a> {
+    let sync = flag_arg(
+        alloc,
+        "fsync",
+        "Puts the file on the disk before it gets its name",
+    );
+    let progress = flag_arg(
+        alloc,
+        "progress",
+        "Tells on standard error, while it runs, how much was read and written",
+    );
+    let command = with_arg(command.arg(output_arg(alloc)), format_arg(alloc));
+    with_arg(with_arg(command, sync), progress)
 }
 
 fn output_arg<'a>(alloc: Global) -> Arg<'a> {

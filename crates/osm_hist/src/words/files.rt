@@ -1,4 +1,8 @@
-//! Files by name and standard streams: opened to be read, and made to be written.
+//! Files by name and standard streams, opened to be read.
+ghost use Rattle.std.specs.Prelude.{◌≤◌, length, IfOk};
+ghost use Rattle.std.specs.Counts.{IsPrefixLen};
+
+use super::part::FileId;
 use super::refusal::Refusal;
 use super::target::STANDARD;
 use osm_files::ToWrite;
@@ -14,7 +18,7 @@ const BUFFER: usize = 65536;
 /// A writer as an output, through a buffer.
 pub(super) type BufferedOut<W> = ToWrite<BufWriter<W>>;
 
-/// A file, or a standard stream.
+/// A file, or standard input. A read that a signal interrupts is tried again.
 #[derive(Drop)]
 pub(super) enum Stream<F, S> {
     File(F),
@@ -24,38 +28,45 @@ pub(super) enum Stream<F, S> {
 impl<F: Read, S: Read> Read for Stream<F, S> {
     fn read(&mut self, buffer: &mut [u8]) -> io::Result<usize> {
         match self {
-            Stream::File(file) => file.read(buffer),
-            Stream::Standard(stream) => stream.read(buffer),
+            Stream::File(file) => read_retried(file, buffer),
+            Stream::Standard(stream) => read_retried(stream, buffer),
         }
     }
 }
 
-impl<F: Write, S: Write> Write for Stream<F, S> {
-    fn write(&mut self, bytes: &[u8]) -> io::Result<usize> {
-        match self {
-            Stream::File(file) => file.write(bytes),
-            Stream::Standard(stream) => stream.write(bytes),
+/// Reads, and tries again where a signal interrupts the read.
+pub(super) fn read_retried<R: Read>(reader: &mut R, buffer: &mut [u8]) -> io::Result<usize>
+    ensures bound { IfOk result (λ n. IsPrefixLen n buffer.new) }
+{
+    for _ in 0..u64::MAX {
+        match reader.read(buffer) {
+            Err(error) if error.kind() == ErrorKind::Interrupted => {}
+            outcome => return outcome,
         }
     }
+    Err(io::Error::from(ErrorKind::Interrupted))
+}
 
-    fn flush(&mut self) -> io::Result<()> {
-        match self {
-            Stream::File(file) => file.flush(),
-            Stream::Standard(stream) => stream.flush(),
+/// Writes, and tries again where a signal interrupts the write.
+pub(super) fn write_retried<W: Write>(writer: &mut W, bytes: &[u8]) -> io::Result<usize>
+    ensures bound { IfOk result (λ n. n ≤ length bytes.now) }
+{
+    for _ in 0..u64::MAX {
+        match writer.write(bytes) {
+            Err(error) if error.kind() == ErrorKind::Interrupted => {}
+            outcome => return outcome,
         }
     }
+    Err(io::Error::from(ErrorKind::Interrupted))
 }
 
 impl<F: OpenFile, S> Stream<F, S> {
     /// Whether it can be read again from its start: a pipe, a device or standard input can't.
     pub(super) fn can_be_read_again(&self) -> bool {
-        match self {
-            Stream::File(file) => is_regular(file),
-            Stream::Standard(_) => false,
-        }
+        self.size().is_some()
     }
 
-    /// Its bytes, where they are known: a pipe, a device or standard input doesn't tell.
+    /// Its bytes, where they are known: those of a pipe, a device or standard input aren't.
     pub(super) fn size(&self) -> Option<u64> {
         match self {
             Stream::File(file) => match file.metadata() {
@@ -65,17 +76,21 @@ impl<F: OpenFile, S> Stream<F, S> {
             Stream::Standard(_) => None,
         }
     }
-}
 
-/// Whether a file that is open is neither a pipe nor a device.
-fn is_regular<F: OpenFile>(file: &F) -> bool {
-    match file.metadata() {
-        Ok(metadata) => metadata.is_file(),
-        Err(_) => false,
+    /// Which file it is, where that is known. Standard input may be a file, too.
+    pub(super) fn id<R: Files>(&self, rt: &R) -> Option<FileId> {
+        let metadata = match self {
+            Stream::File(file) => file.metadata(),
+            Stream::Standard(_) => fs::metadata(rt, "/dev/stdin"),
+        };
+        match metadata {
+            Ok(metadata) => Some(FileId::of(&metadata)),
+            Err(_) => None,
+        }
     }
 }
 
-/// The name of a file to be read in the line of a fault, by the word for it.
+/// The name of a file to be read in the line of a fault, by the argument for it.
 pub(super) fn input_name<'a>(word: &'a str) -> &'a str {
     if word == STANDARD {
         "standard input"
@@ -84,7 +99,7 @@ pub(super) fn input_name<'a>(word: &'a str) -> &'a str {
     }
 }
 
-/// The names of files to be read in the lines of faults, by the words for them.
+/// The names of files to be read in the lines of faults, by the arguments for them.
 pub(super) fn input_names<'a>(
     alloc: Global,
     words: &[&'a str],
@@ -104,27 +119,32 @@ pub(super) fn open<'a, R: Files>(rt: &R, name: &'a str) -> Result<R::File, Refus
     }
 }
 
-/// What these words mean, opened in their order. Standard input is among them once at most, where it is given.
-pub(super) fn open_all<'a, R: Files + AllocGlobal, I: Read + Drop>(
+/// Opens what these arguments mean, in their order, in place of what was open. Standard input is among them at most once, where
+/// it is given.
+pub(super) fn open_all<'a, R: Files, I: Read + Drop>(
     rt: &R,
     words: &[&'a str],
-    mut input: Option<I>,
-) -> Result<Vec<Stream<R::File, I>>, Refusal<'a>> {
-    let mut streams = Vec::new(rt.alloc());
+    input: &mut Option<I>,
+    streams: &mut Vec<Option<Stream<R::File, I>>>,
+) -> Result<(), Refusal<'a>> {
+    streams.clear();
     for word in words {
-        streams.push(open_word(rt, *word, &mut input)?)?;
+        streams.push(Some(open_word(rt, *word, input)?))?;
     }
-    Ok(streams)
+    Ok(())
 }
 
-/// What this word means, opened: standard input, which is taken, or a file.
+/// What this argument means, opened: standard input, which is taken, or a file.
 pub(super) fn open_word<'a, R: Files, I: Read + Drop>(
     rt: &R,
     word: &'a str,
     input: &mut Option<I>,
 ) -> Result<Stream<R::File, I>, Refusal<'a>> {
     if word != STANDARD {
-        return Ok(Stream::File(open(rt, word)?));
+        return match open(rt, word) {
+            Ok(file) => Ok(Stream::File(file)),
+            Err(refusal) => Err(refusal),
+        };
     }
     match input.take() {
         Some(stream) => Ok(Stream::Standard(stream)),
@@ -143,38 +163,6 @@ pub(super) fn read<'a, R: Files + AllocGlobal>(
         Ok(bytes) => Ok(bytes),
         Err(error) if error.kind() == ErrorKind::OutOfMemory => Err(Refusal::Memory),
         Err(_) => Err(Refusal::CannotRead { name }),
-    }
-}
-
-/// OUT.part, made empty.
-pub(super) fn create<'a, R: Files>(
-    rt: &R,
-    output: &'a str,
-    part: &str,
-) -> Result<R::File, Refusal<'a>> {
-    match File::create(rt, part) {
-        Ok(file) => Ok(file),
-        Err(_) => Err(Refusal::CannotCreate { output }),
-    }
-}
-
-/// Puts OUT.part on the disk.
-pub(super) fn sync<'a, R: Files>(rt: &R, output: &'a str, part: &str) -> Result<(), Refusal<'a>> {
-    let synced = File::options()
-        .write(true)
-        .open(rt, part)
-        .and_then(|file| file.sync_all());
-    match synced {
-        Ok(()) => Ok(()),
-        Err(_) => Err(Refusal::CannotSync { output }),
-    }
-}
-
-/// Renames OUT.part to OUT.
-pub(super) fn rename<'a, R: Files>(rt: &R, part: &str, output: &'a str) -> Result<(), Refusal<'a>> {
-    match fs::rename(rt, part, output) {
-        Ok(()) => Ok(()),
-        Err(_) => Err(Refusal::CannotRename { output }),
     }
 }
 

@@ -5,7 +5,8 @@ ghost use Rattle.osm_mirror.specs.Fleet.{IsWithin};
 ghost use Rattle.osm_mirror.specs.Plan.{NamesItsMirrors};
 ghost use Rattle.osm_mirror.specs.PlanLine.{StepNames};
 
-use super::files::read;
+use super::files::{Stream, read};
+use super::part::PartFile;
 use super::print;
 use super::refusal::Refusal;
 use super::request::PlanRun;
@@ -21,7 +22,10 @@ pub(super) fn run_plan<'a, R: Files + AllocGlobal, O: Write>(
     rt: &R,
     run: &PlanRun<'a>,
     out: &mut O,
-) -> Result<(), Refusal<'a>> {
+) -> Result<(), Refusal<'a>>
+where
+    R::File: PartFile,
+{
     let text = read(rt, run.plan)?;
     match read_plan(rt.alloc(), text.as_slice()) {
         Ok(plan) => match run_lines(rt, &plan, out) {
@@ -38,6 +42,8 @@ fn run_lines<'p, R: Files + AllocGlobal, O: Write>(
     plan: &'p Plan,
     out: &mut O,
 ) -> Result<(), Refusal<'p>>
+where
+    R::File: PartFile,
     requires { NamesItsMirrors plan.now }
 {
     let files = read_taken(rt, plan.steps.as_slice())?;
@@ -130,6 +136,8 @@ fn write_files<'p, R: Files + AllocGlobal, O: Write>(
     writes: &'p [PlanWrite],
     out: &mut O,
 ) -> Result<(), Refusal<'p>>
+where
+    R::File: PartFile,
     requires { All (λ write. write.mirror < length fleet.now) writes.now }
 {
     'writes: for write in writes {
@@ -148,14 +156,21 @@ fn make_file<'p, R: Files + AllocGlobal, O: Write>(
     name: &'p str,
     bytes: &[u8],
     out: &mut O,
-) -> Result<(), Refusal<'p>> {
+) -> Result<(), Refusal<'p>>
+where
+    R::File: PartFile,
+{
+    let inputs: [Option<Stream<R::File, &[u8]>>; 0] = [];
     let target = Target::of_name(rt, name);
-    let part = format!(in rt.alloc(); "{name}.part")?;
-    let outcome = match write_bytes(bytes, target.open(rt, part.as_str(), out)?) {
-        Ok(()) => target.complete(rt, part.as_str(), false),
+    let mut destination = target.open(rt, rt.alloc(), &inputs, out)?;
+    let outcome = match write_bytes(bytes, &mut destination) {
+        Ok(()) => target.complete(rt, &destination, false),
         Err(fault) => Err(Refusal::of_fault(rt.alloc(), &fault, &[], target.name())),
     };
-    target.end(rt, part.as_str(), outcome)
+    if outcome.is_err() {
+        destination.discard(rt);
+    }
+    outcome
 }
 
 /// Writes bytes to an output that gets no others.

@@ -1,7 +1,7 @@
 //! What a run tells of itself on standard error while it goes on.
 use super::files::Stream;
 use osm_files::Fault;
-use osm_merge::{Counts, Progress};
+use osm_mirror::{Counts, Progress};
 use std::cell::{Cell, RefCell};
 use std::fmt::{Display, Formatter};
 use std::fs::OpenFile;
@@ -96,9 +96,9 @@ impl<'a, C: Clock, E: Write + IsTerminal> Meter<'a, C, E> {
     }
 
     /// Begins with these files anew.
-    pub(super) fn read_files<F: OpenFile, S>(&self, files: &[Stream<F, S>]) {
+    pub(super) fn read_files<F: OpenFile, S>(&self, files: &[Option<Stream<F, S>>]) {
         let mut size = Some(0_u64);
-        for file in files {
+        for file in files.iter().flatten() {
             size = match (size, file.size()) {
                 (Some(all), Some(one)) => all.checked_add(one),
                 _ => None,

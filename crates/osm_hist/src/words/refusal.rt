@@ -1,8 +1,7 @@
 //! Why a command is refused, with the line and the exit status that it gets.
 use clap::error::ErrorKind;
 use osm_files::Fault;
-use osm_mirror::{PlanFault, PlanReason, fault_text};
-use osm_model::Memory;
+use osm_mirror::{Memory, PlanFault, PlanReason, fault_text};
 use std::alloc::{AllocError, AllocFailed, Global};
 use std::io::Write;
 use thiserror::Error;
@@ -30,9 +29,9 @@ pub(crate) enum Refusal<'a> {
     #[error("standard input: given twice")]
     StandardInputTwice,
     /// A file to be read is the one that is written before it is renamed.
-    #[error("{name}: input is the output")]
+    #[error("{output}.part: input is the output")]
     InputIsOutput {
-        name: &'a str,
+        output: &'a str,
     },
     /// A file can't be opened.
     #[error("{name}: cannot read")]

@@ -3,11 +3,10 @@ use super::command::command;
 use super::refusal::Refusal;
 use super::target::STANDARD;
 use clap::error::ErrorKind;
-use clap::{ArgMatches, Error};
+use clap::{ArgMatches, Command, Error};
 use osm_files::Format;
-use osm_merge::Selection;
-use osm_mirror::read_moment;
-use std::alloc::Global;
+use osm_mirror::{Selection, read_moment};
+use std::alloc::{AllocError, Global};
 use std::convert::AsStr;
 
 /// What the words ask for.
@@ -67,20 +66,31 @@ impl<'a> Request<'a> {
         words: &'a [S],
     ) -> Result<Request<'a>, Refusal<'a>> {
         if words.is_empty() {
-            return Ok(Request::Files(FileRun::of_no_words(alloc)?));
+            return match FileRun::of_no_words(alloc) {
+                Ok(run) => Ok(Request::Files(run)),
+                Err(refusal) => Err(refusal),
+            };
         }
-        let mut command = command(alloc)?;
-        let matches = match command.try_get_matches_from_mut(words) {
-            Ok(matches) => matches,
-            Err(error) if error.use_stderr() => return Err(Refusal::of_words(error)),
-            Err(help) => return Ok(Request::Help(help)),
-        };
-        match Request::of_matches(alloc, &matches)? {
-            Some(request) => Ok(request),
-            None => {
-                let missing = command.error(ErrorKind::MissingSubcommand, "a command is missing")?;
-                Err(Refusal::of_words(missing))
-            }
+        match command(alloc) {
+            Ok(mut command) => Request::of_words(alloc, &mut command, words),
+            Err(AllocError) => Err(Refusal::Memory),
+        }
+    }
+
+    /// What these arguments ask for, as the command reads them.
+    fn of_words<S: AsStr>(
+        alloc: Global,
+        command: &mut Command<'a>,
+        words: &'a [S],
+    ) -> Result<Request<'a>, Refusal<'a>> {
+        match command.try_get_matches_from_mut(words) {
+            Ok(matches) => match Request::of_matches(alloc, &matches) {
+                Ok(Some(request)) => Ok(request),
+                Ok(None) => Err(missing_command(command)),
+                Err(refusal) => Err(refusal),
+            },
+            Err(error) if error.use_stderr() => Err(Refusal::of_words(error)),
+            Err(help) => Ok(Request::Help(help)),
         }
     }
 
@@ -106,6 +116,14 @@ impl<'a> Request<'a> {
             }
             None => Ok(None),
         }
+    }
+}
+
+/// The refusal where no command is given.
+fn missing_command<'a>(command: &mut Command<'a>) -> Refusal<'a> {
+    match command.error(ErrorKind::MissingSubcommand, "a command is missing") {
+        Ok(error) => Refusal::of_words(error),
+        Err(AllocError) => Refusal::Memory,
     }
 }
 

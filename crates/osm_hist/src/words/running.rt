@@ -1,116 +1,142 @@
-//! Running what the words ask for.
+//! Running what the arguments ask for.
 use super::checking::is_unsorted;
-use super::files::{Stream, buffered_out, create, input_names, open_all};
+use super::files::{Stream, buffered_out, input_names, open_all};
+use super::part::PartFile;
 use super::progress::{Meter, Metered};
 use super::refusal::Refusal;
 use super::request::FileRun;
 use super::stretches::{Found, MOST_STRETCHES, Stretch, StretchReader, cut_file};
-use super::target::Target;
+use super::target::{Destination, Target};
 use osm_files::{Fault, Format, FromRead};
-use osm_merge::{Counts, Selection};
-use osm_mirror::{InputFile, Order, run_merge, run_selected};
+use osm_mirror::{Counts, InputFile, Order, Selection, run_merge, run_selected};
 use std::alloc::{AllocError, Global};
-use std::fs::OpenFile;
 use std::io::{IsTerminal, Read, Write};
 use std::rt::Files;
 use std::time::Clock;
 
+/// The files of a run, each until it is handed to a reader.
+type OpenFiles<F, I> = Vec<Option<Stream<F, I>>>;
+
 /// Makes OUT of files. A file is written as OUT.part, which becomes OUT at the end, or goes at a refusal.
 pub(super) fn run_files<'a, R, I, O, E>(
     rt: &R,
-    asked: FileRun<'a>,
+    asked: &FileRun<'a>,
     input: I,
     out: &mut O,
     err: &mut E,
 ) -> Result<(), Refusal<'a>>
 where
     R: Files + Clock + AllocGlobal,
+    R::File: PartFile,
     I: Read + Drop,
     O: Write,
     E: Write + IsTerminal,
 {
-    let target = Target::of_word(rt, asked.output);
-    let part = format!(in rt.alloc(); "{}.part", asked.output)?;
-    if target.is_renamed() {
-        refuse_part(asked.files.as_slice(), part.as_str())?;
-    }
-    let files = open_all(rt, asked.files.as_slice(), Some(input))?;
-    let writer = target.open(rt, part.as_str(), out)?;
-    let meter = Meter::new(rt, err, asked.progress);
+    let mut input = Some(input);
+    let mut files = Vec::new(rt.alloc());
     let run = Run {
         rt,
         asked,
-        target,
-        part,
-        meter,
+        target: Target::of_word(rt, asked.output),
+        meter: Meter::new(rt, err, asked.progress),
     };
-    let outcome = run.finish(files, writer);
-    target.end(rt, run.part.as_str(), outcome)
+    run.run(&mut files, &mut input, out)
 }
 
-/// Refuses a file to be read that is OUT.part.
-fn refuse_part<'a>(files: &[&'a str], part: &str) -> Result<(), Refusal<'a>> {
-    match files.iter().find(|name| **name == part) {
-        Some(name) => Err(Refusal::InputIsOutput { name: *name }),
-        None => Ok(()),
-    }
-}
-
-/// A run over files: what it is to do, where it writes, and what tells of it.
+/// A run over files: what it is to do, and what reports on it.
 #[derive(Drop)]
-struct Run<'a, 'r, 'm, R, E> {
-    /// The runtime in whose folder the files lie.
+struct Run<'a, 'q, 'r, 'm, R, E> {
+    /// The runtime in whose folder the files are.
     rt: &'r R,
     /// What is asked for.
-    asked: FileRun<'a>,
+    asked: &'q FileRun<'a>,
     /// What OUT means.
     target: Target<'a>,
-    /// The name of OUT.part.
-    part: String,
-    /// What tells of the run while it goes on.
+    /// What reports on the run.
     meter: Meter<'m, R, E>,
 }
 
-impl<'a, 'r, 'm, R, E> Run<'a, 'r, 'm, R, E>
+impl<'a, 'q, 'r, 'm, R, E> Run<'a, 'q, 'r, 'm, R, E>
 where
     R: Files + Clock + AllocGlobal,
+    R::File: PartFile,
     E: Write + IsTerminal,
 {
-    /// Writes what is selected, and renames OUT.part.
-    fn finish<I: Read + Drop, O: Write + Drop>(
+    /// Opens the files and the output, and writes it. The caller drops the files.
+    fn run<I: Read + Drop, O: Write>(
         &self,
-        files: Vec<Stream<R::File, I>>,
-        writer: Stream<R::File, O>,
+        files: &mut OpenFiles<R::File, I>,
+        input: &mut Option<I>,
+        out: &mut O,
     ) -> Result<(), Refusal<'a>> {
-        let outcome = self.write_by_turns(files, writer)?;
+        let words = self.asked.files.as_slice();
+        self.target.refuse_part(words)?;
+        open_all(self.rt, words, input, files)?;
+        let inputs: &[Option<Stream<R::File, I>>] = files;
+        match self.target.open(self.rt, self.rt.alloc(), inputs, out) {
+            Ok(mut destination) => self.finish(files, &mut destination),
+            Err(refusal) => Err(refusal),
+        }
+    }
+
+    /// Writes what is selected, and completes the output, or discards it at a refusal.
+    fn finish<I: Read + Drop, O: Write>(
+        &self,
+        files: &mut OpenFiles<R::File, I>,
+        destination: &mut Destination<R::File, O>,
+    ) -> Result<(), Refusal<'a>> {
+        let mut takings = Vec::new(self.rt.alloc());
+        let outcome = match self.write_by_turns(files, &mut takings, destination) {
+            Ok(outcome) => self.complete(destination, outcome),
+            Err(refusal) => Err(refusal),
+        };
+        if outcome.is_err() {
+            destination.discard(self.rt);
+        }
+        outcome
+    }
+
+    /// Reports the end of a run, and completes the output where it was written.
+    fn complete<O: Write>(
+        &self,
+        destination: &Destination<R::File, O>,
+        outcome: Result<Counts, Fault>,
+    ) -> Result<(), Refusal<'a>> {
         self.meter.end(&outcome);
         match outcome {
-            Ok(_) => self
-                .target
-                .complete(self.rt, self.part.as_str(), self.asked.fsync),
+            Ok(_) => self.target.complete(self.rt, destination, self.asked.fsync),
             Err(fault) => {
                 let alloc = self.rt.alloc();
-                let names = input_names(alloc, self.asked.files.as_slice())?;
-                Err(Refusal::of_fault(alloc, &fault, names.as_slice(), self.target.name()))
+                match input_names(alloc, self.asked.files.as_slice()) {
+                    Ok(names) => Err(Refusal::of_fault(
+                        alloc,
+                        &fault,
+                        names.as_slice(),
+                        self.target.name(),
+                    )),
+                    Err(AllocError) => Err(Refusal::Memory),
+                }
             }
         }
     }
 
-    /// Writes what is selected: at first with all files as sorted ones that can be read again, and where one of them turns
-    /// out not to be sorted, anew with that file cut into its stretches, or held. Where that happens again, the others are
-    /// looked through before the next turn, so that there are few turns, however many files there are. There is one turn
-    /// alone where a file can't be read again, or the output can't be made anew.
-    fn write_by_turns<I: Read + Drop, O: Write + Drop>(
+    /// Writes what is selected. At first all files that can be read again are taken as sorted. Where one of them turns out not
+    /// to be sorted, the run writes anew with that file cut into its stretches, or held. Where that happens again, the run looks
+    /// through the others before it writes, so that there are few turns, however many files there are. There is only one turn
+    /// where a file can't be read again, or the output can't be made anew.
+    fn write_by_turns<I: Read + Drop, O: Write>(
         &self,
-        files: Vec<Stream<R::File, I>>,
-        writer: Stream<R::File, O>,
+        files: &mut OpenFiles<R::File, I>,
+        takings: &mut Vec<Taking>,
+        destination: &mut Destination<R::File, O>,
     ) -> Result<Result<Counts, Fault>, Refusal<'a>> {
-        let mut takings = self.first_takings(files.as_slice())?;
-        let has_one_turn = !self.target.is_renamed() || takings.iter().any(Taking::is_held);
+        self.take_first(files.as_slice(), takings)?;
+        let has_one_turn = !destination.can_be_emptied()
+            || takings.iter().any(|taking| taking.is_held());
         if has_one_turn && !self.asked.sorted {
             self.cut_unsorted(takings.as_mut_slice())?;
         }
-        let mut outcome = self.write(files, takings.as_slice(), writer)?;
+        let mut outcome = self.write(files.as_mut_slice(), takings.as_slice(), destination)?;
         if has_one_turn || self.asked.sorted {
             return Ok(outcome);
         }
@@ -121,25 +147,20 @@ where
             if turn > 0 {
                 self.cut_unsorted(takings.as_mut_slice())?;
             }
-            let files: Vec<Stream<R::File, I>> = open_all(
-                self.rt,
-                self.asked.files.as_slice(),
-                None,
-            )?;
-            let writer: Stream<R::File, O> = Stream::File(create(
-                self.rt,
-                self.asked.output,
-                self.part.as_str(),
-            )?);
-            outcome = self.write(files, takings.as_slice(), writer)?;
+            open_all(self.rt, self.asked.files.as_slice(), &mut None, files)?;
+            self.target.empty(destination)?;
+            outcome = self.write(files.as_mut_slice(), takings.as_slice(), destination)?;
         }
         Ok(outcome)
     }
 
-    /// How the files are taken at first: those that can't be read again are held.
-    fn first_takings<I>(&self, files: &[Stream<R::File, I>]) -> Result<Vec<Taking>, AllocError> {
-        let mut takings = Vec::new(self.rt.alloc());
-        for file in files {
+    /// Takes the files as they are taken at first: those that can't be read again are held.
+    fn take_first<I>(
+        &self,
+        files: &[Option<Stream<R::File, I>>],
+        takings: &mut Vec<Taking>,
+    ) -> Result<(), AllocError> {
+        for file in files.iter().flatten() {
             let order = if self.asked.sorted || file.can_be_read_again() {
                 Order::Sorted
             } else {
@@ -147,7 +168,7 @@ where
             };
             takings.push(Taking::whole(self.rt.alloc(), order)?)?;
         }
-        Ok(takings)
+        Ok(())
     }
 
     /// Looks through the files that are taken as sorted, and cuts those that aren't, or holds them.
@@ -195,31 +216,32 @@ where
     }
 
     /// Writes the versions that are selected of the files, each taken as is said. A fault is that of a file.
-    fn write<I: Read + Drop, O: Write + Drop>(
+    fn write<I: Read + Drop, O: Write>(
         &self,
-        files: Vec<Stream<R::File, I>>,
+        files: &mut [Option<Stream<R::File, I>>],
         takings: &[Taking],
-        writer: Stream<R::File, O>,
+        destination: &mut Destination<R::File, O>,
     ) -> Result<Result<Counts, Fault>, Refusal<'a>> {
-        self.meter.read_files(files.as_slice());
-        let inputs = self.open_stretches(files, takings)?;
-        match self.write_inputs(inputs, writer) {
-            Ok(counts) => Ok(Ok(counts)),
-            Err(fault) => Ok(Err(fault_of_file(takings, &fault))),
+        self.meter.read_files(files);
+        match self.open_stretches(files, takings) {
+            Ok(inputs) => match self.write_inputs(inputs, destination) {
+                Ok(counts) => Ok(Ok(counts)),
+                Err(fault) => Ok(Err(fault_of_file(takings, &fault))),
+            },
+            Err(refusal) => Err(refusal),
         }
     }
 
-    /// Readers of the stretches of files, which are open and stand at their beginnings.
+    /// Readers of the stretches of the files. Each file is handed to its first stretch, and opened once more for each other one.
     fn open_stretches<I: Read + Drop>(
         &self,
-        files: Vec<Stream<R::File, I>>,
+        files: &mut [Option<Stream<R::File, I>>],
         takings: &[Taking],
     ) -> Result<Vec<InputFile<StretchReader<Stream<R::File, I>>>>, Refusal<'a>> {
         let mut inputs = Vec::new(self.rt.alloc());
-        for ((file, taking), name) in files.into_iter().zip(takings).zip(&self.asked.files) {
-            let mut first = Some(file);
+        for ((file, taking), name) in files.iter_mut().zip(takings).zip(&self.asked.files) {
             for stretch in &taking.stretches {
-                let file = match first.take() {
+                let file = match file.take() {
                     Some(file) => file,
                     None => Stream::File(stretch.open(self.rt, *name)?),
                 };
@@ -252,16 +274,30 @@ where
             })?;
         }
         let mut output = buffered_out(alloc, writer)?;
-        let mut looking = &self.meter;
         run_selected(
             alloc,
             self.asked.selection,
             inputs,
             self.asked.format,
             &mut output,
-            &mut looking,
+            &mut &self.meter,
         )
     }
+}
+
+/// Merges files that are all taken as sorted.
+fn merge<F: Read + Drop, W: Write + Drop>(
+    alloc: Global,
+    format: Format,
+    files: Vec<InputFile<F>>,
+    writer: W,
+) -> Result<Counts, Fault> {
+    let mut inputs = Vec::new(alloc);
+    for file in files {
+        inputs.push(FromRead::new(file.reader))?;
+    }
+    let mut output = buffered_out(alloc, writer)?;
+    run_merge(alloc, inputs, format, &mut output)
 }
 
 /// How a file is taken.
@@ -312,19 +348,4 @@ fn fault_of_file(takings: &[Taking], fault: &Fault) -> Fault {
         input = input.saturating_sub(taking.stretches.len());
     }
     Fault::at(takings.len(), fault.place, fault.reason)
-}
-
-/// Merges files that are all taken as sorted.
-fn merge<F: Read + Drop, W: Write + Drop>(
-    alloc: Global,
-    format: Format,
-    files: Vec<InputFile<F>>,
-    writer: W,
-) -> Result<Counts, Fault> {
-    let mut inputs = Vec::new(alloc);
-    for file in files {
-        inputs.push(FromRead::new(file.reader))?;
-    }
-    let mut output = buffered_out(alloc, writer)?;
-    run_merge(alloc, inputs, format, &mut output)
 }

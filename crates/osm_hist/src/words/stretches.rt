@@ -1,11 +1,11 @@
 //! The stretches of a file that isn't sorted: it is cut where a version stands too late, into a few sorted files one behind
 //! the other, so that none of its versions need be held.
 use super::checking::is_unsorted;
-use super::files::open;
+use super::files::{Stream, open, read_retried};
 use super::refusal::Refusal;
 use osm_files::FromRead;
 use osm_mirror::run_check_sorted;
-use std::io::{Chain, Read, Seek, SeekFrom, Take};
+use std::io::{Chain, Empty, Read, Seek, SeekFrom, Take};
 use std::rt::Files;
 
 /// The most stretches that a run reads side by side: each is a file that is open.
@@ -81,7 +81,8 @@ impl Stretch {
         rt: &R,
         name: &'a str,
     ) -> Result<Found, Refusal<'a>> {
-        let reader = self.reader(self.open(rt, name)?);
+        let file: Stream<R::File, Empty> = Stream::File(self.open(rt, name)?);
+        let reader = self.reader(file);
         match run_check_sorted(rt.alloc(), FromRead::new(reader)) {
             Ok(_) => Ok(Found::Sorted),
             Err(fault) if is_unsorted(&fault) => {
@@ -156,7 +157,7 @@ pub(super) fn cut_file<'a, R: Files + AllocGlobal>(
 /// The byte at this place of the file, if one can be read there.
 fn byte_at<'a, R: Files>(rt: &R, name: &'a str, place: u64) -> Result<Option<u8>, Refusal<'a>> {
     let mut byte = [0u8; 1];
-    match open_at(rt, name, place)?.read(&mut byte) {
+    match read_retried(&mut open_at(rt, name, place)?, &mut byte) {
         Ok(1) => Ok(Some(byte[0])),
         _ => Ok(None),
     }

@@ -1,17 +1,20 @@
 //! Where a run writes: a file that is made, a pipe or a device that is there, or standard output.
-use super::files::{Stream, create, rename, sync};
+use super::files::{Stream, write_retried};
+use super::part::{Part, PartFile, is_part};
 use super::refusal::Refusal;
-use std::fs;
+use std::alloc::Global;
 use std::fs::{File, OpenFile};
+use std::io::{Seek, Write};
 use std::rt::Files;
+use std::{fs, io};
 
-/// The word for standard input among the files to be read, and for standard output as the one to be written.
+/// The argument for standard input among the files to be read, and for standard output as the one to be written.
 pub(super) const STANDARD: &str = "-";
 
 /// Where a run writes.
 #[derive(Clone, Copy, Debug)]
 pub(super) enum Target<'a> {
-    /// The file of this name, which is written as another one that is renamed at the end.
+    /// The file of this name, which is written as OUT.part that is renamed at the end.
     File(&'a str),
     /// A pipe or a device of this name, which is there and is written as it is.
     Device(&'a str),
@@ -20,7 +23,7 @@ pub(super) enum Target<'a> {
 }
 
 impl<'a> Target<'a> {
-    /// What the word after `--output` means.
+    /// What the argument after `--output` means.
     pub(super) fn of_word<R: Files>(rt: &R, word: &'a str) -> Target<'a> {
         if word == STANDARD {
             Target::StandardOutput
@@ -29,7 +32,7 @@ impl<'a> Target<'a> {
         }
     }
 
-    /// What stands under this name. A name of standard output means it even where that is a file, which must not be
+    /// What has this name. A name of standard output means it even where that is a file, which must not be
     /// renamed over the device.
     pub(super) fn of_name<R: Files>(rt: &R, name: &'a str) -> Target<'a> {
         if name == "/dev/stdout" {
@@ -41,6 +44,16 @@ impl<'a> Target<'a> {
         }
     }
 
+    /// Refuses a file to be read that has the name of OUT.part.
+    pub(super) fn refuse_part(self, files: &[&'a str]) -> Result<(), Refusal<'a>> {
+        match self {
+            Target::File(output) if files.iter().any(|name| is_part(name, output)) => {
+                Err(Refusal::InputIsOutput { output })
+            }
+            _ => Ok(()),
+        }
+    }
+
     /// Its name in the line of a fault.
     pub(super) fn name(self) -> &'a str {
         match self {
@@ -49,60 +62,103 @@ impl<'a> Target<'a> {
         }
     }
 
-    /// Whether it is written as another file that is renamed at the end, so that it can be made anew.
-    pub(super) fn is_renamed(self) -> bool {
-        match self {
-            Target::File(_) => true,
-            _ => false,
-        }
-    }
-
-    /// What is written: OUT.part made empty, or what is there.
-    pub(super) fn open<'o, R: Files, O>(
+    /// Opens what is written: OUT.part, made for this run, or what is there.
+    pub(super) fn open<R: Files, I, O: Drop>(
         self,
         rt: &R,
-        part: &str,
-        out: &'o mut O,
-    ) -> Result<Stream<R::File, &'o mut O>, Refusal<'a>> {
+        alloc: Global,
+        inputs: &[Option<Stream<R::File, I>>],
+        out: O,
+    ) -> Result<Destination<R::File, O>, Refusal<'a>>
+    where
+        R::File: PartFile,
+    {
         match self {
-            Target::File(name) => Ok(Stream::File(create(rt, name, part)?)),
+            Target::File(output) => match Part::make(rt, alloc, output, inputs) {
+                Ok(part) => Ok(Destination::Part(part)),
+                Err(refusal) => Err(refusal),
+            },
             Target::Device(name) => match File::options().write(true).open(rt, name) {
-                Ok(device) => Ok(Stream::File(device)),
+                Ok(file) => Ok(Destination::Device(file)),
                 Err(_) => Err(Refusal::CannotWrite { name }),
             },
-            Target::StandardOutput => Ok(Stream::Standard(out)),
+            Target::StandardOutput => Ok(Destination::Standard(out)),
         }
     }
 
-    /// Ends a run whose bytes were written: OUT.part becomes OUT, and is on the disk before where that is asked for.
-    pub(super) fn complete<R: Files>(
+    /// Empties OUT.part, so that it is written anew.
+    pub(super) fn empty<F: PartFile + Seek + Write, O>(
         self,
-        rt: &R,
-        part: &str,
-        fsync: bool,
+        destination: &mut Destination<F, O>,
     ) -> Result<(), Refusal<'a>> {
-        match self {
-            Target::File(name) => {
-                if fsync {
-                    sync(rt, name, part)?;
-                }
-                rename(rt, part, name)
-            }
+        match (self, destination) {
+            (Target::File(output), Destination::Part(part)) => match part.empty() {
+                Ok(()) => Ok(()),
+                Err(_) => Err(Refusal::CannotCreate { output }),
+            },
             _ => Ok(()),
         }
     }
 
-    /// Ends a run that was begun: a refused one leaves no OUT.part. Where it can't be removed it stays, and the refusal
-    /// is the same.
-    pub(super) fn end<R: Files>(
+    /// Ends a run whose bytes were written: OUT.part becomes OUT.
+    pub(super) fn complete<R: Files, O>(
         self,
         rt: &R,
-        part: &str,
-        outcome: Result<(), Refusal<'a>>,
-    ) -> Result<(), Refusal<'a>> {
-        if outcome.is_err() && self.is_renamed() {
-            let _ = fs::remove_file(rt, part);
+        destination: &Destination<R::File, O>,
+        fsync: bool,
+    ) -> Result<(), Refusal<'a>>
+    where
+        R::File: PartFile,
+    {
+        match (self, destination) {
+            (Target::File(output), Destination::Part(part)) => part.complete(rt, output, fsync),
+            _ => Ok(()),
         }
-        outcome
+    }
+}
+
+/// What a run writes to, open.
+#[derive(Drop)]
+pub(super) enum Destination<F, O> {
+    /// OUT.part, which becomes OUT.
+    Part(Part<F>),
+    /// A pipe or a device.
+    Device(F),
+    /// Standard output.
+    Standard(O),
+}
+
+impl<F: PartFile + Seek + Write, O> Destination<F, O> {
+    /// Whether it can be written anew.
+    pub(super) fn can_be_emptied(&self) -> bool {
+        match self {
+            Destination::Part(_) => true,
+            _ => false,
+        }
+    }
+
+    /// Ends a run that was refused: it leaves no OUT.part.
+    pub(super) fn discard<R: Files>(&self, rt: &R) {
+        if let Destination::Part(part) = self {
+            part.discard(rt);
+        }
+    }
+}
+
+impl<F: PartFile + Seek + Write, O: Write> Write for Destination<F, O> {
+    fn write(&mut self, bytes: &[u8]) -> io::Result<usize> {
+        match self {
+            Destination::Part(part) => write_retried(part.file(), bytes),
+            Destination::Device(file) => write_retried(file, bytes),
+            Destination::Standard(stream) => write_retried(stream, bytes),
+        }
+    }
+
+    fn flush(&mut self) -> io::Result<()> {
+        match self {
+            Destination::Part(part) => part.file().flush(),
+            Destination::Device(file) => file.flush(),
+            Destination::Standard(stream) => stream.flush(),
+        }
     }
 }

@@ -1,87 +1,72 @@
-//! Commands in a folder of their own: the exit status, what is printed, and which files there are.
+//! Commands in a folder of their own: the exit status, what is printed, and which files there are. `tools/commands` tests the
+//! built program.
+use super::part::{Lock, PartFile, take_lock};
 use super::run_words;
 use std::alloc::Global;
-use std::io::{IsTerminal, Read, Write};
-use std::process::Abort;
+use std::fs::{File, Metadata, OpenFile, TryLockError};
+use std::io::{ErrorKind, IsTerminal, Read, Write};
 use std::rt::Files;
 use std::test::Fail;
 use std::time::Clock;
-use std::{env, fs, io};
+use std::{env, fs, io, str};
 
-mod apply;
-mod check;
-mod order;
-mod plan;
-mod progress;
-mod sort;
-mod standard;
-mod stretches;
-mod time_filter;
-
-/// The line of a version.
-const FIRST: &str = "n1 v1 dV x1.5 y2\n";
-
-/// The line of the version after it.
-const SECOND: &str = "n1 v2 dV x1.5 y3\n";
-
-/// What a merge of both writes.
+/// What a merge of the files a.opl and b.opl writes.
 const MERGED: &str = "n1 v1 dV c0 t i0 u T x1.5 y2\nn1 v2 dV c0 t i0 u T x1.5 y3\n";
 
 /// The file of a node and its deletion.
 const NODE_THEN_DELETION: &[u8] =
     b"\xff\xe0\x04o5m2\x10\x0b\x02\x01\x02\x02\x00\x01\x00a\x00\x00\x00\x10\x05\x00\x02\x02\x00\x01\xfe";
 
-/// Two nodes, of which the second has the lesser id.
-const UNSORTED: &str = "n2 v1 x1 y1\nn1 v1 x1 y1\n";
+/// The plan of two mirrors that take a file each and pass it on.
+const TWO_MIRRORS: &[u8] =
+    b"latest\nlatest\ntake 0 node.opl\ntake 1 gone.opl\npass 0 1 o5c\npass 1 0 opl\ntake 0 node.opl\n\
+    write 0 opl x.opl\nwrite 1 opl y.opl\n";
 
-/// A device that answers an error to every call.
+/// The files that the commands find.
+const FILES: [(&str, &[u8]); 11] = [
+    ("a.opl", b"n1 v1 dV x1.5 y2\n"),
+    ("b.opl", b"n1 v2 dV x1.5 y3\n"),
+    ("bad.opl", b"n1 v1 x1"),
+    ("node.opl", b"n1 v1 dV x1 y1\n"),
+    ("gone.opl", b"n1 v2 dD\n"),
+    ("a.o5m", NODE_THEN_DELETION),
+    ("two.plan", TWO_MIRRORS),
+    ("bad.plan", b"latest\ntake 0 bad.opl\nwrite 0 opl x.opl\n"),
+    ("mirror.plan", b"latest\ntake 1 a.opl"),
+    ("order.plan", b"latest\ntake 0 a.opl\nlatest"),
+    ("word.plan", b"latest\n\ntake 0  a.opl"),
+];
+
+/// A device that fails at every call.
 #[derive(Drop)]
 struct Broken;
 
 impl Read for Broken {
     fn read(&mut self, _buffer: &mut [u8]) -> io::Result<usize> {
-        Err(io::Error::from(io::ErrorKind::Other))
+        Err(io::Error::from(ErrorKind::Other))
     }
 }
 
 impl Write for Broken {
     fn write(&mut self, _bytes: &[u8]) -> io::Result<usize> {
-        Err(io::Error::from(io::ErrorKind::Other))
+        Err(io::Error::from(ErrorKind::Other))
     }
 
     fn flush(&mut self) -> io::Result<()> {
-        Err(io::Error::from(io::ErrorKind::Other))
+        Err(io::Error::from(ErrorKind::Other))
     }
 }
 
-/// A reader that gives what it has, and then answers an error.
-#[derive(Drop)]
-struct Breaking<'a> {
-    rest: &'a [u8],
-}
-
-impl Read for Breaking<'_> {
-    fn read(&mut self, buffer: &mut [u8]) -> io::Result<usize> {
-        if self.rest.is_empty() {
-            return Err(io::Error::from(io::ErrorKind::Other));
-        }
-        self.rest.read(buffer)
-    }
-}
-
-/// A standard error that keeps what it is told.
+/// A standard error that keeps what it is given.
 #[derive(Drop)]
 struct Log {
     bytes: Vec<u8>,
-    is_terminal: bool,
 }
 
 impl Log {
-    /// An empty file.
     fn new(alloc: Global) -> Log {
         Log {
             bytes: Vec::new(alloc),
-            is_terminal: false,
         }
     }
 }
@@ -98,282 +83,251 @@ impl Write for Log {
 
 impl IsTerminal for &mut Log {
     fn is_terminal(&self) -> bool {
-        self.is_terminal
+        false
     }
 }
 
-/// What a command answered.
-#[derive(Drop)]
-struct Answer {
-    status: u8,
-    out: Vec<u8>,
-    err: Vec<u8>,
-}
-
-/// Runs a command without standard input.
-fn run<R: Files + Clock + AllocGlobal>(rt: &R, words: &[&str]) -> Answer {
+/// The status of a command, and what it printed on standard output and on standard error.
+fn outcome<R: Files + Clock + AllocGlobal, I: Read + Drop>(
+    rt: &R,
+    words: &[&str],
+    input: I,
+) -> String
+where
+    R::File: PartFile,
+{
     let mut out = Vec::new(rt.alloc());
     let mut err = Log::new(rt.alloc());
-    let status = run_words(rt, words, b"".as_slice(), &mut out, &mut err);
-    Answer {
-        status,
-        out,
-        err: err.bytes,
-    }
+    let status = run_words(rt, words, input, &mut out, &mut err);
+    let outcome = format!(in rt.alloc(); "{status} {}{}", text(&out), text(&err.bytes));
+    outcome.unwrap_or(String::new(rt.alloc()))
 }
 
-/// Sees that a command is refused with this status and line.
-fn assert_refused<R: Files + Clock + AllocGlobal + Abort>(
-    rt: &R,
-    words: &[&str],
-    status: u8,
-    line: &str,
-) {
-    let answer = run(rt, words);
-    assert_eq!(rt; answer.status, status);
-    assert_eq!(rt; answer.err.as_slice(), line.as_bytes());
-    assert!(rt; answer.out.is_empty());
+/// Bytes as a text.
+fn text(bytes: &[u8]) -> &str {
+    str::from_utf8(bytes).unwrap_or("no UTF-8")
 }
 
-/// Sees that a command makes o.opl with this text, says nothing, and leaves no o.opl.part.
-fn assert_makes<R: Files + Clock + AllocGlobal + Abort>(
-    rt: &R,
-    words: &[&str],
-    text: &str,
-) -> Result<(), Fail> {
-    let answer = run(rt, words);
-    assert_eq!(rt; answer.err.as_slice(), b"".as_slice());
-    assert_eq!(rt; answer.status, 0);
-    assert!(rt; answer.out.is_empty());
-    assert_eq!(rt; fs::read_to_string(rt, "o.opl")?.as_str(), text);
-    assert!(rt; !fs::exists(rt, "o.opl.part")?);
-    Ok(())
-}
-
-/// Makes a folder of this name and works in it.
+/// Makes a folder of this name with the files, and works in it.
 fn enter(rt: &HostRuntime, folder: &str) -> io::Result<()> {
     let _ = fs::remove_dir_all(rt, folder);
     fs::create_dir(rt, folder)?;
-    env::set_current_dir(rt, folder)
-}
-
-/// Leaves the folder and removes it.
-fn leave(rt: &HostRuntime, folder: &str) -> io::Result<()> {
-    env::set_current_dir(rt, "..")?;
-    fs::remove_dir_all(rt, folder)
-}
-
-#[test]
-fn files_are_merged(rt: HostRuntime) -> Result<(), Fail> {
-    enter(&rt, "files_are_merged")?;
-    fs::write(&rt, "a.opl", FIRST)?;
-    fs::write(&rt, "b.opl", SECOND)?;
-    let words = [
-        "merge", "--output", "o.opl", "--format", "opl", "a.opl", "b.opl",
-    ];
-    assert_makes(&rt, &words, MERGED)?;
-    leave(&rt, "files_are_merged")?;
-    Ok(())
-}
-
-#[test]
-fn refused_files_leave_the_output_as_it_was(rt: HostRuntime) -> Result<(), Fail> {
-    enter(&rt, "refused_files")?;
-    fs::write(&rt, "a.opl", FIRST)?;
-    fs::write(&rt, "o.opl", SECOND)?;
-    fs::write(&rt, "bad.opl", "# a node without a location\nn1 v1 x1\n")?;
-    fs::create_dir(&rt, "folder")?;
-    for command in ["merge", "apply", "sort"] {
-        for (name, line) in [
-            ("bad.opl", "bad.opl: 28: NoLocation\n"),
-            ("gone.opl", "gone.opl: cannot read\n"),
-            ("folder", "folder: 0: ReadFault\n"),
-        ] {
-            let words = [command, "--output", "o.opl", "a.opl", name];
-            assert_refused(&rt, &words, 1, line);
-        }
-        let words = [command, "--output", "o.opl", "gone.opl", "o.opl.part"];
-        assert_refused(&rt, &words, 2, "o.opl.part: input is the output\n");
+    env::set_current_dir(rt, folder)?;
+    for (name, bytes) in FILES {
+        fs::write(rt, name, bytes)?;
     }
-    assert_eq!(rt; fs::read_to_string(&rt, "o.opl")?.as_str(), SECOND);
-    assert!(rt; !fs::exists(&rt, "o.opl.part")?);
-    leave(&rt, "refused_files")?;
     Ok(())
 }
 
-#[test]
-fn an_earlier_part_stays_until_it_is_made_anew(rt: HostRuntime) -> Result<(), Fail> {
-    enter(&rt, "an_earlier_part")?;
-    fs::write(&rt, "o.opl.part", FIRST)?;
-    let words = ["sort", "--output", "o.opl", "gone.opl"];
-    assert_refused(&rt, &words, 1, "gone.opl: cannot read\n");
-    assert_eq!(rt; fs::read_to_string(&rt, "o.opl.part")?.as_str(), FIRST);
-    fs::write(&rt, "a.opl", SECOND)?;
-    let words = ["sort", "--output", "o.opl", "a.opl"];
-    assert_makes(&rt, &words, "n1 v2 dV c0 t i0 u T x1.5 y3\n")?;
-    leave(&rt, "an_earlier_part")?;
-    Ok(())
+/// The text of a file, or what there is in its place.
+fn content<R: Files + AllocGlobal>(rt: &R, name: &str) -> String {
+    fs::read_to_string(rt, name).unwrap_or(String::new(rt.alloc()))
 }
 
 #[test]
-fn outputs_that_cannot_be_made_are_refused(rt: HostRuntime) -> Result<(), Fail> {
-    enter(&rt, "refused_outputs")?;
-    fs::write(&rt, "a.opl", FIRST)?;
-    fs::create_dir(&rt, "folder")?;
-    let merge = ["merge", "--output", "gone/o.opl", "a.opl"];
-    assert_refused(&rt, &merge, 1, "gone/o.opl.part: cannot create\n");
-    let merge = ["merge", "--output", "folder", "a.opl"];
-    assert_refused(&rt, &merge, 1, "folder: cannot rename\n");
-    assert!(rt; !fs::exists(&rt, "folder.part")?);
-    leave(&rt, "refused_outputs")?;
-    Ok(())
-}
-
-#[test]
-fn mistaken_words_are_refused(rt: HostRuntime) {
-    for words in [
-        ["merge", "a.opl"].as_slice(),
-        &["merge", "--output", "o.opl", "--format", "xml", "a.opl"],
-        &["merge", "--output", "o.opl", "--sorted", "a.opl"],
-        &["apply", "--output", "o.opl"],
-        &["sort", "--output", "o.opl", "--with-history", "a.opl"],
-        &["time-filter", "--output", "o.opl", "a.opl"],
-        &["time-filter", "--output", "o.opl", "a.opl", "1", "2", "3"],
-        &["check", "a.opl", "b.opl"],
-        &["plan", "a.plan", "b.plan"],
-        &["--output", "o.opl"],
-        &["mend", "a.opl"],
+fn words_and_what_they_get(rt: HostRuntime) -> Result<(), Fail> {
+    enter(&rt, "words_and_what_they_get")?;
+    let [month, zero] = ["2014-13-01T00:00:00Z", "1970-01-01T00:00:00Z"];
+    for (time, wanted) in [
+        (month, "2 2014-13-01T00:00:00Z: not a moment\n"),
+        (zero, "2 1970-01-01T00:00:00Z: not a moment\n"),
     ] {
-        let answer = run(&rt, words);
-        assert_eq!(rt; answer.status, 2);
-        assert!(rt; answer.out.is_empty());
-        assert!(rt; !answer.err.is_empty());
+        let words = ["time-filter", "--output", "o.opl", "a.opl", time];
+        assert_eq!(rt; outcome(&rt, &words, b"".as_slice()).as_str(), wanted);
+    }
+    let [early, late] = ["2014-05-06T07:08:09Z", "2014-05-06T07:08:10Z"];
+    for (from, to, wanted) in [
+        (month, "never", "2 2014-13-01T00:00:00Z: not a moment\n"),
+        (late, late, "2 2014-05-06T07:08:10Z: not after the first\n"),
+        (late, early, "2 2014-05-06T07:08:09Z: not after the first\n"),
+    ] {
+        let words = ["time-filter", "--output", "o.opl", "a.opl", from, to];
+        assert_eq!(rt; outcome(&rt, &words, b"".as_slice()).as_str(), wanted);
+    }
+    for (first, second, wanted) in [
+        ("a.opl", "o.opl.part", "2 o.opl.part: input is the output\n"),
+        ("a.opl", "no.opl", "1 no.opl: cannot read\n"),
+        ("-", "-", "2 standard input: given twice\n"),
+        ("a.opl", "bad.opl", "1 bad.opl: 0: NoLocation\n"),
+        ("a.opl", "b.opl", "0 "),
+    ] {
+        let words = ["merge", "--output", "o.opl", first, second];
+        assert_eq!(rt; outcome(&rt, &words, b"".as_slice()).as_str(), wanted);
+    }
+    assert_eq!(rt; content(&rt, "o.opl").as_str(), MERGED);
+    assert!(rt; !fs::exists(&rt, "o.opl.part")?);
+    Ok(())
+}
+
+#[test]
+fn mistaken_words_are_refused_and_help_is_printed(rt: HostRuntime) {
+    for (words, status) in [
+        (["merge", "a.opl"].as_slice(), "2 "),
+        (
+            &["merge", "--output", "o.opl", "--format", "xml", "a.opl"],
+            "2 ",
+        ),
+        (
+            &["sort", "--output", "o.opl", "--with-history", "a.opl"],
+            "2 ",
+        ),
+        (&["mend"], "2 "),
+        (&["merge", "--help"], "0 "),
+        (&["--version"], "0 osm_hist "),
+    ] {
+        assert!(rt; outcome(&rt, words, b"".as_slice()).starts_with(status));
     }
 }
 
 #[test]
-fn help_is_printed(rt: HostRuntime) -> Result<(), Fail> {
-    assert_eq!(rt; run(&rt, &["--help"]).status, 0);
-    for command in ["merge", "apply", "time-filter", "sort", "check", "plan"] {
-        let answer = run(&rt, &[command, "--help"]);
-        assert_eq!(rt; answer.status, 0);
-        assert!(rt; answer.err.is_empty());
-        let text = String::from_utf8(answer.out)?;
-        assert!(rt; text.contains("\nMemory: "));
-        for form in ["Usage", "Example"] {
-            let line = format!(in rt.alloc(); "{form}: osm_hist {command} ")?;
-            assert!(rt; text.contains(line.as_str()));
+fn standard_input(rt: HostRuntime) {
+    let words: [&str; 0] = [];
+    let merged = outcome(
+        &rt,
+        &words,
+        b"n1 v1 dV x1.5 y2\nn1 v2 dV x1.5 y3\n".as_slice(),
+    );
+    assert_eq!(rt; merged.as_str().strip_prefix("0 "), Some(MERGED));
+    let faulty = outcome(&rt, &words, b"n1 v1 x1 y1 q".as_slice());
+    assert_eq!(rt; faulty.as_str(), "1 standard input: 0: UnknownField\n");
+    let failing = outcome(&rt, &words, Broken);
+    assert_eq!(rt; failing.as_str(), "1 standard input: 0: ReadFault\n");
+}
+
+/// What a command says whose standard output fails.
+fn unprinted<R: Files + Clock + AllocGlobal>(rt: &R, words: &[&str]) -> String
+where
+    R::File: PartFile,
+{
+    let mut err = Log::new(rt.alloc());
+    let status = run_words(rt, words, MERGED.as_bytes(), Broken, &mut err);
+    let outcome = format!(in rt.alloc(); "{status} {}", text(&err.bytes));
+    outcome.unwrap_or(String::new(rt.alloc()))
+}
+
+#[test]
+fn standard_output_that_fails(rt: HostRuntime) -> Result<(), Fail> {
+    enter(&rt, "standard_output_that_fails")?;
+    for (words, wanted) in [
+        ([].as_slice(), "1 standard output: 58: WriteFault\n"),
+        (&["check", "a.opl"], "1 standard output: cannot write\n"),
+        (&["--help"], "1 standard output: cannot write\n"),
+        (&["plan", "two.plan"], "1 standard output: cannot write\n"),
+    ] {
+        assert_eq!(rt; unprinted(&rt, words).as_str(), wanted);
+    }
+    assert!(rt; !fs::exists(&rt, "x.opl")?);
+    Ok(())
+}
+
+#[test]
+fn check_and_cut(rt: HostRuntime) -> Result<(), Fail> {
+    enter(&rt, "check_and_cut")?;
+    fs::write(&rt, "cut.o5m", &NODE_THEN_DELETION[..27])?;
+    let checked = outcome(&rt, &["check", "a.o5m"], b"".as_slice());
+    assert_eq!(rt; checked.as_str(), "0 o5m: 2 versions, 1 objects, sorted\n");
+    let merge = ["merge", "--output", "out.opl", "cut.o5m"];
+    assert_eq!(rt;
+        outcome(&rt, &merge, b"".as_slice()).as_str(),
+        "1 cut.o5m: 27: NoEnd\n"
+    );
+    assert!(rt; !fs::exists(&rt, "out.opl")?);
+    assert!(rt; !fs::exists(&rt, "out.opl.part")?);
+    Ok(())
+}
+
+#[test]
+fn plan_of_two_mirrors(rt: HostRuntime) -> Result<(), Fail> {
+    enter(&rt, "plan_of_two_mirrors")?;
+    let printed = outcome(&rt, &["plan", "two.plan"], b"".as_slice());
+    let wanted = "0 1 Taken\n2 Taken\n3 Taken\n4 Taken\n5 Taken\n";
+    assert_eq!(rt; printed.as_str(), wanted);
+    for name in ["x.opl", "y.opl"] {
+        assert_eq!(rt; content(&rt, name).as_str(), "n1 v2 dD c0 t i0 u T x y\n");
+    }
+    Ok(())
+}
+
+#[test]
+fn plans_and_what_they_get(rt: HostRuntime) -> Result<(), Fail> {
+    enter(&rt, "plans_and_what_they_get")?;
+    for (plan, wanted) in [
+        ("bad.plan", "0 1 Refused 0 NoLocation\n"),
+        ("mirror.plan", "2 mirror.plan: line 2: NoMirror\n"),
+        ("order.plan", "2 order.plan: line 3: BadOrder\n"),
+        ("word.plan", "2 word.plan: line 3: BadWord\n"),
+        ("no.plan", "1 no.plan: cannot read\n"),
+    ] {
+        let printed = outcome(&rt, &["plan", plan], b"".as_slice());
+        assert_eq!(rt; printed.as_str(), wanted);
+    }
+    assert_eq!(rt; fs::read(&rt, "x.opl")?.len(), 0);
+    Ok(())
+}
+
+#[test]
+fn out_part_belongs_to_one_run(rt: HostRuntime) -> Result<(), Fail> {
+    enter(&rt, "out_part_belongs_to_one_run")?;
+    fs::write(&rt, "o.opl.part", "another run's")?;
+    let other = File::open(&rt, "o.opl.part")?;
+    assert!(rt; other.try_lock().is_ok());
+    let merge = ["merge", "--output", "o.opl", "a.opl"];
+    let refused = outcome(&rt, &merge, b"".as_slice());
+    assert_eq!(rt; refused.as_str(), "1 o.opl.part: cannot create\n");
+    assert_eq!(rt; content(&rt, "o.opl.part").as_str(), "another run's");
+    drop(other);
+    assert_eq!(rt; outcome(&rt, &merge, b"".as_slice()).as_str(), "0 ");
+    assert!(rt; !fs::exists(&rt, "o.opl.part")?);
+    Ok(())
+}
+
+/// A file whose lock has this outcome.
+#[derive(Drop)]
+struct Locking {
+    outcome: Option<ErrorKind>,
+    is_held: bool,
+}
+
+impl OpenFile for Locking {
+    fn metadata(&self) -> io::Result<Metadata> {
+        Ok(Metadata::of_file(0))
+    }
+
+    fn set_len(&self, _size: u64) -> io::Result<()> {
+        Ok(())
+    }
+
+    fn sync_all(&self) -> io::Result<()> {
+        Ok(())
+    }
+
+    fn sync_data(&self) -> io::Result<()> {
+        Ok(())
+    }
+}
+
+impl PartFile for Locking {
+    fn try_lock(&self) -> Result<(), TryLockError> {
+        match self.outcome {
+            _ if self.is_held => Err(TryLockError::WouldBlock),
+            Some(kind) => Err(TryLockError::Error(io::Error::from(kind))),
+            None => Ok(()),
         }
     }
-    let mut err = Log::new(rt.alloc());
-    let status = run_words(&rt, &["--help"], b"".as_slice(), Broken, &mut err);
-    assert_eq!(rt; status, 1);
-    assert_eq!(rt;
-        err.bytes.as_slice(),
-        b"standard output: cannot write\n".as_slice()
-    );
-    Ok(())
+
+    fn set_owner(&self, _uid: Option<u32>, _gid: u32) -> io::Result<()> {
+        Ok(())
+    }
 }
 
 #[test]
-fn standard_input_is_merged(rt: HostRuntime) {
-    let words: [&str; 0] = [];
-    let mut out = Vec::new(rt.alloc());
-    let mut err = Log::new(rt.alloc());
-    let status = run_words(&rt, &words, MERGED.as_bytes(), &mut out, &mut err);
-    assert_eq!(rt; status, 0);
-    assert_eq!(rt; out.as_slice(), MERGED.as_bytes());
-    assert!(rt; err.bytes.is_empty());
-    let status = run_words(&rt, &words, Broken, &mut out, &mut err);
-    assert_eq!(rt; status, 1);
-    assert_eq!(rt;
-        err.bytes.as_slice(),
-        b"standard input: 0: ReadFault\n".as_slice()
-    );
-    err.bytes.clear();
-    let status = run_words(&rt, &words, MERGED.as_bytes(), Broken, &mut err);
-    assert_eq!(rt; status, 1);
-    assert_eq!(rt;
-        err.bytes.as_slice(),
-        b"standard output: 58: WriteFault\n".as_slice()
-    );
-}
-
-#[test]
-fn a_reader_that_fails_in_mid_stream_is_named(rt: HostRuntime) {
-    let words: [&str; 0] = [];
-    let mut out = Vec::new(rt.alloc());
-    let mut err = Log::new(rt.alloc());
-    let input = Breaking {
-        rest: MERGED.as_bytes(),
-    };
-    let status = run_words(&rt, &words, input, &mut out, &mut err);
-    assert_eq!(rt; status, 1);
-    assert_eq!(rt;
-        err.bytes.as_slice(),
-        b"standard input: 58: ReadFault\n".as_slice()
-    );
-    // the version before the one in which the fault was met was written, and stays
-    assert_eq!(rt;
-        out.as_slice(),
-        b"n1 v1 dV c0 t i0 u T x1.5 y2\n".as_slice()
-    );
-}
-
-#[test]
-fn a_faulty_line_of_standard_input_is_named(rt: HostRuntime) -> Result<(), Fail> {
-    let mut out = Vec::new(rt.alloc());
-    let mut err = Log::new(rt.alloc());
-    let words: [&str; 0] = [];
-    let status = run_words(&rt, &words, b"n1 v1 x1 y1 q".as_slice(), &mut out, &mut err);
-    assert_eq!(rt; status, 1);
-    assert_eq!(rt;
-        err.bytes.as_slice(),
-        b"standard input: 0: UnknownField\n".as_slice()
-    );
-    assert!(rt; out.is_empty());
-    Ok(())
-}
-
-/// Sees that the merge of both files in this format is merged back to lines, by file and by standard input.
-fn assert_back<R: Files + Clock + AllocGlobal + Abort>(rt: &R, format: &str) -> Result<(), Fail> {
-    let to = [
-        "merge", "--output", "m", "--format", format, "a.opl", "b.opl",
-    ];
-    assert_eq!(rt; run(rt, &to).status, 0);
-    let back = ["merge", "--output", "o.opl", "m"];
-    assert_eq!(rt; run(rt, &back).status, 0);
-    assert_eq!(rt; fs::read_to_string(rt, "o.opl")?.as_str(), MERGED);
-    let file = fs::read(rt, "m")?;
-    let words: [&str; 0] = [];
-    let mut out = Vec::new(rt.alloc());
-    let mut err = Log::new(rt.alloc());
-    let status = run_words(rt, &words, file.as_slice(), &mut out, &mut err);
-    assert_eq!(rt; status, 0);
-    assert_eq!(rt; out.as_slice(), MERGED.as_bytes());
-    Ok(())
-}
-
-#[test]
-fn three_formats_by_file_and_by_standard_input(rt: HostRuntime) -> Result<(), Fail> {
-    enter(&rt, "three_formats")?;
-    fs::write(&rt, "a.opl", FIRST)?;
-    fs::write(&rt, "b.opl", SECOND)?;
-    assert_back(&rt, "opl")?;
-    assert_back(&rt, "o5m")?;
-    assert_back(&rt, "o5c")?;
-    leave(&rt, "three_formats")?;
-    Ok(())
-}
-
-#[test]
-fn a_cut_file_is_refused(rt: HostRuntime) -> Result<(), Fail> {
-    enter(&rt, "a_cut_file")?;
-    fs::write(&rt, "cut.o5m", &NODE_THEN_DELETION[..27])?;
-    let merge = ["merge", "--output", "o.opl", "cut.o5m"];
-    assert_refused(&rt, &merge, 1, "cut.o5m: 27: NoEnd\n");
-    assert!(rt; !fs::exists(&rt, "o.opl")?);
-    assert!(rt; !fs::exists(&rt, "o.opl.part")?);
-    leave(&rt, "a_cut_file")?;
-    Ok(())
+fn a_run_does_without_locks_where_there_are_none(rt: HostRuntime) {
+    for (outcome, is_held, wanted) in [
+        (None, false, Lock::Held),
+        (None, true, Lock::OfAnother),
+        (Some(ErrorKind::Unsupported), false, Lock::Held),
+        (Some(ErrorKind::Other), false, Lock::Failed),
+    ] {
+        assert_eq!(rt; take_lock(&Locking { outcome, is_held }), wanted);
+    }
 }
