@@ -1,4 +1,5 @@
 """What the scripts beside this file share: counting what holds, and the program that they try."""
+import subprocess
 import sys
 from pathlib import Path
 
@@ -6,8 +7,10 @@ TOP = Path(__file__).resolve().parent.parent
 
 
 def program_of(words):
-    """The program that is tried: the first of the words, or the one that was built last."""
-    return str(Path(words[0] if words else TOP / "crates/osm_hist/out/osm_hist").resolve())
+    """The program that is tried: the first of the arguments, or one that is up to date."""
+    if words:
+        return str(Path(words[0]).resolve())
+    return subprocess.run([TOP / "tools/program"], stdout=subprocess.PIPE, text=True, check=True).stdout.strip()
 
 
 class Counts:
