@@ -1,7 +1,9 @@
 """What tools/growth and tools/devices share: the program of crates/trials, which makes one call a run, and worked rows for it.
 
-As a program it builds the trials, where they are not built.
+As a program it builds the trials, where they are not built. Without the kit's command rt they can't be built, and the scripts that
+make them skip.
 """
+import shutil
 import subprocess
 import tempfile
 from pathlib import Path
@@ -180,6 +182,14 @@ class Trials(Counts):
         return run.returncode, run.stdout, run.stderr
 
 
+def skip_without_kit():
+    """Ends the script, with nothing passed and nothing failed, where the kit's command isn't on the PATH."""
+    if not shutil.which("rt"):
+        print("skipped: the kit's command rt is not on the PATH")
+        print("0 passed, 0 failed")
+        raise SystemExit(0)
+
+
 def build():
     """Proves and builds the program, unless rt ci left it and no source is newer."""
     program = CRATE / "out/trials"
@@ -187,6 +197,7 @@ def build():
         made = program.stat().st_mtime
         if all(source.stat().st_mtime <= made for source in TOP.glob("crates/*/src/**/*.rt")):
             return
+    skip_without_kit()
     built = subprocess.run(["rt", "run"], cwd=CRATE, capture_output=True, text=True, check=False)
     if built.returncode:
         print(f"failed: the trials are not proved: {built.stderr[-2000:]}")
