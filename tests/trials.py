@@ -1,4 +1,4 @@
-"""What tools/growth and tools/devices share: the program of crates/trials, which makes one call a run, and worked rows for it.
+"""What tests/{growth,devices,collisions} share: the program of crates/trials, which makes one call a run, and worked rows for it.
 
 As a program it builds the trials, where they are not built. Without the kit's command rt they can't be built, and the scripts that
 make them skip.

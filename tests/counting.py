@@ -1,4 +1,4 @@
-"""What the scripts beside this file share: counting what holds, and the program that they try."""
+"""What the scripts of tests/ and tools/ share: counting what holds, and the program that they try."""
 import subprocess
 import sys
 from pathlib import Path
