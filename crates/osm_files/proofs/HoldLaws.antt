@@ -32,7 +32,7 @@ use Rattle.osm_files.proofs.RiseLaws.{groups_rise, source_is}
 
 -- ---- the refusal
 -- a key against that of the version before it, which has the key of its group
-below_first : (first before v : VersionData) → key_cmp first before ≡ Equal → is_below v (Some before) ≡ is_lt (ordering_reverse (key_cmp first v))
+pub below_first : (first before v : VersionData) → key_cmp first before ≡ Equal → is_below v (Some before) ≡ is_lt (ordering_reverse (key_cmp first v))
 below_first first before v same = let o = key_cmp_total in ap is_lt (o.antisymm v before ∙ ap ordering_reverse (sym (o.congr first before v same)))
 
 module _ (input : ℕ) where
@@ -67,7 +67,7 @@ whole_refusal input bytes =
 
 -- ---- the list
 -- a list that ascends, and has the members of another
-members_are : (versions others : List VersionData) → IsStrictlySortedBy version_cmp versions → ((v : VersionData) → has v versions ≡ has v others) → versions ≡ listed (from_list {R = version_cmp} others)
+pub members_are : (versions others : List VersionData) → IsStrictlySortedBy version_cmp versions → ((v : VersionData) → has v versions ≡ has v others) → versions ≡ listed (from_list {R = version_cmp} others)
 members_are versions others up same =
     sym (listed-from_list version_cmp_total version_cmp-IsAntisymmetric versions up)
     ∙ ap listed (same_set version_cmp_total version_cmp-IsAntisymmetric (from_list versions) (from_list others) (λ v. contains-from_list version_cmp_total versions v ∙ same v ∙ sym (contains-from_list version_cmp_total others v)))

@@ -20,6 +20,8 @@ pub mod RiseLaws
 mod SourceSteps
 pub mod HoldLaws
 pub mod FaultyLaws
+mod PlaceLaws
+pub mod RefusedLaws
 pub mod SpellSteps
 pub mod SinkLaws
 pub mod SpellLaws

@@ -31,7 +31,7 @@ less_on v first w less same =
     o.antisymm v w ∙ ap ordering_reverse (sym (o.congr first w v same) ∙ o.antisymm first v ∙ ap ordering_reverse less)
 
 -- the same key on the left
-less_from : (first v w : VersionData) → key_cmp first w ≡ Less → key_cmp first v ≡ Equal → key_cmp v w ≡ Less
+pub less_from : (first v w : VersionData) → key_cmp first w ≡ Less → key_cmp first v ≡ Equal → key_cmp v w ≡ Less
 less_from first v w less same = let o = key_cmp_total in sym (o.congr first v w same) ∙ less
 
 -- ---- lists
@@ -60,7 +60,7 @@ all_members P [] f = tt
 all_members P (v ∷ versions) f =
     (f v (or_left _ _ (ap is_eq (tied_itself version_cmp_total v))), all_members P versions (λ w h. f w (or_right (eq_by_cmp version_cmp w v) _ h)))
 
-member : (P : VersionData → Type 0) (versions : List VersionData) → AllByRecursion P versions → (w : VersionData) → has w versions ≡ true → P w
+pub member : (P : VersionData → Type 0) (versions : List VersionData) → AllByRecursion P versions → (w : VersionData) → has w versions ≡ true → P w
 member P [] h w e = absurd (false≢true e)
 member P (v ∷ versions) h w e =
     elim (eq_by_cmp version_cmp w v) as (λ t. eq_by_cmp version_cmp w v ≡ t → t || has w versions ≡ true → P w) [

@@ -1,18 +1,20 @@
 -- What the source of a file means, in the words of sets and verdicts.
-use Rattle.std.specs.Prelude.{◌≡◌, ◌⊎◌, ℕ, ◌<◌, ◌≤◌, ◌^◌, List, ◌++◌, length, Option, Some, None, option_map}
+use Rattle.std.specs.Prelude.{◌≡◌, ◌⊎◌, ◌↔◌, ℕ, ◌<◌, ◌≤◌, ◌^◌, nat_lt, List, ◌++◌, length, filter, Option, Some, None, option_map}
+use Rattle.osm_model.specs.Data.{VersionData}
 use Rattle.osm_model.specs.Order.{version_cmp}
 use Rattle.osm_model.specs.Sets.{listed, from_list}
 use Rattle.osm_model.specs.VersionSet.{VersionSet}
+use Rattle.osm_files.specs.declared.fault.Fault.{Fault}
 use Rattle.osm_files.specs.declared.reason.Reason.TheVariants.{ReadFault}
-use Rattle.osm_files.specs.Groups.{sorted_source}
+use Rattle.osm_files.specs.Groups.{FileCanGive, ascending, opened_file, sorted_source}
 use Rattle.osm_files.specs.Held.{HoldsSorted}
 use Rattle.osm_files.specs.LoadLaws.{IsFaultyWhole, broken_behind}
-use Rattle.osm_files.specs.Input.{Coming, whole as all_of}
-use Rattle.osm_files.specs.Position.{fault_of}
+use Rattle.osm_files.specs.Input.{Coming, GivesOne, whole as all_of}
+use Rattle.osm_files.specs.Position.{fault_of, units_from}
 use Rattle.osm_files.specs.Source.{Ascends}
 use Rattle.osm_files.specs.Stream.{Verdict, verdict_at}
 use Rattle.osm_files.specs.Units.{units, start_of}
-use Rattle.osm_files.specs.Verdict.{verdict, sorted_verdict, verdict_sorted}
+use Rattle.osm_files.specs.Verdict.{is_below_last, sorted_verdict, verdict, verdict_sorted, versions_of}
 
 -- what a source gives ascends strictly, whatever the bytes are and whatever follows them
 abbrev pub SourcesAscend : Type 0
@@ -60,3 +62,34 @@ FaultyStays = (bytes more : List ℕ) (fault : Verdict) → length bytes < 2 ^ 6
 -- nor the verdict without regard to the order, behind a whole unit that can't be read
 abbrev pub MalformedStays : Type 0
 MalformedStays = (bytes more : List ℕ) (fault : Verdict) → length bytes < 2 ^ 62 → IsFaultyWhole bytes fault → verdict (bytes ++ more) ≡ Some fault
+
+-- The verdict on order of what an input gives: its first faulty unit, or what comes instead of its end.
+abbrev pub input_verdict : Coming → Option Verdict
+input_verdict c = let us = units_from None 0 c in sorted_verdict us.refusal None us.list
+
+-- the versions whose units begin before this place
+abbrev pub versions_before : ℕ → Coming → List VersionData
+versions_before place c = versions_of (filter (λ unit. nat_lt unit.place place) (units_from None 0 c).list)
+
+-- the key groups before the last one: the versions whose key is below that of the last version
+abbrev pub groups_before_last : List VersionData → List VersionData
+groups_before_last versions = filter (λ v. is_below_last v versions) versions
+
+-- the key groups before the last one that began before this place, ascending, each version once
+abbrev pub groups_before : ℕ → Coming → List VersionData
+groups_before place c = ascending (groups_before_last (versions_before place c))
+
+-- the source of a faulty input gives the key groups before the last one that began before the fault, and then the fault
+abbrev pub FaultyInputGivesTheGroupsBefore : Type 0
+FaultyInputGivesTheGroupsBefore =
+    (input : ℕ) (c : Coming) (fault : Verdict) → input_verdict c ≡ Some fault
+    → sorted_source input c ≡ record { list = groups_before fault.place c; refusal = Some (fault_of input fault) }
+
+-- An opened source can give these versions and then this fault exactly if its reader can give an input whose verdict is
+-- the fault, and the versions are the key groups before the last one that began before the fault.
+abbrev pub RefusedSourceGivesTheGroupsBefore : {R : Type 0} → (R → Coming → Type 0) → Type 0
+RefusedSourceGivesTheGroupsBefore {R = R} can =
+    (input : ℕ) (reader : R) (versions : List VersionData) (fault : Fault) →
+    FileCanGive can (opened_file input reader) (record { list = versions; refusal = Some fault })
+    ↔ GivesOne (can reader) (λ c.
+    (option_map (fault_of input) (input_verdict c) ≡ Some fault) × (versions ≡ groups_before fault.place c))

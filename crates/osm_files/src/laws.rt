@@ -5,7 +5,7 @@ ghost use Rattle.osm_files.specs.SpellLaws as spelling;
 ghost use Rattle.osm_files.specs.LoadLaws as loading;
 ghost use Rattle.osm_files.specs.SourceLaws as source;
 
-use crate::Output;
+use crate::{Input, Output};
 
 /// A file spells at most one list of versions.
 pub fn one_list()
@@ -181,4 +181,16 @@ pub fn faulty_stays()
 /// Bytes behind a whole unit that can't be read don't change the verdict of a file.
 pub fn malformed_stays()
     ensures { source.MalformedStays }
+{}
+
+/// The source of a faulty input gives the key groups before the last one that began before the fault, ascending, each
+/// version once, and then the fault.
+pub fn faulty_input_gives_the_groups_before()
+    ensures { source.FaultyInputGivesTheGroupsBefore }
+{}
+
+/// An opened source that is refused gives the key groups before the last one that began before the fault, ascending,
+/// each version once. It can give these and the fault exactly if its reader can give such an input.
+pub fn refused_source_gives_the_groups_before<R: Input>(_reader: &R)
+    ensures { source.RefusedSourceGivesTheGroupsBefore R.can_give }
 {}
