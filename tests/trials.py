@@ -43,6 +43,14 @@ AT_5 = b"n1 v2 dV c0 t1970-01-01T00:00:05Z i0 u T x2 y1\n"
 MANY = "".join(
     f"r{number} v1 dV c7 t2014-05-06T07:08:09Z i{number} uanna%20%{number} Tkey=value{number},name=tree Mn{number}@in,w2@out\n"
     for number in range(1, 41)).encode()
+# Versions of one key, which differ in what is compared last.
+TIES = "".join(
+    f"{line}\n" for line in (
+        *(f"n1 v1 dV c1 t1970-01-01T00:00:01Z i1 u{'a' * 30}{user} T x1 y{place}" for user in "ab" for place in (1, 2)),
+        *(f"n1 v1 dV c1 t1970-01-01T00:00:01Z i1 ua T{'key' * 9}=1,name={name} x1 y1" for name in ("é", "%20%", "tree" * 9)),
+        *(f"w1 v1 dV c1 t1970-01-01T00:00:01Z i1 ua T Nn1,n{last}" for last in (-2, 2, 3)),
+        *(f"r1 v1 dV c1 t1970-01-01T00:00:01Z i1 ua T Mn1@,w2@{role}" for role in ("", "in", "outer" * 7)),
+    )).encode()
 PLAN = b"latest\nlatest\ntake 0 a.opl\ntake 1 b.opl\npass 0 1 o5c\npass 1 0 opl\ntake 0 a.opl\nwrite 0 opl x.opl\nwrite 1 opl y.opl\n"
 
 # Files by their names, as the rows call them.
@@ -69,6 +77,7 @@ FILES = {
     "times.opl": b"n1 v1 dV t1970-01-01T00:00:10Z x1 y1\nn1 v2 dV t1970-01-01T00:00:05Z x2 y1\n",
     "many.opl": MANY,
     "two.plan": PLAN,
+    "ties.opl": TIES,
 }
 IDS = b"".join(f"n{number} v1 dV c0 t i0 u T x1 y1\n".encode() for number in (0, -1, -2, 3))
 
@@ -118,12 +127,21 @@ def is_refused_fleet(told):
     return one_memory and twice == GONE + GONE and once.replace(CREATED, b"").replace(GONE, b"") == b""
 
 
+# How often `compare_all` compares. It asks for as much memory each time.
+ROUNDS = (0, 1, 2)
+
 ROWS = [
     Row("Version::new 4294967295", b"n1 v1 dV c1 t2106-02-07T06:28:15Z i1 ua Tnatural=tree x0 y0\n"),
     Row("Version::copy @real.opl", REAL),
     Row("History::from_versions @nine.opl @ten.opl @nine.opl", EAST_10 + EAST_9),
     Row("History::join @a.opl @b.opl", CREATED + GONE, behind(MEMORY_WORDS, CREATED + GONE)),
     Row("History::copy @pair.o5m", NODE + DELETION, behind(MEMORY_WORDS, NODE + DELETION)),
+    *(Row(f"compare_all {rounds} @ties.opl", b"compared\n") for rounds in ROUNDS),
+    Row("Decoder::new", b"made\n"),
+    Row("Encoder::new", b"made\n"),
+    Row("Sink::new", b"made\n"),
+    Row("FileSource::new @pair.o5m", b"made\n"),
+    Row("Fleet::new", b"made\n"),
     Row("read_line @line", CANONICAL + b"\n"),
     Row("write_line @line", CANONICAL),
     Row("read_set @set", NODE),

@@ -23,6 +23,7 @@ use std::io::Write;
 
 mod device;
 mod given;
+mod made;
 mod measure;
 mod mirrors;
 mod runs;
@@ -33,8 +34,9 @@ mod units;
 mod values;
 
 /// The calls, group by group.
-const GROUPS: [&[&str]; 6] = [
+const GROUPS: [&[&str]; 7] = [
     values::CALLS,
+    made::CALLS,
     units::CALLS,
     streams::CALLS,
     selections::CALLS,
@@ -62,6 +64,9 @@ fn main(rt: HostRuntime) -> Result<()> {
 fn answer(alloc: Global, call: &str, given: &Given) -> Result<Vec<u8>> {
     if values::CALLS.contains(&call) {
         return values::answer(alloc, call, given);
+    }
+    if made::CALLS.contains(&call) {
+        return made::answer(alloc, call, given);
     }
     if units::CALLS.contains(&call) {
         return units::answer(alloc, call, given);

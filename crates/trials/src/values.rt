@@ -12,6 +12,7 @@ pub const CALLS: &[&str] = &[
     "History::from_versions",
     "History::join",
     "History::copy",
+    "compare_all",
 ];
 
 /// What a call answers.
@@ -21,7 +22,8 @@ pub fn answer(alloc: Global, call: &str, given: &Given) -> Result<Vec<u8>> {
         "Version::copy" => copy_version(alloc, given.file(0)?),
         "History::from_versions" => from_versions(alloc, given),
         "History::join" => join(alloc, given.file(0)?, given.file(1)?),
-        _ => copy_history(alloc, given.file(0)?),
+        "History::copy" => copy_history(alloc, given.file(0)?),
+        _ => compare_all(alloc, u64::from(given.time(0)?), given.file(0)?),
     }
 }
 
@@ -94,4 +96,27 @@ fn copy_history(alloc: Global, file: &[u8]) -> Result<Vec<u8>> {
             told(alloc, format!(in alloc; "{refused}")?.as_str(), &lines)
         }
     }
+}
+
+/// Compares each version of a file with each, this number of times. The growths of memory are those of reading the file.
+fn compare_all(alloc: Global, rounds: u64, file: &[u8]) -> Result<Vec<u8>> {
+    let history = history_of(alloc, file)?;
+    for _ in 0..rounds {
+        if !is_ascending(&history) {
+            bail!("a history does not ascend");
+        }
+    }
+    told(alloc, "compared", b"")
+}
+
+/// Whether each version is greater than those before it, equal to itself, and less than those after it.
+fn is_ascending(history: &History) -> bool {
+    for place in 0..history.len() {
+        for other in 0..history.len() {
+            if history.get(place).cmp(history.get(other)) != place.cmp(&other) {
+                return false;
+            }
+        }
+    }
+    true
 }
