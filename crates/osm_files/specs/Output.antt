@@ -30,6 +30,14 @@ abbrev pub FlushFails : {A E : Type 0} → Bool → Result A E → Bool → Type
 FlushFails old (Ok done) new = (old ≡ false) × (new ≡ false)
 FlushFails old (Err error) new = new ≡ true
 
+-- Failing lasts: an output that has not failed after a call had not failed before it.
+abbrev pub FailingLasts : Bool → Bool → Type 0
+FailingLasts before after = after ≡ false → before ≡ false
+
+-- the output had not failed before a call, and has not failed after it
+abbrev pub IsGoodThroughout : Bool → Bool → Type 0
+IsGoodThroughout before after = (before ≡ false) × (after ≡ false)
+
 -- all these bytes were appended, after so many written before, and the output has not failed
 pub record WroteAll (before after : Content) (failed : Bool) (written : ℕ) (bytes : List ℕ) : Type 0 where
   pub appended : Appended before after bytes

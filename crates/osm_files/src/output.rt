@@ -2,7 +2,7 @@
 ghost use Rattle.std.specs.Prelude.{◌≡◌, ◌+◌, ◌<◌, ◌≤◌, ◌^◌, ◌⊎◌, ◌↔◌, ℕ, Bool, true, false, Some, List, []};
 ghost use Rattle.std.specs.Prelude.{length, take, IfOk, IsOk, OnErr, Err};
 ghost use Rattle.osm_files.specs.Fault.{too_long_fault, write_fault};
-ghost use Rattle.osm_files.specs.Output.{Content, Appended, WriteFails, FlushFails, Writes, Collected};
+ghost use Rattle.osm_files.specs.Output.{Content, Appended, WriteFails, FlushFails, FailingLasts, Writes, Collected};
 
 use crate::Reason;
 use crate::fault::{Fault, LENGTH_LIMIT};
@@ -185,6 +185,7 @@ pub fn write_all<W: Output>(
     requires some { 0 < length bytes.now }
     requires below { written < 2 ^ 62 }
     ensures wrote { Writes number (W.holds out.old) (W.holds out.new) (W.failed out.new) written bytes.now result }
+    ensures lasts { FailingLasts (W.failed out.old) (W.failed out.new) }
     ensures untouched { result ≡ Err (too_long_fault number) → out.new ≡ out.old }
 {
     if bytes.len() as u64 >= LENGTH_LIMIT - written {
@@ -208,6 +209,7 @@ fn write_rest<W: Output>(
     requires some { 0 < length bytes.now }
     requires short { written + length bytes.now < 2 ^ 62 }
     ensures wrote { Writes number (W.holds out.old) (W.holds out.new) (W.failed out.new) written bytes.now result }
+    ensures lasts { FailingLasts (W.failed out.old) (W.failed out.new) }
 {
     let mut done = 0;
     'writes: while done < bytes.len() {

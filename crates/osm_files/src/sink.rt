@@ -2,7 +2,7 @@
 ghost use Rattle.std.specs.Prelude.{◌≡◌, ◌≢◌, ◌+◌, ◌<◌, ◌^◌, ◌++◌, false, true, [], Ok, Err, length, IfOk, IfErr, OnOk, OnErr};
 ghost use Rattle.o5_codec.specs.Encoder.{nothing_written};
 ghost use Rattle.osm_files.specs.Fault.{memory_fault, too_long_fault, write_fault};
-ghost use Rattle.osm_files.specs.Output.{Appended};
+ghost use Rattle.osm_files.specs.Output.{Appended, FailingLasts, IsGoodThroughout};
 ghost use Rattle.osm_files.specs.declared.format.Format.{Format};
 ghost use Rattle.osm_files.specs.declared.format.Format.TheVariants as format;
 ghost use Rattle.osm_files.specs.Spell as spelling;
@@ -134,7 +134,8 @@ impl Sink {
             (W.holds out.old) (W.holds out.new) (W.failed out.new) (spelling.begun self.old.format) result }
         ensures memory { result ≢ Err memory_fault }
         ensures lines { self.old.failed ≡ false → self.old.format ≡ format.Opl → (result ≡ Ok tt) × (out.new ≡ out.old) }
-        ensures good { OnOk result (self.old.format ≢ format.Opl → W.failed out.new ≡ false) }
+        ensures good { OnOk result (self.old.format ≢ format.Opl → IsGoodThroughout (W.failed out.old) (W.failed out.new)) }
+        ensures lasts { FailingLasts (W.failed out.old) (W.failed out.new) }
         ensures untouched { spec.IsBeforeWriting self.old.number result → out.new ≡ out.old }
     {
         self.begun = true;
@@ -168,7 +169,8 @@ impl Sink {
         requires follows { spec.Takes v.now self.old }
         ensures calls { spec.Calls self.old self.new (spec.puts v.now)
             (W.holds out.old) (W.holds out.new) (W.failed out.new) (spelling.spelled_in self.old.format self.old.encoder v.now) result }
-        ensures good { OnOk result (W.failed out.new ≡ false) }
+        ensures good { OnOk result (IsGoodThroughout (W.failed out.old) (W.failed out.new)) }
+        ensures lasts { FailingLasts (W.failed out.old) (W.failed out.new) }
         ensures untouched { spec.IsBeforeWriting self.old.number result → out.new ≡ out.old }
     {
         if self.failed {
@@ -198,7 +200,8 @@ impl Sink {
         ensures calls { spec.Calls (spec.ends self.old) self.new spec.stays
             (W.holds out.old) (W.holds out.new) (W.failed out.new) (spelling.ended self.old.format) result }
         ensures memory { result ≢ Err memory_fault }
-        ensures good { OnOk result (W.failed out.new ≡ false) }
+        ensures good { OnOk result (IsGoodThroughout (W.failed out.old) (W.failed out.new)) }
+        ensures lasts { FailingLasts (W.failed out.old) (W.failed out.new) }
         ensures untouched { spec.IsBeforeWriting self.old.number result → out.new ≡ out.old }
     {
         self.ended = true;
@@ -223,7 +226,8 @@ fn send<W: Output>(out: &mut W, number: usize, written: &mut u64, bytes: &[u8]) 
     ensures sent { spec.Sends number (W.holds out.old) (W.holds out.new) (W.failed out.new) written.old bytes.now result }
     ensures counted { OnOk result (written.new ≡ written.old + length bytes.now) }
     ensures uncounted { OnErr result (written.new ≡ written.old) }
-    ensures good { OnOk result (W.failed out.new ≡ false) }
+    ensures good { OnOk result (IsGoodThroughout (W.failed out.old) (W.failed out.new)) }
+    ensures lasts { FailingLasts (W.failed out.old) (W.failed out.new) }
     ensures memory { result ≢ Err memory_fault }
     ensures untouched { result ≡ Err (too_long_fault number) → out.new ≡ out.old }
 {
@@ -243,7 +247,8 @@ fn finish<W: Output>(
     ensures sent { spec.Sends number (W.holds out.old) (W.holds out.new) (W.failed out.new) written.old (spelling.ended format) result }
     ensures counted { OnOk result (written.new ≡ written.old + length (spelling.ended format)) }
     ensures below { written.new < 2 ^ 62 }
-    ensures good { OnOk result (W.failed out.new ≡ false) }
+    ensures good { OnOk result (IsGoodThroughout (W.failed out.old) (W.failed out.new)) }
+    ensures lasts { FailingLasts (W.failed out.old) (W.failed out.new) }
     ensures memory { result ≢ Err memory_fault }
     ensures untouched { result ≡ Err (too_long_fault number) → out.new ≡ out.old }
 {
@@ -259,7 +264,8 @@ fn finish<W: Output>(
 /// Flushes the output, to which so many bytes were written.
 fn flush<W: Output>(out: &mut W, number: usize, written: u64) -> Result<(), Fault>
     ensures same { Appended (W.holds out.old) (W.holds out.new) [] }
-    ensures good { OnOk result (W.failed out.new ≡ false) }
+    ensures good { OnOk result (IsGoodThroughout (W.failed out.old) (W.failed out.new)) }
+    ensures lasts { FailingLasts (W.failed out.old) (W.failed out.new) }
     ensures failed { IfErr result (λ fault. (fault ≡ write_fault number written) × (W.failed out.new ≡ true)) }
 {
     match out.flush() {
@@ -283,7 +289,7 @@ pub fn write_history<W: Output>(
 ) -> Result<(), Fault>
     ensures written { spec.WritesFile number
         (W.holds out.old) (W.holds out.new) (W.failed out.new) (spelling.spell format history.now) result }
-    ensures good { OnOk result (W.failed out.new ≡ false) }
+    ensures good { OnOk result (IsGoodThroughout (W.failed out.old) (W.failed out.new)) }
 {
     let mut sink = Sink::new(alloc, format, number)?;
     put_all(&mut sink, history, out)
@@ -294,7 +300,7 @@ fn put_all<W: Output>(sink: &mut Sink, history: &History, out: &mut W) -> Result
     requires unused { sink.old ≡ spec.new_sink sink.old.format sink.old.number }
     ensures written { spec.WritesFile sink.old.number
         (W.holds out.old) (W.holds out.new) (W.failed out.new) (spelling.spell sink.old.format history.now) result }
-    ensures good { OnOk result (W.failed out.new ≡ false) }
+    ensures good { OnOk result (IsGoodThroughout (W.failed out.old) (W.failed out.new)) }
 {
     sink.begin(out)?;
     'puts: for place in 0..history.len() {

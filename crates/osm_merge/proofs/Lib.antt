@@ -1,5 +1,4 @@
 mod OrderLaws
-mod RankLaws
 mod AscendingLaws
 mod TreeLaws
 pub mod GiveLaws

@@ -2,7 +2,6 @@ pub mod Members
 pub mod ToCome
 pub mod Giving
 pub mod Union
-pub mod Rank
 pub mod Tree
 pub mod Selected
 pub mod Pass

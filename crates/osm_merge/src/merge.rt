@@ -2,6 +2,7 @@
 ghost use Rattle.std.specs.Prelude.{◌≡◌, ◌≤◌, ◌<◌, ◌+◌, ◌-◌, false, true, List, Option, None, length};
 ghost use Rattle.std.specs.Prelude.{IsSome, IfOk, IfErr, IfSome, OnOk};
 ghost use Rattle.std.specs.List.{All};
+ghost use Rattle.osm_files.specs.Output.{FailingLasts, IsGoodThroughout};
 ghost use Rattle.osm_files.specs.Sink.{IsOpen, new_sink};
 ghost use Rattle.osm_files.specs.Source.{Steps};
 ghost use Rattle.osm_merge.specs.Giving.{ForSome, ForStanding};
@@ -13,7 +14,7 @@ ghost use Rattle.osm_merge.specs.Put.{TakesEach, PutsMore, EndsFile, CountsMore}
 ghost use Rattle.osm_merge.specs.Merged.{MergesSources, IsMergedAs, RefusesSources, IsRefusedAs, Grows};
 
 use crate::compare::compare;
-use crate::heads::{Head, first_versions};
+use crate::heads::{Head, first_versions, head_of};
 use crate::progress::{Progress, Silent};
 use crate::repeats::Repeats;
 use crate::selection::{Selection, keeps, passes, puts_at_once, stays};
@@ -55,7 +56,7 @@ pub fn merge_into<S: Source + Drop, W: Output>(
     ensures refused { IfErr result (λ fault. ForSome S.can_give sources.items (λ all.
         RefusesSources all sink.old.format sink.old.number (W.holds out.old) (W.holds out.new) (W.failed out.new) fault)) }
     ensures kept { Grows (W.holds out.old) (W.holds out.new) }
-    ensures good { OnOk result (W.failed out.new ≡ false) }
+    ensures good { OnOk result (IsGoodThroughout (W.failed out.old) (W.failed out.new)) }
     ensures ended { OnOk result (sink.new.ended ≡ true) }
 {
     merge_selected(alloc, Selection::All, sources, sink, out, &mut Silent)
@@ -85,7 +86,7 @@ pub fn merge_selected<S: Source + Drop, W: Output, P: Progress>(
     ensures refused { IfErr result (λ fault. ForSome S.can_give sources.items (λ all.
         IsRefusedAs selection all sink.old.format sink.old.number (W.holds out.old) (W.holds out.new) (W.failed out.new) fault)) }
     ensures kept { Grows (W.holds out.old) (W.holds out.new) }
-    ensures good { OnOk result (W.failed out.new ≡ false) }
+    ensures good { OnOk result (IsGoodThroughout (W.failed out.old) (W.failed out.new)) }
     ensures ended { OnOk result (sink.new.ended ≡ true) }
 {
     let mut counts = Counts {
@@ -136,7 +137,7 @@ fn write_union<S: Source, W: Output, P: Progress>(
     ensures refused { IfErr result (λ fault. ForStanding S.can_give sources.old heads.old (λ all.
         IsRefusedAs selection all sink.old.format sink.old.number (W.holds out.old) (W.holds out.new) (W.failed out.new) fault)) }
     ensures kept { Grows (W.holds out.old) (W.holds out.new) }
-    ensures good { OnOk result (W.failed out.new ≡ false) }
+    ensures good { OnOk result (IsGoodThroughout (W.failed out.old) (W.failed out.new)) }
     ensures ended { OnOk result (sink.new.ended ≡ true) }
 {
     sink.begin(out)?;
@@ -163,7 +164,7 @@ fn write_union<S: Source, W: Output, P: Progress>(
         )?;
         progress.tell(counts.read, counts.written);
         let next = next_of(&mut sources[place], spare)?;
-        heads[place] = Head::new(next);
+        heads[place] = head_of(next);
         repeats.note_taken(place);
         replay(nodes, heads, place, &mut repeats.tie, &mut counts.compared);
     }
@@ -199,6 +200,7 @@ fn meet<W: Output>(
     requires takes { is_met selection last.old version ≡ true → TakesEach (put_at selection last.old version) sink.old }
     requires repeated { is_repeated ≡ true → is_met selection last.old version ≡ false }
     ensures puts { PutsMore W.holds (puts selection last.old version) sink.old sink.new out.old out.new (W.failed out.new) result }
+    ensures lasts { FailingLasts (W.failed out.old) (W.failed out.new) }
     ensures last { OnOk result (last.new ≡ held_next selection last.old version) }
     ensures read { counts.new.read ≡ counts.old.read }
     ensures written { OnOk result (CountsMore (puts selection last.old version) counts.old.written counts.new.written) }
@@ -239,6 +241,7 @@ fn put_decided<W: Output>(
     requires open { IsOpen sink.old }
     requires takes { TakesEach (put_at selection last.now version.now) sink.old }
     ensures puts { PutsMore W.holds (put_at selection last.now version.now) sink.old sink.new out.old out.new (W.failed out.new) result }
+    ensures lasts { FailingLasts (W.failed out.old) (W.failed out.new) }
     ensures read { counts.new.read ≡ counts.old.read }
     ensures written { OnOk result (CountsMore (put_at selection last.now version.now) counts.old.written counts.new.written) }
     ensures compared { counts.new.compared ≡ counts.old.compared }
@@ -267,6 +270,7 @@ fn put_if<W: Output>(
     requires open { IsOpen sink.old }
     requires takes { TakesEach (only stays version.now) sink.old }
     ensures puts { PutsMore W.holds (only stays version.now) sink.old sink.new out.old out.new (W.failed out.new) result }
+    ensures lasts { FailingLasts (W.failed out.old) (W.failed out.new) }
     ensures open { OnOk result (IsOpen sink.new) }
     ensures read { counts.new.read ≡ counts.old.read }
     ensures written { OnOk result (CountsMore (only stays version.now) counts.old.written counts.new.written) }
@@ -275,9 +279,11 @@ fn put_if<W: Output>(
     if !stays {
         return Ok(());
     }
-    sink.put(out, version)?;
-    counts.written = counts.written.saturating_add(1);
-    Ok(())
+    let put = sink.put(out, version);
+    if put.is_ok() {
+        counts.written = counts.written.saturating_add(1);
+    }
+    put
 }
 
 /// Whether a version is greater than the one held back.
@@ -308,7 +314,7 @@ fn end_file<W: Output>(
     ensures written { IfOk result (λ done. CountsMore (put_at_end selection last.now) counts.written done.written) }
     ensures compared { IfOk result (λ done. done.compared ≡ counts.compared) }
     ensures file { EndsFile W.holds (put_at_end selection last.now) sink.old out.old out.new (W.failed out.new) result }
-    ensures good { OnOk result (W.failed out.new ≡ false) }
+    ensures good { OnOk result (IsGoodThroughout (W.failed out.old) (W.failed out.new)) }
     ensures ended { OnOk result (sink.new.ended ≡ true) }
 {
     put_last(selection, last, &mut counts, sink, out)?;
@@ -327,6 +333,7 @@ fn put_last<W: Output>(
     requires open { IsOpen sink.old }
     requires takes { TakesEach (put_at_end selection last.now) sink.old }
     ensures puts { PutsMore W.holds (put_at_end selection last.now) sink.old sink.new out.old out.new (W.failed out.new) result }
+    ensures lasts { FailingLasts (W.failed out.old) (W.failed out.new) }
     ensures open { OnOk result (IsOpen sink.new) }
     ensures read { counts.new.read ≡ counts.old.read }
     ensures written { OnOk result (CountsMore (put_at_end selection last.now) counts.old.written counts.new.written) }

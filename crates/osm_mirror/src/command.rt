@@ -1,7 +1,8 @@
 //! The commands that read all of their inputs before they write.
-ghost use Rattle.std.specs.Prelude.{◌≡◌, false, [], ◌∷◌, map, IfOk, IfErr, OnOk};
+ghost use Rattle.std.specs.Prelude.{◌≡◌, [], ◌∷◌, map, IfOk, IfErr, OnOk};
 ghost use Rattle.osm_files.specs.Fault.{memory_fault};
 ghost use Rattle.osm_files.specs.Input.{GivesOne};
+ghost use Rattle.osm_files.specs.Output.{IsGoodThroughout};
 ghost use Rattle.osm_merge.specs.Giving.{ForSome};
 ghost use Rattle.osm_merge.specs.Selected.{selected, visible, at, between};
 ghost use Rattle.osm_merge.specs.Merged.{Grows};
@@ -35,7 +36,7 @@ pub fn run_sort<R: Input + Drop, W: Output>(
     ensures refused { IfErr result (λ fault. ForSome R.can_give inputs.items (λ all.
         IsNotWritten W.holds (λ set. set) all format out.old out.new (W.failed out.new) fault)) }
     ensures kept { Grows (W.holds out.old) (W.holds out.new) }
-    ensures good { OnOk result (W.failed out.new ≡ false) }
+    ensures good { OnOk result (IsGoodThroughout (W.failed out.old) (W.failed out.new)) }
 {
     run_held(alloc, Selection::All, inputs, format, out)
 }
@@ -63,7 +64,7 @@ pub fn run_apply<R: Input + Drop, W: Output>(
     ensures refused { IfErr result (λ fault. ForSome R.can_give inputs.items (λ all.
         IsNotWritten W.holds (applied with_history) all format out.old out.new (W.failed out.new) fault)) }
     ensures kept { Grows (W.holds out.old) (W.holds out.new) }
-    ensures good { OnOk result (W.failed out.new ≡ false) }
+    ensures good { OnOk result (IsGoodThroughout (W.failed out.old) (W.failed out.new)) }
 {
     if with_history {
         run_held(alloc, Selection::All, inputs, format, out)
@@ -94,7 +95,7 @@ pub fn run_time_filter<R: Input + Drop, W: Output>(
     ensures refused { IfErr result (λ fault. GivesOne (R.can_give input) (λ c.
         IsNotWritten W.holds (λ set. visible (at set time)) (c ∷ []) format out.old out.new (W.failed out.new) fault)) }
     ensures kept { Grows (W.holds out.old) (W.holds out.new) }
-    ensures good { OnOk result (W.failed out.new ≡ false) }
+    ensures good { OnOk result (IsGoodThroughout (W.failed out.old) (W.failed out.new)) }
 {
     run_one(alloc, Selection::StateVisible(time), input, format, out)
 }
@@ -122,7 +123,7 @@ pub fn run_period_filter<R: Input + Drop, W: Output>(
     ensures refused { IfErr result (λ fault. GivesOne (R.can_give input) (λ c.
         IsNotWritten W.holds (λ set. between set from to) (c ∷ []) format out.old out.new (W.failed out.new) fault)) }
     ensures kept { Grows (W.holds out.old) (W.holds out.new) }
-    ensures good { OnOk result (W.failed out.new ≡ false) }
+    ensures good { OnOk result (IsGoodThroughout (W.failed out.old) (W.failed out.new)) }
 {
     run_one(alloc, Selection::Between { from, to }, input, format, out)
 }
@@ -140,7 +141,7 @@ fn run_one<R: Input + Drop, W: Output>(
     ensures refused { IfErr result (λ fault. GivesOne (R.can_give input) (λ c.
         IsNotWritten W.holds (selected selection) (c ∷ []) format out.old out.new (W.failed out.new) fault)) }
     ensures kept { Grows (W.holds out.old) (W.holds out.new) }
-    ensures good { OnOk result (W.failed out.new ≡ false) }
+    ensures good { OnOk result (IsGoodThroughout (W.failed out.old) (W.failed out.new)) }
 {
     let mut inputs = Vec::new(alloc);
     inputs.push(input)?;
@@ -160,7 +161,7 @@ fn run_held<R: Input + Drop, W: Output>(
     ensures refused { IfErr result (λ fault. ForSome R.can_give inputs.items (λ all.
         IsNotWritten W.holds (selected selection) all format out.old out.new (W.failed out.new) fault)) }
     ensures kept { Grows (W.holds out.old) (W.holds out.new) }
-    ensures good { OnOk result (W.failed out.new ≡ false) }
+    ensures good { OnOk result (IsGoodThroughout (W.failed out.old) (W.failed out.new)) }
 {
     let files = of_any_order(alloc, inputs)?;
     let counts = run_selected(alloc, selection, files, format, out, &mut Silent)?;

@@ -1,6 +1,7 @@
 //! The merge of files.
-ghost use Rattle.std.specs.Prelude.{◌≡◌, false, IfOk, IfErr, OnOk};
+ghost use Rattle.std.specs.Prelude.{◌≡◌, IfOk, IfErr, OnOk};
 ghost use Rattle.osm_files.specs.Fault.{memory_fault};
+ghost use Rattle.osm_files.specs.Output.{IsGoodThroughout};
 ghost use Rattle.osm_merge.specs.Giving.{ForSome};
 ghost use Rattle.osm_merge.specs.Merged.{Grows};
 ghost use Rattle.osm_mirror.specs.Merge.{IsMerged, Refuses, opened};
@@ -32,7 +33,7 @@ pub fn run_merge<R: Input + Drop, W: Output>(
     ensures refused { IfErr result (λ fault. ForSome R.can_give inputs.items (λ all.
         Refuses all format (W.holds out.old) (W.holds out.new) (W.failed out.new) fault)) }
     ensures kept { Grows (W.holds out.old) (W.holds out.new) }
-    ensures good { OnOk result (W.failed out.new ≡ false) }
+    ensures good { OnOk result (IsGoodThroughout (W.failed out.old) (W.failed out.new)) }
 {
     let output = inputs.len();
     let sources = open_sources(alloc, inputs)?;

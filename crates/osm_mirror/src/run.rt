@@ -1,5 +1,6 @@
 //! The one run over files: what is selected of the union of what they hold is written as one file.
-ghost use Rattle.std.specs.Prelude.{◌≡◌, false, IfOk, IfErr, OnOk};
+ghost use Rattle.std.specs.Prelude.{◌≡◌, IfOk, IfErr, OnOk};
+ghost use Rattle.osm_files.specs.Output.{IsGoodThroughout};
 ghost use Rattle.osm_merge.specs.Giving.{ForSome};
 ghost use Rattle.osm_merge.specs.Merged.{Grows};
 ghost use Rattle.osm_mirror.specs.Given.{FileGives};
@@ -36,7 +37,7 @@ pub fn run_selected<R: Input + Drop, W: Output, P: Progress>(
     ensures refused { IfErr result (λ fault. ForSome (FileGives R.can_give) inputs.items (λ all.
         RefusesRun W.holds selection all format out.old out.new (W.failed out.new) fault)) }
     ensures kept { Grows (W.holds out.old) (W.holds out.new) }
-    ensures good { OnOk result (W.failed out.new ≡ false) }
+    ensures good { OnOk result (IsGoodThroughout (W.failed out.old) (W.failed out.new)) }
 {
     let output = inputs.len();
     let sources = open_inputs(alloc, inputs)?;

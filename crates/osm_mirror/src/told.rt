@@ -2,6 +2,7 @@
 ghost use Rattle.std.specs.Prelude.{List, IfOk, IfErr, OnOk, OnErr};
 ghost use Rattle.std.specs.List.{All};
 ghost use Rattle.osm_files.specs.Input.{Coming};
+ghost use Rattle.osm_files.specs.Output.{IsGoodThroughout};
 ghost use Rattle.osm_merge.specs.Merged.{WritesSet, HasBegun, HasBegunIn};
 ghost use Rattle.osm_merge.specs.Selected.{selected};
 ghost use Rattle.osm_merge.specs.Union.{union_given};
@@ -43,6 +44,7 @@ pub fn run_told<R: Input + Drop, W: Output>(
     // Whichever tell it.
     ensures sorted { OnOk result (All (IsFileIfTold R.can_give merge.GivesSorted) inputs.items) }
     ensures file { IfOk result (WritesSet format (W.holds out.old) (W.holds out.new)) }
+    ensures good { OnOk result (IsGoodThroughout (W.failed out.old) (W.failed out.new)) }
 {
     run_merge(alloc, inputs, format, out)
 }
@@ -70,6 +72,7 @@ pub fn run_selected_told<R: Input + Drop, W: Output, P: Progress>(
     // Whichever tell it.
     ensures accepted { OnOk result (All (IsFileIfTold (FileGives R.can_give) GivesAs) inputs.items) }
     ensures file { IfOk result (WritesSet format (W.holds out.old) (W.holds out.new)) }
+    ensures good { OnOk result (IsGoodThroughout (W.failed out.old) (W.failed out.new)) }
 {
     run_selected(alloc, selection, inputs, format, out, progress)
 }

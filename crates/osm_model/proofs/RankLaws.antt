@@ -17,15 +17,6 @@ use Rattle.osm_model.proofs.VersionLaws.{less_by_key}
 abbrev bit : Bool → ℕ
 bit b = if b then 1 else 0
 
-at_most_one : (b : Bool) → bit b ≤ 1
-at_most_one true = omega arith
-at_most_one false = omega arith
-
-at_most_two : (k : Kind) → kind_rank k ≤ 2
-at_most_two Node = omega arith
-at_most_two Way = omega arith
-at_most_two Relation = omega arith
-
 less : (x y : ℕ) → x < y → nat_cmp x y ≡ Less
 less x y h = sym (nat_cmp_is x y Less h)
 
@@ -151,10 +142,3 @@ by_rank v w r is other = elim (cases_lt (rank_of v) (rank_of w)) [
     | inr k ↦ absurd (other (is ∙ same (rank_of v) (rank_of w) (omega arith)))
   ]
 ]
-
-class_bound : (k : Kind) (b : Bool) → 2 * kind_rank k + bit b ≤ 5
-class_bound k b = omega (arith, at_most_two k, at_most_one b)
-
--- no rank fills its word
-pub rank_bound : (v : VersionData) → rank_of v < 2 ^ 64 - 1
-rank_bound v = omega (arith, class_bound (kind_of v.body) (is_positive v.id), short_reach v v v, short_turn (unsigned_abs v.id) v.number)

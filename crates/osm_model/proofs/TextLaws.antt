@@ -1,16 +1,19 @@
 -- Texts as characters and as bytes.
-use Rattle.std.proofs.Common.{◌≡◌, ◌≤◌, ℕ, false, eqb, ◌||◌, List, [], ◌∷◌, ◌++◌, refl, ap, sym, subst, ◌∙◌, arith, length}
+use Rattle.std.proofs.Common.{Global, ◌≡◌, ◌≤◌, ℕ, false, eqb, ◌||◌, List, [], ◌∷◌, ◌++◌, refl, ap, sym, subst, ◌∙◌, arith, length}
 use lib.Utf8.{encode, encodes}
 use Rattle.std.specs.Str.{chars, IsUtf8, encode_utf8_all}
 use Rattle.std.specs.String.{string_bytes}
 use Rattle.std.specs.declared.string.String.{String}
+use Rattle.std.specs.Bool.{OnFalse}
 use Rattle.std.specs.List.{list_any}
 use Rattle.std.specs.FinMap.{IsAntisymmetric, slice_cmp-IsAntisymmetric, nat_cmp-IsAntisymmetric}
 use Rattle.std.proofs.lemmas.Str.{encodes-chars, encodes_same, chars-append, IsUtf8-string_bytes}
 use Rattle.std.proofs.lemmas.List.Folds.{list_any-append}
 use Rattle.std.proofs.lemmas.Bool.Decides.{nat_tests}
-use Rattle.osm_model.specs.Text.{text_cmp}
-use Rattle.osm_model.specs.Text.{is_empty}
+use Rattle.osm_model.specs.declared.text.Storage.{Storage}
+use Rattle.osm_model.specs.declared.text.Storage.TheVariants.{Plain, Within, Apart}
+use Rattle.osm_model.specs.Storage.{bytes_of, is_apart}
+use Rattle.osm_model.specs.Text.{text_cmp, is_empty}
 
 pub text_bytes : {Z : Type 0} (s : String Z) → encodes (chars (string_bytes s)) ≡ string_bytes s
 text_bytes s = encodes-chars _ (IsUtf8-string_bytes s)
@@ -44,6 +47,14 @@ text_chars bs cs u e = encodes_same _ _ (encodes-chars bs u ∙ e)
 pub appended_chars : (before more now : List ℕ) → IsUtf8 before → now ≡ before ++ more → chars now ≡ chars before ++ chars more
 appended_chars before more now u e = ap chars e ∙ chars-append before more u
 
--- a text whose bytes lie in a few is short
-pub short_text : (bytes all text : List ℕ) → IsUtf8 bytes → bytes ≡ all → chars all ≡ text → length bytes ≤ 24 → length (encode_utf8_all text) ≤ 24
-short_text bytes all text utf8 same is short = subst (λ t. length t ≤ 24) (sym (encodes-chars bytes utf8) ∙ ap encode_utf8_all (ap chars same ∙ is)) short
+-- what holds of the bytes that lie in the value itself
+of_value : (P : Type 0) (s : Storage) → OnFalse (is_apart s) P → ((string : String Global) → s ≡ Apart string → ⊥) → P
+of_value P (Plain plain) h other = h
+of_value P (Within string) h other = h
+of_value P (Apart string) h other = absurd (other string refl)
+
+-- a text whose bytes lie in the value itself is short
+pub short_text : (bytes text : List ℕ) (s : Storage) → IsUtf8 bytes → bytes ≡ bytes_of s → chars (bytes_of s) ≡ text
+    → OnFalse (is_apart s) (length bytes ≤ 24) → ((string : String Global) → s ≡ Apart string → ⊥) → length (encode_utf8_all text) ≤ 24
+short_text bytes text s utf8 same is short other =
+    subst (λ t. length t ≤ 24) (sym (encodes-chars bytes utf8) ∙ ap encode_utf8_all (ap chars same ∙ is)) (of_value _ s short other)

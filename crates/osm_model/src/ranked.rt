@@ -5,37 +5,15 @@ ghost use Rattle.std.specs.Cmp.{eq_by_cmp_equiv, partial_equiv_from_equiv, parti
 ghost use Rattle.osm_model.specs.Order.{version_cmp, version_cmp_total};
 ghost use Rattle.osm_model.specs.Rank.{rank_of};
 
-use crate::{Memory, Version};
+use crate::{Memory, Rank, Version};
 use std::cmp::Ordering;
 use std::marker::Model;
 
-/// From here on a rank doesn't tell ids apart.
-const FAR: u64 = (1 << 45) - 1;
-
-/// From here on a rank doesn't tell version numbers apart.
-const LATE: u64 = (1 << 16) - 1;
-
 impl Version {
-    /// The rank: the kind, the sign and the size of the id, and the version number in one word, as far as they fit. A version
-    /// of a lower rank is less; of two versions of one rank it tells nothing.
-    #[inline(always)]
-    pub fn rank(&self) -> u64
-        ensures { result ≡ rank_of self.now }
-    {
-        let id = self.id();
-        let class = 2 * u64::from(self.kind().rank()) + u64::from(id > 0);
-        let size = id.unsigned_abs();
-        if size < FAR {
-            (((class << 45) + size) << 16) + self.number().min(LATE)
-        } else {
-            ((class << 45) + FAR) << 16
-        }
-    }
-
     /// The order of two versions of which it isn't known that they differ, as of two of one rank: nearly always they are equal,
     /// which is looked at first.
     #[inline(always)]
-    pub fn cmp_closely(&self, other: &Version) -> Ordering
+    pub(crate) fn cmp_closely(&self, other: &Version) -> Ordering
         ensures { result ≡ version_cmp self.now other.now }
     {
         if self == other {
@@ -50,7 +28,7 @@ impl Version {
 /// elsewhere in memory. Contracts see the version.
 #[derive(Debug, Drop)]
 pub struct Ranked {
-    rank: u64,
+    rank: Rank,
     version: Version,
 }
 
@@ -63,7 +41,7 @@ impl Model for Ranked {
 
     ghost view = { λ r. r.version };
 
-    ghost invariant = { λ r. r.rank ≡ rank_of r.version };
+    ghost invariant = { λ r. r.rank.value ≡ rank_of r.version };
 }
 
 impl Ranked {
@@ -76,23 +54,6 @@ impl Ranked {
             rank: version.rank(),
             version,
         }
-    }
-
-    /// A version whose rank is known.
-    #[inline(always)]
-    pub fn of_rank(rank: u64, version: Version) -> Ranked
-        requires { rank ≡ rank_of version }
-        ensures { result ≡ version }
-    {
-        Ranked { rank, version }
-    }
-
-    /// The rank: of two versions that of the lower rank is less.
-    #[inline(always)]
-    pub fn rank(&self) -> u64
-        ensures { result ≡ rank_of self.now }
-    {
-        self.rank
     }
 
     /// The version.

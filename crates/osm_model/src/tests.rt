@@ -1,8 +1,8 @@
 //! Each public call once, with values worked out by hand.
 use crate::version::first_fault;
 use crate::{
-    Body, History, Kind, Member, Members, Memory, Meta, Parts, Ranked, References, Spare, Tag,
-    Tags, Text, ValueFault, Version, behind_escaped, is_id,
+    Body, History, Kind, Member, Members, Memory, Meta, Parts, Rank, Ranked, References, Spare,
+    Tag, Tags, Text, ValueFault, Version, behind_escaped, is_id,
 };
 use std::alloc::{AllocError, Global};
 use std::cmp::Ordering;
@@ -511,21 +511,38 @@ fn versions_are_ordered(rt: HostRuntime) -> Result<(), Fail> {
     Ok(())
 }
 
+/// The rank of the node of this id and version number.
+fn rank(alloc: Global, (id, version): (i64, u64)) -> Result<Rank, Fail> {
+    Ok(node(alloc, id, version, 0, 0)?.rank())
+}
+
+/// Whether every comparison of two ranks has this order.
+fn compare_ranks(left: Rank, right: Rank, order: Ordering) -> bool {
+    left.cmp(&right) == order && (left < right) == order.is_lt() && (left == right) == order.is_eq()
+}
+
 #[test]
 fn versions_have_ranks(rt: HostRuntime) -> Result<(), Fail> {
     let alloc = rt.alloc();
-    // the class, the size of the id, and the number
-    let near = node(alloc, 3, 2, 0, 0)?;
-    assert_eq!(rt; near.rank(), (((1 << 45) + 3) << 16) + 2);
-    assert_eq!(rt; node(alloc, -3, 2, 0, 0)?.rank(), (3 << 16) + 2);
-    // of an id that is too far, a rank tells the class alone
-    let far = node(alloc, 1 << 45, 2, 0, 0)?;
-    assert_eq!(rt; far.rank(), ((1 << 46) - 1) << 16);
-    let ranked = Ranked::of_rank(near.rank(), near);
-    assert_eq!(rt;
-        (ranked.rank(), ranked.version().number()),
-        ((((1 << 45) + 3) << 16) + 2, 2)
-    );
+    for (left, right, order) in [
+        // the sign of the id, its size, and the number
+        ((-3, 2), (1, 1), Ordering::Less),
+        ((3, 2), (4, 1), Ordering::Less),
+        ((3, 3), (3, 2), Ordering::Greater),
+        // of an id that is too far, or a number that is too late, a rank tells nothing
+        ((1 << 45, 2), (1 << 46, 1), Ordering::Equal),
+        ((3, 1 << 16), (3, 1 << 17), Ordering::Equal),
+    ] {
+        let (left, right) = (rank(alloc, left)?, rank(alloc, right)?);
+        assert!(rt; compare_ranks(left, right, order));
+    }
+    Ok(())
+}
+
+#[test]
+fn a_version_with_its_rank_is_given_back(rt: HostRuntime) -> Result<(), Fail> {
+    let ranked = Ranked::new(node(rt.alloc(), 3, 2, 0, 0)?);
+    assert_eq!(rt; ranked.version().number(), 2);
     assert_eq!(rt; ranked.into_version().id(), 3);
     Ok(())
 }

@@ -1,9 +1,10 @@
 //! Texts.
-ghost use Rattle.std.specs.Prelude.{◌≡◌, ◌≤◌, ◌++◌, [], IfOk, IfSome, OnOk, OnErr, length, encode_utf8_all, string_bytes};
+ghost use Rattle.std.specs.Prelude.{◌≡◌, ◌≤◌, ◌++◌, [], IfErr, IfOk, IfSome, OnOk, OnErr};
+ghost use Rattle.std.specs.Prelude.{length, encode_utf8_all, string_bytes};
 ghost use Rattle.std.specs.Bool.{OnFalse};
 ghost use Rattle.std.specs.Str.{chars};
 ghost use Rattle.osm_model.specs.Escape.{escape};
-ghost use Rattle.osm_model.specs.Storage.{bytes_of};
+ghost use Rattle.osm_model.specs.Storage.{bytes_of, is_apart};
 ghost use Rattle.osm_model.specs.Text.{is_text, is_empty};
 
 use crate::Memory;
@@ -35,7 +36,8 @@ impl Storage {
     /// The bytes as a slice.
     #[inline(always)]
     fn as_str(&self) -> &str
-        ensures { result.now ≡ bytes_of self.now }
+        ensures bytes { result.now ≡ bytes_of self.now }
+        ensures short { OnFalse (is_apart self.now) (length result.now ≤ 24) }
     {
         match self {
             Storage::Plain(plain) => plain.as_str(),
@@ -151,6 +153,24 @@ impl Text {
         }
     }
 
+    /// The string of the text, where it has one. The string is moved, so no memory is taken. A text has a string if
+    /// [`Text::from_string`] made it, or if it has more than 24 bytes.
+    ///
+    /// # Errors
+    ///
+    /// The text itself, where its bytes lie in the value. It has at most 24 bytes then.
+    pub fn try_into_string(self) -> Result<String, Text>
+        ensures bytes { IfOk result (λ s. string_bytes s ≡ encode_utf8_all self) }
+        ensures text { IfErr result (λ t. t ≡ self) }
+        ensures short { OnErr result (length (encode_utf8_all self) ≤ 24) }
+    {
+        let _bytes = self.storage.as_str();
+        match self.storage {
+            Storage::Apart(string) => Ok(string),
+            storage => Err(Text { storage }),
+        }
+    }
+
     /// Appends characters, which are copied. After an error the text is as it was.
     ///
     /// # Errors
@@ -263,17 +283,8 @@ impl Text {
     pub(crate) fn has_memory(&self) -> bool
         ensures { OnFalse result (length (encode_utf8_all self.now) ≤ 24) }
     {
-        match &self.storage {
-            Storage::Plain(plain) => {
-                let _short = plain.as_str();
-                false
-            }
-            Storage::Within(string) => {
-                let _short = string.as_str();
-                false
-            }
-            Storage::Apart(_) => true,
-        }
+        let _bytes = self.storage.as_str();
+        matches!(self.storage, Storage::Apart(_))
     }
 
     /// Whether the text has no character.

@@ -1,4 +1,4 @@
-//! Commands in a folder of their own: the exit status, what is printed, and which files there are. `tools/commands` tests the
+//! Commands in a folder of their own: the exit status, what is printed, and which files there are. `tests/commands` tests the
 //! built program.
 use super::part::{Lock, PartFile, take_lock};
 use super::run_words;

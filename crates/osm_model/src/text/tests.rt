@@ -129,3 +129,28 @@ fn what_is_behind_a_plain_text_may_not_be(rt: HostRuntime) -> Result<(), Fail> {
     }
     Ok(())
 }
+
+/// The form in which a text of these characters is given back: its string or the text.
+fn given_back(text: Text, characters: &str) -> &'static str {
+    let (form, is_kept) = match text.try_into_string() {
+        Ok(string) => ("string", string.as_str() == characters),
+        Err(text) => ("text", text.as_str() == characters),
+    };
+    if is_kept { form } else { "other characters" }
+}
+
+#[test]
+fn texts_give_their_strings_back(rt: HostRuntime) -> Result<(), Fail> {
+    let alloc = rt.alloc();
+    for (characters, form_of_a_copy) in [
+        ("", "text"),
+        ("as_many_as_lie_within_it", "text"),
+        ("one_more_than_lies_within", "string"),
+    ] {
+        let text = Text::from_string(String::from_str(alloc, characters)?);
+        assert_eq!(rt; given_back(text, characters), "string");
+        let copy = looked_at(alloc, characters)?;
+        assert_eq!(rt; given_back(copy, characters), form_of_a_copy);
+    }
+    Ok(())
+}

@@ -15,5 +15,6 @@ writes-preserved g c =
       appended =
           subst (Appended (g.W.Output.holds c.args.out.now) (g.W.Output.holds c.write.new.self)) (sym (take-add done count bytes))
           (appended_on (g.W.Output.holds c.args.out.now) (g.W.Output.holds c.writes.out) (g.W.Output.holds c.write.new.self) (take done bytes) (take count (drop done bytes)) c.writes.invariant.appended (rw rest at c.in-Ok.ensures.taken));
+      lasts = λ h. c.writes.invariant.lasts c.in-Ok.ensures.fails.0;
       good = λ _. c.in-Ok.ensures.fails.1 c.if-count-gt0.true;
     }

@@ -21,11 +21,13 @@ returns-in_err-begin-clause-written g c =
     (begin_err f n c.args.sink.now c.requires.unused c.begin.new.self before now failed c.in_err-begin.field-0.0 c.in_err-begin.ensures.calls))
 
 pub puts-init : goal.puts-init
-puts-init g c =
-    begin_ok c.args.sink.now.format c.args.sink.now.number c.args.sink.now c.requires.unused c.begin.new.self (g.W.Output.holds c.args.out.now) (g.W.Output.holds c.begin.new.out) (g.W.Output.failed c.begin.new.out) c.in_ok-begin.ensures.calls
+puts-init g c = (
+  begin_ok c.args.sink.now.format c.args.sink.now.number c.args.sink.now c.requires.unused c.begin.new.self (g.W.Output.holds c.args.out.now) (g.W.Output.holds c.begin.new.out) (g.W.Output.failed c.begin.new.out) c.in_ok-begin.ensures.calls,
+  c.begin.ensures.lasts,
+)
 
 pub put-requires-clause-open : goal.put-requires-clause-open
-put-requires-clause-open g c = (ap (λ s. s.begun) c.puts.invariant.state, ap (λ s. s.ended) c.puts.invariant.state)
+put-requires-clause-open g c = (ap (λ s. s.begun) c.puts.invariant.0.state, ap (λ s. s.ended) c.puts.invariant.0.state)
 
 pub put-requires-clause-follows : goal.put-requires-clause-follows
 put-requires-clause-follows g c = λ going.
@@ -33,7 +35,7 @@ put-requires-clause-follows g c = λ going.
     let i = c.puts.place in
     let v = c.get.result.now in
     let within : i < length xs = omega (arith, c.puts-test.true, c.len-place-end.ensures) in
-    may_put c.args.sink.now.format c.args.sink.now.number xs i v (g.W.Output.holds c.args.out.now) (g.W.Output.holds c.puts.out) c.puts.sink (strict-listed c.args.history.now) within c.get.ensures c.puts.invariant
+    may_put c.args.sink.now.format c.args.sink.now.number xs i v (g.W.Output.holds c.args.out.now) (g.W.Output.holds c.puts.out) c.puts.sink (strict-listed c.args.history.now) within c.get.ensures c.puts.invariant.0
 
 pub returns-in_err-put-clause-written : goal.returns-in_err-put-clause-written
 returns-in_err-put-clause-written g c =
@@ -48,7 +50,7 @@ returns-in_err-put-clause-written g c =
     let failed = g.W.Output.failed c.put.new.out in
     let fault = c.in_err-put.field-0.0 in
     let within : i < length xs = omega (arith, c.puts-test.true, c.len-place-end.ensures) in
-    let cut = put_err f n (take i xs) before mid c.puts.sink c.puts.invariant v c.put.new.self now failed fault c.in_err-put.ensures.calls in
+    let cut = put_err f n (take i xs) before mid c.puts.sink c.puts.invariant.0 v c.put.new.self now failed fault c.in_err-put.ensures.calls in
     let p = err_from_is_err_and c.from_residual-in_err-put.result c.from_residual-in_err-put.ensures.1 in
     rw (p.1, p.2) (subst (λ (x : List VersionData). CutShort n before now failed (spell_list f x) fault) (parts_at xs i v within c.get.ensures)
     (cut_before_end f n (take i xs ++ v ∷ []) (drop (i + 1) xs) before now failed fault cut))
@@ -64,12 +66,14 @@ puts-preserved g c =
     let mid = g.W.Output.holds c.puts.out in
     let now = g.W.Output.holds c.put.new.out in
     let failed = g.W.Output.failed c.put.new.out in
-    let within : i < length xs = omega (arith, c.puts-test.true, c.len-place-end.ensures) in
-    subst (λ (x : List VersionData). HasPut f n x before c.put.new.self now) (front_at xs i v within c.get.ensures)
-    (put_ok f n (take i xs) before mid c.puts.sink c.puts.invariant v c.put.new.self now failed c.in_ok-put.ensures.calls)
+    let within : i < length xs = omega (arith, c.puts-test.true, c.len-place-end.ensures) in (
+      subst (λ (x : List VersionData). HasPut f n x before c.put.new.self now) (front_at xs i v within c.get.ensures)
+          (put_ok f n (take i xs) before mid c.puts.sink c.puts.invariant.0 v c.put.new.self now failed c.in_ok-put.ensures.calls),
+      λ h. c.puts.invariant.1 c.in_ok-put.ensures.good.0,
+    )
 
 pub end-requires : goal.end-requires
-end-requires g c = (ap (λ s. s.begun) c.puts.invariant.state, ap (λ s. s.ended) c.puts.invariant.state)
+end-requires g c = (ap (λ s. s.begun) c.puts.invariant.0.state, ap (λ s. s.ended) c.puts.invariant.0.state)
 
 pub returns-clause-written : goal.returns-clause-written
 returns-clause-written g c =
@@ -83,4 +87,4 @@ returns-clause-written g c =
     let failed = g.W.Output.failed c.end.new.out in
     let all : take i xs ≡ xs = take_all i xs (omega (arith, c.puts-test.false, c.len-place-end.ensures)) in
     subst (λ (x : List VersionData). WritesFile n before now failed (spell_list f x) c.end.result) all
-    (end_written f n (take i xs) before mid c.puts.sink c.puts.invariant c.end.new.self now failed c.end.result c.end.ensures.calls)
+    (end_written f n (take i xs) before mid c.puts.sink c.puts.invariant.0 c.end.new.self now failed c.end.result c.end.ensures.calls)

@@ -8,4 +8,5 @@ pub returns-in_default : goal.returns-in_default
 returns-in_default c =
     let one = c.self.invariant ∙ ap rank_of c.self.view_is in
     let other = c.other.invariant ∙ ap rank_of c.other.view_is in
-    by_rank c.args.self.now c.args.other.now c.cmp.result (c.cmp.ensures ∙ ap (λ r. nat_cmp r c.other.inside.rank) one ∙ ap (nat_cmp _) other) c.in_default.not-Equal
+    let by_value = c.cmp.ensures ∙ ap (λ r. nat_cmp r c.other.inside.rank.value) one ∙ ap (nat_cmp _) other in
+    by_rank c.args.self.now c.args.other.now c.cmp.result by_value c.in_default.not-Equal

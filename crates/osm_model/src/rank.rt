@@ -1,0 +1,37 @@
+//! Ranks of versions.
+ghost use Rattle.std.specs.Prelude.{◌≡◌};
+ghost use Rattle.osm_model.specs.Rank.{rank_of};
+
+use crate::Version;
+
+/// From here on a rank doesn't tell ids apart.
+const FAR: u64 = (1 << 45) - 1;
+
+/// From here on a rank doesn't tell version numbers apart.
+const LATE: u64 = (1 << 16) - 1;
+
+/// The rank of a version. Ranks decide nearly all comparisons of versions without a look at their data: a version of a
+/// lower rank is less. Two versions of one rank can differ. Ranks compare as numbers, in one comparison.
+#[derive(Clone, Copy, Debug, PartialEq, Eq, PartialOrd, Ord)]
+pub struct Rank {
+    value: u64,
+}
+
+impl Version {
+    /// The rank: the kind, the sign and the absolute value of the id, and the version number, as far as one word holds
+    /// them.
+    #[inline(always)]
+    pub fn rank(&self) -> Rank
+        ensures { result.value ≡ rank_of self.now }
+    {
+        let id = self.id();
+        let class = 2 * u64::from(self.kind().rank()) + u64::from(id > 0);
+        let size = id.unsigned_abs();
+        let value = if size < FAR {
+            (((class << 45) + size) << 16) + self.number().min(LATE)
+        } else {
+            ((class << 45) + FAR) << 16
+        };
+        Rank { value }
+    }
+}
