@@ -14,9 +14,9 @@ _osm_hist_files() {
 # The options of a command.
 _osm_hist_options() {
     case $1 in
-    merge) echo --output --format --fsync --progress --help -h ;;
-    apply) echo --output --format --fsync --progress --with-history --sorted --help -h ;;
-    time-filter | sort) echo --output --format --fsync --progress --sorted --help -h ;;
+    merge) echo --output -o --format -f --fsync --progress --help -h ;;
+    apply) echo --output -o --format -f --fsync --progress --with-history --sorted --help -h ;;
+    time-filter | sort) echo --output -o --format -f --fsync --progress --sorted --help -h ;;
     check | plan) echo --help -h ;;
     '') echo --help -h --version -V ;;
     esac
@@ -30,8 +30,8 @@ _osm_hist() {
     if [ "$word" = = ]; then word= before=${COMP_WORDS[COMP_CWORD - 1]}; fi
     if [ "$before" = = ]; then before=${COMP_WORDS[COMP_CWORD - 2]}; fi
     case $before in
-    --format) _osm_hist_offer 'opl o5m o5c' "$word" && return ;;
-    --output) _osm_hist_files "$word" && return ;;
+    --format | -f) _osm_hist_offer 'opl o5m o5c' "$word" && return ;;
+    --output | -o) _osm_hist_files "$word" && return ;;
     esac
     case $word in
     -*) _osm_hist_offer "$(_osm_hist_options "$command")" "$word" && return ;;

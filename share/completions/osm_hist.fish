@@ -16,8 +16,8 @@ complete -c osm_hist -n "__fish_seen_subcommand_from $writing check plan" -F
 
 complete -c osm_hist -n "not __fish_seen_subcommand_from help" -s h -l help -d 'Print help'
 complete -c osm_hist -n $none -s V -l version -d 'Print the version'
-complete -c osm_hist -n "__fish_seen_subcommand_from $writing" -l output -r -F -d 'The file to be written'
-complete -c osm_hist -n "__fish_seen_subcommand_from $writing" -l format -x -a 'opl o5m o5c' -d 'Its format'
+complete -c osm_hist -n "__fish_seen_subcommand_from $writing" -s o -l output -r -F -d 'The file to be written'
+complete -c osm_hist -n "__fish_seen_subcommand_from $writing" -s f -l format -x -a 'opl o5m o5c' -d 'Its format'
 complete -c osm_hist -n "__fish_seen_subcommand_from $writing" -l fsync -d 'Have it on the disk before it is renamed'
 complete -c osm_hist -n "__fish_seen_subcommand_from $writing" -l progress -d 'Tell while it runs how much was read and written'
 complete -c osm_hist -n "__fish_seen_subcommand_from apply" -l with-history -d 'Write all versions'

@@ -1,12 +1,12 @@
 //! `osm_hist`: merges files of OpenStreetMap histories.
 #![tactic(auto)]
 
-use crate::words::{Refusal, run_words};
+use crate::cli::{Refusal, run_words};
 use std::process::ExitCode;
 use std::rt::Env;
 use std::{env, io};
 
-pub mod words;
+pub mod cli;
 
 fn main(rt: HostRuntime) -> ExitCode {
     let status = match words_given(&rt) {

@@ -1,6 +1,6 @@
 use Rattle.std.specs.List.{All}
 use Rattle.osm_mirror.specs.Fleet.{IsWithin}
-use Rattle.osm_hist.proofs.words.planning.events_of.Given as goal
+use Rattle.osm_hist.proofs.cli.planning.events_of.Given as goal
 
 abbrev pub invariant-steps : goal.invariant-steps
 invariant-steps l = All (IsWithin l.mirrors) l.events.items

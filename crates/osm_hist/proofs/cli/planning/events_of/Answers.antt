@@ -3,7 +3,7 @@ use Rattle.std.proofs.lemmas.List.Elements.{All-push, All-same, All-get_or}
 use Rattle.std.proofs.lemmas.Slice.Zip.{zip_turn}
 use Rattle.osm_mirror.specs.Fleet.{IsWithin}
 use Rattle.osm_mirror.specs.PlanLine.{StepNames}
-use Rattle.osm_hist.proofs.words.planning.events_of.Goals as goal
+use Rattle.osm_hist.proofs.cli.planning.events_of.Goals as goal
 
 pub steps-preserved : goal.steps-preserved
 steps-preserved c =

@@ -11,7 +11,7 @@ mod running;
 mod stretches;
 mod target;
 
-use crate::words::request::Request;
+use crate::cli::request::Request;
 pub(crate) use part::PartFile;
 pub(crate) use refusal::Refusal;
 use std::convert::AsStr;

@@ -162,11 +162,14 @@ fn writing<'a>(alloc: Global, command: Command<'a>) -> Made<'a> {
 fn output_arg<'a>(alloc: Global) -> Arg<'a> {
     let help =
         "The file to be written; - is standard output, and a pipe or a device is written as it is";
-    required_arg(alloc, "output", "OUT", help).long("output")
+    required_arg(alloc, "output", "OUT", help)
+        .short('o')
+        .long("output")
 }
 
 fn format_arg<'a>(alloc: Global) -> Arg<'a> {
     Arg::new(alloc, "format")
+        .short('f')
         .long("format")
         .value_name("FORMAT")
         .value_parser(FORMAT_NAMES.as_slice())

@@ -175,17 +175,18 @@ fn names_standard_input_twice(files: &[&str]) -> bool {
     files.iter().filter(|file| **file == STANDARD).count() > 1
 }
 
-/// Which versions a command of this name writes.
+/// Which versions a command of this name writes; none, where it isn't a command that writes a file.
 fn selection<'a>(name: &str, words: &ArgMatches<'a>) -> Result<Option<Selection>, Refusal<'a>> {
     match name {
         "merge" | "sort" => Ok(Some(Selection::All)),
         "apply" if words.get_flag("with-history") => Ok(Some(Selection::All)),
         "apply" => Ok(Some(Selection::NewestVisible)),
-        _ => match (words.get_str("time"), words.get_str("end")) {
+        "time-filter" => match (words.get_str("time"), words.get_str("end")) {
             (Some(time), None) => Ok(Some(Selection::StateVisible(moment(time)?))),
             (Some(from), Some(to)) => Ok(Some(period(from, to)?)),
             (None, _) => Ok(None),
         },
+        _ => Ok(None),
     }
 }
 
