@@ -1,5 +1,5 @@
 -- The pass: which versions of an ascending list are put, each decided once the one behind it is known.
-use Rattle.std.specs.Prelude.{ℕ, Bool, true, false, ◌&&◌, List, [], ◌∷◌, ◌++◌, if◌then◌else◌, nat_lt, Option, Some, None, is_none, option_map}
+use Rattle.std.specs.Prelude.{ℕ, Bool, true, false, ◌&&◌, List, [], ◌∷◌, ◌++◌, if◌then◌else◌, nat_lt, Option, Some, None, is_none, option_map, option_to_list}
 use Rattle.std.specs.Ordering.{is_eq, is_lt}
 use Rattle.std.specs.List.{filter}
 use Rattle.osm_model.specs.Data.{VersionData}
@@ -106,6 +106,10 @@ put_at selection held v = if puts_at_once selection then (v ∷ []) else leaves 
 
 abbrev pub put_at_end : Selection → Option VersionData → List VersionData
 put_at_end selection held = if puts_at_once selection then [] else leaves selection held None
+
+-- what is put once this is the next version, or none is
+abbrev pub put_with : Selection → Option VersionData → Option VersionData → List VersionData
+put_with selection held next = if puts_at_once selection then option_to_list next else leaves selection held next
 
 -- a version is new where it is greater than the one held back
 abbrev pub is_new : Option VersionData → VersionData → Bool

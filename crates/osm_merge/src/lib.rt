@@ -8,10 +8,12 @@ mod heads;
 pub mod laws;
 mod merge;
 mod newest;
+mod pending;
 mod progress;
 mod repeats;
 mod selection;
 mod taking;
+mod tournament;
 mod tree;
 
 pub use chosen::{at, between, snapshot, visible};

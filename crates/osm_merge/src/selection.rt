@@ -1,5 +1,5 @@
 //! Which versions of a history are written.
-ghost use Rattle.std.specs.Prelude.{◌≡◌, Some};
+ghost use Rattle.std.specs.Prelude.{◌≡◌, Some, option_copied};
 ghost use Rattle.osm_merge.specs.Selected.{moment, is_visible, is_by, lasts};
 ghost use Rattle.osm_merge.specs.Pass.{passes, stays, keeps, puts_at_once, same_object};
 
@@ -69,6 +69,17 @@ pub(crate) fn keeps(selection: Selection, version: &Version, behind: &Version) -
         stays(selection, version, Some(moment(behind)))
     } else {
         stays(selection, version, None)
+    }
+}
+
+/// Whether a version stays, where this version is the next one in the order; or none is.
+#[inline(always)]
+pub(crate) fn keeps_before(selection: Selection, version: &Version, next: Option<&Version>) -> bool
+    ensures { result ≡ keeps selection version.now (option_copied next.entry) }
+{
+    match next {
+        None => stays(selection, version, None),
+        Some(next) => keeps(selection, version, next),
     }
 }
 

@@ -2,11 +2,13 @@ use Rattle.std.proofs.Common.{List, [], ◌++◌, ap, subst, ◌∙◌, cond}
 use Rattle.osm_model.specs.Data.{VersionData}
 use Rattle.osm_files.specs.Sink.{HasPut}
 use Rattle.osm_merge.specs.Pass.{put_at}
-use Rattle.osm_merge.proofs.merge.meet.Goals as goal
+use Rattle.osm_merge.proofs.pending.Pending.meet.Goals as goal
 
 pub returns-clause-puts : goal.returns-clause-puts
 returns-clause-puts g c = λ format number put before has.
+    let selection = c.args.self.now.selection in
+    let held = c.args.self.now.held in
     subst (λ (more : List VersionData). HasPut format number (put ++ more) (g.W.Output.holds before) c.put_decided.new.sink (g.W.Output.holds c.put_decided.new.out))
-    (ap (put_at c.args.selection c.args.last.now) c.version-2.ensures
-    ∙ ap (λ b. cond b (put_at c.args.selection c.args.last.now c.args.version) []) c.if-not-is_met.ensures.met)
+    (ap (put_at selection held) c.version-2.ensures
+    ∙ ap (λ b. cond b (put_at selection held c.args.version) []) c.if-not-is_met.ensures.met)
     (c.in_ok-put_decided.ensures.puts format number put before has)

@@ -1,0 +1,197 @@
+//! The version met last, and which versions are written.
+ghost use Rattle.std.specs.Prelude.{◌≡◌, ◌≤◌, ◌+◌, true, false, None, IfOk, IfSome, OnOk, option_copied};
+ghost use Rattle.osm_files.specs.Output.{FailingLasts, IsGoodThroughout};
+ghost use Rattle.osm_files.specs.Sink.{IsOpen};
+ghost use Rattle.osm_merge.specs.Union.{capped};
+ghost use Rattle.osm_merge.specs.Pass.{is_new, is_met, held_next, puts, put_at, put_at_end, put_with, only};
+ghost use Rattle.osm_merge.specs.Put.{TakesEach, PutsMore, EndsFile, CountsMore};
+
+use crate::compare::compare;
+use crate::merge::Counts;
+use crate::selection::{Selection, keeps_before, passes, puts_at_once};
+use osm_files::{Fault, Output, Sink};
+use osm_model::{Ranked, Version};
+
+/// The version met last, which may be written once the next one is known, and what was read and written so far.
+#[derive(Drop)]
+pub(crate) struct Pending {
+    /// Which versions are written.
+    pub(crate) selection: Selection,
+    /// The version met last.
+    held: Option<Ranked>,
+    /// A version that isn't needed any more, whose memory a source may take.
+    pub(crate) spare: Option<Version>,
+    /// What was read and written.
+    pub(crate) counts: Counts,
+}
+
+impl Pending {
+    /// Nothing was met.
+    pub(crate) fn new(selection: Selection) -> Pending
+        ensures { result ≡ record { selection = selection; held = None; spare = None; counts = record { read = 0; written = 0; compared = 0 } } }
+    {
+        Pending {
+            selection,
+            held: None,
+            spare: None,
+            counts: Counts {
+                read: 0,
+                written: 0,
+                compared: 0,
+            },
+        }
+    }
+
+    /// Meets the next version. One that passes and is greater than the pending one decides what is written, and is pending then.
+    /// Any other one is spare, and so is one that is known to repeat one taken before.
+    #[inline(always)]
+    pub(crate) fn meet<W: Output>(
+        &mut self,
+        version: Ranked,
+        is_repeated: bool,
+        compared: &mut u64,
+        sink: &mut Sink,
+        out: &mut W,
+    ) -> Result<(), Fault>
+        requires open { IsOpen sink.old }
+        requires takes { is_met self.old.selection self.old.held version ≡ true
+            → TakesEach (put_at self.old.selection self.old.held version) sink.old }
+        requires repeated { is_repeated ≡ true → is_met self.old.selection self.old.held version ≡ false }
+        ensures puts { PutsMore W.holds (puts self.old.selection self.old.held version)
+            sink.old sink.new out.old out.new (W.failed out.new) result }
+        ensures lasts { FailingLasts (W.failed out.old) (W.failed out.new) }
+        ensures selection { self.new.selection ≡ self.old.selection }
+        ensures held { OnOk result (self.new.held ≡ held_next self.old.selection self.old.held version) }
+        ensures read { self.new.counts.read ≡ capped (self.old.counts.read + 1) }
+        ensures written { OnOk result (CountsMore (puts self.old.selection self.old.held version)
+            self.old.counts.written self.new.counts.written) }
+        ensures grows { compared.old ≤ compared.new }
+        ensures most { compared.new ≤ compared.old + 1 }
+        ensures least { is_repeated ≡ false → IfSome self.old.held (λ _. capped (compared.old + 1) ≤ compared.new) }
+    {
+        self.counts.read = self.counts.read.saturating_add(1);
+        if is_repeated || !self.is_met(&version, compared) {
+            self.spare = Some(version.into_version());
+            return Ok(());
+        }
+        self.put_decided(Some(version.version()), sink, out)?;
+        self.spare = self.held.replace(version).map(Ranked::into_version);
+        Ok(())
+    }
+
+    /// Whether a version passes and is greater than the pending one.
+    #[inline(always)]
+    fn is_met(&self, version: &Ranked, compared: &mut u64) -> bool
+        ensures met { result ≡ is_met self.now.selection self.now.held version.now }
+        ensures grows { compared.old ≤ compared.new }
+        ensures most { compared.new ≤ compared.old + 1 }
+        ensures least { IfSome self.now.held (λ _. capped (compared.old + 1) ≤ compared.new) }
+    {
+        is_new(&self.held, version, compared) && passes(self.selection, version.version())
+    }
+
+    /// Writes what the next version decides, or the end of all, if there is none: the next version itself, where all are written
+    /// at once, or else the pending one, if it stays.
+    #[inline(always)]
+    fn put_decided<W: Output>(
+        &mut self,
+        next: Option<&Version>,
+        sink: &mut Sink,
+        out: &mut W,
+    ) -> Result<(), Fault>
+        requires open { IsOpen sink.old }
+        requires takes { TakesEach (put_with self.old.selection self.old.held (option_copied next)) sink.old }
+        ensures puts { PutsMore W.holds (put_with self.old.selection self.old.held (option_copied next.entry))
+            sink.old sink.new out.old out.new (W.failed out.new) result }
+        ensures lasts { FailingLasts (W.failed out.old) (W.failed out.new) }
+        ensures open { OnOk result (IsOpen sink.new) }
+        ensures selection { self.new.selection ≡ self.old.selection }
+        ensures held { self.new.held ≡ self.old.held }
+        ensures read { self.new.counts.read ≡ self.old.counts.read }
+        ensures written { OnOk result (CountsMore (put_with self.old.selection self.old.held (option_copied next.entry))
+            self.old.counts.written self.new.counts.written) }
+    {
+        if puts_at_once(self.selection) {
+            return match next {
+                None => Ok(()),
+                Some(version) => put_if(true, version, &mut self.counts, sink, out),
+            };
+        }
+        match &self.held {
+            None => Ok(()),
+            Some(held) => {
+                let held = held.version();
+                let stays = keeps_before(self.selection, held, next);
+                put_if(stays, held, &mut self.counts, sink, out)
+            }
+        }
+    }
+
+    /// Writes the pending version, if it stays, ends the file, and returns the counts, with these comparisons.
+    pub(crate) fn end<W: Output>(
+        &mut self,
+        compared: u64,
+        sink: &mut Sink,
+        out: &mut W,
+    ) -> Result<Counts, Fault>
+        requires open { IsOpen sink.old }
+        requires takes { TakesEach (put_at_end self.old.selection self.old.held) sink.old }
+        ensures read { IfOk result (λ done. done.read ≡ self.old.counts.read) }
+        ensures written { IfOk result (λ done. CountsMore (put_at_end self.old.selection self.old.held)
+            self.old.counts.written done.written) }
+        ensures compared { IfOk result (λ done. done.compared ≡ compared) }
+        ensures file { EndsFile W.holds (put_at_end self.old.selection self.old.held)
+            sink.old out.old out.new (W.failed out.new) result }
+        ensures good { OnOk result (IsGoodThroughout (W.failed out.old) (W.failed out.new)) }
+        ensures ended { OnOk result (sink.new.ended ≡ true) }
+    {
+        self.put_decided(None, sink, out)?;
+        sink.end(out)?;
+        Ok(Counts {
+            compared,
+            ..self.counts
+        })
+    }
+}
+
+/// Puts a version, if it stays, and counts it.
+#[inline(always)]
+fn put_if<W: Output>(
+    stays: bool,
+    version: &Version,
+    counts: &mut Counts,
+    sink: &mut Sink,
+    out: &mut W,
+) -> Result<(), Fault>
+    requires open { IsOpen sink.old }
+    requires takes { TakesEach (only stays version.now) sink.old }
+    ensures puts { PutsMore W.holds (only stays version.now) sink.old sink.new out.old out.new (W.failed out.new) result }
+    ensures lasts { FailingLasts (W.failed out.old) (W.failed out.new) }
+    ensures open { OnOk result (IsOpen sink.new) }
+    ensures read { counts.new.read ≡ counts.old.read }
+    ensures written { OnOk result (CountsMore (only stays version.now) counts.old.written counts.new.written) }
+    ensures compared { counts.new.compared ≡ counts.old.compared }
+{
+    if !stays {
+        return Ok(());
+    }
+    let put = sink.put(out, version);
+    if put.is_ok() {
+        counts.written = counts.written.saturating_add(1);
+    }
+    put
+}
+
+/// Whether a version is greater than the one held back.
+#[inline(always)]
+fn is_new(last: &Option<Ranked>, version: &Ranked, compared: &mut u64) -> bool
+    ensures new { result ≡ is_new last.now version.now }
+    ensures grows { compared.old ≤ compared.new }
+    ensures most { compared.new ≤ compared.old + 1 }
+    ensures least { IfSome last.now (λ _. capped (compared.old + 1) ≤ compared.new) }
+{
+    match last {
+        None => true,
+        Some(last) => compare(last, version, compared).is_lt(),
+    }
+}

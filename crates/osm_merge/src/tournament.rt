@@ -1,0 +1,109 @@
+//! The next version of each source, and the tournament that finds the least of them.
+ghost use Rattle.std.specs.Prelude.{◌≡◌, ◌+◌, ◌-◌, ◌/◌, ◌<◌, ◌≤◌, ◌^◌, ℕ, None, Some};
+ghost use Rattle.std.specs.Prelude.{length, slice_index, slice_index_or, slice_set, IfOk, IfErr};
+ghost use Rattle.std.specs.Bool.{OnTrue};
+ghost use Rattle.osm_files.specs.Fault.{memory_fault};
+ghost use Rattle.osm_merge.specs.Repeats.{after_taking, IsTied, IsToldBy};
+ghost use Rattle.osm_merge.specs.Tree.{IsTree};
+
+use crate::heads::{Head, head_of};
+use crate::repeats::Repeats;
+use crate::tree::{build, replay};
+use osm_files::Fault;
+use osm_model::{Ranked, Version};
+use std::alloc::Global;
+
+/// The next version of each source, and the games over them.
+#[derive(Drop)]
+pub(crate) struct Tournament {
+    /// The next version of each source.
+    heads: Vec<Head>,
+    /// The places of the sources and the winners of the games, as the module `tree` has them.
+    nodes: Vec<usize>,
+    /// What is known of equal heads.
+    repeats: Repeats,
+    /// The comparisons of versions so far, those with the pending version included.
+    pub(crate) compared: u64,
+}
+
+impl Tournament {
+    /// The tournament of these heads, whose games are all played.
+    ///
+    /// # Errors
+    ///
+    /// Out of memory only.
+    pub(crate) fn new(alloc: Global, heads: Vec<Head>) -> Result<Tournament, Fault>
+        ensures heads { IfOk result (λ t. t.heads.items ≡ heads.items) }
+        ensures tree { IfOk result (λ t. IsTree t.heads.items t.nodes.items 1 0) }
+        ensures repeats { IfOk result (λ t. t.repeats ≡ record { tie = None; taken = None }) }
+        ensures most { IfOk result (λ t. t.compared ≤ length t.heads.items - 1) }
+        ensures fault { IfErr result (λ fault. fault ≡ memory_fault) }
+    {
+        let mut compared = 0;
+        match build(alloc, &heads, &mut compared) {
+            Ok(nodes) => Ok(Tournament {
+                heads,
+                nodes,
+                repeats: Repeats::none(),
+                compared,
+            }),
+            Err(fault) => Err(fault),
+        }
+    }
+
+    /// The place of the least head.
+    #[inline(always)]
+    pub(crate) fn leader(&self) -> usize
+        requires some { 0 < length self.now.heads.items }
+        requires tree { IsTree self.now.heads.items self.now.nodes.items 1 0 }
+        ensures winner { result ≡ slice_index self.now.nodes.items 1 }
+        ensures within { result < length self.now.heads.items }
+    {
+        self.nodes[1]
+    }
+
+    /// Whether the head of this place is known to be equal to the version taken last.
+    #[inline(always)]
+    pub(crate) fn is_repeated(&self, place: usize) -> bool
+        ensures { OnTrue result (self.now.repeats.taken ≡ Some place) }
+    {
+        self.repeats.is_taken(place)
+    }
+
+    /// Takes the head of this place, if it has one. The source's next version has to be put before the leader is asked for again.
+    #[inline(always)]
+    pub(crate) fn take(&mut self, place: usize) -> Option<Ranked>
+        requires { place < length self.old.heads.items }
+        ensures version { result ≡ slice_index_or self.old.heads.items place None }
+        ensures heads { self.new.heads.items ≡ slice_set self.old.heads.items place None }
+        ensures nodes { self.new.nodes ≡ self.old.nodes }
+        ensures repeats { self.new.repeats ≡ self.old.repeats }
+        ensures compared { self.new.compared ≡ self.old.compared }
+    {
+        self.heads[place].take()
+    }
+
+    /// Puts the next version of the source of this place, if it has one, and plays the games of the place again.
+    #[inline(always)]
+    pub(crate) fn put(&mut self, place: usize, next: Option<Version>)
+        requires place { place < length self.old.heads.items }
+        requires tree { IsTree (slice_set self.old.heads.items place next) self.old.nodes.items 1 ((length self.old.heads.items + place) / 2) }
+        requires tied { IsTied (slice_set self.old.heads.items place next) (after_taking self.old.repeats.tie place).tie }
+        ensures heads { self.new.heads.items ≡ slice_set self.old.heads.items place next }
+        ensures tree { IsTree self.new.heads.items self.new.nodes.items 1 0 }
+        ensures tied { IsTied self.new.heads.items self.new.repeats.tie }
+        ensures taken { self.new.repeats.taken ≡ (after_taking self.old.repeats.tie place).taken }
+        ensures told { IsToldBy (after_taking self.old.repeats.tie place).tie self.old.compared self.new.repeats.tie self.new.compared }
+        ensures most { (depth : ℕ) → length self.new.heads.items ≤ 2 ^ depth → self.new.compared ≤ self.old.compared + depth }
+    {
+        self.heads[place] = head_of(next);
+        self.repeats.note_taken(place);
+        replay(
+            &mut self.nodes,
+            &self.heads,
+            place,
+            &mut self.repeats.tie,
+            &mut self.compared,
+        );
+    }
+}
