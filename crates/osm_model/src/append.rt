@@ -1,4 +1,10 @@
 //! Canonical lines, appended to a vector.
+//!
+//! Why: `LineBytes` gives the same bytes from left to right, but takes more than twice as long. A line is appended in few stretches,
+//! and that of a node without tags in one, since eight of ten lines of an extract are such lines.
+//! Assumes: for one stretch, a visible node without tags whose user name is known to be plain.
+//! Otherwise: one stretch up to the user name, one for the name, one for the tags, and one for the fields of the kind.
+//! Compared by: `both_writers_write_one_line` (opl_line) and `a_node_without_tags_has_one_line`.
 ghost use Rattle.std.specs.Prelude.{◌≡◌, ◌++◌, ◌+◌, [], ◌∷◌, ◌≤◌, ℕ, List, codes, length, drop, OnOk};
 ghost use Rattle.osm_model.specs.Joined.{joined};
 ghost use Rattle.osm_model.specs.Escape.{escape, escape_char};

