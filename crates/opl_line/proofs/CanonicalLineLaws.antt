@@ -1,5 +1,5 @@
--- A line that was read straight on is the canonical line of its version.
-use Rattle.std.proofs.Common.{◌≡◌, ℕ, ℤ, Bool, true, false, eqb, ◌&&◌, List, [], ◌∷◌, ◌++◌, refl, sym, ap, ◌∙◌, append_assoc}
+-- A line that was parsed from left to right is read as its version.
+use Rattle.std.proofs.Common.{◌≡◌, ℕ, ℤ, Bool, true, false, eqb, ◌&&◌, List, [], ◌∷◌, ◌++◌, None, Some, Ok, refl, sym, ap, ◌∙◌, subst, append_assoc}
 use Rattle.std.proofs.lemmas.Bool.{and_parts}
 use Rattle.std.proofs.lemmas.List.Folds.{list_all-append}
 use Rattle.std.specs.List.{list_all}
@@ -9,18 +9,21 @@ use Rattle.osm_model.specs.declared.meta.Meta.{Meta}
 use Rattle.osm_model.specs.declared.tags.Tag.{Tag}
 use Rattle.osm_model.specs.declared.members.Member.{Member}
 use Rattle.osm_model.specs.declared.body.Body.{Body}
-use Rattle.osm_model.specs.declared.body.Body.TheVariants.{Node, Way, Relation}
+use Rattle.osm_model.specs.declared.body.Body.TheVariants.{Deleted, Node, Way, Relation}
 use Rattle.osm_model.specs.Id.{is_id}
 use Rattle.osm_model.specs.Text.{is_text}
 use Rattle.osm_model.specs.Tags.{texts_of_tags}
 use Rattle.osm_model.specs.Members.{ids_of_members, roles_of}
-use Rattle.osm_model.specs.New.{is_dated}
-use Rattle.osm_model.specs.Data.{VersionData, kind_of, is_deleted, normal_body}
+use Rattle.osm_model.specs.New.{is_dated, first_fault}
+use Rattle.osm_model.specs.Data.{VersionData, kind_of, is_deleted, normal_body, version_of}
+use Rattle.osm_model.specs.Valid.{IsInRange, IsVersion}
 use Rattle.osm_model.specs.Line.{list_text, tag_text, reference_text, member_text, line}
 use Rattle.osm_model.specs.Append.{location_text}
 use Rattle.osm_model.proofs.AppendLaws.{line-parts}
-use Rattle.opl_line.specs.Straight.{head_text, tail_text, IsHead, IsTail, IsCanonical}
-use Rattle.opl_line.proofs.MadeLaws.{without_fault}
+use Rattle.opl_line.specs.Reading.{reading_line}
+use Rattle.opl_line.specs.Straight.{head_text, tail_text, IsHead, IsTail}
+use Rattle.opl_line.proofs.MadeLaws.{Passes, without_fault, made}
+use Rattle.opl_line.proofs.WholeLineLaws.{data_is_read}
 
 -- items that are valid have valid parts
 valid_tags : (tags : List Tag) → list_all (λ tag. is_text tag.key && is_text tag.value) tags ≡ true → list_all is_text (texts_of_tags tags) ≡ true
@@ -65,29 +68,53 @@ module _ (text from_tags behind : List ℕ) (k : Kind) (deleted : Bool) (tags : 
         texts = list_all-append is_text (roles_of members) (texts_of_tags tags) ∙ (λ i. valid_roles members valid i && valid_tags tags all i);
       }
 
--- the version of data with normal tags
-data_with : ℤ → Meta → Body → VersionData
-data_with id meta b = record { id = id; number = meta.version; time = meta.time; changeset = meta.changeset; uid = meta.uid; user = meta.user; body = b }
+-- the data of a line, with its tags in their order in the line
+abbrev data_of_line : ℤ → Meta → Body → VersionData
+data_of_line id meta b = record { id = id; number = meta.version; time = meta.time; changeset = meta.changeset; uid = meta.uid; user = meta.user; body = b }
 
-whole_text : (id : ℤ) (meta : Meta) (b : Body) → head_text (kind_of b) id (is_deleted b) meta ++ tail_text b ≡ line (data_with id meta b)
-unfolding data_with
-whole_text id meta b = sym (line-parts (data_with id meta b) ∙ simp append_assoc)
+whole_text : (id : ℤ) (meta : Meta) (b : Body) → head_text (kind_of b) id (is_deleted b) meta ++ tail_text b ≡ line (data_of_line id meta b)
+whole_text id meta b = sym (line-parts (data_of_line id meta b) ∙ simp append_assoc)
 
-pub whole_line : (text behind : List ℕ) (k : Kind) (id : ℤ) (deleted : Bool) (meta : Meta) (b : Body) → IsHead text k id deleted meta behind → IsTail behind k deleted b → eqb meta.version 0 ≡ false → is_dated meta ≡ true → normal_body b ≡ b → IsCanonical text id meta b
-unfolding data_with
-whole_line text behind k id deleted meta b head tail some dated normal =
-    record {
-      fault = without_fault id meta b (record {
+in_range : (b : Body) → IsInRange (normal_body b) → IsInRange b
+in_range (Deleted k) h = h
+in_range (Node lon lat tags) h = h
+in_range (Way refs tags) h = h
+in_range (Relation members tags) h = h
+
+-- a line that was parsed from left to right
+module _ (text behind : List ℕ) (k : Kind) (id : ℤ) (deleted : Bool) (meta : Meta) (b : Body) (head : IsHead text k id deleted meta behind) (tail : IsTail behind k deleted b) (some : eqb meta.version 0 ≡ false) (dated : is_dated meta ≡ true) where
+  passes : Passes id meta b
+  passes =
+      record {
         ids = (λ i. head.object i && tail.ids i);
         number = some;
         numbers = (λ i. head.number i && (head.upload.changeset i && (head.upload.uid i && true)));
         time = head.upload.time;
         dated = dated;
         texts = (λ i. head.upload.user i && tail.texts i);
-      });
-      spelled = head.spelled
-          ∙ ap (λ t. head_text k id deleted meta ++ t) tail.spelled
-          ∙ (λ i. head_text (sym tail.same_kind i) id (sym tail.same_deleted i) meta ++ tail_text b)
-          ∙ whole_text id meta b
-          ∙ ap (λ body. line (data_with id meta body)) (sym normal);
-    }
+      }
+
+  spelled : text ≡ line (data_of_line id meta b)
+  spelled =
+      head.spelled
+      ∙ ap (λ t. head_text k id deleted meta ++ t) tail.spelled
+      ∙ (λ i. head_text (sym tail.same_kind i) id (sym tail.same_deleted i) meta ++ tail_text b)
+      ∙ whole_text id meta b
+
+  pub no_fault : first_fault id meta b ≡ None
+  no_fault = without_fault id meta b passes
+
+  pub is_read : (v : VersionData) → IsVersion v → v ≡ version_of id meta b → reading_line text ≡ Ok (Some v)
+  is_read v is same =
+      let of_data = subst IsVersion same is in
+      ap reading_line spelled
+      ∙ data_is_read (data_of_line id meta b) (version_of id meta b) (record {
+        ids = passes.ids;
+        number = of_data.number_below;
+        changeset = of_data.changeset;
+        uid = of_data.uid;
+        time = of_data.time;
+        texts = passes.texts;
+        location = in_range b of_data.location;
+      }) (made id meta b passes)
+      ∙ ap (λ w. Ok (Some w)) (sym same)

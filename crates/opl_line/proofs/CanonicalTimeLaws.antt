@@ -16,8 +16,25 @@ use Rattle.opl_line.specs.Answer.{and_then}
 use Rattle.opl_line.specs.Number.{is_numeral, decimal_value, value_of}
 use Rattle.opl_line.specs.Time.{digits_at, day_of, second_of, reading_date, reading_clock, epoch, reading_moment, reading_time}
 use Rattle.opl_line.proofs.AnswerLaws.{both}
-use Rattle.opl_line.proofs.FrontTimeLaws.{some_both, was_some, is_so}
 use Rattle.opl_line.proofs.JiffDays.{epoch_day_number}
+
+-- what is known of a reading in two steps that succeeds
+record SomeBoth {X Y : Type 0} (next : X → Option Y) (first : Option X) (y : Y) : Type 0 where
+  between : X
+  done : first ≡ Some between
+  then_done : next between ≡ Some y
+
+some_both : {X Y : Type 0} (next : X → Option Y) (first : Option X) (y : Y) → option_and_then next first ≡ Some y → SomeBoth next first y
+some_both next None y e = cc
+some_both next (Some x) y e = record { between = x; done = refl; then_done = e }
+
+was_some : {X : Type 0} (o : Option X) (x : X) → ok_or o BadTime ≡ Ok x → o ≡ Some x
+was_some None x e = cc
+was_some (Some y) x e = let same : y ≡ x = cc in ap (λ z. Some z) same
+
+is_so : {X : Type 0} (test : Bool) (o : Option X) (x : X) → cond test o None ≡ Some x → test ≡ true
+is_so true o x e = refl
+is_so false o x e = cc
 
 -- what a test that holds answers
 so_value : {X : Type 0} (test : Bool) (x y : X) → cond test (Some x) None ≡ Some y → x ≡ y

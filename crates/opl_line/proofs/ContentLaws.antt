@@ -12,7 +12,7 @@ use Rattle.osm_model.specs.declared.tags.Tag.{Tag}
 use Rattle.osm_model.specs.declared.members.Member.{Member}
 use Rattle.osm_model.specs.Kind.{kind_letter}
 use Rattle.osm_model.specs.Pairwise.{Pairwise}
-use Rattle.opl_line.specs.declared.cut.Cut.TheVariants.{Percents, Commas, Equals, Ats}
+use Rattle.opl_line.specs.declared.bytes.cut.Cut.TheVariants.{Percents, Commas, Equals, Ats}
 use Rattle.opl_line.specs.declared.reason.OplReason.{OplReason}
 use Rattle.opl_line.specs.declared.reason.OplReason.TheVariants.{BadText, BadList}
 use Rattle.opl_line.specs.Answer.{and_then, as_value, with_reason}

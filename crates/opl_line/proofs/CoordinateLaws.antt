@@ -9,7 +9,7 @@ use Rattle.osm_model.specs.Numeral.{padded}
 use Rattle.osm_model.specs.Decimal.{number_text}
 use Rattle.osm_model.specs.Coordinate.{digit_before, without_last_zeros, fraction_text, degrees_text, coordinate_text}
 use Rattle.osm_model.proofs.NumeralLaws.{length-numeral-le, length-padded}
-use Rattle.opl_line.specs.declared.cut.Cut.TheVariants.{Points}
+use Rattle.opl_line.specs.declared.bytes.cut.Cut.TheVariants.{Points}
 use Rattle.opl_line.specs.declared.reason.OplReason.TheVariants.{BadCoordinate, OutOfRange}
 use Rattle.opl_line.specs.Answer.{and_then, as_value}
 use Rattle.opl_line.specs.Cut.{is_end}

@@ -8,8 +8,8 @@ use Rattle.std.proofs.lemmas.List.Sums.{passes_at_first, position_or_len_is}
 use Rattle.std.proofs.lemmas.Str.{IsCharBoundary-before_ascii, IsCharBoundary-after_ascii}
 use Rattle.std.specs.List.{list_all, position_or_len}
 use Rattle.std.specs.Str.{IsUtf8, IsCharBoundary}
-use Rattle.opl_line.specs.declared.cut.Cut.{Cut}
-use Rattle.opl_line.specs.declared.cut.Cut.TheVariants.{Blanks, Commas, Equals, Ats, Percents, Points}
+use Rattle.opl_line.specs.declared.bytes.cut.Cut.{Cut}
+use Rattle.opl_line.specs.declared.bytes.cut.Cut.TheVariants.{Blanks, Commas, Equals, Ats, Percents, Points}
 use Rattle.opl_line.specs.Cut.{is_end, lengthened, split_first, begun_with, cut, pieces_of}
 use Rattle.opl_line.proofs.BoolLaws.{not_true}
 

@@ -1,6 +1,6 @@
 -- Lists, read item by item.
 use Rattle.std.proofs.Common.{◌≡◌, ℕ, List, [], ◌∷◌, ◌++◌, Result, Ok, Err, refl, sym, ap, ◌∙◌, append_assoc, append-nil, Option, Some, None, is_some, true}
-use Rattle.opl_line.specs.declared.cut.Cut.TheVariants.{Equals}
+use Rattle.opl_line.specs.declared.bytes.cut.Cut.TheVariants.{Equals}
 use Rattle.opl_line.specs.declared.reason.OplReason.{OplReason}
 use Rattle.opl_line.specs.declared.reason.OplReason.TheVariants.{BadList}
 use Rattle.opl_line.specs.Answer.{and_then, as_value}

@@ -29,9 +29,6 @@ pub mod MemoryLaws
 pub mod LaneLaws
 pub mod ScanLaws
 pub mod PlainLaws
-pub mod FrontLaws
-pub mod FrontTimeLaws
-pub mod FrontTagLaws
 pub mod AsciiLaws
 pub mod CanonicalPartLaws
 pub mod CanonicalTextLaws

@@ -12,8 +12,8 @@ use Rattle.osm_model.specs.declared.body.Body.TheVariants.{Deleted}
 use Rattle.osm_model.specs.Id.{is_id}
 use Rattle.osm_model.specs.Data.{VersionData}
 use Rattle.osm_model.specs.New.{is_dated, version_or_fault}
-use Rattle.opl_line.specs.declared.cut.Cut.TheVariants.{Blanks}
-use Rattle.opl_line.specs.declared.field.Fields.{Fields}
+use Rattle.opl_line.specs.declared.bytes.cut.Cut.TheVariants.{Blanks}
+use Rattle.opl_line.specs.declared.general.field.Fields.{Fields}
 use Rattle.opl_line.specs.declared.reason.OplReason.{OplReason}
 use Rattle.opl_line.specs.declared.reason.OplReason.TheVariants.{NotUtf8, NoVersion, NoTime, NoLocation, Memory}
 use Rattle.opl_line.specs.Answer.{and_then, as_value, Answers}

@@ -18,7 +18,7 @@ use Rattle.osm_model.specs.Pairwise.{Pairwise}
 use Rattle.osm_model.proofs.Separators.{Lacks, comma, equals, at}
 use Rattle.osm_model.proofs.EscapeLaws.{escape_lacks}
 use Rattle.osm_model.proofs.LineLaws.{tag_lacks, reference_lacks, member_lacks, object_lacks, differs}
-use Rattle.opl_line.specs.declared.cut.Cut.TheVariants.{Commas, Equals, Ats}
+use Rattle.opl_line.specs.declared.bytes.cut.Cut.TheVariants.{Commas, Equals, Ats}
 use Rattle.opl_line.specs.Cut.{is_end, cut, pieces_of}
 use Rattle.opl_line.specs.Content.{SpellsCharacters, SpellsTag, SpellsReference, SpellsMember, SpellsList}
 use Rattle.opl_line.specs.Canonical.{ListsAreSpelled}

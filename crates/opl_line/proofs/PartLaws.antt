@@ -6,7 +6,7 @@ use Rattle.std.proofs.lemmas.Bool.Decides.{nat_tests}
 use Rattle.osm_model.specs.declared.kind.Kind.{Kind}
 use Rattle.osm_model.specs.declared.kind.Kind.TheVariants as kind
 use Rattle.osm_model.specs.Pairwise.{Pairwise}
-use Rattle.opl_line.specs.declared.field.Fields.{Fields}
+use Rattle.opl_line.specs.declared.general.field.Fields.{Fields}
 use Rattle.opl_line.specs.declared.reason.OplReason.{OplReason}
 use Rattle.opl_line.specs.declared.reason.OplReason.TheVariants.{UnknownField, RepeatedField}
 use Rattle.opl_line.specs.Answer.{and_then, as_value}

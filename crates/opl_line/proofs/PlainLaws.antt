@@ -6,16 +6,9 @@ use Rattle.std.specs.List.{list_all}
 use lib.Lanes.{zip2, mask_l, top}
 use Rattle.opl_line.specs.Cut.{lengthened, split_first}
 use Rattle.osm_model.specs.Escape.{is_raw_byte}
-use Rattle.opl_line.specs.Text.{stands_for_itself, is_plain}
-use Rattle.opl_line.proofs.ContentLaws.{all_weaker}
+use Rattle.opl_line.specs.Text.{stands_for_itself}
 use Rattle.opl_line.proofs.CutLaws.{split_at, split_nowhere}
 use Rattle.opl_line.proofs.LaneLaws.{lanes, compared, splat_left, either, marked}
-
-plain_raw : (b : ℕ) → is_plain b ≡ true → stands_for_itself b ≡ true
-plain_raw b plain = grind (arith, nat_tests)
-
-pub all_plain_raw : (bytes : List ℕ) → list_all is_plain bytes ≡ true → list_all stands_for_itself bytes ≡ true
-all_plain_raw = all_weaker is_plain stands_for_itself plain_raw
 
 -- what stands before the first byte that isn't plain
 module _ (p : ℕ → Bool) where
@@ -31,10 +24,7 @@ twice : (b : Bool) → b ≡ not (not b)
 twice true = refl
 twice false = refl
 
--- a byte that isn't plain, and one that isn't raw
-abbrev is_marked : ℕ → Bool
-is_marked b = (((leb b 13 || eqb b 32) || eqb b 37) || eqb b 44) || eqb b 61
-
+-- a byte that a reader accepts only as an escape
 abbrev is_other : ℕ → Bool
 is_other b = ((((((eqb b 0 || eqb b 9) || eqb b 10) || eqb b 13) || eqb b 32) || eqb b 37) || eqb b 44) || eqb b 61
 
@@ -55,14 +45,6 @@ module _ (n : ℕ) (few : n ≤ 64) (v : List ℕ) (long : length v ≡ n) where
 
   abbrev same : ℕ → List ℕ
   same b = zip2 (λ x y. cond (eqb x y) 255 0) v (replicate n b)
-
-  pub plain_marked : mask_l (map (top 7) (zip2 bit_or (zip2 bit_or (zip2 bit_or (zip2 bit_or (zip2 (λ x y. cond (leb x y) 255 0) v (replicate n 13)) (same 32)) (same 37)) (same 44)) (same 61))) % 2 ^ 64 ≡ mask_l (map (λ x. not (is_plain x)) v)
-  plain_marked =
-      let blanks = either (λ x. leb x 13) (λ x. eqb x 32) v (compared leb v n 13 long) (equal 32) in
-      let percents = either (λ x. leb x 13 || eqb x 32) (λ x. eqb x 37) v blanks (equal 37) in
-      let commas = either (λ x. (leb x 13 || eqb x 32) || eqb x 37) (λ x. eqb x 44) v percents (equal 44) in
-      let others = either (λ x. ((leb x 13 || eqb x 32) || eqb x 37) || eqb x 44) (λ x. eqb x 61) v commas (equal 61) in
-      marked is_marked v others (omega (arith, long, few)) ∙ ap (λ h. mask_l (map h v)) (λ i x. twice (is_marked x) i)
 
   pub odd_marked : mask_l (map (top 7) (zip2 bit_or (zip2 bit_or (zip2 bit_or (zip2 bit_or (zip2 bit_or (zip2 (λ x y. cond (leb x y) 255 0) v (replicate n 32)) (zip2 (λ x y. cond (leb x y) 255 0) (replicate n 127) v)) (same 37)) (same 44)) (same 61)) (same 64))) % 2 ^ 64 ≡ mask_l (map (λ x. not (is_raw_byte x)) v)
   odd_marked =

@@ -18,8 +18,8 @@ use Rattle.osm_model.specs.Members.{ids_of_members, roles_of}
 use Rattle.osm_model.specs.Data.{ids_of, texts_of}
 use Rattle.osm_model.specs.New.{is_number, is_time}
 use Rattle.osm_model.specs.Pairwise.{Pairwise}
-use Rattle.opl_line.specs.declared.cut.Cut.TheVariants.{Commas, Equals, Ats}
-use Rattle.opl_line.specs.declared.field.Fields.{Fields}
+use Rattle.opl_line.specs.declared.bytes.cut.Cut.TheVariants.{Commas, Equals, Ats}
+use Rattle.opl_line.specs.declared.general.field.Fields.{Fields}
 use Rattle.opl_line.specs.declared.reason.OplReason.TheVariants.{BadNumber, OutOfRange, BadTime}
 use Rattle.opl_line.specs.Answer.{and_then}
 use Rattle.opl_line.specs.Cut.{is_end, cut}

@@ -6,14 +6,13 @@ use Rattle.std.proofs.Math.Seq.{drop-cons}
 use Rattle.std.specs.List.{list_all}
 use Rattle.std.specs.Option.{option_map, ok_or}
 use Rattle.std.specs.Str.{chars}
-use Rattle.opl_line.specs.declared.cut.Cut.TheVariants.{Percents}
+use Rattle.opl_line.specs.declared.bytes.cut.Cut.TheVariants.{Percents}
 use Rattle.opl_line.specs.Cut.{is_end, lengthened, split_first}
 use Rattle.opl_line.specs.declared.reason.OplReason.TheVariants.{BadText}
-use Rattle.opl_line.specs.Text.{stands_for_itself, is_plain, text_from, text_of_pieces, reading_text}
+use Rattle.opl_line.specs.Text.{stands_for_itself, text_from, text_of_pieces}
 use Rattle.opl_line.proofs.BoolLaws.{not_true}
 use Rattle.opl_line.proofs.CutLaws.{split_at, split_nowhere, split_front, split_never}
 use Rattle.opl_line.proofs.ContentLaws.{all_weaker, raw_no_percent}
-use Rattle.opl_line.proofs.PlainLaws.{all_plain_raw}
 use Rattle.opl_line.proofs.TextLaws.{all_read}
 
 abbrev pub is_other : ℕ → Bool
@@ -84,8 +83,3 @@ pub raw_text : (bytes : List ℕ) → list_all stands_for_itself bytes ≡ true 
 raw_text bytes raw =
     ap (λ t. ok_or (option_map chars (cond t (text_from bytes []) None)) BadText) raw
     ∙ ap (λ text. ok_or (option_map chars text) BadText) (all_read bytes [] refl)
-
-pub plain_text : (bytes : List ℕ) → list_all is_plain bytes ≡ true → reading_text bytes ≡ Ok (chars bytes)
-plain_text bytes plain =
-    let raw = all_plain_raw bytes plain in
-    ap (λ parts. ok_or (option_map chars (text_of_pieces parts)) BadText) (raw_alone bytes raw).1 ∙ raw_text bytes raw

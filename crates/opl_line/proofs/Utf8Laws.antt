@@ -11,7 +11,7 @@ use Rattle.std.specs.Str.{IsUtf8, chars}
 use lib.Utf8.{encode, scalar}
 use Rattle.osm_model.specs.Text.{has_zero, is_text}
 use Rattle.osm_model.proofs.TextLaws.{zero_bytes}
-use Rattle.opl_line.specs.declared.cut.Cut.{Cut}
+use Rattle.opl_line.specs.declared.bytes.cut.Cut.{Cut}
 use Rattle.opl_line.specs.Cut.{is_end, lengthened, split_first, cut, pieces_of}
 use Rattle.opl_line.specs.Text.{stands_for_itself, hex_value, is_hex, scalar_of}
 use Rattle.opl_line.specs.Content.{SpellsText, raw, escaped, SpellsCharacters}

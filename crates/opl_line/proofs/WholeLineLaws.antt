@@ -30,14 +30,14 @@ use Rattle.osm_model.specs.Valid.{IsInRange, IsVersion}
 use Rattle.osm_model.specs.Line.{tag_text, reference_text, member_text, list_text, visible_text, kind_fields, fields, line}
 use Rattle.osm_model.specs.Pairwise.{Pairwise}
 use Rattle.osm_model.proofs.EscapeLaws.{escape_char-raw, escape_char-other}
-use Rattle.opl_line.specs.declared.cut.Cut.TheVariants.{Blanks}
+use Rattle.opl_line.specs.declared.bytes.cut.Cut.TheVariants.{Blanks}
 use Rattle.opl_line.specs.declared.reason.OplReason.{OplReason}
 use Rattle.opl_line.specs.Answer.{as_value}
 use Rattle.opl_line.specs.Cut.{is_blank, is_end, is_line_end, cut}
 use Rattle.opl_line.specs.Number.{reading_coordinate}
 use Rattle.opl_line.specs.Time.{reading_time}
 use Rattle.opl_line.specs.Field.{nothing_said, reading_number_32, reading_count, reading_deleted, reading_optional}
-use Rattle.opl_line.specs.Reading.{meta_of, reading_body}
+use Rattle.opl_line.specs.Reading.{meta_of, reading_body, reading_line}
 use Rattle.opl_line.specs.Part as part
 use Rattle.opl_line.specs.Part.{Part, SpellsPart}
 use Rattle.opl_line.specs.Content.{SpellsObject}
@@ -215,11 +215,25 @@ body_spelled (Relation members tags) range ids texts =
     let roles = and_parts (list_all is_text (roles_of members)) (list_all is_text (texts_of_tags tags)) (sym (list_all-append is_text (roles_of members) (texts_of_tags tags)) ∙ texts) in
     (record { content = list_text member_text members; lettered = refl; of_kind = refl; spelled = lists_are_spelled.2 members ids roles.0 }, tt)
 
-parts_spelled : (v : VersionData) → IsVersion v → Pairwise (SpellsPart (kind_of v.body)) (filter is_full (others_of v)) (parts_of v)
+-- Data of which each field is within its range. Its tags may have any order.
+pub record AreFieldsWithin (v : VersionData) : Type 0 where
+  pub ids : list_all is_id (v.id ∷ ids_of v.body) ≡ true
+  pub number : v.number < 2 ^ 32
+  pub changeset : v.changeset < 2 ^ 32
+  pub uid : v.uid < 2 ^ 32
+  pub time : ForSome v.time (λ t. (0 < t) × (t < 2 ^ 32))
+  pub texts : list_all is_text (v.user ∷ texts_of v.body) ≡ true
+  pub location : IsInRange v.body
+
+version_within : (v : VersionData) → IsVersion v → AreFieldsWithin v
+version_within v is =
+    record { ids = is.ids; number = is.number_below; changeset = is.changeset; uid = is.uid; time = is.time; texts = is.texts; location = is.location }
+
+parts_spelled : (v : VersionData) → AreFieldsWithin v → Pairwise (SpellsPart (kind_of v.body)) (filter is_full (others_of v)) (parts_of v)
 parts_spelled v is =
     let ids = and_parts (is_id v.id) (list_all is_id (ids_of v.body)) is.ids in
     let texts = and_parts (is_text v.user) (list_all is_text (texts_of v.body)) is.texts in (
-      record { content = number_text v.number; lettered = refl; of_kind = tt; spelled = number_spelled v.number is.number_below },
+      record { content = number_text v.number; lettered = refl; of_kind = tt; spelled = number_spelled v.number is.number },
       (
         record { content = visible_text v.body; lettered = refl; of_kind = tt; spelled = deleted_spelled v.body },
         (
@@ -268,12 +282,13 @@ said v (Node lon lat tags) = record { has_body = refl; has_meta = refl }
 said v (Way refs tags) = record { has_body = refl; has_meta = refl }
 said v (Relation members tags) = record { has_body = refl; has_meta = refl }
 
-object_spelled : (v : VersionData) → IsVersion v → SpellsObject (kind_letter (kind_of v.body) ∷ integer_text v.id) (kind_of v.body) v.id
+object_spelled : (v : VersionData) → AreFieldsWithin v → SpellsObject (kind_letter (kind_of v.body) ∷ integer_text v.id) (kind_of v.body) v.id
 object_spelled v is = record { digits = integer_text v.id; lettered = refl; spelled = id_is_read_back v.id (and_parts (is_id v.id) (list_all is_id (ids_of v.body)) is.ids).0 }
 
-line_spelled : (v : VersionData) → IsVersion v → Spells (line v) v
+-- the line of data within its ranges spells the version that the data makes
+data_spelled : (v w : VersionData) → AreFieldsWithin v → version_or_fault v.id (meta_of_version v) v.body ≡ Ok w → Spells (line v) w
 unfolding told_by
-line_spelled v is =
+data_spelled v w is makes =
     let s = said v v.body in
     record {
       kind = kind_of v.body;
@@ -289,8 +304,14 @@ line_spelled v is =
         spelled = parts_spelled v is;
         different = distinct nothing_said (parts_of v) (all_different v.number (is_deleted v.body) v.changeset v.time v.uid v.user (tags_of v.body) v.body);
       };
-      version = record { body = v.body; has_body = s.has_body; made = ap (λ m. version_or_fault v.id m v.body) s.has_meta ∙ version_made v is };
+      version = record { body = v.body; has_body = s.has_body; made = ap (λ m. version_or_fault v.id m v.body) s.has_meta ∙ makes };
     }
+
+pub data_is_read : (v w : VersionData) → AreFieldsWithin v → version_or_fault v.id (meta_of_version v) v.body ≡ Ok w → reading_line (line v) ≡ Ok (Some w)
+data_is_read v w is makes = spelled_is_read (line v) w (data_spelled v w is makes)
+
+line_spelled : (v : VersionData) → IsVersion v → Spells (line v) v
+line_spelled v is = data_spelled v v (version_within v is) (version_made v is)
 
 pub line_spells_its_version : LineSpellsItsVersion
 line_spells_its_version v is = let s = line_spelled v is in record { spelled = s; alone = λ w t. one_reading (line v) w v t s }

@@ -8,8 +8,8 @@ use Rattle.osm_model.specs.Id.{is_id}
 use Rattle.osm_model.specs.declared.meta.Meta.{Meta}
 use Rattle.osm_model.specs.Data.{version_of}
 use Rattle.osm_model.specs.New.{is_dated, first_fault}
-use Rattle.opl_line.specs.declared.cut.Cut.TheVariants.{Blanks}
-use Rattle.opl_line.specs.declared.field.Fields.{Fields}
+use Rattle.opl_line.specs.declared.bytes.cut.Cut.TheVariants.{Blanks}
+use Rattle.opl_line.specs.declared.general.field.Fields.{Fields}
 use Rattle.opl_line.specs.Cut.{is_end, split_first, pieces_of}
 use Rattle.opl_line.specs.Field.{nothing_said, reading_fields}
 use Rattle.opl_line.specs.Reading.{reading_object, meta_of, reading_body, unless_fault, reading_whole}

@@ -7,7 +7,7 @@ use Rattle.osm_model.specs.declared.tags.Tag.{Tag}
 use Rattle.osm_model.specs.declared.members.Member.{Member}
 use Rattle.osm_model.specs.Kind.{kind_letter}
 use Rattle.osm_model.specs.Pairwise.{Pairwise}
-use Rattle.opl_line.specs.declared.cut.Cut.TheVariants.{Commas, Equals, Ats}
+use Rattle.opl_line.specs.declared.bytes.cut.Cut.TheVariants.{Commas, Equals, Ats}
 use Rattle.opl_line.specs.Cut.{is_end, split_first, cut}
 use Rattle.opl_line.specs.Number.{reading_id}
 use Rattle.opl_line.specs.Text.{stands_for_itself, scalar_of}

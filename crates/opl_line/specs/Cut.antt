@@ -1,7 +1,7 @@
 -- Texts cut at some of their bytes.
 use Rattle.std.specs.Prelude.{ℕ, Bool, ◌==◌, ◌||◌, List, [], ◌∷◌, Option, Some, None, if◌then◌else◌}
-use Rattle.opl_line.specs.declared.cut.Cut.{Cut}
-use Rattle.opl_line.specs.declared.cut.Cut.TheVariants.{Blanks, Commas, Equals, Ats, Percents, Points}
+use Rattle.opl_line.specs.declared.bytes.cut.Cut.{Cut}
+use Rattle.opl_line.specs.declared.bytes.cut.Cut.TheVariants.{Blanks, Commas, Equals, Ats, Percents, Points}
 
 -- a space or a tab
 abbrev pub is_blank : ℕ → Bool

@@ -14,7 +14,6 @@ pub mod Spells
 pub mod Within
 pub mod Canonical
 pub mod LineReason
-pub mod Front
 pub mod Uploaded
 pub mod Upload
 pub mod Straight

@@ -7,8 +7,8 @@ use Rattle.osm_model.specs.declared.kind.Kind.TheVariants.{Node, Way, Relation}
 use Rattle.osm_model.specs.Kind.{kind_letter}
 use Rattle.osm_model.specs.New.{is_dated}
 use Rattle.osm_model.specs.Pairwise.{Pairwise}
-use Rattle.opl_line.specs.declared.cut.Cut.TheVariants.{Blanks, Commas, Equals, Ats}
-use Rattle.opl_line.specs.declared.field.Fields.{Fields}
+use Rattle.opl_line.specs.declared.bytes.cut.Cut.TheVariants.{Blanks, Commas, Equals, Ats}
+use Rattle.opl_line.specs.declared.general.field.Fields.{Fields}
 use Rattle.opl_line.specs.declared.reason.OplReason.{OplReason}
 use Rattle.opl_line.specs.declared.reason.OplReason.TheVariants.{NotUtf8, UnknownKind, UnknownField, RepeatedField, BadText, BadList, NoVersion, NoTime, NoLocation, Memory}
 use Rattle.opl_line.specs.Cut.{is_end, split_first, cut}

@@ -11,8 +11,8 @@ use Rattle.osm_model.specs.declared.fault.ValueFault.{ValueFault}
 use Rattle.osm_model.specs.declared.fault.ValueFault.TheVariants as fault
 use Rattle.osm_model.specs.Data.{VersionData}
 use Rattle.osm_model.specs.New.{is_dated, version_or_fault}
-use Rattle.opl_line.specs.declared.cut.Cut.TheVariants.{Blanks}
-use Rattle.opl_line.specs.declared.field.Fields.{Fields}
+use Rattle.opl_line.specs.declared.bytes.cut.Cut.TheVariants.{Blanks}
+use Rattle.opl_line.specs.declared.general.field.Fields.{Fields}
 use Rattle.opl_line.specs.declared.reason.OplReason.{OplReason}
 use Rattle.opl_line.specs.declared.reason.OplReason.TheVariants.{NotUtf8, UnknownKind, OutOfRange, BadText, NoVersion, NoTime, NoLocation, Memory}
 use Rattle.opl_line.specs.Answer.{and_then, as_value}

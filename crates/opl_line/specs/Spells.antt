@@ -7,8 +7,8 @@ use Rattle.osm_model.specs.declared.body.Body.{Body}
 use Rattle.osm_model.specs.Data.{VersionData}
 use Rattle.osm_model.specs.New.{version_or_fault}
 use Rattle.osm_model.specs.Pairwise.{Pairwise}
-use Rattle.opl_line.specs.declared.cut.Cut.TheVariants.{Blanks}
-use Rattle.opl_line.specs.declared.field.Fields.{Fields}
+use Rattle.opl_line.specs.declared.bytes.cut.Cut.TheVariants.{Blanks}
+use Rattle.opl_line.specs.declared.general.field.Fields.{Fields}
 use Rattle.opl_line.specs.declared.reason.OplReason.{OplReason}
 use Rattle.opl_line.specs.Cut.{is_end, cut}
 use Rattle.opl_line.specs.Field.{nothing_said}

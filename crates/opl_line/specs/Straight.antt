@@ -1,5 +1,5 @@
--- What a line in its canonical form says, stretch by stretch (own definitions of this project, for the reader that takes such a line straight on).
-use Rattle.std.specs.Prelude.{◌≡◌, ℕ, ℤ, Bool, true, List, ◌∷◌, ◌++◌, codes, encode_utf8_all, None, if◌then◌else◌}
+-- What the parts of a line of the usual form say (own definitions of this project, for the reader that reads such a line from left to right).
+use Rattle.std.specs.Prelude.{◌≡◌, ℕ, ℤ, Bool, true, List, ◌∷◌, ◌++◌, codes, encode_utf8_all, if◌then◌else◌}
 use Rattle.std.specs.List.{list_all}
 use Rattle.osm_model.specs.declared.kind.Kind.{Kind}
 use Rattle.osm_model.specs.declared.meta.Meta.{Meta}
@@ -7,13 +7,13 @@ use Rattle.osm_model.specs.declared.body.Body.{Body}
 use Rattle.osm_model.specs.Kind.{kind_letter}
 use Rattle.osm_model.specs.Id.{is_id}
 use Rattle.osm_model.specs.Text.{is_text}
-use Rattle.osm_model.specs.New.{is_number, first_fault}
+use Rattle.osm_model.specs.New.{is_number}
 use Rattle.opl_line.specs.Uploaded.{upload_text, IsUploaded}
 use Rattle.osm_model.specs.Decimal.{number_text, integer_text}
 use Rattle.osm_model.specs.Escape.{is_raw}
 use Rattle.osm_model.specs.Joined.{joined}
-use Rattle.osm_model.specs.Data.{kind_of, is_deleted, tags_of, ids_of, texts_of, version_of}
-use Rattle.osm_model.specs.Line.{list_text, tag_text, kind_fields, line}
+use Rattle.osm_model.specs.Data.{kind_of, is_deleted, tags_of, ids_of, texts_of}
+use Rattle.osm_model.specs.Line.{list_text, tag_text, kind_fields}
 
 -- raw characters, in UTF-8
 pub record AreRaw (bytes : List ℕ) : Type 0 where
@@ -55,8 +55,3 @@ pub record IsTail (text : List ℕ) (kind : Kind) (deleted : Bool) (b : Body) : 
   pub same_deleted : is_deleted b ≡ deleted
   pub ids : list_all is_id (ids_of b) ≡ true
   pub texts : list_all is_text (texts_of b) ≡ true
-
--- data without a fault, and the line of its version
-pub record IsCanonical (text : List ℕ) (id : ℤ) (meta : Meta) (b : Body) : Type 0 where
-  pub fault : first_fault id meta b ≡ None
-  pub spelled : text ≡ line (version_of id meta b)

@@ -5,7 +5,7 @@ use Rattle.std.specs.List.{list_all}
 use Rattle.std.specs.Char.{is_digit, digit_value}
 use Rattle.std.specs.Str.{chars}
 use lib.Utf8.{scalar}
-use Rattle.opl_line.specs.declared.cut.Cut.TheVariants.{Percents}
+use Rattle.opl_line.specs.declared.bytes.cut.Cut.TheVariants.{Percents}
 use Rattle.opl_line.specs.declared.reason.OplReason.{OplReason}
 use Rattle.opl_line.specs.declared.reason.OplReason.TheVariants.{BadText}
 use Rattle.opl_line.specs.Cut.{is_end, split_first, pieces_of}
@@ -13,10 +13,6 @@ use Rattle.opl_line.specs.Cut.{is_end, split_first, pieces_of}
 -- All but NUL, tab, LF, CR, space, percent sign, comma and equals sign stand for themselves. These are ASCII, so a text in UTF-8 may be looked at byte by byte.
 abbrev pub stands_for_itself : ℕ → Bool
 stands_for_itself b = not (b == 0 || b == 9 || b == 10 || b == 13 || b == 32 || b == 37 || b == 44 || b == 61)
-
--- above CR, and not a space, percent sign, comma or equals sign: a byte that stands for itself, told by few tests
-abbrev pub is_plain : ℕ → Bool
-is_plain b = not ((((nat_le b 13 || b == 32) || b == 37) || b == 44) || b == 61)
 
 -- hexadecimal digits of either case, and the number that they write
 abbrev pub is_hex_digit : ℕ → Bool

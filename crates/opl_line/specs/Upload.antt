@@ -1,6 +1,6 @@
 -- What an upload is kept as (an own definition of this project).
 use Rattle.std.specs.Prelude.{◌≡◌, ◌⊎◌, []}
-use Rattle.opl_line.specs.declared.upload.Upload.TheInside.{Inside}
+use Rattle.opl_line.specs.declared.straight.upload.Upload.TheInside.{Inside}
 use Rattle.opl_line.specs.Uploaded.{AreFieldsOf}
 
 -- nothing is kept, or an upload with its fields

@@ -6,7 +6,7 @@ use Rattle.osm_model.specs.Text.{is_text}
 use Rattle.osm_model.specs.Tags.{texts_of_tags}
 use Rattle.osm_model.specs.Members.{ids_of_members, roles_of}
 use Rattle.osm_model.specs.New.{is_number, is_time}
-use Rattle.opl_line.specs.declared.field.Fields.{Fields}
+use Rattle.opl_line.specs.declared.general.field.Fields.{Fields}
 
 pub record AreWithin (fields : Fields) : Type 0 where
   pub number : is_number (unwrap_or fields.number 0) ≡ true

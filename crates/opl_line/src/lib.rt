@@ -1,28 +1,17 @@
 //! OPL lines: one version of an object read from its line, and written as its line.
 #![tactic(auto)]
 
-mod canonical;
-mod canonical_item;
-mod canonical_part;
-mod canonical_texts;
-mod content;
-mod cut;
-mod field;
-mod front;
-mod item;
+mod bytes;
+mod general;
 pub mod laws;
 mod line;
-mod line_end;
 mod number;
 mod reason;
-mod scan;
-mod text;
+mod straight;
 mod time;
-mod upload;
-mod utf8;
 
-pub use line::{LineReader, append_line, read_line, write_line};
-pub use line_end::find_line_end;
+pub use bytes::line_end::find_line_end;
+pub use line::{LineReader, read_line, write_line};
 pub use reason::OplReason;
 pub use time::read_time;
 

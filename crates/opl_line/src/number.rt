@@ -1,9 +1,14 @@
 //! Numbers in OPL lines.
-ghost use Rattle.std.specs.Prelude.{◌≡◌, ◌-◌, ◌<◌, ◌≤◌, ◌^◌, length, IfOk, option_copied};
+ghost use Rattle.std.specs.Prelude.{◌≡◌, ◌-◌, ◌<◌, ◌≤◌, ◌^◌, true, length, take, IfOk, option_copied};
+ghost use Rattle.std.specs.List.{list_all};
+ghost use Rattle.std.specs.Char.{is_ascii_digit};
 ghost use Rattle.opl_line.specs.Number as spec;
 
 use crate::OplReason;
-use crate::cut::Cut;
+use crate::bytes::cut::Cut;
+
+/// The greatest version number, changeset and user id.
+pub(crate) const GREATEST_NUMBER: u64 = (1 << 32) - 1;
 
 /// The greatest id; the least is as far below 0.
 const GREATEST_ID: u64 = (1 << 62) - 1;
@@ -11,8 +16,8 @@ const GREATEST_ID: u64 = (1 << 62) - 1;
 /// Units of a coordinate in a degree.
 pub(crate) const DEGREE: u64 = 10_000_000;
 
-/// So many digits are always a number of 64 bits.
-const FEW: usize = 19;
+/// Each number of at most this many digits has 64 bits.
+const MOST_DIGITS_OF_64_BITS: usize = 19;
 
 /// A number: one decimal digit or more, and `most` at most.
 ///
@@ -23,7 +28,7 @@ pub(crate) fn read_number(digits: &[u8], most: u64) -> Result<u64, OplReason>
     requires { most < 2 ^ 64 - 1 }
     ensures { result ≡ spec.reading_number most digits.now }
 {
-    if digits.len() > FEW {
+    if digits.len() > MOST_DIGITS_OF_64_BITS {
         return read_long_number(digits, most);
     }
     match value_of_few(digits) {
@@ -166,4 +171,42 @@ pub(crate) fn scale(decimals: usize) -> u64
     ensures bound { result ≤ 10 ^ 7 }
 {
     10u64.pow(7 - decimals as u32)
+}
+
+/// The number that the first digits of a text write, and how many digits they are. At most `most` digits are read.
+#[inline(always)]
+pub(crate) fn leading_digits(text: &[u8], most: usize) -> (u64, usize)
+    requires { most ≤ 19 }
+    ensures within { result.1 ≤ length text.now }
+    ensures few { result.1 ≤ most }
+    ensures digits { list_all is_ascii_digit (take result.1 text.now) ≡ true }
+    ensures value { result.0 ≡ spec.decimal_value (take result.1 text.now) }
+    ensures bound { result.0 < 10 ^ most }
+{
+    if text.len() >= most {
+        digits_before(text, most)
+    } else {
+        digits_before(text, text.len())
+    }
+}
+
+/// The number that the first digits of a text write, up to the offset `end`, and how many digits they are.
+#[inline(always)]
+fn digits_before(text: &[u8], end: usize) -> (u64, usize)
+    requires few { end ≤ 19 }
+    requires within { end ≤ length text.now }
+    ensures within { result.1 ≤ end }
+    ensures digits { list_all is_ascii_digit (take result.1 text.now) ≡ true }
+    ensures value { result.0 ≡ spec.decimal_value (take result.1 text.now) }
+    ensures bound { result.0 < 10 ^ result.1 }
+{
+    let mut number: u64 = 0;
+    for place in 0..end {
+        let byte = text[place];
+        if !byte.is_ascii_digit() {
+            return (number, place);
+        }
+        number = 10 * number + u64::from(byte) - u64::from(b'0');
+    }
+    (number, end)
 }

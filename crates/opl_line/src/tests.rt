@@ -1,17 +1,17 @@
 //! Lines with their answers, worked out by hand from the rules of the format.
-use crate::{LineReader, OplReason, append_line, find_line_end, read_line, read_time, write_line};
+use crate::{LineReader, OplReason, find_line_end, read_line, read_time, write_line};
 use osm_model::{Body, Meta, Tags, Text, Version};
 use std::alloc::Global;
 use std::process::Abort;
 use std::str;
 use std::test::Fail;
 
-/// Checks that `write_line` and `append_line` both write this line of a version.
+/// Checks that `write_line` and `Version::append_line` both write this line of a version.
 fn check_line(rt: &impl Abort, alloc: Global, version: &Version, line: &str) -> Result<(), Fail> {
     let text = write_line(alloc, version)?;
     assert_eq!(rt; str::from_utf8(&text)?, line);
     let mut appended = Vec::new(alloc);
-    append_line(&mut appended, version)?;
+    version.append_line(&mut appended)?;
     assert_eq!(rt; appended, text);
     Ok(())
 }
@@ -293,8 +293,8 @@ n1 v1 dD Ta x1 => BadList";
 fn appends_a_line(rt: HostRuntime) -> Result<(), Fail> {
     let mut out = Vec::new(rt.alloc());
     let version = read_line(rt.alloc(), b"w1 v1 Nn1")?.ok_or("skipped")?;
-    append_line(&mut out, &version)?;
-    append_line(&mut out, &version)?;
+    version.append_line(&mut out)?;
+    version.append_line(&mut out)?;
     assert_eq!(rt;
         str::from_utf8(&out)?,
         "w1 v1 dV c0 t i0 u T Nn1w1 v1 dV c0 t i0 u T Nn1"

@@ -8,7 +8,6 @@ use Rattle.opl_line.specs.Reading.{is_skipped, reading_version, reading_line}
 use Rattle.opl_line.proofs.ReadingLaws.{not_utf8, utf8_line, as_answer}
 use Rattle.opl_line.proofs.SpellsLaws.{answer_spelled, answer_refused}
 use Rattle.opl_line.proofs.LineReasonLaws.{answer_reason}
-use Rattle.opl_line.proofs.WholeLineLaws.{line_is_read_back}
 use Rattle.opl_line.proofs.line.LineReader.read.Goals as goal
 
 pub returns-then-is_skipped : goal.returns-then-is_skipped
@@ -20,7 +19,7 @@ returns-then-is_skipped c =
 pub returns-in-Some : goal.returns-in-Some
 returns-in-Some c =
     let answer : Result (Option VersionData) OplReason = Ok (Some c.in-Some.version) in
-    let reading : Answers (reading_line c.args.line.now) answer = ap reading_line c.in-Some.ensures.text ∙ line_is_read_back c.in-Some.version c.in-Some.ensures.valid in
+    let reading : Answers (reading_line c.args.line.now) answer = c.in-Some.ensures in
     record { reading = reading; spelled = answer_spelled c.args.line.now answer reading; refused = tt; reason = tt }
 
 pub returns-in_default-to_str : goal.returns-in_default-to_str

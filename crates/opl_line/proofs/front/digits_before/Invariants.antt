@@ -1,5 +1,0 @@
-use Rattle.opl_line.proofs.NumberLaws.{IsFewTo}
-use Rattle.opl_line.proofs.front.digits_before.Given as goal
-
-abbrev pub invariant-loop-place : goal.invariant-loop-place
-invariant-loop-place l = IsFewTo l.text l.place l.number

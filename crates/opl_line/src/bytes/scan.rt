@@ -1,0 +1,63 @@
+//! Bytes of a class, looked for many at a time.
+//!
+//! Why: lines are read and cut at bytes of a class, and 8 to 64 bytes are compared by one instruction.
+//! Assumes: there are as many bytes left.
+//! Otherwise: the last bytes are compared one by one.
+//! Compared by: `line_ends_are_found`.
+ghost use Rattle.std.specs.Prelude.{◌≡◌, ◌+◌, ◌<◌, ◌≤◌, ℕ, Bool, not, length, position};
+ghost use Rattle.std.specs.List.{prefix_len};
+ghost use Rattle.std.specs.Simd.Lanes.{chunk};
+ghost use Rattle.opl_line.specs.Scan.{marks_of};
+
+/// A class of bytes.
+pub(crate) trait ByteClass<const LANES: usize>: Copy {
+    /// Which bytes are of the class.
+    ghost has: { Self → ℕ → Bool };
+
+    /// Which of the bytes from a place on are of the class: a bit for each, the lowest for the first.
+    fn marks(self, bytes: &[u8], from: usize) -> u64
+        requires { from + LANES ≤ length bytes.now }
+        ensures { result ≡ marks_of (has self) (chunk from LANES bytes.now) };
+
+    /// Whether a byte is of the class.
+    fn contains(self, byte: u8) -> bool
+        ensures { result ≡ has self byte };
+}
+
+/// The place of the first byte of a class. So many bytes are looked at together, and the rest one by one.
+#[inline(always)]
+pub(crate) fn find<const LANES: usize, C: ByteClass<LANES>>(class: C, bytes: &[u8]) -> Option<usize>
+    requires some { 0 < LANES }
+    requires few { LANES ≤ 64 }
+    ensures { result ≡ position (C.has class) bytes.now }
+{
+    let mut seen = 0;
+    'lanes: while bytes.len() - seen >= LANES {
+        let run = run(class, bytes, seen);
+        if run < LANES {
+            return Some(seen + run);
+        }
+        seen += LANES;
+    }
+    'rest: for place in seen..bytes.len() {
+        if class.contains(bytes[place]) {
+            return Some(place);
+        }
+    }
+    None
+}
+
+/// How many of the bytes that are looked at together, from a place on, stand before the first of a class.
+#[inline(always)]
+fn run<const LANES: usize, C: ByteClass<LANES>>(class: C, bytes: &[u8], from: usize) -> usize
+    requires few { LANES ≤ 64 }
+    requires within { from + LANES ≤ length bytes.now }
+    ensures { result ≡ prefix_len (λ b. not (C.has class b)) (chunk from LANES bytes.now) }
+{
+    let marks = class.marks(bytes, from);
+    if marks == 0 {
+        LANES
+    } else {
+        marks.trailing_zeros() as usize
+    }
+}

@@ -1,0 +1,55 @@
+//! Lines as texts.
+//!
+//! Why: to find out that a line is ASCII costs less than to test that it is UTF-8, and most lines are.
+//! Assumes: for the fast test, that the line has at least 64 bytes.
+//! Otherwise: the line is tested by `simdutf8`.
+//! Compared by: `faulty_texts` and `lines_of_each_kind`.
+ghost use Rattle.std.specs.Prelude.{◌≡◌, ◌+◌, ◌<◌, ◌≤◌, ℕ, length, slice_index, MatchOption, IsUtf8};
+ghost use Rattle.std.specs.Bool.{OnTrue};
+ghost use Rattle.std.specs.Str.{IsAscii};
+
+use std::simd::prelude::*;
+use std::str;
+
+/// How many bytes are looked at together.
+const LANES: usize = 64;
+
+/// The line as a text, if it is UTF-8. Most lines are ASCII, which takes less to find out.
+#[inline(always)]
+pub(crate) fn to_str(line: &[u8]) -> Option<&str>
+    ensures { MatchOption result (¬ IsUtf8 line.now) (λ text. text.now ≡ line.now) }
+{
+    if is_long_ascii(line) {
+        // SAFETY: the line is ASCII.
+        return Some(unsafe { str::from_utf8_unchecked(line) });
+    }
+    simdutf8::compat::from_utf8(line).ok()
+}
+
+/// Whether a line has 64 bytes at least, and all of them are ASCII.
+#[inline(always)]
+fn is_long_ascii(line: &[u8]) -> bool
+    ensures { OnTrue result (IsAscii line.now) }
+{
+    if line.len() < LANES {
+        return false;
+    }
+    let mut seen = 0;
+    'lanes: while line.len() - seen >= LANES {
+        if !are_ascii(line, seen) {
+            return false;
+        }
+        seen += LANES;
+    }
+    are_ascii(line, line.len() - LANES)
+}
+
+/// Whether the 64 bytes from a place on are ASCII.
+#[inline(always)]
+fn are_ascii(bytes: &[u8], from: usize) -> bool
+    requires { from + 64 ≤ length bytes.now }
+    ensures { OnTrue result ((place : ℕ) → from ≤ place → place < from + 64 → slice_index bytes.now place < 128) }
+{
+    let lanes = u8x64::from_slice(&bytes[from..]);
+    lanes.simd_ge(u8x64::splat(128)).to_bitmask() == 0
+}

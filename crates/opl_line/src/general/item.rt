@@ -1,0 +1,147 @@
+//! The items of lists in OPL lines.
+ghost use Rattle.std.specs.Prelude.{◌≡◌, ◌⊎◌, Ok, Err, None, Some, drop, MatchOption, MatchResult};
+ghost use Rattle.opl_line.specs.declared.reason.OplReason.TheVariants.{Memory};
+ghost use Rattle.opl_line.specs.Answer.{Answers};
+ghost use Rattle.opl_line.specs.Item as spec;
+
+use super::text::read_text;
+use crate::OplReason;
+use crate::bytes::cut::Cut;
+use crate::number::read_id;
+use osm_model::{Kind, Member, Tag};
+use std::alloc::Global;
+
+/// The bytes of a usual item and its comma, as `n123456789,`. Room is made for so many items as such have place in the
+/// content, so that commas alone can't ask for much memory.
+pub(crate) const USUAL_ITEM: usize = 11;
+
+/// What can stand in a list.
+pub(crate) trait Item: Drop + Sized {
+    ghost use Rattle.std.specs.Prelude.{List, ℕ, Result};
+    ghost use Rattle.opl_line.specs.declared.reason.OplReason.{OplReason};
+
+    ghost reading: { List ℕ → Result Self OplReason };
+
+    /// The item that a text between commas spells.
+    ///
+    /// # Errors
+    ///
+    /// `BadList` where the text has not the item's form, `OutOfRange` where an id is out of range, `BadText` where a
+    /// part of it is no text; `Memory`.
+    fn read(alloc: Global, text: &str) -> Result<Self, OplReason>
+        ensures { Answers (reading text.now) result };
+}
+
+/// The items of a list, which has a comma between each two.
+///
+/// # Errors
+///
+/// That of the first faulty item; `Memory`.
+pub(crate) fn read_list<T: Item>(alloc: Global, content: &str) -> Result<Vec<T>, OplReason>
+    ensures { MatchResult result
+        (λ items. spec.reading_list T.reading content.now ≡ Ok items.items)
+        (λ reason. (reason ≡ Memory) ⊎ (spec.reading_list T.reading content.now ≡ Err reason)) }
+{
+    if content.is_empty() {
+        return Ok(Vec::new(alloc));
+    }
+    let mut items: Vec<T> = Vec::with_capacity(alloc, content.len() / USUAL_ITEM + 1)?;
+    let mut rest = Some(content);
+    'items: while let Some(text) = rest {
+        let (item, behind) = Cut::Commas.split(text);
+        items.push(T::read(alloc, item)?)?;
+        rest = behind;
+    }
+    Ok(items)
+}
+
+/// `key=value`.
+impl Item for Tag {
+    ghost reading = { spec.reading_tag };
+
+    fn read(alloc: Global, text: &str) -> Result<Tag, OplReason> {
+        let (key, Some(behind)) = Cut::Equals.split(text) else {
+            return Err(OplReason::BadList);
+        };
+        let (value, more) = Cut::Equals.split(behind);
+        if more.is_some() {
+            return Err(OplReason::BadList);
+        }
+        let key = read_text(alloc, key)?;
+        let value = read_text(alloc, value)?;
+        Ok(Tag { key, value })
+    }
+}
+
+/// The id of a node behind its letter, as `n1`.
+impl Item for i64 {
+    ghost reading = { spec.reading_reference };
+
+    fn read(_alloc: Global, text: &str) -> Result<i64, OplReason> {
+        match text.as_bytes().split_first() {
+            Some((b'n', digits)) => read_item_id(digits),
+            _ => Err(OplReason::BadList),
+        }
+    }
+}
+
+/// `w1@role`.
+impl Item for Member {
+    ghost reading = { spec.reading_member };
+
+    fn read(alloc: Global, text: &str) -> Result<Member, OplReason> {
+        let (object, Some(role)) = Cut::Ats.split(text) else {
+            return Err(OplReason::BadList);
+        };
+        let (kind, id) = read_object_name(object.as_bytes())?;
+        let role = read_text(alloc, role)?;
+        Ok(Member { kind, id, role })
+    }
+}
+
+/// The kind and the id of an object, as `w1`.
+fn read_object_name(text: &[u8]) -> Result<(Kind, i64), OplReason>
+    ensures { result ≡ spec.reading_object_name text.now }
+{
+    let (kind, digits) = split_kind(text).ok_or(OplReason::BadList)?;
+    Ok((kind, read_item_id(digits)?))
+}
+
+/// The kind that the first letter of a text stands for, and what stands behind it; `None` where it stands for none.
+pub(crate) fn split_kind(text: &[u8]) -> Option<(Kind, &[u8])>
+    ensures { MatchOption result
+        (spec.first_kind text.now ≡ None)
+        (λ parts. (spec.first_kind text.now ≡ Some parts.0) × (parts.1.now ≡ drop 1 text.now)) }
+{
+    let (letter, rest) = text.split_first()?;
+    Some((kind_of_letter(*letter)?, rest))
+}
+
+/// The kind that a letter stands for.
+pub(crate) fn kind_of_letter(letter: u8) -> Option<Kind>
+    ensures { result ≡ spec.kind_of_letter letter }
+{
+    match letter {
+        b'n' => Some(Kind::Node),
+        b'w' => Some(Kind::Way),
+        b'r' => Some(Kind::Relation),
+        _ => None,
+    }
+}
+
+/// The id in an item.
+fn read_item_id(digits: &[u8]) -> Result<i64, OplReason>
+    ensures { result ≡ spec.reading_item_id digits.now }
+{
+    read_id(digits).map_err(item_reason)
+}
+
+/// The reason for which an item is refused whose id is refused for a reason.
+fn item_reason(reason: OplReason) -> OplReason
+    ensures { result ≡ spec.item_reason reason }
+{
+    match reason {
+        OplReason::OutOfRange => OplReason::OutOfRange,
+        _ => OplReason::BadList,
+    }
+}

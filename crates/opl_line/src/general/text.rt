@@ -1,0 +1,133 @@
+//! Texts in OPL lines, with their escapes.
+ghost use Rattle.std.specs.Prelude.{◌≡◌, ◌⊎◌, ◌<◌, ◌≤◌, true, false, not, None};
+ghost use Rattle.std.specs.Prelude.{length, take, string_bytes, option_copied, MatchOption, MatchResult, IfOk, IfSome};
+ghost use Rattle.std.specs.List.{list_all};
+ghost use Rattle.opl_line.specs.declared.bytes.cut.Cut.TheVariants.{Percents};
+ghost use Rattle.opl_line.specs.declared.reason.OplReason.TheVariants.{Memory, BadText};
+ghost use Rattle.opl_line.specs.Answer.{Answers};
+ghost use Rattle.opl_line.specs.Cut.{is_end, split_first, cut, pieces_of};
+ghost use Rattle.opl_line.specs.Text as spec;
+
+use crate::OplReason;
+use crate::bytes::cut::Cut;
+use crate::bytes::scan::{ByteClass, find};
+use osm_model::Text;
+use std::alloc::Global;
+use std::simd::prelude::*;
+
+/// How many bytes are looked at together.
+const LANES: usize = 8;
+
+/// The text that some bytes spell: raw characters and escapes.
+///
+/// # Errors
+///
+/// `BadText` where a character is raw that must be escaped, or where an escape is faulty; `Memory`.
+pub(crate) fn read_text(alloc: Global, text: &str) -> Result<Text, OplReason>
+    ensures { Answers (spec.reading_text text.now) result }
+{
+    let Some((raw, escapes)) = split_accepted(text) else {
+        return Err(OplReason::BadText);
+    };
+    let Some(escape) = escapes else {
+        return match Text::from_str(alloc, raw) {
+            Ok(text) => Ok(text),
+            Err(_) => Err(OplReason::Memory),
+        };
+    };
+    let mut escapes = Some(escape);
+    let mut out = String::from_str(alloc, raw)?;
+    'escapes: while let Some(behind) = escapes {
+        escapes = append_escape(&mut out, behind)?;
+    }
+    Ok(Text::from_string(out))
+}
+
+/// Appends the character of an escape, which stands behind its percent sign, and the raw piece that follows it. What
+/// stands behind the next percent sign is answered.
+fn append_escape<'a>(out: &mut String, escape: &'a str) -> Result<Option<&'a str>, OplReason>
+    ensures text { MatchResult result
+        (λ more. spec.text_from (string_bytes out.old) (cut (is_end Percents) escape.now)
+        ≡ spec.text_from (string_bytes out.new) (pieces_of (is_end Percents) (option_copied more)))
+        (λ reason. (reason ≡ Memory) ⊎ ((reason ≡ BadText) × (spec.text_from (string_bytes out.old) (cut (is_end Percents) escape.now) ≡ None))) }
+    ensures shorter { IfOk result (λ more. IfSome more (λ behind. length behind.now < length escape.now)) }
+{
+    let (digits, Some(behind)) = Cut::Percents.split(escape) else {
+        return Err(OplReason::BadText);
+    };
+    let Some(character) = scalar_of(digits.as_bytes()) else {
+        return Err(OplReason::BadText);
+    };
+    let Some((raw, more)) = split_accepted(behind) else {
+        return Err(OplReason::BadText);
+    };
+    out.push(character)?;
+    out.push_str(raw)?;
+    Ok(more)
+}
+
+/// The raw characters that a text begins with, and what stands behind the percent sign that ends them, if there is one;
+/// `None` where another character ends them, which must be escaped.
+fn split_accepted(text: &str) -> Option<(&str, Option<&str>)>
+    ensures parts { MatchOption result
+        (list_all spec.stands_for_itself (split_first (is_end Percents) text.now).0 ≡ false)
+        (λ parts. (list_all spec.stands_for_itself parts.0.now ≡ true)
+        × (split_first (is_end Percents) text.now ≡ (parts.0.now, option_copied parts.1))) }
+    ensures shorter { IfSome result (λ parts. IfSome parts.1 (λ behind. length behind.now < length text.now)) }
+{
+    let bytes = text.as_bytes();
+    let Some(end) = find(MustBeEscaped, bytes) else {
+        return Some((text, None));
+    };
+    if bytes[end] != b'%' {
+        return None;
+    }
+    Some((&text[..end], Some(&text[end + 1..])))
+}
+
+/// The bytes that a reader accepts only as an escape. The writer escapes more characters than these.
+#[derive(Clone, Copy, Debug)]
+struct MustBeEscaped;
+
+impl ByteClass<LANES> for MustBeEscaped {
+    ghost has = { λ _ byte. not (spec.stands_for_itself byte) };
+
+    #[inline(always)]
+    fn marks(self, bytes: &[u8], from: usize) -> u64 {
+        let lanes = Simd::<u8, LANES>::from_slice(&bytes[from..]);
+        let nulls = lanes.simd_eq(Simd::splat(0));
+        let tabs = nulls | lanes.simd_eq(Simd::splat(b'\t'));
+        let feeds = tabs | lanes.simd_eq(Simd::splat(b'\n'));
+        let returns = feeds | lanes.simd_eq(Simd::splat(b'\r'));
+        let spaces = returns | lanes.simd_eq(Simd::splat(b' '));
+        let percents = spaces | lanes.simd_eq(Simd::splat(b'%'));
+        let commas = percents | lanes.simd_eq(Simd::splat(b','));
+        let others = commas | lanes.simd_eq(Simd::splat(b'='));
+        others.to_bitmask()
+    }
+
+    #[inline(always)]
+    fn contains(self, byte: u8) -> bool {
+        byte <= b'=' && matches!(byte, 0 | b'\t' | b'\n' | b'\r' | b' ' | b'%' | b',' | b'=')
+    }
+}
+
+/// The character that 1 to 8 hexadecimal digits name, which is not U+0000.
+pub(crate) fn scalar_of(digits: &[u8]) -> Option<char>
+    ensures { result ≡ spec.scalar_of digits.now }
+{
+    if digits.is_empty() || digits.len() > 8 {
+        return None;
+    }
+    let mut code: u32 = 0;
+    for digit in digits {
+        let Some(value) = char::from(*digit).to_digit(16) else {
+            return None;
+        };
+        code = 16 * code + value;
+    }
+    if code == 0 {
+        return None;
+    }
+    char::from_u32(code)
+}

@@ -1,0 +1,203 @@
+//! The straight reader: a line whose fields have the usual order and form, read from left to right.
+//!
+//! Why: nearly all lines of real files have this form, and a file of other lines takes three times as long.
+//! Assumes: nothing; it returns an `Option` and never a reason.
+//! Otherwise: `None`, also when out of memory, and the general reader reads the line.
+//! Compared by: `canonical_lines_are_read_straight_on`, `other_lines_are_left`, `faulty_lines_are_left`.
+ghost use Rattle.std.specs.Prelude.{◌≡◌, ◌∷◌, ◌++◌, true, Ok, Some, IfSome};
+ghost use Rattle.std.specs.List.{list_all};
+ghost use Rattle.osm_model.specs.declared.body.Body.TheVariants.{Deleted};
+ghost use Rattle.osm_model.specs.Joined.{joined};
+ghost use Rattle.osm_model.specs.Line.{list_text, empty_fields};
+ghost use Rattle.osm_model.specs.Append.{location_text};
+ghost use Rattle.opl_line.specs.Reading.{reading_line};
+ghost use Rattle.opl_line.specs.Straight.{IsAuthored, IsHead, IsTail, deleted_text};
+
+mod item;
+mod part;
+mod text;
+pub(crate) mod upload;
+
+use item::{StraightItem, parse_list, parse_object, strip_byte};
+use osm_model::{Body, Kind, Members, Meta, References, Spare, Tags, Version};
+use part::{parse_coordinate, parse_number, parse_time};
+use std::alloc::Global;
+use text::parse_text;
+use upload::Upload;
+
+/// What a line says before its tags.
+#[derive(Drop)]
+struct Head {
+    kind: Kind,
+    id: i64,
+    is_deleted: bool,
+    meta: Meta,
+}
+
+/// The version of a line whose fields have the usual order and form; its tags may have any order. `None` for another line,
+/// and when out of memory. The version is made in `spare`, if that has memory; its changeset, time and user are copied from
+/// `upload` if the line repeats them.
+#[inline(always)]
+pub(crate) fn read_straight(
+    alloc: Global,
+    spare: &mut Spare,
+    upload: &mut Upload,
+    line: &[u8],
+) -> Option<Version>
+    ensures { IfSome result (λ version. reading_line line.now ≡ Ok (Some version)) }
+{
+    let (head, behind) = read_head(alloc, upload, line)?;
+    let body = read_tail(alloc, spare, head.kind, head.is_deleted, behind)?;
+    if head.meta.version == 0 || !head.meta.is_dated() {
+        return None;
+    }
+    Version::of_sound_data(alloc, spare, head.id, head.meta, body).ok()
+}
+
+/// What stands before the tags, and what stands behind it.
+#[inline(always)]
+fn read_head<'a>(alloc: Global, upload: &mut Upload, line: &'a [u8]) -> Option<(Head, &'a [u8])>
+    ensures { IfSome result (λ read. IsHead line.now read.0.kind read.0.id read.0.is_deleted read.0.meta read.1.now) }
+{
+    let ((kind, id), behind) = parse_object(line)?;
+    let (version, behind) = parse_number(strip_mark(behind, b'v')?)?;
+    let (is_deleted, behind) = parse_deleted(strip_mark(behind, b'd')?)?;
+    let (meta, behind) = read_meta(alloc, upload, version, behind)?;
+    let head = Head {
+        kind,
+        id,
+        is_deleted,
+        meta,
+    };
+    Some((head, behind))
+}
+
+/// What is told beside the object and its body of a version of this number, and what stands behind it.
+#[inline(always)]
+fn read_meta<'a>(
+    alloc: Global,
+    upload: &mut Upload,
+    version: u64,
+    text: &'a [u8],
+) -> Option<(Meta, &'a [u8])>
+    ensures { IfSome result (λ read. IsAuthored text.now version read.0 read.1.now) }
+{
+    if let Some(read) = upload.read(version, text) {
+        return Some(read);
+    }
+    let (changeset, behind) = parse_number(strip_mark(text, b'c')?)?;
+    let (time, behind) = parse_time(strip_mark(behind, b't')?);
+    let (uid, behind) = parse_number(strip_mark(behind, b'i')?)?;
+    let (user, behind) = parse_text(alloc, strip_mark(behind, b'u')?)?;
+    let meta = Meta {
+        version,
+        time,
+        changeset,
+        uid,
+        user,
+    };
+    upload.note(&meta, text, behind);
+    Some((meta, behind))
+}
+
+/// Whether an object was deleted, and what stands behind it.
+#[inline(always)]
+fn parse_deleted(text: &[u8]) -> Option<(bool, &[u8])>
+    ensures { IfSome result (λ read. text.now ≡ deleted_text read.0 ++ read.1.now) }
+{
+    if let Some(behind) = strip_byte(text, b'V') {
+        return Some((false, behind));
+    }
+    let behind = strip_byte(text, b'D')?;
+    Some((true, behind))
+}
+
+/// The body of what stands from the tags on.
+#[inline(always)]
+fn read_tail(
+    alloc: Global,
+    spare: &mut Spare,
+    kind: Kind,
+    is_deleted: bool,
+    text: &[u8],
+) -> Option<Body>
+    ensures { IfSome result (IsTail text.now kind is_deleted) }
+{
+    let text = strip_mark(text, b'T')?;
+    if is_deleted {
+        return read_deleted(kind, text);
+    }
+    let (tags, behind) = parse_list(alloc, spare, text)?;
+    let tags = Tags::from_vec(tags);
+    match kind {
+        Kind::Node => {
+            let (lon, lat) = read_location(behind)?;
+            Some(Body::Node { lon, lat, tags })
+        }
+        Kind::Way => {
+            let refs = References::from_vec(read_last_list(
+                alloc,
+                spare,
+                strip_mark(behind, b'N')?,
+            )?);
+            Some(Body::Way { refs, tags })
+        }
+        Kind::Relation => {
+            let members = Members::from_vec(read_last_list(
+                alloc,
+                spare,
+                strip_mark(behind, b'M')?,
+            )?);
+            Some(Body::Relation { members, tags })
+        }
+    }
+}
+
+/// The body of a deleted object, behind the mark of the tags.
+fn read_deleted(kind: Kind, text: &[u8]) -> Option<Body>
+    ensures { IfSome result (λ b. (b ≡ Deleted kind) × (text.now ≡ 32 ∷ joined 32 (empty_fields kind))) }
+{
+    if text == kind.empty_fields() {
+        Some(Body::Deleted(kind))
+    } else {
+        None
+    }
+}
+
+/// The longitude and the latitude of a node, behind its tags.
+#[inline(always)]
+fn read_location(text: &[u8]) -> Option<(i32, i32)>
+    ensures { IfSome result (λ read. text.now ≡ location_text read.0 read.1) }
+{
+    let (lon, behind) = parse_coordinate(strip_mark(text, b'x')?)?;
+    let (lat, behind) = parse_coordinate(strip_mark(behind, b'y')?)?;
+    if behind.is_empty() {
+        Some((lon, lat))
+    } else {
+        None
+    }
+}
+
+/// The items of a list that a line ends with.
+#[inline(always)]
+fn read_last_list<T: StraightItem>(alloc: Global, spare: &mut Spare, text: &[u8]) -> Option<Vec<T>>
+    ensures text { IfSome result (λ items. text.now ≡ list_text T.form items.items) }
+    ensures valid { IfSome result (λ items. list_all T.is_valid items.items ≡ true) }
+{
+    let (items, behind) = parse_list(alloc, spare, text)?;
+    if behind.is_empty() { Some(items) } else { None }
+}
+
+/// What stands behind the blank and the letter of a field.
+#[inline(always)]
+fn strip_mark(text: &[u8], letter: u8) -> Option<&[u8]>
+    ensures { IfSome result (λ behind. text.now ≡ 32 ∷ letter ∷ behind.now) }
+{
+    if text.len() < 2 || text[0] != b' ' || text[1] != letter {
+        return None;
+    }
+    Some(&text[2..])
+}
+
+#[cfg(test)]
+mod tests;

@@ -1,0 +1,127 @@
+//! The changeset, time and user that lines of versions uploaded together share.
+//!
+//! Why: neighbours in a file were often uploaded together; a merge of the real extract takes 0.87 of the time.
+//! Assumes: the line continues with the bytes that the last upload had after the visibility, and then a blank.
+//! Otherwise: the fields are parsed one by one.
+//! Compared by: `neighbours_are_read_as_alone`.
+ghost use Rattle.std.specs.Prelude.{◌≡◌, ◌++◌, IfSome};
+ghost use Rattle.opl_line.specs.Straight.{IsAuthored};
+ghost use Rattle.opl_line.specs.Uploaded.{AreFieldsOf};
+
+use osm_model::Meta;
+use std::alloc::Global;
+use std::marker::Model;
+
+/// The changeset, the time and the user of versions that were uploaded together, with their fields in a canonical line.
+/// Neighbours in a file often were, and then these fields need not be read again.
+///
+/// Each version is noted whose line doesn't say the same as what is kept. As soon as two in a row are of one changeset and
+/// time, what the second one says is kept, so that lines of which no two say the same cost nearly nothing.
+#[derive(Drop)]
+pub(crate) struct Upload {
+    /// The changeset and the time of the version noted last.
+    last_changeset: u64,
+    last_time: Option<u64>,
+    /// What is kept; the number of the version among it says nothing.
+    meta: Meta,
+    /// Its fields, from the changeset to the user name, or nothing where none is kept.
+    fields: Vec<u8>,
+}
+
+/// A line is read as the same with what is kept and without it, so contracts see nothing of it.
+impl Model for Upload {
+    ghost use Rattle.opl_line.specs.Upload.{HoldsUpload};
+
+    ghost Value = { Unit {0} };
+
+    ghost view = { λ _. tt };
+
+    ghost invariant = { HoldsUpload };
+}
+
+impl Upload {
+    /// No upload yet.
+    pub(crate) fn new(alloc: Global) -> Upload {
+        Upload {
+            last_changeset: 0,
+            last_time: None,
+            meta: Meta::nothing(),
+            fields: Vec::new(alloc),
+        }
+    }
+
+    /// Of a line's text from the changeset on, what it says of a version of this number, and what stands behind the user name,
+    /// where it begins with the fields that are kept and a blank ends them.
+    #[inline(always)]
+    pub(crate) fn read<'a>(&self, version: u64, text: &'a [u8]) -> Option<(Meta, &'a [u8])>
+        ensures { IfSome result (λ read. IsAuthored text.now version read.0 read.1.now) }
+    {
+        if self.fields.is_empty() {
+            return None;
+        }
+        let behind = behind(text, &self.fields)?;
+        if behind.first() != Some(&b' ') {
+            return None;
+        }
+        let Ok(user) = self.meta.user.copy() else {
+            return None;
+        };
+        let meta = Meta {
+            version,
+            time: self.meta.time,
+            changeset: self.meta.changeset,
+            uid: self.meta.uid,
+            user,
+        };
+        Some((meta, behind))
+    }
+
+    /// Notes what a line says of a version from the changeset to the user name, and keeps it where the version noted before was
+    /// of the same changeset and time.
+    #[inline(always)]
+    pub(crate) fn note(&mut self, meta: &Meta, text: &[u8], behind: &[u8])
+        requires { IsAuthored text.now meta.now.version meta.now behind.now }
+    {
+        if meta.changeset == self.last_changeset && meta.time == self.last_time {
+            self.keep(meta, text, behind);
+        }
+        self.last_changeset = meta.changeset;
+        self.last_time = meta.time;
+    }
+
+    /// Keeps what a line says of a version from the changeset to the user name, or nothing where memory is wanting.
+    #[inline(never)]
+    fn keep(&mut self, meta: &Meta, text: &[u8], behind: &[u8])
+        requires { IsAuthored text.now meta.now.version meta.now behind.now }
+    {
+        self.fields.clear();
+        if let Ok(copy) = meta.copy() {
+            let fields = fields_of(meta, text, behind);
+            if self.fields.extend_from_slice(fields).is_ok() {
+                self.meta = copy;
+                return;
+            }
+        }
+        self.fields.clear();
+    }
+}
+
+/// The fields that say this of a version, at the front of a text.
+fn fields_of<'a>(meta: &Meta, text: &'a [u8], behind: &[u8]) -> &'a [u8]
+    requires { IsAuthored text.now meta.now.version meta.now behind.now }
+    ensures { AreFieldsOf meta.now result.now }
+{
+    &text[..text.len() - behind.len()]
+}
+
+/// What stands behind these first bytes of a text.
+#[inline(always)]
+fn behind<'a>(text: &'a [u8], first: &[u8]) -> Option<&'a [u8]>
+    ensures { IfSome result (λ behind. text.now ≡ first.now ++ behind.now) }
+{
+    if text.len() < first.len() {
+        return None;
+    }
+    let (front, behind) = text.split_at(first.len());
+    if front == first { Some(behind) } else { None }
+}
