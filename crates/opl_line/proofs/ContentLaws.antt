@@ -21,6 +21,7 @@ use Rattle.opl_line.specs.Item.{reading_items, reading_list, tag_of_pieces, read
 use Rattle.opl_line.specs.Cut.{is_end, split_first, begun_with, cut, pieces_of}
 use Rattle.opl_line.specs.Text.{stands_for_itself, is_hex_digit, hex_value, is_hex, scalar_of, with_escape, text_from, text_of_pieces, text_of, reading_text}
 use Rattle.opl_line.specs.Content.{SpellsText, raw, escaped, SpellsCharacters, SpellsTag, SpellsReference, SpellsObject, SpellsMember, SpellsList}
+use Rattle.opl_line.proofs.NumeralLaws.{id_sound, id_complete}
 use Rattle.opl_line.proofs.AnswerLaws.{both, became, same_success}
 use Rattle.opl_line.proofs.CutLaws.{cut_split, split_front, split_never}
 use Rattle.opl_line.proofs.TextLaws.{one_escape}
@@ -192,12 +193,12 @@ pub reference_sound : (bytes : List ℕ) (id : ℤ) → reading_reference bytes 
 reference_sound [] id e = cc
 reference_sound (letter ∷ digits) id e =
     elim (eqb letter 110) as (λ t. eqb letter 110 ≡ t → cond t (reading_item_id digits) (Err BadList) ≡ Ok id → SpellsReference (letter ∷ digits) id) [
-      | true ↦ λ is read. record { digits = digits; lettered = ap (λ l. l ∷ digits) (eqb-true letter 110 is); spelled = same_success item_reason (reading_id digits) id read }
+      | true ↦ λ is read. record { digits = digits; lettered = ap (λ l. l ∷ digits) (eqb-true letter 110 is); spelled = id_sound digits id (same_success item_reason (reading_id digits) id read) }
       | false ↦ λ is read. cc
     ] refl e
 
 pub reference_complete : (bytes : List ℕ) (id : ℤ) → SpellsReference bytes id → reading_reference bytes ≡ Ok id
-reference_complete bytes id s = ap reading_reference s.lettered ∙ ap (with_reason item_reason) s.spelled
+reference_complete bytes id s = ap reading_reference s.lettered ∙ ap (with_reason item_reason) (id_complete s.digits id s.spelled)
 
 -- ---- members
 pub letter_of_kind : (letter : ℕ) (k : Kind) → kind_of_letter letter ≡ Some k → letter ≡ kind_letter k
@@ -230,7 +231,7 @@ name_sound (letter ∷ digits) k id e =
           record {
             digits = digits;
             lettered = ap (λ c. c ∷ digits) (letter_of_kind letter l is ∙ ap kind_letter same);
-            spelled = same_success item_reason (reading_id digits) id (b.said_so ∙ ap (λ z. Ok z) same_id);
+            spelled = id_sound digits id (same_success item_reason (reading_id digits) id (b.said_so ∙ ap (λ z. Ok z) same_id));
           }
     ] refl e
 
@@ -238,7 +239,7 @@ pub name_complete : (bytes : List ℕ) (k : Kind) (id : ℤ) → SpellsObject by
 name_complete bytes k id s =
     ap reading_object_name s.lettered
     ∙ ap (λ o. reading_named o s.digits) (kind_of_its_letter k)
-    ∙ ap (λ r. as_value (λ z. (k, z)) (with_reason item_reason r)) s.spelled
+    ∙ ap (λ r. as_value (λ z. (k, z)) (with_reason item_reason r)) (id_complete s.digits id s.spelled)
 
 member_parts : (bytes object : List ℕ) (behind : Option (List ℕ)) (member : Member) → split_first (is_end Ats) bytes ≡ (object, behind) → member_of_parts (object, behind) ≡ Ok member → SpellsMember bytes member
 member_parts bytes object None member is e = cc

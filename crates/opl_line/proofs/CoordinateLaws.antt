@@ -90,7 +90,7 @@ decimals units small other =
       value = ap (λ k. decimal_value (without_last_zeros (padded 7 (number_text units))) * 10 ^ (k - length (without_last_zeros (padded 7 (number_text units))))) (sym wide) ∙ sym t.value ∙ is.value;
     }
 
-no_point : (b : ℕ) → is_ascii_digit b ≡ true → not (eqb b 46) ≡ true
+pub no_point : (b : ℕ) → is_ascii_digit b ≡ true → not (eqb b 46) ≡ true
 no_point b e = grind (arith, nat_tests)
 
 degrees_read : (units : ℕ) → units < 2 ^ 32 → reading_degrees (degree_parts (degrees_text units)).0 (degree_parts (degrees_text units)).1 ≡ Ok units

@@ -7,7 +7,9 @@ pub mod ItemLaws
 pub mod FieldLaws
 pub mod ReadingLaws
 pub mod AnswerLaws
+pub mod NumeralLaws
 pub mod ContentLaws
+pub mod PlaceLaws
 pub mod PartLaws
 pub mod SpellsLaws
 pub mod CanonicalLaws

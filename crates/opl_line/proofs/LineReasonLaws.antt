@@ -23,6 +23,7 @@ use Rattle.opl_line.specs.Reading.{is_skipped, reading_object, meta_of, reading_
 use Rattle.opl_line.specs.Content.{SpellsObject}
 use Rattle.opl_line.specs.Spells.{said_by, SpellsNothing}
 use Rattle.opl_line.specs.LineReason.{LacksLocation, WholeReason, no_version, no_time, no_location, LineReason, not_utf8, no_object, faulty_field, no_whole, ReasonIsTold, ToldIsReason, HasOneReason, NeitherHasOneReason, ReasonSpellsNothing}
+use Rattle.opl_line.proofs.NumeralLaws.{id_complete}
 use Rattle.opl_line.proofs.CutLaws.{cut_split}
 use Rattle.opl_line.proofs.PartLaws.{parts_of}
 use Rattle.opl_line.proofs.ReadingLaws as reading
@@ -125,7 +126,7 @@ fields_fine line k id fields reason kept utf8 at read e =
       names = names;
       spelled = said.spelled;
       different = said.different;
-    }) (whole_refused k id (said_by said.parts) reason (id_within names.digits id names.spelled) (line_within k pieces said.parts said.spelled all.1) (ap (reading_whole k id) (sym said.together) ∙ e))
+    }) (whole_refused k id (said_by said.parts) reason (id_within names.digits id (id_complete names.digits id names.spelled)) (line_within k pieces said.parts said.spelled all.1) (ap (reading_whole k id) (sym said.together) ∙ e))
 
 version_refused : (line : List ℕ) (reason : OplReason) → is_skipped line ≡ false → IsUtf8 line → reading_version line ≡ Err reason → LineReason line reason
 unfolding reading_version

@@ -22,6 +22,7 @@ use Rattle.opl_line.specs.declared.bytes.cut.Cut.TheVariants.{Commas, Equals, At
 use Rattle.opl_line.specs.Cut.{is_end, cut, pieces_of}
 use Rattle.opl_line.specs.Content.{SpellsCharacters, SpellsTag, SpellsReference, SpellsMember, SpellsList}
 use Rattle.opl_line.specs.Canonical.{ListsAreSpelled}
+use Rattle.opl_line.proofs.NumeralLaws.{id_sound}
 use Rattle.opl_line.proofs.CutLaws.{cut_split, split_front, split_never}
 use Rattle.opl_line.proofs.CanonicalLaws.{id_is_read_back}
 use Rattle.opl_line.proofs.EscapedLaws.{text_is_read_back}
@@ -97,7 +98,7 @@ references_spelled : (ids : List ℤ) → list_all is_id ids ≡ true → Pairwi
 references_spelled [] all = tt
 references_spelled (id ∷ ids) all =
     let parts = and_parts (is_id id) (list_all is_id ids) all in
-    (record { digits = integer_text id; lettered = refl; spelled = id_is_read_back id parts.0 }, references_spelled ids parts.1)
+    (record { digits = integer_text id; lettered = refl; spelled = id_sound (integer_text id) id (id_is_read_back id parts.0) }, references_spelled ids parts.1)
 
 -- ---- members
 member_spelled : (m : Member) → is_id m.id ≡ true → SpellsCharacters (escape m.role) m.role → SpellsMember (member_text m) m
@@ -105,7 +106,7 @@ member_spelled m is role = record {
   object = kind_letter m.kind ∷ integer_text m.id;
   role = escape m.role;
   parted = split_front (is_end Ats) (kind_letter m.kind ∷ integer_text m.id) (escape m.role) 64 (lacking 64 (kind_letter m.kind ∷ integer_text m.id) (object_lacks at m.kind m.id)) refl;
-  names = record { digits = integer_text m.id; lettered = refl; spelled = id_is_read_back m.id is };
+  names = record { digits = integer_text m.id; lettered = refl; spelled = id_sound (integer_text m.id) m.id (id_is_read_back m.id is) };
   spells_role = role;
 }
 

@@ -15,6 +15,8 @@ use Rattle.opl_line.specs.Item.{reading_list, reading_reference, reading_member}
 use Rattle.opl_line.specs.Field.{nothing_said, reading_optional, has_field, with_body_field, with_field, reading_field, reading_fields}
 use Rattle.opl_line.specs.Part.{Part, Number, Deleted, Changeset, Time, UserId, User, Tags, Longitude, Latitude, References, Members, letter_of, SpellsContent, IsPartOf, SpellsPart, with_part}
 use Rattle.opl_line.specs.Spells.{is_full}
+use Rattle.opl_line.proofs.NumeralLaws.{number_sound, number_complete, count_sound, count_complete, deleted_sound, deleted_complete}
+use Rattle.opl_line.proofs.PlaceLaws.{time_sound, time_complete, place_sound, place_complete}
 use Rattle.opl_line.proofs.BoolLaws.{neither}
 use Rattle.opl_line.proofs.ContentLaws.{characters_sound, characters_complete, tags_sound, tags_complete, references_sound, references_complete, members_sound, members_complete}
 
@@ -36,9 +38,9 @@ read_part k letter content fields next (Err reason) f part l o s w e = cc
 says_body : (k : Kind) (letter : ℕ) (content : List ℕ) (fields next : Fields) → with_body_field k letter content fields ≡ Ok next → Says k letter content fields next
 says_body kind.Node letter content fields next =
     elim (eqb letter 120) as (λ t. eqb letter 120 ≡ t → cond t (as_value (λ x. record fields { longitude = Some x }) (reading_optional reading_coordinate content)) (cond (eqb letter 121) (as_value (λ y. record fields { latitude = Some y }) (reading_optional reading_coordinate content)) (Err UnknownField)) ≡ Ok next → Says kind.Node letter content fields next) [
-      | true ↦ λ is. read_part kind.Node letter content fields next _ _ Longitude (λ x. eqb-true letter 120 is) (λ x. refl) (λ x s. s) (λ x. refl)
+      | true ↦ λ is. read_part kind.Node letter content fields next _ _ Longitude (λ x. eqb-true letter 120 is) (λ x. refl) (λ x s. place_sound content x s) (λ x. refl)
       | false ↦ λ other. elim (eqb letter 121) as (λ t. eqb letter 121 ≡ t → cond t (as_value (λ y. record fields { latitude = Some y }) (reading_optional reading_coordinate content)) (Err UnknownField) ≡ Ok next → Says kind.Node letter content fields next) [
-        | true ↦ λ is. read_part kind.Node letter content fields next _ _ Latitude (λ x. eqb-true letter 121 is) (λ x. refl) (λ x s. s) (λ x. refl)
+        | true ↦ λ is. read_part kind.Node letter content fields next _ _ Latitude (λ x. eqb-true letter 121 is) (λ x. refl) (λ x s. place_sound content x s) (λ x. refl)
         | false ↦ λ none e. cc
       ] refl
     ] refl
@@ -63,11 +65,11 @@ choose {P} letter at here there out f g =
 
 says : (k : Kind) (letter : ℕ) (content : List ℕ) (fields next : Fields) → with_field k letter content fields ≡ Ok next → Says k letter content fields next
 says k letter content fields next =
-    choose letter 118 _ _ (Ok next) (λ is. read_part k letter content fields next _ _ Number (λ x. is) (λ x. tt) (λ x s. s) (λ x. refl))
-    (λ other. choose letter 100 _ _ (Ok next) (λ is. read_part k letter content fields next _ _ Deleted (λ x. is) (λ x. tt) (λ x s. s) (λ x. refl))
-    (λ other. choose letter 99 _ _ (Ok next) (λ is. read_part k letter content fields next _ _ Changeset (λ x. is) (λ x. tt) (λ x s. s) (λ x. refl))
-    (λ other. choose letter 116 _ _ (Ok next) (λ is. read_part k letter content fields next _ _ Time (λ x. is) (λ x. tt) (λ x s. s) (λ x. refl))
-    (λ other. choose letter 105 _ _ (Ok next) (λ is. read_part k letter content fields next _ _ UserId (λ x. is) (λ x. tt) (λ x s. s) (λ x. refl))
+    choose letter 118 _ _ (Ok next) (λ is. read_part k letter content fields next _ _ Number (λ x. is) (λ x. tt) (λ x s. number_sound 4_294_967_295 content x s) (λ x. refl))
+    (λ other. choose letter 100 _ _ (Ok next) (λ is. read_part k letter content fields next _ _ Deleted (λ x. is) (λ x. tt) (λ x s. deleted_sound content x s) (λ x. refl))
+    (λ other. choose letter 99 _ _ (Ok next) (λ is. read_part k letter content fields next _ _ Changeset (λ x. is) (λ x. tt) (λ x s. count_sound content x s) (λ x. refl))
+    (λ other. choose letter 116 _ _ (Ok next) (λ is. read_part k letter content fields next _ _ Time (λ x. is) (λ x. tt) (λ x s. time_sound content x s) (λ x. refl))
+    (λ other. choose letter 105 _ _ (Ok next) (λ is. read_part k letter content fields next _ _ UserId (λ x. is) (λ x. tt) (λ x s. count_sound content x s) (λ x. refl))
     (λ other. choose letter 117 _ _ (Ok next) (λ is. read_part k letter content fields next _ _ User (λ x. is) (λ x. tt) (λ x s. characters_sound content x s) (λ x. refl))
     (λ other. choose letter 84 _ _ (Ok next) (λ is. read_part k letter content fields next _ _ Tags (λ x. is) (λ x. tt) (λ x s. tags_sound content x s) (λ x. refl))
     (λ other. says_body k letter content fields next)))))))
@@ -138,19 +140,19 @@ told k ((letter ∷ content) ∷ more) fields next e =
 
 -- a field that spells a part is read so
 spelled_content : (k : Kind) (part : Part) (content : List ℕ) (fields : Fields) → IsPartOf k part → SpellsContent content part → with_field k (letter_of part) content fields ≡ Ok (with_part fields part)
-spelled_content k (Number n) content fields of_kind s = ap (as_value (λ x. record fields { number = Some x })) s
-spelled_content k (Deleted d) content fields of_kind s = ap (as_value (λ x. record fields { deleted = Some x })) s
-spelled_content k (Changeset n) content fields of_kind s = ap (as_value (λ x. record fields { changeset = Some x })) s
-spelled_content k (Time t) content fields of_kind s = ap (as_value (λ x. record fields { time = Some x })) s
-spelled_content k (UserId n) content fields of_kind s = ap (as_value (λ x. record fields { uid = Some x })) s
+spelled_content k (Number n) content fields of_kind s = ap (as_value (λ x. record fields { number = Some x })) (number_complete 4_294_967_295 content n s)
+spelled_content k (Deleted d) content fields of_kind s = ap (as_value (λ x. record fields { deleted = Some x })) (deleted_complete content d s)
+spelled_content k (Changeset n) content fields of_kind s = ap (as_value (λ x. record fields { changeset = Some x })) (count_complete content n s)
+spelled_content k (Time t) content fields of_kind s = ap (as_value (λ x. record fields { time = Some x })) (time_complete content t s)
+spelled_content k (UserId n) content fields of_kind s = ap (as_value (λ x. record fields { uid = Some x })) (count_complete content n s)
 spelled_content k (User t) content fields of_kind s = ap (as_value (λ x. record fields { user = Some x })) (characters_complete content t s)
 spelled_content k (Tags ts) content fields of_kind s = ap (as_value (λ x. record fields { tags = Some x })) (tags_complete content ts s)
 spelled_content k (Longitude x) content fields of_kind s =
     let P : Kind → Type 0 = λ l. with_field l 120 content fields ≡ Ok (record fields { longitude = Some x }) in
-    subst P (sym of_kind) (ap (as_value (λ y. record fields { longitude = Some y })) s)
+    subst P (sym of_kind) (ap (as_value (λ y. record fields { longitude = Some y })) (place_complete content x s))
 spelled_content k (Latitude x) content fields of_kind s =
     let P : Kind → Type 0 = λ l. with_field l 121 content fields ≡ Ok (record fields { latitude = Some x }) in
-    subst P (sym of_kind) (ap (as_value (λ y. record fields { latitude = Some y })) s)
+    subst P (sym of_kind) (ap (as_value (λ y. record fields { latitude = Some y })) (place_complete content x s))
 spelled_content k (References ids) content fields of_kind s =
     let P : Kind → Type 0 = λ l. with_field l 78 content fields ≡ Ok (record fields { references = Some ids }) in
     subst P (sym of_kind) (ap (as_value (λ x. record fields { references = Some x })) (references_complete content ids s))

@@ -1,9 +1,8 @@
 -- What a line in UTF-8 tells is within its range.
-use Rattle.std.proofs.Common.{◌≡◌, ℕ, ℤ, zero, suc, ◌+◌, ◌-◌, ◌*◌, ◌^◌, ◌<◌, ◌≤◌, Bool, true, false, cond, eqb, ltb, leb, ◌&&◌, List, [], ◌∷◌, length, filter, fold, Option, Some, None, unwrap_or, Ok, Err, refl, sym, ap, ◌∙◌, subst, arith}
-use Rattle.std.proofs.lemmas.Bool.{and_parts, ltb-true, leb-true, lt-ltb}
+use Rattle.std.proofs.Common.{◌≡◌, ℕ, ℤ, zero, suc, ◌^◌, ◌<◌, ◌≤◌, Bool, true, false, cond, leb, ◌&&◌, List, [], ◌∷◌, filter, fold, Option, Some, None, unwrap_or, Ok, Err, refl, sym, ap, ◌∙◌, subst, arith}
+use Rattle.std.proofs.lemmas.Bool.{leb-true, lt-ltb}
 use Rattle.std.proofs.lemmas.List.Folds.{list_all-append}
 use Rattle.std.specs.List.{list_all, AllByRecursion}
-use Rattle.std.specs.Option.{ok_or}
 use Rattle.std.specs.Str.{IsUtf8}
 use Rattle.osm_model.specs.declared.kind.Kind.{Kind}
 use Rattle.osm_model.specs.declared.kind.Kind.TheVariants as kind
@@ -20,19 +19,18 @@ use Rattle.osm_model.specs.New.{is_number, is_time}
 use Rattle.osm_model.specs.Pairwise.{Pairwise}
 use Rattle.opl_line.specs.declared.bytes.cut.Cut.TheVariants.{Commas, Equals, Ats}
 use Rattle.opl_line.specs.declared.general.field.Fields.{Fields}
-use Rattle.opl_line.specs.declared.reason.OplReason.TheVariants.{BadNumber, OutOfRange, BadTime}
-use Rattle.opl_line.specs.Answer.{and_then}
+use Rattle.opl_line.specs.declared.reason.OplReason.TheVariants.{BadNumber, OutOfRange}
 use Rattle.opl_line.specs.Cut.{is_end, cut}
 use Rattle.opl_line.specs.Number.{is_numeral, decimal_value, up_to, reading_number, is_negative, without_sign, signed, reading_id}
-use Rattle.opl_line.specs.Time.{reading_date, reading_clock, epoch, reading_moment, reading_time}
-use Rattle.opl_line.specs.Field.{nothing_said, reading_number_32, reading_count, reading_optional}
+use Rattle.opl_line.specs.Field.{nothing_said, reading_number_32, reading_count}
 use Rattle.opl_line.specs.Content.{SpellsTag, SpellsReference, SpellsMember, SpellsList}
 use Rattle.opl_line.specs.Part as part
 use Rattle.opl_line.specs.Part.{Part, letter_of, SpellsContent, SpellsPart, with_part}
 use Rattle.opl_line.specs.Reading.{reading_location, reading_visible, reading_body}
 use Rattle.opl_line.specs.Spells.{is_full}
 use Rattle.opl_line.specs.Within.{AreWithin}
-use Rattle.opl_line.proofs.AnswerLaws.{both, became}
+use Rattle.opl_line.proofs.NumeralLaws.{number_complete, count_complete, id_complete}
+use Rattle.opl_line.proofs.AnswerLaws.{became}
 use Rattle.opl_line.proofs.Utf8Laws.{utf8_around, OptionUtf8, split_utf8, cut_utf8, characters_within}
 
 -- ---- numbers and times
@@ -64,37 +62,6 @@ id_within text id e =
     let b = became (signed (is_negative text)) (reading_number 4_611_686_018_427_387_903 (without_sign text)) id e in
     sym (ap is_id b.became) ∙ signed_within (is_negative text) b.from (number_at_most 4_611_686_018_427_387_903 (without_sign text) b.from b.said_so)
 
-moment_within : (total t : ℕ) → reading_moment total ≡ Ok t → is_time (Some t) ≡ true
-moment_within total t =
-    elim (ltb epoch total && ltb total (epoch + 2 ^ 32)) as (λ c. (ltb epoch total && ltb total (epoch + 2 ^ 32)) ≡ c → cond c (Ok (total - epoch)) (Err OutOfRange) ≡ Ok t → is_time (Some t) ≡ true) [
-      | true ↦ λ is e.
-          let same : total - epoch ≡ t = cc in
-          let parts = and_parts (ltb epoch total) (ltb total (epoch + 2 ^ 32)) is in
-          let above = ltb-true epoch total parts.0 in
-          let below = ltb-true total (epoch + 2 ^ 32) parts.1 in
-          λ i. lt-ltb 0 t (omega arith) i && lt-ltb t (2 ^ 32) (omega arith) i
-      | false ↦ λ is e. cc
-    ] refl
-
-time_of_text : (text : List ℕ) (t : ℕ) → reading_time text ≡ Ok t → is_time (Some t) ≡ true
-time_of_text text t =
-    elim (eqb (length text) 20) as (λ c. cond c (and_then (ok_or (reading_date text) BadTime) (λ days. and_then (ok_or (reading_clock text) BadTime) (λ second. reading_moment (86_400 * days + second)))) (Err BadTime) ≡ Ok t → is_time (Some t) ≡ true) [
-      | true ↦ λ e.
-          let date = both (ok_or (reading_date text) BadTime) (λ (days : ℕ). and_then (ok_or (reading_clock text) BadTime) (λ (second : ℕ). reading_moment (86_400 * days + second))) t e in
-          let clock = both (ok_or (reading_clock text) BadTime) (λ (second : ℕ). reading_moment (86_400 * date.between + second)) t date.then_done in
-          moment_within (86_400 * date.between + clock.between) t clock.then_done
-      | false ↦ λ e. cc
-    ]
-
-time_within : (text : List ℕ) (time : Option ℕ) → reading_optional reading_time text ≡ Ok time → is_time time ≡ true
-time_within text None e = refl
-time_within [] (Some t) e = cc
-time_within (b ∷ bs) (Some t) e =
-    let r = became (λ (x : ℕ). Some x) (reading_time (b ∷ bs)) (Some t) e in
-    let made = r.became in
-    let same : r.from ≡ t = cc in
-    time_of_text (b ∷ bs) t (r.said_so ∙ ap (λ x. Ok x) same)
-
 -- ---- lists
 tags_within : (pieces : List (List ℕ)) (ts : List Tag) → Pairwise SpellsTag pieces ts → AllByRecursion IsUtf8 pieces → list_all is_text (texts_of_tags ts) ≡ true
 tags_within [] [] s utf8 = refl
@@ -108,7 +75,7 @@ references_within : (pieces : List (List ℕ)) (ids : List ℤ) → Pairwise Spe
 references_within [] [] s = refl
 references_within [] (id ∷ ids) s = absurd s
 references_within (piece ∷ pieces) [] s = absurd s
-references_within (piece ∷ pieces) (id ∷ ids) s = λ i. id_within s.0.digits id s.0.spelled i && references_within pieces ids s.1 i
+references_within (piece ∷ pieces) (id ∷ ids) s = λ i. id_within s.0.digits id (id_complete s.0.digits id s.0.spelled) i && references_within pieces ids s.1 i
 
 record MembersWithin (ms : List Member) : Type 0 where
   ids : list_all is_id (ids_of_members ms) ≡ true
@@ -123,7 +90,7 @@ members_within (piece ∷ pieces) (m ∷ ms) s utf8 =
     let P : List ℕ × Option (List ℕ) → Type 0 = λ parts. IsUtf8 parts.0 × OptionUtf8 parts.1 in
     let parts = subst P s.0.parted (split_utf8 Ats piece utf8.0) in
     record {
-      ids = (λ i. id_within s.0.names.digits m.id s.0.names.spelled i && rest.ids i);
+      ids = (λ i. id_within s.0.names.digits m.id (id_complete s.0.names.digits m.id s.0.names.spelled) i && rest.ids i);
       roles = (λ i. characters_within s.0.role m.role s.0.spells_role parts.1 i && rest.roles i);
     }
 
@@ -147,11 +114,11 @@ list_within SpellsItem Q none some [] xs s utf8 = subst Q (sym s) none
 list_within SpellsItem Q none some (b ∷ bs) xs s utf8 = some (cut (is_end Commas) (b ∷ bs)) xs s (cut_utf8 Commas (b ∷ bs) utf8)
 
 content_within : (content : List ℕ) (p : Part) → SpellsContent content p → IsUtf8 content → IsWithin p
-content_within content (part.Number n) s utf8 = number_within content n s
+content_within content (part.Number n) s utf8 = number_within content n (number_complete 4_294_967_295 content n s)
 content_within content (part.Deleted d) s utf8 = tt
-content_within content (part.Changeset n) s utf8 = count_within content n s
-content_within content (part.Time t) s utf8 = time_within content t s
-content_within content (part.UserId n) s utf8 = count_within content n s
+content_within content (part.Changeset n) s utf8 = count_within content n (count_complete content n s)
+content_within content (part.Time t) s utf8 = s.range
+content_within content (part.UserId n) s utf8 = count_within content n (count_complete content n s)
 content_within content (part.User t) s utf8 = characters_within content t s utf8
 content_within content (part.Tags ts) s utf8 = list_within SpellsTag (λ xs. list_all is_text (texts_of_tags xs) ≡ true) refl tags_within content ts s utf8
 content_within content (part.Longitude x) s utf8 = tt

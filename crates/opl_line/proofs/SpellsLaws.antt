@@ -25,6 +25,7 @@ use Rattle.opl_line.specs.Reading.{is_skipped, reading_kind_and_id, reading_obje
 use Rattle.opl_line.specs.Content.{SpellsObject}
 use Rattle.opl_line.specs.Part.{Part}
 use Rattle.opl_line.specs.Spells.{IsVersionOf, said_by, Tells, Spells, SpellsNothing, ReadIsSpelled, SpelledIsRead, OneReading, RefusedSpellsNothing, SkippedSpellsNothing}
+use Rattle.opl_line.proofs.NumeralLaws.{id_sound, id_complete}
 use Rattle.opl_line.proofs.AnswerLaws.{both, became}
 use Rattle.opl_line.proofs.CutLaws.{cut_split}
 use Rattle.opl_line.proofs.ContentLaws.{letter_of_kind, kind_of_its_letter}
@@ -44,7 +45,7 @@ object_spelled (letter ∷ digits) k id read =
           record {
             digits = digits;
             lettered = ap (λ c. c ∷ digits) (letter_of_kind letter l is ∙ ap kind_letter same);
-            spelled = b.said_so ∙ ap (λ z. Ok z) same_id;
+            spelled = id_sound digits id (b.said_so ∙ ap (λ z. Ok z) same_id);
           }
     ] refl read
 
@@ -52,7 +53,7 @@ pub object_read : (field : List ℕ) (k : Kind) (id : ℤ) → SpellsObject fiel
 object_read field k id s =
     ap reading_object s.lettered
     ∙ ap (λ o. reading_kind_and_id o s.digits) (kind_of_its_letter k)
-    ∙ ap (as_value (λ z. (k, z))) s.spelled
+    ∙ ap (as_value (λ z. (k, z))) (id_complete s.digits id s.spelled)
 
 -- ---- the version of the fields
 made_version : (r : Result VersionData ValueFault) (v : VersionData) → unless_fault r ≡ Ok v → r ≡ Ok v

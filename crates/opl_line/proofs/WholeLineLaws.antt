@@ -1,5 +1,5 @@
 -- The canonical line of a version is read back.
-use Rattle.std.proofs.Common.{◌≡◌, ℕ, ℤ, ◌^◌, ◌<◌, Bool, true, false, not, eqb, ltb, ◌&&◌, List, [], ◌∷◌, ◌++◌, filter, Option, Some, None, Result, Ok, refl, sym, ap, ◌∙◌, subst, arith, codes, FitsSigned, w32}
+use Rattle.std.proofs.Common.{◌≡◌, ℕ, ℤ, ◌^◌, ◌<◌, Bool, true, false, not, eqb, ltb, ◌&&◌, List, [], ◌∷◌, ◌++◌, filter, Option, Some, None, Ok, refl, sym, ap, ◌∙◌, subst, arith, codes, FitsSigned, w32}
 use Rattle.std.proofs.lemmas.Bool.{and_parts}
 use Rattle.std.proofs.lemmas.Bool.Decides.{nat_tests}
 use Rattle.std.proofs.lemmas.Str.{IsUtf8-nil, IsUtf8-append, IsUtf8-encode}
@@ -31,16 +31,12 @@ use Rattle.osm_model.specs.Line.{tag_text, reference_text, member_text, list_tex
 use Rattle.osm_model.specs.Pairwise.{Pairwise}
 use Rattle.osm_model.proofs.EscapeLaws.{escape_char-raw, escape_char-other}
 use Rattle.opl_line.specs.declared.bytes.cut.Cut.TheVariants.{Blanks}
-use Rattle.opl_line.specs.declared.reason.OplReason.{OplReason}
-use Rattle.opl_line.specs.Answer.{as_value}
 use Rattle.opl_line.specs.Cut.{is_blank, is_end, is_line_end, cut}
-use Rattle.opl_line.specs.Number.{reading_coordinate}
-use Rattle.opl_line.specs.Time.{reading_time}
-use Rattle.opl_line.specs.Field.{nothing_said, reading_number_32, reading_count, reading_deleted, reading_optional}
+use Rattle.opl_line.specs.Field.{nothing_said}
 use Rattle.opl_line.specs.Reading.{meta_of, reading_body, reading_line}
 use Rattle.opl_line.specs.Part as part
 use Rattle.opl_line.specs.Part.{Part, SpellsPart}
-use Rattle.opl_line.specs.Content.{SpellsObject}
+use Rattle.opl_line.specs.Content.{SpellsNumber32, some_count, SpellsDeleted, visible_mark, deleted_mark, SpellsPlace, no_place, some_place, SpellsObject}
 use Rattle.opl_line.specs.Spells.{is_full, said_by, Spells}
 use Rattle.opl_line.specs.Canonical.{LineSpellsItsVersion, LineIsReadBack, LineStandsInOne}
 use Rattle.opl_line.proofs.ContentLaws.{all_weaker}
@@ -48,11 +44,12 @@ use Rattle.opl_line.proofs.PartLaws.{Different, distinct}
 use Rattle.opl_line.proofs.SpellsLaws.{spelled_is_read, one_reading}
 use Rattle.opl_line.proofs.CanonicalLaws.{number_is_read_back, id_is_read_back}
 use Rattle.opl_line.proofs.EscapedLaws.{text_is_read_back}
-use Rattle.opl_line.proofs.TimeLaws.{time_is_read_back}
 use Rattle.opl_line.proofs.CoordinateLaws.{coordinate_is_read_back}
 use Rattle.opl_line.proofs.ListBackLaws.{cut_joined, lists_are_spelled}
 use Rattle.opl_line.proofs.GraphicLaws.{is_graphic, escape_graphic, all_append, tags_of_body, fields_have}
-use Rattle.opl_line.proofs.MadeLaws.{meta_of_version, version_made}
+use Rattle.opl_line.proofs.MadeLaws.{meta_of_version, valid_time, version_made}
+use Rattle.opl_line.proofs.NumeralLaws.{number_sound, id_sound}
+use Rattle.opl_line.proofs.PlaceLaws.{coordinate_sound}
 
 -- ---- no byte of a field is a blank or a line end
 graphic_above : (b : ℕ) → is_graphic b ≡ true → ltb 32 b ≡ true
@@ -177,33 +174,20 @@ abbrev parts_of : VersionData → List Part
 parts_of v =
     part.Number v.number ∷ part.Deleted (is_deleted v.body) ∷ part.Changeset v.changeset ∷ part.Time v.time ∷ part.UserId v.uid ∷ part.User v.user ∷ part.Tags (tags_of v.body) ∷ body_parts v.body
 
-some_count : (text : List ℕ) (n : ℕ) → reading_number_32 text ≡ Ok n → reading_count text ≡ Ok n
-some_count [] n e = cc
-some_count (b ∷ bs) n e = e
+number_spelled : (n : ℕ) → n < 2 ^ 32 → SpellsNumber32 (number_text n) n
+number_spelled n small = number_sound 4_294_967_295 (number_text n) n (number_is_read_back 4_294_967_295 n (omega arith))
 
-number_spelled : (n : ℕ) → n < 2 ^ 32 → reading_number_32 (number_text n) ≡ Ok n
-number_spelled n small = number_is_read_back 4_294_967_295 n (omega arith)
+deleted_spelled : (b : Body) → SpellsDeleted (visible_text b) (is_deleted b)
+deleted_spelled (Deleted k) = deleted_mark
+deleted_spelled (Node lon lat tags) = visible_mark
+deleted_spelled (Way refs tags) = visible_mark
+deleted_spelled (Relation members tags) = visible_mark
 
-deleted_spelled : (b : Body) → reading_deleted (visible_text b) ≡ Ok (is_deleted b)
-deleted_spelled (Deleted k) = refl
-deleted_spelled (Node lon lat tags) = refl
-deleted_spelled (Way refs tags) = refl
-deleted_spelled (Relation members tags) = refl
-
-some_optional : {X : Type 0} (reading : List ℕ → Result X OplReason) (text : List ℕ) (x : X) → (reading [] ≡ Ok x → ⊥) → reading text ≡ Ok x → reading_optional reading text ≡ Ok (Some x)
-some_optional reading [] x none e = absurd (none e)
-some_optional reading (b ∷ bs) x none e = ap (as_value (λ y. Some y)) e
-
-time_spelled : (time : Option ℕ) → ForSome time (λ t. (0 < t) × (t < 2 ^ 32)) → reading_optional reading_time (time_text time) ≡ Ok time
-unfolding time_text
-time_spelled None range = refl
-time_spelled (Some t) range = some_optional reading_time (time_text (Some t)) t (λ e. cc) (time_is_read_back t (range t refl).0 (range t refl).1)
-
-coordinate_spelled : (units : ℤ) → FitsSigned w32 units → reading_optional reading_coordinate (coordinate_text units) ≡ Ok (Some units)
-coordinate_spelled units fits = some_optional reading_coordinate (coordinate_text units) units (λ e. cc) (coordinate_is_read_back units fits)
+coordinate_spelled : (units : ℤ) → FitsSigned w32 units → SpellsPlace (coordinate_text units) (Some units)
+coordinate_spelled units fits = some_place (coordinate_text units) units (coordinate_sound (coordinate_text units) units (coordinate_is_read_back units fits))
 
 body_spelled : (b : Body) → IsInRange b → list_all is_id (ids_of b) ≡ true → list_all is_text (texts_of b) ≡ true → Pairwise (SpellsPart (kind_of b)) (filter is_full (kind_fields b)) (body_parts b)
-body_spelled (Deleted kind.Node) range ids texts = (record { content = []; lettered = refl; of_kind = refl; spelled = refl }, (record { content = []; lettered = refl; of_kind = refl; spelled = refl }, tt))
+body_spelled (Deleted kind.Node) range ids texts = (record { content = []; lettered = refl; of_kind = refl; spelled = no_place }, (record { content = []; lettered = refl; of_kind = refl; spelled = no_place }, tt))
 body_spelled (Deleted kind.Way) range ids texts = (record { content = []; lettered = refl; of_kind = refl; spelled = refl }, tt)
 body_spelled (Deleted kind.Relation) range ids texts = (record { content = []; lettered = refl; of_kind = refl; spelled = refl }, tt)
 body_spelled (Node lon lat tags) range ids texts = (
@@ -239,7 +223,7 @@ parts_spelled v is =
         (
           record { content = number_text v.changeset; lettered = refl; of_kind = tt; spelled = some_count (number_text v.changeset) v.changeset (number_spelled v.changeset is.changeset) },
           (
-            record { content = time_text v.time; lettered = refl; of_kind = tt; spelled = time_spelled v.time is.time },
+            record { content = time_text v.time; lettered = refl; of_kind = tt; spelled = record { spelled = refl; range = valid_time v.time is.time } },
             (
               record { content = number_text v.uid; lettered = refl; of_kind = tt; spelled = some_count (number_text v.uid) v.uid (number_spelled v.uid is.uid) },
               (
@@ -283,7 +267,7 @@ said v (Way refs tags) = record { has_body = refl; has_meta = refl }
 said v (Relation members tags) = record { has_body = refl; has_meta = refl }
 
 object_spelled : (v : VersionData) → AreFieldsWithin v → SpellsObject (kind_letter (kind_of v.body) ∷ integer_text v.id) (kind_of v.body) v.id
-object_spelled v is = record { digits = integer_text v.id; lettered = refl; spelled = id_is_read_back v.id (and_parts (is_id v.id) (list_all is_id (ids_of v.body)) is.ids).0 }
+object_spelled v is = record { digits = integer_text v.id; lettered = refl; spelled = id_sound (integer_text v.id) v.id (id_is_read_back v.id (and_parts (is_id v.id) (list_all is_id (ids_of v.body)) is.ids).0) }
 
 -- the line of data within its ranges spells the version that the data makes
 data_spelled : (v w : VersionData) → AreFieldsWithin v → version_or_fault v.id (meta_of_version v) v.body ≡ Ok w → Spells (line v) w

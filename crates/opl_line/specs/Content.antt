@@ -1,16 +1,68 @@
--- What the texts and lists in OPL lines spell (the OPL manual; which characters stand for themselves, and the limits of an escape, are own rules of this project).
-use Rattle.std.specs.Prelude.{◌≡◌, ℕ, ℤ, true, List, [], ◌∷◌, ◌++◌, encode_utf8, Some, Ok}
+-- What the contents of fields in OPL lines spell (the OPL manual; which characters stand for themselves, the limits of an escape, that leading zeros are accepted, and the form of coordinates are own rules of this project).
+use Rattle.std.specs.Prelude.{◌≡◌, ◌≤◌, ℕ, ℤ, pos, neg_ℤ, ◌+◌, ◌-◌, ◌*◌, ◌^◌, Bool, true, false, List, [], ◌∷◌, ◌++◌, length, codes, encode_utf8, Option, None, Some}
 use Rattle.std.specs.List.{list_all}
 use Rattle.std.specs.Str.{chars}
 use Rattle.osm_model.specs.declared.kind.Kind.{Kind}
 use Rattle.osm_model.specs.declared.tags.Tag.{Tag}
 use Rattle.osm_model.specs.declared.members.Member.{Member}
 use Rattle.osm_model.specs.Kind.{kind_letter}
+use Rattle.osm_model.specs.New.{is_time}
+use Rattle.osm_model.specs.Time.{time_text}
 use Rattle.osm_model.specs.Pairwise.{Pairwise}
 use Rattle.opl_line.specs.declared.bytes.cut.Cut.TheVariants.{Commas, Equals, Ats}
 use Rattle.opl_line.specs.Cut.{is_end, split_first, cut}
-use Rattle.opl_line.specs.Number.{reading_id}
+use Rattle.opl_line.specs.Number.{is_numeral, decimal_value}
 use Rattle.opl_line.specs.Text.{stands_for_itself, scalar_of}
+
+-- one decimal digit or more, and the number that they write
+pub record SpellsNumeral (digits : List ℕ) (n : ℕ) : Type 0 where
+  pub numeral : is_numeral digits ≡ true
+  pub value : decimal_value digits ≡ n
+
+-- a number that is at most a bound
+pub record SpellsNumber (most : ℕ) (digits : List ℕ) (n : ℕ) : Type 0 where
+  pub digits_spell : SpellsNumeral digits n
+  pub bound : n ≤ most
+
+-- a version number, a changeset or a user id: a number of 32 bits
+abbrev pub SpellsNumber32 : List ℕ → ℕ → Type 0
+SpellsNumber32 = SpellsNumber 4_294_967_295
+
+-- such a number, or nothing for 0
+pub data SpellsCount : List ℕ → ℕ → Type 0 where
+  no_count : SpellsCount [] 0
+  some_count : (digits : List ℕ) (n : ℕ) → SpellsNumber32 digits n → SpellsCount digits n
+
+-- an id: a number up to 4611686018427387903, after a minus sign or not
+pub data SpellsId : List ℕ → ℤ → Type 0 where
+  plain_id : (digits : List ℕ) (n : ℕ) → SpellsNumber 4_611_686_018_427_387_903 digits n → SpellsId digits (pos n)
+  minus_id : (digits : List ℕ) (n : ℕ) → SpellsNumber 4_611_686_018_427_387_903 digits n → SpellsId (45 ∷ digits) (neg_ℤ (pos n))
+
+-- `V` for visible, `D` for deleted
+pub data SpellsDeleted : List ℕ → Bool → Type 0 where
+  visible_mark : SpellsDeleted (codes "V") false
+  deleted_mark : SpellsDeleted (codes "D") true
+
+-- a time in its one text, or nothing
+pub record SpellsTime (bytes : List ℕ) (time : Option ℕ) : Type 0 where
+  pub spelled : bytes ≡ time_text time
+  pub range : is_time time ≡ true
+
+-- degrees in units of 10^-7 degree: 1 to 3 digits; or these, a point, and 1 to 7 decimals
+pub data SpellsDegrees : List ℕ → ℕ → Type 0 where
+  whole_degrees : (digits : List ℕ) (n : ℕ) → SpellsNumeral digits n → length digits ≤ 3 → SpellsDegrees digits (n * 10_000_000)
+  with_decimals : (digits decimals : List ℕ) (n d : ℕ) → SpellsNumeral digits n → length digits ≤ 3 → SpellsNumeral decimals d → length decimals ≤ 7 →
+      SpellsDegrees (digits ++ 46 ∷ decimals) (n * 10_000_000 + d * 10 ^ (7 - length decimals))
+
+-- a coordinate: degrees after a minus sign or not, of which the units are a number of 32 bits
+pub data SpellsCoordinate : List ℕ → ℤ → Type 0 where
+  plain_degrees : (bytes : List ℕ) (units : ℕ) → SpellsDegrees bytes units → units ≤ 2_147_483_647 → SpellsCoordinate bytes (pos units)
+  minus_degrees : (bytes : List ℕ) (units : ℕ) → SpellsDegrees bytes units → units ≤ 2_147_483_648 → SpellsCoordinate (45 ∷ bytes) (neg_ℤ (pos units))
+
+-- such a coordinate, or nothing
+pub data SpellsPlace : List ℕ → Option ℤ → Type 0 where
+  no_place : SpellsPlace [] None
+  some_place : (bytes : List ℕ) (units : ℤ) → SpellsCoordinate bytes units → SpellsPlace bytes (Some units)
 
 -- A text in UTF-8: bytes that stand for themselves; or such bytes, an escape, which is `%`, digits and `%`, and a text.
 pub data SpellsText : List ℕ → List ℕ → Type 0 where
@@ -36,13 +88,13 @@ pub record SpellsTag (bytes : List ℕ) (tag : Tag) : Type 0 where
 pub record SpellsReference (bytes : List ℕ) (id : ℤ) : Type 0 where
   pub digits : List ℕ
   pub lettered : bytes ≡ 110 ∷ digits
-  pub spelled : reading_id digits ≡ Ok id
+  pub spelled : SpellsId digits id
 
 -- a letter of a kind and an id
 pub record SpellsObject (bytes : List ℕ) (kind : Kind) (id : ℤ) : Type 0 where
   pub digits : List ℕ
   pub lettered : bytes ≡ kind_letter kind ∷ digits
-  pub spelled : reading_id digits ≡ Ok id
+  pub spelled : SpellsId digits id
 
 -- an object, and behind the first at sign a role
 pub record SpellsMember (bytes : List ℕ) (member : Member) : Type 0 where

@@ -1,14 +1,12 @@
--- What the fields of an OPL line spell (the OPL manual; which contents are accepted is told by the readings).
-use Rattle.std.specs.Prelude.{◌≡◌, ℕ, ℤ, Bool, List, ◌∷◌, Option, Some, Ok}
+-- What the fields of an OPL line spell (the OPL manual).
+use Rattle.std.specs.Prelude.{◌≡◌, ℕ, ℤ, Bool, List, ◌∷◌, Option, Some}
 use Rattle.osm_model.specs.declared.kind.Kind.{Kind}
 use Rattle.osm_model.specs.declared.kind.Kind.TheVariants as kind
 use Rattle.osm_model.specs.declared.tags.Tag.{Tag}
 use Rattle.osm_model.specs.declared.members.Member.{Member}
 use Rattle.opl_line.specs.declared.general.field.Fields.{Fields}
-use Rattle.opl_line.specs.Number.{reading_coordinate}
-use Rattle.opl_line.specs.Time.{reading_time}
+use Rattle.opl_line.specs.Content.{SpellsNumber32, SpellsCount, SpellsDeleted, SpellsTime, SpellsPlace}
 use Rattle.opl_line.specs.Content.{SpellsCharacters, SpellsTag, SpellsReference, SpellsMember, SpellsList}
-use Rattle.opl_line.specs.Field.{reading_number_32, reading_count, reading_deleted, reading_optional}
 
 -- what one field says
 pub data Part : Type 0 where
@@ -40,15 +38,15 @@ letter_of (Members ms) = 77
 
 -- the content of a field spells the part
 abbrev pub SpellsContent : List ℕ → Part → Type 0
-SpellsContent content (Number n) = reading_number_32 content ≡ Ok n
-SpellsContent content (Deleted d) = reading_deleted content ≡ Ok d
-SpellsContent content (Changeset n) = reading_count content ≡ Ok n
-SpellsContent content (Time t) = reading_optional reading_time content ≡ Ok t
-SpellsContent content (UserId n) = reading_count content ≡ Ok n
+SpellsContent content (Number n) = SpellsNumber32 content n
+SpellsContent content (Deleted d) = SpellsDeleted content d
+SpellsContent content (Changeset n) = SpellsCount content n
+SpellsContent content (Time t) = SpellsTime content t
+SpellsContent content (UserId n) = SpellsCount content n
 SpellsContent content (User t) = SpellsCharacters content t
 SpellsContent content (Tags ts) = SpellsList SpellsTag content ts
-SpellsContent content (Longitude x) = reading_optional reading_coordinate content ≡ Ok x
-SpellsContent content (Latitude y) = reading_optional reading_coordinate content ≡ Ok y
+SpellsContent content (Longitude x) = SpellsPlace content x
+SpellsContent content (Latitude y) = SpellsPlace content y
 SpellsContent content (References ids) = SpellsList SpellsReference content ids
 SpellsContent content (Members ms) = SpellsList SpellsMember content ms
 
