@@ -6,7 +6,6 @@ use Rattle.std.specs.List.{list_all}
 use lib.Lanes.{zip2, mask_l, top}
 use Rattle.opl_line.specs.Cut.{lengthened, split_first}
 use Rattle.osm_model.specs.Escape.{is_raw_byte}
-use Rattle.opl_line.specs.Text.{stands_for_itself}
 use Rattle.opl_line.proofs.CutLaws.{split_at, split_nowhere}
 use Rattle.opl_line.proofs.LaneLaws.{lanes, compared, splat_left, either, marked}
 
@@ -24,19 +23,12 @@ twice : (b : Bool) → b ≡ not (not b)
 twice true = refl
 twice false = refl
 
--- a byte that a reader accepts only as an escape
-abbrev is_other : ℕ → Bool
-is_other b = ((((((eqb b 0 || eqb b 9) || eqb b 10) || eqb b 13) || eqb b 32) || eqb b 37) || eqb b 44) || eqb b 61
-
 -- a byte that isn't a raw character by itself
 abbrev is_odd : ℕ → Bool
 is_odd b = ((((leb b 32 || leb 127 b) || eqb b 37) || eqb b 44) || eqb b 61) || eqb b 64
 
 told_odd : (b : ℕ) → is_odd b ≡ not (is_raw_byte b)
 told_odd b = grind (arith, nat_tests)
-
-told_other : (b : ℕ) → is_other b ≡ not (stands_for_itself b)
-told_other b = grind (arith, nat_tests)
 
 -- several bytes that are compared with others together
 module _ (n : ℕ) (few : n ≤ 64) (v : List ℕ) (long : length v ≡ n) where
@@ -54,17 +46,6 @@ module _ (n : ℕ) (few : n ≤ 64) (v : List ℕ) (long : length v ≡ n) where
       let equals = either (λ x. ((leb x 32 || leb 127 x) || eqb x 37) || eqb x 44) (λ x. eqb x 61) v commas (equal 61) in
       let others = either (λ x. (((leb x 32 || leb 127 x) || eqb x 37) || eqb x 44) || eqb x 61) (λ x. eqb x 64) v equals (equal 64) in
       marked is_odd v others (omega (arith, long, few)) ∙ ap (λ h. mask_l (map h v)) (λ i x. told_odd x i)
-
-  pub raw_marked : mask_l (map (top 7) (zip2 bit_or (zip2 bit_or (zip2 bit_or (zip2 bit_or (zip2 bit_or (zip2 bit_or (zip2 bit_or (same 0) (same 9)) (same 10)) (same 13)) (same 32)) (same 37)) (same 44)) (same 61))) % 2 ^ 64 ≡ mask_l (map (λ x. not (stands_for_itself x)) v)
-  raw_marked =
-      let tabs = either (λ x. eqb x 0) (λ x. eqb x 9) v (equal 0) (equal 9) in
-      let feeds = either (λ x. eqb x 0 || eqb x 9) (λ x. eqb x 10) v tabs (equal 10) in
-      let returns = either (λ x. (eqb x 0 || eqb x 9) || eqb x 10) (λ x. eqb x 13) v feeds (equal 13) in
-      let spaces = either (λ x. ((eqb x 0 || eqb x 9) || eqb x 10) || eqb x 13) (λ x. eqb x 32) v returns (equal 32) in
-      let percents = either (λ x. (((eqb x 0 || eqb x 9) || eqb x 10) || eqb x 13) || eqb x 32) (λ x. eqb x 37) v spaces (equal 37) in
-      let commas = either (λ x. ((((eqb x 0 || eqb x 9) || eqb x 10) || eqb x 13) || eqb x 32) || eqb x 37) (λ x. eqb x 44) v percents (equal 44) in
-      let others = either (λ x. (((((eqb x 0 || eqb x 9) || eqb x 10) || eqb x 13) || eqb x 32) || eqb x 37) || eqb x 44) (λ x. eqb x 61) v commas (equal 61) in
-      marked is_other v others (omega (arith, long, few)) ∙ ap (λ h. mask_l (map h v)) (λ i x. told_other x i)
 
 -- what passes before the first byte that doesn't
 module _ (passes : ℕ → Bool) where

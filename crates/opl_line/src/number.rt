@@ -16,61 +16,12 @@ const GREATEST_ID: u64 = (1 << 62) - 1;
 /// Units of a coordinate in a degree.
 pub(crate) const DEGREE: u64 = 10_000_000;
 
-/// Each number of at most this many digits has 64 bits.
-const MOST_DIGITS_OF_64_BITS: usize = 19;
-
 /// A number: one decimal digit or more, and `most` at most.
 ///
 /// # Errors
 ///
-/// `BadNumber` where it is none, `OutOfRange` where it is above `most`.
+/// `BadNumber` if it is none, `OutOfRange` if it is above `most`.
 pub(crate) fn read_number(digits: &[u8], most: u64) -> Result<u64, OplReason>
-    requires { most < 2 ^ 64 - 1 }
-    ensures { result ≡ spec.reading_number most digits.now }
-{
-    if digits.len() > MOST_DIGITS_OF_64_BITS {
-        return read_long_number(digits, most);
-    }
-    match value_of_few(digits) {
-        None => Err(OplReason::BadNumber),
-        Some(number) => up_to(most, number),
-    }
-}
-
-/// The number, where it is at most the bound.
-fn up_to(most: u64, number: u64) -> Result<u64, OplReason>
-    ensures { result ≡ spec.up_to most number }
-{
-    if number <= most {
-        Ok(number)
-    } else {
-        Err(OplReason::OutOfRange)
-    }
-}
-
-/// The number that up to 19 digits write, if they are digits.
-#[inline(never)]
-fn value_of_few(digits: &[u8]) -> Option<u64>
-    requires { length digits.now ≤ 19 }
-    ensures { result ≡ spec.value_of digits.now }
-{
-    if digits.is_empty() {
-        return None;
-    }
-    let mut number: u64 = 0;
-    for digit in digits {
-        if !digit.is_ascii_digit() {
-            return None;
-        }
-        number = 10 * number + u64::from(*digit - b'0');
-    }
-    Some(number)
-}
-
-/// The number that digits of any length write, up to a bound, digit by digit.
-#[cold]
-#[inline(never)]
-fn read_long_number(digits: &[u8], most: u64) -> Result<u64, OplReason>
     requires { most < 2 ^ 64 - 1 }
     ensures { result ≡ spec.reading_number most digits.now }
 {
@@ -87,6 +38,35 @@ fn read_long_number(digits: &[u8], most: u64) -> Result<u64, OplReason>
             .saturating_add(u64::from(*digit - b'0'));
     }
     up_to(most, number)
+}
+
+/// The number, where it is at most the bound.
+fn up_to(most: u64, number: u64) -> Result<u64, OplReason>
+    ensures { result ≡ spec.up_to most number }
+{
+    if number <= most {
+        Ok(number)
+    } else {
+        Err(OplReason::OutOfRange)
+    }
+}
+
+/// The number that up to 19 digits write, if they are digits.
+fn value_of_few(digits: &[u8]) -> Option<u64>
+    requires { length digits.now ≤ 19 }
+    ensures { result ≡ spec.value_of digits.now }
+{
+    if digits.is_empty() {
+        return None;
+    }
+    let mut number: u64 = 0;
+    for digit in digits {
+        if !digit.is_ascii_digit() {
+            return None;
+        }
+        number = 10 * number + u64::from(*digit - b'0');
+    }
+    Some(number)
 }
 
 /// An id: a number, behind a minus sign or not, from -4611686018427387903 to 4611686018427387903.

@@ -20,6 +20,7 @@ use Rattle.osm_model.proofs.ValidLaws.{valid_version}
 use Rattle.opl_line.specs.declared.reason.OplReason.TheVariants.{OutOfRange}
 use Rattle.opl_line.specs.Number.{signed, is_negative, without_sign, degree_parts, reading_degrees, reading_units, reading_coordinate}
 use Rattle.opl_line.specs.Field.{nothing_said, reading_optional}
+use Rattle.opl_line.specs.Content.{SpellsCoordinate, plain_degrees, minus_degrees, SpellsPlace, no_place, some_place}
 use Rattle.opl_line.specs.Part as part
 use Rattle.opl_line.specs.Part.{Part, SpellsPart, with_part}
 use Rattle.opl_line.specs.Reading.{meta_of, reading_location, reading_visible, reading_body}
@@ -46,29 +47,13 @@ negated_fits : (n : ℕ) → n ≤ 2_147_483_648 → Fits (signed true n)
 negated_fits zero h = omega arith
 negated_fits (suc n) h = omega (arith, h)
 
-units_fit : (negative : Bool) (n : ℕ) (z : ℤ) → reading_units negative n ≡ Ok z → Fits z
-units_fit true n z =
-    elim (nat_le n 2_147_483_648) as (λ t. nat_le n 2_147_483_648 ≡ t → cond t (Ok (signed true n)) (Err OutOfRange) ≡ Ok z → Fits z) [
-      | true ↦ λ is e. let same : signed true n ≡ z = cc in subst Fits same (negated_fits n (leb-true n 2_147_483_648 is))
-      | false ↦ λ is e. cc
-    ] refl
-units_fit false n z =
-    elim (nat_le n 2_147_483_647) as (λ t. nat_le n 2_147_483_647 ≡ t → cond t (Ok (signed false n)) (Err OutOfRange) ≡ Ok z → Fits z) [
-      | true ↦ λ is e. let same : signed false n ≡ z = cc in let few = leb-true n 2_147_483_647 is in subst Fits same (omega (arith, few))
-      | false ↦ λ is e. cc
-    ] refl
+coordinate_fits : (text : List ℕ) (z : ℤ) → SpellsCoordinate text z → Fits z
+coordinate_fits text z (plain_degrees bytes n s few) = omega (arith, few)
+coordinate_fits text z (minus_degrees bytes n s few) = negated_fits n few
 
-coordinate_fits : (text : List ℕ) (z : ℤ) → reading_coordinate text ≡ Ok z → Fits z
-coordinate_fits text z e =
-    let parts = degree_parts (without_sign text) in
-    let b = both (reading_degrees parts.0 parts.1) (reading_units (is_negative text)) z e in
-    units_fit (is_negative text) b.between z b.then_done
-
-optional_fits : (content : List ℕ) (x : Option ℤ) → reading_optional reading_coordinate content ≡ Ok x → OptionFits x
-optional_fits [] x e = let same : None ≡ x = cc in subst (λ (o : Option ℤ). OptionFits o) same tt
-optional_fits (b ∷ bytes) x e =
-    let r = became (λ z. Some z) (reading_coordinate (b ∷ bytes)) x e in
-    subst (λ (o : Option ℤ). OptionFits o) r.became (coordinate_fits (b ∷ bytes) r.from r.said_so)
+optional_fits : (content : List ℕ) (x : Option ℤ) → SpellsPlace content x → OptionFits x
+optional_fits content x no_place = tt
+optional_fits content x (some_place bytes z s) = coordinate_fits bytes z s
 
 -- ---- the fields of a line
 abbrev PartFits : Part → Type 0

@@ -1,6 +1,6 @@
 //! Texts in OPL lines, with their escapes.
-ghost use Rattle.std.specs.Prelude.{◌≡◌, ◌⊎◌, ◌<◌, ◌≤◌, true, false, not, None};
-ghost use Rattle.std.specs.Prelude.{length, take, string_bytes, option_copied, MatchOption, MatchResult, IfOk, IfSome};
+ghost use Rattle.std.specs.Prelude.{◌≡◌, ◌⊎◌, ◌<◌, true, false, not, None, position};
+ghost use Rattle.std.specs.Prelude.{length, string_bytes, option_copied, MatchOption, MatchResult, IfOk, IfSome};
 ghost use Rattle.std.specs.List.{list_all};
 ghost use Rattle.opl_line.specs.declared.bytes.cut.Cut.TheVariants.{Percents};
 ghost use Rattle.opl_line.specs.declared.reason.OplReason.TheVariants.{Memory, BadText};
@@ -10,13 +10,8 @@ ghost use Rattle.opl_line.specs.Text as spec;
 
 use crate::OplReason;
 use crate::bytes::cut::Cut;
-use crate::bytes::scan::{ByteClass, find};
 use osm_model::Text;
 use std::alloc::Global;
-use std::simd::prelude::*;
-
-/// How many bytes are looked at together.
-const LANES: usize = 8;
 
 /// The text that some bytes spell: raw characters and escapes.
 ///
@@ -76,7 +71,7 @@ fn split_accepted(text: &str) -> Option<(&str, Option<&str>)>
     ensures shorter { IfSome result (λ parts. IfSome parts.1 (λ behind. length behind.now < length text.now)) }
 {
     let bytes = text.as_bytes();
-    let Some(end) = find(MustBeEscaped, bytes) else {
+    let Some(end) = find_escape(bytes) else {
         return Some((text, None));
     };
     if bytes[end] != b'%' {
@@ -85,31 +80,18 @@ fn split_accepted(text: &str) -> Option<(&str, Option<&str>)>
     Some((&text[..end], Some(&text[end + 1..])))
 }
 
-/// The bytes that a reader accepts only as an escape. The writer escapes more characters than these.
-#[derive(Clone, Copy, Debug)]
-struct MustBeEscaped;
+/// Whether a reader accepts a byte only as an escape. The writer escapes more characters than these.
+fn must_be_escaped(byte: u8) -> bool
+    ensures { result ≡ not (spec.stands_for_itself byte) }
+{
+    matches!(byte, 0 | b'\t' | b'\n' | b'\r' | b' ' | b'%' | b',' | b'=')
+}
 
-impl ByteClass<LANES> for MustBeEscaped {
-    ghost has = { λ _ byte. not (spec.stands_for_itself byte) };
-
-    #[inline(always)]
-    fn marks(self, bytes: &[u8], from: usize) -> u64 {
-        let lanes = Simd::<u8, LANES>::from_slice(&bytes[from..]);
-        let nulls = lanes.simd_eq(Simd::splat(0));
-        let tabs = nulls | lanes.simd_eq(Simd::splat(b'\t'));
-        let feeds = tabs | lanes.simd_eq(Simd::splat(b'\n'));
-        let returns = feeds | lanes.simd_eq(Simd::splat(b'\r'));
-        let spaces = returns | lanes.simd_eq(Simd::splat(b' '));
-        let percents = spaces | lanes.simd_eq(Simd::splat(b'%'));
-        let commas = percents | lanes.simd_eq(Simd::splat(b','));
-        let others = commas | lanes.simd_eq(Simd::splat(b'='));
-        others.to_bitmask()
-    }
-
-    #[inline(always)]
-    fn contains(self, byte: u8) -> bool {
-        byte <= b'=' && matches!(byte, 0 | b'\t' | b'\n' | b'\r' | b' ' | b'%' | b',' | b'=')
-    }
+/// The offset of the first byte that must be escaped.
+fn find_escape(bytes: &[u8]) -> Option<usize>
+    ensures { result ≡ position (λ byte. not (spec.stands_for_itself byte)) bytes.now }
+{
+    bytes.iter().position(|byte| must_be_escaped(*byte))
 }
 
 /// The character that 1 to 8 hexadecimal digits name, which is not U+0000.

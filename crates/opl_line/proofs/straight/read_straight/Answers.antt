@@ -37,6 +37,6 @@ returns c =
     let value : IfOk c.of_sound_data.result (λ v. v ≡ version_of head.id head.meta body) = rw same at c.of_sound_data.ensures.value in
     let R : VersionData → Type 0 = λ v. reading_line c.args.line.now ≡ Ok (Some v) in
     let made = both IsVersion (λ v. v ≡ version_of head.id head.meta body) R
-        (is_read c.args.line.now c.in_ok-head.behind.now head.kind head.id head.is_deleted head.meta body c.in_ok-head.ensures c.in_ok-body.ensures some dated)
-        c.of_sound_data.result c.of_sound_data.ensures.valid value in
+    (is_read c.args.line.now c.in_ok-head.behind.now head.kind head.id head.is_deleted head.meta body c.in_ok-head.ensures c.in_ok-body.ensures some dated)
+    c.of_sound_data.result c.of_sound_data.ensures.valid value in
     subst (λ o. IfSome o R) (sym c.ok.ensures.value) (of_made R c.of_sound_data.result made)
