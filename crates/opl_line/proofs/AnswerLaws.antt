@@ -9,7 +9,8 @@ pub record Both {X Y : Type 0} (first : Result X OplReason) (next : X → Result
   pub done : first ≡ Ok between
   pub then_done : next between ≡ Ok y
 
-pub both : {X Y : Type 0} (first : Result X OplReason) (next : X → Result Y OplReason) (y : Y) → and_then first next ≡ Ok y → Both first next y
+pub both : {X Y : Type 0} (first : Result X OplReason) (next : X → Result Y OplReason) (y : Y) → and_then first next ≡ Ok y →
+    Both first next y
 both (Ok x) next y e = record { between = x; done = refl; then_done = e }
 both (Err reason) next y e = cc
 

@@ -1,5 +1,6 @@
 -- Sixty-four bytes that are ASCII.
-use Rattle.std.proofs.Common.{◌≡◌, ℕ, ◌+◌, ◌-◌, ◌%◌, ◌^◌, ◌<◌, ◌≤◌, not, cond, leb, List, length, get_or, map, replicate, sym, ◌∙◌, arith, inl, inr}
+use Rattle.std.proofs.Common.{◌≡◌, ℕ, ◌+◌, ◌-◌, ◌%◌, ◌^◌, ◌<◌, ◌≤◌, not, cond, leb, List, length, get_or, map, replicate, sym, ◌∙◌, arith}
+use Rattle.std.proofs.Common.{inl, inr}
 use Rattle.std.proofs.lemmas.Bool.{cases_lt, leb-false}
 use Rattle.std.proofs.lemmas.Simd.{leading_from_mask_l, run_in_chunk_fails}
 use Rattle.std.proofs.lemmas.Str.Ascii.{IsAscii-from_reads}
@@ -19,16 +20,22 @@ module _ (v : List ℕ) (long : length v ≡ 64) where
 
   pub none_high : highs ≡ 0 → 64 ≡ prefix_len (λ b. not (leb 128 b)) v
   none_high none =
-      let told : highs ≡ mask_l (map (leb 128) v) = marked (leb 128) v (splat_left (λ x y. cond (leb x y) 255 0) 128 v 64 long) (omega (arith, long)) in
+      let told : highs ≡ mask_l (map (leb 128) v) = marked (leb 128) v (splat_left (λ x y. cond (leb x y) 255 0) 128 v 64 long)
+      (omega (arith, long)) in
       sym (leading_from_mask_l (leb 128) v (sym told ∙ none) ∙ long)
 
-pub ascii_there : (bytes : List ℕ) (from : ℕ) → from + 64 ≤ length bytes → 64 ≡ prefix_len (λ b. not (leb 128 b)) (chunk from 64 bytes) → AsciiBetween bytes from (from + 64)
-ascii_there bytes from room counted place late less = leb-false 128 _ (run_in_chunk_fails (leb 128) bytes from 64 64 0 room counted place late less)
+pub ascii_there : (bytes : List ℕ) (from : ℕ) → from + 64 ≤ length bytes → 64 ≡ prefix_len (λ b. not (leb 128 b)) (chunk from 64 bytes) →
+    AsciiBetween bytes from (from + 64)
+ascii_there bytes from room counted place late less =
+    leb-false 128 _ (run_in_chunk_fails (leb 128) bytes from 64 64 0 room counted place late less)
 
-pub ascii_more : (bytes : List ℕ) (seen : ℕ) → AsciiBetween bytes 0 seen → AsciiBetween bytes seen (seen + 64) → AsciiBetween bytes 0 (seen + 64)
-ascii_more bytes seen front more place low less = elim (cases_lt place seen) [ inl early ↦ front place low early | inr late ↦ more place late less ]
+pub ascii_more : (bytes : List ℕ) (seen : ℕ) → AsciiBetween bytes 0 seen → AsciiBetween bytes seen (seen + 64) →
+    AsciiBetween bytes 0 (seen + 64)
+ascii_more bytes seen front more place low less = elim
+    (cases_lt place seen) [ inl early ↦ front place low early | inr late ↦ more place late less ]
 
-pub ascii_whole : (bytes : List ℕ) (seen : ℕ) → 64 ≤ length bytes → length bytes ≤ seen + 64 → AsciiBetween bytes 0 seen → AsciiBetween bytes (length bytes - 64) (length bytes - 64 + 64) → IsAscii bytes
+pub ascii_whole : (bytes : List ℕ) (seen : ℕ) → 64 ≤ length bytes → length bytes ≤ seen + 64 → AsciiBetween bytes 0 seen →
+    AsciiBetween bytes (length bytes - 64) (length bytes - 64 + 64) → IsAscii bytes
 ascii_whole bytes seen some few front last =
     IsAscii-from_reads bytes (length bytes) (omega arith) (λ place less. elim (cases_lt place seen) [
       | inl early ↦ front place (omega arith) early

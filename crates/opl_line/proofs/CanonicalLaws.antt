@@ -1,5 +1,6 @@
 -- Numbers, ids and texts that are written are read back.
-use Rattle.std.proofs.Common.{◌≡◌, ℕ, pos, negsuc, zero, suc, ◌+◌, ◌*◌, ◌/◌, ◌%◌, ◌^◌, ◌<◌, ◌≤◌, Bool, true, false, cond, eqb, ◌&&◌, List, [], ◌∷◌, ◌++◌, length, replicate, fold, Ok, Err, refl, sym, ap, ◌∙◌, subst, arith, ⊎_elim}
+use Rattle.std.proofs.Common.{◌≡◌, ℕ, pos, negsuc, zero, suc, ◌+◌, ◌*◌, ◌/◌, ◌%◌, ◌^◌, ◌<◌, ◌≤◌, Bool, true, false, cond, eqb, ◌&&◌, List}
+use Rattle.std.proofs.Common.{[], ◌∷◌, ◌++◌, length, replicate, fold, Ok, Err, refl, sym, ap, ◌∙◌, subst, arith, ⊎_elim}
 use Rattle.std.proofs.lemmas.Bool.{and_parts, cases_lt, le-leb, ltb-true}
 use Rattle.std.proofs.Math.Nat.{mul-le-mul_right}
 use Rattle.std.proofs.lemmas.Bool.Decides.{nat_tests}
@@ -22,7 +23,8 @@ pub record IsRead (base : ℕ) (step : ℕ → ℕ → ℕ) (is_one : ℕ → Bo
   pub digits : list_all is_one text ≡ true
   pub some : 0 < length text
 
-module _ (base : ℕ) (step : ℕ → ℕ → ℕ) (is_one : ℕ → Bool) (low : 2 ≤ base) (steps : (n d : ℕ) → d < base → step n (digit_char d) ≡ base * n + d) (ones : (d : ℕ) → d < base → is_one (digit_char d) ≡ true) where
+module _ (base : ℕ) (step : ℕ → ℕ → ℕ) (is_one : ℕ → Bool) (low : 2 ≤ base)
+    (steps : (n d : ℕ) → d < base → step n (digit_char d) ≡ base * n + d) (ones : (d : ℕ) → d < base → is_one (digit_char d) ≡ true) where
   one_digit : (n : ℕ) → n < base → IsRead base step is_one n (numeral base n)
   one_digit n small =
       let P : List ℕ → Type 0 = IsRead base step is_one n in
@@ -32,24 +34,30 @@ module _ (base : ℕ) (step : ℕ → ℕ → ℕ) (is_one : ℕ → Bool) (low 
         some = omega arith;
       })
 
-  more_digits : (n : ℕ) → base ≤ n → IsRead base step is_one (n / base) (numeral base (n / base)) → IsRead base step is_one n (numeral base n)
+  more_digits : (n : ℕ) → base ≤ n → IsRead base step is_one (n / base) (numeral base (n / base)) →
+      IsRead base step is_one n (numeral base n)
   more_digits n large front =
       let P : List ℕ → Type 0 = IsRead base step is_one n in
       let some : 0 < base = omega arith in
       let last : n % base < base = omega arith in
       subst P (sym (numeral-step base n low large)) (record {
-        value = fold_push step 0 (numeral base (n / base)) (digit_char (n % base)) ∙ ap (λ v. step v (digit_char (n % base))) front.value ∙ steps (n / base) (n % base) last ∙ (let e : base * (n / base) + n % base ≡ n = omega arith in e);
-        digits = list_all-append is_one (numeral base (n / base)) (digit_char (n % base) ∷ []) ∙ (λ i. front.digits i && (ones (n % base) last i && true));
+        value = fold_push step 0 (numeral base (n / base)) (digit_char (n % base)) ∙ ap (λ v. step v (digit_char (n % base))) front.value
+            ∙ steps (n / base) (n % base) last ∙ (let e : base * (n / base) + n % base ≡ n = omega arith in e);
+        digits = list_all-append is_one (numeral base (n / base)) (digit_char (n % base) ∷ [])
+            ∙ (λ i. front.digits i && (ones (n % base) last i && true));
         some = omega (arith, length-append (numeral base (n / base)) (digit_char (n % base) ∷ []));
       })
 
   pub is_read : (most n : ℕ) → n ≤ most → IsRead base step is_one n (numeral base n)
   is_read zero n few = one_digit n (omega arith)
   is_read (suc most) n few =
-      ⊎_elim (one_digit n) (λ large. more_digits n large (is_read most (n / base) (let product : 2 * (n / base) ≤ base * (n / base) = mul-le-mul_right (n / base) low in let whole : base * (n / base) + n % base ≡ n = omega arith in omega arith))) (cases_lt n base)
+      ⊎_elim (one_digit n) (λ large. more_digits n large
+      (is_read most (n / base) (let product : 2 * (n / base) ≤ base * (n / base) = mul-le-mul_right (n / base) low in
+      let whole : base * (n / base) + n % base ≡ n = omega arith in omega arith))) (cases_lt n base)
 
 -- zeros in front
-pub zeros_read : (base : ℕ) (step : ℕ → ℕ → ℕ) (is_one : ℕ → Bool) (k n : ℕ) (text : List ℕ) → step 0 48 ≡ 0 → is_one 48 ≡ true → IsRead base step is_one n text → IsRead base step is_one n (replicate k 48 ++ text)
+pub zeros_read : (base : ℕ) (step : ℕ → ℕ → ℕ) (is_one : ℕ → Bool) (k n : ℕ) (text : List ℕ) → step 0 48 ≡ 0 → is_one 48 ≡ true →
+    IsRead base step is_one n text → IsRead base step is_one n (replicate k 48 ++ text)
 zeros_read base step is_one zero n text none one is = is
 zeros_read base step is_one (suc k) n text none one is =
     let rest = zeros_read base step is_one k n text none one is in

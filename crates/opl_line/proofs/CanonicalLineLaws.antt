@@ -1,5 +1,6 @@
 -- A line that was parsed from left to right is read as its version.
-use Rattle.std.proofs.Common.{◌≡◌, ℕ, ℤ, Bool, true, false, eqb, ◌&&◌, List, [], ◌∷◌, ◌++◌, None, Some, Ok, refl, sym, ap, ◌∙◌, subst, append_assoc}
+use Rattle.std.proofs.Common.{◌≡◌, ℕ, ℤ, Bool, true, false, eqb, ◌&&◌, List, [], ◌∷◌, ◌++◌, None, Some, Ok, refl, sym, ap, ◌∙◌, subst}
+use Rattle.std.proofs.Common.{append_assoc}
 use Rattle.std.proofs.lemmas.Bool.{and_parts}
 use Rattle.std.proofs.lemmas.List.Folds.{list_all-append}
 use Rattle.std.specs.List.{list_all}
@@ -26,51 +27,82 @@ use Rattle.opl_line.proofs.MadeLaws.{Passes, without_fault, made}
 use Rattle.opl_line.proofs.WholeLineLaws.{data_is_read}
 
 -- items that are valid have valid parts
-valid_tags : (tags : List Tag) → list_all (λ tag. is_text tag.key && is_text tag.value) tags ≡ true → list_all is_text (texts_of_tags tags) ≡ true
+valid_tags : (tags : List Tag) → list_all (λ tag. is_text tag.key && is_text tag.value) tags ≡ true →
+    list_all is_text (texts_of_tags tags) ≡ true
 valid_tags [] all = refl
 valid_tags (t ∷ ts) all =
     let parts = and_parts (is_text t.key && is_text t.value) (list_all (λ tag. is_text tag.key && is_text tag.value) ts) all in
     let texts = and_parts (is_text t.key) (is_text t.value) parts.0 in
     λ i. texts.0 i && (texts.1 i && valid_tags ts parts.1 i)
 
-valid_ids : (members : List Member) → list_all (λ member. is_id member.id && is_text member.role) members ≡ true → list_all is_id (ids_of_members members) ≡ true
+valid_ids : (members : List Member) → list_all (λ member. is_id member.id && is_text member.role) members ≡ true →
+    list_all is_id (ids_of_members members) ≡ true
 valid_ids [] all = refl
 valid_ids (m ∷ ms) all =
     let parts = and_parts (is_id m.id && is_text m.role) (list_all (λ member. is_id member.id && is_text member.role) ms) all in
     λ i. (and_parts (is_id m.id) (is_text m.role) parts.0).0 i && valid_ids ms parts.1 i
 
-valid_roles : (members : List Member) → list_all (λ member. is_id member.id && is_text member.role) members ≡ true → list_all is_text (roles_of members) ≡ true
+valid_roles : (members : List Member) → list_all (λ member. is_id member.id && is_text member.role) members ≡ true →
+    list_all is_text (roles_of members) ≡ true
 valid_roles [] all = refl
 valid_roles (m ∷ ms) all =
     let parts = and_parts (is_id m.id && is_text m.role) (list_all (λ member. is_id member.id && is_text member.role) ms) all in
     λ i. (and_parts (is_id m.id) (is_text m.role) parts.0).1 i && valid_roles ms parts.1 i
 
 -- the tags, and what stands behind them
-module _ (text from_tags behind : List ℕ) (k : Kind) (deleted : Bool) (tags : List Tag) (marked : text ≡ 32 ∷ 84 ∷ from_tags) (listed : from_tags ≡ list_text tag_text tags ++ behind) (visible : deleted ≡ false) (all : list_all (λ tag. is_text tag.key && is_text tag.value) tags ≡ true) where
+module _ (text from_tags behind : List ℕ) (k : Kind) (deleted : Bool) (tags : List Tag) (marked : text ≡ 32 ∷ 84 ∷ from_tags)
+    (listed : from_tags ≡ list_text tag_text tags ++ behind) (visible : deleted ≡ false)
+    (all : list_all (λ tag. is_text tag.key && is_text tag.value) tags ≡ true) where
   spelled_behind : (rest : List ℕ) → behind ≡ rest → text ≡ 32 ∷ 84 ∷ (list_text tag_text tags ++ rest)
   spelled_behind rest is = marked ∙ ap (λ t. 32 ∷ 84 ∷ t) (listed ∙ ap (λ t. list_text tag_text tags ++ t) is)
 
   pub node_tail : (lon lat : ℤ) → k ≡ kind.Node → behind ≡ location_text lon lat → IsTail text k deleted (Node lon lat tags)
   node_tail lon lat is located =
-      record { spelled = spelled_behind (location_text lon lat) located; same_kind = sym is; same_deleted = sym visible; ids = refl; texts = valid_tags tags all }
+      record {
+        spelled = spelled_behind (location_text lon lat) located;
+        same_kind = sym is;
+        same_deleted = sym visible;
+        ids = refl;
+        texts =
+            valid_tags tags all;
+      }
 
-  pub way_tail : (refs : List ℤ) (rest : List ℕ) → k ≡ kind.Way → behind ≡ 32 ∷ 78 ∷ rest → rest ≡ list_text reference_text refs → list_all is_id refs ≡ true → IsTail text k deleted (Way refs tags)
+  pub way_tail : (refs : List ℤ) (rest : List ℕ) → k ≡ kind.Way → behind ≡ 32 ∷ 78 ∷ rest → rest ≡ list_text reference_text refs →
+      list_all is_id refs ≡ true → IsTail text k deleted (Way refs tags)
   way_tail refs rest is mark list valid =
-      record { spelled = spelled_behind (32 ∷ 78 ∷ list_text reference_text refs) (mark ∙ ap (λ t. 32 ∷ 78 ∷ t) list); same_kind = sym is; same_deleted = sym visible; ids = valid; texts = valid_tags tags all }
+      record {
+        spelled = spelled_behind (32 ∷ 78 ∷ list_text reference_text refs) (mark ∙ ap (λ t. 32 ∷ 78 ∷ t) list);
+        same_kind = sym is;
+        same_deleted = sym visible;
+        ids = valid;
+        texts = valid_tags tags all;
+      }
 
-  pub relation_tail : (members : List Member) (rest : List ℕ) → k ≡ kind.Relation → behind ≡ 32 ∷ 77 ∷ rest → rest ≡ list_text member_text members → list_all (λ member. is_id member.id && is_text member.role) members ≡ true → IsTail text k deleted (Relation members tags)
+  pub relation_tail : (members : List Member) (rest : List ℕ) → k ≡ kind.Relation → behind ≡ 32 ∷ 77 ∷ rest →
+      rest ≡ list_text member_text members → list_all (λ member. is_id member.id && is_text member.role) members ≡ true →
+      IsTail text k deleted (Relation members tags)
   relation_tail members rest is mark list valid =
       record {
         spelled = spelled_behind (32 ∷ 77 ∷ list_text member_text members) (mark ∙ ap (λ t. 32 ∷ 77 ∷ t) list);
         same_kind = sym is;
         same_deleted = sym visible;
         ids = valid_ids members valid;
-        texts = list_all-append is_text (roles_of members) (texts_of_tags tags) ∙ (λ i. valid_roles members valid i && valid_tags tags all i);
+        texts = list_all-append is_text (roles_of members) (texts_of_tags tags)
+            ∙ (λ i. valid_roles members valid i && valid_tags tags all i);
       }
 
 -- the data of a line, with its tags in their order in the line
 abbrev data_of_line : ℤ → Meta → Body → VersionData
-data_of_line id meta b = record { id = id; number = meta.version; time = meta.time; changeset = meta.changeset; uid = meta.uid; user = meta.user; body = b }
+data_of_line id meta b = record {
+  id = id;
+  number = meta.version;
+  time = meta.time;
+  changeset = meta.changeset;
+  uid = meta.uid;
+  user =
+      meta.user;
+  body = b;
+}
 
 whole_text : (id : ℤ) (meta : Meta) (b : Body) → head_text (kind_of b) id (is_deleted b) meta ++ tail_text b ≡ line (data_of_line id meta b)
 whole_text id meta b = sym (line-parts (data_of_line id meta b) ∙ simp append_assoc)
@@ -82,7 +114,8 @@ in_range (Way refs tags) h = h
 in_range (Relation members tags) h = h
 
 -- a line that was parsed from left to right
-module _ (text behind : List ℕ) (k : Kind) (id : ℤ) (deleted : Bool) (meta : Meta) (b : Body) (head : IsHead text k id deleted meta behind) (tail : IsTail behind k deleted b) (some : eqb meta.version 0 ≡ false) (dated : is_dated meta ≡ true) where
+module _ (text behind : List ℕ) (k : Kind) (id : ℤ) (deleted : Bool) (meta : Meta) (b : Body) (head : IsHead text k id deleted meta behind)
+    (tail : IsTail behind k deleted b) (some : eqb meta.version 0 ≡ false) (dated : is_dated meta ≡ true) where
   passes : Passes id meta b
   passes =
       record {

@@ -1,5 +1,6 @@
 -- What is read of a number in its one form is written so again.
-use Rattle.std.proofs.Common.{◌≡◌, ◌≢◌, ℕ, ℤ, zero, suc, ◌+◌, ◌-◌, ◌*◌, ◌/◌, ◌%◌, ◌^◌, ◌<◌, ◌≤◌, Bool, true, false, eqb, List, [], ◌∷◌, ◌++◌, length, take, drop, get_or, cond, leb, ◌⊎◌, ⊎_elim, Ok, Err, refl, sym, ap, ◌∙◌, arith, append_assoc}
+use Rattle.std.proofs.Common.{◌≡◌, ◌≢◌, ℕ, ℤ, zero, suc, ◌+◌, ◌-◌, ◌*◌, ◌/◌, ◌%◌, ◌^◌, ◌<◌, ◌≤◌, Bool, true, false, eqb, List, [], ◌∷◌}
+use Rattle.std.proofs.Common.{◌++◌, length, take, drop, get_or, cond, leb, ◌⊎◌, ⊎_elim, Ok, Err, refl, sym, ap, ◌∙◌, arith, append_assoc}
 use Rattle.std.proofs.lemmas.Bool.{and_parts, leb-true, eqb-true, false≢true}
 use Rattle.std.proofs.lemmas.Bool.Decides.{nat_tests}
 use Rattle.std.proofs.Math.Nat.{pow-succ', pow-le-pow_right, mul-pos, mul-lt-mul_of_pos_right}
@@ -46,19 +47,22 @@ number_more n d some is =
     let high = range.high in
     let front : with_digit n d / 10 ≡ n = omega arith in
     let last : with_digit n d % 10 ≡ d - 48 = omega arith in
-    numeral-step 10 (with_digit n d) (omega arith) (omega arith) ∙ (λ i. numeral 10 (front i) ++ (ap digit_char last ∙ digit_back d is) i ∷ [])
+    numeral-step 10 (with_digit n d) (omega arith) (omega arith)
+    ∙ (λ i. numeral 10 (front i) ++ (ap digit_char last ∙ digit_back d is) i ∷ [])
 
 numbers_more : (n : ℕ) (ds : List ℕ) → 0 < n → list_all is_ascii_digit ds ≡ true → number_text (fold with_digit n ds) ≡ number_text n ++ ds
 numbers_more n [] some all = sym (append-nil (number_text n))
 numbers_more n (d ∷ ds) some all =
     let parts = and_parts (is_ascii_digit d) (list_all is_ascii_digit ds) all in
-    numbers_more (with_digit n d) ds (omega arith) parts.1 ∙ ap (λ t. t ++ ds) (number_more n d some parts.0) ∙ append_assoc (number_text n) (d ∷ []) ds
+    numbers_more (with_digit n d) ds (omega arith) parts.1 ∙ ap (λ t. t ++ ds) (number_more n d some parts.0)
+    ∙ append_assoc (number_text n) (d ∷ []) ds
 
 positive_first : (d : ℕ) → 48 ≤ d → d ≢ 48 → 0 < with_digit 0 d
 positive_first d low apart = grind arith
 
 -- digits of which the first is no zero, or a digit alone
-pub numeral_text : (ds : List ℕ) → 0 < length ds → list_all is_ascii_digit ds ≡ true → (1 < length ds → get_or ds 0 0 ≢ 48) → number_text (decimal_value ds) ≡ ds
+pub numeral_text : (ds : List ℕ) → 0 < length ds → list_all is_ascii_digit ds ≡ true → (1 < length ds → get_or ds 0 0 ≢ 48) →
+    number_text (decimal_value ds) ≡ ds
 numeral_text [] some all first = absurd (omega arith)
 numeral_text (d ∷ []) some all first = number_one d (and_parts (is_ascii_digit d) true all).0
 numeral_text (d ∷ e ∷ es) some all first =
@@ -69,7 +73,8 @@ numeral_text (d ∷ e ∷ es) some all first =
     let more : 0 < with_digit 0 d = positive_first d low apart in
     numbers_more (with_digit 0 d) (e ∷ es) more parts.1 ∙ ap (λ t. t ++ e ∷ es) (number_one d parts.0)
 
-next_decimal : (width n d : ℕ) → is_ascii_digit d ≡ true → padded (suc (suc width)) (number_text (with_digit n d)) ≡ padded (suc width) (number_text n) ++ d ∷ []
+next_decimal : (width n d : ℕ) → is_ascii_digit d ≡ true →
+    padded (suc (suc width)) (number_text (with_digit n d)) ≡ padded (suc width) (number_text n) ++ d ∷ []
 unfolding number_text
 next_decimal width n d is =
     let range = digit d is in
@@ -77,10 +82,12 @@ next_decimal width n d is =
     let high = range.high in
     let front : with_digit n d / 10 ≡ n = omega arith in
     let last : with_digit n d % 10 ≡ d - 48 = omega arith in
-    padded-step 10 width (with_digit n d) (omega arith) ∙ (λ i. padded (suc width) (numeral 10 (front i)) ++ (ap digit_char last ∙ digit_back d is) i ∷ [])
+    padded-step 10 width (with_digit n d) (omega arith)
+    ∙ (λ i. padded (suc width) (numeral 10 (front i)) ++ (ap digit_char last ∙ digit_back d is) i ∷ [])
 
 -- decimals, with the zeros before them
-decimals_more : (width n : ℕ) (ds : List ℕ) → list_all is_ascii_digit ds ≡ true → padded (length ds + suc width) (number_text (fold with_digit n ds)) ≡ padded (suc width) (number_text n) ++ ds
+decimals_more : (width n : ℕ) (ds : List ℕ) → list_all is_ascii_digit ds ≡ true →
+    padded (length ds + suc width) (number_text (fold with_digit n ds)) ≡ padded (suc width) (number_text n) ++ ds
 decimals_more width n [] all =
     let same : 0 + suc width ≡ suc width = omega arith in
     ap (λ w. padded w (number_text n)) same ∙ sym (append-nil _)
@@ -111,7 +118,8 @@ decimals_are (d ∷ ds) some all =
     ∙ ap (λ t. t ++ ds) (first_decimal d parts.0)
 
 power_some : (k : ℕ) → 0 < 10 ^ k
-power_some k = let some : 0 < 10 = omega arith in let low : 0 ≤ k = omega arith in let power : 10 ^ 0 ≤ 10 ^ k = pow-le-pow_right some low in omega arith
+power_some k = let some : 0 < 10 = omega arith in let low : 0 ≤ k = omega arith in
+    let power : 10 ^ 0 ≤ 10 ^ k = pow-le-pow_right some low in omega arith
 
 times : (a b : ℕ) → a * (10 * b) ≡ 10 * (a * b)
 times a b = grind arith
@@ -123,11 +131,14 @@ scaled_below : (zeros places digits : ℕ) → digits < 10 ^ places → 10 * (di
 scaled_below zeros places digits fits =
     let less : digits * 10 ^ zeros < 10 ^ places * 10 ^ zeros = mul-lt-mul_of_pos_right fits (power_some zeros) in
     let order : suc zeros + places ≡ suc (places + zeros) = omega arith in
-    let all : 10 ^ (suc zeros + places) ≡ 10 * (10 ^ places * 10 ^ zeros) = ap (λ k. 10 ^ k) order ∙ pow-succ' 10 (places + zeros) ∙ ap (λ n. 10 * n) (pow-add 10 places zeros) in
+    let all : 10 ^ (suc zeros + places) ≡ 10 * (10 ^ places * 10 ^ zeros) = ap (λ k. 10 ^ k) order ∙ pow-succ' 10 (places + zeros)
+    ∙ ap (λ n. 10 * n) (pow-add 10 places zeros) in
     rw all (omega arith)
 
 -- decimals, and as many zeros behind them as there is room for
-scaled : (zeros places digits : ℕ) → 0 < digits → digits < 10 ^ places → without_last_zeros (padded (zeros + places) (number_text (digits * 10 ^ zeros))) ≡ without_last_zeros (padded places (number_text digits))
+scaled : (zeros places digits : ℕ) → 0 < digits → digits < 10 ^ places →
+    without_last_zeros (padded (zeros + places) (number_text (digits * 10 ^ zeros)))
+    ≡ without_last_zeros (padded places (number_text digits))
 scaled zero places digits some fits =
     let same : digits * 10 ^ 0 ≡ digits = omega arith in
     let width : zero + places ≡ places = omega arith in
@@ -138,7 +149,8 @@ scaled (suc zeros) places digits some fits =
     let wide : digits * 10 ^ suc zeros ≡ 10 * n = rw power (times digits (10 ^ zeros)) in
     let front : 10 * n / 10 ≡ n = omega arith in
     let less : suc zeros + places - 1 ≡ zeros + places = omega arith in
-    let step = fraction_next (suc zeros + places) (10 * n) (several digits zeros some) (scaled_below zeros places digits fits) (omega arith) in
+    let step = fraction_next (suc zeros + places) (10 * n) (several digits zeros some) (scaled_below zeros places digits fits)
+    (omega arith) in
     ap (λ k. without_last_zeros (padded (suc zeros + places) (number_text k))) wide
     ∙ step.2
     ∙ (λ i. without_last_zeros (padded (less i) (number_text (front i))))
@@ -149,7 +161,8 @@ positive_last zero last = absurd (last refl)
 positive_last (suc v) last = omega arith
 
 -- decimals of which the last is no zero
-pub fraction_read : (ds : List ℕ) → length ds ≤ 7 → list_all is_ascii_digit ds ≡ true → decimal_value ds % 10 ≢ 0 → fraction_text (decimal_value ds * 10 ^ (7 - length ds)) ≡ 46 ∷ ds
+pub fraction_read : (ds : List ℕ) → length ds ≤ 7 → list_all is_ascii_digit ds ≡ true → decimal_value ds % 10 ≢ 0 →
+    fraction_text (decimal_value ds * 10 ^ (7 - length ds)) ≡ 46 ∷ ds
 fraction_read [] few all last = absurd (last refl)
 fraction_read (d ∷ ds) few all last =
     let k = length (d ∷ ds) in
@@ -159,7 +172,8 @@ fraction_read (d ∷ ds) few all last =
     let wide : 7 - k + k ≡ 7 = omega arith in
     let same : without_last_zeros (padded 7 (number_text (v * 10 ^ (7 - k)))) ≡ without_last_zeros (padded k (number_text v)) =
     ap (λ w. without_last_zeros (padded w (number_text (v * 10 ^ (7 - k))))) (sym wide) ∙ scaled (7 - k) k v some fits in
-    fraction_is k v (v * 10 ^ (7 - k)) (mul-pos some (power_some (7 - k))) fits last (sym same) ∙ ap (λ t. 46 ∷ t) (decimals_are (d ∷ ds) (omega arith) all)
+    fraction_is k v (v * 10 ^ (7 - k)) (mul-pos some (power_some (7 - k))) fits last (sym same)
+    ∙ ap (λ t. 46 ∷ t) (decimals_are (d ∷ ds) (omega arith) all)
 
 pub fraction_below : (v k : ℕ) → k ≤ 7 → v < 10 ^ k → v * 10 ^ (7 - k) < 10_000_000
 fraction_below v k few fits =
@@ -168,7 +182,8 @@ fraction_below v k few fits =
     let all : 10 ^ k * 10 ^ (7 - k) ≡ 10_000_000 = sym (pow-add 10 k (7 - k)) ∙ ap (λ w. 10 ^ w) wide in
     rw all at less
 
-pub degrees_read : (whole units : ℕ) → units < 10_000_000 → degrees_text (whole * 10_000_000 + units) ≡ number_text whole ++ fraction_text units
+pub degrees_read : (whole units : ℕ) → units < 10_000_000 →
+    degrees_text (whole * 10_000_000 + units) ≡ number_text whole ++ fraction_text units
 unfolding degrees_text
 degrees_read whole units small =
     let front : (whole * 10_000_000 + units) / 10_000_000 ≡ whole = omega arith in
@@ -192,20 +207,23 @@ sign_split (b ∷ bs) =
       | false ↦ λ is. refl
     ] refl
 
-integer_signed : (negative : Bool) (n : ℕ) → (negative ≡ true → 0 < n) → integer_text (signed negative n) ≡ sign_of negative ++ number_text n
+integer_signed : (negative : Bool) (n : ℕ) → (negative ≡ true → 0 < n) →
+    integer_text (signed negative n) ≡ sign_of negative ++ number_text n
 unfolding integer_text sign_of
 integer_signed true zero some = absurd (omega (arith, some refl))
 integer_signed true (suc n) some = refl
 integer_signed false n some = refl
 
-coordinate_signed : (negative : Bool) (n : ℕ) → (negative ≡ true → 0 < n) → coordinate_text (signed negative n) ≡ sign_of negative ++ degrees_text n
+coordinate_signed : (negative : Bool) (n : ℕ) → (negative ≡ true → 0 < n) →
+    coordinate_text (signed negative n) ≡ sign_of negative ++ degrees_text n
 unfolding coordinate_text sign_of
 coordinate_signed true zero some = absurd (omega (arith, some refl))
 coordinate_signed true (suc n) some = refl
 coordinate_signed false n some = refl
 
 -- a sign stands before a number above 0
-pub some_signed : (negative told : Bool) (n : ℕ) → negative ≡ told → (negative ≡ true × (n ≡ 0 → ⊥)) ⊎ (negative ≡ false) → told ≡ true → 0 < n
+pub some_signed : (negative told : Bool) (n : ℕ) → negative ≡ told → (negative ≡ true × (n ≡ 0 → ⊥)) ⊎ (negative ≡ false) → told ≡ true →
+    0 < n
 some_signed negative told n same either is = ⊎_elim (λ other. above n other.1) (λ none. absurd (false≢true (sym none ∙ same ∙ is))) either
   where
     above : (n : ℕ) → (n ≡ 0 → ⊥) → 0 < n
@@ -214,18 +232,23 @@ some_signed negative told n same either is = ⊎_elim (λ other. above n other.1
 
 pub place_is : (negative : Bool) (n : ℕ) (place : ℤ) → reading_units negative n ≡ Ok place → signed negative n ≡ place
 place_is negative n place e =
-    elim (leb n (cond negative 2_147_483_648 2_147_483_647)) as (λ t. cond t (Ok (signed negative n)) (Err OutOfRange) ≡ Ok place → signed negative n ≡ place) [
+    elim (leb n (cond negative 2_147_483_648 2_147_483_647)) as
+    (λ t. cond t (Ok (signed negative n)) (Err OutOfRange) ≡ Ok place → signed negative n ≡ place) [
       | true ↦ λ read. cc
       | false ↦ λ read. cc
     ] e
 
-pub integer_read : (text behind : List ℕ) (n : ℕ) → (is_negative text ≡ true → 0 < n) → without_sign text ≡ number_text n ++ behind → text ≡ integer_text (signed (is_negative text) n) ++ behind
+pub integer_read : (text behind : List ℕ) (n : ℕ) → (is_negative text ≡ true → 0 < n) → without_sign text ≡ number_text n ++ behind →
+    text ≡ integer_text (signed (is_negative text) n) ++ behind
 integer_read text behind n some is =
-    sign_split text ∙ ap (λ t. sign_of (is_negative text) ++ t) is ∙ sym (append_assoc (sign_of (is_negative text)) (number_text n) behind) ∙ ap (λ t. t ++ behind) (sym (integer_signed (is_negative text) n some))
+    sign_split text ∙ ap (λ t. sign_of (is_negative text) ++ t) is ∙ sym (append_assoc (sign_of (is_negative text)) (number_text n) behind)
+    ∙ ap (λ t. t ++ behind) (sym (integer_signed (is_negative text) n some))
 
-pub place_read : (text behind : List ℕ) (n : ℕ) → (is_negative text ≡ true → 0 < n) → without_sign text ≡ degrees_text n ++ behind → text ≡ coordinate_text (signed (is_negative text) n) ++ behind
+pub place_read : (text behind : List ℕ) (n : ℕ) → (is_negative text ≡ true → 0 < n) → without_sign text ≡ degrees_text n ++ behind →
+    text ≡ coordinate_text (signed (is_negative text) n) ++ behind
 place_read text behind n some is =
-    sign_split text ∙ ap (λ t. sign_of (is_negative text) ++ t) is ∙ sym (append_assoc (sign_of (is_negative text)) (degrees_text n) behind) ∙ ap (λ t. t ++ behind) (sym (coordinate_signed (is_negative text) n some))
+    sign_split text ∙ ap (λ t. sign_of (is_negative text) ++ t) is ∙ sym (append_assoc (sign_of (is_negative text)) (degrees_text n) behind)
+    ∙ ap (λ t. t ++ behind) (sym (coordinate_signed (is_negative text) n some))
 
 -- the first of several bytes
 pub no_zero : (text : List ℕ) (count : ℕ) → get_or text 0 0 ≢ 48 → 1 < length (take count text) → get_or (take count text) 0 0 ≢ 48
@@ -235,26 +258,32 @@ no_zero (b ∷ bs) zero other more = absurd (omega arith)
 no_zero (b ∷ bs) (suc count) other more = other
 
 -- digits write a number below the power of their count
-below_power_of : (digits : List ℕ) (count : ℕ) → list_all is_ascii_digit digits ≡ true → length digits ≡ count → decimal_value digits < 10 ^ count
+below_power_of : (digits : List ℕ) (count : ℕ) → list_all is_ascii_digit digits ≡ true → length digits ≡ count →
+    decimal_value digits < 10 ^ count
 below_power_of [] zero all long = omega arith
 below_power_of [] (suc count) all long = absurd (omega (arith, long))
 below_power_of (d ∷ ds) count all long = numeral_below (d ∷ ds) count (numeral_is (d ∷ ds) (omega arith) all) (omega (arith, long))
 
-pub fraction_fits : (text : List ℕ) (count n scale : ℕ) → count ≤ length text → count ≤ 7 → list_all is_ascii_digit (take count text) ≡ true → n ≡ decimal_value (take count text) → scale ≡ 10 ^ (7 - count) → n * scale < 10_000_000
+pub fraction_fits : (text : List ℕ) (count n scale : ℕ) → count ≤ length text → count ≤ 7 →
+    list_all is_ascii_digit (take count text) ≡ true → n ≡ decimal_value (take count text) → scale ≡ 10 ^ (7 - count) →
+    n * scale < 10_000_000
 fraction_fits text count n scale within few all value by =
     let long : length (take count text) ≡ count = length-take-le count text within in
     let fits : decimal_value (take count text) < 10 ^ count = below_power_of (take count text) count all long in
     rw (value, by) (fraction_below (decimal_value (take count text)) count few fits)
 
 -- a part of a degree behind its point
-pub fraction_front : (text decimals : List ℕ) (count n scale : ℕ) → decimals ≡ drop 1 text → get_or text 0 0 ≡ 46 → count ≤ length decimals → count ≤ 7 → list_all is_ascii_digit (take count decimals) ≡ true →
-    n ≡ decimal_value (take count decimals) → scale ≡ 10 ^ (7 - count) → n % 10 ≢ 0 → text ≡ fraction_text (n * scale) ++ take (length text - (1 + count)) (drop (1 + count) text)
+pub fraction_front : (text decimals : List ℕ) (count n scale : ℕ) → decimals ≡ drop 1 text → get_or text 0 0 ≡ 46 →
+    count ≤ length decimals → count ≤ 7 → list_all is_ascii_digit (take count decimals) ≡ true →
+    n ≡ decimal_value (take count decimals) → scale ≡ 10 ^ (7 - count) → n % 10 ≢ 0 →
+    text ≡ fraction_text (n * scale) ++ take (length text - (1 + count)) (drop (1 + count) text)
 fraction_front [] decimals count n scale is point within few all value by last = absurd (omega (arith, point))
 fraction_front (b ∷ bs) decimals count n scale is point within few all value by last =
     let digits = take count decimals in
     let long : length digits ≡ count = length-take-le count decimals within in
     let units : n * scale ≡ decimal_value digits * 10 ^ (7 - length digits) = rw (value, by, long) refl in
-    let spelled : fraction_text (n * scale) ≡ 46 ∷ digits = ap fraction_text units ∙ fraction_read digits (omega (arith, long)) all (λ e. last (ap (λ v. v % 10) value ∙ e)) in
+    let spelled : fraction_text (n * scale) ≡ 46 ∷ digits = ap fraction_text units
+    ∙ fraction_read digits (omega (arith, long)) all (λ e. last (ap (λ v. v % 10) value ∙ e)) in
     let behind : drop count decimals ≡ take (length (b ∷ bs) - (1 + count)) (drop (1 + count) (b ∷ bs)) =
     ap (drop count) is ∙ drop-drop count 1 (b ∷ bs) ∙ sym (take_rest (b ∷ bs) (1 + count)) in
     ap (λ t. t ∷ bs) point

@@ -1,5 +1,6 @@
 -- Raw characters and escapes at the front of a text.
-use Rattle.std.proofs.Common.{◌≡◌, ℕ, ◌+◌, ◌-◌, ◌*◌, ◌/◌, ◌%◌, ◌<◌, ◌≤◌, Bool, true, false, ◌&&◌, ◌||◌, not, List, [], ◌∷◌, ◌++◌, length, take, drop, get_or, ltb, refl, sym, ap, ◌∙◌, subst, arith, append_assoc, append-nil, length-append, ◌==◌}
+use Rattle.std.proofs.Common.{◌≡◌, ℕ, ◌+◌, ◌-◌, ◌*◌, ◌/◌, ◌%◌, ◌<◌, ◌≤◌, Bool, true, false, ◌&&◌, ◌||◌, not, List, [], ◌∷◌, ◌++◌, length}
+use Rattle.std.proofs.Common.{take, drop, get_or, ltb, refl, sym, ap, ◌∙◌, subst, arith, append_assoc, append-nil, length-append, ◌==◌}
 use Rattle.std.proofs.lemmas.Bool.{and_parts, ltb-true}
 use Rattle.std.proofs.lemmas.Bool.Decides.{nat_tests}
 use Rattle.std.proofs.lemmas.Grind.{flat_map-append}
@@ -38,7 +39,8 @@ raw_more : (c : ℕ) → 0xC0 ≤ c → c < 0x600 → is_raw c ≡ true
 raw_more c low high = grind (arith, nat_tests)
 
 pub latin_pair : (lead next : ℕ) → lead ≡ 0xC2 → 0xA1 ≤ next → next ≤ 0xBF → (next ≡ 0xAD → ⊥) → AreRaw (lead ∷ next ∷ [])
-latin_pair lead next is low high other = raw_two lead next next (omega arith) (omega arith) (raw_latin next low (omega arith) other) (omega arith) (omega arith)
+latin_pair lead next is low high other = raw_two lead next next (omega arith) (omega arith) (raw_latin next low (omega arith) other)
+    (omega arith) (omega arith)
 
 pub other_pair : (lead next : ℕ) → 0xC3 ≤ lead → lead ≤ 0xD7 → 0x80 ≤ next → next ≤ 0xBF → AreRaw (lead ∷ next ∷ [])
 other_pair lead next low high from to =
@@ -46,7 +48,8 @@ other_pair lead next low high from to =
     raw_two lead next c (omega arith) (omega arith) (raw_more c (omega arith) (omega arith)) (omega arith) (omega arith)
 
 raw_byte : (byte : ℕ) → is_raw_byte byte ≡ true → AreRaw (byte ∷ [])
-raw_byte byte raw = let both = and_parts (is_raw byte) (ltb byte 0x80) raw in raw_one byte (byte ∷ []) both.0 (encode_ascii byte (ltb-true byte 0x80 both.1))
+raw_byte byte raw = let both = and_parts (is_raw byte) (ltb byte 0x80) raw in
+    raw_one byte (byte ∷ []) both.0 (encode_ascii byte (ltb-true byte 0x80 both.1))
 
 pub raw_first : (bytes : List ℕ) → 0 < length bytes → is_raw_byte (get_or bytes 0 0) ≡ true → AreRaw (take 1 bytes)
 raw_first [] some raw = absurd (omega arith)
@@ -68,10 +71,12 @@ raw_append front back f b = record {
 -- bytes that are raw characters by themselves
 pub raw_bytes : (bytes : List ℕ) → list_all is_raw_byte bytes ≡ true → AreRaw bytes
 raw_bytes [] raw = raw_none
-raw_bytes (b ∷ bs) raw = let both = and_parts (is_raw_byte b) (list_all is_raw_byte bs) raw in raw_append (b ∷ []) bs (raw_byte b both.0) (raw_bytes bs both.1)
+raw_bytes (b ∷ bs) raw = let both = and_parts (is_raw_byte b) (list_all is_raw_byte bs) raw in
+    raw_append (b ∷ []) bs (raw_byte b both.0) (raw_bytes bs both.1)
 
 pub raw_next : (bytes : List ℕ) (n width : ℕ) → AreRaw (take n bytes) → AreRaw (take width (drop n bytes)) → AreRaw (take (n + width) bytes)
-raw_next bytes n width front back = subst AreRaw (sym (take-add n width bytes)) (raw_append (take n bytes) (take width (drop n bytes)) front back)
+raw_next bytes n width front back = subst AreRaw (sym (take-add n width bytes))
+    (raw_append (take n bytes) (take width (drop n bytes)) front back)
 
 raw_scalar : (c : ℕ) → is_raw c ≡ true → scalar c ≡ true
 raw_scalar c raw = grind (arith, nat_tests)
@@ -85,11 +90,13 @@ raw_not_zero c raw = grind (arith, nat_tests)
 
 raw_no_zero : (cs : List ℕ) → list_all is_raw cs ≡ true → has_zero cs ≡ false
 raw_no_zero [] raw = refl
-raw_no_zero (c ∷ cs) raw = let both = and_parts (is_raw c) (list_all is_raw cs) raw in λ i. raw_not_zero c both.0 i || raw_no_zero cs both.1 i
+raw_no_zero (c ∷ cs) raw = let both = and_parts (is_raw c) (list_all is_raw cs) raw in
+    λ i. raw_not_zero c both.0 i || raw_no_zero cs both.1 i
 
 raw_escape : (cs : List ℕ) → list_all is_raw cs ≡ true → escape cs ≡ encodes cs
 raw_escape [] raw = refl
-raw_escape (c ∷ cs) raw = let both = and_parts (is_raw c) (list_all is_raw cs) raw in λ i. escape_char-raw c both.0 i ++ raw_escape cs both.1 i
+raw_escape (c ∷ cs) raw = let both = and_parts (is_raw c) (list_all is_raw cs) raw in
+    λ i. escape_char-raw c both.0 i ++ raw_escape cs both.1 i
 
 pub raw_utf8 : (bytes : List ℕ) → AreRaw bytes → IsUtf8 bytes
 raw_utf8 bytes raw = (raw.characters, (raw_scalars raw.characters raw.raw, sym raw.spelled))
@@ -117,7 +124,8 @@ pub record IsReadTo (bytes text rest : List ℕ) : Type 0 where
 pub read_nothing : (bytes text : List ℕ) → text ≡ [] → IsReadTo bytes text bytes
 read_nothing bytes text e = record { spelled = ap (λ t. escape t ++ bytes) (sym e); valid = ap is_text e }
 
-read_more : (bytes text rest more form behind now : List ℕ) → IsReadTo bytes text rest → rest ≡ form ++ behind → escape more ≡ form → is_text more ≡ true → now ≡ text ++ more → IsReadTo bytes now behind
+read_more : (bytes text rest more form behind now : List ℕ) → IsReadTo bytes text rest → rest ≡ form ++ behind → escape more ≡ form →
+    is_text more ≡ true → now ≡ text ++ more → IsReadTo bytes now behind
 read_more bytes text rest more form behind now so_far e is valid n = record {
   spelled =
       so_far.spelled ∙ ap (λ t. escape text ++ t) e ∙ sym (append_assoc (escape text) form behind)
@@ -126,7 +134,8 @@ read_more bytes text rest more form behind now so_far e is valid n = record {
 }
 
 -- raw characters more
-pub read_raw : (bytes text rest raw behind now : List ℕ) → IsReadTo bytes text rest → AreRaw raw → rest ≡ raw ++ behind → now ≡ text ++ chars raw → IsReadTo bytes now behind
+pub read_raw : (bytes text rest raw behind now : List ℕ) → IsReadTo bytes text rest → AreRaw raw → rest ≡ raw ++ behind →
+    now ≡ text ++ chars raw → IsReadTo bytes now behind
 read_raw bytes text rest raw behind now so_far are e n =
     let cs = are.characters in
     let same : chars raw ≡ cs = text_chars raw cs (raw_utf8 raw are) are.spelled in
@@ -134,13 +143,17 @@ read_raw bytes text rest raw behind now so_far are e n =
     read_more bytes text rest cs raw behind now so_far e (raw_escape cs are.raw ∙ sym are.spelled) valid (n ∙ ap (λ t. text ++ t) same)
 
 -- the raw characters at the front alone
-pub read_front : (bytes text : List ℕ) (end : ℕ) → list_all is_raw_byte (take end bytes) ≡ true → text ≡ chars (take end bytes) → IsReadTo bytes text (take (length bytes - end) (drop end bytes))
+pub read_front : (bytes text : List ℕ) (end : ℕ) → list_all is_raw_byte (take end bytes) ≡ true → text ≡ chars (take end bytes) →
+    IsReadTo bytes text (take (length bytes - end) (drop end bytes))
 read_front bytes text end raw e =
-    let whole : bytes ≡ take end bytes ++ take (length bytes - end) (drop end bytes) = sym (take-append-drop end bytes) ∙ ap (λ t. take end bytes ++ t) (sym (take_rest bytes end)) in
-    read_raw bytes [] bytes (take end bytes) (take (length bytes - end) (drop end bytes)) text (read_nothing bytes [] refl) (raw_bytes (take end bytes) raw) whole e
+    let whole : bytes ≡ take end bytes ++ take (length bytes - end) (drop end bytes) = sym (take-append-drop end bytes)
+    ∙ ap (λ t. take end bytes ++ t) (sym (take_rest bytes end)) in
+    read_raw bytes [] bytes (take end bytes) (take (length bytes - end) (drop end bytes)) text (read_nothing bytes [] refl)
+    (raw_bytes (take end bytes) raw) whole e
 
 -- an escape more
-pub read_escape : (bytes text rest behind now : List ℕ) (c : ℕ) → IsReadTo bytes text rest → rest ≡ escape_char c ++ behind → is_text (c ∷ []) ≡ true → now ≡ text ++ chars (encode c) → IsReadTo bytes now behind
+pub read_escape : (bytes text rest behind now : List ℕ) (c : ℕ) → IsReadTo bytes text rest → rest ≡ escape_char c ++ behind →
+    is_text (c ∷ []) ≡ true → now ≡ text ++ chars (encode c) → IsReadTo bytes now behind
 read_escape bytes text rest behind now c so_far e valid n =
     let scalar_c = (and_parts (scalars (c ∷ [])) (not (has_zero (c ∷ []))) valid).0 in
     let whole : encodes (c ∷ []) ≡ encode c = append-nil (encode c) in
@@ -149,4 +162,10 @@ read_escape bytes text rest behind now c so_far e valid n =
 
 -- an escape is not empty
 pub shorter : (rest raw behind next : List ℕ) (c : ℕ) → rest ≡ raw ++ behind → behind ≡ escape_char c ++ next → length next < length rest
-shorter rest raw behind next c e f = omega (arith, length-escape_char-some c, ap length e ∙ length-append raw behind, ap length f ∙ length-append (escape_char c) next)
+shorter rest raw behind next c e f = omega (
+  arith,
+  length-escape_char-some c,
+  ap length e ∙ length-append raw behind,
+  ap length f
+      ∙ length-append (escape_char c) next,
+)

@@ -1,5 +1,7 @@
 -- A time that is read stands as it is written.
-use Rattle.std.proofs.Common.{◌≡◌, ℕ, ◌+◌, ◌-◌, ◌*◌, ◌/◌, ◌%◌, ◌^◌, ◌<◌, ◌≤◌, Bool, true, false, not, ◌&&◌, ◌==◌, ltb, cond, List, [], ◌∷◌, ◌++◌, length, take, drop, get_or, slice_index, add-one, drop-cons, length-drop, arith, refl, sym, ap, ◌∙◌, Option, Some, None, Result, Ok, Err}
+use Rattle.std.proofs.Common.{◌≡◌, ℕ, ◌+◌, ◌-◌, ◌*◌, ◌/◌, ◌%◌, ◌^◌, ◌<◌, ◌≤◌, Bool, true, false, not, ◌&&◌, ◌==◌, ltb, cond, List, [], ◌∷◌}
+use Rattle.std.proofs.Common.{◌++◌, length, take, drop, get_or, slice_index, add-one, drop-cons, length-drop, arith, refl, sym, ap, ◌∙◌}
+use Rattle.std.proofs.Common.{Option, Some, None, Result, Ok, Err}
 use Rattle.std.proofs.lemmas.Bool.{and_parts, eqb-true, leb-true, ltb-true, lt-ltb}
 use Rattle.std.proofs.lemmas.List.{drop-drop, drop_all}
 use Rattle.std.specs.Char.{is_ascii_digit}
@@ -57,7 +59,8 @@ two : (xs : List ℕ) (n : ℕ) → 2 ≤ length xs → value_of (take 2 xs) ≡
 two [] n long e = absurd (omega arith)
 two (a ∷ []) n long e = absurd (omega arith)
 two (a ∷ b ∷ rest) n long e =
-    let all = (and_parts (not (2 == 0)) (list_all is_ascii_digit (a ∷ b ∷ [])) (is_so (is_numeral (a ∷ b ∷ [])) (Some (decimal_value (a ∷ b ∷ []))) n e)).1 in
+    let all = (and_parts (not (2 == 0)) (list_all is_ascii_digit (a ∷ b ∷ []))
+    (is_so (is_numeral (a ∷ b ∷ [])) (Some (decimal_value (a ∷ b ∷ []))) n e)).1 in
     let parts = and_parts (is_ascii_digit a) (list_all is_ascii_digit (b ∷ [])) all in
     let tens = digit a parts.0 in
     let ones = digit b (and_parts (is_ascii_digit b) true parts.1).0 in
@@ -98,7 +101,8 @@ four (a ∷ b ∷ c ∷ d ∷ rest) n long e =
     let c_high = tens.high in
     let d_low = ones.low in
     let d_high = ones.high in
-    let value : 10 * (10 * (10 * (10 * 0 + (a - 48)) + (b - 48)) + (c - 48)) + (d - 48) ≡ n = so_value (is_numeral digits) (decimal_value digits) n e in
+    let value : 10 * (10 * (10 * (10 * 0 + (a - 48)) + (b - 48)) + (c - 48)) + (d - 48) ≡ n =
+    so_value (is_numeral digits) (decimal_value digits) n e in
     let first : a ≡ 48 + n / 100 / 10 = omega arith in
     let second : b ≡ 48 + n / 100 % 10 = omega arith in
     let third : c ≡ 48 + n % 100 / 10 = omega arith in
@@ -146,8 +150,10 @@ module _ (text : List ℕ) (long : length text ≡ 20) where
       let year = some_both (λ (y : ℕ). option_and_then (on_month y) (digits_at 5 2 text)) (digits_at 0 4 text) days e in
       let month = some_both (on_month year.between) (digits_at 5 2 text) days year.then_done in
       let day = some_both (on_day year.between month.between) (digits_at 8 2 text) days month.then_done in
-      let marked = and_parts (slice_index text 4 == 45) (slice_index text 7 == 45) (is_so marks (day_of year.between month.between day.between) days day.then_done) in
-      let there = ap (λ t. cond t (day_of year.between month.between day.between) None) (is_so marks (day_of year.between month.between day.between) days day.then_done) in
+      let marked = and_parts (slice_index text 4 == 45) (slice_index text 7 == 45)
+      (is_so marks (day_of year.between month.between day.between) days day.then_done) in
+      let there = ap (λ t. cond t (day_of year.between month.between day.between) None)
+      (is_so marks (day_of year.between month.between day.between) days day.then_done) in
       let found : day_of year.between month.between day.between ≡ Some days = sym there ∙ day.then_done in
       let y = four text year.between (omega (arith, long)) year.done in
       let m = two_at 5 month.between (omega arith) month.done in
@@ -157,8 +163,10 @@ module _ (text : List ℕ) (long : length text ≡ 20) where
         month = month.between;
         day = day.between;
         four_digits = y.small;
-        of_calendar = is_so (is_date year.between month.between day.between) (Some (day_number year.between month.between day.between)) days found;
-        number = sym (so_value (is_date year.between month.between day.between) (day_number year.between month.between day.between) days found);
+        of_calendar = is_so (is_date year.between month.between day.between)
+            (Some (day_number year.between month.between day.between)) days found;
+        number = sym (so_value (is_date year.between month.between day.between)
+            (day_number year.between month.between day.between) days found);
         spelled = y.spelled ∙ ap (λ t. pair (year.between / 100) ++ pair (year.between % 100) ++ t)
             (mark_at 4 45 (omega arith) marked.0 ∙ ap (λ t. 45 ∷ t)
             (m.spelled ∙ ap (λ t. pair month.between ++ t)
@@ -178,10 +186,12 @@ module _ (text : List ℕ) (long : length text ≡ 20) where
       let last = and_parts three (slice_index text 19 == 90) all in
       let third = and_parts ((slice_index text 10 == 84) && (slice_index text 13 == 58)) (slice_index text 16 == 58) last.0 in
       let others = and_parts (slice_index text 10 == 84) (slice_index text 13 == 58) third.0 in
-      let found : second_of hour.between minute.between second.between ≡ Some seconds = sym (ap (λ t. cond t (second_of hour.between minute.between second.between) None) all) ∙ second.then_done in
+      let found : second_of hour.between minute.between second.between ≡ Some seconds =
+      sym (ap (λ t. cond t (second_of hour.between minute.between second.between) None) all) ∙ second.then_done in
       let in_day = ltb hour.between 24 && ltb minute.between 60 && ltb second.between 60 in
       let value = 3_600 * hour.between + 60 * minute.between + second.between in
-      let bounds = and_parts (ltb hour.between 24 && ltb minute.between 60) (ltb second.between 60) (is_so in_day (Some value) seconds found) in
+      let bounds = and_parts (ltb hour.between 24 && ltb minute.between 60) (ltb second.between 60)
+      (is_so in_day (Some value) seconds found) in
       let above = and_parts (ltb hour.between 24) (ltb minute.between 60) bounds.0 in
       let h = two_at 11 hour.between (omega arith) hour.done in
       let m = two_at 14 minute.between (omega arith) minute.done in
@@ -210,7 +220,9 @@ record IsMoment (total time : ℕ) : Type 0 where
 
 moment : (total time : ℕ) → reading_moment total ≡ Ok time → IsMoment total time
 moment total time e =
-    elim (ltb epoch total && ltb total (epoch + 2 ^ 32)) as (λ t. (ltb epoch total && ltb total (epoch + 2 ^ 32)) ≡ t → cond t (Ok (total - epoch)) (Err OutOfRange) ≡ Ok time → IsMoment total time) [
+    elim (ltb epoch total && ltb total (epoch + 2 ^ 32)) as
+    (λ t. (ltb epoch total && ltb total (epoch + 2 ^ 32)) ≡ t → cond t (Ok (total - epoch)) (Err OutOfRange) ≡ Ok time →
+    IsMoment total time) [
       | true ↦ λ within read.
           let bounds = and_parts (ltb epoch total) (ltb total (epoch + 2 ^ 32)) within in
           let low = ltb-true epoch total bounds.0 in
@@ -225,7 +237,8 @@ pub record IsTimeRead (text : List ℕ) (time : ℕ) : Type 0 where
   pub range : is_time (Some time) ≡ true
   pub spelled : text ≡ time_text (Some time)
 
-spelled_at : (text : List ℕ) (time days seconds : ℕ) → IsMoment (86_400 * days + seconds) time → IsDate text days (drop 10 text) → IsClock (drop 10 text) seconds → IsTimeRead text time
+spelled_at : (text : List ℕ) (time days seconds : ℕ) → IsMoment (86_400 * days + seconds) time → IsDate text days (drop 10 text) →
+    IsClock (drop 10 text) seconds → IsTimeRead text time
 spelled_at text time days seconds of_moment date clock =
     let small = of_moment.small in
     let total = of_moment.sum in
@@ -244,18 +257,22 @@ spelled_at text time days seconds of_moment date clock =
       minute_in = clock.minute_in;
       second_in = clock.second_in;
       sum = omega (arith, epoch_day_number);
-      spelled = date.spelled ∙ ap (λ t. pair (date.year / 100) ++ pair (date.year % 100) ++ 45 ∷ pair date.month ++ 45 ∷ pair date.day ++ t) clock.spelled;
+      spelled = date.spelled ∙ ap (λ t. pair (date.year / 100) ++ pair (date.year % 100) ++ 45 ∷ pair date.month ++ 45 ∷ pair date.day
+          ++ t) clock.spelled;
     } in
     record { range = λ i. lt-ltb 0 time of_moment.some i && lt-ltb time (2 ^ 32) small i; spelled = (time_law time text small).1 is }
 
 pub time_canonical : (text : List ℕ) (time : ℕ) → reading_time text ≡ Ok time → IsTimeRead text time
 time_canonical text time e =
-    let with_clock : ℕ → Result ℕ OplReason = λ days. and_then (ok_or (reading_clock text) BadTime) (λ second. reading_moment (86_400 * days + second)) in
-    elim (length text == 20) as (λ t. (length text == 20) ≡ t → cond t (and_then (ok_or (reading_date text) BadTime) with_clock) (Err BadTime) ≡ Ok time → IsTimeRead text time) [
+    let with_clock : ℕ → Result ℕ OplReason = λ days.
+    and_then (ok_or (reading_clock text) BadTime) (λ second. reading_moment (86_400 * days + second)) in
+    elim (length text == 20) as (λ t. (length text == 20) ≡ t →
+    cond t (and_then (ok_or (reading_date text) BadTime) with_clock) (Err BadTime) ≡ Ok time → IsTimeRead text time) [
       | true ↦ λ is read.
           let long = eqb-true (length text) 20 is in
           let date = both (ok_or (reading_date text) BadTime) with_clock time read in
-          let clock = both (ok_or (reading_clock text) BadTime) (λ (second : ℕ). reading_moment (86_400 * date.between + second)) time date.then_done in
+          let clock = both (ok_or (reading_clock text) BadTime)
+          (λ (second : ℕ). reading_moment (86_400 * date.between + second)) time date.then_done in
           spelled_at text time date.between clock.between (moment (86_400 * date.between + clock.between) time clock.then_done)
           (date_spelled text long date.between (was_some (reading_date text) date.between date.done))
           (clock_spelled text long clock.between (was_some (reading_clock text) clock.between clock.done))

@@ -1,5 +1,6 @@
 -- Texts and lists that are read are spelled so, and the reverse.
-use Rattle.std.proofs.Common.{◌≡◌, ℕ, ℤ, Bool, true, false, not, cond, eqb, leb, ltb, ◌&&◌, List, [], ◌∷◌, ◌++◌, length, Option, Some, None, Result, Ok, Err, refl, sym, ap, ◌∙◌, subst, append_assoc, append-nil, arith}
+use Rattle.std.proofs.Common.{◌≡◌, ℕ, ℤ, Bool, true, false, not, cond, eqb, leb, ltb, ◌&&◌, List, [], ◌∷◌, ◌++◌, length, Option, Some, None}
+use Rattle.std.proofs.Common.{Result, Ok, Err, refl, sym, ap, ◌∙◌, subst, append_assoc, append-nil, arith}
 use Rattle.std.proofs.lemmas.Bool.{and_parts, eqb-true}
 use Rattle.std.proofs.lemmas.Bool.Decides.{nat_tests}
 use Rattle.std.specs.List.{list_all}
@@ -17,10 +18,13 @@ use Rattle.opl_line.specs.declared.reason.OplReason.{OplReason}
 use Rattle.opl_line.specs.declared.reason.OplReason.TheVariants.{BadText, BadList}
 use Rattle.opl_line.specs.Answer.{and_then, as_value, with_reason}
 use Rattle.opl_line.specs.Number.{reading_id}
-use Rattle.opl_line.specs.Item.{reading_items, reading_list, tag_of_pieces, reading_tag, item_reason, reading_item_id, reading_reference, kind_of_letter, reading_named, reading_object_name, member_of_parts, reading_member}
+use Rattle.opl_line.specs.Item.{reading_items, reading_list, tag_of_pieces, reading_tag, item_reason, reading_item_id, reading_reference}
+use Rattle.opl_line.specs.Item.{kind_of_letter, reading_named, reading_object_name, member_of_parts, reading_member}
 use Rattle.opl_line.specs.Cut.{is_end, split_first, begun_with, cut, pieces_of}
-use Rattle.opl_line.specs.Text.{stands_for_itself, is_hex_digit, hex_value, is_hex, scalar_of, with_escape, text_from, text_of_pieces, text_of, reading_text}
-use Rattle.opl_line.specs.Content.{SpellsText, raw, escaped, SpellsCharacters, SpellsTag, SpellsReference, SpellsObject, SpellsMember, SpellsList}
+use Rattle.opl_line.specs.Text.{stands_for_itself, is_hex_digit, hex_value, is_hex, scalar_of, with_escape, text_from, text_of_pieces}
+use Rattle.opl_line.specs.Text.{text_of, reading_text}
+use Rattle.opl_line.specs.Content.{SpellsText, raw, escaped, SpellsCharacters, SpellsTag, SpellsReference, SpellsObject, SpellsMember}
+use Rattle.opl_line.specs.Content.{SpellsList}
 use Rattle.opl_line.proofs.NumeralLaws.{id_sound, id_complete}
 use Rattle.opl_line.proofs.AnswerLaws.{both, became, same_success}
 use Rattle.opl_line.proofs.CutLaws.{cut_split, split_front, split_never}
@@ -42,36 +46,49 @@ scalar_digits : (digits : List ℕ) (c : ℕ) → scalar_of digits ≡ Some c �
 scalar_digits digits c =
     let value = hex_value digits in
     let named = scalar value && not (eqb value 0) in
-    elim (is_hex digits && named) as (λ t. (is_hex digits && named) ≡ t → cond t (Some value) None ≡ Some c → list_all is_hex_digit digits ≡ true) [
-      | true ↦ λ is e. (and_parts (ltb 0 (length digits) && leb (length digits) 8) (list_all is_hex_digit digits) (and_parts (is_hex digits) named is).0).1
+    elim (is_hex digits && named) as (λ t. (is_hex digits && named) ≡ t → cond t (Some value) None ≡ Some c →
+    list_all is_hex_digit digits ≡ true) [
+      | true ↦ λ is e. (and_parts (ltb 0 (length digits) && leb (length digits) 8) (list_all is_hex_digit digits)
+          (and_parts (is_hex digits) named is).0).1
       | false ↦ λ is e. cc
     ] refl
 
 -- what was read before stands in front
-from_behind : (start done : List ℕ) (pieces : List (List ℕ)) → text_from (start ++ done) pieces ≡ option_map (λ t. start ++ t) (text_from done pieces)
+from_behind : (start done : List ℕ) (pieces : List (List ℕ)) →
+    text_from (start ++ done) pieces ≡ option_map (λ t. start ++ t) (text_from done pieces)
 unfolding text_from
 from_behind start done [] = refl
 from_behind start done (escape ∷ []) = refl
 from_behind start done (escape ∷ piece ∷ more) =
-    elim (scalar_of escape) as (λ s. option_and_then (λ text. text_from text more) (with_escape (start ++ done) piece s) ≡ option_map (λ t. start ++ t) (option_and_then (λ text. text_from text more) (with_escape done piece s))) [
+    elim (scalar_of escape) as (λ s. option_and_then (λ text. text_from text more) (with_escape (start ++ done) piece s)
+    ≡ option_map (λ t. start ++ t) (option_and_then (λ text. text_from text more) (with_escape done piece s))) [
       | None ↦ refl
-      | Some c ↦ elim (list_all stands_for_itself piece) as (λ b. option_and_then (λ text. text_from text more) (cond b (Some (start ++ done ++ encode c ++ piece)) None) ≡ option_map (λ t. start ++ t) (option_and_then (λ text. text_from text more) (cond b (Some (done ++ encode c ++ piece)) None))) [
-        | true ↦ ap (λ t. text_from t more) (ap (λ t. t ++ piece) (append_assoc start done (encode c)) ∙ append_assoc start (done ++ encode c) piece) ∙ from_behind start (done ++ encode c ++ piece) more
-        | false ↦ refl
-      ]
+      | Some c ↦ elim (list_all stands_for_itself piece) as
+          (λ b. option_and_then (λ text. text_from text more) (cond b (Some (start ++ done ++ encode c ++ piece)) None)
+          ≡ option_map (λ t. start ++ t) (option_and_then (λ text. text_from text more) (cond b (Some (done ++ encode c ++ piece)) None))) [
+            | true ↦ ap (λ t. text_from t more) (ap (λ t. t ++ piece) (append_assoc start done (encode c))
+                ∙ append_assoc start (done ++ encode c) piece) ∙ from_behind start (done ++ encode c ++ piece) more
+            | false ↦ refl
+          ]
     ]
 
 -- ---- what is spelled is read
-text_complete_behind : (front digits rest text : List ℕ) (c : ℕ) → list_all stands_for_itself front ≡ true → scalar_of digits ≡ Some c → text_of rest ≡ Some text → text_of (front ++ 37 ∷ (digits ++ 37 ∷ rest)) ≡ Some (front ++ (encode c ++ text))
+text_complete_behind : (front digits rest text : List ℕ) (c : ℕ) → list_all stands_for_itself front ≡ true → scalar_of digits ≡ Some c →
+    text_of rest ≡ Some text → text_of (front ++ 37 ∷ (digits ++ 37 ∷ rest)) ≡ Some (front ++ (encode c ++ text))
 text_complete_behind front digits rest text c all some read =
     let percent = is_end Percents in
-    let at = split_front percent front (digits ++ 37 ∷ rest) 37 (all_weaker stands_for_itself (λ b. not (eqb b 37)) raw_no_percent front all) refl in
-    let escape = split_front percent digits rest 37 (all_weaker is_hex_digit (λ b. not (eqb b 37)) hex_no_percent digits (scalar_digits digits c some)) refl in
+    let at = split_front percent front (digits ++ 37 ∷ rest) 37
+    (all_weaker stands_for_itself (λ b. not (eqb b 37)) raw_no_percent front all) refl in
+    let escape = split_front percent digits rest 37 (all_weaker is_hex_digit (λ b. not (eqb b 37)) hex_no_percent digits
+    (scalar_digits digits c some)) refl in
     let parts = split_first percent rest in
-    let pieces : cut percent (digits ++ 37 ∷ rest) ≡ digits ∷ cut percent rest = cut_split percent (digits ++ 37 ∷ rest) ∙ ap (λ s. s.0 ∷ pieces_of percent s.1) escape in
+    let pieces : cut percent (digits ++ 37 ∷ rest) ≡ digits ∷ cut percent rest = cut_split percent (digits ++ 37 ∷ rest)
+    ∙ ap (λ s. s.0 ∷ pieces_of percent s.1) escape in
     ap text_of_pieces at
     ∙ ap (λ t. cond t (text_from front (cut percent (digits ++ 37 ∷ rest))) None) all
-    ∙ (elim (list_all stands_for_itself parts.0) as (λ b. list_all stands_for_itself parts.0 ≡ b → cond b (text_from parts.0 (pieces_of percent parts.1)) None ≡ Some text → text_from front (cut percent (digits ++ 37 ∷ rest)) ≡ Some (front ++ (encode c ++ text))) [
+    ∙ (elim (list_all stands_for_itself parts.0) as (λ b. list_all stands_for_itself parts.0 ≡ b →
+    cond b (text_from parts.0 (pieces_of percent parts.1)) None ≡ Some text →
+    text_from front (cut percent (digits ++ 37 ∷ rest)) ≡ Some (front ++ (encode c ++ text))) [
       | true ↦ λ is e.
           one_escape front digits parts.0 c _ _ _ pieces (cut_split percent rest) some is
           ∙ from_behind (front ++ encode c) parts.0 (pieces_of percent parts.1)
@@ -83,8 +100,10 @@ text_complete_behind front digits rest text c all some read =
 text_complete : (bytes out : List ℕ) → SpellsText bytes out → text_of bytes ≡ Some out
 unfolding text_from
 text_complete bytes out (raw text all) =
-    ap text_of_pieces (split_never (is_end Percents) text (all_weaker stands_for_itself (λ b. not (eqb b 37)) raw_no_percent text all)) ∙ ap (λ t. cond t (Some text) None) all
-text_complete bytes out (escaped front digits rest text c all some spelled) = text_complete_behind front digits rest text c all some (text_complete rest text spelled)
+    ap text_of_pieces (split_never (is_end Percents) text (all_weaker stands_for_itself (λ b. not (eqb b 37)) raw_no_percent text all))
+    ∙ ap (λ t. cond t (Some text) None) all
+text_complete bytes out (escaped front digits rest text c all some spelled) =
+    text_complete_behind front digits rest text c all some (text_complete rest text spelled)
 
 -- ---- what is read is spelled
 behind_percents : List (List ℕ) → List ℕ
@@ -95,21 +114,25 @@ uncut : (bytes : List ℕ) → behind_percents (cut (is_end Percents) bytes) ≡
 unfolding behind_percents
 uncut [] = refl
 uncut (b ∷ bs) =
-    elim (eqb b 37) as (λ t. eqb b 37 ≡ t → behind_percents (cond t ([] ∷ cut (is_end Percents) bs) (begun_with b (cut (is_end Percents) bs))) ≡ 37 ∷ b ∷ bs) [
+    elim (eqb b 37) as (λ t. eqb b 37 ≡ t → behind_percents
+    (cond t ([] ∷ cut (is_end Percents) bs) (begun_with b (cut (is_end Percents) bs))) ≡ 37 ∷ b ∷ bs) [
       | true ↦ λ is. ap (λ r. 37 ∷ r) (uncut bs) ∙ ap (λ x. 37 ∷ x ∷ bs) (sym (eqb-true b 37 is))
       | false ↦ λ other.
           let parts = split_first (is_end Percents) bs in
           let first = cut_split (is_end Percents) bs in
-          let rest : 37 ∷ (parts.0 ++ behind_percents (pieces_of (is_end Percents) parts.1)) ≡ 37 ∷ bs = sym (ap behind_percents first) ∙ uncut bs in
+          let rest : 37 ∷ (parts.0 ++ behind_percents (pieces_of (is_end Percents) parts.1)) ≡ 37 ∷ bs = sym (ap behind_percents first)
+          ∙ uncut bs in
           let same : parts.0 ++ behind_percents (pieces_of (is_end Percents) parts.1) ≡ bs = cc in
           ap (λ ps. behind_percents (begun_with b ps)) first ∙ ap (λ r. 37 ∷ b ∷ r) same
     ] refl
 
-rejoined : (bytes : List ℕ) → let parts = split_first (is_end Percents) bytes in parts.0 ++ behind_percents (pieces_of (is_end Percents) parts.1) ≡ bytes
+rejoined : (bytes : List ℕ) → let parts = split_first (is_end Percents) bytes in
+    parts.0 ++ behind_percents (pieces_of (is_end Percents) parts.1) ≡ bytes
 unfolding behind_percents
 rejoined bytes =
     let parts = split_first (is_end Percents) bytes in
-    let rest : 37 ∷ (parts.0 ++ behind_percents (pieces_of (is_end Percents) parts.1)) ≡ 37 ∷ bytes = sym (ap behind_percents (cut_split (is_end Percents) bytes)) ∙ uncut bytes in
+    let rest : 37 ∷ (parts.0 ++ behind_percents (pieces_of (is_end Percents) parts.1)) ≡ 37 ∷ bytes =
+    sym (ap behind_percents (cut_split (is_end Percents) bytes)) ∙ uncut bytes in
     cc
 
 record Behind (start bytes out : List ℕ) : Type 0 where
@@ -117,31 +140,43 @@ record Behind (start bytes out : List ℕ) : Type 0 where
   told : out ≡ start ++ text
   spelled : SpellsText bytes text
 
-spelled_from : (pieces : List (List ℕ)) (start front out : List ℕ) → list_all stands_for_itself front ≡ true → text_from (start ++ front) pieces ≡ Some out → Behind start (front ++ behind_percents pieces) out
+spelled_from : (pieces : List (List ℕ)) (start front out : List ℕ) → list_all stands_for_itself front ≡ true →
+    text_from (start ++ front) pieces ≡ Some out → Behind start (front ++ behind_percents pieces) out
 unfolding text_from behind_percents
 spelled_from [] start front out all e =
     let P : List ℕ → Type 0 = λ bytes. SpellsText bytes front in
-    record { text = front; told = (let same : start ++ front ≡ out = cc in sym same); spelled = subst P (sym (append-nil front)) (raw front all) }
+    record {
+      text = front;
+      told = (let same : start ++ front ≡ out = cc in sym same);
+      spelled =
+          subst P (sym (append-nil front)) (raw front all);
+    }
 spelled_from (escape ∷ []) start front out all e = cc
 spelled_from (escape ∷ piece ∷ more) start front out all read =
-    elim (scalar_of escape) as (λ s. scalar_of escape ≡ s → option_and_then (λ text. text_from text more) (with_escape (start ++ front) piece s) ≡ Some out → Behind start (front ++ 37 ∷ (escape ++ 37 ∷ (piece ++ behind_percents more))) out) [
+    elim (scalar_of escape) as (λ s. scalar_of escape ≡ s →
+    option_and_then (λ text. text_from text more) (with_escape (start ++ front) piece s) ≡ Some out →
+    Behind start (front ++ 37 ∷ (escape ++ 37 ∷ (piece ++ behind_percents more))) out) [
       | None ↦ λ none e. cc
-      | Some c ↦ λ some. elim (list_all stands_for_itself piece) as (λ b. list_all stands_for_itself piece ≡ b → option_and_then (λ text. text_from text more) (cond b (Some (start ++ front ++ encode c ++ piece)) None) ≡ Some out → Behind start (front ++ 37 ∷ (escape ++ 37 ∷ (piece ++ behind_percents more))) out) [
-        | true ↦ λ is e.
-            let rest = spelled_from more (start ++ front ++ encode c) piece out is e in
-            record {
-              text = front ++ (encode c ++ rest.text);
-              told = rest.told ∙ append_assoc (start ++ front) (encode c) rest.text ∙ append_assoc start front (encode c ++ rest.text);
-              spelled = escaped front escape (piece ++ behind_percents more) rest.text c all some rest.spelled;
-            }
-        | false ↦ λ is e. cc
-      ] refl
+      | Some c ↦ λ some. elim (list_all stands_for_itself piece) as
+          (λ b. list_all stands_for_itself piece ≡ b → option_and_then (λ text. text_from text more)
+          (cond b (Some (start ++ front ++ encode c ++ piece)) None) ≡ Some out →
+          Behind start (front ++ 37 ∷ (escape ++ 37 ∷ (piece ++ behind_percents more))) out) [
+            | true ↦ λ is e.
+                let rest = spelled_from more (start ++ front ++ encode c) piece out is e in
+                record {
+                  text = front ++ (encode c ++ rest.text);
+                  told = rest.told ∙ append_assoc (start ++ front) (encode c) rest.text ∙ append_assoc start front (encode c ++ rest.text);
+                  spelled = escaped front escape (piece ++ behind_percents more) rest.text c all some rest.spelled;
+                }
+            | false ↦ λ is e. cc
+          ] refl
     ] refl read
 
 text_sound : (bytes out : List ℕ) → text_of bytes ≡ Some out → SpellsText bytes out
 text_sound bytes out =
     let parts = split_first (is_end Percents) bytes in
-    elim (list_all stands_for_itself parts.0) as (λ b. list_all stands_for_itself parts.0 ≡ b → cond b (text_from parts.0 (pieces_of (is_end Percents) parts.1)) None ≡ Some out → SpellsText bytes out) [
+    elim (list_all stands_for_itself parts.0) as (λ b. list_all stands_for_itself parts.0 ≡ b →
+    cond b (text_from parts.0 (pieces_of (is_end Percents) parts.1)) None ≡ Some out → SpellsText bytes out) [
       | true ↦ λ all e.
           let found = spelled_from (pieces_of (is_end Percents) parts.1) [] parts.0 out all e in
           let P : List ℕ → Type 0 = λ b. SpellsText b out in
@@ -155,19 +190,27 @@ pub characters_sound : (bytes cs : List ℕ) → reading_text bytes ≡ Ok cs �
 characters_sound bytes cs =
     elim (text_of bytes) as (λ o. text_of bytes ≡ o → ok_or (option_map chars o) BadText ≡ Ok cs → SpellsCharacters bytes cs) [
       | None ↦ λ none e. cc
-      | Some out ↦ λ is e. record { text = out; spelled = text_sound bytes out is; characters = (let same : chars out ≡ cs = cc in sym same) }
+      | Some out ↦ λ is e. record {
+        text = out;
+        spelled = text_sound bytes out is;
+        characters =
+            (let same : chars out ≡ cs = cc in sym same);
+      }
     ] refl
 
 pub characters_complete : (bytes cs : List ℕ) → SpellsCharacters bytes cs → reading_text bytes ≡ Ok cs
-characters_complete bytes cs s = ap (λ o. ok_or (option_map chars o) BadText) (text_complete bytes s.text s.spelled) ∙ ap (λ t. Ok t) (sym s.characters)
+characters_complete bytes cs s = ap (λ o. ok_or (option_map chars o) BadText) (text_complete bytes s.text s.spelled)
+    ∙ ap (λ t. Ok t) (sym s.characters)
 
 -- ---- tags
-tag_pieces : (bytes : List ℕ) (tag : Tag) (pieces : List (List ℕ)) → cut (is_end Equals) bytes ≡ pieces → tag_of_pieces pieces ≡ Ok tag → SpellsTag bytes tag
+tag_pieces : (bytes : List ℕ) (tag : Tag) (pieces : List (List ℕ)) → cut (is_end Equals) bytes ≡ pieces → tag_of_pieces pieces ≡ Ok tag →
+    SpellsTag bytes tag
 tag_pieces bytes tag [] is e = cc
 tag_pieces bytes tag (key ∷ []) is e = cc
 tag_pieces bytes tag (key ∷ value ∷ other ∷ more) is e = cc
 tag_pieces bytes tag (key ∷ value ∷ []) is e =
-    let k = both (reading_text key) (λ (k : List ℕ). as_value (λ (v : List ℕ). let t : Tag = record { key = k; value = v } in t) (reading_text value)) tag e in
+    let k = both (reading_text key) (λ (k : List ℕ).
+    as_value (λ (v : List ℕ). let t : Tag = record { key = k; value = v } in t) (reading_text value)) tag e in
     let v = became (λ (v : List ℕ). let t : Tag = record { key = k.between; value = v } in t) (reading_text value) tag k.then_done in
     let same_key : k.between ≡ tag.key = ap (λ t. t.key) v.became in
     let same_value : v.from ≡ tag.value = ap (λ t. t.value) v.became in
@@ -185,15 +228,22 @@ tag_sound bytes tag e = tag_pieces bytes tag (cut (is_end Equals) bytes) refl e
 pub tag_complete : (bytes : List ℕ) (tag : Tag) → SpellsTag bytes tag → reading_tag bytes ≡ Ok tag
 tag_complete bytes tag s =
     ap tag_of_pieces s.parted
-    ∙ ap (λ r. and_then r (λ k. as_value (λ v. record { key = k; value = v }) (reading_text s.value))) (characters_complete s.key tag.key s.spells_key)
+    ∙ ap (λ r. and_then r (λ k. as_value (λ v. record { key = k; value = v }) (reading_text s.value)))
+    (characters_complete s.key tag.key s.spells_key)
     ∙ ap (as_value (λ v. record { key = tag.key; value = v })) (characters_complete s.value tag.value s.spells_value)
 
 -- ---- references
 pub reference_sound : (bytes : List ℕ) (id : ℤ) → reading_reference bytes ≡ Ok id → SpellsReference bytes id
 reference_sound [] id e = cc
 reference_sound (letter ∷ digits) id e =
-    elim (eqb letter 110) as (λ t. eqb letter 110 ≡ t → cond t (reading_item_id digits) (Err BadList) ≡ Ok id → SpellsReference (letter ∷ digits) id) [
-      | true ↦ λ is read. record { digits = digits; lettered = ap (λ l. l ∷ digits) (eqb-true letter 110 is); spelled = id_sound digits id (same_success item_reason (reading_id digits) id read) }
+    elim (eqb letter 110) as (λ t. eqb letter 110 ≡ t → cond t (reading_item_id digits) (Err BadList) ≡ Ok id →
+    SpellsReference (letter ∷ digits) id) [
+      | true ↦ λ is read. record {
+        digits = digits;
+        lettered = ap (λ l. l ∷ digits) (eqb-true letter 110 is);
+        spelled =
+            id_sound digits id (same_success item_reason (reading_id digits) id read);
+      }
       | false ↦ λ is read. cc
     ] refl e
 
@@ -203,15 +253,19 @@ reference_complete bytes id s = ap reading_reference s.lettered ∙ ap (with_rea
 -- ---- members
 pub letter_of_kind : (letter : ℕ) (k : Kind) → kind_of_letter letter ≡ Some k → letter ≡ kind_letter k
 letter_of_kind letter k =
-    elim (eqb letter 110) as (λ t. eqb letter 110 ≡ t → cond t (Some kind.Node) (cond (eqb letter 119) (Some kind.Way) (cond (eqb letter 114) (Some kind.Relation) None)) ≡ Some k → letter ≡ kind_letter k) [
+    elim (eqb letter 110) as (λ t. eqb letter 110 ≡ t →
+    cond t (Some kind.Node) (cond (eqb letter 119) (Some kind.Way) (cond (eqb letter 114) (Some kind.Relation) None)) ≡ Some k →
+    letter ≡ kind_letter k) [
       | true ↦ λ is e. let same : kind.Node ≡ k = cc in eqb-true letter 110 is ∙ ap kind_letter same
-      | false ↦ λ n. elim (eqb letter 119) as (λ t. eqb letter 119 ≡ t → cond t (Some kind.Way) (cond (eqb letter 114) (Some kind.Relation) None) ≡ Some k → letter ≡ kind_letter k) [
-        | true ↦ λ is e. let same : kind.Way ≡ k = cc in eqb-true letter 119 is ∙ ap kind_letter same
-        | false ↦ λ w. elim (eqb letter 114) as (λ t. eqb letter 114 ≡ t → cond t (Some kind.Relation) None ≡ Some k → letter ≡ kind_letter k) [
-          | true ↦ λ is e. let same : kind.Relation ≡ k = cc in eqb-true letter 114 is ∙ ap kind_letter same
-          | false ↦ λ r e. cc
-        ] refl
-      ] refl
+      | false ↦ λ n. elim (eqb letter 119) as (λ t. eqb letter 119 ≡ t →
+          cond t (Some kind.Way) (cond (eqb letter 114) (Some kind.Relation) None) ≡ Some k → letter ≡ kind_letter k) [
+            | true ↦ λ is e. let same : kind.Way ≡ k = cc in eqb-true letter 119 is ∙ ap kind_letter same
+            | false ↦ λ w. elim (eqb letter 114) as (λ t. eqb letter 114 ≡ t → cond t (Some kind.Relation) None ≡ Some k →
+                letter ≡ kind_letter k) [
+                  | true ↦ λ is e. let same : kind.Relation ≡ k = cc in eqb-true letter 114 is ∙ ap kind_letter same
+                  | false ↦ λ r e. cc
+                ] refl
+          ] refl
     ] refl
 
 pub kind_of_its_letter : (k : Kind) → kind_of_letter (kind_letter k) ≡ Some k
@@ -222,7 +276,8 @@ kind_of_its_letter kind.Relation = refl
 pub name_sound : (bytes : List ℕ) (k : Kind) (id : ℤ) → reading_object_name bytes ≡ Ok (k, id) → SpellsObject bytes k id
 name_sound [] k id e = cc
 name_sound (letter ∷ digits) k id e =
-    elim (kind_of_letter letter) as (λ o. kind_of_letter letter ≡ o → reading_named o digits ≡ Ok (k, id) → SpellsObject (letter ∷ digits) k id) [
+    elim (kind_of_letter letter) as (λ o. kind_of_letter letter ≡ o → reading_named o digits ≡ Ok (k, id) →
+    SpellsObject (letter ∷ digits) k id) [
       | None ↦ λ none read. cc
       | Some l ↦ λ is read.
           let b = became (λ (z : ℤ). (l, z)) (reading_item_id digits) (k, id) read in
@@ -241,11 +296,14 @@ name_complete bytes k id s =
     ∙ ap (λ o. reading_named o s.digits) (kind_of_its_letter k)
     ∙ ap (λ r. as_value (λ z. (k, z)) (with_reason item_reason r)) (id_complete s.digits id s.spelled)
 
-member_parts : (bytes object : List ℕ) (behind : Option (List ℕ)) (member : Member) → split_first (is_end Ats) bytes ≡ (object, behind) → member_of_parts (object, behind) ≡ Ok member → SpellsMember bytes member
+member_parts : (bytes object : List ℕ) (behind : Option (List ℕ)) (member : Member) → split_first (is_end Ats) bytes ≡ (object, behind) →
+    member_of_parts (object, behind) ≡ Ok member → SpellsMember bytes member
 member_parts bytes object None member is e = cc
 member_parts bytes object (Some role) member is e =
-    let o = both (reading_object_name object) (λ (o : Kind × ℤ). as_value (λ (r : List ℕ). let m : Member = record { kind = o.0; id = o.1; role = r } in m) (reading_text role)) member e in
-    let r = became (λ (r : List ℕ). let m : Member = record { kind = o.between.0; id = o.between.1; role = r } in m) (reading_text role) member o.then_done in
+    let o = both (reading_object_name object) (λ (o : Kind × ℤ).
+    as_value (λ (r : List ℕ). let m : Member = record { kind = o.0; id = o.1; role = r } in m) (reading_text role)) member e in
+    let r = became (λ (r : List ℕ). let m : Member = record { kind = o.between.0; id = o.between.1; role = r } in m)
+    (reading_text role) member o.then_done in
     let same : o.between ≡ (member.kind, member.id) = (λ i. ((r.became i).kind, (r.became i).id)) in
     let same_role : r.from ≡ member.role = ap (λ m. m.role) r.became in
     record {
@@ -262,12 +320,14 @@ member_sound bytes member e = member_parts bytes _ _ member refl e
 pub member_complete : (bytes : List ℕ) (member : Member) → SpellsMember bytes member → reading_member bytes ≡ Ok member
 member_complete bytes member s =
     ap member_of_parts s.parted
-    ∙ ap (λ r. and_then r (λ o. as_value (λ t. record { kind = o.0; id = o.1; role = t }) (reading_text s.role))) (name_complete s.object member.kind member.id s.names)
+    ∙ ap (λ r. and_then r (λ o. as_value (λ t. record { kind = o.0; id = o.1; role = t }) (reading_text s.role)))
+    (name_complete s.object member.kind member.id s.names)
     ∙ ap (as_value (λ t. record { kind = member.kind; id = member.id; role = t })) (characters_complete s.role member.role s.spells_role)
 
 -- ---- lists
 module _ {X : Type 0} (reading : List ℕ → Result X OplReason) (Spells : List ℕ → X → Type 0) where
-  items_sound : ((bytes : List ℕ) (x : X) → reading bytes ≡ Ok x → Spells bytes x) → (pieces : List (List ℕ)) (xs : List X) → reading_items reading pieces ≡ Ok xs → Pairwise Spells pieces xs
+  items_sound : ((bytes : List ℕ) (x : X) → reading bytes ≡ Ok x → Spells bytes x) → (pieces : List (List ℕ)) (xs : List X) →
+      reading_items reading pieces ≡ Ok xs → Pairwise Spells pieces xs
   unfolding reading_items
   items_sound sound [] [] e = tt
   items_sound sound [] (x ∷ xs) e = cc
@@ -283,7 +343,8 @@ module _ {X : Type 0} (reading : List ℕ → Result X OplReason) (Spells : List
       let rest : r.from ≡ xs = cc in
       (sound piece x (b.done ∙ ap (λ y. Ok y) same), items_sound sound pieces xs (r.said_so ∙ ap (λ ys. Ok ys) rest))
 
-  items_complete : ((bytes : List ℕ) (x : X) → Spells bytes x → reading bytes ≡ Ok x) → (pieces : List (List ℕ)) (xs : List X) → Pairwise Spells pieces xs → reading_items reading pieces ≡ Ok xs
+  items_complete : ((bytes : List ℕ) (x : X) → Spells bytes x → reading bytes ≡ Ok x) → (pieces : List (List ℕ)) (xs : List X) →
+      Pairwise Spells pieces xs → reading_items reading pieces ≡ Ok xs
   unfolding reading_items
   items_complete complete [] [] s = refl
   items_complete complete [] (x ∷ xs) s = absurd s
@@ -292,11 +353,13 @@ module _ {X : Type 0} (reading : List ℕ → Result X OplReason) (Spells : List
       ap (λ r. and_then r (λ y. as_value (λ ys. y ∷ ys) (reading_items reading pieces))) (complete piece x s.0)
       ∙ ap (as_value (λ ys. x ∷ ys)) (items_complete complete pieces xs s.1)
 
-  list_sound : ((bytes : List ℕ) (x : X) → reading bytes ≡ Ok x → Spells bytes x) → (content : List ℕ) (xs : List X) → reading_list reading content ≡ Ok xs → SpellsList Spells content xs
+  list_sound : ((bytes : List ℕ) (x : X) → reading bytes ≡ Ok x → Spells bytes x) → (content : List ℕ) (xs : List X) →
+      reading_list reading content ≡ Ok xs → SpellsList Spells content xs
   list_sound sound [] xs e = let same : [] ≡ xs = cc in sym same
   list_sound sound (b ∷ bs) xs e = items_sound sound (cut (is_end Commas) (b ∷ bs)) xs e
 
-  list_complete : ((bytes : List ℕ) (x : X) → Spells bytes x → reading bytes ≡ Ok x) → (content : List ℕ) (xs : List X) → SpellsList Spells content xs → reading_list reading content ≡ Ok xs
+  list_complete : ((bytes : List ℕ) (x : X) → Spells bytes x → reading bytes ≡ Ok x) → (content : List ℕ) (xs : List X) →
+      SpellsList Spells content xs → reading_list reading content ≡ Ok xs
   list_complete complete [] xs s = ap (λ ys. Ok ys) (sym s)
   list_complete complete (b ∷ bs) xs s = items_complete complete (cut (is_end Commas) (b ∷ bs)) xs s
 
@@ -306,14 +369,18 @@ tags_sound = list_sound reading_tag SpellsTag tag_sound
 pub tags_complete : (content : List ℕ) (tags : List Tag) → SpellsList SpellsTag content tags → reading_list reading_tag content ≡ Ok tags
 tags_complete = list_complete reading_tag SpellsTag tag_complete
 
-pub references_sound : (content : List ℕ) (ids : List ℤ) → reading_list reading_reference content ≡ Ok ids → SpellsList SpellsReference content ids
+pub references_sound : (content : List ℕ) (ids : List ℤ) → reading_list reading_reference content ≡ Ok ids →
+    SpellsList SpellsReference content ids
 references_sound = list_sound reading_reference SpellsReference reference_sound
 
-pub references_complete : (content : List ℕ) (ids : List ℤ) → SpellsList SpellsReference content ids → reading_list reading_reference content ≡ Ok ids
+pub references_complete : (content : List ℕ) (ids : List ℤ) → SpellsList SpellsReference content ids →
+    reading_list reading_reference content ≡ Ok ids
 references_complete = list_complete reading_reference SpellsReference reference_complete
 
-pub members_sound : (content : List ℕ) (members : List Member) → reading_list reading_member content ≡ Ok members → SpellsList SpellsMember content members
+pub members_sound : (content : List ℕ) (members : List Member) → reading_list reading_member content ≡ Ok members →
+    SpellsList SpellsMember content members
 members_sound = list_sound reading_member SpellsMember member_sound
 
-pub members_complete : (content : List ℕ) (members : List Member) → SpellsList SpellsMember content members → reading_list reading_member content ≡ Ok members
+pub members_complete : (content : List ℕ) (members : List Member) → SpellsList SpellsMember content members →
+    reading_list reading_member content ≡ Ok members
 members_complete = list_complete reading_member SpellsMember member_complete

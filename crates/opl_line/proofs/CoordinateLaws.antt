@@ -1,5 +1,6 @@
 -- Coordinates are read back.
-use Rattle.std.proofs.Common.{◌≡◌, ℕ, pos, negsuc, suc, ◌+◌, ◌-◌, ◌*◌, ◌/◌, ◌%◌, ◌^◌, ◌<◌, ◌≤◌, true, false, not, cond, eqb, ◌&&◌, List, [], ◌∷◌, ◌++◌, length, fold, Ok, Err, refl, sym, ap, ◌∙◌, append-nil, arith}
+use Rattle.std.proofs.Common.{◌≡◌, ℕ, pos, negsuc, suc, ◌+◌, ◌-◌, ◌*◌, ◌/◌, ◌%◌, ◌^◌, ◌<◌, ◌≤◌, true, false, not, cond, eqb, ◌&&◌, List, []}
+use Rattle.std.proofs.Common.{◌∷◌, ◌++◌, length, fold, Ok, Err, refl, sym, ap, ◌∙◌, append-nil, arith}
 use Rattle.std.proofs.lemmas.Bool.{and_parts, eqb-true, eqb-false, le-leb}
 use Rattle.std.proofs.lemmas.Bool.Decides.{nat_tests}
 use Rattle.std.proofs.Math.Nat.{pow-succ'}
@@ -13,15 +14,18 @@ use Rattle.opl_line.specs.declared.bytes.cut.Cut.TheVariants.{Points}
 use Rattle.opl_line.specs.declared.reason.OplReason.TheVariants.{BadCoordinate, OutOfRange}
 use Rattle.opl_line.specs.Answer.{and_then, as_value}
 use Rattle.opl_line.specs.Cut.{is_end}
-use Rattle.opl_line.specs.Number.{with_digit, decimal_value, is_negative, without_sign, signed, reading_short_numeral, decimals_value, reading_degrees, reading_units, degree_parts}
+use Rattle.opl_line.specs.Number.{with_digit, decimal_value, is_negative, without_sign, signed, reading_short_numeral, decimals_value}
+use Rattle.opl_line.specs.Number.{reading_degrees, reading_units, degree_parts}
 use Rattle.opl_line.specs.Canonical.{CoordinateIsReadBack}
 use Rattle.opl_line.proofs.CutLaws.{split_front, split_never}
 use Rattle.opl_line.proofs.ContentLaws.{all_weaker}
 use Rattle.opl_line.proofs.CanonicalLaws.{IsRead, zeros_read, decimal, numeral_is, minus_apart}
 
-short_read : (text : List ℕ) (most n : ℕ) → IsRead 10 with_digit is_ascii_digit n text → length text ≤ most → reading_short_numeral most text ≡ Ok n
+short_read : (text : List ℕ) (most n : ℕ) → IsRead 10 with_digit is_ascii_digit n text → length text ≤ most →
+    reading_short_numeral most text ≡ Ok n
 short_read text most n is few =
-    (λ i. cond (numeral_is text is.some is.digits i && le-leb (length text) most few i) (Ok (decimal_value text)) (Err BadCoordinate)) ∙ ap (λ v. Ok v) is.value
+    (λ i. cond (numeral_is text is.some is.digits i && le-leb (length text) most few i) (Ok (decimal_value text)) (Err BadCoordinate))
+    ∙ ap (λ v. Ok v) is.value
 
 number_short : (n k : ℕ) → 0 < k → n < 10 ^ k → length (number_text n) ≤ k
 unfolding number_text
@@ -33,7 +37,8 @@ pub record Trimmed (n : ℕ) (digits left : List ℕ) : Type 0 where
   pub short : length left ≤ length digits
   pub all : list_all is_ascii_digit left ≡ true
 
-trimmed_before : (n d : ℕ) (digits left : List ℕ) → is_ascii_digit d ≡ true → Trimmed (with_digit n d) digits left → Trimmed n (d ∷ digits) (digit_before d left)
+trimmed_before : (n d : ℕ) (digits left : List ℕ) → is_ascii_digit d ≡ true → Trimmed (with_digit n d) digits left →
+    Trimmed n (d ∷ digits) (digit_before d left)
 trimmed_before n d digits [] is rest =
     elim (eqb d 48) as (λ t. eqb d 48 ≡ t → Trimmed n (d ∷ digits) (cond t [] (d ∷ []))) [
       | true ↦ λ zero_digit.
@@ -42,8 +47,14 @@ trimmed_before n d digits [] is rest =
           let no_less : suc (length digits) - 0 ≡ suc (length digits) = omega arith in
           let none : d ≡ 48 = eqb-true d 48 zero_digit in
           let ten : with_digit n d ≡ 10 * n = omega arith in
-          let all : fold with_digit (with_digit n d) digits ≡ (10 * n) * 10 ^ length digits = rest.value ∙ ap (λ k. with_digit n d * 10 ^ k) whole ∙ ap (λ v. v * 10 ^ length digits) ten in
-          record { value = all ∙ (let e : (10 * n) * 10 ^ length digits ≡ n * 10 ^ (suc (length digits) - 0) = rw (no_less, power) (omega arith) in e); short = omega arith; all = refl }
+          let all : fold with_digit (with_digit n d) digits ≡ (10 * n) * 10 ^ length digits = rest.value
+          ∙ ap (λ k. with_digit n d * 10 ^ k) whole ∙ ap (λ v. v * 10 ^ length digits) ten in
+          record {
+            value = all ∙ (let e : (10 * n) * 10 ^ length digits ≡ n * 10 ^ (suc (length digits) - 0) =
+                rw (no_less, power) (omega arith) in e);
+            short = omega arith;
+            all = refl;
+          }
       | false ↦ λ other.
           let same : suc (length digits) - 1 ≡ length digits - 0 = omega arith in
           record { value = rest.value ∙ ap (λ k. with_digit n d * 10 ^ k) (sym same); short = omega arith; all = ap (λ t. t && true) is }
@@ -71,8 +82,10 @@ record Decimals (units : ℕ) (text : List ℕ) : Type 0 where
   all : list_all is_ascii_digit text ≡ true
   value : decimals_value text (decimal_value text) ≡ units
 
-some_left : (units : ℕ) (digits left : List ℕ) → (units ≡ 0 → ⊥) → fold with_digit 0 digits ≡ units → Trimmed 0 digits left → 0 < length left
-some_left units digits [] other value t = absurd (other (sym value ∙ t.value ∙ (let e : 0 * 10 ^ (length digits - 0) ≡ 0 = omega arith in e)))
+some_left : (units : ℕ) (digits left : List ℕ) → (units ≡ 0 → ⊥) → fold with_digit 0 digits ≡ units → Trimmed 0 digits left →
+    0 < length left
+some_left units digits [] other value t = absurd (other
+    (sym value ∙ t.value ∙ (let e : 0 * 10 ^ (length digits - 0) ≡ 0 = omega arith in e)))
 some_left units digits (d ∷ ds) other value t = omega arith
 
 decimals : (units : ℕ) → units < 10_000_000 → (units ≡ 0 → ⊥) → Decimals units (without_last_zeros (padded 7 (number_text units)))
@@ -87,13 +100,15 @@ decimals units small other =
       some = some_left units (padded 7 (number_text units)) (without_last_zeros (padded 7 (number_text units))) other is.value t;
       few = omega arith;
       all = t.all;
-      value = ap (λ k. decimal_value (without_last_zeros (padded 7 (number_text units))) * 10 ^ (k - length (without_last_zeros (padded 7 (number_text units))))) (sym wide) ∙ sym t.value ∙ is.value;
+      value = ap (λ k. decimal_value (without_last_zeros (padded 7 (number_text units))) * 10 ^
+          (k - length (without_last_zeros (padded 7 (number_text units))))) (sym wide) ∙ sym t.value ∙ is.value;
     }
 
 pub no_point : (b : ℕ) → is_ascii_digit b ≡ true → not (eqb b 46) ≡ true
 no_point b e = grind (arith, nat_tests)
 
-degrees_read : (units : ℕ) → units < 2 ^ 32 → reading_degrees (degree_parts (degrees_text units)).0 (degree_parts (degrees_text units)).1 ≡ Ok units
+degrees_read : (units : ℕ) → units < 2 ^ 32 → reading_degrees (degree_parts (degrees_text units)).0 (degree_parts (degrees_text units)).1
+    ≡ Ok units
 unfolding degrees_text fraction_text
 degrees_read units small =
     let whole = number_text (units / 10_000_000) in
@@ -101,7 +116,9 @@ degrees_read units small =
     let is = decimal (units / 10_000_000) in
     let lacks = all_weaker is_ascii_digit (λ b. not (eqb b 46)) no_point whole is.digits in
     let read = short_read whole 3 (units / 10_000_000) is (number_short (units / 10_000_000) 3 (omega arith) (omega arith)) in
-    elim (eqb part 0) as (λ t. eqb part 0 ≡ t → reading_degrees (degree_parts (whole ++ cond t [] (46 ∷ without_last_zeros (padded 7 (number_text part))))).0 (degree_parts (whole ++ cond t [] (46 ∷ without_last_zeros (padded 7 (number_text part))))).1 ≡ Ok units) [
+    elim (eqb part 0) as (λ t. eqb part 0 ≡ t → reading_degrees
+    (degree_parts (whole ++ cond t [] (46 ∷ without_last_zeros (padded 7 (number_text part))))).0
+    (degree_parts (whole ++ cond t [] (46 ∷ without_last_zeros (padded 7 (number_text part))))).1 ≡ Ok units) [
       | true ↦ λ none.
           let zero_part : part ≡ 0 = eqb-true part 0 none in
           ap (λ t. reading_degrees (degree_parts t).0 (degree_parts t).1) (append-nil whole)
@@ -111,14 +128,17 @@ degrees_read units small =
       | false ↦ λ some.
           let d = decimals part (omega arith) (λ e. eqb-false part 0 some e) in
           let text = without_last_zeros (padded 7 (number_text part)) in
-          let read_part : reading_short_numeral 7 text ≡ Ok (decimal_value text) = short_read text 7 (decimal_value text) (record { value = refl; digits = d.all; some = d.some }) d.few in
+          let read_part : reading_short_numeral 7 text ≡ Ok (decimal_value text) =
+          short_read text 7 (decimal_value text) (record { value = refl; digits = d.all; some = d.some }) d.few in
           ap (λ p. reading_degrees p.0 p.1) (split_front (is_end Points) whole text 46 lacks refl)
           ∙ ap (λ r. and_then r (λ n. as_value (λ m. n * 10_000_000 + decimals_value text m) (reading_short_numeral 7 text))) read
           ∙ ap (as_value (λ m. units / 10_000_000 * 10_000_000 + decimals_value text m)) read_part
-          ∙ ap (λ n. Ok n) (let v = d.value in let e : units / 10_000_000 * 10_000_000 + decimals_value text (decimal_value text) ≡ units = omega arith in e)
+          ∙ ap (λ n. Ok n) (let v = d.value in let e : units / 10_000_000 * 10_000_000 + decimals_value text (decimal_value text) ≡ units =
+          omega arith in e)
     ] refl
 
-no_sign : (text rest : List ℕ) → 0 < length text → list_all is_ascii_digit text ≡ true → (is_negative (text ++ rest) ≡ false) × (without_sign (text ++ rest) ≡ text ++ rest)
+no_sign : (text rest : List ℕ) → 0 < length text → list_all is_ascii_digit text ≡ true →
+    (is_negative (text ++ rest) ≡ false) × (without_sign (text ++ rest) ≡ text ++ rest)
 no_sign [] rest some all = absurd (omega arith)
 no_sign (b ∷ bs) rest some all =
     let other = minus_apart b (and_parts (is_ascii_digit b) (list_all is_ascii_digit bs) all).0 in
@@ -126,7 +146,8 @@ no_sign (b ∷ bs) rest some all =
 
 degrees_unsigned : (units : ℕ) → (is_negative (degrees_text units) ≡ false) × (without_sign (degrees_text units) ≡ degrees_text units)
 unfolding degrees_text
-degrees_unsigned units = let is = decimal (units / 10_000_000) in no_sign (number_text (units / 10_000_000)) (fraction_text (units % 10_000_000)) is.some is.digits
+degrees_unsigned units = let is = decimal (units / 10_000_000) in
+    no_sign (number_text (units / 10_000_000)) (fraction_text (units % 10_000_000)) is.some is.digits
 
 pub coordinate_is_read_back : CoordinateIsReadBack
 unfolding coordinate_text

@@ -1,5 +1,6 @@
 -- Where a text is cut first, and into which pieces.
-use Rattle.std.proofs.Common.{◌≡◌, ℕ, zero, suc, ◌+◌, ◌<◌, ◌≤◌, Bool, true, false, not, ◌&&◌, cond, List, [], ◌∷◌, ◌++◌, length, take, drop, get_or, refl, sym, ap, ◌∙◌, arith, add-one, drop-cons, Option, Some, None, position, ltb}
+use Rattle.std.proofs.Common.{◌≡◌, ℕ, zero, suc, ◌+◌, ◌<◌, ◌≤◌, Bool, true, false, not, ◌&&◌, cond, List, [], ◌∷◌, ◌++◌, length, take, drop}
+use Rattle.std.proofs.Common.{get_or, refl, sym, ap, ◌∙◌, arith, add-one, drop-cons, Option, Some, None, position, ltb}
 use Rattle.std.proofs.lemmas.Bool.{and_parts, ltb-true, ltb-false, lt-ltb, le-ltb}
 use Rattle.std.proofs.lemmas.Bool.Decides.{nat_tests}
 use Rattle.std.proofs.lemmas.List.{take_all, take-append-drop}
@@ -18,16 +19,20 @@ module _ (p : ℕ → Bool) where
   pub cut_split : (bytes : List ℕ) → cut p bytes ≡ (split_first p bytes).0 ∷ pieces_of p (split_first p bytes).1
   cut_split [] = refl
   cut_split (b ∷ bs) =
-      elim (p b) as (λ t. cond t ([] ∷ cut p bs) (begun_with b (cut p bs)) ≡ (cond t ([], Some bs) (lengthened b (split_first p bs))).0 ∷ pieces_of p (cond t ([], Some bs) (lengthened b (split_first p bs))).1) [
+      elim (p b) as (λ t. cond t ([] ∷ cut p bs) (begun_with b (cut p bs)) ≡ (cond t ([], Some bs) (lengthened b (split_first p bs))).0
+      ∷ pieces_of p (cond t ([], Some bs) (lengthened b (split_first p bs))).1) [
         | true ↦ refl
         | false ↦ ap (begun_with b) (cut_split bs)
       ]
 
-  split_found : (bytes : List ℕ) → let n = position_or_len p bytes in n < length bytes → split_first p bytes ≡ (take n bytes, Some (drop (n + 1) bytes))
+  split_found : (bytes : List ℕ) → let n = position_or_len p bytes in n < length bytes →
+      split_first p bytes ≡ (take n bytes, Some (drop (n + 1) bytes))
   split_found [] h = absurd (omega (arith, h))
   split_found (b ∷ bs) h =
       let n = position_or_len p bs in
-      elim (p b) as (λ t. cond (not t) (1 + n) 0 < suc (length bs) → cond t ([], Some bs) (lengthened b (split_first p bs)) ≡ (take (cond (not t) (1 + n) 0) (b ∷ bs), Some (drop (cond (not t) (1 + n) 0 + 1) (b ∷ bs)))) [
+      elim (p b) as (λ t. cond (not t) (1 + n) 0 < suc (length bs) →
+      cond t ([], Some bs) (lengthened b (split_first p bs))
+      ≡ (take (cond (not t) (1 + n) 0) (b ∷ bs), Some (drop (cond (not t) (1 + n) 0 + 1) (b ∷ bs)))) [
         | true ↦ λ _. refl
         | false ↦ λ k.
             let one : 1 + n ≡ suc n = omega arith in
@@ -39,7 +44,8 @@ module _ (p : ℕ → Bool) where
   split_none [] h = refl
   split_none (b ∷ bs) h =
       let n = position_or_len p bs in
-      elim (p b) as (λ t. suc (length bs) ≤ cond (not t) (1 + n) 0 → cond t ([], Some bs) (lengthened b (split_first p bs)) ≡ (b ∷ bs, None)) [
+      elim (p b) as (λ t. suc (length bs) ≤ cond (not t) (1 + n) 0 →
+      cond t ([], Some bs) (lengthened b (split_first p bs)) ≡ (b ∷ bs, None)) [
         | true ↦ λ k. absurd (omega (arith, k))
         | false ↦ λ k. ap (lengthened b) (split_none bs (omega (arith, k)))
       ] h
@@ -68,7 +74,8 @@ module _ (p : ℕ → Bool) where
   pub split_nowhere : (bytes : List ℕ) → position p bytes ≡ None → split_first p bytes ≡ (bytes, None)
   split_nowhere bytes found =
       let at = position_or_len p bytes in
-      elim (ltb at (length bytes)) as (λ t. ltb at (length bytes) ≡ t → cond t (Some at) None ≡ None → split_first p bytes ≡ (bytes, None)) [
+      elim (ltb at (length bytes)) as (λ t. ltb at (length bytes) ≡ t → cond t (Some at) None ≡ None →
+      split_first p bytes ≡ (bytes, None)) [
         | true ↦ λ e f. cc
         | false ↦ λ e f. split_none bytes (ltb-false _ _ e)
       ] refl found
@@ -85,7 +92,8 @@ module _ (p : ℕ → Bool) (bytes : List ℕ) where
 
   pub first_nowhere : NoneBelow (length bytes) → None ≡ position p bytes
   first_nowhere none =
-      let at : position_or_len p bytes ≡ length bytes = position_or_len_is p bytes (length bytes) 0 (omega arith) none (λ less. absurd (omega (arith, less))) in
+      let at : position_or_len p bytes ≡ length bytes =
+      position_or_len_is p bytes (length bytes) 0 (omega arith) none (λ less. absurd (omega (arith, less))) in
       rw (at, le-ltb (length bytes) (length bytes) (omega arith)) refl
 
   pub none_below : (n : ℕ) → n ≤ length bytes → NoneBelow n → list_all (λ x. not (p x)) (take n bytes) ≡ true
@@ -106,10 +114,12 @@ ends_ascii Points b e = grind (arith, nat_tests)
 
 -- so a text may be cut before and behind them
 pub cut_before : (at : Cut) (text : List ℕ) (n : ℕ) → position (is_end at) text ≡ Some n → IsCharBoundary text n
-cut_before at text n found = let s = split_at (is_end at) text n found in IsCharBoundary-before_ascii text n s.within (ends_ascii at _ s.passes)
+cut_before at text n found = let s = split_at (is_end at) text n found in
+    IsCharBoundary-before_ascii text n s.within (ends_ascii at _ s.passes)
 
 pub cut_behind : (at : Cut) (text : List ℕ) (n : ℕ) → IsUtf8 text → position (is_end at) text ≡ Some n → IsCharBoundary text (n + 1)
-cut_behind at text n utf8 found = let s = split_at (is_end at) text n found in IsCharBoundary-after_ascii text n utf8 s.within (ends_ascii at _ s.passes)
+cut_behind at text n utf8 found = let s = split_at (is_end at) text n found in
+    IsCharBoundary-after_ascii text n utf8 s.within (ends_ascii at _ s.passes)
 
 -- how much is left of what stands behind a first piece
 abbrev pub left_of : Option (List ℕ) → ℕ
@@ -118,7 +128,8 @@ left_of (Some bytes) = length bytes + 1
 
 module _ (p : ℕ → Bool) where
   -- where a text is split that has no earlier end
-  pub split_front : (front rest : List ℕ) (b : ℕ) → list_all (λ x. not (p x)) front ≡ true → p b ≡ true → split_first p (front ++ b ∷ rest) ≡ (front, Some rest)
+  pub split_front : (front rest : List ℕ) (b : ℕ) → list_all (λ x. not (p x)) front ≡ true → p b ≡ true →
+      split_first p (front ++ b ∷ rest) ≡ (front, Some rest)
   split_front [] rest b none is = rw is refl
   split_front (x ∷ xs) rest b none is =
       let parts = and_parts (not (p x)) (list_all (λ y. not (p y)) xs) none in
@@ -132,13 +143,17 @@ module _ (p : ℕ → Bool) where
       ap (λ t. cond t ([], Some xs) (lengthened x (split_first p xs))) (not_true (p x) parts.0) ∙ ap (lengthened x) (split_never xs parts.1)
 
   -- where a text is split of whose first bytes none passes
-  pub split_behind : (bytes : List ℕ) (n : ℕ) → n < length bytes → list_all (λ x. not (p x)) (take n bytes) ≡ true → p (get_or bytes n 0) ≡ true → split_first p bytes ≡ (take n bytes, Some (drop (n + 1) bytes))
+  pub split_behind : (bytes : List ℕ) (n : ℕ) → n < length bytes → list_all (λ x. not (p x)) (take n bytes) ≡ true →
+      p (get_or bytes n 0) ≡ true → split_first p bytes ≡ (take n bytes, Some (drop (n + 1) bytes))
   split_behind bytes n within none is =
-      let rest : take n bytes ++ drop n bytes ≡ take n bytes ++ get_or bytes n 0 ∷ drop (n + 1) bytes = rw (add-one, drop-cons bytes n 0) refl in
-      ap (split_first p) (sym (take-append-drop n bytes) ∙ rest) ∙ split_front (take n bytes) (drop (n + 1) bytes) (get_or bytes n 0) none is
+      let rest : take n bytes ++ drop n bytes ≡ take n bytes ++ get_or bytes n 0 ∷ drop (n + 1) bytes =
+      rw (add-one, drop-cons bytes n 0) refl in
+      ap (split_first p) (sym (take-append-drop n bytes) ∙ rest)
+      ∙ split_front (take n bytes) (drop (n + 1) bytes) (get_or bytes n 0) none is
 
   -- where it is not
-  pub split_whole : (bytes : List ℕ) (n : ℕ) → length bytes ≤ n → list_all (λ x. not (p x)) (take n bytes) ≡ true → split_first p bytes ≡ (take n bytes, None)
+  pub split_whole : (bytes : List ℕ) (n : ℕ) → length bytes ≤ n → list_all (λ x. not (p x)) (take n bytes) ≡ true →
+      split_first p bytes ≡ (take n bytes, None)
   split_whole bytes n all none =
       let same : take n bytes ≡ bytes = take_all n bytes all in
       split_never bytes (rw same at none) ∙ ap (λ t. (t, None)) (sym same)
@@ -155,6 +170,7 @@ module _ (p : ℕ → Bool) where
             omega arith
       ] e
 
-  pub split_leaves_less : (bytes piece : List ℕ) (behind : Option (List ℕ)) → split_first p bytes ≡ (piece, behind) → left_of behind < left_of (Some bytes)
+  pub split_leaves_less : (bytes piece : List ℕ) (behind : Option (List ℕ)) → split_first p bytes ≡ (piece, behind) →
+      left_of behind < left_of (Some bytes)
   split_leaves_less bytes piece None e = omega arith
   split_leaves_less bytes piece (Some rest) e = omega (arith, split_shorter bytes piece rest e)

@@ -13,7 +13,8 @@ use Rattle.osm_model.proofs.CalendarLaws.{civil-is_date}
 use Rattle.osm_model.proofs.JiffCalendar.{count}
 use borrow.Author.Differences.{up, down}
 
-pub bridge : (y m d : ℕ) → 1 ≤ d → up (jiff.days_from_civil (pos y) m d) + 719_528 ≡ down (jiff.days_from_civil (pos y) m d) + day_number y m d
+pub bridge : (y m d : ℕ) → 1 ≤ d → up (jiff.days_from_civil (pos y) m d) + 719_528
+    ≡ down (jiff.days_from_civil (pos y) m d) + day_number y m d
 bridge y m d h = omega (arith, days_from_civil-day_count (pos y) m d, count y m d h)
 
 -- a date's number, as the code computes it
@@ -24,10 +25,12 @@ pub cast : (r : ℤ) (n : ℕ) → r +ℤ pos 719_528 ≡ pos n → IsEpochDay r
 cast r n e b =
     let s : FitsSigned w32 r = fits_between w32 r (omega (arith, signed_arith), omega (arith, signed_arith)) in
     let p : to_z w32 (of_z w32 r) ≡ r = to_z-of_z s in
-    let f : FitsSigned w32 (pos n) = fits_between w32 (pos n) (omega (arith, signed_arith, ap up e, ap down e), omega (arith, signed_arith, ap up e, ap down e)) in
+    let f : FitsSigned w32 (pos n) = fits_between w32 (pos n)
+    (omega (arith, signed_arith, ap up e, ap down e), omega (arith, signed_arith, ap up e, ap down e)) in
     rw (p, e) (to_z-of_z f)
 
-pub dated : (date : Date) (y m d : ℕ) → y < 10000 → m < 100 → d < 100 → IsYmd (to_z w16 y) (to_z w8 m) (to_z w8 d) date → (date.year ≡ pos y) × (date.month ≡ m) × (date.day ≡ d)
+pub dated : (date : Date) (y m d : ℕ) → y < 10000 → m < 100 → d < 100 → IsYmd (to_z w16 y) (to_z w8 m) (to_z w8 d) date →
+    (date.year ≡ pos y) × (date.month ≡ m) × (date.day ≡ d)
 dated date y m d yl ml dl is = (
   is.0 ∙ to_z_pos w16 y (omega arith),
   (let e = is.1 ∙ to_z_pos w8 m (omega arith) in cc),
@@ -42,14 +45,16 @@ dated_is date y m d e =
     })
 
 -- what the code computes from a date
-pub computed : (date plain : Date) (r : ℤ) (y m d : ℕ) → (date.year ≡ pos y) × (date.month ≡ m) × (date.day ≡ d) → plain ≡ date → r ≡ epoch_day plain → IsEpochDay r →
+pub computed : (date plain : Date) (r : ℤ) (y m d : ℕ) → (date.year ≡ pos y) × (date.month ≡ m) × (date.day ≡ d) → plain ≡ date →
+    r ≡ epoch_day plain → IsEpochDay r →
     to_z w32 (of_z w32 (to_z w32 (of_z w32 r) +ℤ pos 719_528)) ≡ pos (day_number y m d)
 computed date plain r y m d e same is bound =
     let di : IsInRange 1 (days_in_month y m) d = rw (e.0, e.1, e.2) at date.day_in in
     let at : epoch_day date ≡ jiff.days_from_civil (pos y) m d = rw (e.0, e.1, e.2) refl in
     cast r (day_number y m d) (number_of r y m d di.0 (is ∙ ap epoch_day same ∙ at)) bound
 
-pub small : (date plain : Date) (r : ℤ) (y m d : ℕ) → (date.year ≡ pos y) × (date.month ≡ m) × (date.day ≡ d) → plain ≡ date → r ≡ epoch_day plain → IsEpochDay r →
+pub small : (date plain : Date) (r : ℤ) (y m d : ℕ) → (date.year ≡ pos y) × (date.month ≡ m) × (date.day ≡ d) → plain ≡ date →
+    r ≡ epoch_day plain → IsEpochDay r →
     Fits w32 (day_number y m d)
 small date plain r y m d e same is bound =
     let di : IsInRange 1 (days_in_month y m) d = rw (e.0, e.1, e.2) at date.day_in in

@@ -1,5 +1,6 @@
 -- Several bytes that are compared with others together.
-use Rattle.std.proofs.Common.{◌≡◌, ℕ, zero, suc, ◌%◌, ◌^◌, ◌≤◌, Bool, true, false, ◌||◌, cond, eqb, List, [], ◌∷◌, length, map, replicate, refl, sym, ap, ◌∙◌, arith, bit_or}
+use Rattle.std.proofs.Common.{◌≡◌, ℕ, zero, suc, ◌%◌, ◌^◌, ◌≤◌, Bool, true, false, ◌||◌, cond, eqb, List, [], ◌∷◌, length, map, replicate}
+use Rattle.std.proofs.Common.{refl, sym, ap, ◌∙◌, arith, bit_or}
 use Rattle.std.proofs.lemmas.List.{length-map}
 use Rattle.std.proofs.lemmas.Simd.{map-map, zip2_splat, zip2_of_maps, mask_l-mod}
 use lib.Lanes.{zip2, mask_l, top}
@@ -15,7 +16,8 @@ splat_left f c (x ∷ xs) (suc n) e = ap (λ rest. f c x ∷ rest) (splat_left f
 abbrev pub lanes : (ℕ → Bool) → List ℕ → List ℕ
 lanes p v = map (λ x. cond (p x) 255 0) v
 
-pub compared : (t : ℕ → ℕ → Bool) (v : List ℕ) (n y : ℕ) → length v ≡ n → zip2 (λ a b. cond (t a b) 255 0) v (replicate n y) ≡ lanes (λ x. t x y) v
+pub compared : (t : ℕ → ℕ → Bool) (v : List ℕ) (n y : ℕ) → length v ≡ n →
+    zip2 (λ a b. cond (t a b) 255 0) v (replicate n y) ≡ lanes (λ x. t x y) v
 compared t v n y long = zip2_splat (λ a b. cond (t a b) 255 0) v n y long
 
 both : (s t : Bool) → bit_or (cond s 255 0) (cond t 255 0) ≡ cond (s || t) 255 0
@@ -38,7 +40,9 @@ marked p v e few =
     ap (λ l. mask_l l % 2 ^ 64) tops ∙ mask_l-mod (map p v) 64 (omega (arith, length-map v p, few))
 
 -- the mask of several bytes, with a bit for each that is one of two
-pub two_marked : (p : ℕ → Bool) (one other : ℕ) (is : (x : ℕ) → p x ≡ (eqb x one || eqb x other)) (n : ℕ) (few : n ≤ 64) (v : List ℕ) (long : length v ≡ n) → mask_l (map (top 7) (zip2 bit_or (zip2 (λ a b. cond (eqb a b) 255 0) v (replicate n one)) (zip2 (λ a b. cond (eqb a b) 255 0) v (replicate n other)))) % 2 ^ 64 ≡ mask_l (map p v)
+pub two_marked : (p : ℕ → Bool) (one other : ℕ) (is : (x : ℕ) → p x ≡ (eqb x one || eqb x other)) (n : ℕ) (few : n ≤ 64) (v : List ℕ)
+    (long : length v ≡ n) → mask_l (map (top 7) (zip2 bit_or (zip2 (λ a b. cond (eqb a b) 255 0) v (replicate n one))
+    (zip2 (λ a b. cond (eqb a b) 255 0) v (replicate n other)))) % 2 ^ 64 ≡ mask_l (map p v)
 two_marked p one other is n few v long =
     let one_or_other = λ (x : ℕ). eqb x one || eqb x other in
     let two = either (λ x. eqb x one) (λ x. eqb x other) v (compared eqb v n one long) (compared eqb v n other long) in

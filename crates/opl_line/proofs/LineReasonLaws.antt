@@ -1,5 +1,6 @@
 -- What is refused is refused for the one reason of its line.
-use Rattle.std.proofs.Common.{◌≡◌, ◌⊎◌, ℕ, ℤ, true, false, not, cond, eqb, List, [], ◌∷◌, Option, Some, None, unwrap_or, Result, Ok, Err, IfErr, refl, sym, ap, ◌∙◌, subst, inl, inr, ⊎_elim}
+use Rattle.std.proofs.Common.{◌≡◌, ◌⊎◌, ℕ, ℤ, true, false, not, cond, eqb, List, [], ◌∷◌, Option, Some, None, unwrap_or, Result, Ok, Err}
+use Rattle.std.proofs.Common.{IfErr, refl, sym, ap, ◌∙◌, subst, inl, inr, ⊎_elim}
 use Rattle.std.proofs.lemmas.Bool.{eqb-true, eqb-false}
 use Rattle.std.proofs.lemmas.Str.{is_utf8-from_IsUtf8, IsUtf8-from_is_utf8}
 use Rattle.std.specs.List.{AllByRecursion}
@@ -19,15 +20,19 @@ use Rattle.opl_line.specs.declared.reason.OplReason.TheVariants.{NotUtf8, NoVers
 use Rattle.opl_line.specs.Answer.{and_then, as_value, Answers}
 use Rattle.opl_line.specs.Cut.{is_end, split_first, cut, pieces_of}
 use Rattle.opl_line.specs.Field.{nothing_said, reading_fields}
-use Rattle.opl_line.specs.Reading.{is_skipped, reading_object, meta_of, reading_location, reading_visible, reading_body, unless_fault, reading_whole, reading_version, reading_line}
+use Rattle.opl_line.specs.Reading.{is_skipped, reading_object, meta_of, reading_location, reading_visible, reading_body, unless_fault}
+use Rattle.opl_line.specs.Reading.{reading_whole, reading_version, reading_line}
 use Rattle.opl_line.specs.Content.{SpellsObject}
 use Rattle.opl_line.specs.Spells.{said_by, SpellsNothing}
-use Rattle.opl_line.specs.LineReason.{LacksLocation, WholeReason, no_version, no_time, no_location, LineReason, not_utf8, no_object, faulty_field, no_whole, ReasonIsTold, ToldIsReason, HasOneReason, NeitherHasOneReason, ReasonSpellsNothing}
+use Rattle.opl_line.specs.LineReason.{LacksLocation, WholeReason, no_version, no_time, no_location, LineReason, not_utf8, no_object}
+use Rattle.opl_line.specs.LineReason.{faulty_field, no_whole, ReasonIsTold, ToldIsReason, HasOneReason, NeitherHasOneReason}
+use Rattle.opl_line.specs.LineReason.{ReasonSpellsNothing}
 use Rattle.opl_line.proofs.NumeralLaws.{id_complete}
 use Rattle.opl_line.proofs.CutLaws.{cut_split}
 use Rattle.opl_line.proofs.PartLaws.{parts_of}
 use Rattle.opl_line.proofs.ReadingLaws as reading
-use Rattle.opl_line.proofs.SpellsLaws.{object_spelled, object_read, first_and_rest, tells_read, read_is_spelled, refused_spells_nothing, skipped_only, not_skipped}
+use Rattle.opl_line.proofs.SpellsLaws.{object_spelled, object_read, first_and_rest, tells_read, read_is_spelled, refused_spells_nothing}
+use Rattle.opl_line.proofs.SpellsLaws.{skipped_only, not_skipped}
 use Rattle.opl_line.proofs.MadeLaws.{made}
 use Rattle.opl_line.proofs.ReasonLaws.{still_refused, object_refused, object_reason_told}
 use Rattle.opl_line.proofs.FieldReasonLaws.{fields_refused, fields_told}
@@ -37,21 +42,25 @@ use Rattle.opl_line.proofs.RangeLaws.{id_within, line_within}
 use Rattle.opl_line.proofs.WithinLaws.{passes}
 
 -- ---- the location
-location_refused : (lon lat : Option ℤ) (tags : List Tag) (reason : OplReason) → reading_location lon lat tags ≡ Err reason → (NoLocation ≡ reason) × ((lon ≡ None) ⊎ (lat ≡ None))
+location_refused : (lon lat : Option ℤ) (tags : List Tag) (reason : OplReason) → reading_location lon lat tags ≡ Err reason →
+    (NoLocation ≡ reason) × ((lon ≡ None) ⊎ (lat ≡ None))
 location_refused None lat tags reason e = ((let same : NoLocation ≡ reason = cc in same), inl refl)
 location_refused (Some lon) None tags reason e = ((let same : NoLocation ≡ reason = cc in same), inr refl)
 location_refused (Some lon) (Some lat) tags reason e = cc
 
-visible_refused : (k : Kind) (fields : Fields) (reason : OplReason) → unwrap_or fields.deleted false ≡ false → reading_visible k fields ≡ Err reason → (NoLocation ≡ reason) × LacksLocation k fields
+visible_refused : (k : Kind) (fields : Fields) (reason : OplReason) → unwrap_or fields.deleted false ≡ false →
+    reading_visible k fields ≡ Err reason → (NoLocation ≡ reason) × LacksLocation k fields
 visible_refused kind.Node fields reason visible e =
     let l = location_refused (unwrap_or fields.longitude None) (unwrap_or fields.latitude None) (unwrap_or fields.tags []) reason e in
     (l.0, record { node = refl; visible = visible; lacks = l.1 })
 visible_refused kind.Way fields reason visible e = cc
 visible_refused kind.Relation fields reason visible e = cc
 
-body_refused : (k : Kind) (fields : Fields) (reason : OplReason) → reading_body k fields ≡ Err reason → (NoLocation ≡ reason) × LacksLocation k fields
+body_refused : (k : Kind) (fields : Fields) (reason : OplReason) → reading_body k fields ≡ Err reason →
+    (NoLocation ≡ reason) × LacksLocation k fields
 body_refused k fields reason =
-    elim (unwrap_or fields.deleted false) as (λ t. unwrap_or fields.deleted false ≡ t → cond t (Ok (Deleted k)) (reading_visible k fields) ≡ Err reason → (NoLocation ≡ reason) × LacksLocation k fields) [
+    elim (unwrap_or fields.deleted false) as (λ t. unwrap_or fields.deleted false ≡ t →
+    cond t (Ok (Deleted k)) (reading_visible k fields) ≡ Err reason → (NoLocation ≡ reason) × LacksLocation k fields) [
       | true ↦ λ deleted e. cc
       | false ↦ λ visible e. visible_refused k fields reason visible e
     ] refl
@@ -65,50 +74,62 @@ body_told : (k : Kind) (fields : Fields) → LacksLocation k fields → reading_
 body_told k fields l =
     let P : Kind → Type 0 = λ x. reading_visible x fields ≡ Err NoLocation in
     ap (λ t. cond t (Ok (Deleted k)) (reading_visible k fields)) l.visible
-    ∙ subst P (sym l.node) (location_told (unwrap_or fields.longitude None) (unwrap_or fields.latitude None) (unwrap_or fields.tags []) l.lacks)
+    ∙ subst P (sym l.node) (location_told (unwrap_or fields.longitude None) (unwrap_or fields.latitude None)
+    (unwrap_or fields.tags []) l.lacks)
 
 -- ---- what all fields say together
 not_zero : (n : ℕ) → (n ≡ 0 → ⊥) → eqb n 0 ≡ false
 not_zero n other = elim (eqb n 0) as (λ t. eqb n 0 ≡ t → t ≡ false) [ true ↦ λ e. absurd (other (eqb-true n 0 e)) | false ↦ λ e. refl ] refl
 
-whole_refused : (k : Kind) (id : ℤ) (fields : Fields) (reason : OplReason) → is_id id ≡ true → AreWithin fields → reading_whole k id fields ≡ Err reason → WholeReason k fields reason
+whole_refused : (k : Kind) (id : ℤ) (fields : Fields) (reason : OplReason) → is_id id ≡ true → AreWithin fields →
+    reading_whole k id fields ≡ Err reason → WholeReason k fields reason
 whole_refused k id fields reason is h refused =
     let n = unwrap_or fields.number 0 in
     let P : OplReason → Type 0 = WholeReason k fields in
     let make = λ (b : Body). unless_fault (version_or_fault id (meta_of fields) b) in
-    elim (eqb n 0) as (λ t. eqb n 0 ≡ t → cond t (Err NoVersion) (cond (not (is_dated (meta_of fields))) (Err NoTime) (and_then (reading_body k fields) make)) ≡ Err reason → WholeReason k fields reason) [
+    elim (eqb n 0) as (λ t. eqb n 0 ≡ t → cond t (Err NoVersion)
+    (cond (not (is_dated (meta_of fields))) (Err NoTime) (and_then (reading_body k fields) make)) ≡ Err reason →
+    WholeReason k fields reason) [
       | true ↦ λ none e. let same : NoVersion ≡ reason = cc in subst P same (no_version (eqb-true n 0 none))
-      | false ↦ λ some. elim (is_dated (meta_of fields)) as (λ t. is_dated (meta_of fields) ≡ t → cond (not t) (Err NoTime) (and_then (reading_body k fields) make) ≡ Err reason → WholeReason k fields reason) [
-        | false ↦ λ undated e. let same : NoTime ≡ reason = cc in subst P same (no_time (eqb-false n 0 some) undated)
-        | true ↦ λ dated. elim (reading_body k fields) as (λ r. reading_body k fields ≡ r → and_then r make ≡ Err reason → WholeReason k fields reason) [
-          | Err bad ↦ λ at e.
-              let same : bad ≡ reason = cc in
-              let l = body_refused k fields bad at in
-              subst P (l.0 ∙ same) (no_location (eqb-false n 0 some) dated l.1)
-          | Ok b ↦ λ at e.
-              let whole = made id (meta_of fields) b (passes k id fields b is h some dated at) in
-              let clash = sym (ap unless_fault whole) ∙ e in cc
-        ] refl
-      ] refl
+      | false ↦ λ some. elim (is_dated (meta_of fields)) as
+          (λ t. is_dated (meta_of fields) ≡ t → cond (not t) (Err NoTime) (and_then (reading_body k fields) make) ≡ Err reason →
+          WholeReason k fields reason) [
+            | false ↦ λ undated e. let same : NoTime ≡ reason = cc in subst P same (no_time (eqb-false n 0 some) undated)
+            | true ↦ λ dated. elim (reading_body k fields) as
+                (λ r. reading_body k fields ≡ r → and_then r make ≡ Err reason → WholeReason k fields reason) [
+                  | Err bad ↦ λ at e.
+                      let same : bad ≡ reason = cc in
+                      let l = body_refused k fields bad at in
+                      subst P (l.0 ∙ same) (no_location (eqb-false n 0 some) dated l.1)
+                  | Ok b ↦ λ at e.
+                      let whole = made id (meta_of fields) b (passes k id fields b is h some dated at) in
+                      let clash = sym (ap unless_fault whole) ∙ e in cc
+                ] refl
+          ] refl
     ] refl refused
 
-whole_told : (k : Kind) (id : ℤ) (fields : Fields) (reason : OplReason) → WholeReason k fields reason → reading_whole k id fields ≡ Err reason
+whole_told : (k : Kind) (id : ℤ) (fields : Fields) (reason : OplReason) → WholeReason k fields reason →
+    reading_whole k id fields ≡ Err reason
 whole_told k id fields reason (no_version none) =
     let make = λ (b : Body). unless_fault (version_or_fault id (meta_of fields) b) in
-    ap (λ n. cond (eqb n 0) (Err NoVersion) (cond (not (is_dated (meta_of fields))) (Err NoTime) (and_then (reading_body k fields) make))) none
+    ap (λ n. cond (eqb n 0) (Err NoVersion) (cond (not (is_dated (meta_of fields))) (Err NoTime)
+    (and_then (reading_body k fields) make))) none
 whole_told k id fields reason (no_time some undated) =
     let make = λ (b : Body). unless_fault (version_or_fault id (meta_of fields) b) in
-    ap (λ t. cond t (Err NoVersion) (cond (not (is_dated (meta_of fields))) (Err NoTime) (and_then (reading_body k fields) make))) (not_zero (unwrap_or fields.number 0) some)
+    ap (λ t. cond t (Err NoVersion) (cond (not (is_dated (meta_of fields))) (Err NoTime) (and_then (reading_body k fields) make)))
+    (not_zero (unwrap_or fields.number 0) some)
     ∙ ap (λ t. cond (not t) (Err NoTime) (and_then (reading_body k fields) make)) undated
 whole_told k id fields reason (no_location some dated lacks) =
     let make = λ (b : Body). unless_fault (version_or_fault id (meta_of fields) b) in
-    ap (λ t. cond t (Err NoVersion) (cond (not (is_dated (meta_of fields))) (Err NoTime) (and_then (reading_body k fields) make))) (not_zero (unwrap_or fields.number 0) some)
+    ap (λ t. cond t (Err NoVersion) (cond (not (is_dated (meta_of fields))) (Err NoTime) (and_then (reading_body k fields) make)))
+    (not_zero (unwrap_or fields.number 0) some)
     ∙ ap (λ t. cond (not t) (Err NoTime) (and_then (reading_body k fields) make)) dated
     ∙ ap (λ r. and_then r make) (body_told k fields lacks)
 
 -- ---- the line
 fields_fine : (line : List ℕ) (k : Kind) (id : ℤ) (fields : Fields) (reason : OplReason) → is_skipped line ≡ false → IsUtf8 line →
-    reading_object (split_first (is_end Blanks) line).0 ≡ Ok (k, id) → reading_fields k (pieces_of (is_end Blanks) (split_first (is_end Blanks) line).1) nothing_said ≡ Ok fields →
+    reading_object (split_first (is_end Blanks) line).0 ≡ Ok (k, id) →
+    reading_fields k (pieces_of (is_end Blanks) (split_first (is_end Blanks) line).1) nothing_said ≡ Ok fields →
     reading_whole k id fields ≡ Err reason → LineReason line reason
 fields_fine line k id fields reason kept utf8 at read e =
     let parts = split_first (is_end Blanks) line in
@@ -126,9 +147,11 @@ fields_fine line k id fields reason kept utf8 at read e =
       names = names;
       spelled = said.spelled;
       different = said.different;
-    }) (whole_refused k id (said_by said.parts) reason (id_within names.digits id (id_complete names.digits id names.spelled)) (line_within k pieces said.parts said.spelled all.1) (ap (reading_whole k id) (sym said.together) ∙ e))
+    }) (whole_refused k id (said_by said.parts) reason (id_within names.digits id (id_complete names.digits id names.spelled))
+    (line_within k pieces said.parts said.spelled all.1) (ap (reading_whole k id) (sym said.together) ∙ e))
 
-version_refused : (line : List ℕ) (reason : OplReason) → is_skipped line ≡ false → IsUtf8 line → reading_version line ≡ Err reason → LineReason line reason
+version_refused : (line : List ℕ) (reason : OplReason) → is_skipped line ≡ false → IsUtf8 line → reading_version line ≡ Err reason →
+    LineReason line reason
 unfolding reading_version
 version_refused line reason kept utf8 refused =
     let parts = split_first (is_end Blanks) line in
@@ -136,57 +159,72 @@ version_refused line reason kept utf8 refused =
     let parted = cut_split (is_end Blanks) line in
     let rest = λ (object : Kind × ℤ). and_then (reading_fields object.0 pieces nothing_said) (reading_whole object.0 object.1) in
     elim (reading_object parts.0) as (λ r. reading_object parts.0 ≡ r → and_then r rest ≡ Err reason → LineReason line reason) [
-      | Err bad ↦ λ at e. let same : bad ≡ reason = cc in no_object line parts.0 pieces reason kept utf8 parted (object_refused parts.0 reason (at ∙ ap (λ r. Err r) same))
-      | Ok object ↦ λ at. elim (reading_fields object.0 pieces nothing_said) as (λ r. reading_fields object.0 pieces nothing_said ≡ r → and_then r (reading_whole object.0 object.1) ≡ Err reason → LineReason line reason) [
-        | Err bad ↦ λ read e.
-            let same : bad ≡ reason = cc in
-            faulty_field line parts.0 pieces object.0 object.1 reason kept utf8 parted (object_spelled parts.0 object.0 object.1 at) (fields_refused object.0 pieces reason (read ∙ ap (λ r. Err r) same))
-        | Ok fields ↦ λ read e. fields_fine line object.0 object.1 fields reason kept utf8 at read e
-      ] refl
+      | Err bad ↦ λ at e. let same : bad ≡ reason = cc in
+          no_object line parts.0 pieces reason kept utf8 parted (object_refused parts.0 reason (at ∙ ap (λ r. Err r) same))
+      | Ok object ↦ λ at. elim (reading_fields object.0 pieces nothing_said) as
+          (λ r. reading_fields object.0 pieces nothing_said ≡ r → and_then r (reading_whole object.0 object.1) ≡ Err reason →
+          LineReason line reason) [
+            | Err bad ↦ λ read e.
+                let same : bad ≡ reason = cc in
+                faulty_field line parts.0 pieces object.0 object.1 reason kept utf8 parted (object_spelled parts.0 object.0 object.1 at)
+                (fields_refused object.0 pieces reason (read ∙ ap (λ r. Err r) same))
+            | Ok fields ↦ λ read e. fields_fine line object.0 object.1 fields reason kept utf8 at read e
+          ] refl
     ] refl refused
 
 pub told_is_reason : ToldIsReason
 told_is_reason line reason =
     let P : OplReason → Type 0 = LineReason line in
-    elim (is_skipped line) as (λ t. is_skipped line ≡ t → cond t (Ok None) (cond (is_utf8 line) (as_value (λ w. Some w) (reading_version line)) (Err NotUtf8)) ≡ Err reason → LineReason line reason) [
+    elim (is_skipped line) as (λ t. is_skipped line ≡ t →
+    cond t (Ok None) (cond (is_utf8 line) (as_value (λ w. Some w) (reading_version line)) (Err NotUtf8)) ≡ Err reason →
+    LineReason line reason) [
       | true ↦ λ skipped e. cc
-      | false ↦ λ kept. elim (is_utf8 line) as (λ t. is_utf8 line ≡ t → cond t (as_value (λ w. Some w) (reading_version line)) (Err NotUtf8) ≡ Err reason → LineReason line reason) [
-        | true ↦ λ utf8 e. version_refused line reason kept (IsUtf8-from_is_utf8 line utf8) (still_refused (λ (w : VersionData). Some w) (reading_version line) reason e)
-        | false ↦ λ other e.
-            let same : NotUtf8 ≡ reason = cc in
-            subst P same (not_utf8 line kept (λ utf8. let clash = sym other ∙ is_utf8-from_IsUtf8 line utf8 in cc))
-      ] refl
+      | false ↦ λ kept. elim (is_utf8 line) as (λ t. is_utf8 line ≡ t →
+          cond t (as_value (λ w. Some w) (reading_version line)) (Err NotUtf8) ≡ Err reason → LineReason line reason) [
+            | true ↦ λ utf8 e. version_refused line reason kept (IsUtf8-from_is_utf8 line utf8)
+                (still_refused (λ (w : VersionData). Some w) (reading_version line) reason e)
+            | false ↦ λ other e.
+                let same : NotUtf8 ≡ reason = cc in
+                subst P same (not_utf8 line kept (λ utf8. let clash = sym other ∙ is_utf8-from_IsUtf8 line utf8 in cc))
+          ] refl
     ] refl
 
-version_told : (line : List ℕ) (reason : OplReason) → is_skipped line ≡ false → IsUtf8 line → reading_version line ≡ Err reason → reading_line line ≡ Err reason
+version_told : (line : List ℕ) (reason : OplReason) → is_skipped line ≡ false → IsUtf8 line → reading_version line ≡ Err reason →
+    reading_line line ≡ Err reason
 version_told line reason kept utf8 e = reading.utf8_line line kept utf8 ∙ ap (as_value (λ w. Some w)) e
 
-object_told : (line object : List ℕ) (others : List (List ℕ)) (reason : OplReason) → cut (is_end Blanks) line ≡ object ∷ others → reading_object object ≡ Err reason → reading_version line ≡ Err reason
+object_told : (line object : List ℕ) (others : List (List ℕ)) (reason : OplReason) → cut (is_end Blanks) line ≡ object ∷ others →
+    reading_object object ≡ Err reason → reading_version line ≡ Err reason
 unfolding reading_version
 object_told line object others reason parted e =
     let pieces = pieces_of (is_end Blanks) (split_first (is_end Blanks) line).1 in
     let rest = λ (o : Kind × ℤ). and_then (reading_fields o.0 pieces nothing_said) (reading_whole o.0 o.1) in
     ap (λ r. and_then r rest) (ap reading_object (first_and_rest line object others parted).0 ∙ e)
 
-fields_of_line_told : (line object : List ℕ) (others : List (List ℕ)) (k : Kind) (id : ℤ) (reason : OplReason) → cut (is_end Blanks) line ≡ object ∷ others → SpellsObject object k id → reading_fields k others nothing_said ≡ Err reason →
+fields_of_line_told : (line object : List ℕ) (others : List (List ℕ)) (k : Kind) (id : ℤ) (reason : OplReason) →
+    cut (is_end Blanks) line ≡ object ∷ others → SpellsObject object k id → reading_fields k others nothing_said ≡ Err reason →
     reading_version line ≡ Err reason
 unfolding reading_version
 fields_of_line_told line object others k id reason parted names e =
     let pieces = pieces_of (is_end Blanks) (split_first (is_end Blanks) line).1 in
     let at = first_and_rest line object others parted in
     let rest = λ (o : Kind × ℤ). and_then (reading_fields o.0 pieces nothing_said) (reading_whole o.0 o.1) in
-    ap (λ r. and_then r rest) (ap reading_object at.0 ∙ object_read object k id names) ∙ ap (λ r. and_then r (reading_whole k id)) (ap (λ ps. reading_fields k ps nothing_said) at.1 ∙ e)
+    ap (λ r. and_then r rest) (ap reading_object at.0 ∙ object_read object k id names)
+    ∙ ap (λ r. and_then r (reading_whole k id)) (ap (λ ps. reading_fields k ps nothing_said) at.1 ∙ e)
 
 pub reason_is_told : ReasonIsTold
 reason_is_told line reason (not_utf8 line' kept other) = reading.not_utf8 line' kept other
 reason_is_told line reason (no_object line' object others reason' kept utf8 parted faulty) =
     version_told line' reason' kept utf8 (object_told line' object others reason' parted (object_reason_told object reason' faulty))
 reason_is_told line reason (faulty_field line' object others k id reason' kept utf8 parted names faulty) =
-    version_told line' reason' kept utf8 (fields_of_line_told line' object others k id reason' parted names (fields_told k others reason' faulty))
+    version_told line' reason' kept utf8 (fields_of_line_told line' object others k id reason' parted names
+    (fields_told k others reason' faulty))
 reason_is_told line reason (no_whole line' k id parts reason' tells faulty) =
-    version_told line' reason' tells.not_skipped tells.utf8 (tells_read line' k id parts tells ∙ whole_told k id (said_by parts) reason' faulty)
+    version_told line' reason' tells.not_skipped tells.utf8
+    (tells_read line' k id parts tells ∙ whole_told k id (said_by parts) reason' faulty)
 
-neither_by : (line : List ℕ) (answer : Result (Option VersionData) OplReason) → SpellsNothing line → reading_line line ≡ answer → HasOneReason line
+neither_by : (line : List ℕ) (answer : Result (Option VersionData) OplReason) → SpellsNothing line → reading_line line ≡ answer →
+    HasOneReason line
 neither_by line (Ok None) nothing e = let clash = sym nothing.kept ∙ skipped_only line e in cc
 neither_by line (Ok (Some v)) nothing e = absurd (nothing.none v (read_is_spelled line v e))
 neither_by line (Err reason) nothing e = record {
@@ -204,6 +242,7 @@ reason_spells_nothing line reason h =
     record { kept = not_skipped line reason e; none = λ v s. refused_spells_nothing line reason v e s }
 
 -- an answer other than Memory tells the reason
-pub answer_reason : (line : List ℕ) (answer : Result (Option VersionData) OplReason) → Answers (reading_line line) answer → IfErr answer (λ reason. (reason ≡ Memory) ⊎ LineReason line reason)
+pub answer_reason : (line : List ℕ) (answer : Result (Option VersionData) OplReason) → Answers (reading_line line) answer →
+    IfErr answer (λ reason. (reason ≡ Memory) ⊎ LineReason line reason)
 answer_reason line (Ok read) h = tt
 answer_reason line (Err reason) h = ⊎_elim (λ memory. inl memory) (λ refused. inr (told_is_reason line reason refused)) h

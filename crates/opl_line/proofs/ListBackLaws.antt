@@ -1,5 +1,6 @@
 -- Canonical lists spell their items.
-use Rattle.std.proofs.Common.{◌≡◌, ◌≢◌, ℕ, ℤ, ◌<◌, Bool, true, false, not, eqb, ◌&&◌, List, [], ◌∷◌, ◌++◌, length, map, refl, sym, ap, ◌∙◌, subst, arith}
+use Rattle.std.proofs.Common.{◌≡◌, ◌≢◌, ℕ, ℤ, ◌<◌, Bool, true, false, not, eqb, ◌&&◌, List, [], ◌∷◌, ◌++◌, length, map, refl, sym, ap, ◌∙◌}
+use Rattle.std.proofs.Common.{subst, arith}
 use Rattle.std.proofs.lemmas.Bool.{and_parts, eqb-true}
 use Rattle.std.proofs.lemmas.List.{length-append}
 use Rattle.std.specs.List.{list_all}
@@ -36,7 +37,8 @@ lacking c [] l = refl
 lacking c (x ∷ xs) l = ap (λ t. t && list_all (λ b. not (eqb b c)) xs) (apart x c l.0) ∙ lacking c xs l.1
 
 -- texts without the separator are the pieces that they are joined from
-pub cut_joined : (p : ℕ → Bool) (c : ℕ) → p c ≡ true → (text : List ℕ) (texts : List (List ℕ)) → list_all (λ t. list_all (λ b. not (p b)) t) (text ∷ texts) ≡ true → cut p (joined c (text ∷ texts)) ≡ text ∷ texts
+pub cut_joined : (p : ℕ → Bool) (c : ℕ) → p c ≡ true → (text : List ℕ) (texts : List (List ℕ)) →
+    list_all (λ t. list_all (λ b. not (p b)) t) (text ∷ texts) ≡ true → cut p (joined c (text ∷ texts)) ≡ text ∷ texts
 cut_joined p c is text [] all =
     let here = and_parts (list_all (λ b. not (p b)) text) true all in
     cut_split p text ∙ ap (λ s. s.0 ∷ pieces_of p s.1) (split_never p text here.0)
@@ -46,7 +48,8 @@ cut_joined p c is text (next ∷ more) all =
     ∙ ap (λ s. s.0 ∷ pieces_of p s.1) (split_front p text (joined c (next ∷ more)) c here.0 is)
     ∙ ap (λ ps. text ∷ ps) (cut_joined p c is next more here.1)
 
-some_list : {X : Type 0} (Spells : List ℕ → X → Type 0) (content : List ℕ) (xs : List X) → 0 < length content → Pairwise Spells (cut (is_end Commas) content) xs → SpellsList Spells content xs
+some_list : {X : Type 0} (Spells : List ℕ → X → Type 0) (content : List ℕ) (xs : List X) → 0 < length content →
+    Pairwise Spells (cut (is_end Commas) content) xs → SpellsList Spells content xs
 some_list Spells [] xs some h = absurd (omega arith)
 some_list Spells (b ∷ bs) xs some h = h
 
@@ -54,7 +57,8 @@ some_joined : (c : ℕ) (text : List ℕ) (texts : List (List ℕ)) → 0 < leng
 some_joined c text [] some = some
 some_joined c text (next ∷ more) some = omega (arith, length-append text (c ∷ joined c (next ∷ more)))
 
-module _ {X : Type 0} (text : X → List ℕ) (lacks : (x : X) → Lacks 44 (text x)) (some : (x : X) → 0 < length (text x)) (Spells : List ℕ → X → Type 0) where
+module _ {X : Type 0} (text : X → List ℕ) (lacks : (x : X) → Lacks 44 (text x)) (some : (x : X) → 0 < length (text x))
+    (Spells : List ℕ → X → Type 0) where
   lacking_all : (xs : List X) → list_all (λ t. list_all (λ b. not (is_end Commas b)) t) (map text xs) ≡ true
   lacking_all [] = refl
   lacking_all (x ∷ xs) = λ i. lacking 44 (text x) (lacks x) i && lacking_all xs i
@@ -78,7 +82,8 @@ tag_spelled t key value =
       parted =
           cut_split (is_end Equals) (tag_text t)
           ∙ ap (λ s. s.0 ∷ pieces_of (is_end Equals) s.1) (split_front (is_end Equals) (escape t.key) (escape t.value) 61 lacks_key refl)
-          ∙ ap (λ ps. escape t.key ∷ ps) (cut_split (is_end Equals) (escape t.value) ∙ ap (λ s. s.0 ∷ pieces_of (is_end Equals) s.1) (split_never (is_end Equals) (escape t.value) lacks_value));
+          ∙ ap (λ ps. escape t.key ∷ ps) (cut_split (is_end Equals) (escape t.value)
+          ∙ ap (λ s. s.0 ∷ pieces_of (is_end Equals) s.1) (split_never (is_end Equals) (escape t.value) lacks_value));
       spells_key = key;
       spells_value = value;
     }
@@ -97,20 +102,24 @@ some_tag t = omega (arith, length-append (escape t.key) (61 ∷ escape t.value))
 references_spelled : (ids : List ℤ) → list_all is_id ids ≡ true → Pairwise SpellsReference (map reference_text ids) ids
 references_spelled [] all = tt
 references_spelled (id ∷ ids) all =
-    let parts = and_parts (is_id id) (list_all is_id ids) all in
-    (record { digits = integer_text id; lettered = refl; spelled = id_sound (integer_text id) id (id_is_read_back id parts.0) }, references_spelled ids parts.1)
+    let parts = and_parts (is_id id) (list_all is_id ids) all in (
+      record { digits = integer_text id; lettered = refl; spelled = id_sound (integer_text id) id (id_is_read_back id parts.0) },
+      references_spelled ids parts.1,
+    )
 
 -- ---- members
 member_spelled : (m : Member) → is_id m.id ≡ true → SpellsCharacters (escape m.role) m.role → SpellsMember (member_text m) m
 member_spelled m is role = record {
   object = kind_letter m.kind ∷ integer_text m.id;
   role = escape m.role;
-  parted = split_front (is_end Ats) (kind_letter m.kind ∷ integer_text m.id) (escape m.role) 64 (lacking 64 (kind_letter m.kind ∷ integer_text m.id) (object_lacks at m.kind m.id)) refl;
+  parted = split_front (is_end Ats) (kind_letter m.kind ∷ integer_text m.id) (escape m.role) 64
+      (lacking 64 (kind_letter m.kind ∷ integer_text m.id) (object_lacks at m.kind m.id)) refl;
   names = record { digits = integer_text m.id; lettered = refl; spelled = id_sound (integer_text m.id) m.id (id_is_read_back m.id is) };
   spells_role = role;
 }
 
-members_spelled : (ms : List Member) → list_all is_id (ids_of_members ms) ≡ true → list_all is_text (roles_of ms) ≡ true → Pairwise SpellsMember (map member_text ms) ms
+members_spelled : (ms : List Member) → list_all is_id (ids_of_members ms) ≡ true → list_all is_text (roles_of ms) ≡ true →
+    Pairwise SpellsMember (map member_text ms) ms
 members_spelled [] ids texts = tt
 members_spelled (m ∷ ms) ids texts =
     let id = and_parts (is_id m.id) (list_all is_id (ids_of_members ms)) ids in
@@ -121,5 +130,6 @@ pub lists_are_spelled : ListsAreSpelled
 lists_are_spelled = (
   (λ tags texts. list_spelled tag_text (tag_lacks comma (differs 61 44 (omega arith))) some_tag SpellsTag tags (tags_spelled tags texts)),
   (λ ids all. list_spelled reference_text (reference_lacks comma) (λ id. omega arith) SpellsReference ids (references_spelled ids all)),
-  (λ ms ids texts. list_spelled member_text (member_lacks comma (differs 64 44 (omega arith))) (λ m. omega arith) SpellsMember ms (members_spelled ms ids texts)),
+  (λ ms ids texts. list_spelled member_text (member_lacks comma (differs 64 44 (omega arith))) (λ m. omega arith) SpellsMember ms
+      (members_spelled ms ids texts)),
 )

@@ -31,7 +31,8 @@ pub record Passes (id : ℤ) (meta : Meta) (b : Body) : Type 0 where
 pub without_fault : (id : ℤ) (meta : Meta) (b : Body) → Passes id meta b → first_fault id meta b ≡ None
 without_fault id meta b p =
     λ i. first_of_tests (
-    (not (p.ids i), fault.IdRange) ∷ (p.number i, fault.NoVersion) ∷ (not (p.numbers i), fault.NumberRange) ∷ (not (p.time i), fault.TimeRange) ∷ (not (p.dated i), fault.NoTime) ∷ (not (p.texts i), fault.ZeroInText) ∷ []
+    (not (p.ids i), fault.IdRange) ∷ (p.number i, fault.NoVersion) ∷ (not (p.numbers i), fault.NumberRange)
+    ∷ (not (p.time i), fault.TimeRange) ∷ (not (p.dated i), fault.NoTime) ∷ (not (p.texts i), fault.ZeroInText) ∷ []
     )
 
 pub made : (id : ℤ) (meta : Meta) (b : Body) → Passes id meta b → version_or_fault id meta b ≡ Ok (version_of id meta b)
@@ -48,7 +49,9 @@ pub valid_time : (time : Option ℕ) → ForSome time (λ t. (0 < t) × (t < 2 ^
 valid_time None h = refl
 valid_time (Some t) h = let range = h t refl in λ i. lt-ltb 0 t range.0 i && lt-ltb t (2 ^ 32) range.1 i
 
-valid_author : (time : Option ℕ) (changeset uid : ℕ) (user : List ℕ) (number : ℕ) → (time ≡ None → (changeset ≡ 0) × (uid ≡ 0) × (user ≡ [])) → is_dated (record { version = number; time = time; changeset = changeset; uid = uid; user = user }) ≡ true
+valid_author : (time : Option ℕ) (changeset uid : ℕ) (user : List ℕ) (number : ℕ) →
+    (time ≡ None → (changeset ≡ 0) × (uid ≡ 0) × (user ≡ [])) →
+    is_dated (record { version = number; time = time; changeset = changeset; uid = uid; user = user }) ≡ true
 valid_author None changeset uid user number h = let none = h refl in λ i. eqb (none.0 i) 0 && (eqb (none.1 i) 0 && is_empty (none.2 i))
 valid_author (Some t) changeset uid user number h = refl
 
@@ -66,7 +69,8 @@ version_made v is =
     made v.id (meta_of_version v) v.body (record {
       ids = is.ids;
       number = some_number v.number is.number_above;
-      numbers = (λ i. lt-ltb v.number (2 ^ 32) is.number_below i && (lt-ltb v.changeset (2 ^ 32) is.changeset i && (lt-ltb v.uid (2 ^ 32) is.uid i && true)));
+      numbers = (λ i. lt-ltb v.number (2 ^ 32) is.number_below i
+          && (lt-ltb v.changeset (2 ^ 32) is.changeset i && (lt-ltb v.uid (2 ^ 32) is.uid i && true)));
       time = valid_time v.time is.time;
       dated = valid_author v.time v.changeset v.uid v.user v.number is.author;
       texts = is.texts;

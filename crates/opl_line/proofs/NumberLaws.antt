@@ -1,5 +1,6 @@
 -- The digits of a number, one by one.
-use Rattle.std.proofs.Common.{◌≡◌, ℕ, ◌+◌, ◌-◌, ◌*◌, ◌^◌, ◌<◌, ◌≤◌, min, suc, true, false, ◌&&◌, List, [], ◌∷◌, length, take, ◌==◌, leb, not, add-one, refl, arith, cond, Some, None, Ok, Err, IfOk}
+use Rattle.std.proofs.Common.{◌≡◌, ℕ, ◌+◌, ◌-◌, ◌*◌, ◌^◌, ◌<◌, ◌≤◌, min, suc, true, false, ◌&&◌, List, [], ◌∷◌, length, take, ◌==◌, leb}
+use Rattle.std.proofs.Common.{not, add-one, refl, arith, cond, Some, None, Ok, Err, IfOk}
 use Rattle.std.proofs.lemmas.Bool.{and_parts, leb-true, le-leb}
 use Rattle.std.specs.Char.{is_ascii_digit}
 use Rattle.std.specs.Option.{ok_or}
@@ -32,7 +33,8 @@ below_power number count most small few =
     omega arith
 
 -- the value of few digits is small
-decimal_below : (digits : List ℕ) (n k : ℕ) → list_all is_ascii_digit digits ≡ true → n < 10 ^ k → fold with_digit n digits < 10 ^ (length digits + k)
+decimal_below : (digits : List ℕ) (n k : ℕ) → list_all is_ascii_digit digits ≡ true → n < 10 ^ k →
+    fold with_digit n digits < 10 ^ (length digits + k)
 decimal_below [] n k all small = let none : 0 + k ≡ k = omega arith in rw none small
 decimal_below (d ∷ ds) n k all small =
     let parts = and_parts _ _ all in
@@ -58,16 +60,20 @@ pub scale_below : (decimals : ℕ) → 10 ^ (7 - decimals) ≤ 10 ^ 7
 scale_below decimals = let less : 7 - decimals ≤ 7 = omega arith in let some : 0 < 10 = omega arith in pow-le-pow_right some less
 
 -- few digits, and so many at most
-pub short_numeral : (digits : List ℕ) (most : ℕ) → length digits ≤ most → ok_or (value_of digits) BadCoordinate ≡ reading_short_numeral most digits
+pub short_numeral : (digits : List ℕ) (most : ℕ) → length digits ≤ most →
+    ok_or (value_of digits) BadCoordinate ≡ reading_short_numeral most digits
 short_numeral digits most few =
-    elim (is_numeral digits) as (λ t. ok_or (cond t (Some (decimal_value digits)) None) BadCoordinate ≡ cond (t && leb (length digits) most) (Ok (decimal_value digits)) (Err BadCoordinate)) [
+    elim (is_numeral digits) as (λ t. ok_or (cond t (Some (decimal_value digits)) None) BadCoordinate
+    ≡ cond (t && leb (length digits) most) (Ok (decimal_value digits)) (Err BadCoordinate)) [
       | true ↦ rw (le-leb (length digits) most few) refl
       | false ↦ refl
     ]
 
 pub short_below : (digits : List ℕ) (most : ℕ) → IfOk (reading_short_numeral most digits) (λ n. n < 10 ^ most)
 short_below digits most =
-    elim (is_numeral digits && leb (length digits) most) as (λ t. (is_numeral digits && leb (length digits) most) ≡ t → IfOk (cond t (Ok (decimal_value digits)) (Err BadCoordinate)) (λ n. n < 10 ^ most)) [
+    elim (is_numeral digits && leb (length digits) most) as
+    (λ t. (is_numeral digits && leb (length digits) most) ≡ t →
+    IfOk (cond t (Ok (decimal_value digits)) (Err BadCoordinate)) (λ n. n < 10 ^ most)) [
       | true ↦ λ e. let parts = and_parts _ _ e in numeral_below digits most parts.0 (leb-true (length digits) most parts.1)
       | false ↦ λ e. tt
     ] refl

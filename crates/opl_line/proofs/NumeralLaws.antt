@@ -1,5 +1,6 @@
 -- Numbers, ids and marks that are read are spelled so, and the reverse.
-use Rattle.std.proofs.Common.{◌≡◌, ◌≤◌, ℕ, ℤ, pos, Bool, true, false, not, cond, eqb, leb, List, [], ◌∷◌, length, Ok, Err, refl, sym, ap, ◌∙◌, subst}
+use Rattle.std.proofs.Common.{◌≡◌, ◌≤◌, ℕ, ℤ, pos, Bool, true, false, not, cond, eqb, leb, List, [], ◌∷◌, length, Ok, Err, refl, sym, ap}
+use Rattle.std.proofs.Common.{◌∙◌, subst}
 use Rattle.std.proofs.lemmas.Bool.{and_parts, eqb-true, leb-true, le-leb}
 use Rattle.std.specs.Char.{is_ascii_digit}
 use Rattle.std.specs.List.{list_all}
@@ -7,7 +8,8 @@ use Rattle.opl_line.specs.declared.reason.OplReason.TheVariants.{BadNumber, OutO
 use Rattle.opl_line.specs.Answer.{as_value}
 use Rattle.opl_line.specs.Number.{is_numeral, decimal_value, up_to, reading_number, signed, reading_id}
 use Rattle.opl_line.specs.Field.{reading_number_32, reading_count, reading_deleted}
-use Rattle.opl_line.specs.Content.{SpellsNumeral, SpellsNumber, SpellsCount, no_count, some_count, SpellsId, plain_id, minus_id, SpellsDeleted, visible_mark, deleted_mark}
+use Rattle.opl_line.specs.Content.{SpellsNumeral, SpellsNumber, SpellsCount, no_count, some_count, SpellsId, plain_id, minus_id}
+use Rattle.opl_line.specs.Content.{SpellsDeleted, visible_mark, deleted_mark}
 use Rattle.opl_line.proofs.AnswerLaws.{became}
 use Rattle.opl_line.proofs.CanonicalLaws.{minus_apart}
 
@@ -17,12 +19,17 @@ module _ (most : ℕ) where
   number_sound text n =
       let value = decimal_value text in
       elim (is_numeral text) as (λ t. is_numeral text ≡ t → cond t (up_to most value) (Err BadNumber) ≡ Ok n → SpellsNumber most text n) [
-        | true ↦ λ numeral. elim (leb value most) as (λ t. leb value most ≡ t → cond t (Ok value) (Err OutOfRange) ≡ Ok n → SpellsNumber most text n) [
-          | true ↦ λ few e.
-              let same : value ≡ n = cc in
-              record { digits_spell = record { numeral = numeral; value = same }; bound = subst (λ m. m ≤ most) same (leb-true value most few) }
-          | false ↦ λ many e. cc
-        ] refl
+        | true ↦ λ numeral. elim (leb value most) as (λ t. leb value most ≡ t → cond t (Ok value) (Err OutOfRange) ≡ Ok n →
+            SpellsNumber most text n) [
+              | true ↦ λ few e.
+                  let same : value ≡ n = cc in
+                  record {
+                    digits_spell = record { numeral = numeral; value = same };
+                    bound =
+                        subst (λ m. m ≤ most) same (leb-true value most few);
+                  }
+              | false ↦ λ many e. cc
+            ] refl
         | false ↦ λ other e. cc
       ] refl
 

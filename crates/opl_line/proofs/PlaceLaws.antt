@@ -1,5 +1,6 @@
 -- Times and coordinates that are read are spelled so, and the reverse.
-use Rattle.std.proofs.Common.{◌≡◌, ◌≤◌, ℕ, ℤ, ◌+◌, ◌*◌, ◌^◌, Bool, true, false, not, cond, eqb, leb, ltb, ◌&&◌, List, [], ◌∷◌, ◌++◌, length, Option, Some, None, Result, Ok, Err, refl, sym, ap, ◌∙◌, subst, append-nil}
+use Rattle.std.proofs.Common.{◌≡◌, ◌≤◌, ℕ, ℤ, ◌+◌, ◌*◌, ◌^◌, Bool, true, false, not, cond, eqb, leb, ltb, ◌&&◌, List, [], ◌∷◌, ◌++◌, length}
+use Rattle.std.proofs.Common.{Option, Some, None, Result, Ok, Err, refl, sym, ap, ◌∙◌, subst, append-nil}
 use Rattle.std.proofs.lemmas.Bool.{and_parts, eqb-true, leb-true, le-leb, ltb-true}
 use Rattle.std.specs.Char.{is_ascii_digit}
 use Rattle.std.specs.List.{list_all}
@@ -11,9 +12,11 @@ use Rattle.opl_line.specs.declared.reason.OplReason.TheVariants.{BadCoordinate, 
 use Rattle.opl_line.specs.Answer.{and_then, as_value}
 use Rattle.opl_line.specs.Cut.{is_end, lengthened}
 use Rattle.opl_line.specs.Field.{reading_optional}
-use Rattle.opl_line.specs.Number.{is_numeral, decimal_value, signed, is_negative, without_sign, decimals_value, degree_parts, reading_short_numeral, reading_degrees, reading_units, reading_coordinate}
+use Rattle.opl_line.specs.Number.{is_numeral, decimal_value, signed, is_negative, without_sign, decimals_value, degree_parts}
+use Rattle.opl_line.specs.Number.{reading_short_numeral, reading_degrees, reading_units, reading_coordinate}
 use Rattle.opl_line.specs.Time.{reading_time}
-use Rattle.opl_line.specs.Content.{SpellsNumeral, SpellsTime, SpellsDegrees, whole_degrees, with_decimals, SpellsCoordinate, plain_degrees, minus_degrees, SpellsPlace, no_place, some_place}
+use Rattle.opl_line.specs.Content.{SpellsNumeral, SpellsTime, SpellsDegrees, whole_degrees, with_decimals, SpellsCoordinate, plain_degrees}
+use Rattle.opl_line.specs.Content.{minus_degrees, SpellsPlace, no_place, some_place}
 use Rattle.opl_line.proofs.AnswerLaws.{both, became}
 use Rattle.opl_line.proofs.CanonicalTimeLaws.{time_canonical, no_time}
 use Rattle.opl_line.proofs.ContentLaws.{all_weaker}
@@ -23,7 +26,8 @@ use Rattle.opl_line.proofs.NumeralLaws.{numeral_unsigned}
 use Rattle.opl_line.proofs.TimeLaws.{time_is_read_back}
 
 -- a content that isn't empty
-some_optional : {X : Type 0} (reading : List ℕ → Result X OplReason) (text : List ℕ) (x : X) → (reading [] ≡ Ok x → ⊥) → reading text ≡ Ok x → reading_optional reading text ≡ Ok (Some x)
+some_optional : {X : Type 0} (reading : List ℕ → Result X OplReason) (text : List ℕ) (x : X) → (reading [] ≡ Ok x → ⊥) →
+    reading text ≡ Ok x → reading_optional reading text ≡ Ok (Some x)
 some_optional reading [] x none e = absurd (none e)
 some_optional reading (b ∷ bs) x none e = ap (as_value (λ y. Some y)) e
 
@@ -60,7 +64,8 @@ short_sound most digits n =
       | false ↦ λ other e. cc
     ] refl
 
-short_complete : (most : ℕ) (digits : List ℕ) (n : ℕ) → SpellsNumeral digits n → length digits ≤ most → reading_short_numeral most digits ≡ Ok n
+short_complete : (most : ℕ) (digits : List ℕ) (n : ℕ) → SpellsNumeral digits n → length digits ≤ most →
+    reading_short_numeral most digits ≡ Ok n
 short_complete most digits n s few = λ i. cond (s.numeral i && le-leb (length digits) most few i) (Ok (s.value i)) (Err BadCoordinate)
 
 -- the parts before and after a point, put together again
@@ -82,32 +87,38 @@ parted (b ∷ bs) =
       | false ↦ λ other. ap (λ t. b ∷ t) (parted bs) ∙ sym (longer b (degree_parts bs))
     ] refl
 
-degrees_of : (parts : List ℕ × Option (List ℕ)) (units : ℕ) → reading_degrees parts.0 parts.1 ≡ Ok units → SpellsDegrees (rejoined parts) units
+degrees_of : (parts : List ℕ × Option (List ℕ)) (units : ℕ) → reading_degrees parts.0 parts.1 ≡ Ok units →
+    SpellsDegrees (rejoined parts) units
 unfolding rejoined
 degrees_of (whole, None) units e =
     let r = became (λ (n : ℕ). n * 10_000_000) (reading_short_numeral 3 whole) units e in
     let s = short_sound 3 whole r.from r.said_so in
     subst (SpellsDegrees whole) r.became (whole_degrees whole r.from s.numeral s.few)
 degrees_of (whole, Some decimals) units e =
-    let b = both (reading_short_numeral 3 whole) (λ (n : ℕ). as_value (λ (d : ℕ). n * 10_000_000 + decimals_value decimals d) (reading_short_numeral 7 decimals)) units e in
+    let b = both (reading_short_numeral 3 whole) (λ (n : ℕ).
+    as_value (λ (d : ℕ). n * 10_000_000 + decimals_value decimals d) (reading_short_numeral 7 decimals)) units e in
     let r = became (λ (d : ℕ). b.between * 10_000_000 + decimals_value decimals d) (reading_short_numeral 7 decimals) units b.then_done in
     let s = short_sound 3 whole b.between b.done in
     let t = short_sound 7 decimals r.from r.said_so in
     subst (SpellsDegrees (whole ++ 46 ∷ decimals)) r.became (with_decimals whole decimals b.between r.from s.numeral s.few t.numeral t.few)
 
-degrees_sound : (text : List ℕ) (units : ℕ) → reading_degrees (degree_parts text).0 (degree_parts text).1 ≡ Ok units → SpellsDegrees text units
+degrees_sound : (text : List ℕ) (units : ℕ) → reading_degrees (degree_parts text).0 (degree_parts text).1 ≡ Ok units →
+    SpellsDegrees text units
 degrees_sound text units e = subst (λ t. SpellsDegrees t units) (sym (parted text)) (degrees_of (degree_parts text) units e)
 
 no_points : (digits : List ℕ) (n : ℕ) → SpellsNumeral digits n → list_all (λ b. not (eqb b 46)) digits ≡ true
-no_points digits n s = all_weaker is_ascii_digit (λ b. not (eqb b 46)) no_point digits (and_parts (not (eqb (length digits) 0)) (list_all is_ascii_digit digits) s.numeral).1
+no_points digits n s = all_weaker is_ascii_digit (λ b. not (eqb b 46)) no_point digits
+    (and_parts (not (eqb (length digits) 0)) (list_all is_ascii_digit digits) s.numeral).1
 
-degrees_complete : (text : List ℕ) (units : ℕ) → SpellsDegrees text units → reading_degrees (degree_parts text).0 (degree_parts text).1 ≡ Ok units
+degrees_complete : (text : List ℕ) (units : ℕ) → SpellsDegrees text units →
+    reading_degrees (degree_parts text).0 (degree_parts text).1 ≡ Ok units
 degrees_complete text units (whole_degrees digits n s few) =
     ap (λ p. reading_degrees p.0 p.1) (split_never (is_end Points) digits (no_points digits n s))
     ∙ ap (as_value (λ m. m * 10_000_000)) (short_complete 3 digits n s few)
 degrees_complete text units (with_decimals digits decimals n d s few t short) =
     ap (λ p. reading_degrees p.0 p.1) (split_front (is_end Points) digits decimals 46 (no_points digits n s) refl)
-    ∙ ap (λ r. and_then r (λ m. as_value (λ k. m * 10_000_000 + decimals_value decimals k) (reading_short_numeral 7 decimals))) (short_complete 3 digits n s few)
+    ∙ ap (λ r. and_then r (λ m. as_value (λ k. m * 10_000_000 + decimals_value decimals k) (reading_short_numeral 7 decimals)))
+    (short_complete 3 digits n s few)
     ∙ ap (as_value (λ k. n * 10_000_000 + decimals_value decimals k)) (short_complete 7 decimals d t short)
 
 -- ---- coordinates
@@ -126,16 +137,21 @@ units_sound negative n units =
 pub coordinate_sound : (text : List ℕ) (units : ℤ) → reading_coordinate text ≡ Ok units → SpellsCoordinate text units
 coordinate_sound [] units e = cc
 coordinate_sound (b ∷ bs) units e =
-    elim (eqb b 45) as (λ t. eqb b 45 ≡ t → and_then (reading_degrees (degree_parts (cond t bs (b ∷ bs))).0 (degree_parts (cond t bs (b ∷ bs))).1) (reading_units t) ≡ Ok units → SpellsCoordinate (b ∷ bs) units) [
+    elim (eqb b 45) as (λ t. eqb b 45 ≡ t → and_then
+    (reading_degrees (degree_parts (cond t bs (b ∷ bs))).0 (degree_parts (cond t bs (b ∷ bs))).1) (reading_units t) ≡ Ok units →
+    SpellsCoordinate (b ∷ bs) units) [
       | true ↦ λ minus read.
           let r = both (reading_degrees (degree_parts bs).0 (degree_parts bs).1) (reading_units true) units read in
           let u = units_sound true r.between units r.then_done in
-          let of_bs : SpellsCoordinate (45 ∷ bs) (signed true r.between) = minus_degrees bs r.between (degrees_sound bs r.between r.done) u.bound in
-          subst (SpellsCoordinate (b ∷ bs)) u.value (subst (λ c. SpellsCoordinate (c ∷ bs) (signed true r.between)) (sym (eqb-true b 45 minus)) of_bs)
+          let of_bs : SpellsCoordinate (45 ∷ bs) (signed true r.between) =
+          minus_degrees bs r.between (degrees_sound bs r.between r.done) u.bound in
+          subst (SpellsCoordinate (b ∷ bs)) u.value (subst (λ c. SpellsCoordinate (c ∷ bs) (signed true r.between))
+          (sym (eqb-true b 45 minus)) of_bs)
       | false ↦ λ plain read.
           let r = both (reading_degrees (degree_parts (b ∷ bs)).0 (degree_parts (b ∷ bs)).1) (reading_units false) units read in
           let u = units_sound false r.between units r.then_done in
-          let of_all : SpellsCoordinate (b ∷ bs) (signed false r.between) = plain_degrees (b ∷ bs) r.between (degrees_sound (b ∷ bs) r.between r.done) u.bound in
+          let of_all : SpellsCoordinate (b ∷ bs) (signed false r.between) =
+          plain_degrees (b ∷ bs) r.between (degrees_sound (b ∷ bs) r.between r.done) u.bound in
           subst (SpellsCoordinate (b ∷ bs)) u.value of_all
     ] refl e
 
@@ -154,8 +170,10 @@ degrees_unsigned : (text : List ℕ) (units : ℕ) → SpellsDegrees text units 
 degrees_unsigned text units (whole_degrees digits n s few) = subst IsUnsigned (append-nil digits) (numeral_first digits [] n s)
 degrees_unsigned text units (with_decimals digits decimals n d s few t short) = numeral_first digits (46 ∷ decimals) n s
 
-units_complete : (negative : Bool) (n : ℕ) → n ≤ cond negative 2_147_483_648 2_147_483_647 → reading_units negative n ≡ Ok (signed negative n)
-units_complete negative n few = ap (λ t. cond t (Ok (signed negative n)) (Err OutOfRange)) (le-leb n (cond negative 2_147_483_648 2_147_483_647) few)
+units_complete : (negative : Bool) (n : ℕ) → n ≤ cond negative 2_147_483_648 2_147_483_647 →
+    reading_units negative n ≡ Ok (signed negative n)
+units_complete negative n few = ap (λ t. cond t (Ok (signed negative n)) (Err OutOfRange))
+    (le-leb n (cond negative 2_147_483_648 2_147_483_647) few)
 
 coordinate_complete : (text : List ℕ) (units : ℤ) → SpellsCoordinate text units → reading_coordinate text ≡ Ok units
 coordinate_complete text units (plain_degrees bytes n s few) =
@@ -174,4 +192,5 @@ place_sound (b ∷ bs) place e =
 
 pub place_complete : (text : List ℕ) (place : Option ℤ) → SpellsPlace text place → reading_optional reading_coordinate text ≡ Ok place
 place_complete text place no_place = refl
-place_complete text place (some_place bytes units s) = some_optional reading_coordinate bytes units (λ e. cc) (coordinate_complete bytes units s)
+place_complete text place (some_place bytes units s) =
+    some_optional reading_coordinate bytes units (λ e. cc) (coordinate_complete bytes units s)

@@ -1,5 +1,6 @@
 -- Texts without an escape, told by several bytes at a time.
-use Rattle.std.proofs.Common.{◌≡◌, ℕ, ◌%◌, ◌^◌, ◌≤◌, Bool, true, false, not, cond, eqb, leb, ◌&&◌, ◌||◌, bit_or, List, [], ◌∷◌, length, take, map, replicate, refl, sym, ap, ◌∙◌, arith, Some, None, position}
+use Rattle.std.proofs.Common.{◌≡◌, ℕ, ◌%◌, ◌^◌, ◌≤◌, Bool, true, false, not, cond, eqb, leb, ◌&&◌, ◌||◌, bit_or, List, [], ◌∷◌, length}
+use Rattle.std.proofs.Common.{take, map, replicate, refl, sym, ap, ◌∙◌, arith, Some, None, position}
 use Rattle.std.proofs.lemmas.Bool.Decides.{nat_tests}
 use Rattle.std.proofs.lemmas.List.{take_all}
 use Rattle.std.specs.List.{list_all}
@@ -38,9 +39,13 @@ module _ (n : ℕ) (few : n ≤ 64) (v : List ℕ) (long : length v ≡ n) where
   abbrev same : ℕ → List ℕ
   same b = zip2 (λ x y. cond (eqb x y) 255 0) v (replicate n b)
 
-  pub odd_marked : mask_l (map (top 7) (zip2 bit_or (zip2 bit_or (zip2 bit_or (zip2 bit_or (zip2 bit_or (zip2 (λ x y. cond (leb x y) 255 0) v (replicate n 32)) (zip2 (λ x y. cond (leb x y) 255 0) (replicate n 127) v)) (same 37)) (same 44)) (same 61)) (same 64))) % 2 ^ 64 ≡ mask_l (map (λ x. not (is_raw_byte x)) v)
+  pub odd_marked : mask_l (map (top 7) (zip2 bit_or
+      (zip2 bit_or (zip2 bit_or (zip2 bit_or (zip2 bit_or (zip2 (λ x y. cond (leb x y) 255 0) v (replicate n 32))
+      (zip2 (λ x y. cond (leb x y) 255 0) (replicate n 127) v)) (same 37)) (same 44)) (same 61)) (same 64))) % 2 ^ 64
+      ≡ mask_l (map (λ x. not (is_raw_byte x)) v)
   odd_marked =
-      let edges = either (λ x. leb x 32) (λ x. leb 127 x) v (compared leb v n 32 long) (splat_left (λ x y. cond (leb x y) 255 0) 127 v n long) in
+      let edges = either (λ x. leb x 32) (λ x. leb 127 x) v (compared leb v n 32 long)
+      (splat_left (λ x y. cond (leb x y) 255 0) 127 v n long) in
       let percents = either (λ x. leb x 32 || leb 127 x) (λ x. eqb x 37) v edges (equal 37) in
       let commas = either (λ x. (leb x 32 || leb 127 x) || eqb x 37) (λ x. eqb x 44) v percents (equal 44) in
       let equals = either (λ x. ((leb x 32 || leb 127 x) || eqb x 37) || eqb x 44) (λ x. eqb x 61) v commas (equal 61) in
@@ -60,4 +65,5 @@ module _ (passes : ℕ → Bool) where
 
   pub passing_throughout : (bytes : List ℕ) → position fails bytes ≡ None → list_all passes (take (length bytes) bytes) ≡ true
   passing_throughout bytes none =
-      ap (list_all passes) (take_all (length bytes) bytes (omega arith)) ∙ sym (ap (λ parts. list_all passes parts.0) (split_nowhere fails bytes none)) ∙ front_passes bytes
+      ap (list_all passes) (take_all (length bytes) bytes (omega arith))
+      ∙ sym (ap (λ parts. list_all passes parts.0) (split_nowhere fails bytes none)) ∙ front_passes bytes

@@ -1,5 +1,6 @@
 -- Where the raw characters of a text end.
-use Rattle.std.proofs.Common.{◌≡◌, ℕ, ◌+◌, ◌<◌, Bool, true, false, not, cond, eqb, ◌&&◌, List, [], ◌∷◌, ◌++◌, length, take, drop, get_or, Some, None, Ok, position, refl, sym, ap, ◌∙◌, add-one}
+use Rattle.std.proofs.Common.{◌≡◌, ℕ, ◌+◌, ◌<◌, Bool, true, false, not, cond, eqb, ◌&&◌, List, [], ◌∷◌, ◌++◌, length, take, drop, get_or}
+use Rattle.std.proofs.Common.{Some, None, Ok, position, refl, sym, ap, ◌∙◌, add-one}
 use Rattle.std.proofs.lemmas.Bool.{and_parts}
 use Rattle.std.proofs.lemmas.List.{take-append-drop}
 use Rattle.std.proofs.Math.Seq.{drop-cons}
@@ -26,7 +27,8 @@ twice false e = cc
 front_raw : (bytes : List ℕ) → list_all stands_for_itself (split_first is_other bytes).0 ≡ true
 front_raw [] = refl
 front_raw (b ∷ bs) =
-    elim (stands_for_itself b) as (λ t. stands_for_itself b ≡ t → list_all stands_for_itself (cond (not t) ([], Some bs) (lengthened b (split_first is_other bs))).0 ≡ true) [
+    elim (stands_for_itself b) as (λ t. stands_for_itself b ≡ t →
+    list_all stands_for_itself (cond (not t) ([], Some bs) (lengthened b (split_first is_other bs))).0 ≡ true) [
       | true ↦ λ is. λ i. is i && front_raw bs i
       | false ↦ λ is. refl
     ] refl
@@ -50,36 +52,48 @@ raw_end bytes n found =
     }
 
 -- a percent sign ends them
-pub percent_ends : (bytes : List ℕ) (n : ℕ) → RawEnd bytes n → get_or bytes n 0 ≡ 37 → split_first (is_end Percents) bytes ≡ (take n bytes, Some (drop (n + 1) bytes))
+pub percent_ends : (bytes : List ℕ) (n : ℕ) → RawEnd bytes n → get_or bytes n 0 ≡ 37 →
+    split_first (is_end Percents) bytes ≡ (take n bytes, Some (drop (n + 1) bytes))
 percent_ends bytes n end is =
     ap (split_first (is_end Percents)) (end.whole ∙ ap (λ b. take n bytes ++ b ∷ drop (n + 1) bytes) is)
-    ∙ split_front (is_end Percents) (take n bytes) (drop (n + 1) bytes) 37 (all_weaker stands_for_itself (λ b. not (eqb b 37)) raw_no_percent (take n bytes) end.raw) refl
+    ∙ split_front (is_end Percents) (take n bytes) (drop (n + 1) bytes) 37
+    (all_weaker stands_for_itself (λ b. not (eqb b 37)) raw_no_percent (take n bytes) end.raw) refl
 
 -- another character is in the piece before the first percent sign
-unraw : (front rest : List ℕ) (b : ℕ) → list_all stands_for_itself front ≡ true → stands_for_itself b ≡ false → eqb b 37 ≡ false → list_all stands_for_itself (split_first (is_end Percents) (front ++ b ∷ rest)).0 ≡ false
+unraw : (front rest : List ℕ) (b : ℕ) → list_all stands_for_itself front ≡ true → stands_for_itself b ≡ false → eqb b 37 ≡ false →
+    list_all stands_for_itself (split_first (is_end Percents) (front ++ b ∷ rest)).0 ≡ false
 unraw [] rest b all other apart =
     ap (λ t. list_all stands_for_itself (cond t ([], Some rest) (lengthened b (split_first (is_end Percents) rest))).0) apart
     ∙ ap (λ t. t && list_all stands_for_itself (split_first (is_end Percents) rest).0) other
 unraw (x ∷ xs) rest b all other apart =
     let parts = and_parts (stands_for_itself x) (list_all stands_for_itself xs) all in
-    ap (λ t. list_all stands_for_itself (cond t ([], Some (xs ++ b ∷ rest)) (lengthened x (split_first (is_end Percents) (xs ++ b ∷ rest)))).0) (not_true (eqb x 37) (raw_no_percent x parts.0))
+    ap (λ t. list_all stands_for_itself (cond t ([], Some (xs ++ b ∷ rest))
+    (lengthened x (split_first (is_end Percents) (xs ++ b ∷ rest)))).0) (not_true (eqb x 37) (raw_no_percent x parts.0))
     ∙ (λ i. parts.0 i && unraw xs rest b parts.1 other apart i)
 
-pub other_ends : (bytes : List ℕ) (n : ℕ) → RawEnd bytes n → eqb (get_or bytes n 0) 37 ≡ false → list_all stands_for_itself (split_first (is_end Percents) bytes).0 ≡ false
-other_ends bytes n end apart = ap (λ t. list_all stands_for_itself (split_first (is_end Percents) t).0) end.whole ∙ unraw (take n bytes) (drop (n + 1) bytes) (get_or bytes n 0) end.raw end.other apart
+pub other_ends : (bytes : List ℕ) (n : ℕ) → RawEnd bytes n → eqb (get_or bytes n 0) 37 ≡ false →
+    list_all stands_for_itself (split_first (is_end Percents) bytes).0 ≡ false
+other_ends bytes n end apart = ap (λ t. list_all stands_for_itself (split_first (is_end Percents) t).0) end.whole
+    ∙ unraw (take n bytes) (drop (n + 1) bytes) (get_or bytes n 0) end.raw end.other apart
 
 -- nothing ends them
 abbrev pub AllRaw : List ℕ → Type 0
 AllRaw bytes = (list_all stands_for_itself bytes ≡ true) × (split_first (is_end Percents) bytes ≡ (bytes, None))
 
 pub raw_alone : (bytes : List ℕ) → list_all stands_for_itself bytes ≡ true → AllRaw bytes
-raw_alone bytes raw = (raw, split_never (is_end Percents) bytes (all_weaker stands_for_itself (λ b. not (eqb b 37)) raw_no_percent bytes raw))
+raw_alone bytes raw = (
+  raw,
+  split_never (is_end Percents) bytes
+      (all_weaker stands_for_itself (λ b. not (eqb b 37)) raw_no_percent bytes raw),
+)
 
 pub all_raw : (bytes : List ℕ) → position is_other bytes ≡ None → AllRaw bytes
-all_raw bytes none = raw_alone bytes (sym (ap (λ parts. list_all stands_for_itself parts.0) (split_nowhere is_other bytes none)) ∙ front_raw bytes)
+all_raw bytes none = raw_alone bytes (sym (ap (λ parts. list_all stands_for_itself parts.0) (split_nowhere is_other bytes none))
+    ∙ front_raw bytes)
 
 -- the text that raw characters spell
-pub raw_text : (bytes : List ℕ) → list_all stands_for_itself bytes ≡ true → ok_or (option_map chars (text_of_pieces (bytes, None))) BadText ≡ Ok (chars bytes)
+pub raw_text : (bytes : List ℕ) → list_all stands_for_itself bytes ≡ true →
+    ok_or (option_map chars (text_of_pieces (bytes, None))) BadText ≡ Ok (chars bytes)
 raw_text bytes raw =
     ap (λ t. ok_or (option_map chars (cond t (text_from bytes []) None)) BadText) raw
     ∙ ap (λ text. ok_or (option_map chars text) BadText) (all_read bytes [] refl)

@@ -14,7 +14,8 @@ use Rattle.opl_line.specs.Reading.{is_skipped, meta_of, reading_body, unless_fau
 
 pub not_utf8 : (line : List ℕ) → is_skipped line ≡ false → (IsUtf8 line → ⊥) → reading_line line ≡ Err NotUtf8
 not_utf8 line kept other =
-    rw kept (elim (is_utf8 line) as (λ t. is_utf8 line ≡ t → cond t (as_value (λ v. Some v) (reading_version line)) (Err NotUtf8) ≡ Err NotUtf8) [
+    rw kept (elim (is_utf8 line) as (λ t. is_utf8 line ≡ t →
+    cond t (as_value (λ v. Some v) (reading_version line)) (Err NotUtf8) ≡ Err NotUtf8) [
       | true ↦ λ e. absurd (other (IsUtf8-from_is_utf8 line e))
       | false ↦ λ e. refl
     ] refl)
@@ -22,19 +23,23 @@ not_utf8 line kept other =
 pub utf8_line : (line : List ℕ) → is_skipped line ≡ false → IsUtf8 line → reading_line line ≡ as_value (λ v. Some v) (reading_version line)
 utf8_line line kept utf8 = rw (kept, is_utf8-from_IsUtf8 line utf8) refl
 
-pub whole_line : (kind : Kind) (id : ℤ) (fields : Fields) (meta : Meta) (body : Body) → meta ≡ meta_of fields → (meta.version == 0) ≡ false → is_dated meta ≡ true → reading_body kind fields ≡ Ok body →
+pub whole_line : (kind : Kind) (id : ℤ) (fields : Fields) (meta : Meta) (body : Body) → meta ≡ meta_of fields →
+    (meta.version == 0) ≡ false → is_dated meta ≡ true → reading_body kind fields ≡ Ok body →
     unless_fault (version_or_fault id meta body) ≡ reading_whole kind id fields
 whole_line kind id fields meta body same numbered dated read =
     let numbered_fields : ((meta_of fields).version == 0) ≡ false = sym (ap (λ m. m.version == 0) same) ∙ numbered in
     let dated_fields : is_dated (meta_of fields) ≡ true = sym (ap is_dated same) ∙ dated in
     ap (λ m. unless_fault (version_or_fault id m body)) same
     ∙ sym (
-    ap (λ t. cond t (Err NoVersion) (cond (not (is_dated (meta_of fields))) (Err NoTime) (and_then (reading_body kind fields) (λ b. unless_fault (version_or_fault id (meta_of fields) b))))) numbered_fields
-    ∙ ap (λ t. cond (not t) (Err NoTime) (and_then (reading_body kind fields) (λ b. unless_fault (version_or_fault id (meta_of fields) b)))) dated_fields
+    ap (λ t. cond t (Err NoVersion) (cond (not (is_dated (meta_of fields))) (Err NoTime)
+    (and_then (reading_body kind fields) (λ b. unless_fault (version_or_fault id (meta_of fields) b))))) numbered_fields
+    ∙ ap (λ t. cond (not t) (Err NoTime) (and_then (reading_body kind fields)
+    (λ b. unless_fault (version_or_fault id (meta_of fields) b)))) dated_fields
     ∙ ap (λ r. and_then r (λ b. unless_fault (version_or_fault id (meta_of fields) b))) read
     )
 
 -- what answers a reading, with its value as another one
-pub as_answer : {X Y : Type 0} (f : X → Y) (reading answer : Result X OplReason) → Answers reading answer → Answers (as_value f reading) (as_value f answer)
+pub as_answer : {X Y : Type 0} (f : X → Y) (reading answer : Result X OplReason) → Answers reading answer →
+    Answers (as_value f reading) (as_value f answer)
 as_answer f reading (Ok x) h = ap (as_value f) h
 as_answer f reading (Err reason) h = ⊎_elim (λ memory. inl memory) (λ refused. inr (ap (as_value f) refused)) h

@@ -1,5 +1,6 @@
 -- Contents that are refused are faulty, and the reverse.
-use Rattle.std.proofs.Common.{◌≡◌, ℕ, ℤ, true, false, cond, eqb, List, [], ◌∷◌, ◌++◌, Option, Some, None, Result, Ok, Err, refl, sym, ap, ◌∙◌, subst, inl, inr, ⊎_elim}
+use Rattle.std.proofs.Common.{◌≡◌, ℕ, ℤ, true, false, cond, eqb, List, [], ◌∷◌, ◌++◌, Option, Some, None, Result, Ok, Err, refl, sym, ap}
+use Rattle.std.proofs.Common.{◌∙◌, subst, inl, inr, ⊎_elim}
 use Rattle.std.proofs.lemmas.Bool.{eqb-true, eqb-false}
 use Rattle.std.specs.Option.{option_map, ok_or}
 use Rattle.std.specs.Str.{chars}
@@ -14,14 +15,18 @@ use Rattle.opl_line.specs.declared.reason.OplReason.TheVariants.{UnknownKind, Ba
 use Rattle.opl_line.specs.Answer.{and_then, as_value, with_reason}
 use Rattle.opl_line.specs.Cut.{is_end, split_first, cut}
 use Rattle.opl_line.specs.Number.{reading_id}
-use Rattle.opl_line.specs.Item.{reading_items, reading_list, tag_of_pieces, reading_tag, item_reason, reading_item_id, reading_reference, kind_of_letter, reading_named, reading_object_name, member_of_parts, reading_member}
+use Rattle.opl_line.specs.Item.{reading_items, reading_list, tag_of_pieces, reading_tag, item_reason, reading_item_id, reading_reference}
+use Rattle.opl_line.specs.Item.{kind_of_letter, reading_named, reading_object_name, member_of_parts, reading_member}
 use Rattle.opl_line.specs.Text.{text_of, reading_text}
 use Rattle.opl_line.specs.Content.{SpellsTag, SpellsReference, SpellsMember}
 use Rattle.opl_line.specs.Reading.{reading_kind_and_id, reading_object}
-use Rattle.opl_line.specs.LineReason.{SpellsNoText, ObjectReason, no_kind, no_id, TagReason, uneven, no_text, ReferenceReason, no_letter, no_number, MemberReason, no_at, no_name, no_role, FirstReason, ListReason}
-use Rattle.opl_line.proofs.ContentLaws.{characters_sound, characters_complete, tag_sound, tag_complete, reference_sound, reference_complete, member_sound, member_complete, name_sound, name_complete, kind_of_its_letter, letter_of_kind}
+use Rattle.opl_line.specs.LineReason.{SpellsNoText, ObjectReason, no_kind, no_id, TagReason, uneven, no_text, ReferenceReason, no_letter}
+use Rattle.opl_line.specs.LineReason.{no_number, MemberReason, no_at, no_name, no_role, FirstReason, ListReason}
+use Rattle.opl_line.proofs.ContentLaws.{characters_sound, characters_complete, tag_sound, tag_complete, reference_sound, reference_complete}
+use Rattle.opl_line.proofs.ContentLaws.{member_sound, member_complete, name_sound, name_complete, kind_of_its_letter, letter_of_kind}
 
-pub still_refused : {X Y : Type 0} (f : X → Y) (said : Result X OplReason) (reason : OplReason) → as_value f said ≡ Err reason → said ≡ Err reason
+pub still_refused : {X Y : Type 0} (f : X → Y) (said : Result X OplReason) (reason : OplReason) → as_value f said ≡ Err reason →
+    said ≡ Err reason
 still_refused f (Ok x) reason e = cc
 still_refused f (Err bad) reason e = let same : bad ≡ reason = cc in ap (λ r. Err r) same
 
@@ -31,7 +36,8 @@ record FromReason {X : Type 0} (f : OplReason → OplReason) (said : Result X Op
   said_so : said ≡ Err from
   became : f from ≡ reason
 
-from_reason : {X : Type 0} (f : OplReason → OplReason) (said : Result X OplReason) (reason : OplReason) → with_reason f said ≡ Err reason → FromReason f said reason
+from_reason : {X : Type 0} (f : OplReason → OplReason) (said : Result X OplReason) (reason : OplReason) → with_reason f said ≡ Err reason →
+    FromReason f said reason
 from_reason f (Ok x) reason e = cc
 from_reason f (Err bad) reason e = record { from = bad; said_so = refl; became = (let same : f bad ≡ reason = cc in same) }
 
@@ -54,7 +60,8 @@ no_text_read bytes none =
     ] refl
 
 -- ---- tags
-tag_pieces_refused : (bytes : List ℕ) (pieces : List (List ℕ)) (reason : OplReason) → cut (is_end Equals) bytes ≡ pieces → tag_of_pieces pieces ≡ Err reason → TagReason bytes reason
+tag_pieces_refused : (bytes : List ℕ) (pieces : List (List ℕ)) (reason : OplReason) → cut (is_end Equals) bytes ≡ pieces →
+    tag_of_pieces pieces ≡ Err reason → TagReason bytes reason
 tag_pieces_refused bytes [] reason is e =
     let P : OplReason → Type 0 = TagReason bytes in
     let same : BadList ≡ reason = cc in
@@ -70,7 +77,8 @@ tag_pieces_refused bytes (key ∷ value ∷ other ∷ more) reason is e =
 tag_pieces_refused bytes (key ∷ value ∷ []) reason is refused =
     let P : OplReason → Type 0 = TagReason bytes in
     let tag : List ℕ → List ℕ → Tag = λ k v. record { key = k; value = v } in
-    elim (reading_text key) as (λ r. reading_text key ≡ r → and_then r (λ k. as_value (tag k) (reading_text value)) ≡ Err reason → TagReason bytes reason) [
+    elim (reading_text key) as (λ r. reading_text key ≡ r → and_then r (λ k. as_value (tag k) (reading_text value)) ≡ Err reason →
+    TagReason bytes reason) [
       | Err bad ↦ λ at e.
           let same : bad ≡ reason = cc in
           subst P (sym (text_reason key bad at) ∙ same) (no_text bytes key value is (inl (text_refused key bad at)))
@@ -82,7 +90,8 @@ tag_pieces_refused bytes (key ∷ value ∷ []) reason is refused =
 tag_refused : (bytes : List ℕ) (reason : OplReason) → reading_tag bytes ≡ Err reason → TagReason bytes reason
 tag_refused bytes reason e = tag_pieces_refused bytes (cut (is_end Equals) bytes) reason refl e
 
-uneven_read : (bytes : List ℕ) (pieces : List (List ℕ)) → cut (is_end Equals) bytes ≡ pieces → ((key value : List ℕ) → cut (is_end Equals) bytes ≡ key ∷ value ∷ [] → ⊥) → tag_of_pieces pieces ≡ Err BadList
+uneven_read : (bytes : List ℕ) (pieces : List (List ℕ)) → cut (is_end Equals) bytes ≡ pieces →
+    ((key value : List ℕ) → cut (is_end Equals) bytes ≡ key ∷ value ∷ [] → ⊥) → tag_of_pieces pieces ≡ Err BadList
 uneven_read bytes [] is none = refl
 uneven_read bytes (key ∷ []) is none = refl
 uneven_read bytes (key ∷ value ∷ []) is none = absurd (none key value is)
@@ -100,7 +109,8 @@ tag_reason_told : (bytes : List ℕ) (reason : OplReason) → TagReason bytes re
 tag_reason_told bytes reason (uneven bytes' none) = uneven_read bytes' (cut (is_end Equals) bytes') refl none
 tag_reason_told bytes reason (no_text bytes' key value is which) =
     let tag : List ℕ → List ℕ → Tag = λ k v. record { key = k; value = v } in
-    ap tag_of_pieces is ∙ ⊎_elim (λ none. ap (λ r. and_then r (λ k. as_value (tag k) (reading_text value))) (no_text_read key none)) (no_value_read key value) which
+    ap tag_of_pieces is ∙ ⊎_elim (λ none. ap (λ r. and_then r (λ k. as_value (tag k) (reading_text value))) (no_text_read key none))
+    (no_value_read key value) which
 
 -- ---- references
 reference_refused : (bytes : List ℕ) (reason : OplReason) → reading_reference bytes ≡ Err reason → ReferenceReason bytes reason
@@ -109,7 +119,8 @@ reference_refused [] reason e =
     let same : BadList ≡ reason = cc in
     subst P same (no_letter [] (λ digits at. cc))
 reference_refused (letter ∷ digits) reason refused =
-    elim (eqb letter 110) as (λ t. eqb letter 110 ≡ t → cond t (reading_item_id digits) (Err BadList) ≡ Err reason → ReferenceReason (letter ∷ digits) reason) [
+    elim (eqb letter 110) as (λ t. eqb letter 110 ≡ t → cond t (reading_item_id digits) (Err BadList) ≡ Err reason →
+    ReferenceReason (letter ∷ digits) reason) [
       | true ↦ λ is e.
           let f = from_reason item_reason (reading_id digits) reason e in
           let P : OplReason → Type 0 = ReferenceReason (letter ∷ digits) in
@@ -134,82 +145,105 @@ reference_reason_told bytes reason (no_letter bytes' none) = no_letter_read byte
 reference_reason_told bytes reason (no_number digits bad e) = ap (with_reason item_reason) e
 
 -- ---- objects
-module _ (other : OplReason) (of_id : OplReason → OplReason) (read : List ℕ → Result ℤ OplReason) (named : Option Kind → List ℕ → Result (Kind × ℤ) OplReason)
-    (none_is : (digits : List ℕ) → named None digits ≡ Err other) (some_is : (k : Kind) (digits : List ℕ) → named (Some k) digits ≡ as_value (λ id. (k, id)) (read digits))
+module _ (other : OplReason) (of_id : OplReason → OplReason) (read : List ℕ → Result ℤ OplReason)
+    (named : Option Kind → List ℕ → Result (Kind × ℤ) OplReason)
+    (none_is : (digits : List ℕ) → named None digits ≡ Err other)
+    (some_is : (k : Kind) (digits : List ℕ) → named (Some k) digits ≡ as_value (λ id. (k, id)) (read digits))
     (reason_from : (digits : List ℕ) (reason : OplReason) → read digits ≡ Err reason → FromReason of_id (reading_id digits) reason)
     (reason_to : (digits : List ℕ) (reason : OplReason) → reading_id digits ≡ Err reason → read digits ≡ Err (of_id reason)) where
-  named_refused : (letter : ℕ) (digits : List ℕ) (reason : OplReason) → named (kind_of_letter letter) digits ≡ Err reason → ObjectReason other of_id (letter ∷ digits) reason
+  named_refused : (letter : ℕ) (digits : List ℕ) (reason : OplReason) → named (kind_of_letter letter) digits ≡ Err reason →
+      ObjectReason other of_id (letter ∷ digits) reason
   named_refused letter digits reason refused =
       let P : OplReason → Type 0 = ObjectReason other of_id (letter ∷ digits) in
-      elim (kind_of_letter letter) as (λ o. kind_of_letter letter ≡ o → named o digits ≡ Err reason → ObjectReason other of_id (letter ∷ digits) reason) [
+      elim (kind_of_letter letter) as (λ o. kind_of_letter letter ≡ o → named o digits ≡ Err reason →
+      ObjectReason other of_id (letter ∷ digits) reason) [
         | None ↦ λ is e.
             let told = sym (none_is digits) ∙ e in
             let same : other ≡ reason = cc in
-            subst P same (no_kind (letter ∷ digits) (λ k ds at. let l : letter ≡ kind_letter k = cc in let clash = sym is ∙ ap kind_of_letter l ∙ kind_of_its_letter k in cc))
+            subst P same (no_kind (letter ∷ digits) (λ k ds at. let l : letter ≡ kind_letter k = cc in let clash = sym is
+            ∙ ap kind_of_letter l ∙ kind_of_its_letter k in cc))
         | Some k ↦ λ is e.
             let f = reason_from digits reason (still_refused (λ (id : ℤ). (k, id)) (read digits) reason (sym (some_is k digits) ∙ e)) in
             let Q : ℕ → Type 0 = λ l. ObjectReason other of_id (l ∷ digits) (of_id f.from) in
             subst P f.became (subst Q (sym (letter_of_kind letter k is)) (no_id k digits f.from f.said_so))
       ] refl refused
 
-  no_kind_told : (letter : ℕ) (digits : List ℕ) → ((k : Kind) (ds : List ℕ) → letter ∷ digits ≡ kind_letter k ∷ ds → ⊥) → named (kind_of_letter letter) digits ≡ Err other
+  no_kind_told : (letter : ℕ) (digits : List ℕ) → ((k : Kind) (ds : List ℕ) → letter ∷ digits ≡ kind_letter k ∷ ds → ⊥) →
+      named (kind_of_letter letter) digits ≡ Err other
   no_kind_told letter digits none =
       elim (kind_of_letter letter) as (λ o. kind_of_letter letter ≡ o → named o digits ≡ Err other) [
         | None ↦ λ is. none_is digits
         | Some k ↦ λ is. absurd (none k digits (ap (λ l. l ∷ digits) (letter_of_kind letter k is)))
       ] refl
 
-  no_id_told : (k : Kind) (digits : List ℕ) (reason : OplReason) → reading_id digits ≡ Err reason → named (kind_of_letter (kind_letter k)) digits ≡ Err (of_id reason)
-  no_id_told k digits reason e = ap (λ o. named o digits) (kind_of_its_letter k) ∙ some_is k digits ∙ ap (as_value (λ id. (k, id))) (reason_to digits reason e)
+  no_id_told : (k : Kind) (digits : List ℕ) (reason : OplReason) → reading_id digits ≡ Err reason →
+      named (kind_of_letter (kind_letter k)) digits ≡ Err (of_id reason)
+  no_id_told k digits reason e = ap (λ o. named o digits) (kind_of_its_letter k) ∙ some_is k digits
+      ∙ ap (as_value (λ id. (k, id))) (reason_to digits reason e)
 
-pub object_refused : (bytes : List ℕ) (reason : OplReason) → reading_object bytes ≡ Err reason → ObjectReason UnknownKind (λ r. r) bytes reason
+pub object_refused : (bytes : List ℕ) (reason : OplReason) → reading_object bytes ≡ Err reason →
+    ObjectReason UnknownKind (λ r. r) bytes reason
 object_refused [] reason e =
     let P : OplReason → Type 0 = ObjectReason UnknownKind (λ r. r) [] in
     let same : UnknownKind ≡ reason = cc in
     subst P same (no_kind [] (λ k digits at. cc))
 object_refused (letter ∷ digits) reason e =
-    named_refused UnknownKind (λ r. r) reading_id reading_kind_and_id (λ ds. refl) (λ k ds. refl) (λ ds r at. record { from = r; said_so = at; became = refl }) (λ ds r at. at) letter digits reason e
+    named_refused UnknownKind (λ r. r) reading_id reading_kind_and_id (λ ds. refl) (λ k ds. refl)
+    (λ ds r at. record { from = r; said_so = at; became = refl }) (λ ds r at. at) letter digits reason e
 
-pub object_reason_told : (bytes : List ℕ) (reason : OplReason) → ObjectReason UnknownKind (λ r. r) bytes reason → reading_object bytes ≡ Err reason
+pub object_reason_told : (bytes : List ℕ) (reason : OplReason) → ObjectReason UnknownKind (λ r. r) bytes reason →
+    reading_object bytes ≡ Err reason
 object_reason_told bytes reason (no_kind [] none) = refl
 object_reason_told bytes reason (no_kind (letter ∷ digits) none) =
-    no_kind_told UnknownKind (λ r. r) reading_id reading_kind_and_id (λ ds. refl) (λ k ds. refl) (λ ds r at. record { from = r; said_so = at; became = refl }) (λ ds r at. at) letter digits none
+    no_kind_told UnknownKind (λ r. r) reading_id reading_kind_and_id (λ ds. refl) (λ k ds. refl)
+    (λ ds r at. record { from = r; said_so = at; became = refl }) (λ ds r at. at) letter digits none
 object_reason_told bytes reason (no_id k digits bad e) =
-    no_id_told UnknownKind (λ r. r) reading_id reading_kind_and_id (λ ds. refl) (λ k ds. refl) (λ ds r at. record { from = r; said_so = at; became = refl }) (λ ds r at. at) k digits bad e
+    no_id_told UnknownKind (λ r. r) reading_id reading_kind_and_id (λ ds. refl) (λ k ds. refl)
+    (λ ds r at. record { from = r; said_so = at; became = refl }) (λ ds r at. at) k digits bad e
 
-name_refused : (bytes : List ℕ) (reason : OplReason) → reading_object_name bytes ≡ Err reason → ObjectReason BadList item_reason bytes reason
+name_refused : (bytes : List ℕ) (reason : OplReason) → reading_object_name bytes ≡ Err reason →
+    ObjectReason BadList item_reason bytes reason
 name_refused [] reason e =
     let P : OplReason → Type 0 = ObjectReason BadList item_reason [] in
     let same : BadList ≡ reason = cc in
     subst P same (no_kind [] (λ k digits at. cc))
 name_refused (letter ∷ digits) reason e =
-    named_refused BadList item_reason reading_item_id reading_named (λ ds. refl) (λ k ds. refl) (λ ds r at. from_reason item_reason (reading_id ds) r at) (λ ds r at. ap (with_reason item_reason) at) letter digits reason e
+    named_refused BadList item_reason reading_item_id reading_named (λ ds. refl) (λ k ds. refl)
+    (λ ds r at. from_reason item_reason (reading_id ds) r at) (λ ds r at. ap (with_reason item_reason) at) letter digits reason e
 
-name_reason_told : (bytes : List ℕ) (reason : OplReason) → ObjectReason BadList item_reason bytes reason → reading_object_name bytes ≡ Err reason
+name_reason_told : (bytes : List ℕ) (reason : OplReason) → ObjectReason BadList item_reason bytes reason →
+    reading_object_name bytes ≡ Err reason
 name_reason_told bytes reason (no_kind [] none) = refl
 name_reason_told bytes reason (no_kind (letter ∷ digits) none) =
-    no_kind_told BadList item_reason reading_item_id reading_named (λ ds. refl) (λ k ds. refl) (λ ds r at. from_reason item_reason (reading_id ds) r at) (λ ds r at. ap (with_reason item_reason) at) letter digits none
+    no_kind_told BadList item_reason reading_item_id reading_named (λ ds. refl) (λ k ds. refl)
+    (λ ds r at. from_reason item_reason (reading_id ds) r at) (λ ds r at. ap (with_reason item_reason) at) letter digits none
 name_reason_told bytes reason (no_id k digits bad e) =
-    no_id_told BadList item_reason reading_item_id reading_named (λ ds. refl) (λ k ds. refl) (λ ds r at. from_reason item_reason (reading_id ds) r at) (λ ds r at. ap (with_reason item_reason) at) k digits bad e
+    no_id_told BadList item_reason reading_item_id reading_named (λ ds. refl) (λ k ds. refl)
+    (λ ds r at. from_reason item_reason (reading_id ds) r at) (λ ds r at. ap (with_reason item_reason) at) k digits bad e
 
 -- ---- members
-member_parts_refused : (bytes object : List ℕ) (behind : Option (List ℕ)) (reason : OplReason) → split_first (is_end Ats) bytes ≡ (object, behind) → member_of_parts (object, behind) ≡ Err reason → MemberReason bytes reason
+member_parts_refused : (bytes object : List ℕ) (behind : Option (List ℕ)) (reason : OplReason) →
+    split_first (is_end Ats) bytes ≡ (object, behind) → member_of_parts (object, behind) ≡ Err reason → MemberReason bytes reason
 member_parts_refused bytes object None reason is e =
     let P : OplReason → Type 0 = MemberReason bytes in
     let same : BadList ≡ reason = cc in
     subst P same (no_at bytes object is)
 member_parts_refused bytes object (Some role) reason is refused =
     let member : Kind × ℤ → List ℕ → Member = λ o r. record { kind = o.0; id = o.1; role = r } in
-    elim (reading_object_name object) as (λ r. reading_object_name object ≡ r → and_then r (λ o. as_value (member o) (reading_text role)) ≡ Err reason → MemberReason bytes reason) [
-      | Err bad ↦ λ at e. let same : bad ≡ reason = cc in no_name bytes object role reason is (name_refused object reason (at ∙ ap (λ r. Err r) same))
+    elim (reading_object_name object) as (λ r. reading_object_name object ≡ r →
+    and_then r (λ o. as_value (member o) (reading_text role)) ≡ Err reason → MemberReason bytes reason) [
+      | Err bad ↦ λ at e. let same : bad ≡ reason = cc in
+          no_name bytes object role reason is (name_refused object reason (at ∙ ap (λ r. Err r) same))
       | Ok named ↦ λ at e.
           let at_role = still_refused (member named) (reading_text role) reason e in
           let P : OplReason → Type 0 = MemberReason bytes in
-          subst P (sym (text_reason role reason at_role)) (no_role bytes object role named.0 named.1 is (name_sound object named.0 named.1 at) (text_refused role reason at_role))
+          subst P (sym (text_reason role reason at_role))
+          (no_role bytes object role named.0 named.1 is (name_sound object named.0 named.1 at) (text_refused role reason at_role))
     ] refl refused
 
 member_refused : (bytes : List ℕ) (reason : OplReason) → reading_member bytes ≡ Err reason → MemberReason bytes reason
-member_refused bytes reason e = member_parts_refused bytes (split_first (is_end Ats) bytes).0 (split_first (is_end Ats) bytes).1 reason refl e
+member_refused bytes reason e = member_parts_refused bytes (split_first (is_end Ats) bytes).0
+    (split_first (is_end Ats) bytes).1 reason refl e
 
 member_reason_told : (bytes : List ℕ) (reason : OplReason) → MemberReason bytes reason → reading_member bytes ≡ Err reason
 member_reason_told bytes reason (no_at bytes' object is) = ap member_of_parts is
@@ -218,20 +252,35 @@ member_reason_told bytes reason (no_name bytes' object role bad is faulty) =
     ap member_of_parts is ∙ ap (λ r. and_then r (λ o. as_value (member o) (reading_text role))) (name_reason_told object bad faulty)
 member_reason_told bytes reason (no_role bytes' object role k id is names none) =
     let member : Kind × ℤ → List ℕ → Member = λ o r. record { kind = o.0; id = o.1; role = r } in
-    ap member_of_parts is ∙ ap (λ r. and_then r (λ o. as_value (member o) (reading_text role))) (name_complete object k id names) ∙ ap (as_value (member (k, id))) (no_text_read role none)
+    ap member_of_parts is ∙ ap (λ r. and_then r (λ o. as_value (member o) (reading_text role))) (name_complete object k id names)
+    ∙ ap (as_value (member (k, id))) (no_text_read role none)
 
 -- ---- lists
 module _ {X : Type 0} (reading : List ℕ → Result X OplReason) (SpellsItem : List ℕ → X → Type 0) (ItemReason : List ℕ → OplReason → Type 0)
-    (sound : (bytes : List ℕ) (x : X) → reading bytes ≡ Ok x → SpellsItem bytes x) (complete : (bytes : List ℕ) (x : X) → SpellsItem bytes x → reading bytes ≡ Ok x)
-    (refused : (bytes : List ℕ) (reason : OplReason) → reading bytes ≡ Err reason → ItemReason bytes reason) (told : (bytes : List ℕ) (reason : OplReason) → ItemReason bytes reason → reading bytes ≡ Err reason) where
-  items_refused : (pieces : List (List ℕ)) (reason : OplReason) → reading_items reading pieces ≡ Err reason → FirstReason SpellsItem ItemReason pieces reason
+    (sound : (bytes : List ℕ) (x : X) → reading bytes ≡ Ok x → SpellsItem bytes x)
+    (complete : (bytes : List ℕ) (x : X) → SpellsItem bytes x → reading bytes ≡ Ok x)
+    (refused : (bytes : List ℕ) (reason : OplReason) → reading bytes ≡ Err reason → ItemReason bytes reason)
+    (told : (bytes : List ℕ) (reason : OplReason) → ItemReason bytes reason → reading bytes ≡ Err reason) where
+  items_refused : (pieces : List (List ℕ)) (reason : OplReason) → reading_items reading pieces ≡ Err reason →
+      FirstReason SpellsItem ItemReason pieces reason
   unfolding reading_items
   items_refused [] reason e = cc
   items_refused (piece ∷ pieces) reason e =
-      elim (reading piece) as (λ r. reading piece ≡ r → and_then r (λ x. as_value (λ xs. x ∷ xs) (reading_items reading pieces)) ≡ Err reason → FirstReason SpellsItem ItemReason (piece ∷ pieces) reason) [
+      elim (reading piece) as (λ r. reading piece ≡ r →
+      and_then r (λ x. as_value (λ xs. x ∷ xs) (reading_items reading pieces)) ≡ Err reason →
+      FirstReason SpellsItem ItemReason (piece ∷ pieces) reason) [
         | Err bad ↦ λ at here.
             let same : bad ≡ reason = cc in
-            record { front = []; items = []; fine = tt; piece = piece; behind = pieces; parted = refl; faulty = refused piece reason (at ∙ ap (λ r. Err r) same) }
+            record {
+              front = [];
+              items = [];
+              fine = tt;
+              piece = piece;
+              behind = pieces;
+              parted = refl;
+              faulty =
+                  refused piece reason (at ∙ ap (λ r. Err r) same);
+            }
         | Ok x ↦ λ at later.
             let rest = items_refused pieces reason (still_refused (λ (xs : List X). x ∷ xs) (reading_items reading pieces) reason later) in
             record {
@@ -245,39 +294,52 @@ module _ {X : Type 0} (reading : List ℕ → Result X OplReason) (SpellsItem : 
             }
       ] refl e
 
-  items_told : (front : List (List ℕ)) (items : List X) (piece : List ℕ) (behind : List (List ℕ)) (reason : OplReason) → Pairwise SpellsItem front items → reading piece ≡ Err reason →
+  items_told : (front : List (List ℕ)) (items : List X) (piece : List ℕ) (behind : List (List ℕ)) (reason : OplReason) →
+      Pairwise SpellsItem front items → reading piece ≡ Err reason →
       reading_items reading (front ++ piece ∷ behind) ≡ Err reason
   unfolding reading_items
   items_told [] [] piece behind reason fine e = ap (λ r. and_then r (λ x. as_value (λ xs. x ∷ xs) (reading_items reading behind))) e
   items_told [] (x ∷ xs) piece behind reason fine e = absurd fine
   items_told (f ∷ fs) [] piece behind reason fine e = absurd fine
   items_told (f ∷ fs) (x ∷ xs) piece behind reason fine e =
-      ap (λ r. and_then r (λ y. as_value (λ ys. y ∷ ys) (reading_items reading (fs ++ piece ∷ behind)))) (complete f x fine.0) ∙ ap (as_value (λ ys. x ∷ ys)) (items_told fs xs piece behind reason fine.1 e)
+      ap (λ r. and_then r (λ y. as_value (λ ys. y ∷ ys) (reading_items reading (fs ++ piece ∷ behind)))) (complete f x fine.0)
+      ∙ ap (as_value (λ ys. x ∷ ys)) (items_told fs xs piece behind reason fine.1 e)
 
-  list_refused : (content : List ℕ) (reason : OplReason) → reading_list reading content ≡ Err reason → ListReason SpellsItem ItemReason content reason
+  list_refused : (content : List ℕ) (reason : OplReason) → reading_list reading content ≡ Err reason →
+      ListReason SpellsItem ItemReason content reason
   list_refused [] reason e = cc
   list_refused (b ∷ bs) reason e = items_refused (cut (is_end Commas) (b ∷ bs)) reason e
 
-  list_told : (content : List ℕ) (reason : OplReason) → ListReason SpellsItem ItemReason content reason → reading_list reading content ≡ Err reason
+  list_told : (content : List ℕ) (reason : OplReason) → ListReason SpellsItem ItemReason content reason →
+      reading_list reading content ≡ Err reason
   list_told [] reason r = absurd r
-  list_told (b ∷ bs) reason r = ap (reading_items reading) r.parted ∙ items_told r.front r.items r.piece r.behind reason r.fine (told r.piece reason r.faulty)
+  list_told (b ∷ bs) reason r = ap (reading_items reading) r.parted
+      ∙ items_told r.front r.items r.piece r.behind reason r.fine (told r.piece reason r.faulty)
 
-pub tags_refused : (content : List ℕ) (reason : OplReason) → reading_list reading_tag content ≡ Err reason → ListReason SpellsTag TagReason content reason
+pub tags_refused : (content : List ℕ) (reason : OplReason) → reading_list reading_tag content ≡ Err reason →
+    ListReason SpellsTag TagReason content reason
 tags_refused = list_refused reading_tag SpellsTag TagReason tag_sound tag_complete tag_refused tag_reason_told
 
-pub tags_told : (content : List ℕ) (reason : OplReason) → ListReason SpellsTag TagReason content reason → reading_list reading_tag content ≡ Err reason
+pub tags_told : (content : List ℕ) (reason : OplReason) → ListReason SpellsTag TagReason content reason →
+    reading_list reading_tag content ≡ Err reason
 tags_told = list_told reading_tag SpellsTag TagReason tag_sound tag_complete tag_refused tag_reason_told
 
-pub references_refused : (content : List ℕ) (reason : OplReason) → reading_list reading_reference content ≡ Err reason → ListReason SpellsReference ReferenceReason content reason
-references_refused = list_refused reading_reference SpellsReference ReferenceReason reference_sound reference_complete reference_refused reference_reason_told
+pub references_refused : (content : List ℕ) (reason : OplReason) → reading_list reading_reference content ≡ Err reason →
+    ListReason SpellsReference ReferenceReason content reason
+references_refused = list_refused reading_reference SpellsReference ReferenceReason reference_sound reference_complete reference_refused
+    reference_reason_told
 
-pub references_told : (content : List ℕ) (reason : OplReason) → ListReason SpellsReference ReferenceReason content reason → reading_list reading_reference content ≡ Err reason
-references_told = list_told reading_reference SpellsReference ReferenceReason reference_sound reference_complete reference_refused reference_reason_told
+pub references_told : (content : List ℕ) (reason : OplReason) → ListReason SpellsReference ReferenceReason content reason →
+    reading_list reading_reference content ≡ Err reason
+references_told = list_told reading_reference SpellsReference ReferenceReason reference_sound reference_complete reference_refused
+    reference_reason_told
 
-pub members_refused : (content : List ℕ) (reason : OplReason) → reading_list reading_member content ≡ Err reason → ListReason SpellsMember MemberReason content reason
+pub members_refused : (content : List ℕ) (reason : OplReason) → reading_list reading_member content ≡ Err reason →
+    ListReason SpellsMember MemberReason content reason
 members_refused = list_refused reading_member SpellsMember MemberReason member_sound member_complete member_refused member_reason_told
 
-pub members_told : (content : List ℕ) (reason : OplReason) → ListReason SpellsMember MemberReason content reason → reading_list reading_member content ≡ Err reason
+pub members_told : (content : List ℕ) (reason : OplReason) → ListReason SpellsMember MemberReason content reason →
+    reading_list reading_member content ≡ Err reason
 members_told = list_told reading_member SpellsMember MemberReason member_sound member_complete member_refused member_reason_told
 
 pub user_refused : (content : List ℕ) (reason : OplReason) → reading_text content ≡ Err reason → (reason ≡ BadText) × SpellsNoText content

@@ -19,9 +19,11 @@ module _ (p : ℕ → Bool) (n : ℕ) (v : List ℕ) (long : length v ≡ n) whe
       ap (count_trailing_zeros 64) told ∙ trailing_mask_l p 64 v (omega (arith, long, few)) found
 
 -- what is known behind them, where so many stand before the first of the class
-module _ (p : ℕ → Bool) (n : ℕ) (bytes : List ℕ) (seen run : ℕ) (room : seen + n ≤ length bytes) (counted : run ≡ prefix_len (λ x. not (p x)) (chunk seen n bytes)) (none : NoneBelow p bytes seen) where
+module _ (p : ℕ → Bool) (n : ℕ) (bytes : List ℕ) (seen run : ℕ) (room : seen + n ≤ length bytes)
+    (counted : run ≡ prefix_len (λ x. not (p x)) (chunk seen n bytes)) (none : NoneBelow p bytes seen) where
   pub none_before : NoneBelow p bytes (seen + run)
-  none_before k less = elim (cases_lt k seen) [ inl early ↦ none k early | inr late ↦ run_in_chunk_fails p bytes seen n run 0 room counted k late less ]
+  none_before k less = elim
+      (cases_lt k seen) [ inl early ↦ none k early | inr late ↦ run_in_chunk_fails p bytes seen n run 0 room counted k late less ]
 
   pub none_of_all : n ≤ run → NoneBelow p bytes (seen + n)
   none_of_all whole k less = none_before k (omega (arith, run_in_chunk_le p bytes seen n run 0 room counted, whole, less))

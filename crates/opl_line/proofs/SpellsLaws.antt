@@ -1,5 +1,6 @@
 -- What is read is spelled so, and what is spelled so is read.
-use Rattle.std.proofs.Common.{◌≡◌, ℕ, ℤ, Bool, true, false, not, cond, ◌==◌, List, [], ◌∷◌, Option, Some, None, Result, Ok, Err, refl, sym, ap, ◌∙◌, subst, IfOk, IfErr, MatchOption, inl, inr, ⊎_elim, ◌⊎◌}
+use Rattle.std.proofs.Common.{◌≡◌, ℕ, ℤ, Bool, true, false, not, cond, ◌==◌, List, [], ◌∷◌, Option, Some, None, Result, Ok, Err, refl, sym}
+use Rattle.std.proofs.Common.{ap, ◌∙◌, subst, IfOk, IfErr, MatchOption, inl, inr, ⊎_elim, ◌⊎◌}
 use Rattle.std.proofs.lemmas.Str.{IsUtf8-from_is_utf8}
 use Rattle.std.specs.List.{list_all}
 use Rattle.std.specs.Str.{IsUtf8, is_utf8}
@@ -21,10 +22,12 @@ use Rattle.opl_line.specs.Cut.{is_end, split_first, cut, pieces_of}
 use Rattle.opl_line.specs.Number.{reading_id}
 use Rattle.opl_line.specs.Item.{kind_of_letter}
 use Rattle.opl_line.specs.Field.{nothing_said, reading_fields}
-use Rattle.opl_line.specs.Reading.{is_skipped, reading_kind_and_id, reading_object, meta_of, reading_body, unless_fault, reading_whole, reading_version, reading_line}
+use Rattle.opl_line.specs.Reading.{is_skipped, reading_kind_and_id, reading_object, meta_of, reading_body, unless_fault, reading_whole}
+use Rattle.opl_line.specs.Reading.{reading_version, reading_line}
 use Rattle.opl_line.specs.Content.{SpellsObject}
 use Rattle.opl_line.specs.Part.{Part}
-use Rattle.opl_line.specs.Spells.{IsVersionOf, said_by, Tells, Spells, SpellsNothing, ReadIsSpelled, SpelledIsRead, OneReading, RefusedSpellsNothing, SkippedSpellsNothing}
+use Rattle.opl_line.specs.Spells.{IsVersionOf, said_by, Tells, Spells, SpellsNothing, ReadIsSpelled, SpelledIsRead, OneReading}
+use Rattle.opl_line.specs.Spells.{RefusedSpellsNothing, SkippedSpellsNothing}
 use Rattle.opl_line.proofs.NumeralLaws.{id_sound, id_complete}
 use Rattle.opl_line.proofs.AnswerLaws.{both, became}
 use Rattle.opl_line.proofs.CutLaws.{cut_split}
@@ -36,7 +39,8 @@ use Rattle.opl_line.proofs.ReadingLaws.{utf8_line}
 pub object_spelled : (field : List ℕ) (k : Kind) (id : ℤ) → reading_object field ≡ Ok (k, id) → SpellsObject field k id
 object_spelled [] k id e = cc
 object_spelled (letter ∷ digits) k id read =
-    elim (kind_of_letter letter) as (λ o. kind_of_letter letter ≡ o → reading_kind_and_id o digits ≡ Ok (k, id) → SpellsObject (letter ∷ digits) k id) [
+    elim (kind_of_letter letter) as (λ o. kind_of_letter letter ≡ o → reading_kind_and_id o digits ≡ Ok (k, id) →
+    SpellsObject (letter ∷ digits) k id) [
       | None ↦ λ none e. cc
       | Some l ↦ λ is e.
           let b = became (λ (z : ℤ). (l, z)) (reading_id digits) (k, id) e in
@@ -63,16 +67,21 @@ made_version (Err f) v e = cc
 whole_spelled : (k : Kind) (id : ℤ) (fields : Fields) (v : VersionData) → reading_whole k id fields ≡ Ok v → IsVersionOf k id fields v
 whole_spelled k id fields v =
     let made = λ (body : Body). unless_fault (version_or_fault id (meta_of fields) body) in
-    elim ((meta_of fields).version == 0) as (λ t. cond t (Err NoVersion) (cond (not (is_dated (meta_of fields))) (Err NoTime) (and_then (reading_body k fields) made)) ≡ Ok v → IsVersionOf k id fields v) [
+    elim ((meta_of fields).version == 0) as (λ t. cond t (Err NoVersion)
+    (cond (not (is_dated (meta_of fields))) (Err NoTime) (and_then (reading_body k fields) made)) ≡ Ok v → IsVersionOf k id fields v) [
       | true ↦ λ e. cc
-      | false ↦ elim (is_dated (meta_of fields)) as (λ t. cond (not t) (Err NoTime) (and_then (reading_body k fields) made) ≡ Ok v → IsVersionOf k id fields v) [
-        | true ↦ λ e. let b = both (reading_body k fields) made v e in record { body = b.between; has_body = b.done; made = made_version _ v b.then_done }
-        | false ↦ λ e. cc
-      ]
+      | false ↦ elim (is_dated (meta_of fields)) as (λ t. cond (not t) (Err NoTime) (and_then (reading_body k fields) made) ≡ Ok v →
+          IsVersionOf k id fields v) [
+            | true ↦ λ e. let b = both (reading_body k fields) made v e in
+                record { body = b.between; has_body = b.done; made = made_version _ v b.then_done }
+            | false ↦ λ e. cc
+          ]
     ]
 
 -- data of a version has a number, and an author only with a time
-passed : (id number numbers time dated text : Bool) → first_of_tests ((id, fault.IdRange) ∷ (number, fault.NoVersion) ∷ (numbers, fault.NumberRange) ∷ (time, fault.TimeRange) ∷ (dated, fault.NoTime) ∷ (text, fault.ZeroInText) ∷ []) ≡ None →
+passed : (id number numbers time dated text : Bool) →
+    first_of_tests ((id, fault.IdRange) ∷ (number, fault.NoVersion) ∷ (numbers, fault.NumberRange) ∷ (time, fault.TimeRange)
+    ∷ (dated, fault.NoTime) ∷ (text, fault.ZeroInText) ∷ []) ≡ None →
     (number ≡ false) × (dated ≡ false)
 passed true number numbers time dated text e = cc
 passed false true numbers time dated text e = cc
@@ -89,7 +98,9 @@ whole_read : (k : Kind) (id : ℤ) (fields : Fields) (v : VersionData) → IsVer
 whole_read k id fields v is =
     let meta = meta_of fields in
     let none : first_fault id meta is.body ≡ None = no_fault (first_fault id meta is.body) (version_of id meta is.body) v is.made in
-    let numbered = passed (not (list_all is_id (id ∷ ids_of is.body))) (meta.version == 0) (not (list_all is_number (meta.version ∷ meta.changeset ∷ meta.uid ∷ []))) (not (is_time meta.time)) (not (is_dated meta)) (not (list_all is_text (meta.user ∷ texts_of is.body))) none in
+    let numbered = passed (not (list_all is_id (id ∷ ids_of is.body))) (meta.version == 0)
+    (not (list_all is_number (meta.version ∷ meta.changeset ∷ meta.uid ∷ []))) (not (is_time meta.time)) (not (is_dated meta))
+    (not (list_all is_text (meta.user ∷ texts_of is.body))) none in
     let made = λ (body : Body). unless_fault (version_or_fault id meta body) in
     ap (λ t. cond t (Err NoVersion) (cond (not (is_dated meta)) (Err NoTime) (and_then (reading_body k fields) made))) numbered.0
     ∙ ap (λ t. cond t (Err NoTime) (and_then (reading_body k fields) made)) numbered.1
@@ -101,7 +112,8 @@ line_spelled : (line : List ℕ) (v : VersionData) → is_skipped line ≡ false
 unfolding reading_version
 line_spelled line v kept utf8 e =
     let parts = split_first (is_end Blanks) line in
-    let rest = λ (object : Kind × ℤ). and_then (reading_fields object.0 (pieces_of (is_end Blanks) parts.1) nothing_said) (reading_whole object.0 object.1) in
+    let rest = λ (object : Kind × ℤ). and_then (reading_fields object.0 (pieces_of (is_end Blanks) parts.1) nothing_said)
+    (reading_whole object.0 object.1) in
     let object = both (reading_object parts.0) rest v e in
     let k = object.between.0 in
     let id = object.between.1 in
@@ -127,29 +139,36 @@ line_spelled line v kept utf8 e =
 
 pub read_is_spelled : ReadIsSpelled
 read_is_spelled line v =
-    elim (is_skipped line) as (λ t. is_skipped line ≡ t → cond t (Ok None) (cond (is_utf8 line) (as_value (λ w. Some w) (reading_version line)) (Err NotUtf8)) ≡ Ok (Some v) → Spells line v) [
+    elim (is_skipped line) as (λ t. is_skipped line ≡ t →
+    cond t (Ok None) (cond (is_utf8 line) (as_value (λ w. Some w) (reading_version line)) (Err NotUtf8)) ≡ Ok (Some v) →
+    Spells line v) [
       | true ↦ λ skipped e. cc
-      | false ↦ λ kept. elim (is_utf8 line) as (λ t. is_utf8 line ≡ t → cond t (as_value (λ w. Some w) (reading_version line)) (Err NotUtf8) ≡ Ok (Some v) → Spells line v) [
-        | true ↦ λ utf8 e.
-            let b = became (λ (w : VersionData). Some w) (reading_version line) (Some v) e in
-            let same : b.from ≡ v = (let s = b.became in cc) in
-            line_spelled line v kept (IsUtf8-from_is_utf8 line utf8) (b.said_so ∙ ap (λ w. Ok w) same)
-        | false ↦ λ other e. cc
-      ] refl
+      | false ↦ λ kept. elim (is_utf8 line) as (λ t. is_utf8 line ≡ t →
+          cond t (as_value (λ w. Some w) (reading_version line)) (Err NotUtf8) ≡ Ok (Some v) → Spells line v) [
+            | true ↦ λ utf8 e.
+                let b = became (λ (w : VersionData). Some w) (reading_version line) (Some v) e in
+                let same : b.from ≡ v = (let s = b.became in cc) in
+                line_spelled line v kept (IsUtf8-from_is_utf8 line utf8) (b.said_so ∙ ap (λ w. Ok w) same)
+            | false ↦ λ other e. cc
+          ] refl
     ] refl
 
-pub first_and_rest : (line object : List ℕ) (others : List (List ℕ)) → cut (is_end Blanks) line ≡ object ∷ others → ((split_first (is_end Blanks) line).0 ≡ object) × (pieces_of (is_end Blanks) (split_first (is_end Blanks) line).1 ≡ others)
+pub first_and_rest : (line object : List ℕ) (others : List (List ℕ)) → cut (is_end Blanks) line ≡ object ∷ others →
+    ((split_first (is_end Blanks) line).0 ≡ object) × (pieces_of (is_end Blanks) (split_first (is_end Blanks) line).1 ≡ others)
 first_and_rest line object others e = let same = sym (cut_split (is_end Blanks) line) ∙ e in (cc, cc)
 
 -- the version of a line is that of what it tells
-pub tells_read : (line : List ℕ) (k : Kind) (id : ℤ) (parts : List Part) → Tells line k id parts → reading_version line ≡ reading_whole k id (said_by parts)
+pub tells_read : (line : List ℕ) (k : Kind) (id : ℤ) (parts : List Part) → Tells line k id parts →
+    reading_version line ≡ reading_whole k id (said_by parts)
 unfolding reading_version
 tells_read line k id parts t =
     let pieces = split_first (is_end Blanks) line in
     let at = first_and_rest line t.object t.others t.fields in
-    let rest = λ (object : Kind × ℤ). and_then (reading_fields object.0 (pieces_of (is_end Blanks) pieces.1) nothing_said) (reading_whole object.0 object.1) in
+    let rest = λ (object : Kind × ℤ). and_then (reading_fields object.0 (pieces_of (is_end Blanks) pieces.1) nothing_said)
+    (reading_whole object.0 object.1) in
     ap (λ r. and_then r rest) (ap reading_object at.0 ∙ object_read t.object k id t.names)
-    ∙ ap (λ r. and_then r (reading_whole k id)) (ap (λ ps. reading_fields k ps nothing_said) at.1 ∙ read_of k t.others parts t.spelled t.different)
+    ∙ ap (λ r. and_then r (reading_whole k id)) (ap (λ ps. reading_fields k ps nothing_said) at.1
+    ∙ read_of k t.others parts t.spelled t.different)
 
 version_read : (line : List ℕ) (v : VersionData) → Spells line v → reading_version line ≡ Ok v
 version_read line v s = tells_read line s.kind s.id s.parts s.tells ∙ whole_read s.kind s.id (said_by s.parts) v s.version
@@ -169,26 +188,32 @@ skipped_spells_nothing line v skipped s = let clash = sym skipped ∙ spelled_is
 -- ---- what an answer says
 pub skipped_only : (line : List ℕ) → reading_line line ≡ Ok None → is_skipped line ≡ true
 skipped_only line =
-    elim (is_skipped line) as (λ t. cond t (Ok None) (cond (is_utf8 line) (as_value (λ w. Some w) (reading_version line)) (Err NotUtf8)) ≡ Ok None → t ≡ true) [
+    elim (is_skipped line) as (λ t. cond t (Ok None) (cond (is_utf8 line) (as_value (λ w. Some w) (reading_version line)) (Err NotUtf8))
+    ≡ Ok None → t ≡ true) [
       | true ↦ λ e. refl
-      | false ↦ elim (is_utf8 line) as (λ t. cond t (as_value (λ w. Some w) (reading_version line)) (Err NotUtf8) ≡ Ok None → false ≡ true) [
-        | true ↦ λ e. let b = became (λ (w : VersionData). Some w) (reading_version line) None e in let clash = b.became in cc
-        | false ↦ λ e. cc
-      ]
+      | false ↦ elim (is_utf8 line) as (λ t. cond t (as_value (λ w. Some w) (reading_version line)) (Err NotUtf8) ≡ Ok None →
+          false ≡ true) [
+            | true ↦ λ e. let b = became (λ (w : VersionData). Some w) (reading_version line) None e in let clash = b.became in cc
+            | false ↦ λ e. cc
+          ]
     ]
 
-pub answer_spelled : (line : List ℕ) (answer : Result (Option VersionData) OplReason) → Answers (reading_line line) answer → IfOk answer (λ read. MatchOption read (is_skipped line ≡ true) (Spells line))
+pub answer_spelled : (line : List ℕ) (answer : Result (Option VersionData) OplReason) → Answers (reading_line line) answer →
+    IfOk answer (λ read. MatchOption read (is_skipped line ≡ true) (Spells line))
 answer_spelled line (Ok None) h = skipped_only line h
 answer_spelled line (Ok (Some v)) h = read_is_spelled line v h
 answer_spelled line (Err reason) h = tt
 
 pub not_skipped : (line : List ℕ) (reason : OplReason) → reading_line line ≡ Err reason → is_skipped line ≡ false
 not_skipped line reason =
-    elim (is_skipped line) as (λ t. cond t (Ok None) (cond (is_utf8 line) (as_value (λ w. Some w) (reading_version line)) (Err NotUtf8)) ≡ Err reason → t ≡ false) [
+    elim (is_skipped line) as (λ t. cond t (Ok None) (cond (is_utf8 line) (as_value (λ w. Some w) (reading_version line)) (Err NotUtf8))
+    ≡ Err reason → t ≡ false) [
       | true ↦ λ e. cc
       | false ↦ λ e. refl
     ]
 
-pub answer_refused : (line : List ℕ) (answer : Result (Option VersionData) OplReason) → Answers (reading_line line) answer → IfErr answer (λ reason. (reason ≡ Memory) ⊎ SpellsNothing line)
+pub answer_refused : (line : List ℕ) (answer : Result (Option VersionData) OplReason) → Answers (reading_line line) answer →
+    IfErr answer (λ reason. (reason ≡ Memory) ⊎ SpellsNothing line)
 answer_refused line (Ok read) h = tt
-answer_refused line (Err reason) h = ⊎_elim (λ memory. inl memory) (λ refused. inr (record { kept = not_skipped line reason refused; none = λ v s. refused_spells_nothing line reason v refused s })) h
+answer_refused line (Err reason) h = ⊎_elim (λ memory. inl memory)
+    (λ refused. inr (record { kept = not_skipped line reason refused; none = λ v s. refused_spells_nothing line reason v refused s })) h

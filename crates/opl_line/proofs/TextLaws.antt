@@ -33,19 +33,24 @@ pub all_read : (done : List ℕ) (pieces : List (List ℕ)) → pieces ≡ [] �
 unfolding text_from
 all_read done pieces e = rw e refl
 
-pub bad_scalar : (done escape raw : List ℕ) (pieces behind more : List (List ℕ)) → pieces ≡ escape ∷ behind → behind ≡ raw ∷ more → scalar_of escape ≡ None → text_from done pieces ≡ None
+pub bad_scalar : (done escape raw : List ℕ) (pieces behind more : List (List ℕ)) → pieces ≡ escape ∷ behind → behind ≡ raw ∷ more →
+    scalar_of escape ≡ None → text_from done pieces ≡ None
 bad_scalar done escape raw pieces behind more e f none =
-    escape_turn done escape raw pieces behind more e f ∙ ap (λ s. option_and_then (λ text. text_from text more) (with_escape done raw s)) none
+    escape_turn done escape raw pieces behind more e f
+    ∙ ap (λ s. option_and_then (λ text. text_from text more) (with_escape done raw s)) none
 
 not_raw : (done raw : List ℕ) (s : Option ℕ) → list_all stands_for_itself raw ≡ false → with_escape done raw s ≡ None
 not_raw done raw None other = refl
 not_raw done raw (Some c) other = rw other refl
 
-pub bad_raw : (done escape raw : List ℕ) (pieces behind more : List (List ℕ)) → pieces ≡ escape ∷ behind → behind ≡ raw ∷ more → list_all stands_for_itself raw ≡ false → text_from done pieces ≡ None
+pub bad_raw : (done escape raw : List ℕ) (pieces behind more : List (List ℕ)) → pieces ≡ escape ∷ behind → behind ≡ raw ∷ more →
+    list_all stands_for_itself raw ≡ false → text_from done pieces ≡ None
 bad_raw done escape raw pieces behind more e f other =
-    escape_turn done escape raw pieces behind more e f ∙ ap (option_and_then (λ text. text_from text more)) (not_raw done raw (scalar_of escape) other)
+    escape_turn done escape raw pieces behind more e f
+    ∙ ap (option_and_then (λ text. text_from text more)) (not_raw done raw (scalar_of escape) other)
 
-pub one_escape : (done escape raw : List ℕ) (c : ℕ) (pieces behind more : List (List ℕ)) → pieces ≡ escape ∷ behind → behind ≡ raw ∷ more → scalar_of escape ≡ Some c → list_all stands_for_itself raw ≡ true →
+pub one_escape : (done escape raw : List ℕ) (c : ℕ) (pieces behind more : List (List ℕ)) → pieces ≡ escape ∷ behind → behind ≡ raw ∷ more →
+    scalar_of escape ≡ Some c → list_all stands_for_itself raw ≡ true →
     text_from done pieces ≡ text_from (done ++ encode c ++ raw) more
 one_escape done escape raw c pieces behind more e f some all =
     escape_turn done escape raw pieces behind more e f

@@ -1,5 +1,6 @@
 -- Times are read back.
-use Rattle.std.proofs.Common.{◌≡◌, ℕ, ◌+◌, ◌-◌, ◌*◌, ◌/◌, ◌%◌, ◌^◌, ◌<◌, true, cond, ◌&&◌, List, [], ◌∷◌, Option, Some, None, Ok, Err, refl, ap, ◌∙◌, arith}
+use Rattle.std.proofs.Common.{◌≡◌, ℕ, ◌+◌, ◌-◌, ◌*◌, ◌/◌, ◌%◌, ◌^◌, ◌<◌, true, cond, ◌&&◌, List, [], ◌∷◌, Option, Some, None, Ok, Err, refl}
+use Rattle.std.proofs.Common.{ap, ◌∙◌, arith}
 use Rattle.std.proofs.lemmas.Bool.Decides.{nat_tests}
 use Rattle.std.proofs.lemmas.Bool.{lt-ltb}
 use Rattle.std.specs.Option.{option_and_then, ok_or}
@@ -31,29 +32,38 @@ two n small =
 is_four : (a b c d : ℕ) → a < 10 → b < 10 → c < 10 → d < 10 → is_numeral ((48 + a) ∷ (48 + b) ∷ (48 + c) ∷ (48 + d) ∷ []) ≡ true
 is_four a b c d ha hb hc hd = grind (arith, nat_tests)
 
-four : (n : ℕ) → n < 10_000 → number_of ((48 + n / 100 / 10) ∷ (48 + n / 100 % 10) ∷ (48 + n % 100 / 10) ∷ (48 + n % 100 % 10) ∷ []) ≡ Some n
+four : (n : ℕ) → n < 10_000 → number_of ((48 + n / 100 / 10) ∷ (48 + n / 100 % 10) ∷ (48 + n % 100 / 10) ∷ (48 + n % 100 % 10) ∷ [])
+    ≡ Some n
 unfolding number_of
 four n small =
     let a = n / 100 / 10 in
     let b = n / 100 % 10 in
     let c = n % 100 / 10 in
     let d = n % 100 % 10 in
-    ap (λ t. cond t (Some (decimal_value ((48 + a) ∷ (48 + b) ∷ (48 + c) ∷ (48 + d) ∷ []))) None) (is_four a b c d (omega arith) (omega arith) (omega arith) (omega arith))
-    ∙ ap (λ v. Some v) (let e : 10 * (10 * (10 * (10 * 0 + (48 + a - 48)) + (48 + b - 48)) + (48 + c - 48)) + (48 + d - 48) ≡ n = omega arith in e)
+    ap (λ t. cond t (Some (decimal_value ((48 + a) ∷ (48 + b) ∷ (48 + c) ∷ (48 + d) ∷ []))) None)
+    (is_four a b c d (omega arith) (omega arith) (omega arith) (omega arith))
+    ∙ ap (λ v. Some v) (let e : 10 * (10 * (10 * (10 * 0 + (48 + a - 48)) + (48 + b - 48)) + (48 + c - 48)) + (48 + d - 48) ≡ n =
+    omega arith in e)
 
-date_read : (year month day hour minute second : ℕ) → year < 10_000 → month < 100 → day < 100 → is_date year month day ≡ true → reading_date (spelled_time year month day hour minute second) ≡ Some (day_number year month day)
+date_read : (year month day hour minute second : ℕ) → year < 10_000 → month < 100 → day < 100 → is_date year month day ≡ true →
+    reading_date (spelled_time year month day hour minute second) ≡ Some (day_number year month day)
 unfolding number_of
 date_read year month day hour minute second hy hm hd is =
-    ap (option_and_then (λ y. option_and_then (λ m. option_and_then (day_of y m) (number_of ((48 + day / 10) ∷ (48 + day % 10) ∷ []))) (number_of ((48 + month / 10) ∷ (48 + month % 10) ∷ [])))) (four year hy)
+    ap (option_and_then (λ y. option_and_then (λ m. option_and_then (day_of y m) (number_of ((48 + day / 10) ∷ (48 + day % 10) ∷ [])))
+    (number_of ((48 + month / 10) ∷ (48 + month % 10) ∷ [])))) (four year hy)
     ∙ ap (option_and_then (λ m. option_and_then (day_of year m) (number_of ((48 + day / 10) ∷ (48 + day % 10) ∷ [])))) (two month hm)
     ∙ ap (option_and_then (day_of year month)) (two day hd)
     ∙ ap (λ t. cond t (Some (day_number year month day)) None) is
 
-clock_read : (year month day hour minute second : ℕ) → hour < 24 → minute < 60 → second < 60 → reading_clock (spelled_time year month day hour minute second) ≡ Some (3_600 * hour + 60 * minute + second)
+clock_read : (year month day hour minute second : ℕ) → hour < 24 → minute < 60 → second < 60 →
+    reading_clock (spelled_time year month day hour minute second) ≡ Some (3_600 * hour + 60 * minute + second)
 unfolding number_of
 clock_read year month day hour minute second hh hm hs =
-    ap (option_and_then (λ h. option_and_then (λ m. option_and_then (second_of h m) (number_of ((48 + second / 10) ∷ (48 + second % 10) ∷ []))) (number_of ((48 + minute / 10) ∷ (48 + minute % 10) ∷ [])))) (two hour (omega arith))
-    ∙ ap (option_and_then (λ m. option_and_then (second_of hour m) (number_of ((48 + second / 10) ∷ (48 + second % 10) ∷ [])))) (two minute (omega arith))
+    ap (option_and_then (λ h. option_and_then (λ m. option_and_then (second_of h m)
+    (number_of ((48 + second / 10) ∷ (48 + second % 10) ∷ []))) (number_of ((48 + minute / 10) ∷ (48 + minute % 10) ∷ []))))
+    (two hour (omega arith))
+    ∙ ap (option_and_then (λ m. option_and_then (second_of hour m) (number_of ((48 + second / 10) ∷ (48 + second % 10) ∷ []))))
+    (two minute (omega arith))
     ∙ ap (option_and_then (second_of hour minute)) (two second (omega arith))
     ∙ (λ i. cond (lt-ltb hour 24 hh i && lt-ltb minute 60 hm i && lt-ltb second 60 hs i) (Some (3_600 * hour + 60 * minute + second)) None)
 
@@ -62,7 +72,8 @@ moment_read seconds total some small is =
     (λ i. cond (lt-ltb epoch total (omega arith) i && lt-ltb total (epoch + 2 ^ 32) (omega arith) i) (Ok (total - epoch)) (Err OutOfRange))
     ∙ ap (λ n. Ok n) (let e : total - epoch ≡ seconds = omega arith in e)
 
-pub time_complete : (seconds : ℕ) (text : List ℕ) → 0 < seconds → seconds < 2 ^ 32 → IsTimeText seconds text → reading_time text ≡ Ok seconds
+pub time_complete : (seconds : ℕ) (text : List ℕ) → 0 < seconds → seconds < 2 ^ 32 → IsTimeText seconds text →
+    reading_time text ≡ Ok seconds
 time_complete seconds text some small h =
     let civil = is_date-civil h.year h.month h.day h.of_calendar in
     let month : h.month < 100 = omega (arith, civil.month_in.1) in
@@ -71,9 +82,14 @@ time_complete seconds text some small h =
     let clock = 3_600 * h.hour + 60 * h.minute + h.second in
     let total : 86_400 * days + clock ≡ seconds + epoch = omega (arith, h.sum, epoch_day_number) in
     ap reading_time h.spelled
-    ∙ ap (λ d. and_then (ok_or d BadTime) (λ n. and_then (ok_or (reading_clock (spelled_time h.year h.month h.day h.hour h.minute h.second)) BadTime) (λ s. reading_moment (86_400 * n + s)))) (date_read h.year h.month h.day h.hour h.minute h.second h.four_digits month day h.of_calendar)
-    ∙ ap (λ c. and_then (ok_or c BadTime) (λ s. reading_moment (86_400 * days + s))) (clock_read h.year h.month h.day h.hour h.minute h.second h.hour_in h.minute_in h.second_in)
+    ∙ ap (λ d. and_then (ok_or d BadTime) (λ n. and_then
+    (ok_or (reading_clock (spelled_time h.year h.month h.day h.hour h.minute h.second)) BadTime)
+    (λ s. reading_moment (86_400 * n + s))))
+    (date_read h.year h.month h.day h.hour h.minute h.second h.four_digits month day h.of_calendar)
+    ∙ ap (λ c. and_then (ok_or c BadTime) (λ s. reading_moment (86_400 * days + s)))
+    (clock_read h.year h.month h.day h.hour h.minute h.second h.hour_in h.minute_in h.second_in)
     ∙ moment_read seconds (86_400 * days + clock) some small total
 
 pub time_is_read_back : TimeIsReadBack
-time_is_read_back seconds some small = time_complete seconds (time_text (Some seconds)) some small ((time_law seconds (time_text (Some seconds)) small).0 refl)
+time_is_read_back seconds some small = time_complete seconds (time_text (Some seconds)) some small
+    ((time_law seconds (time_text (Some seconds)) small).0 refl)

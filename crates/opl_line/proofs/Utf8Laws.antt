@@ -1,10 +1,12 @@
 -- The pieces of a text in UTF-8 that is cut at ASCII characters, and the texts that they spell.
-use Rattle.std.proofs.Common.{◌≡◌, ℕ, zero, suc, ◌+◌, ◌<◌, Bool, true, false, not, cond, eqb, ◌&&◌, ◌||◌, List, [], ◌∷◌, ◌++◌, length, get_or, Option, Some, None, refl, sym, ap, ◌∙◌, subst, arith}
+use Rattle.std.proofs.Common.{◌≡◌, ℕ, zero, suc, ◌+◌, ◌<◌, Bool, true, false, not, cond, eqb, ◌&&◌, ◌||◌, List, [], ◌∷◌, ◌++◌, length}
+use Rattle.std.proofs.Common.{get_or, Option, Some, None, refl, sym, ap, ◌∙◌, subst, arith}
 use Rattle.std.proofs.lemmas.Bool.{and_parts}
 use Rattle.std.proofs.lemmas.Bool.Decides.{nat_tests}
 use Rattle.std.proofs.lemmas.List.{length-append}
 use Rattle.std.proofs.lemmas.List.Folds.{list_any-append}
-use Rattle.std.proofs.lemmas.Str.{IsUtf8-append, IsUtf8-encode, IsUtf8-take, IsUtf8-drop, IsCharBoundary-before_ascii, IsCharBoundary-after_ascii, scalars-chars, encodes-chars}
+use Rattle.std.proofs.lemmas.Str.{IsUtf8-append, IsUtf8-encode, IsUtf8-take, IsUtf8-drop, IsCharBoundary-before_ascii}
+use Rattle.std.proofs.lemmas.Str.{IsCharBoundary-after_ascii, scalars-chars, encodes-chars}
 use Rattle.std.proofs.Math.Seq.{take-append_seam, get_or-append_seam, drop-append-add}
 use Rattle.std.specs.List.{list_all, list_any, AllByRecursion}
 use Rattle.std.specs.Str.{IsUtf8, chars}
@@ -38,7 +40,8 @@ data IsSplit (p : ℕ → Bool) (bytes : List ℕ) : Type 0 where
 longer : (p : ℕ → Bool) (b : ℕ) (bs : List ℕ) → p b ≡ false → IsSplit p bs → IsSplit p (b ∷ bs)
 longer p b bs other (nowhere e) = nowhere (ap (λ t. cond t ([], Some bs) (lengthened b (split_first p bs))) other ∙ ap (lengthened b) e)
 longer p b bs other (here front rest end is whole e) =
-    here (b ∷ front) rest end is (ap (λ t. b ∷ t) whole) (ap (λ t. cond t ([], Some bs) (lengthened b (split_first p bs))) other ∙ ap (lengthened b) e)
+    here (b ∷ front) rest end is (ap (λ t. b ∷ t) whole)
+    (ap (λ t. cond t ([], Some bs) (lengthened b (split_first p bs))) other ∙ ap (lengthened b) e)
 
 is_split : (p : ℕ → Bool) (bytes : List ℕ) → IsSplit p bytes
 is_split p [] = nowhere refl
@@ -52,7 +55,8 @@ abbrev pub OptionUtf8 : Option (List ℕ) → Type 0
 OptionUtf8 None = Unit {0}
 OptionUtf8 (Some bytes) = IsUtf8 bytes
 
-split_parts : (at : Cut) (bytes : List ℕ) → IsUtf8 bytes → IsSplit (is_end at) bytes → IsUtf8 (split_first (is_end at) bytes).0 × OptionUtf8 (split_first (is_end at) bytes).1
+split_parts : (at : Cut) (bytes : List ℕ) → IsUtf8 bytes → IsSplit (is_end at) bytes →
+    IsUtf8 (split_first (is_end at) bytes).0 × OptionUtf8 (split_first (is_end at) bytes).1
 split_parts at bytes utf8 (nowhere e) =
     let P : List ℕ × Option (List ℕ) → Type 0 = λ s. IsUtf8 s.0 × OptionUtf8 s.1 in
     subst P (sym e) (utf8, tt)
@@ -60,10 +64,12 @@ split_parts at bytes utf8 (here front rest b is whole e) =
     let P : List ℕ × Option (List ℕ) → Type 0 = λ s. IsUtf8 s.0 × OptionUtf8 s.1 in
     subst P (sym e) (utf8_around front rest b (ends_ascii at b is) (subst IsUtf8 whole utf8))
 
-pub split_utf8 : (at : Cut) (bytes : List ℕ) → IsUtf8 bytes → IsUtf8 (split_first (is_end at) bytes).0 × OptionUtf8 (split_first (is_end at) bytes).1
+pub split_utf8 : (at : Cut) (bytes : List ℕ) → IsUtf8 bytes →
+    IsUtf8 (split_first (is_end at) bytes).0 × OptionUtf8 (split_first (is_end at) bytes).1
 split_utf8 at bytes utf8 = split_parts at bytes utf8 (is_split (is_end at) bytes)
 
-cut_parts : (at : Cut) (bytes : List ℕ) → ((rest : List ℕ) → length rest < length bytes → IsUtf8 rest → AllByRecursion IsUtf8 (cut (is_end at) rest)) → IsUtf8 bytes → IsSplit (is_end at) bytes →
+cut_parts : (at : Cut) (bytes : List ℕ) → ((rest : List ℕ) → length rest < length bytes → IsUtf8 rest →
+    AllByRecursion IsUtf8 (cut (is_end at) rest)) → IsUtf8 bytes → IsSplit (is_end at) bytes →
     AllByRecursion IsUtf8 (cut (is_end at) bytes)
 cut_parts at bytes behind utf8 (nowhere e) =
     let P : List ℕ × Option (List ℕ) → Type 0 = λ s. AllByRecursion IsUtf8 (s.0 ∷ pieces_of (is_end at) s.1) in
@@ -78,7 +84,8 @@ cut_parts at bytes behind utf8 (here front rest b is whole e) =
 
 cut_within : (at : Cut) (most : ℕ) (bytes : List ℕ) → length bytes < most → IsUtf8 bytes → AllByRecursion IsUtf8 (cut (is_end at) bytes)
 cut_within at zero bytes few utf8 = absurd (omega arith)
-cut_within at (suc most) bytes few utf8 = cut_parts at bytes (λ rest shorter u. cut_within at most rest (omega arith) u) utf8 (is_split (is_end at) bytes)
+cut_within at (suc most) bytes few utf8 = cut_parts at bytes (λ rest shorter u. cut_within at most rest (omega arith) u) utf8
+    (is_split (is_end at) bytes)
 
 pub cut_utf8 : (at : Cut) (bytes : List ℕ) → IsUtf8 bytes → AllByRecursion IsUtf8 (cut (is_end at) bytes)
 cut_utf8 at bytes utf8 = cut_within at (suc (length bytes)) bytes (omega arith) utf8
@@ -92,7 +99,8 @@ raw_some b e = grind (arith, nat_tests)
 
 raw_none : (bytes : List ℕ) → list_all stands_for_itself bytes ≡ true → HasNone bytes
 raw_none [] all = refl
-raw_none (b ∷ bs) all = let parts = and_parts (stands_for_itself b) (list_all stands_for_itself bs) all in λ i. raw_some b parts.0 i || raw_none bs parts.1 i
+raw_none (b ∷ bs) all = let parts = and_parts (stands_for_itself b) (list_all stands_for_itself bs) all in
+    λ i. raw_some b parts.0 i || raw_none bs parts.1 i
 
 none_append : (xs ys : List ℕ) → HasNone xs → HasNone ys → HasNone (xs ++ ys)
 none_append xs ys a b = list_any-append (λ x. eqb x 0) xs ys ∙ (λ i. a i || b i)
@@ -106,7 +114,8 @@ named_scalar : (digits : List ℕ) (c : ℕ) → scalar_of digits ≡ Some c →
 named_scalar digits c =
     let value = hex_value digits in
     let named = scalar value && not (eqb value 0) in
-    elim (is_hex digits && named) as (λ t. (is_hex digits && named) ≡ t → cond t (Some value) None ≡ Some c → (scalar c ≡ true) × (eqb c 0 ≡ false)) [
+    elim (is_hex digits && named) as (λ t. (is_hex digits && named) ≡ t → cond t (Some value) None ≡ Some c →
+    (scalar c ≡ true) × (eqb c 0 ≡ false)) [
       | true ↦ λ is e.
           let same : value ≡ c = cc in
           let parts = and_parts (scalar value) (not (eqb value 0)) (and_parts (is_hex digits) named is).1 in
@@ -128,5 +137,6 @@ text_within bytes text (escaped front digits rest text' c all some spelled) utf8
 pub characters_within : (bytes cs : List ℕ) → SpellsCharacters bytes cs → IsUtf8 bytes → is_text cs ≡ true
 characters_within bytes cs s utf8 =
     let text = text_within bytes s.text s.spelled utf8 in
-    let none : has_zero (chars s.text) ≡ false = sym (zero_bytes (chars s.text)) ∙ ap (list_any (λ b. eqb b 0)) (encodes-chars s.text text.0) ∙ text.1 in
+    let none : has_zero (chars s.text) ≡ false = sym (zero_bytes (chars s.text))
+    ∙ ap (list_any (λ b. eqb b 0)) (encodes-chars s.text text.0) ∙ text.1 in
     ap is_text s.characters ∙ (λ i. scalars-chars s.text text.0 i && not (none i))

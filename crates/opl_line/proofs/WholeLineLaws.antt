@@ -1,5 +1,6 @@
 -- The canonical line of a version is read back.
-use Rattle.std.proofs.Common.{◌≡◌, ℕ, ℤ, ◌^◌, ◌<◌, Bool, true, false, not, eqb, ltb, ◌&&◌, List, [], ◌∷◌, ◌++◌, filter, Option, Some, None, Ok, refl, sym, ap, ◌∙◌, subst, arith, codes, FitsSigned, w32}
+use Rattle.std.proofs.Common.{◌≡◌, ℕ, ℤ, ◌^◌, ◌<◌, Bool, true, false, not, eqb, ltb, ◌&&◌, List, [], ◌∷◌, ◌++◌, filter, Option, Some, None}
+use Rattle.std.proofs.Common.{Ok, refl, sym, ap, ◌∙◌, subst, arith, codes, FitsSigned, w32}
 use Rattle.std.proofs.lemmas.Bool.{and_parts}
 use Rattle.std.proofs.lemmas.Bool.Decides.{nat_tests}
 use Rattle.std.proofs.lemmas.Str.{IsUtf8-nil, IsUtf8-append, IsUtf8-encode}
@@ -36,7 +37,8 @@ use Rattle.opl_line.specs.Field.{nothing_said}
 use Rattle.opl_line.specs.Reading.{meta_of, reading_body, reading_line}
 use Rattle.opl_line.specs.Part as part
 use Rattle.opl_line.specs.Part.{Part, SpellsPart}
-use Rattle.opl_line.specs.Content.{SpellsNumber32, some_count, SpellsDeleted, visible_mark, deleted_mark, SpellsPlace, no_place, some_place, SpellsObject}
+use Rattle.opl_line.specs.Content.{SpellsNumber32, some_count, SpellsDeleted, visible_mark, deleted_mark, SpellsPlace, no_place, some_place}
+use Rattle.opl_line.specs.Content.{SpellsObject}
 use Rattle.opl_line.specs.Spells.{is_full, said_by, Spells}
 use Rattle.opl_line.specs.Canonical.{LineSpellsItsVersion, LineIsReadBack, LineStandsInOne}
 use Rattle.opl_line.proofs.ContentLaws.{all_weaker}
@@ -64,7 +66,8 @@ char_above c =
     let P : List ℕ → Type 0 = λ t. list_all (λ b. ltb 32 b) t ≡ true in
     elim (model.is_raw c) as (λ t. model.is_raw c ≡ t → list_all (λ b. ltb 32 b) (escape_char c) ≡ true) [
       | true ↦ λ is. subst P (sym (escape_char-raw c is)) (encode_above c is)
-      | false ↦ λ is. subst P (sym (escape_char-other c is)) (all_weaker is_graphic (λ b. ltb 32 b) graphic_above (code_escape c) (escape_graphic c))
+      | false ↦ λ is. subst P (sym (escape_char-other c is))
+          (all_weaker is_graphic (λ b. ltb 32 b) graphic_above (code_escape c) (escape_graphic c))
     ] refl
 
 text_above : (cs : List ℕ) → list_all (λ b. ltb 32 b) (escape cs) ≡ true
@@ -77,13 +80,15 @@ any_texts (t ∷ ts) = any_texts ts
 
 fields_above : (v : VersionData) → AllByRecursion (λ f. list_all (λ b. ltb 32 b) f ≡ true) (fields v)
 fields_above v =
-    fields_have (λ f. list_all (λ b. ltb 32 b) f ≡ true) (all_append (λ b. ltb 32 b)) (λ xs h. all_weaker is_graphic (λ b. ltb 32 b) graphic_above xs h)
+    fields_have (λ f. list_all (λ b. ltb 32 b) f ≡ true) (all_append (λ b. ltb 32 b))
+    (λ xs h. all_weaker is_graphic (λ b. ltb 32 b) graphic_above xs h)
     (λ t. true) (λ cs h. text_above cs) v (any_texts (v.user ∷ texts_of v.body))
 
 not_blank : (b : ℕ) → ltb 32 b ≡ true → not (is_blank b) ≡ true
 not_blank b e = grind (arith, nat_tests)
 
-unparted : (fs : List (List ℕ)) → AllByRecursion (λ f. list_all (λ b. ltb 32 b) f ≡ true) fs → list_all (λ f. list_all (λ b. not (is_blank b)) f) fs ≡ true
+unparted : (fs : List (List ℕ)) → AllByRecursion (λ f. list_all (λ b. ltb 32 b) f ≡ true) fs →
+    list_all (λ f. list_all (λ b. not (is_blank b)) f) fs ≡ true
 unparted [] h = refl
 unparted (f ∷ fs) h = λ i. all_weaker (λ b. ltb 32 b) (λ b. not (is_blank b)) not_blank f h.0 i && unparted fs h.1 i
 
@@ -98,10 +103,12 @@ weaker b e = grind (arith, nat_tests)
 no_line_end : (b : ℕ) → ltb 31 b ≡ true → not (is_line_end b) ≡ true
 no_line_end b e = grind (arith, nat_tests)
 
-joined_above : (fs : List (List ℕ)) → AllByRecursion (λ f. list_all (λ b. ltb 32 b) f ≡ true) fs → list_all (λ b. ltb 31 b) (joined 32 fs) ≡ true
+joined_above : (fs : List (List ℕ)) → AllByRecursion (λ f. list_all (λ b. ltb 32 b) f ≡ true) fs →
+    list_all (λ b. ltb 31 b) (joined 32 fs) ≡ true
 joined_above [] h = refl
 joined_above (f ∷ []) h = all_weaker (λ b. ltb 32 b) (λ b. ltb 31 b) weaker f h.0
-joined_above (f ∷ g ∷ fs) h = all_append (λ b. ltb 31 b) f (32 ∷ joined 32 (g ∷ fs)) (all_weaker (λ b. ltb 32 b) (λ b. ltb 31 b) weaker f h.0) (joined_above (g ∷ fs) h.1)
+joined_above (f ∷ g ∷ fs) h = all_append (λ b. ltb 31 b) f (32 ∷ joined 32 (g ∷ fs))
+    (all_weaker (λ b. ltb 32 b) (λ b. ltb 31 b) weaker f h.0) (joined_above (g ∷ fs) h.1)
 
 no_comment : (k : Kind) → eqb (kind_letter k) 35 ≡ false
 no_comment kind.Node = refl
@@ -110,7 +117,11 @@ no_comment kind.Relation = refl
 
 pub line_stands_in_one : LineStandsInOne
 unfolding line
-line_stands_in_one v = (all_weaker (λ b. ltb 31 b) (λ b. not (is_line_end b)) no_line_end (line v) (joined_above (fields v) (fields_above v)), no_comment (kind_of v.body))
+line_stands_in_one v = (
+  all_weaker (λ b. ltb 31 b) (λ b. not (is_line_end b)) no_line_end (line v)
+      (joined_above (fields v) (fields_above v)),
+  no_comment (kind_of v.body),
+)
 
 -- ---- a canonical line is UTF-8
 ascii_encode : (x : ℕ) → is_graphic x ≡ true → encode x ≡ x ∷ []
@@ -143,11 +154,13 @@ joined_utf8 : (fs : List (List ℕ)) → AllByRecursion IsUtf8 fs → IsUtf8 (jo
 unfolding encode
 joined_utf8 [] h = IsUtf8-nil
 joined_utf8 (f ∷ []) h = h.0
-joined_utf8 (f ∷ g ∷ fs) h = IsUtf8-append f (32 ∷ joined 32 (g ∷ fs)) h.0 (IsUtf8-append (32 ∷ []) (joined 32 (g ∷ fs)) (IsUtf8-encode 32 refl) (joined_utf8 (g ∷ fs) h.1))
+joined_utf8 (f ∷ g ∷ fs) h = IsUtf8-append f (32 ∷ joined 32 (g ∷ fs)) h.0
+    (IsUtf8-append (32 ∷ []) (joined 32 (g ∷ fs)) (IsUtf8-encode 32 refl) (joined_utf8 (g ∷ fs) h.1))
 
 line_utf8 : (v : VersionData) → list_all is_text (v.user ∷ texts_of v.body) ≡ true → IsUtf8 (line v)
 unfolding line
-line_utf8 v all = joined_utf8 (fields v) (fields_have IsUtf8 IsUtf8-append graphic_utf8 is_text (λ cs is. text_utf8 cs (and_parts (scalars cs) (not (has_zero cs)) is).0) v all)
+line_utf8 v all = joined_utf8 (fields v) (fields_have IsUtf8 IsUtf8-append graphic_utf8 is_text
+    (λ cs is. text_utf8 cs (and_parts (scalars cs) (not (has_zero cs)) is).0) v all)
 
 -- ---- the parts of a canonical line
 abbrev body_parts : Body → List Part
@@ -172,7 +185,8 @@ others_of v =
 
 abbrev parts_of : VersionData → List Part
 parts_of v =
-    part.Number v.number ∷ part.Deleted (is_deleted v.body) ∷ part.Changeset v.changeset ∷ part.Time v.time ∷ part.UserId v.uid ∷ part.User v.user ∷ part.Tags (tags_of v.body) ∷ body_parts v.body
+    part.Number v.number ∷ part.Deleted (is_deleted v.body) ∷ part.Changeset v.changeset ∷ part.Time v.time ∷ part.UserId v.uid
+    ∷ part.User v.user ∷ part.Tags (tags_of v.body) ∷ body_parts v.body
 
 number_spelled : (n : ℕ) → n < 2 ^ 32 → SpellsNumber32 (number_text n) n
 number_spelled n small = number_sound 4_294_967_295 (number_text n) n (number_is_read_back 4_294_967_295 n (omega arith))
@@ -184,20 +198,43 @@ deleted_spelled (Way refs tags) = visible_mark
 deleted_spelled (Relation members tags) = visible_mark
 
 coordinate_spelled : (units : ℤ) → FitsSigned w32 units → SpellsPlace (coordinate_text units) (Some units)
-coordinate_spelled units fits = some_place (coordinate_text units) units (coordinate_sound (coordinate_text units) units (coordinate_is_read_back units fits))
+coordinate_spelled units fits = some_place (coordinate_text units) units
+    (coordinate_sound (coordinate_text units) units (coordinate_is_read_back units fits))
 
-body_spelled : (b : Body) → IsInRange b → list_all is_id (ids_of b) ≡ true → list_all is_text (texts_of b) ≡ true → Pairwise (SpellsPart (kind_of b)) (filter is_full (kind_fields b)) (body_parts b)
-body_spelled (Deleted kind.Node) range ids texts = (record { content = []; lettered = refl; of_kind = refl; spelled = no_place }, (record { content = []; lettered = refl; of_kind = refl; spelled = no_place }, tt))
+body_spelled : (b : Body) → IsInRange b → list_all is_id (ids_of b) ≡ true → list_all is_text (texts_of b) ≡ true →
+    Pairwise (SpellsPart (kind_of b)) (filter is_full (kind_fields b)) (body_parts b)
+body_spelled (Deleted kind.Node) range ids texts = (
+  record { content = []; lettered = refl; of_kind = refl; spelled = no_place },
+  (record { content = []; lettered = refl; of_kind = refl; spelled = no_place }, tt),
+)
 body_spelled (Deleted kind.Way) range ids texts = (record { content = []; lettered = refl; of_kind = refl; spelled = refl }, tt)
 body_spelled (Deleted kind.Relation) range ids texts = (record { content = []; lettered = refl; of_kind = refl; spelled = refl }, tt)
 body_spelled (Node lon lat tags) range ids texts = (
   record { content = coordinate_text lon; lettered = refl; of_kind = refl; spelled = coordinate_spelled lon range.0 },
   (record { content = coordinate_text lat; lettered = refl; of_kind = refl; spelled = coordinate_spelled lat range.1 }, tt),
 )
-body_spelled (Way refs tags) range ids texts = (record { content = list_text reference_text refs; lettered = refl; of_kind = refl; spelled = lists_are_spelled.1 refs ids }, tt)
+body_spelled (Way refs tags) range ids texts = (
+  record {
+    content = list_text reference_text refs;
+    lettered = refl;
+    of_kind = refl;
+    spelled =
+        lists_are_spelled.1 refs ids;
+  },
+  tt,
+)
 body_spelled (Relation members tags) range ids texts =
-    let roles = and_parts (list_all is_text (roles_of members)) (list_all is_text (texts_of_tags tags)) (sym (list_all-append is_text (roles_of members) (texts_of_tags tags)) ∙ texts) in
-    (record { content = list_text member_text members; lettered = refl; of_kind = refl; spelled = lists_are_spelled.2 members ids roles.0 }, tt)
+    let roles = and_parts (list_all is_text (roles_of members)) (list_all is_text (texts_of_tags tags))
+    (sym (list_all-append is_text (roles_of members) (texts_of_tags tags)) ∙ texts) in (
+      record {
+        content = list_text member_text members;
+        lettered = refl;
+        of_kind = refl;
+        spelled =
+            lists_are_spelled.2 members ids roles.0;
+      },
+      tt,
+    )
 
 -- Data of which each field is within its range. Its tags may have any order.
 pub record AreFieldsWithin (v : VersionData) : Type 0 where
@@ -211,7 +248,16 @@ pub record AreFieldsWithin (v : VersionData) : Type 0 where
 
 version_within : (v : VersionData) → IsVersion v → AreFieldsWithin v
 version_within v is =
-    record { ids = is.ids; number = is.number_below; changeset = is.changeset; uid = is.uid; time = is.time; texts = is.texts; location = is.location }
+    record {
+      ids = is.ids;
+      number = is.number_below;
+      changeset = is.changeset;
+      uid = is.uid;
+      time = is.time;
+      texts = is.texts;
+      location =
+          is.location;
+    }
 
 parts_spelled : (v : VersionData) → AreFieldsWithin v → Pairwise (SpellsPart (kind_of v.body)) (filter is_full (others_of v)) (parts_of v)
 parts_spelled v is =
@@ -221,15 +267,39 @@ parts_spelled v is =
       (
         record { content = visible_text v.body; lettered = refl; of_kind = tt; spelled = deleted_spelled v.body },
         (
-          record { content = number_text v.changeset; lettered = refl; of_kind = tt; spelled = some_count (number_text v.changeset) v.changeset (number_spelled v.changeset is.changeset) },
+          record {
+            content = number_text v.changeset;
+            lettered = refl;
+            of_kind = tt;
+            spelled =
+                some_count (number_text v.changeset) v.changeset (number_spelled v.changeset is.changeset);
+          },
           (
-            record { content = time_text v.time; lettered = refl; of_kind = tt; spelled = record { spelled = refl; range = valid_time v.time is.time } },
+            record {
+              content = time_text v.time;
+              lettered = refl;
+              of_kind = tt;
+              spelled =
+                  record { spelled = refl; range = valid_time v.time is.time };
+            },
             (
-              record { content = number_text v.uid; lettered = refl; of_kind = tt; spelled = some_count (number_text v.uid) v.uid (number_spelled v.uid is.uid) },
+              record {
+                content = number_text v.uid;
+                lettered = refl;
+                of_kind = tt;
+                spelled =
+                    some_count (number_text v.uid) v.uid (number_spelled v.uid is.uid);
+              },
               (
                 record { content = escape v.user; lettered = refl; of_kind = tt; spelled = text_is_read_back v.user texts.0 },
                 (
-                  record { content = list_text tag_text (tags_of v.body); lettered = refl; of_kind = tt; spelled = lists_are_spelled.0 (tags_of v.body) (tags_of_body is_text v.body texts.1) },
+                  record {
+                    content = list_text tag_text (tags_of v.body);
+                    lettered = refl;
+                    of_kind = tt;
+                    spelled =
+                        lists_are_spelled.0 (tags_of v.body) (tags_of_body is_text v.body texts.1);
+                  },
                   body_spelled v.body is.location ids.1 texts.1,
                 ),
               ),
@@ -239,18 +309,26 @@ parts_spelled v is =
       ),
     )
 
-told_by : (number : ℕ) (deleted : Bool) (changeset : ℕ) (time : Option ℕ) (uid : ℕ) (user : List ℕ) (tags : List Tag) → List Part → List Part
+told_by : (number : ℕ) (deleted : Bool) (changeset : ℕ) (time : Option ℕ) (uid : ℕ) (user : List ℕ) (tags : List Tag) → List Part →
+    List Part
 told_by number deleted changeset time uid user tags more =
-    part.Number number ∷ part.Deleted deleted ∷ part.Changeset changeset ∷ part.Time time ∷ part.UserId uid ∷ part.User user ∷ part.Tags tags ∷ more
+    part.Number number ∷ part.Deleted deleted ∷ part.Changeset changeset ∷ part.Time time ∷ part.UserId uid ∷ part.User user
+    ∷ part.Tags tags ∷ more
 
-all_different : (number : ℕ) (deleted : Bool) (changeset : ℕ) (time : Option ℕ) (uid : ℕ) (user : List ℕ) (tags : List Tag) (b : Body) → Different nothing_said (told_by number deleted changeset time uid user tags (body_parts b))
+all_different : (number : ℕ) (deleted : Bool) (changeset : ℕ) (time : Option ℕ) (uid : ℕ) (user : List ℕ) (tags : List Tag) (b : Body) →
+    Different nothing_said (told_by number deleted changeset time uid user tags (body_parts b))
 unfolding told_by
-all_different number deleted changeset time uid user tags (Deleted kind.Node) = (refl, (refl, (refl, (refl, (refl, (refl, (refl, (refl, (refl, tt)))))))))
-all_different number deleted changeset time uid user tags (Deleted kind.Way) = (refl, (refl, (refl, (refl, (refl, (refl, (refl, (refl, tt))))))))
-all_different number deleted changeset time uid user tags (Deleted kind.Relation) = (refl, (refl, (refl, (refl, (refl, (refl, (refl, (refl, tt))))))))
-all_different number deleted changeset time uid user tags (Node lon lat ts) = (refl, (refl, (refl, (refl, (refl, (refl, (refl, (refl, (refl, tt)))))))))
+all_different number deleted changeset time uid user tags (Deleted kind.Node) =
+    (refl, (refl, (refl, (refl, (refl, (refl, (refl, (refl, (refl, tt)))))))))
+all_different number deleted changeset time uid user tags (Deleted kind.Way) =
+    (refl, (refl, (refl, (refl, (refl, (refl, (refl, (refl, tt))))))))
+all_different number deleted changeset time uid user tags (Deleted kind.Relation) =
+    (refl, (refl, (refl, (refl, (refl, (refl, (refl, (refl, tt))))))))
+all_different number deleted changeset time uid user tags (Node lon lat ts) =
+    (refl, (refl, (refl, (refl, (refl, (refl, (refl, (refl, (refl, tt)))))))))
 all_different number deleted changeset time uid user tags (Way refs ts) = (refl, (refl, (refl, (refl, (refl, (refl, (refl, (refl, tt))))))))
-all_different number deleted changeset time uid user tags (Relation members ts) = (refl, (refl, (refl, (refl, (refl, (refl, (refl, (refl, tt))))))))
+all_different number deleted changeset time uid user tags (Relation members ts) =
+    (refl, (refl, (refl, (refl, (refl, (refl, (refl, (refl, tt))))))))
 
 -- the parts say the data again
 record Said (v : VersionData) (b : Body) (parts : List Part) : Type 0 where
@@ -266,8 +344,14 @@ said v (Node lon lat tags) = record { has_body = refl; has_meta = refl }
 said v (Way refs tags) = record { has_body = refl; has_meta = refl }
 said v (Relation members tags) = record { has_body = refl; has_meta = refl }
 
-object_spelled : (v : VersionData) → AreFieldsWithin v → SpellsObject (kind_letter (kind_of v.body) ∷ integer_text v.id) (kind_of v.body) v.id
-object_spelled v is = record { digits = integer_text v.id; lettered = refl; spelled = id_sound (integer_text v.id) v.id (id_is_read_back v.id (and_parts (is_id v.id) (list_all is_id (ids_of v.body)) is.ids).0) }
+object_spelled : (v : VersionData) → AreFieldsWithin v →
+    SpellsObject (kind_letter (kind_of v.body) ∷ integer_text v.id) (kind_of v.body) v.id
+object_spelled v is = record {
+  digits = integer_text v.id;
+  lettered = refl;
+  spelled =
+      id_sound (integer_text v.id) v.id (id_is_read_back v.id (and_parts (is_id v.id) (list_all is_id (ids_of v.body)) is.ids).0);
+}
 
 -- the line of data within its ranges spells the version that the data makes
 data_spelled : (v w : VersionData) → AreFieldsWithin v → version_or_fault v.id (meta_of_version v) v.body ≡ Ok w → Spells (line v) w
@@ -286,12 +370,14 @@ data_spelled v w is makes =
         fields = line_parted v;
         names = object_spelled v is;
         spelled = parts_spelled v is;
-        different = distinct nothing_said (parts_of v) (all_different v.number (is_deleted v.body) v.changeset v.time v.uid v.user (tags_of v.body) v.body);
+        different = distinct nothing_said (parts_of v) (all_different v.number (is_deleted v.body) v.changeset v.time v.uid v.user
+            (tags_of v.body) v.body);
       };
       version = record { body = v.body; has_body = s.has_body; made = ap (λ m. version_or_fault v.id m v.body) s.has_meta ∙ makes };
     }
 
-pub data_is_read : (v w : VersionData) → AreFieldsWithin v → version_or_fault v.id (meta_of_version v) v.body ≡ Ok w → reading_line (line v) ≡ Ok (Some w)
+pub data_is_read : (v w : VersionData) → AreFieldsWithin v → version_or_fault v.id (meta_of_version v) v.body ≡ Ok w →
+    reading_line (line v) ≡ Ok (Some w)
 data_is_read v w is makes = spelled_is_read (line v) w (data_spelled v w is makes)
 
 line_spelled : (v : VersionData) → IsVersion v → Spells (line v) v

@@ -23,7 +23,9 @@ use Rattle.opl_line.proofs.ReadingLaws.{whole_line}
 use Rattle.opl_line.proofs.SpellsLaws.{object_spelled}
 use Rattle.opl_line.proofs.Utf8Laws.{cut_utf8}
 
-pub passes : (k : Kind) (id : ℤ) (fields : Fields) (b : Body) → is_id id ≡ true → AreWithin fields → eqb (unwrap_or fields.number 0) 0 ≡ false → is_dated (meta_of fields) ≡ true → reading_body k fields ≡ Ok b → Passes id (meta_of fields) b
+pub passes : (k : Kind) (id : ℤ) (fields : Fields) (b : Body) → is_id id ≡ true → AreWithin fields →
+    eqb (unwrap_or fields.number 0) 0 ≡ false → is_dated (meta_of fields) ≡ true → reading_body k fields ≡ Ok b →
+    Passes id (meta_of fields) b
 passes k id fields b is h some dated read =
     let w = body_within k fields b h read in
     record {
@@ -40,7 +42,8 @@ pub record Sound (k : Kind) (id : ℤ) (fields : Fields) (meta : Meta) (b : Body
   pub fault : first_fault id meta b ≡ None
   pub whole : reading_whole k id fields ≡ Ok (version_of id meta b)
 
-pub sound : (k : Kind) (id : ℤ) (fields : Fields) (meta : Meta) (b : Body) → meta ≡ meta_of fields → is_id id ≡ true → AreWithin fields → (meta.version == 0) ≡ false → is_dated meta ≡ true → reading_body k fields ≡ Ok b → Sound k id fields meta b
+pub sound : (k : Kind) (id : ℤ) (fields : Fields) (meta : Meta) (b : Body) → meta ≡ meta_of fields → is_id id ≡ true → AreWithin fields →
+    (meta.version == 0) ≡ false → is_dated meta ≡ true → reading_body k fields ≡ Ok b → Sound k id fields meta b
 sound k id fields meta b same is h some dated read =
     let numbered : ((meta_of fields).version == 0) ≡ false = sym (ap (λ m. m.version == 0) same) ∙ some in
     let p = subst (λ m. Passes id m b) (sym same) (passes k id fields b is h numbered (sym (ap is_dated same) ∙ dated) read) in
@@ -50,9 +53,11 @@ sound k id fields meta b same is h some dated read =
     }
 
 pub object_within : (field : List ℕ) (k : Kind) (id : ℤ) → reading_object field ≡ Ok (k, id) → is_id id ≡ true
-object_within field k id read = let names = object_spelled field k id read in id_within names.digits id (id_complete names.digits id names.spelled)
+object_within field k id read = let names = object_spelled field k id read in
+    id_within names.digits id (id_complete names.digits id names.spelled)
 
-pub fields_within : (line : List ℕ) (k : Kind) (fields : Fields) → IsUtf8 line → reading_fields k (pieces_of (is_end Blanks) (split_first (is_end Blanks) line).1) nothing_said ≡ Ok fields → AreWithin fields
+pub fields_within : (line : List ℕ) (k : Kind) (fields : Fields) → IsUtf8 line →
+    reading_fields k (pieces_of (is_end Blanks) (split_first (is_end Blanks) line).1) nothing_said ≡ Ok fields → AreWithin fields
 fields_within line k fields utf8 read =
     let pieces = pieces_of (is_end Blanks) (split_first (is_end Blanks) line).1 in
     let said = parts_of k pieces fields read in

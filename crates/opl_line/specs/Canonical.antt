@@ -45,9 +45,11 @@ CoordinateIsReadBack = (units : ℤ) → FitsSigned w32 units → reading_coordi
 -- the lists of canonical lines spell their items
 abbrev pub ListsAreSpelled : Type 0
 ListsAreSpelled =
-    ((tags : List Tag) → list_all is_text (texts_of_tags tags) ≡ true → SpellsList SpellsTag (list_text tag_text tags) tags)
+    ((tags : List Tag) → list_all is_text (texts_of_tags tags) ≡ true →
+    SpellsList SpellsTag (list_text tag_text tags) tags)
     × ((ids : List ℤ) → list_all is_id ids ≡ true → SpellsList SpellsReference (list_text reference_text ids) ids)
-    × ((members : List Member) → list_all is_id (ids_of_members members) ≡ true → list_all is_text (roles_of members) ≡ true → SpellsList SpellsMember (list_text member_text members) members)
+    × ((members : List Member) → list_all is_id (ids_of_members members) ≡ true →
+    list_all is_text (roles_of members) ≡ true → SpellsList SpellsMember (list_text member_text members) members)
 
 -- The canonical line of a version spells it, and nothing else.
 pub record SpellsAlone (text : List ℕ) (v : VersionData) : Type 0 where
@@ -63,4 +65,5 @@ LineIsReadBack = (v : VersionData) → IsVersion v → reading_line (line v) ≡
 
 -- No canonical line has a line end in it, and none is skipped.
 abbrev pub LineStandsInOne : Type 0
-LineStandsInOne = (v : VersionData) → (list_all (λ b. not (is_line_end b)) (line v) ≡ true) × (is_skipped (line v) ≡ false)
+LineStandsInOne = (v : VersionData) → (list_all (λ b. not (is_line_end b)) (line v) ≡ true)
+    × (is_skipped (line v) ≡ false)

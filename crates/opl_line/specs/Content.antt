@@ -1,5 +1,7 @@
--- What the contents of fields in OPL lines spell (the OPL manual; which characters stand for themselves, the limits of an escape, that leading zeros are accepted, and the form of coordinates are own rules of this project).
-use Rattle.std.specs.Prelude.{◌≡◌, ◌≤◌, ℕ, ℤ, pos, neg_ℤ, ◌+◌, ◌-◌, ◌*◌, ◌^◌, Bool, true, false, List, [], ◌∷◌, ◌++◌, length, codes, encode_utf8, Option, None, Some}
+-- What the contents of fields in OPL lines spell (the OPL manual; which characters stand for themselves, the limits of
+-- an escape, that leading zeros are accepted, and the form of coordinates are own rules of this project).
+use Rattle.std.specs.Prelude.{◌≡◌, ◌≤◌, ℕ, ℤ, pos, neg_ℤ, ◌+◌, ◌-◌, ◌*◌, ◌^◌, Bool, true, false, List, [], ◌∷◌, ◌++◌}
+use Rattle.std.specs.Prelude.{length, codes, encode_utf8, Option, None, Some}
 use Rattle.std.specs.List.{list_all}
 use Rattle.std.specs.Str.{chars}
 use Rattle.osm_model.specs.declared.kind.Kind.{Kind}
@@ -36,7 +38,8 @@ pub data SpellsCount : List ℕ → ℕ → Type 0 where
 -- an id: a number up to 4611686018427387903, after a minus sign or not
 pub data SpellsId : List ℕ → ℤ → Type 0 where
   plain_id : (digits : List ℕ) (n : ℕ) → SpellsNumber 4_611_686_018_427_387_903 digits n → SpellsId digits (pos n)
-  minus_id : (digits : List ℕ) (n : ℕ) → SpellsNumber 4_611_686_018_427_387_903 digits n → SpellsId (45 ∷ digits) (neg_ℤ (pos n))
+  minus_id : (digits : List ℕ) (n : ℕ) → SpellsNumber 4_611_686_018_427_387_903 digits n →
+      SpellsId (45 ∷ digits) (neg_ℤ (pos n))
 
 -- `V` for visible, `D` for deleted
 pub data SpellsDeleted : List ℕ → Bool → Type 0 where
@@ -50,14 +53,18 @@ pub record SpellsTime (bytes : List ℕ) (time : Option ℕ) : Type 0 where
 
 -- degrees in units of 10^-7 degree: 1 to 3 digits; or these, a point, and 1 to 7 decimals
 pub data SpellsDegrees : List ℕ → ℕ → Type 0 where
-  whole_degrees : (digits : List ℕ) (n : ℕ) → SpellsNumeral digits n → length digits ≤ 3 → SpellsDegrees digits (n * 10_000_000)
-  with_decimals : (digits decimals : List ℕ) (n d : ℕ) → SpellsNumeral digits n → length digits ≤ 3 → SpellsNumeral decimals d → length decimals ≤ 7 →
+  whole_degrees : (digits : List ℕ) (n : ℕ) → SpellsNumeral digits n → length digits ≤ 3 →
+      SpellsDegrees digits (n * 10_000_000)
+  with_decimals : (digits decimals : List ℕ) (n d : ℕ) → SpellsNumeral digits n → length digits ≤ 3 →
+      SpellsNumeral decimals d → length decimals ≤ 7 →
       SpellsDegrees (digits ++ 46 ∷ decimals) (n * 10_000_000 + d * 10 ^ (7 - length decimals))
 
 -- a coordinate: degrees after a minus sign or not, of which the units are a number of 32 bits
 pub data SpellsCoordinate : List ℕ → ℤ → Type 0 where
-  plain_degrees : (bytes : List ℕ) (units : ℕ) → SpellsDegrees bytes units → units ≤ 2_147_483_647 → SpellsCoordinate bytes (pos units)
-  minus_degrees : (bytes : List ℕ) (units : ℕ) → SpellsDegrees bytes units → units ≤ 2_147_483_648 → SpellsCoordinate (45 ∷ bytes) (neg_ℤ (pos units))
+  plain_degrees : (bytes : List ℕ) (units : ℕ) → SpellsDegrees bytes units → units ≤ 2_147_483_647 →
+      SpellsCoordinate bytes (pos units)
+  minus_degrees : (bytes : List ℕ) (units : ℕ) → SpellsDegrees bytes units → units ≤ 2_147_483_648 →
+      SpellsCoordinate (45 ∷ bytes) (neg_ℤ (pos units))
 
 -- such a coordinate, or nothing
 pub data SpellsPlace : List ℕ → Option ℤ → Type 0 where
@@ -67,7 +74,8 @@ pub data SpellsPlace : List ℕ → Option ℤ → Type 0 where
 -- A text in UTF-8: bytes that stand for themselves; or such bytes, an escape, which is `%`, digits and `%`, and a text.
 pub data SpellsText : List ℕ → List ℕ → Type 0 where
   raw : (text : List ℕ) → list_all stands_for_itself text ≡ true → SpellsText text text
-  escaped : (front digits rest text : List ℕ) (c : ℕ) → list_all stands_for_itself front ≡ true → scalar_of digits ≡ Some c → SpellsText rest text →
+  escaped : (front digits rest text : List ℕ) (c : ℕ) → list_all stands_for_itself front ≡ true →
+      scalar_of digits ≡ Some c → SpellsText rest text →
       SpellsText (front ++ 37 ∷ (digits ++ 37 ∷ rest)) (front ++ (encode_utf8 c ++ text))
 
 -- the characters of such a text

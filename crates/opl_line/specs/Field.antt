@@ -1,5 +1,7 @@
--- The fields of an OPL line (the OPL manual; that they stand in any order, that one may be empty, and that none is repeated, are own rules of this project).
-use Rattle.std.specs.Prelude.{ℕ, Bool, true, false, ◌==◌, List, [], ◌∷◌, Option, Some, None, is_some, Result, Ok, Err, if◌then◌else◌}
+-- The fields of an OPL line (the OPL manual; that they stand in any order, that one may be empty, and that none is
+-- repeated, are own rules of this project).
+use Rattle.std.specs.Prelude.{ℕ, Bool, true, false, ◌==◌, List, [], ◌∷◌, Option, Some, None, is_some, Result, Ok, Err}
+use Rattle.std.specs.Prelude.{if◌then◌else◌}
 use Rattle.osm_model.specs.declared.kind.Kind.{Kind}
 use Rattle.osm_model.specs.declared.kind.Kind.TheVariants.{Node, Way, Relation}
 use Rattle.opl_line.specs.declared.general.field.Fields.{Fields}
@@ -66,13 +68,17 @@ has_field fields letter =
 -- a field that one kind has
 abbrev pub with_body_field : Kind → ℕ → List ℕ → Fields → Result Fields OplReason
 with_body_field Node letter content fields =
-    if letter == 120 then as_value (λ x. record fields { longitude = Some x }) (reading_optional reading_coordinate content)
-    else (if letter == 121 then as_value (λ y. record fields { latitude = Some y }) (reading_optional reading_coordinate content)
+    if letter == 120 then as_value (λ x. record fields { longitude = Some x })
+    (reading_optional reading_coordinate content)
+    else (if letter == 121 then as_value (λ y. record fields { latitude = Some y })
+    (reading_optional reading_coordinate content)
     else Err UnknownField)
 with_body_field Way letter content fields =
-    if letter == 78 then as_value (λ ids. record fields { references = Some ids }) (reading_list reading_reference content) else Err UnknownField
+    if letter == 78 then as_value (λ ids. record fields { references = Some ids })
+    (reading_list reading_reference content) else Err UnknownField
 with_body_field Relation letter content fields =
-    if letter == 77 then as_value (λ ms. record fields { members = Some ms }) (reading_list reading_member content) else Err UnknownField
+    if letter == 77 then as_value (λ ms. record fields { members = Some ms }) (reading_list reading_member content)
+    else Err UnknownField
 
 -- what fields say together with one more, of which only the content is in doubt
 abbrev pub with_field : Kind → ℕ → List ℕ → Fields → Result Fields OplReason
@@ -89,7 +95,8 @@ with_field kind letter content fields =
 -- one more field; runs of blanks leave empty ones, which say nothing
 abbrev pub reading_field : Kind → List ℕ → Fields → Result Fields OplReason
 reading_field kind [] fields = Ok fields
-reading_field kind (letter ∷ content) fields = if has_field fields letter then Err RepeatedField else with_field kind letter content fields
+reading_field kind (letter ∷ content) fields = if has_field fields letter then Err RepeatedField
+    else with_field kind letter content fields
 
 -- the fields one after the other; the first faulty one decides
 unfoldable pub reading_fields : Kind → List (List ℕ) → Fields → Result Fields OplReason

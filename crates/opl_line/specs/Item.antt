@@ -1,4 +1,5 @@
--- The items of lists in OPL lines: tags, references and members (the OPL manual; which reason is told is an own rule of this project).
+-- The items of lists in OPL lines: tags, references and members (the OPL manual; which reason is told is an own rule of
+-- this project).
 use Rattle.std.specs.Prelude.{ℕ, ℤ, ◌==◌, List, [], ◌∷◌, drop, Option, Some, None, Result, Ok, Err, if◌then◌else◌}
 use Rattle.osm_model.specs.declared.kind.Kind.{Kind}
 use Rattle.osm_model.specs.declared.kind.Kind.TheVariants.{Node, Way, Relation}
@@ -15,7 +16,8 @@ use Rattle.opl_line.specs.Text.{reading_text}
 -- the items one after the other; the first faulty one decides
 unfoldable pub reading_items : {X : Type 0} → (List ℕ → Result X OplReason) → List (List ℕ) → Result (List X) OplReason
 reading_items reading [] = Ok []
-reading_items reading (piece ∷ pieces) = and_then (reading piece) (λ x. as_value (λ xs. x ∷ xs) (reading_items reading pieces))
+reading_items reading (piece ∷ pieces) = and_then (reading piece)
+    (λ x. as_value (λ xs. x ∷ xs) (reading_items reading pieces))
 
 -- no text is no item; another one is cut at its commas
 abbrev pub reading_list : {X : Type 0} → (List ℕ → Result X OplReason) → List ℕ → Result (List X) OplReason
@@ -26,7 +28,8 @@ reading_list reading (b ∷ bs) = reading_items reading (cut (is_end Commas) (b 
 abbrev pub tag_of_pieces : List (List ℕ) → Result Tag OplReason
 tag_of_pieces [] = Err BadList
 tag_of_pieces (key ∷ []) = Err BadList
-tag_of_pieces (key ∷ value ∷ []) = and_then (reading_text key) (λ k. as_value (λ v. record { key = k; value = v }) (reading_text value))
+tag_of_pieces (key ∷ value ∷ []) = and_then (reading_text key)
+    (λ k. as_value (λ v. record { key = k; value = v }) (reading_text value))
 tag_of_pieces (key ∷ value ∷ other ∷ more) = Err BadList
 
 -- `key=value`
@@ -48,7 +51,8 @@ reading_reference (letter ∷ digits) = if letter == 110 then reading_item_id di
 
 -- the kind of a letter: `n`, `w` or `r`
 abbrev pub kind_of_letter : ℕ → Option Kind
-kind_of_letter letter = if letter == 110 then Some Node else (if letter == 119 then Some Way else (if letter == 114 then Some Relation else None))
+kind_of_letter letter = if letter == 110 then Some Node
+    else (if letter == 119 then Some Way else (if letter == 114 then Some Relation else None))
 
 -- the kind of the letter that a text begins with
 abbrev pub first_kind : List ℕ → Option Kind
@@ -68,7 +72,8 @@ reading_object_name text = reading_named (first_kind text) (drop 1 text)
 abbrev pub member_of_parts : List ℕ × Option (List ℕ) → Result Member OplReason
 member_of_parts parts = elim parts.1 as (λ _. Result Member OplReason) [
   | None ↦ Err BadList
-  | Some role ↦ and_then (reading_object_name parts.0) (λ object. as_value (λ r. record { kind = object.0; id = object.1; role = r }) (reading_text role))
+  | Some role ↦ and_then (reading_object_name parts.0)
+      (λ object. as_value (λ r. record { kind = object.0; id = object.1; role = r }) (reading_text role))
 ]
 
 -- `w1@role`, cut at the first at sign

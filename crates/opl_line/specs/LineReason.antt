@@ -1,5 +1,7 @@
--- Why an OPL line is refused. The manual has no reasons: which there are, and that the leftmost faulty field decides, are own rules of this project.
-use Rattle.std.specs.Prelude.{◌≡◌, ◌⊎◌, ℕ, ℤ, Bool, true, false, ◌==◌, List, [], ◌∷◌, ◌++◌, map, filter, nat_eq, codes, unwrap_or, Some, None, Err}
+-- Why an OPL line is refused. The manual has no reasons: which there are, and that the leftmost faulty field decides,
+-- are own rules of this project.
+use Rattle.std.specs.Prelude.{◌≡◌, ◌⊎◌, ℕ, ℤ, Bool, true, false, ◌==◌, List, [], ◌∷◌, ◌++◌, map, filter, nat_eq, codes}
+use Rattle.std.specs.Prelude.{unwrap_or, Some, None, Err}
 use Rattle.std.specs.List.{IsDistinct, list_any}
 use Rattle.std.specs.Str.{IsUtf8}
 use Rattle.osm_model.specs.declared.kind.Kind.{Kind}
@@ -10,7 +12,9 @@ use Rattle.osm_model.specs.Pairwise.{Pairwise}
 use Rattle.opl_line.specs.declared.bytes.cut.Cut.TheVariants.{Blanks, Commas, Equals, Ats}
 use Rattle.opl_line.specs.declared.general.field.Fields.{Fields}
 use Rattle.opl_line.specs.declared.reason.OplReason.{OplReason}
-use Rattle.opl_line.specs.declared.reason.OplReason.TheVariants.{NotUtf8, UnknownKind, UnknownField, RepeatedField, BadText, BadList, NoVersion, NoTime, NoLocation, Memory}
+use Rattle.opl_line.specs.declared.reason.OplReason.TheVariants.{NotUtf8, UnknownKind, UnknownField, RepeatedField}
+use Rattle.opl_line.specs.declared.reason.OplReason.TheVariants.{BadText, BadList, NoVersion, NoTime, NoLocation}
+use Rattle.opl_line.specs.declared.reason.OplReason.TheVariants.{Memory}
 use Rattle.opl_line.specs.Cut.{is_end, split_first, cut}
 use Rattle.opl_line.specs.Number.{reading_id, reading_coordinate}
 use Rattle.opl_line.specs.Time.{reading_time}
@@ -27,29 +31,39 @@ use Rattle.opl_line.specs.Spells.{is_full, said_by, Tells, SpellsNothing}
 abbrev pub SpellsNoText : List ℕ → Type 0
 SpellsNoText bytes = (cs : List ℕ) → SpellsCharacters bytes cs → ⊥
 
--- Why bytes name no object: they don't begin with the letter of a kind; or the id behind it is faulty, which a list tells by another reason than the first field.
+-- Why bytes name no object: they don't begin with the letter of a kind; or the id behind it is faulty, which a list
+-- tells by another reason than the first field.
 pub data ObjectReason (other : OplReason) (of_id : OplReason → OplReason) : List ℕ → OplReason → Type 0 where
-  no_kind : (bytes : List ℕ) → ((k : Kind) (digits : List ℕ) → bytes ≡ kind_letter k ∷ digits → ⊥) → ObjectReason other of_id bytes other
-  no_id : (k : Kind) (digits : List ℕ) (reason : OplReason) → reading_id digits ≡ Err reason → ObjectReason other of_id (kind_letter k ∷ digits) (of_id reason)
+  no_kind : (bytes : List ℕ) → ((k : Kind) (digits : List ℕ) → bytes ≡ kind_letter k ∷ digits → ⊥) →
+      ObjectReason other of_id bytes other
+  no_id : (k : Kind) (digits : List ℕ) (reason : OplReason) → reading_id digits ≡ Err reason →
+      ObjectReason other of_id (kind_letter k ∷ digits) (of_id reason)
 
 -- Why bytes are no tag: they haven't exactly one equals sign; or the key or the value is no text.
 pub data TagReason : List ℕ → OplReason → Type 0 where
-  uneven : (bytes : List ℕ) → ((key value : List ℕ) → cut (is_end Equals) bytes ≡ key ∷ value ∷ [] → ⊥) → TagReason bytes BadList
-  no_text : (bytes key value : List ℕ) → cut (is_end Equals) bytes ≡ key ∷ value ∷ [] → SpellsNoText key ⊎ SpellsNoText value → TagReason bytes BadText
+  uneven : (bytes : List ℕ) → ((key value : List ℕ) → cut (is_end Equals) bytes ≡ key ∷ value ∷ [] → ⊥) →
+      TagReason bytes BadList
+  no_text : (bytes key value : List ℕ) → cut (is_end Equals) bytes ≡ key ∷ value ∷ [] →
+      SpellsNoText key ⊎ SpellsNoText value → TagReason bytes BadText
 
 -- Why bytes are no reference: they don't begin with the letter of a node, or the id is faulty.
 pub data ReferenceReason : List ℕ → OplReason → Type 0 where
   no_letter : (bytes : List ℕ) → ((digits : List ℕ) → bytes ≡ 110 ∷ digits → ⊥) → ReferenceReason bytes BadList
-  no_number : (digits : List ℕ) (reason : OplReason) → reading_id digits ≡ Err reason → ReferenceReason (110 ∷ digits) (item_reason reason)
+  no_number : (digits : List ℕ) (reason : OplReason) → reading_id digits ≡ Err reason →
+      ReferenceReason (110 ∷ digits) (item_reason reason)
 
--- Why bytes are no member: they have no at sign; what stands before the first one names no object; or what stands behind it is no text.
+-- Why bytes are no member: they have no at sign; what stands before the first one names no object; or what stands
+-- behind it is no text.
 pub data MemberReason : List ℕ → OplReason → Type 0 where
   no_at : (bytes object : List ℕ) → split_first (is_end Ats) bytes ≡ (object, None) → MemberReason bytes BadList
-  no_name : (bytes object role : List ℕ) (reason : OplReason) → split_first (is_end Ats) bytes ≡ (object, Some role) → ObjectReason BadList item_reason object reason → MemberReason bytes reason
-  no_role : (bytes object role : List ℕ) (k : Kind) (id : ℤ) → split_first (is_end Ats) bytes ≡ (object, Some role) → SpellsObject object k id → SpellsNoText role → MemberReason bytes BadText
+  no_name : (bytes object role : List ℕ) (reason : OplReason) → split_first (is_end Ats) bytes ≡ (object, Some role) →
+      ObjectReason BadList item_reason object reason → MemberReason bytes reason
+  no_role : (bytes object role : List ℕ) (k : Kind) (id : ℤ) → split_first (is_end Ats) bytes ≡ (object, Some role) →
+      SpellsObject object k id → SpellsNoText role → MemberReason bytes BadText
 
 -- of several pieces, the first that spells no item, and why it doesn't
-pub record FirstReason {X : Type 0} (SpellsItem : List ℕ → X → Type 0) (ItemReason : List ℕ → OplReason → Type 0) (pieces : List (List ℕ)) (reason : OplReason) : Type 0 where
+pub record FirstReason {X : Type 0} (SpellsItem : List ℕ → X → Type 0) (ItemReason : List ℕ → OplReason → Type 0)
+    (pieces : List (List ℕ)) (reason : OplReason) : Type 0 where
   pub front : List (List ℕ)
   pub items : List X
   pub fine : Pairwise SpellsItem front items
@@ -59,23 +73,34 @@ pub record FirstReason {X : Type 0} (SpellsItem : List ℕ → X → Type 0) (It
   pub faulty : ItemReason piece reason
 
 -- why bytes are no list: the first faulty item between commas decides, and no bytes are a list without items
-abbrev pub ListReason : {X : Type 0} → (List ℕ → X → Type 0) → (List ℕ → OplReason → Type 0) → List ℕ → OplReason → Type 0
+abbrev pub ListReason : {X : Type 0} → (List ℕ → X → Type 0) → (List ℕ → OplReason → Type 0) → List ℕ → OplReason →
+    Type 0
 ListReason SpellsItem ItemReason [] reason = ⊥
-ListReason SpellsItem ItemReason (b ∷ bs) reason = FirstReason SpellsItem ItemReason (cut (is_end Commas) (b ∷ bs)) reason
+ListReason SpellsItem ItemReason (b ∷ bs) reason =
+    FirstReason SpellsItem ItemReason (cut (is_end Commas) (b ∷ bs)) reason
 
 -- why the content behind a letter is faulty
 pub data ContentReason : ℕ → List ℕ → OplReason → Type 0 where
-  number : (content : List ℕ) (reason : OplReason) → reading_number_32 content ≡ Err reason → ContentReason 118 content reason
-  deleted : (content : List ℕ) (reason : OplReason) → reading_deleted content ≡ Err reason → ContentReason 100 content reason
-  changeset : (content : List ℕ) (reason : OplReason) → reading_count content ≡ Err reason → ContentReason 99 content reason
-  time : (content : List ℕ) (reason : OplReason) → reading_optional reading_time content ≡ Err reason → ContentReason 116 content reason
+  number : (content : List ℕ) (reason : OplReason) → reading_number_32 content ≡ Err reason →
+      ContentReason 118 content reason
+  deleted : (content : List ℕ) (reason : OplReason) → reading_deleted content ≡ Err reason →
+      ContentReason 100 content reason
+  changeset : (content : List ℕ) (reason : OplReason) → reading_count content ≡ Err reason →
+      ContentReason 99 content reason
+  time : (content : List ℕ) (reason : OplReason) → reading_optional reading_time content ≡ Err reason →
+      ContentReason 116 content reason
   uid : (content : List ℕ) (reason : OplReason) → reading_count content ≡ Err reason → ContentReason 105 content reason
   user : (content : List ℕ) → SpellsNoText content → ContentReason 117 content BadText
-  tags : (content : List ℕ) (reason : OplReason) → ListReason SpellsTag TagReason content reason → ContentReason 84 content reason
-  longitude : (content : List ℕ) (reason : OplReason) → reading_optional reading_coordinate content ≡ Err reason → ContentReason 120 content reason
-  latitude : (content : List ℕ) (reason : OplReason) → reading_optional reading_coordinate content ≡ Err reason → ContentReason 121 content reason
-  references : (content : List ℕ) (reason : OplReason) → ListReason SpellsReference ReferenceReason content reason → ContentReason 78 content reason
-  members : (content : List ℕ) (reason : OplReason) → ListReason SpellsMember MemberReason content reason → ContentReason 77 content reason
+  tags : (content : List ℕ) (reason : OplReason) → ListReason SpellsTag TagReason content reason →
+      ContentReason 84 content reason
+  longitude : (content : List ℕ) (reason : OplReason) → reading_optional reading_coordinate content ≡ Err reason →
+      ContentReason 120 content reason
+  latitude : (content : List ℕ) (reason : OplReason) → reading_optional reading_coordinate content ≡ Err reason →
+      ContentReason 121 content reason
+  references : (content : List ℕ) (reason : OplReason) → ListReason SpellsReference ReferenceReason content reason →
+      ContentReason 78 content reason
+  members : (content : List ℕ) (reason : OplReason) → ListReason SpellsMember MemberReason content reason →
+      ContentReason 77 content reason
 
 -- ---- fields
 
@@ -91,11 +116,15 @@ letters_of k = codes "vdctiuT" ++ body_letters k
 abbrev pub is_among : ℕ → List ℕ → Bool
 is_among letter letters = list_any (λ l. letter == l) letters
 
--- Why a field is faulty that stands behind fields of some letters: its letter is one of these; it is none of the kind; or the content is faulty.
+-- Why a field is faulty that stands behind fields of some letters: its letter is one of these; it is none of the kind;
+-- or the content is faulty.
 pub data FieldReason (k : Kind) (met : List ℕ) : List ℕ → OplReason → Type 0 where
-  repeated : (letter : ℕ) (content : List ℕ) → is_among letter met ≡ true → FieldReason k met (letter ∷ content) RepeatedField
-  unknown : (letter : ℕ) (content : List ℕ) → is_among letter met ≡ false → is_among letter (letters_of k) ≡ false → FieldReason k met (letter ∷ content) UnknownField
-  ill_formed : (letter : ℕ) (content : List ℕ) (reason : OplReason) → is_among letter met ≡ false → is_among letter (letters_of k) ≡ true → ContentReason letter content reason →
+  repeated : (letter : ℕ) (content : List ℕ) → is_among letter met ≡ true →
+      FieldReason k met (letter ∷ content) RepeatedField
+  unknown : (letter : ℕ) (content : List ℕ) → is_among letter met ≡ false → is_among letter (letters_of k) ≡ false →
+      FieldReason k met (letter ∷ content) UnknownField
+  ill_formed : (letter : ℕ) (content : List ℕ) (reason : OplReason) → is_among letter met ≡ false →
+      is_among letter (letters_of k) ≡ true → ContentReason letter content reason →
       FieldReason k met (letter ∷ content) reason
 
 -- of the fields behind the object, the leftmost faulty one, and why it is
@@ -121,16 +150,21 @@ pub record LacksLocation (k : Kind) (fields : Fields) : Type 0 where
 pub data WholeReason (k : Kind) (fields : Fields) : OplReason → Type 0 where
   no_version : unwrap_or fields.number 0 ≡ 0 → WholeReason k fields NoVersion
   no_time : (unwrap_or fields.number 0 ≡ 0 → ⊥) → is_dated (meta_of fields) ≡ false → WholeReason k fields NoTime
-  no_location : (unwrap_or fields.number 0 ≡ 0 → ⊥) → is_dated (meta_of fields) ≡ true → LacksLocation k fields → WholeReason k fields NoLocation
+  no_location : (unwrap_or fields.number 0 ≡ 0 → ⊥) → is_dated (meta_of fields) ≡ true → LacksLocation k fields →
+      WholeReason k fields NoLocation
 
--- Why a line is refused that isn't skipped: it isn't UTF-8; else its first field names no object; else the leftmost faulty field decides; else what the fields say together.
+-- Why a line is refused that isn't skipped: it isn't UTF-8; else its first field names no object; else the leftmost
+-- faulty field decides; else what the fields say together.
 pub data LineReason : List ℕ → OplReason → Type 0 where
   not_utf8 : (line : List ℕ) → is_skipped line ≡ false → (IsUtf8 line → ⊥) → LineReason line NotUtf8
-  no_object : (line object : List ℕ) (others : List (List ℕ)) (reason : OplReason) → is_skipped line ≡ false → IsUtf8 line → cut (is_end Blanks) line ≡ object ∷ others → ObjectReason UnknownKind (λ r. r) object reason →
+  no_object : (line object : List ℕ) (others : List (List ℕ)) (reason : OplReason) → is_skipped line ≡ false →
+      IsUtf8 line → cut (is_end Blanks) line ≡ object ∷ others → ObjectReason UnknownKind (λ r. r) object reason →
       LineReason line reason
-  faulty_field : (line object : List ℕ) (others : List (List ℕ)) (k : Kind) (id : ℤ) (reason : OplReason) → is_skipped line ≡ false → IsUtf8 line → cut (is_end Blanks) line ≡ object ∷ others → SpellsObject object k id →
+  faulty_field : (line object : List ℕ) (others : List (List ℕ)) (k : Kind) (id : ℤ) (reason : OplReason) →
+      is_skipped line ≡ false → IsUtf8 line → cut (is_end Blanks) line ≡ object ∷ others → SpellsObject object k id →
       FieldsReason k others reason → LineReason line reason
-  no_whole : (line : List ℕ) (k : Kind) (id : ℤ) (parts : List Part) (reason : OplReason) → Tells line k id parts → WholeReason k (said_by parts) reason → LineReason line reason
+  no_whole : (line : List ℕ) (k : Kind) (id : ℤ) (parts : List Part) (reason : OplReason) → Tells line k id parts →
+      WholeReason k (said_by parts) reason → LineReason line reason
 
 -- ---- laws
 

@@ -1,5 +1,7 @@
--- Numbers in OPL lines (the OPL manual; that leading zeros are accepted, and the form of coordinates, are own rules of this project).
-use Rattle.std.specs.Prelude.{ℕ, ℤ, pos, neg_ℤ, ◌+◌, ◌-◌, ◌*◌, ◌^◌, Bool, false, not, ◌&&◌, ◌==◌, nat_le, List, [], ◌∷◌, length, fold, Option, Some, None, Result, Ok, Err, if◌then◌else◌}
+-- Numbers in OPL lines (the OPL manual; that leading zeros are accepted, and the form of coordinates, are own rules of
+-- this project).
+use Rattle.std.specs.Prelude.{ℕ, ℤ, pos, neg_ℤ, ◌+◌, ◌-◌, ◌*◌, ◌^◌, Bool, false, not, ◌&&◌, ◌==◌, nat_le, List, [], ◌∷◌}
+use Rattle.std.specs.Prelude.{length, fold, Option, Some, None, Result, Ok, Err, if◌then◌else◌}
 use Rattle.std.specs.List.{list_all}
 use Rattle.std.specs.Char.{is_ascii_digit}
 use Rattle.opl_line.specs.declared.reason.OplReason.{OplReason}
@@ -49,7 +51,8 @@ reading_id text = as_value (signed (is_negative text)) (reading_number 4_611_686
 
 -- digits, and so many at most
 abbrev pub reading_short_numeral : ℕ → List ℕ → Result ℕ OplReason
-reading_short_numeral most text = if is_numeral text && nat_le (length text) most then Ok (decimal_value text) else Err BadCoordinate
+reading_short_numeral most text = if is_numeral text && nat_le (length text) most then Ok (decimal_value text)
+    else Err BadCoordinate
 
 -- what decimals are in units of 10^-7 degree
 abbrev pub decimals_value : List ℕ → ℕ → ℕ
@@ -59,11 +62,13 @@ decimals_value decimals n = n * 10 ^ (7 - length decimals)
 abbrev pub reading_degrees : List ℕ → Option (List ℕ) → Result ℕ OplReason
 reading_degrees whole None = as_value (λ n. n * 10_000_000) (reading_short_numeral 3 whole)
 reading_degrees whole (Some decimals) =
-    and_then (reading_short_numeral 3 whole) (λ n. as_value (λ d. n * 10_000_000 + decimals_value decimals d) (reading_short_numeral 7 decimals))
+    and_then (reading_short_numeral 3 whole) (λ n.
+    as_value (λ d. n * 10_000_000 + decimals_value decimals d) (reading_short_numeral 7 decimals))
 
 -- the units with their sign, where their number has 32 bits
 abbrev pub reading_units : Bool → ℕ → Result ℤ OplReason
-reading_units negative n = if nat_le n (if negative then 2_147_483_648 else 2_147_483_647) then Ok (signed negative n) else Err OutOfRange
+reading_units negative n = if nat_le n (if negative then 2_147_483_648 else 2_147_483_647) then Ok (signed negative n)
+    else Err OutOfRange
 
 -- the whole degrees and the decimals of a coordinate without a sign
 abbrev pub degree_parts : List ℕ → List ℕ × Option (List ℕ)

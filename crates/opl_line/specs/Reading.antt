@@ -1,5 +1,6 @@
 -- A whole OPL line, read field by field.
-use Rattle.std.specs.Prelude.{ℕ, ℤ, Bool, true, false, not, ◌==◌, List, [], ◌∷◌, drop, Option, Some, None, unwrap_or, Result, Ok, Err, if◌then◌else◌}
+use Rattle.std.specs.Prelude.{ℕ, ℤ, Bool, true, false, not, ◌==◌, List, [], ◌∷◌, drop, Option, Some, None, unwrap_or}
+use Rattle.std.specs.Prelude.{Result, Ok, Err, if◌then◌else◌}
 use Rattle.std.specs.Str.{is_utf8}
 use Rattle.osm_model.specs.declared.kind.Kind.{Kind}
 use Rattle.osm_model.specs.declared.kind.Kind.TheVariants as kind
@@ -14,7 +15,8 @@ use Rattle.osm_model.specs.New.{is_dated, version_or_fault}
 use Rattle.opl_line.specs.declared.bytes.cut.Cut.TheVariants.{Blanks}
 use Rattle.opl_line.specs.declared.general.field.Fields.{Fields}
 use Rattle.opl_line.specs.declared.reason.OplReason.{OplReason}
-use Rattle.opl_line.specs.declared.reason.OplReason.TheVariants.{NotUtf8, UnknownKind, OutOfRange, BadText, NoVersion, NoTime, NoLocation, Memory}
+use Rattle.opl_line.specs.declared.reason.OplReason.TheVariants.{NotUtf8, UnknownKind, OutOfRange, BadText, NoVersion}
+use Rattle.opl_line.specs.declared.reason.OplReason.TheVariants.{NoTime, NoLocation, Memory}
 use Rattle.opl_line.specs.Answer.{and_then, as_value}
 use Rattle.opl_line.specs.Cut.{is_end, split_first, pieces_of}
 use Rattle.opl_line.specs.Number.{reading_id}
@@ -52,7 +54,8 @@ reading_location (Some lon) (Some lat) tags = Ok (Node lon lat tags)
 
 -- the body of a visible object
 abbrev pub reading_visible : Kind → Fields → Result Body OplReason
-reading_visible kind.Node fields = reading_location (unwrap_or fields.longitude None) (unwrap_or fields.latitude None) (unwrap_or fields.tags [])
+reading_visible kind.Node fields = reading_location (unwrap_or fields.longitude None) (unwrap_or fields.latitude None)
+    (unwrap_or fields.tags [])
 reading_visible kind.Way fields = Ok (Way (unwrap_or fields.references []) (unwrap_or fields.tags []))
 reading_visible kind.Relation fields = Ok (Relation (unwrap_or fields.members []) (unwrap_or fields.tags []))
 
@@ -85,7 +88,9 @@ reading_whole kind id fields =
 unfoldable pub reading_version : List ℕ → Result VersionData OplReason
 reading_version line =
     let parts = split_first (is_end Blanks) line in
-    and_then (reading_object parts.0) (λ object. and_then (reading_fields object.0 (pieces_of (is_end Blanks) parts.1) nothing_said) (reading_whole object.0 object.1))
+    and_then (reading_object parts.0) (λ object.
+    and_then (reading_fields object.0 (pieces_of (is_end Blanks) parts.1) nothing_said)
+    (reading_whole object.0 object.1))
 
 -- the version of a line, or None for a line that is skipped
 abbrev pub reading_line : List ℕ → Result (Option VersionData) OplReason

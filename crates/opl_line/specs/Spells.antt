@@ -1,5 +1,7 @@
--- Which version an OPL line spells (the OPL manual; the order of fields, and what a missing one means, are own rules of this project).
-use Rattle.std.specs.Prelude.{◌≡◌, ℕ, ℤ, Bool, true, false, List, [], ◌∷◌, map, fold, filter, nat_eq, Some, None, Ok, Err}
+-- Which version an OPL line spells (the OPL manual; the order of fields, and what a missing one means, are own rules of
+-- this project).
+use Rattle.std.specs.Prelude.{◌≡◌, ℕ, ℤ, Bool, true, false, List, [], ◌∷◌, map, fold, filter, nat_eq, Some, None, Ok}
+use Rattle.std.specs.Prelude.{Err}
 use Rattle.std.specs.List.{IsDistinct}
 use Rattle.std.specs.Str.{IsUtf8}
 use Rattle.osm_model.specs.declared.kind.Kind.{Kind}
@@ -31,7 +33,9 @@ pub record IsVersionOf (kind : Kind) (id : ℤ) (fields : Fields) (v : VersionDa
 abbrev pub said_by : List Part → Fields
 said_by = fold with_part nothing_said
 
--- A line tells an object and parts: it is UTF-8, isn't skipped, and is a list of fields parted by blanks, blanks at its end being free. The first field spells the kind and the id. The others begin with different letters, all of the kind, and each spells a part.
+-- A line tells an object and parts: it is UTF-8, isn't skipped, and is a list of fields parted by blanks, blanks at its
+-- end being free. The first field spells the kind and the id. The others begin with different letters, all of the kind,
+-- and each spells a part.
 pub record Tells (line : List ℕ) (kind : Kind) (id : ℤ) (parts : List Part) : Type 0 where
   pub utf8 : IsUtf8 line
   pub not_skipped : is_skipped line ≡ false
@@ -69,7 +73,8 @@ OneReading = (line : List ℕ) (v w : VersionData) → Spells line v → Spells 
 
 -- A line that is refused spells nothing, and neither does one that is skipped.
 abbrev pub RefusedSpellsNothing : Type 0
-RefusedSpellsNothing = (line : List ℕ) (reason : OplReason) (v : VersionData) → reading_line line ≡ Err reason → Spells line v → ⊥
+RefusedSpellsNothing = (line : List ℕ) (reason : OplReason) (v : VersionData) → reading_line line ≡ Err reason →
+    Spells line v → ⊥
 
 abbrev pub SkippedSpellsNothing : Type 0
 SkippedSpellsNothing = (line : List ℕ) (v : VersionData) → reading_line line ≡ Ok None → Spells line v → ⊥

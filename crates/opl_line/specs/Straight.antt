@@ -1,4 +1,5 @@
--- What the parts of a line of the usual form say (own definitions of this project, for the reader that reads such a line from left to right).
+-- What the parts of a line of the usual form say (own definitions of this project, for the reader that reads such a
+-- line from left to right).
 use Rattle.std.specs.Prelude.{◌≡◌, ℕ, ℤ, Bool, true, List, ◌∷◌, ◌++◌, codes, encode_utf8_all, if◌then◌else◌}
 use Rattle.std.specs.List.{list_all}
 use Rattle.osm_model.specs.declared.kind.Kind.{Kind}
@@ -29,7 +30,8 @@ deleted_text deleted = if deleted then codes "D" else codes "V"
 abbrev pub head_text : Kind → ℤ → Bool → Meta → List ℕ
 head_text kind id deleted meta =
     kind_letter kind
-    ∷ (integer_text id ++ (codes " v" ++ (number_text meta.version ++ (codes " d" ++ (deleted_text deleted ++ upload_text meta)))))
+    ∷ (integer_text id ++ (codes " v" ++ (number_text meta.version
+    ++ (codes " d" ++ (deleted_text deleted ++ upload_text meta)))))
 
 -- the fields from the tags on
 abbrev pub tail_text : Body → List ℕ

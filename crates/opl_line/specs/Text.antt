@@ -1,5 +1,7 @@
--- Texts in OPL lines (the OPL manual; which characters stand for themselves, and the limits of an escape, are own rules of this project).
-use Rattle.std.specs.Prelude.{ℕ, ◌+◌, ◌*◌, Bool, not, ◌&&◌, ◌||◌, ◌==◌, nat_lt, nat_le, List, [], ◌∷◌, ◌++◌, length, fold, encode_utf8, Option, Some, None, Result, if◌then◌else◌}
+-- Texts in OPL lines (the OPL manual; which characters stand for themselves, and the limits of an escape, are own rules
+-- of this project).
+use Rattle.std.specs.Prelude.{ℕ, ◌+◌, ◌*◌, Bool, not, ◌&&◌, ◌||◌, ◌==◌, nat_lt, nat_le, List, [], ◌∷◌, ◌++◌, length}
+use Rattle.std.specs.Prelude.{fold, encode_utf8, Option, Some, None, Result, if◌then◌else◌}
 use Rattle.std.specs.Option.{option_map, option_and_then, ok_or}
 use Rattle.std.specs.List.{list_all}
 use Rattle.std.specs.Char.{is_digit, digit_value}
@@ -10,7 +12,8 @@ use Rattle.opl_line.specs.declared.reason.OplReason.{OplReason}
 use Rattle.opl_line.specs.declared.reason.OplReason.TheVariants.{BadText}
 use Rattle.opl_line.specs.Cut.{is_end, split_first, pieces_of}
 
--- All but NUL, tab, LF, CR, space, percent sign, comma and equals sign stand for themselves. These are ASCII, so a text in UTF-8 may be looked at byte by byte.
+-- All but NUL, tab, LF, CR, space, percent sign, comma and equals sign stand for themselves. These are ASCII, so a text
+-- in UTF-8 may be looked at byte by byte.
 abbrev pub stands_for_itself : ℕ → Bool
 stands_for_itself b = not (b == 0 || b == 9 || b == 10 || b == 13 || b == 32 || b == 37 || b == 44 || b == 61)
 
@@ -30,7 +33,8 @@ is_hex digits = nat_lt 0 (length digits) && nat_le (length digits) 8 && list_all
 
 -- the digits of an escape name a scalar value of Unicode other than 0
 abbrev pub scalar_of : List ℕ → Option ℕ
-scalar_of digits = if is_hex digits && (scalar (hex_value digits) && not (hex_value digits == 0)) then Some (hex_value digits) else None
+scalar_of digits = if is_hex digits && (scalar (hex_value digits) && not (hex_value digits == 0))
+    then Some (hex_value digits) else None
 
 -- a further escape and what is raw behind it
 abbrev pub with_escape : List ℕ → List ℕ → Option ℕ → Option (List ℕ)
@@ -41,11 +45,13 @@ with_escape done raw (Some c) = if list_all stands_for_itself raw then Some (don
 unfoldable pub text_from : List ℕ → List (List ℕ) → Option (List ℕ)
 text_from done [] = Some done
 text_from done (escape ∷ []) = None
-text_from done (escape ∷ raw ∷ more) = option_and_then (λ text. text_from text more) (with_escape done raw (scalar_of escape))
+text_from done (escape ∷ raw ∷ more) = option_and_then (λ text. text_from text more)
+    (with_escape done raw (scalar_of escape))
 
 -- a raw piece, and then the pieces between percent signs
 abbrev pub text_of_pieces : List ℕ × Option (List ℕ) → Option (List ℕ)
-text_of_pieces parts = if list_all stands_for_itself parts.0 then text_from parts.0 (pieces_of (is_end Percents) parts.1) else None
+text_of_pieces parts = if list_all stands_for_itself parts.0
+    then text_from parts.0 (pieces_of (is_end Percents) parts.1) else None
 
 -- the text, in UTF-8, that some bytes spell
 abbrev pub text_of : List ℕ → Option (List ℕ)

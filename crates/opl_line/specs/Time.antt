@@ -1,5 +1,7 @@
--- Times in OPL lines, `yyyy-mm-ddThh:mm:ssZ` (the OPL manual; that there is no second 60 is an own rule of this project).
-use Rattle.std.specs.Prelude.{ℕ, ◌+◌, ◌-◌, ◌*◌, ◌^◌, ◌&&◌, ◌==◌, nat_lt, List, length, take, drop, slice_index, Option, Some, None, Result, Ok, Err, if◌then◌else◌}
+-- Times in OPL lines, `yyyy-mm-ddThh:mm:ssZ` (the OPL manual; that there is no second 60 is an own rule of this
+-- project).
+use Rattle.std.specs.Prelude.{ℕ, ◌+◌, ◌-◌, ◌*◌, ◌^◌, ◌&&◌, ◌==◌, nat_lt, List, length, take, drop, slice_index, Option}
+use Rattle.std.specs.Prelude.{Some, None, Result, Ok, Err, if◌then◌else◌}
 use Rattle.std.specs.Option.{option_and_then, ok_or}
 use Rattle.std.specs.Char.{is_ascii_digit}
 use Rattle.osm_model.specs.Calendar.{is_date, day_number}
@@ -29,13 +31,15 @@ reading_date text =
 
 -- hours 00 to 23, minutes and seconds 00 to 59, as seconds
 abbrev pub second_of : ℕ → ℕ → ℕ → Option ℕ
-second_of hour minute second = if nat_lt hour 24 && nat_lt minute 60 && nat_lt second 60 then Some (3_600 * hour + 60 * minute + second) else None
+second_of hour minute second = if nat_lt hour 24 && nat_lt minute 60 && nat_lt second 60
+    then Some (3_600 * hour + 60 * minute + second) else None
 
 -- `Thh:mm:ssZ`, behind the date
 abbrev pub reading_clock : List ℕ → Option ℕ
 reading_clock text =
     option_and_then (λ hour. option_and_then (λ minute. option_and_then (λ second.
-    if (slice_index text 10 == 84) && (slice_index text 13 == 58) && (slice_index text 16 == 58) && (slice_index text 19 == 90) then second_of hour minute second else None)
+    if (slice_index text 10 == 84) && (slice_index text 13 == 58) && (slice_index text 16 == 58)
+    && (slice_index text 19 == 90) then second_of hour minute second else None)
     (digits_at 17 2 text)) (digits_at 14 2 text)) (digits_at 11 2 text)
 
 -- the seconds from 0000-01-01T00:00:00Z to 1970-01-01T00:00:00Z
@@ -44,10 +48,12 @@ epoch = 62_167_219_200
 
 -- a moment counted from the year 0 on, counted from 1970 on: from 1 to 4294967295
 abbrev pub reading_moment : ℕ → Result ℕ OplReason
-reading_moment seconds = if nat_lt epoch seconds && nat_lt seconds (epoch + 2 ^ 32) then Ok (seconds - epoch) else Err OutOfRange
+reading_moment seconds = if nat_lt epoch seconds && nat_lt seconds (epoch + 2 ^ 32) then Ok (seconds - epoch)
+    else Err OutOfRange
 
 -- a time in seconds since 1970-01-01T00:00:00Z
 abbrev pub reading_time : List ℕ → Result ℕ OplReason
 reading_time text =
-    if length text == 20 then and_then (ok_or (reading_date text) BadTime) (λ days. and_then (ok_or (reading_clock text) BadTime) (λ second. reading_moment (86_400 * days + second)))
+    if length text == 20 then and_then (ok_or (reading_date text) BadTime)
+    (λ days. and_then (ok_or (reading_clock text) BadTime) (λ second. reading_moment (86_400 * days + second)))
     else Err BadTime

@@ -1,8 +1,11 @@
 //! Laws over the definitions, each the contract of a function with an empty body. Nothing is run to use them.
-ghost use Rattle.opl_line.specs.Canonical.{NumberIsReadBack, IdIsReadBack, TextIsReadBack, TimeIsReadBack, CoordinateIsReadBack};
+ghost use Rattle.opl_line.specs.Canonical.{NumberIsReadBack, IdIsReadBack, TextIsReadBack, TimeIsReadBack};
+ghost use Rattle.opl_line.specs.Canonical.{CoordinateIsReadBack};
 ghost use Rattle.opl_line.specs.Canonical.{ListsAreSpelled, LineSpellsItsVersion, LineIsReadBack, LineStandsInOne};
-ghost use Rattle.opl_line.specs.LineReason.{ReasonIsTold, ToldIsReason, NeitherHasOneReason, ReasonSpellsNothing, MemoryIsNoReason};
-ghost use Rattle.opl_line.specs.Spells.{ReadIsSpelled, SpelledIsRead, OneReading, RefusedSpellsNothing, SkippedSpellsNothing};
+ghost use Rattle.opl_line.specs.LineReason.{ReasonIsTold, ToldIsReason, NeitherHasOneReason, ReasonSpellsNothing};
+ghost use Rattle.opl_line.specs.LineReason.{MemoryIsNoReason};
+ghost use Rattle.opl_line.specs.Spells.{ReadIsSpelled, SpelledIsRead, OneReading, RefusedSpellsNothing};
+ghost use Rattle.opl_line.specs.Spells.{SkippedSpellsNothing};
 
 /// The version that is read from a line is spelled by it.
 pub fn read_is_spelled()

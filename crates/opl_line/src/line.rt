@@ -100,7 +100,8 @@ fn is_skipped(line: &[u8]) -> bool
     }
 }
 
-/// The canonical line of a version, without a line end. It is written by [`Version::line_bytes`], a run of bytes at a time;
+/// The canonical line of a version, without a line end. It is written by [`Version::line_bytes`], a run of bytes at a
+/// time;
 /// [`Version::append_line`] writes the same bytes faster.
 pub fn write_line(alloc: Global, version: &Version) -> Result<Vec<u8>, Memory>
     ensures { IfOk result (λ text. text.items ≡ line version.now) }

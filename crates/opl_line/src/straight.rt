@@ -34,8 +34,10 @@ struct Head {
     meta: Meta,
 }
 
-/// The version of a line whose fields have the usual order and form; its tags may have any order. `None` for another line,
-/// and when out of memory. The version is made in `spare`, if that has memory; its changeset, time and user are copied from
+/// The version of a line whose fields have the usual order and form; its tags may have any order. `None` for another
+/// line,
+/// and when out of memory. The version is made in `spare`, if that has memory; its changeset, time and user are copied
+/// from
 /// `upload` if the line repeats them.
 #[inline(always)]
 pub(crate) fn read_straight(

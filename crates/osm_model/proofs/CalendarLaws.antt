@@ -14,7 +14,8 @@ month_length_le year month = grind arith
 
 pub days_of_months-year : (year : ℕ) → days_of_months year 12 ≡ days_in_year year
 unfolding days_of_months
-days_of_months-year year = elim (is_leap_year year) as (λ b. 31 + cond b 29 28 + 31 + 30 + 31 + 30 + 31 + 31 + 30 + 31 + 30 + 31 ≡ cond b 366 365) [ true ↦ refl | false ↦ refl ]
+days_of_months-year year = elim (is_leap_year year) as
+    (λ b. 31 + cond b 29 28 + 31 + 30 + 31 + 30 + 31 + 31 + 30 + 31 + 30 + 31 ≡ cond b 366 365) [ true ↦ refl | false ↦ refl ]
 
 pub days_of_months-none : (year : ℕ) → days_of_months year (1 - 1) ≡ 0
 unfolding days_of_months
@@ -26,9 +27,11 @@ unfolding year_walk days_of_years
 year_walk-sum zero year days = refl
 year_walk-sum (suc most) year days =
     elim (ltb days (days_in_year year)) as (λ b. ltb days (days_in_year year) ≡ b →
-    days_of_years (cond b (year, days) (year_walk most (suc year) (days - days_in_year year))).0 + (cond b (year, days) (year_walk most (suc year) (days - days_in_year year))).1 ≡ days_of_years year + days) [
+    days_of_years (cond b (year, days) (year_walk most (suc year) (days - days_in_year year))).0 +
+    (cond b (year, days) (year_walk most (suc year) (days - days_in_year year))).1 ≡ days_of_years year + days) [
       | true ↦ λ e. refl
-      | false ↦ λ e. year_walk-sum most (suc year) (days - days_in_year year) ∙ (let long = ltb-false days (days_in_year year) e in omega arith)
+      | false ↦ λ e. year_walk-sum most (suc year) (days - days_in_year year)
+          ∙ (let long = ltb-false days (days_in_year year) e in omega arith)
     ] refl
 
 year_walk-within : (most year days : ℕ) → days ≤ most → (year_walk most year days).1 < days_in_year (year_walk most year days).0
@@ -36,9 +39,11 @@ unfolding year_walk
 year_walk-within zero year days h = let some = year_some year in omega arith
 year_walk-within (suc most) year days h =
     elim (ltb days (days_in_year year)) as (λ b. ltb days (days_in_year year) ≡ b →
-    (cond b (year, days) (year_walk most (suc year) (days - days_in_year year))).1 < days_in_year (cond b (year, days) (year_walk most (suc year) (days - days_in_year year))).0) [
+    (cond b (year, days) (year_walk most (suc year) (days - days_in_year year))).1 < days_in_year
+    (cond b (year, days) (year_walk most (suc year) (days - days_in_year year))).0) [
       | true ↦ λ e. ltb-true days (days_in_year year) e
-      | false ↦ λ e. year_walk-within most (suc year) (days - days_in_year year) (let some = year_some year in let long = ltb-false days (days_in_year year) e in omega arith)
+      | false ↦ λ e. year_walk-within most (suc year) (days - days_in_year year)
+          (let some = year_some year in let long = ltb-false days (days_in_year year) e in omega arith)
     ] refl
 
 -- months are walked in the same way
@@ -52,7 +57,8 @@ month_walk-sum zero year month days h = record { some = h; sum = refl }
 month_walk-sum (suc most) year zero days h = absurd (omega arith)
 month_walk-sum (suc most) year (suc before) days h =
     elim (ltb days (days_in_month year (suc before))) as (λ b. ltb days (days_in_month year (suc before)) ≡ b →
-    IsMonthWalk year (suc before) days (cond b (suc before, days) (month_walk most year (suc (suc before)) (days - days_in_month year (suc before))))) [
+    IsMonthWalk year (suc before) days (cond b (suc before, days)
+    (month_walk most year (suc (suc before)) (days - days_in_month year (suc before))))) [
       | true ↦ λ e. record { some = h; sum = refl }
       | false ↦ λ e.
           let rest = month_walk-sum most year (suc (suc before)) (days - days_in_month year (suc before)) (omega arith) in
@@ -68,7 +74,8 @@ record IsMonthDay (year : ℕ) (found : ℕ × ℕ) : Type 0 where
   month_in : found.0 ≤ 12
   day_in : found.1 < days_in_month year found.0
 
-month_walk-within : (most year month days : ℕ) → 1 ≤ month → month + most ≡ 12 → days_of_months year (month - 1) + days < days_of_months year 12 →
+month_walk-within : (most year month days : ℕ) → 1 ≤ month → month + most ≡ 12 →
+    days_of_months year (month - 1) + days < days_of_months year 12 →
     IsMonthDay year (month_walk most year month days)
 unfolding month_walk days_of_months
 month_walk-within zero year month days h all short =
@@ -84,7 +91,8 @@ month_walk-within (suc most) year (suc before) days h all short =
           let none : suc before - 1 ≡ before = omega arith in
           let s = rw none at short in
           let long = ltb-false days (days_in_month year (suc before)) e in
-          month_walk-within most year (suc (suc before)) (days - days_in_month year (suc before)) (omega arith) (omega arith) (rw one (omega arith))
+          month_walk-within most year (suc (suc before)) (days - days_in_month year (suc before)) (omega arith) (omega arith)
+          (rw one (omega arith))
     ] refl
 
 -- a date of the calendar, in numbers
@@ -131,7 +139,8 @@ not_below f grows a b r q ha e less =
     absurd (omega arith)
 
 -- a place in steps that grow tells its step
-same_step : (f : ℕ → ℕ) → ((n : ℕ) → f n ≤ f (suc n)) → (a b r q : ℕ) → f a + r < f (suc a) → f b + q < f (suc b) → f a + r ≡ f b + q → a ≡ b
+same_step : (f : ℕ → ℕ) → ((n : ℕ) → f n ≤ f (suc n)) → (a b r q : ℕ) → f a + r < f (suc a) → f b + q < f (suc b) → f a + r ≡ f b + q →
+    a ≡ b
 same_step f grows a b r q ha hb e =
     ⊎_elim (λ same. same)
     (⊎_elim (λ less. absurd (not_below f grows a b r q ha e less)) (λ more. absurd (not_below f grows b a q r hb (sym e) more)))
@@ -151,15 +160,22 @@ months_grown year m n h =
     let there : n - m + m ≡ n = omega arith in
     rw there at more
 
-month_step : (year month day : ℕ) → IsCivil year month day → days_of_months year (month - 1) + (day - 1) < days_of_months year (suc (month - 1))
+month_step : (year month day : ℕ) → IsCivil year month day →
+    days_of_months year (month - 1) + (day - 1) < days_of_months year (suc (month - 1))
 unfolding days_of_months
 month_step year zero day is = absurd (omega (arith, is.month_in.0))
 month_step year (suc before) day is = let none : suc before - 1 ≡ before = omega arith in rw none (omega (arith, is.day_in.0, is.day_in.1))
 
-year_step : (year month day : ℕ) → IsCivil year month day → days_of_years year + (days_of_months year (month - 1) + (day - 1)) < days_of_years (suc year)
+year_step : (year month day : ℕ) → IsCivil year month day →
+    days_of_years year + (days_of_months year (month - 1) + (day - 1)) < days_of_years (suc year)
 unfolding days_of_years
 year_step year month day is =
-    omega (arith, month_step year month day is, months_grown year (suc (month - 1)) 12 (omega (arith, is.month_in.0, is.month_in.1)), days_of_months-year year)
+    omega (
+      arith,
+      month_step year month day is,
+      months_grown year (suc (month - 1)) 12 (omega (arith, is.month_in.0, is.month_in.1)),
+      days_of_months-year year,
+    )
 
 -- two dates of one day number are one
 pub record SameDate (y m d year month day : ℕ) : Type 0 where
@@ -167,9 +183,11 @@ pub record SameDate (y m d year month day : ℕ) : Type 0 where
   pub same_month : m ≡ month
   pub same_day : d ≡ day
 
-same_in_month : (y m d month day : ℕ) → IsCivil y m d → IsCivil y month day → days_of_months y (m - 1) + (d - 1) ≡ days_of_months y (month - 1) + (day - 1) → SameDate y m d y month day
+same_in_month : (y m d month day : ℕ) → IsCivil y m d → IsCivil y month day →
+    days_of_months y (m - 1) + (d - 1) ≡ days_of_months y (month - 1) + (day - 1) → SameDate y m d y month day
 same_in_month y m d month day is other e =
-    let step : m - 1 ≡ month - 1 = same_step (days_of_months y) (days_of_months-grow y) (m - 1) (month - 1) (d - 1) (day - 1) (month_step y m d is) (month_step y month day other) e in
+    let step : m - 1 ≡ month - 1 = same_step (days_of_months y) (days_of_months-grow y) (m - 1) (month - 1) (d - 1) (day - 1)
+    (month_step y m d is) (month_step y month day other) e in
     let at : days_of_months y (m - 1) ≡ days_of_months y (month - 1) = ap (days_of_months y) step in
     record {
       same_year = refl;
@@ -177,15 +195,18 @@ same_in_month y m d month day is other e =
       same_day = omega (arith, is.day_in.0, other.day_in.0);
     }
 
-same_in_year : (y m d year month day : ℕ) → y ≡ year → IsCivil y m d → IsCivil year month day → day_number y m d ≡ day_number year month day → SameDate y m d year month day
+same_in_year : (y m d year month day : ℕ) → y ≡ year → IsCivil y m d → IsCivil year month day →
+    day_number y m d ≡ day_number year month day → SameDate y m d year month day
 same_in_year y m d year month day same is other e =
     let P : ℕ → Type 0 = λ z. IsCivil z month day → day_number y m d ≡ day_number z month day → SameDate y m d z month day in
     subst P same (λ there at. same_in_month y m d month day is there (omega (arith, at))) other e
 
-pub same_date : (y m d year month day : ℕ) → IsCivil y m d → IsCivil year month day → day_number y m d ≡ day_number year month day → SameDate y m d year month day
+pub same_date : (y m d year month day : ℕ) → IsCivil y m d → IsCivil year month day → day_number y m d ≡ day_number year month day →
+    SameDate y m d year month day
 same_date y m d year month day is other e =
     same_in_year y m d year month day
-    (same_step days_of_years days_of_years-grow y year (days_of_months y (m - 1) + (d - 1)) (days_of_months year (month - 1) + (day - 1)) (year_step y m d is) (year_step year month day other) (omega (arith, e)))
+    (same_step days_of_years days_of_years-grow y year (days_of_months y (m - 1) + (d - 1)) (days_of_months year (month - 1) + (day - 1))
+    (year_step y m d is) (year_step year month day other) (omega (arith, e)))
     is other e
 
 -- the calendar has a date exactly where its parts are in range
@@ -194,7 +215,11 @@ is_date-civil y m d e =
     let both = and_parts _ _ e in
     let months = and_parts _ _ both.0 in
     let days = and_parts _ _ both.1 in
-    record { month_in = (leb-true 1 m months.0, leb-true m 12 months.1); day_in = (leb-true 1 d days.0, leb-true d (days_in_month y m) days.1) }
+    record {
+      month_in = (leb-true 1 m months.0, leb-true m 12 months.1);
+      day_in =
+          (leb-true 1 d days.0, leb-true d (days_in_month y m) days.1);
+    }
 
 pub civil-is_date : (y m d : ℕ) → IsCivil y m d → is_date y m d ≡ true
 civil-is_date y m d is =

@@ -1,5 +1,6 @@
 -- A coordinate's text tells it, and holds no separator.
-use Rattle.std.proofs.Common.{◌≡◌, ◌≢◌, ℕ, zero, suc, ◌+◌, ◌-◌, ◌/◌, ◌%◌, ◌^◌, ◌<◌, cond, eqb, true, false, List, [], ◌∷◌, ◌++◌, length, replicate, refl, sym, ap, ◌∙◌, arith, ℤ, pos, negsuc, inl}
+use Rattle.std.proofs.Common.{◌≡◌, ◌≢◌, ℕ, zero, suc, ◌+◌, ◌-◌, ◌/◌, ◌%◌, ◌^◌, ◌<◌, cond, eqb, true, false, List, [], ◌∷◌, ◌++◌, length}
+use Rattle.std.proofs.Common.{replicate, refl, sym, ap, ◌∙◌, arith, ℤ, pos, negsuc, inl}
 use Rattle.std.specs.Char.{digit_char}
 use Rattle.std.proofs.lemmas.Bool.{eqb-true}
 use Rattle.std.proofs.lemmas.Bool.Decides.{nat_tests}
@@ -7,7 +8,8 @@ use Rattle.std.proofs.lemmas.List.{append-nil, length-append, length-replicate}
 use Rattle.osm_model.specs.Numeral.{numeral, padded}
 use Rattle.osm_model.specs.Decimal.{number_text}
 use Rattle.osm_model.specs.Coordinate.{digit_before, without_last_zeros, fraction_text, degrees_text, coordinate_text}
-use Rattle.osm_model.proofs.Separators.{Lacks, NoDigit, IsSeparator, no_digit-separator, mark-separator, split_same, lacks_append, lacks_clash}
+use Rattle.osm_model.proofs.Separators.{Lacks, NoDigit, IsSeparator, no_digit-separator, mark-separator, split_same, lacks_append}
+use Rattle.osm_model.proofs.Separators.{lacks_clash}
 use Rattle.osm_model.proofs.NumeralLaws.{padded_injective, padded_lacks, padded-step, padded-digit, length-padded}
 use Rattle.osm_model.proofs.DecimalLaws.{number_injective, number_lacks_mark, length-number-le}
 
@@ -46,8 +48,10 @@ without_last_zeros_injective : (xs ys : List ℕ) → length xs ≡ length ys �
 without_last_zeros_injective xs ys same e =
     let h = zeros_left_out xs in
     let k = zeros_left_out ys in
-    let lx : length xs ≡ length (without_last_zeros xs) + h.0 = ap length h.1 ∙ length-append _ _ ∙ ap (λ n. length (without_last_zeros xs) + n) (length-replicate h.0 48) in
-    let ly : length ys ≡ length (without_last_zeros ys) + k.0 = ap length k.1 ∙ length-append _ _ ∙ ap (λ n. length (without_last_zeros ys) + n) (length-replicate k.0 48) in
+    let lx : length xs ≡ length (without_last_zeros xs) + h.0 = ap length h.1 ∙ length-append _ _
+    ∙ ap (λ n. length (without_last_zeros xs) + n) (length-replicate h.0 48) in
+    let ly : length ys ≡ length (without_last_zeros ys) + k.0 = ap length k.1 ∙ length-append _ _
+    ∙ ap (λ n. length (without_last_zeros ys) + n) (length-replicate k.0 48) in
     let le : length (without_last_zeros xs) ≡ length (without_last_zeros ys) = ap length e in
     let count : h.0 ≡ k.0 = omega arith in
     h.1 ∙ (λ i. e i ++ replicate (count i) 48) ∙ sym k.1
@@ -55,27 +59,40 @@ without_last_zeros_injective xs ys same e =
 length-decimals : (units : ℕ) → units < 10_000_000 → length (padded 7 (number_text units)) ≡ 7
 length-decimals units small = length-padded 7 (number_text units) (length-number-le 7 units (omega arith) small)
 
-decimals_injective : (m n : ℕ) → m < 10_000_000 → n < 10_000_000 → without_last_zeros (padded 7 (number_text m)) ≡ without_last_zeros (padded 7 (number_text n)) → m ≡ n
+decimals_injective : (m n : ℕ) → m < 10_000_000 → n < 10_000_000 →
+    without_last_zeros (padded 7 (number_text m)) ≡ without_last_zeros (padded 7 (number_text n)) → m ≡ n
 unfolding number_text
 decimals_injective m n hm hn e =
     padded_injective 10 7 7 m n (omega arith) (omega arith)
     (without_last_zeros_injective _ _ (length-decimals m hm ∙ sym (length-decimals n hn)) e)
 
 -- the whole degrees and the rest
-parts_injective : (a b m n : ℕ) → m < 10_000_000 → n < 10_000_000 → number_text a ++ fraction_text m ≡ number_text b ++ fraction_text n → (a ≡ b) × (m ≡ n)
+parts_injective : (a b m n : ℕ) → m < 10_000_000 → n < 10_000_000 → number_text a ++ fraction_text m ≡ number_text b ++ fraction_text n →
+    (a ≡ b) × (m ≡ n)
 unfolding fraction_text
 parts_injective a b m n hm hn =
-    elim (eqb m 0) as (λ x. eqb m 0 ≡ x → number_text a ++ cond x [] (46 ∷ without_last_zeros (padded 7 (number_text m))) ≡ number_text b ++ fraction_text n → (a ≡ b) × (m ≡ n)) [
-      | true ↦ λ x. elim (eqb n 0) as (λ y. eqb n 0 ≡ y → number_text a ++ [] ≡ number_text b ++ cond y [] (46 ∷ without_last_zeros (padded 7 (number_text n))) → (a ≡ b) × (m ≡ n)) [
-        | true ↦ λ y e. (number_injective a b (sym (append-nil (number_text a)) ∙ e ∙ append-nil (number_text b)), eqb-true m 0 x ∙ sym (eqb-true n 0 y))
-        | false ↦ λ y e. absurd (lacks_clash 46 (number_text a) (number_text b) _ (sym (append-nil (number_text a)) ∙ e) (number_lacks_mark 46 a (inl (omega arith))))
-      ] refl
-      | false ↦ λ x. elim (eqb n 0) as (λ y. eqb n 0 ≡ y → number_text a ++ 46 ∷ without_last_zeros (padded 7 (number_text m)) ≡ number_text b ++ cond y [] (46 ∷ without_last_zeros (padded 7 (number_text n))) → (a ≡ b) × (m ≡ n)) [
-        | true ↦ λ y e. absurd (lacks_clash 46 (number_text b) (number_text a) _ (sym (append-nil (number_text b)) ∙ sym e) (number_lacks_mark 46 b (inl (omega arith))))
-        | false ↦ λ y e.
-            let both = split_same 46 (number_text a) (number_text b) _ _ (number_lacks_mark 46 a (inl (omega arith))) (number_lacks_mark 46 b (inl (omega arith))) e in
-            (number_injective a b both.0, decimals_injective m n hm hn both.1)
-      ] refl
+    elim (eqb m 0) as (λ x. eqb m 0 ≡ x → number_text a ++ cond x [] (46 ∷ without_last_zeros (padded 7 (number_text m))) ≡ number_text b
+    ++ fraction_text n → (a ≡ b) × (m ≡ n)) [
+      | true ↦ λ x. elim (eqb n 0) as (λ y. eqb n 0 ≡ y →
+          number_text a ++ [] ≡ number_text b ++ cond y [] (46 ∷ without_last_zeros (padded 7 (number_text n))) → (a ≡ b) × (m ≡ n)) [
+            | true ↦ λ y e. (
+              number_injective a b (sym (append-nil (number_text a)) ∙ e ∙ append-nil (number_text b)),
+              eqb-true m 0 x
+                  ∙ sym (eqb-true n 0 y),
+            )
+            | false ↦ λ y e. absurd (lacks_clash 46 (number_text a) (number_text b) _ (sym (append-nil (number_text a)) ∙ e)
+                (number_lacks_mark 46 a (inl (omega arith))))
+          ] refl
+      | false ↦ λ x. elim (eqb n 0) as (λ y. eqb n 0 ≡ y →
+          number_text a ++ 46 ∷ without_last_zeros (padded 7 (number_text m)) ≡ number_text b
+          ++ cond y [] (46 ∷ without_last_zeros (padded 7 (number_text n))) → (a ≡ b) × (m ≡ n)) [
+            | true ↦ λ y e. absurd (lacks_clash 46 (number_text b) (number_text a) _ (sym (append-nil (number_text b)) ∙ sym e)
+                (number_lacks_mark 46 b (inl (omega arith))))
+            | false ↦ λ y e.
+                let both = split_same 46 (number_text a) (number_text b) _ _ (number_lacks_mark 46 a (inl (omega arith)))
+                (number_lacks_mark 46 b (inl (omega arith))) e in
+                (number_injective a b both.0, decimals_injective m n hm hn both.1)
+          ] refl
     ] refl
 
 degrees_injective : (m n : ℕ) → degrees_text m ≡ degrees_text n → m ≡ n
@@ -106,7 +123,8 @@ unfolding degrees_text
 degrees_lack c units apart point = lacks_append c _ _ (number_lacks_mark c _ apart) (fraction_lacks c _ apart point)
 
 no_sign : (m n : ℕ) → degrees_text m ≡ 45 ∷ degrees_text n → ⊥
-no_sign m n e = lacks_clash 45 (degrees_text m) [] (degrees_text n) e (degrees_lack 45 m (inl (omega arith)) (λ e. absurd (omega (arith, e))))
+no_sign m n e = lacks_clash 45 (degrees_text m) [] (degrees_text n) e
+    (degrees_lack 45 m (inl (omega arith)) (λ e. absurd (omega (arith, e))))
 
 pub coordinate_injective : (y z : ℤ) → coordinate_text y ≡ coordinate_text z → y ≡ z
 unfolding coordinate_text
@@ -122,17 +140,22 @@ coordinate_injective (negsuc m) (negsuc n) e =
 pub coordinate_lacks : {c : ℕ} (z : ℤ) → IsSeparator c → Lacks c (coordinate_text z)
 unfolding coordinate_text
 coordinate_lacks (pos n) s = degrees_lack _ n (no_digit-separator s) (mark-separator 46 (inl (omega arith, omega arith)) s)
-coordinate_lacks (negsuc n) s = (mark-separator 45 (inl (omega arith, omega arith)) s, degrees_lack _ (suc n) (no_digit-separator s) (mark-separator 46 (inl (omega arith, omega arith)) s))
+coordinate_lacks (negsuc n) s = (
+  mark-separator 45 (inl (omega arith, omega arith)) s,
+  degrees_lack _ (suc n) (no_digit-separator s) (mark-separator 46 (inl (omega arith, omega arith)) s),
+)
 
 -- one zero less at the end
 pub fraction_next : (places digits : ℕ) → 0 < digits → digits < 10 ^ places → digits % 10 ≡ 0 →
-    (0 < digits / 10) × (digits / 10 < 10 ^ (places - 1)) × (without_last_zeros (padded places (number_text digits)) ≡ without_last_zeros (padded (places - 1) (number_text (digits / 10))))
+    (0 < digits / 10) × (digits / 10 < 10 ^ (places - 1))
+    × (without_last_zeros (padded places (number_text digits)) ≡ without_last_zeros (padded (places - 1) (number_text (digits / 10))))
 unfolding number_text
 fraction_next zero digits some fits last = absurd (omega arith)
 fraction_next (suc zero) digits some fits last = absurd (omega arith)
 fraction_next (suc (suc places)) digits some fits last =
     let less : suc (suc places) - 1 ≡ suc places = omega arith in
-    let step = padded-step 10 places digits (omega arith) ∙ ap (λ d. padded (suc places) (numeral 10 (digits / 10)) ++ digit_char d ∷ []) last in (
+    let step = padded-step 10 places digits (omega arith)
+    ∙ ap (λ d. padded (suc places) (numeral 10 (digits / 10)) ++ digit_char d ∷ []) last in (
       omega arith,
       rw less (omega arith),
       rw less (ap without_last_zeros step ∙ without_last_zeros-zero (padded (suc places) (numeral 10 (digits / 10)))),
@@ -142,20 +165,24 @@ digit_char-some : (d : ℕ) → d < 10 → 0 < d → digit_char d ≢ 48
 digit_char-some d small some e = grind (arith, nat_tests)
 
 -- no zero at the end
-fraction_end : (places digits : ℕ) → digits < 10 ^ places → 0 < digits % 10 → without_last_zeros (padded places (number_text digits)) ≡ padded places (number_text digits)
+fraction_end : (places digits : ℕ) → digits < 10 ^ places → 0 < digits % 10 →
+    without_last_zeros (padded places (number_text digits)) ≡ padded places (number_text digits)
 unfolding number_text
 fraction_end zero digits fits some = absurd (omega arith)
 fraction_end (suc zero) digits fits some =
     let only : padded 1 (numeral 10 digits) ≡ digit_char digits ∷ [] = padded-digit 10 digits (omega arith) (omega arith) in
-    ap without_last_zeros only ∙ without_last_zeros-digit [] (digit_char digits) (digit_char-some digits (omega arith) (omega arith)) ∙ sym only
+    ap without_last_zeros only ∙ without_last_zeros-digit [] (digit_char digits) (digit_char-some digits (omega arith) (omega arith))
+    ∙ sym only
 fraction_end (suc (suc places)) digits fits some =
     let last = padded-step 10 places digits (omega arith) in
     ap without_last_zeros last
-    ∙ without_last_zeros-digit (padded (suc places) (numeral 10 (digits / 10))) (digit_char (digits % 10)) (digit_char-some (digits % 10) (omega arith) some) ∙ sym last
+    ∙ without_last_zeros-digit (padded (suc places) (numeral 10 (digits / 10))) (digit_char (digits % 10))
+    (digit_char-some (digits % 10) (omega arith) some) ∙ sym last
 
 -- a fraction, from the digits that are left of it
 pub fraction_is : (places digits units : ℕ) → 0 < units → digits < 10 ^ places → (digits % 10 ≡ 0 → ⊥)
-    → without_last_zeros (padded places (number_text digits)) ≡ without_last_zeros (padded 7 (number_text units)) → fraction_text units ≡ 46 ∷ padded places (number_text digits)
+    → without_last_zeros (padded places (number_text digits)) ≡ without_last_zeros (padded 7 (number_text units)) →
+    fraction_text units ≡ 46 ∷ padded places (number_text digits)
 unfolding fraction_text
 fraction_is places digits units some fits last same =
     let no : eqb units 0 ≡ false = grind (arith, nat_tests) in

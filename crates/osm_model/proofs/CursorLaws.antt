@@ -1,5 +1,6 @@
 -- Steps of the cursor.
-use Rattle.std.proofs.Common.{◌≡◌, ℕ, ◌<◌, Bool, true, false, List, [], ◌∷◌, ◌++◌, length, codes, ℤ, refl, ap, sym, ◌∙◌, arith, subst, append_assoc, append-nil, if◌then◌else◌}
+use Rattle.std.proofs.Common.{◌≡◌, ℕ, ◌<◌, Bool, true, false, List, [], ◌∷◌, ◌++◌, length, codes, ℤ, refl, ap, sym, ◌∙◌, arith, subst}
+use Rattle.std.proofs.Common.{append_assoc, append-nil, if◌then◌else◌}
 use Rattle.std.specs.Char.{encode_utf8}
 use Rattle.std.specs.Str.{chars, IsUtf8}
 use Rattle.std.proofs.lemmas.Str.{chars-nil, chars_past_char, length-encode, len_utf8_bounds}
@@ -37,7 +38,8 @@ text_more bs rest given piece c u same e is =
     (ap escape (chars_past_char bs rest c v e) ∙ ap (λ xs. xs ++ escape (chars rest)) (sym is), rw is (escape_char-full c))
 
 -- what comes next, by its two parts
-pub coming_is : (v : VersionData) (next : Next) (cs : List ℕ) (p : Place) → chars next.text.now ≡ cs → next.place ≡ p → coming v next ≡ escape cs ++ after v p
+pub coming_is : (v : VersionData) (next : Next) (cs : List ℕ) (p : Place) → chars next.text.now ≡ cs → next.place ≡ p →
+    coming v next ≡ escape cs ++ after v p
 coming_is v next cs p t e = λ i. escape (t i) ++ after v (e i)
 
 pub list_text-cons : {X : Type 0} (text : X → List ℕ) (x : X) (xs : List X) → list_text text (x ∷ xs) ≡ text x ++ more_text text xs
@@ -45,7 +47,8 @@ list_text-cons text x [] = sym (append-nil (text x))
 list_text-cons text x (y ∷ ys) = ap (λ t. text x ++ 44 ∷ t) (list_text-cons text y ys)
 
 -- the first of some references
-pub reference_step : (r : ℤ) (all rest : List ℤ) (is_first : Bool) (mark piece tail : List ℕ) → all ≡ r ∷ rest → mark ≡ (if is_first then codes "n" else codes ",n") → piece ≡ mark ++ integer_text r → tail ≡ more_text reference_text rest →
+pub reference_step : (r : ℤ) (all rest : List ℤ) (is_first : Bool) (mark piece tail : List ℕ) → all ≡ r ∷ rest →
+    mark ≡ (if is_first then codes "n" else codes ",n") → piece ≡ mark ++ integer_text r → tail ≡ more_text reference_text rest →
     (items_text is_first reference_text all ≡ piece ++ tail) × (0 < length piece)
 reference_step r all rest true mark piece tail a m p t = (rw (a, p, m, t) (list_text-cons reference_text r rest), rw (p, m) (omega arith))
 reference_step r all rest false mark piece tail a m p t = (rw (a, p, m, t) refl, rw (p, m) (omega arith))
@@ -58,7 +61,8 @@ pub member_step : (m : Member) (all rest : List Member) (is_first : Bool) (mark 
     mark ≡ (if is_first then kind_letter m.kind ∷ [] else 44 ∷ kind_letter m.kind ∷ []) → piece ≡ mark ++ integer_text m.id →
     tail ≡ 64 ∷ (escape m.role ++ more_text member_text rest) → (items_text is_first member_text all ≡ piece ++ tail) × (0 < length piece)
 member_step m all rest true mark piece tail a k p t = (
-  rw (a, p, k, t) (list_text-cons member_text m rest ∙ member_split (kind_letter m.kind) (integer_text m.id) (escape m.role) (more_text member_text rest)),
+  rw (a, p, k, t) (list_text-cons member_text m rest
+      ∙ member_split (kind_letter m.kind) (integer_text m.id) (escape m.role) (more_text member_text rest)),
   rw (p, k) (omega arith),
 )
 member_step m all rest false mark piece tail a k p t = (
@@ -70,7 +74,8 @@ member_step m all rest false mark piece tail a k p t = (
 pub tag_step : (t : Tag) (all rest : List Tag) (b : List ℕ) → all ≡ t ∷ rest →
     escape t.key ++ (61 ∷ (escape t.value ++ (more_text tag_text rest ++ b))) ≡ list_text tag_text all ++ b
 tag_step t all rest b a =
-    sym (rw (a, list_text-cons tag_text t rest) (append_assoc (tag_text t) (more_text tag_text rest) b ∙ append_assoc (escape t.key) (61 ∷ escape t.value) _))
+    sym (rw (a, list_text-cons tag_text t rest) (append_assoc (tag_text t) (more_text tag_text rest) b
+    ∙ append_assoc (escape t.key) (61 ∷ escape t.value) _))
 
 joined_kind : (f : List ℕ) (b : Body) → joined 32 (f ∷ kind_fields b) ≡ f ++ 32 ∷ joined 32 (kind_fields b)
 joined_kind f (body.Deleted Node) = refl

@@ -1,5 +1,6 @@
 -- A decimal number's text tells it, and holds no separator.
-use Rattle.std.proofs.Common.{◌≡◌, ℕ, zero, suc, ◌+◌, ◌/◌, ◌%◌, ◌^◌, ◌<◌, ◌≤◌, List, [], ◌∷◌, ◌++◌, map, length, refl, sym, ap, ◌∙◌, arith, append_assoc, ℤ, pos, negsuc, inl}
+use Rattle.std.proofs.Common.{◌≡◌, ℕ, zero, suc, ◌+◌, ◌/◌, ◌%◌, ◌^◌, ◌<◌, ◌≤◌, List, [], ◌∷◌, ◌++◌, map, length, refl, sym, ap, ◌∙◌, arith}
+use Rattle.std.proofs.Common.{append_assoc, ℤ, pos, negsuc, inl}
 use Rattle.std.specs.Fmt.{decimal}
 use Rattle.std.specs.Char.{digit_char}
 use Rattle.std.specs.Int.Digits.{AllBelowBase}
@@ -51,7 +52,8 @@ digits_same (d ∷ ds) below =
 pub number_decimal : (n : ℕ) → n < 2 ^ 64 → number_text n ≡ decimal n
 unfolding number_text numeral
 number_decimal zero h = sym (decimal_digit 0 (omega arith))
-number_decimal (suc n) h = sym (decimal-digits_of (suc n) (omega arith) h ∙ digits_same _ (all_below_base_digits_of 10 (suc n) (omega arith)))
+number_decimal (suc n) h = sym (decimal-digits_of (suc n) (omega arith) h
+    ∙ digits_same _ (all_below_base_digits_of 10 (suc n) (omega arith)))
 
 pub length-number-le : (k n : ℕ) → 0 < k → n < 10 ^ k → length (number_text n) ≤ k
 unfolding number_text
@@ -69,16 +71,19 @@ padded_pair n small =
     ∙ (λ i. digit_char-decimal (n / 10) (omega arith) i ∷ digit_char-decimal (n % 10) (omega arith) i ∷ [])
 
 -- the last two digits apart
-pub padded_behind : (width n : ℕ) → padded (suc (suc (suc width))) (number_text n) ≡ padded (suc width) (number_text (n / 100)) ++ padded 2 (number_text (n % 100))
+pub padded_behind : (width n : ℕ) → padded (suc (suc (suc width))) (number_text n) ≡ padded (suc width) (number_text (n / 100))
+    ++ padded 2 (number_text (n % 100))
 unfolding number_text
 padded_behind width n =
     let first : n / 10 / 10 ≡ n / 100 = omega arith in
     let third : n / 10 % 10 ≡ n % 100 / 10 = omega arith in
     let last : n % 10 ≡ n % 100 % 10 = omega arith in
-    let tens : padded (suc (suc width)) (numeral 10 (n / 10)) ≡ padded (suc width) (numeral 10 (n / 100)) ++ digit_char (n % 100 / 10) ∷ [] =
+    let tens : padded (suc (suc width)) (numeral 10 (n / 10)) ≡ padded (suc width) (numeral 10 (n / 100)) ++ digit_char (n % 100 / 10)
+    ∷ [] =
     padded-step 10 width (n / 10) (omega arith) ∙ (λ i. padded (suc width) (numeral 10 (first i)) ++ digit_char (third i) ∷ []) in
     let ones : padded 2 (numeral 10 (n % 100)) ≡ digit_char (n % 100 / 10) ∷ digit_char (n % 100 % 10) ∷ [] =
-    padded-step 10 0 (n % 100) (omega arith) ∙ ap (λ t. t ++ digit_char (n % 100 % 10) ∷ []) (padded-digit 10 (n % 100 / 10) (omega arith) (omega arith)) in
+    padded-step 10 0 (n % 100) (omega arith) ∙ ap (λ t. t ++ digit_char (n % 100 % 10) ∷ [])
+    (padded-digit 10 (n % 100 / 10) (omega arith) (omega arith)) in
     padded-step 10 (suc width) n (omega arith)
     ∙ (λ i. tens i ++ digit_char (last i) ∷ [])
     ∙ append_assoc (padded (suc width) (numeral 10 (n / 100))) (digit_char (n % 100 / 10) ∷ []) (digit_char (n % 100 % 10) ∷ [])
@@ -90,7 +95,8 @@ padded_pairs n = padded_behind 1 n
 
 -- a number below 10^7 in seven
 pub padded_seven : (n : ℕ) →
-    padded 7 (number_text n) ≡ padded 2 (number_text (n / 100_000)) ++ (padded 2 (number_text (n / 1000 % 100)) ++ (padded 2 (number_text (n / 10 % 100)) ++ (48 + n % 10) ∷ []))
+    padded 7 (number_text n) ≡ padded 2 (number_text (n / 100_000))
+    ++ (padded 2 (number_text (n / 1000 % 100)) ++ (padded 2 (number_text (n / 10 % 100)) ++ (48 + n % 10) ∷ []))
 unfolding number_text
 padded_seven n =
     let pairs = padded_behind 3 (n / 10) in
@@ -98,8 +104,11 @@ padded_seven n =
     let top : n / 1000 / 100 ≡ n / 100_000 = omega arith in
     let last : digit_char (n % 10) ≡ 48 + n % 10 = digit_char-decimal (n % 10) (omega arith) in
     let first_four = padded_pairs (n / 1000) ∙ (λ i. padded 2 (numeral 10 (top i)) ++ padded 2 (numeral 10 (n / 1000 % 100))) in
-    let first_six = pairs ∙ (λ i. padded 4 (numeral 10 (high i)) ++ padded 2 (numeral 10 (n / 10 % 100))) ∙ ap (λ t. t ++ padded 2 (numeral 10 (n / 10 % 100))) first_four in
+    let first_six = pairs ∙ (λ i. padded 4 (numeral 10 (high i)) ++ padded 2 (numeral 10 (n / 10 % 100)))
+    ∙ ap (λ t. t ++ padded 2 (numeral 10 (n / 10 % 100))) first_four in
     padded-step 10 5 n (omega arith)
     ∙ (λ i. first_six i ++ last i ∷ [])
-    ∙ append_assoc (padded 2 (numeral 10 (n / 100_000)) ++ padded 2 (numeral 10 (n / 1000 % 100))) (padded 2 (numeral 10 (n / 10 % 100))) ((48 + n % 10) ∷ [])
-    ∙ append_assoc (padded 2 (numeral 10 (n / 100_000))) (padded 2 (numeral 10 (n / 1000 % 100))) (padded 2 (numeral 10 (n / 10 % 100)) ++ (48 + n % 10) ∷ [])
+    ∙ append_assoc (padded 2 (numeral 10 (n / 100_000)) ++ padded 2 (numeral 10 (n / 1000 % 100))) (padded 2 (numeral 10 (n / 10 % 100)))
+    ((48 + n % 10) ∷ [])
+    ∙ append_assoc (padded 2 (numeral 10 (n / 100_000))) (padded 2 (numeral 10 (n / 1000 % 100)))
+    (padded 2 (numeral 10 (n / 10 % 100)) ++ (48 + n % 10) ∷ [])

@@ -1,5 +1,6 @@
 -- The escaped form of a text tells the text, and holds no separator.
-use Rattle.std.proofs.Common.{◌≡◌, ◌≢◌, ℕ, ◌+◌, ◌/◌, ◌%◌, ◌<◌, ◌≤◌, true, false, cond, ltb, List, [], ◌∷◌, ◌++◌, length, refl, sym, ap, ◌∙◌, arith, append_assoc, inl}
+use Rattle.std.proofs.Common.{◌≡◌, ◌≢◌, ℕ, ◌+◌, ◌/◌, ◌%◌, ◌<◌, ◌≤◌, true, false, cond, ltb, List, [], ◌∷◌, ◌++◌, length, refl, sym, ap, ◌∙◌}
+use Rattle.std.proofs.Common.{arith, append_assoc, inl}
 use Rattle.std.proofs.lemmas.Bool.Decides.{nat_tests}
 use Rattle.std.proofs.lemmas.Bool.{true≢false}
 use Rattle.std.proofs.lemmas.List.{append-nil}
@@ -21,7 +22,10 @@ code_escape_same c d us vs e =
     let both = split_same 37 (padded (escape_width c) (numeral 16 c)) (padded (escape_width d) (numeral 16 d)) us vs
     (padded_lacks 37 16 (escape_width c) c (inl (omega arith)) (omega arith) (omega arith))
     (padded_lacks 37 16 (escape_width d) d (inl (omega arith)) (omega arith) (omega arith))
-    (cc (append_assoc (padded (escape_width c) (numeral 16 c)) (37 ∷ []) us, append_assoc (padded (escape_width d) (numeral 16 d)) (37 ∷ []) vs)) in
+    (cc (
+      append_assoc (padded (escape_width c) (numeral 16 c)) (37 ∷ []) us,
+      append_assoc (padded (escape_width d) (numeral 16 d)) (37 ∷ []) vs,
+    )) in
     (padded_injective 16 (escape_width c) (escape_width d) c d (omega arith) (omega arith) both.0, both.1)
 
 code_escape_percent : (c : ℕ) (us : List ℕ) → (vs : List ℕ) × (code_escape c ++ us ≡ 37 ∷ vs)
@@ -33,14 +37,16 @@ escape_char_same : (c d : ℕ) (us vs : List ℕ) → escape_char c ++ us ≡ es
 unfolding escape_char
 escape_char_same c d us vs =
     elim (is_raw c) as (λ a. is_raw c ≡ a → cond a (encode c) (code_escape c) ++ us ≡ escape_char d ++ vs → (c ≡ d) × (us ≡ vs)) [
-      | true ↦ λ raw. elim (is_raw d) as (λ b. is_raw d ≡ b → encode c ++ us ≡ cond b (encode d) (code_escape d) ++ vs → (c ≡ d) × (us ≡ vs)) [
-        | true ↦ λ raw' e. encode_same c d us vs e
-        | false ↦ λ raw' e. let p = code_escape_percent d vs in absurd (raw_percent c us p.0 raw (e ∙ p.1))
-      ] refl
-      | false ↦ λ raw. elim (is_raw d) as (λ b. is_raw d ≡ b → code_escape c ++ us ≡ cond b (encode d) (code_escape d) ++ vs → (c ≡ d) × (us ≡ vs)) [
-        | true ↦ λ raw' e. let p = code_escape_percent c us in absurd (raw_percent d vs p.0 raw' (sym e ∙ p.1))
-        | false ↦ λ raw' e. code_escape_same c d us vs e
-      ] refl
+      | true ↦ λ raw. elim (is_raw d) as (λ b. is_raw d ≡ b → encode c ++ us ≡ cond b (encode d) (code_escape d) ++ vs →
+          (c ≡ d) × (us ≡ vs)) [
+            | true ↦ λ raw' e. encode_same c d us vs e
+            | false ↦ λ raw' e. let p = code_escape_percent d vs in absurd (raw_percent c us p.0 raw (e ∙ p.1))
+          ] refl
+      | false ↦ λ raw. elim (is_raw d) as (λ b. is_raw d ≡ b → code_escape c ++ us ≡ cond b (encode d) (code_escape d) ++ vs →
+          (c ≡ d) × (us ≡ vs)) [
+            | true ↦ λ raw' e. let p = code_escape_percent c us in absurd (raw_percent d vs p.0 raw' (sym e ∙ p.1))
+            | false ↦ λ raw' e. code_escape_same c d us vs e
+          ] refl
     ] refl
 
 encode_some : (c : ℕ) (us : List ℕ) → encode c ++ us ≡ [] → ⊥
@@ -76,15 +82,27 @@ high s low n h k e = absurd (omega (arith, e))
 encode_lacks : (s c : ℕ) → s < 128 → c ≢ s → Lacks s (encode c)
 unfolding encode
 encode_lacks s c h n =
-    elim (ltb c 128) as (λ a. Lacks s (cond a (c ∷ []) (cond (ltb c 2048) ((192 + c / 64) ∷ (128 + c % 64) ∷ []) (cond (ltb c 65536) ((224 + c / 4096) ∷ (128 + c / 64 % 64) ∷ (128 + c % 64) ∷ []) ((240 + c / 262144) ∷ (128 + c / 4096 % 64) ∷ (128 + c / 64 % 64) ∷ (128 + c % 64) ∷ []))))) [
+    elim (ltb c 128) as (λ a. Lacks s (cond a (c ∷ [])
+    (cond (ltb c 2048) ((192 + c / 64) ∷ (128 + c % 64) ∷ [])
+    (cond (ltb c 65536) ((224 + c / 4096) ∷ (128 + c / 64 % 64) ∷ (128 + c % 64) ∷ [])
+    ((240 + c / 262144) ∷ (128 + c / 4096 % 64) ∷ (128 + c / 64 % 64) ∷ (128 + c % 64) ∷ []))))) [
       | true ↦ (n, tt)
-      | false ↦ elim (ltb c 2048) as (λ a. Lacks s (cond a ((192 + c / 64) ∷ (128 + c % 64) ∷ []) (cond (ltb c 65536) ((224 + c / 4096) ∷ (128 + c / 64 % 64) ∷ (128 + c % 64) ∷ []) ((240 + c / 262144) ∷ (128 + c / 4096 % 64) ∷ (128 + c / 64 % 64) ∷ (128 + c % 64) ∷ [])))) [
-        | true ↦ (high s 192 _ h (omega arith), (high s 128 _ h (omega arith), tt))
-        | false ↦ elim (ltb c 65536) as (λ a. Lacks s (cond a ((224 + c / 4096) ∷ (128 + c / 64 % 64) ∷ (128 + c % 64) ∷ []) ((240 + c / 262144) ∷ (128 + c / 4096 % 64) ∷ (128 + c / 64 % 64) ∷ (128 + c % 64) ∷ []))) [
-          | true ↦ (high s 224 _ h (omega arith), (high s 128 _ h (omega arith), (high s 128 _ h (omega arith), tt)))
-          | false ↦ (high s 240 _ h (omega arith), (high s 128 _ h (omega arith), (high s 128 _ h (omega arith), (high s 128 _ h (omega arith), tt))))
-        ]
-      ]
+      | false ↦ elim (ltb c 2048) as (λ a. Lacks s (cond a ((192 + c / 64) ∷ (128 + c % 64) ∷ [])
+          (cond (ltb c 65536) ((224 + c / 4096) ∷ (128 + c / 64 % 64) ∷ (128 + c % 64) ∷ [])
+          ((240 + c / 262144) ∷ (128 + c / 4096 % 64) ∷ (128 + c / 64 % 64) ∷ (128 + c % 64) ∷ [])))) [
+            | true ↦ (high s 192 _ h (omega arith), (high s 128 _ h (omega arith), tt))
+            | false ↦ elim (ltb c 65536) as (λ a. Lacks s (cond a ((224 + c / 4096) ∷ (128 + c / 64 % 64) ∷ (128 + c % 64) ∷ [])
+                ((240 + c / 262144) ∷ (128 + c / 4096 % 64) ∷ (128 + c / 64 % 64) ∷ (128 + c % 64) ∷ []))) [
+                  | true ↦ (high s 224 _ h (omega arith), (high s 128 _ h (omega arith), (high s 128 _ h (omega arith), tt)))
+                  | false ↦ (
+                    high s 240 _ h (omega arith),
+                    (
+                      high s 128 _ h (omega arith),
+                      (high s 128 _ h (omega arith), (high s 128 _ h (omega arith), tt)),
+                    ),
+                  )
+                ]
+          ]
     ]
 
 -- a separator is ASCII, not raw, and no percent sign
@@ -95,14 +113,42 @@ record IsEscaped (s : ℕ) : Type 0 where
   no_digit : NoDigit s
 
 escaped_separator : {s : ℕ} → IsSeparator s → IsEscaped s
-escaped_separator space = record { ascii = omega arith; not_raw = refl; other = λ e. absurd (omega (arith, e)); no_digit = no_digit-separator space }
-escaped_separator comma = record { ascii = omega arith; not_raw = refl; other = λ e. absurd (omega (arith, e)); no_digit = no_digit-separator comma }
-escaped_separator equals = record { ascii = omega arith; not_raw = refl; other = λ e. absurd (omega (arith, e)); no_digit = no_digit-separator equals }
-escaped_separator at = record { ascii = omega arith; not_raw = refl; other = λ e. absurd (omega (arith, e)); no_digit = no_digit-separator at }
+escaped_separator space = record {
+  ascii = omega arith;
+  not_raw = refl;
+  other = λ e. absurd (omega (arith, e));
+  no_digit =
+      no_digit-separator space;
+}
+escaped_separator comma = record {
+  ascii = omega arith;
+  not_raw = refl;
+  other = λ e. absurd (omega (arith, e));
+  no_digit =
+      no_digit-separator comma;
+}
+escaped_separator equals = record {
+  ascii = omega arith;
+  not_raw = refl;
+  other = λ e. absurd (omega (arith, e));
+  no_digit =
+      no_digit-separator equals;
+}
+escaped_separator at = record {
+  ascii = omega arith;
+  not_raw = refl;
+  other = λ e. absurd (omega (arith, e));
+  no_digit =
+      no_digit-separator at;
+}
 
 code_escape_lacks : (s c : ℕ) → IsEscaped s → Lacks s (code_escape c)
 unfolding code_escape
-code_escape_lacks s c p = (p.other, lacks_append s (padded (escape_width c) (numeral 16 c)) (37 ∷ []) (padded_lacks s 16 (escape_width c) c p.no_digit (omega arith) (omega arith)) (p.other, tt))
+code_escape_lacks s c p = (
+  p.other,
+  lacks_append s (padded (escape_width c) (numeral 16 c)) (37 ∷ [])
+      (padded_lacks s 16 (escape_width c) c p.no_digit (omega arith) (omega arith)) (p.other, tt),
+)
 
 escape_char_lacks : (s c : ℕ) → IsEscaped s → Lacks s (escape_char c)
 unfolding escape_char

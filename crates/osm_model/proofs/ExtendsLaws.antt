@@ -6,7 +6,8 @@ extends_by : {before now : List ℕ} (rest : List ℕ) → now ≡ before ++ res
 extends_by rest e = record { rest = rest; behind = e }
 
 pub extends_trans : {before middle now : List ℕ} → Extends before middle → Extends middle now → Extends before now
-extends_trans {before} first second = extends_by (first.rest ++ second.rest) (second.behind ∙ ap (λ t. t ++ second.rest) first.behind ∙ append_assoc before first.rest second.rest)
+extends_trans {before} first second = extends_by (first.rest ++ second.rest)
+    (second.behind ∙ ap (λ t. t ++ second.rest) first.behind ∙ append_assoc before first.rest second.rest)
 
 -- what `push` and `extend_from_slice` leave
 pub extends_or_same : {before now : List ℕ} (done : Bool) (more : List ℕ) → now ≡ cond done (before ++ more) before → Extends before now

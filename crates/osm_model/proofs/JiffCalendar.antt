@@ -46,9 +46,18 @@ year_is date h = by_lt_z date.year (pos 1970)
     )))
     (λ ge. natural date.year (omega (arith, signed_arith)))
 
-number_of : (y m d day : ℕ) → 1 ≤ d → up (jiff.days_from_civil (pos y) m d) ≡ down (jiff.days_from_civil (pos y) m d) + day → day_number y m d ≡ days_of_years 1970 + day
+number_of : (y m d day : ℕ) → 1 ≤ d → up (jiff.days_from_civil (pos y) m d) ≡ down (jiff.days_from_civil (pos y) m d) + day →
+    day_number y m d ≡ days_of_years 1970 + day
 number_of y m d day some e =
-    omega (arith, e, days_from_civil-day_count (pos y) m d, count y m d some, day_count-epoch, count 1970 1 1 (omega arith), days_of_months-none 1970)
+    omega (
+      arith,
+      e,
+      days_from_civil-day_count (pos y) m d,
+      count y m d some,
+      day_count-epoch,
+      count 1970 1 1 (omega arith),
+      days_of_months-none 1970,
+    )
 
 -- the date of jiff that many days after 1970-01-01
 pub record IsDateOf (day : ℕ) (date : civil.Date) : Type 0 where
@@ -61,7 +70,8 @@ jiff_date day date e =
     let up_e = ap up e in
     let down_e = ap down e in
     let y = year_is date (omega (arith, signed_arith, up_e, down_e)) in
-    let at : epoch_day date ≡ jiff.days_from_civil (pos y.0) date.month date.day = ap (λ z. jiff.days_from_civil z date.month date.day) y.1 in
+    let at : epoch_day date ≡ jiff.days_from_civil (pos y.0) date.month date.day =
+    ap (λ z. jiff.days_from_civil z date.month date.day) y.1 in
     let up_at = ap up at in
     let down_at = ap down at in
     let month_in = date.month_in in

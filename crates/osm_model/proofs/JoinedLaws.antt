@@ -3,7 +3,8 @@ use Rattle.std.proofs.Common.{◌≡◌, ◌≢◌, ℕ, List, [], ◌∷◌, �
 use Rattle.osm_model.specs.Joined.{joined}
 use Rattle.osm_model.proofs.Separators.{Lacks, AllLack, split_same, lacks_append, lacks_clash}
 
-pub joined_injective : (c : ℕ) (f g : List ℕ) (fs gs : List (List ℕ)) → AllLack c (f ∷ fs) → AllLack c (g ∷ gs) → joined c (f ∷ fs) ≡ joined c (g ∷ gs) → f ∷ fs ≡ g ∷ gs
+pub joined_injective : (c : ℕ) (f g : List ℕ) (fs gs : List (List ℕ)) → AllLack c (f ∷ fs) → AllLack c (g ∷ gs) →
+    joined c (f ∷ fs) ≡ joined c (g ∷ gs) → f ∷ fs ≡ g ∷ gs
 joined_injective c f g [] [] h k e = cc
 joined_injective c f g [] (g' ∷ gs) h k e = absurd (lacks_clash c f g (joined c (g' ∷ gs)) e h.0)
 joined_injective c f g (f' ∷ fs) [] h k e = absurd (lacks_clash c g f (joined c (f' ∷ fs)) (sym e) k.0)
@@ -25,7 +26,8 @@ full_joined c (x ∷ xs) [] h e = cc
 full_joined c (x ∷ xs) (f ∷ fs) h e = cc
 full_joined c [] fs h e = absurd h
 
-map_injective : {X : Type 0} (text : X → List ℕ) → ((x y : X) → text x ≡ text y → x ≡ y) → (xs ys : List X) → map text xs ≡ map text ys → xs ≡ ys
+map_injective : {X : Type 0} (text : X → List ℕ) → ((x y : X) → text x ≡ text y → x ≡ y) → (xs ys : List X) → map text xs ≡ map text ys →
+    xs ≡ ys
 map_injective text i [] [] e = refl
 map_injective text i [] (y ∷ ys) e = cc
 map_injective text i (x ∷ xs) [] e = cc
@@ -46,18 +48,21 @@ pub record IsItemText {X : Type 0} (c : ℕ) (text : X → List ℕ) : Type 0 wh
   pub full : (x : X) → IsFull (text x)
   pub tells : (x y : X) → text x ≡ text y → x ≡ y
 
-pub items_injective : {X : Type 0} (c : ℕ) (text : X → List ℕ) → IsItemText c text → (xs ys : List X) → joined c (map text xs) ≡ joined c (map text ys) → xs ≡ ys
+pub items_injective : {X : Type 0} (c : ℕ) (text : X → List ℕ) → IsItemText c text → (xs ys : List X) →
+    joined c (map text xs) ≡ joined c (map text ys) → xs ≡ ys
 items_injective c text is [] [] e = refl
 items_injective c text is [] (y ∷ ys) e = absurd (full_joined c (text y) (map text ys) (is.full y) (sym e))
 items_injective c text is (x ∷ xs) [] e = absurd (full_joined c (text x) (map text xs) (is.full x) e)
 items_injective c text is (x ∷ xs) (y ∷ ys) e =
     map_injective text is.tells (x ∷ xs) (y ∷ ys)
-    (joined_injective c (text x) (text y) (map text xs) (map text ys) (map_lack c text is.lacks (x ∷ xs)) (map_lack c text is.lacks (y ∷ ys)) e)
+    (joined_injective c (text x) (text y) (map text xs) (map text ys) (map_lack c text is.lacks (x ∷ xs))
+    (map_lack c text is.lacks (y ∷ ys)) e)
 
 joined_lacks : (c s : ℕ) (fs : List (List ℕ)) → c ≢ s → AllLack s fs → Lacks s (joined c fs)
 joined_lacks c s [] n h = tt
 joined_lacks c s (f ∷ []) n h = h.0
 joined_lacks c s (f ∷ g ∷ fs) n h = lacks_append s f (c ∷ joined c (g ∷ fs)) h.0 (n, joined_lacks c s (g ∷ fs) n h.1)
 
-pub items_lack : {X : Type 0} (c s : ℕ) (text : X → List ℕ) → c ≢ s → ((x : X) → Lacks s (text x)) → (xs : List X) → Lacks s (joined c (map text xs))
+pub items_lack : {X : Type 0} (c s : ℕ) (text : X → List ℕ) → c ≢ s → ((x : X) → Lacks s (text x)) → (xs : List X) →
+    Lacks s (joined c (map text xs))
 items_lack c s text n h xs = joined_lacks c s (map text xs) n (map_lack s text h xs)

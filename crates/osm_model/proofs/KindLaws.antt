@@ -24,9 +24,11 @@ at_most m n h = grind (arith, nat_tests)
 
 less_rank : (v w : VersionData) → version_cmp v w ≡ Less → rank_of v ≤ rank_of w
 less_rank v w h = at_most (rank_of v) (rank_of w)
-    (first_not_greater _ _ (first_not_greater _ _ (first_not_greater (object_cmp v w) _ (first_not_greater (key_cmp v w) _ (first_not_greater _ _ (first_not_greater (data_cmp v w) _ (ap is_gt h)))))))
+    (first_not_greater _ _ (first_not_greater _ _ (first_not_greater (object_cmp v w) _
+    (first_not_greater (key_cmp v w) _ (first_not_greater _ _ (first_not_greater (data_cmp v w) _ (ap is_gt h)))))))
 
-before_all : (v : VersionData) (versions : List VersionData) (j : ℕ) (d : VersionData) → AllByRecursion (λ w. version_cmp v w ≡ Less) versions → j < length versions → rank_of v ≤ rank_of (get_or versions j d)
+before_all : (v : VersionData) (versions : List VersionData) (j : ℕ) (d : VersionData) →
+    AllByRecursion (λ w. version_cmp v w ≡ Less) versions → j < length versions → rank_of v ≤ rank_of (get_or versions j d)
 before_all v [] j d h inside = absurd (omega arith)
 before_all v (w ∷ versions) zero d h inside = less_rank v w h.0
 before_all v (w ∷ versions) (suc j) d h inside = before_all v versions j d h.1 (omega arith)

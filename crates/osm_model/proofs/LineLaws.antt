@@ -93,7 +93,8 @@ member_lacks s n m =
 
 member_tells : (m n : Member) → member_text m ≡ member_text n → m ≡ n
 member_tells m n e =
-    let both = split_same 64 (kind_letter m.kind ∷ integer_text m.id) (kind_letter n.kind ∷ integer_text n.id) (escape m.role) (escape n.role)
+    let both = split_same 64 (kind_letter m.kind ∷ integer_text m.id) (kind_letter n.kind ∷ integer_text n.id) (escape m.role)
+    (escape n.role)
     (object_lacks at m.kind m.id) (object_lacks at n.kind n.id) e in
     let object = both.0 in
     let letter : kind_letter m.kind ≡ kind_letter n.kind = cc in
@@ -167,7 +168,8 @@ no_D e = let bad : ◌≡◌ {A = ℕ} 68 86 = cc in absurd (omega (arith, bad))
 no_V : {P : Type 0} → codes "V" ≡ codes "D" → P
 no_V e = let bad : ◌≡◌ {A = ℕ} 86 68 = cc in absurd (omega (arith, bad))
 
-same_body : (a b : Body) → kind_letter (kind_of a) ≡ kind_letter (kind_of b) → visible_text a ≡ visible_text b → tags_of a ≡ tags_of b → kind_fields a ≡ kind_fields b → a ≡ b
+same_body : (a b : Body) → kind_letter (kind_of a) ≡ kind_letter (kind_of b) → visible_text a ≡ visible_text b → tags_of a ≡ tags_of b →
+    kind_fields a ≡ kind_fields b → a ≡ b
 same_body (body.Deleted k) (body.Deleted l) h s t e = ap body.Deleted (letter_injective k l h)
 same_body (body.Deleted k) (body.Node lon lat tags) h s t e = no_D s
 same_body (body.Deleted k) (body.Way refs tags) h s t e = no_D s

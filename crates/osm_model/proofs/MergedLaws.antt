@@ -1,6 +1,7 @@
 -- Two ascending lists in one: it ascends, and has the members of both.
 use Rattle.std.proofs.lemmas.List.{nil_from_length}
-use Rattle.std.proofs.Common.{◌≡◌, ℕ, length, drop, arith, length-drop, Bool, true, false, ◌||◌, List, [], ◌∷◌, ◌++◌, refl, sym, ap, ◌∙◌, subst}
+use Rattle.std.proofs.Common.{◌≡◌, ℕ, length, drop, arith, length-drop, Bool, true, false, ◌||◌, List, [], ◌∷◌, ◌++◌, refl, sym, ap, ◌∙◌}
+use Rattle.std.proofs.Common.{subst}
 use Rattle.std.specs.declared.cmp.Ordering.{Ordering}
 use Rattle.std.specs.declared.cmp.Ordering.TheVariants.{Less, Equal, Greater}
 use Rattle.std.specs.Cmp.{IsTotalOrder}
@@ -19,13 +20,28 @@ module _ {K : Type 0} (R : K → K → Ordering) where
   merged-nil (x ∷ xs) = ap (λ t. x ∷ t) (merged-nil xs)
 
   pub merged-less : (x y : K) (xs ys : List K) → R x y ≡ Less → merged R (x ∷ xs) (y ∷ ys) ≡ x ∷ merged R xs (y ∷ ys)
-  merged-less x y xs ys e = ap (λ r. elim r as (λ _. List K) [ Less ↦ x ∷ merged R xs (y ∷ ys) | Equal ↦ x ∷ merged R xs ys | Greater ↦ y ∷ merged R (x ∷ xs) ys ]) e
+  merged-less x y xs ys e = ap (λ r. elim r as (λ _. List K) [
+    | Less ↦ x ∷ merged R xs (y ∷ ys)
+    | Equal ↦ x ∷ merged R xs ys
+    | Greater ↦ y
+        ∷ merged R (x ∷ xs) ys
+  ]) e
 
   pub merged-equal : (x y : K) (xs ys : List K) → R x y ≡ Equal → merged R (x ∷ xs) (y ∷ ys) ≡ x ∷ merged R xs ys
-  merged-equal x y xs ys e = ap (λ r. elim r as (λ _. List K) [ Less ↦ x ∷ merged R xs (y ∷ ys) | Equal ↦ x ∷ merged R xs ys | Greater ↦ y ∷ merged R (x ∷ xs) ys ]) e
+  merged-equal x y xs ys e = ap (λ r. elim r as (λ _. List K) [
+    | Less ↦ x ∷ merged R xs (y ∷ ys)
+    | Equal ↦ x ∷ merged R xs ys
+    | Greater ↦ y
+        ∷ merged R (x ∷ xs) ys
+  ]) e
 
   pub merged-greater : (x y : K) (xs ys : List K) → R x y ≡ Greater → merged R (x ∷ xs) (y ∷ ys) ≡ y ∷ merged R (x ∷ xs) ys
-  merged-greater x y xs ys e = ap (λ r. elim r as (λ _. List K) [ Less ↦ x ∷ merged R xs (y ∷ ys) | Equal ↦ x ∷ merged R xs ys | Greater ↦ y ∷ merged R (x ∷ xs) ys ]) e
+  merged-greater x y xs ys e = ap (λ r. elim r as (λ _. List K) [
+    | Less ↦ x ∷ merged R xs (y ∷ ys)
+    | Equal ↦ x ∷ merged R xs ys
+    | Greater ↦ y
+        ∷ merged R (x ∷ xs) ys
+  ]) e
 
   -- x is below all of them
   abbrev Below : K → List K → Type 0
@@ -43,10 +59,16 @@ module _ {K : Type 0} {R : K → K → Ordering} (o : IsTotalOrder R) where
   turned : (x y : K) → R x y ≡ Greater → R y x ≡ Less
   turned x y e = o.antisymm y x ∙ ap ordering_reverse e
 
-  below_from : (p x : K) (xs : List K) (rest : List K → List K) (ys : List K) → ((zs : List K) → Below R p zs → Below R p (rest zs)) → R p x ≡ Less → Below R p ys → Below R p (merged_from R x rest ys)
+  below_from : (p x : K) (xs : List K) (rest : List K → List K) (ys : List K) → ((zs : List K) → Below R p zs → Below R p (rest zs)) →
+      R p x ≡ Less → Below R p ys → Below R p (merged_from R x rest ys)
   below_from p x xs rest [] k h g = (h, k [] tt)
   below_from p x xs rest (y ∷ ys) k h g =
-      elim (R x y) as (λ r. Below R p (elim r as (λ _. List K) [ Less ↦ x ∷ rest (y ∷ ys) | Equal ↦ x ∷ rest ys | Greater ↦ y ∷ merged_from R x rest ys ])) [
+      elim (R x y) as (λ r. Below R p (elim r as (λ _. List K) [
+        | Less ↦ x ∷ rest (y ∷ ys)
+        | Equal ↦ x ∷ rest ys
+        | Greater ↦ y
+            ∷ merged_from R x rest ys
+      ])) [
         | Less ↦ (h, k (y ∷ ys) g)
         | Equal ↦ (h, k ys g.1)
         | Greater ↦ (g.0, below_from p x xs rest ys k h g.1)
@@ -56,11 +78,18 @@ module _ {K : Type 0} {R : K → K → Ordering} (o : IsTotalOrder R) where
   below_merged p [] ys h g = g
   below_merged p (x ∷ xs) ys h g = below_from p x xs (merged R xs) ys (λ zs. below_merged p xs zs h.1) h.0 g
 
-  sorted_from : (x : K) (xs ys : List K) → ((zs : List K) → IsStrictlySortedBy R zs → IsStrictlySortedBy R (merged R xs zs)) → Below R x xs → IsStrictlySortedBy R ys → IsStrictlySortedBy R (merged_from R x (merged R xs) ys)
+  sorted_from : (x : K) (xs ys : List K) → ((zs : List K) → IsStrictlySortedBy R zs → IsStrictlySortedBy R (merged R xs zs)) →
+      Below R x xs → IsStrictlySortedBy R ys → IsStrictlySortedBy R (merged_from R x (merged R xs) ys)
   unfolding IsStrictlySortedBy
   sorted_from x xs [] k h g = (subst (Below R x) (sym (merged-nil R xs)) h, k [] tt)
   sorted_from x xs (y ∷ ys) k h g =
-      elim (R x y) as (λ r. R x y ≡ r → IsStrictlySortedBy R (elim r as (λ _. List K) [ Less ↦ x ∷ merged R xs (y ∷ ys) | Equal ↦ x ∷ merged R xs ys | Greater ↦ y ∷ merged_from R x (merged R xs) ys ])) [
+      elim (R x y) as (λ r. R x y ≡ r → IsStrictlySortedBy R
+      (elim r as (λ _. List K) [
+        | Less ↦ x ∷ merged R xs (y ∷ ys)
+        | Equal ↦ x ∷ merged R xs ys
+        | Greater ↦ y
+            ∷ merged_from R x (merged R xs) ys
+      ])) [
         | Less ↦ λ e. (below_merged x xs (y ∷ ys) h (e, below_less x y ys e g.0), k (y ∷ ys) g)
         | Equal ↦ λ e. (below_merged x xs ys h (below_equal x y ys e g.0), k ys g.1)
         | Greater ↦ λ e. (below_merged y (x ∷ xs) ys (turned x y e, below_less y x xs (turned x y e) h) g.0, sorted_from x xs ys k h g.1)
@@ -81,13 +110,19 @@ module _ {K : Type 0} {R : K → K → Ordering} (o : IsTotalOrder R) where
   or_turned true false c = refl
   or_turned false b c = refl
 
-  any_from : IsAntisymmetric R → (p : K → Bool) (x : K) (xs ys : List K) → ((zs : List K) → list_any p (merged R xs zs) ≡ (list_any p xs || list_any p zs)) → list_any p (merged_from R x (merged R xs) ys) ≡ (p x || (list_any p xs || list_any p ys))
+  any_from : IsAntisymmetric R → (p : K → Bool) (x : K) (xs ys : List K) →
+      ((zs : List K) → list_any p (merged R xs zs) ≡ (list_any p xs || list_any p zs)) →
+      list_any p (merged_from R x (merged R xs) ys) ≡ (p x || (list_any p xs || list_any p ys))
   any_from same p x xs [] k = ap (λ t. p x || t) (k [])
   any_from same p x xs (y ∷ ys) k =
-      elim (R x y) as (λ r. R x y ≡ r → list_any p (elim r as (λ _. List K) [ Less ↦ x ∷ merged R xs (y ∷ ys) | Equal ↦ x ∷ merged R xs ys | Greater ↦ y ∷ merged_from R x (merged R xs) ys ]) ≡ (p x || (list_any p xs || (p y || list_any p ys)))) [
+      elim (R x y) as (λ r. R x y ≡ r → list_any p (elim r as
+      (λ _. List K) [ Less ↦ x ∷ merged R xs (y ∷ ys) | Equal ↦ x ∷ merged R xs ys | Greater ↦ y ∷ merged_from R x (merged R xs) ys ])
+      ≡ (p x || (list_any p xs || (p y || list_any p ys)))) [
         | Less ↦ λ e. ap (λ t. p x || t) (k (y ∷ ys))
-        | Equal ↦ λ e. ap (λ t. p x || t) (k ys) ∙ or_same (p x) (list_any p xs) (list_any p ys) ∙ ap (λ t. p x || (list_any p xs || (p t || list_any p ys))) (same x y e)
-        | Greater ↦ λ e. ap (λ t. p y || t) (any_from same p x xs ys k) ∙ or_turned (p y) (p x) (list_any p xs || list_any p ys) ∙ ap (λ t. p x || t) (or_turned (p y) (list_any p xs) (list_any p ys))
+        | Equal ↦ λ e. ap (λ t. p x || t) (k ys) ∙ or_same (p x) (list_any p xs) (list_any p ys)
+            ∙ ap (λ t. p x || (list_any p xs || (p t || list_any p ys))) (same x y e)
+        | Greater ↦ λ e. ap (λ t. p y || t) (any_from same p x xs ys k) ∙ or_turned (p y) (p x) (list_any p xs || list_any p ys)
+            ∙ ap (λ t. p x || t) (or_turned (p y) (list_any p xs) (list_any p ys))
       ] refl
 
   or_grouped : (a b c : Bool) → (a || (b || c)) ≡ ((a || b) || c)
@@ -101,7 +136,8 @@ module _ {K : Type 0} {R : K → K → Ordering} (o : IsTotalOrder R) where
   pub from_list-merged : IsAntisymmetric R → (xs ys : List K) → from_list {R = R} (merged R xs ys) ≡ from_list (xs ++ ys)
   from_list-merged same xs ys =
       same_set o same _ _ (λ q.
-      contains-from_list o _ q ∙ any_merged same (eq_by_cmp R q) xs ys ∙ sym (list_any-append (eq_by_cmp R q) xs ys) ∙ sym (contains-from_list o (xs ++ ys) q))
+      contains-from_list o _ q ∙ any_merged same (eq_by_cmp R q) xs ys ∙ sym (list_any-append (eq_by_cmp R q) xs ys)
+      ∙ sym (contains-from_list o (xs ++ ys) q))
 
 module _ {K : Type 0} (R : K → K → Ordering) where
   -- where the right list is at its end, the left one is what is left

@@ -1,5 +1,6 @@
 -- A number's digits tell it, and hold no other byte.
-use Rattle.std.proofs.Common.{◌≡◌, ◌≢◌, ℕ, zero, suc, ◌+◌, ◌-◌, ◌*◌, ◌/◌, ◌%◌, ◌^◌, ◌<◌, ◌≤◌, List, [], ◌∷◌, ◌++◌, map, length, replicate, refl, sym, ap, ◌∙◌, arith, append_assoc, ⊎_elim}
+use Rattle.std.proofs.Common.{◌≡◌, ◌≢◌, ℕ, zero, suc, ◌+◌, ◌-◌, ◌*◌, ◌/◌, ◌%◌, ◌^◌, ◌<◌, ◌≤◌, List, [], ◌∷◌, ◌++◌, map, length, replicate}
+use Rattle.std.proofs.Common.{refl, sym, ap, ◌∙◌, arith, append_assoc, ⊎_elim}
 use Rattle.std.proofs.lemmas.Bool.Decides.{nat_tests}
 use Rattle.std.specs.Char.{digit_char, digit_value}
 use Rattle.std.specs.Int.Digits.{digits_of, number_from_digits, number_from_digits_after, AllBelowBase}
@@ -55,14 +56,16 @@ value_of-zeros base (suc k) text =
 
 value_of-padded : (base width n : ℕ) → 2 ≤ base → base ≤ 36 → value_of base (padded width (numeral base n)) ≡ n
 unfolding padded
-value_of-padded base width n low high = value_of-zeros base (width - length (numeral base n)) (numeral base n) ∙ value_of-numeral base n low high
+value_of-padded base width n low high = value_of-zeros base (width - length (numeral base n)) (numeral base n)
+    ∙ value_of-numeral base n low high
 
 pub numeral_injective : (base m n : ℕ) → 2 ≤ base → base ≤ 36 → numeral base m ≡ numeral base n → m ≡ n
 numeral_injective base m n low high e = sym (value_of-numeral base m low high) ∙ ap (value_of base) e ∙ value_of-numeral base n low high
 
 -- zeros in front change nothing, also where the widths differ
 pub padded_injective : (base v w m n : ℕ) → 2 ≤ base → base ≤ 36 → padded v (numeral base m) ≡ padded w (numeral base n) → m ≡ n
-padded_injective base v w m n low high e = sym (value_of-padded base v m low high) ∙ ap (value_of base) e ∙ value_of-padded base w n low high
+padded_injective base v w m n low high e = sym (value_of-padded base v m low high) ∙ ap (value_of base) e
+    ∙ value_of-padded base w n low high
 
 digit_apart : (c d : ℕ) → NoDigit c → d < 16 → digit_char d ≢ c
 digit_apart c d apart small e = grind (arith, nat_tests)
@@ -82,7 +85,8 @@ zero_apart c apart e = grind arith
 pub numeral_lacks : (c base n : ℕ) → NoDigit c → 2 ≤ base → base ≤ 16 → Lacks c (numeral base n)
 unfolding numeral
 numeral_lacks c base zero apart low high = (zero_apart c apart, tt)
-numeral_lacks c base (suc n) apart low high = digits_lack c apart _ (all_below_more base 16 high _ (all_below_base_digits_of base (suc n) low))
+numeral_lacks c base (suc n) apart low high = digits_lack c apart _
+    (all_below_more base 16 high _ (all_below_base_digits_of base (suc n) low))
 
 zeros_lack : (c k : ℕ) (text : List ℕ) → NoDigit c → Lacks c text → Lacks c (replicate k 48 ++ text)
 zeros_lack c zero text apart lacks = lacks
@@ -95,17 +99,23 @@ padded_lacks c base width n apart low high = zeros_lack c _ _ apart (numeral_lac
 pub length-numeral-le : (base k n : ℕ) → 2 ≤ base → 0 < k → n < base ^ k → length (numeral base n) ≤ k
 unfolding numeral
 length-numeral-le base k zero low some small = omega arith
-length-numeral-le base k (suc n) low some small = omega (arith, length-map (digits_of base (suc n)) digit_char, length-digits_of-le base k (suc n) low small)
+length-numeral-le base k (suc n) low some small = omega
+    (arith, length-map (digits_of base (suc n)) digit_char, length-digits_of-le base k (suc n) low small)
 
 pub length-numeral-step : (base n : ℕ) → 2 ≤ base → base ≤ n → length (numeral base n) ≡ length (numeral base (n / base)) + 1
-length-numeral-step base n low more = ap length (numeral-step base n low more) ∙ length-append (numeral base (n / base)) (digit_char (n % base) ∷ [])
+length-numeral-step base n low more = ap length (numeral-step base n low more)
+    ∙ length-append (numeral base (n / base)) (digit_char (n % base) ∷ [])
 
 pub length-numeral-digit : (base n : ℕ) → 2 ≤ base → n < base → length (numeral base n) ≡ 1
 length-numeral-digit base n low small = ap length (numeral-digit base n low small)
 
 pub length-padded : (width : ℕ) (text : List ℕ) → length text ≤ width → length (padded width text) ≡ width
 unfolding padded
-length-padded width text fits = omega (arith, length-append (replicate (width - length text) 48) text, length-replicate {A = ℕ} (width - length text) 48)
+length-padded width text fits = omega (
+  arith,
+  length-append (replicate (width - length text) 48) text,
+  length-replicate {A = ℕ} (width - length text) 48,
+)
 
 padded_push : (width : ℕ) (text : List ℕ) (d : ℕ) → padded (suc width) (text ++ d ∷ []) ≡ padded width text ++ d ∷ []
 unfolding padded
@@ -120,7 +130,8 @@ padded-zero width =
     let same : width + 1 ≡ suc width - 0 = omega arith in
     rw (less, append-nil) (replicate_more width 48 ∙ ap (λ k. replicate k 48) same)
 
-padded-small : (base width n : ℕ) → 2 ≤ base → n < base → padded (suc (suc width)) (numeral base n) ≡ padded (suc width) (numeral base 0) ++ digit_char n ∷ []
+padded-small : (base width n : ℕ) → 2 ≤ base → n < base →
+    padded (suc (suc width)) (numeral base n) ≡ padded (suc width) (numeral base 0) ++ digit_char n ∷ []
 unfolding numeral
 padded-small base width n low small =
     ap (padded (suc (suc width))) (numeral-digit base n low small)
@@ -128,11 +139,14 @@ padded-small base width n low small =
     ∙ ap (λ t. t ++ digit_char n ∷ []) (sym (padded-zero width))
 
 -- the last digit of a number with zeros in front
-pub padded-step : (base width n : ℕ) → 2 ≤ base → padded (suc (suc width)) (numeral base n) ≡ padded (suc width) (numeral base (n / base)) ++ digit_char (n % base) ∷ []
+pub padded-step : (base width n : ℕ) → 2 ≤ base → padded (suc (suc width)) (numeral base n) ≡ padded (suc width) (numeral base (n / base))
+    ++ digit_char (n % base) ∷ []
 padded-step base width n low =
     ⊎_elim
-    (λ small. padded-small base width n low small ∙ (λ i. padded (suc width) (numeral base (sym (div-eq_of_lt small) i)) ++ digit_char (sym (mod-eq_of_lt small) i) ∷ []))
-    (λ more. ap (padded (suc (suc width))) (numeral-step base n low more) ∙ padded_push (suc width) (numeral base (n / base)) (digit_char (n % base)))
+    (λ small. padded-small base width n low small ∙ (λ i. padded (suc width) (numeral base (sym (div-eq_of_lt small) i))
+    ++ digit_char (sym (mod-eq_of_lt small) i) ∷ []))
+    (λ more. ap (padded (suc (suc width))) (numeral-step base n low more)
+    ∙ padded_push (suc width) (numeral base (n / base)) (digit_char (n % base)))
     (cases_lt n base)
 
 -- the only digit

@@ -1,5 +1,6 @@
 -- The table of two digits.
-use Rattle.std.proofs.Common.{◌≡◌, ℕ, zero, suc, ◌+◌, ◌-◌, ◌*◌, ◌/◌, ◌%◌, ◌<◌, Bool, true, T, eqb, eqb→eq, eq-zero-or-pos, inl, inr, ◌&&◌, get_or, arith}
+use Rattle.std.proofs.Common.{◌≡◌, ℕ, zero, suc, ◌+◌, ◌-◌, ◌*◌, ◌/◌, ◌%◌, ◌<◌, Bool, true, T, eqb, eqb→eq, eq-zero-or-pos, inl, inr, ◌&&◌}
+use Rattle.std.proofs.Common.{get_or, arith}
 use lib.Ieee.Fits.{and_l, and_r}
 use Rattle.osm_model.specs.declared.put.TheConstants.{PAIRS}
 

@@ -25,10 +25,18 @@ module _ {X Y : Type 0} (R : X → Y → Type 0) where
   pairwise_parted (w ∷ front) rest x [] all = absurd all
   pairwise_parted (w ∷ front) rest x (y ∷ ys) all =
       let p = pairwise_parted front rest x ys all.1 in
-      record { before = y ∷ p.before; here = p.here; behind = p.behind; parted = ap (λ zs. y ∷ zs) p.parted; fronts = (all.0, p.fronts); this = p.this }
+      record {
+        before = y ∷ p.before;
+        here = p.here;
+        behind = p.behind;
+        parted = ap (λ zs. y ∷ zs) p.parted;
+        fronts = (all.0, p.fronts);
+        this = p.this;
+      }
 
   -- where each belongs with at most one, so does a list
-  pub pairwise_one : ((x : X) (y z : Y) → R x y → R x z → y ≡ z) → (xs : List X) (ys zs : List Y) → Pairwise R xs ys → Pairwise R xs zs → ys ≡ zs
+  pub pairwise_one : ((x : X) (y z : Y) → R x y → R x z → y ≡ z) → (xs : List X) (ys zs : List Y) → Pairwise R xs ys → Pairwise R xs zs →
+      ys ≡ zs
   pairwise_one one [] [] [] a b = refl
   pairwise_one one [] [] (z ∷ zs) a b = absurd b
   pairwise_one one [] (y ∷ ys) zs a b = absurd a

@@ -1,13 +1,12 @@
 -- A version of a lower rank is less.
-use Rattle.std.proofs.Common.{arith, ◌≡◌, ◌≢◌, ◌⊎◌, ℕ, ◌+◌, ◌*◌, ◌-◌, ◌^◌, ◌<◌, ◌≤◌, min, if◌then◌else◌, nat_lt, Bool, true, false, refl, sym, ap, ◌∙◌, inl, inr, unsigned_abs}
+use Rattle.std.proofs.Common.{arith, ◌≡◌, ◌≢◌, ◌⊎◌, ℕ, ◌+◌, ◌*◌, ◌-◌, ◌^◌, ◌<◌, ◌≤◌, min, if◌then◌else◌, nat_lt, Bool, true, false, refl}
+use Rattle.std.proofs.Common.{sym, ap, ◌∙◌, inl, inr, unsigned_abs}
 use Rattle.std.proofs.Math.Nat.{min-le_right}
 use Rattle.std.proofs.lemmas.Bool.{cases_lt, lt-ltb, le-ltb}
 use Rattle.std.specs.Cmp.{nat_cmp_is}
 use Rattle.std.specs.declared.cmp.Ordering.{Ordering}
 use Rattle.std.specs.declared.cmp.Ordering.TheVariants.{Less, Equal, Greater}
 use Rattle.std.specs.Ordering.{ordering_then, ordering_reverse, nat_cmp, bool_cmp}
-use Rattle.osm_model.specs.declared.kind.Kind.{Kind}
-use Rattle.osm_model.specs.declared.kind.Kind.TheVariants.{Node, Way, Relation}
 use Rattle.osm_model.specs.Kind.{kind_rank}
 use Rattle.osm_model.specs.Data.{VersionData, kind_of}
 use Rattle.osm_model.specs.Order.{is_positive, key_cmp, version_cmp, version_cmp_total}
@@ -98,7 +97,8 @@ module _ (v w : VersionData) where
 
   -- the order of the kinds and the signs
   abbrev class_cmp : Ordering
-  class_cmp = ordering_then (nat_cmp (kind_rank (kind_of v.body)) (kind_rank (kind_of w.body))) (bool_cmp (is_positive v.id) (is_positive w.id))
+  class_cmp = ordering_then (nat_cmp (kind_rank (kind_of v.body)) (kind_rank (kind_of w.body)))
+      (bool_cmp (is_positive v.id) (is_positive w.id))
 
   abbrev size_cmp : Ordering
   size_cmp = nat_cmp (unsigned_abs v.id) (unsigned_abs w.id)
@@ -114,11 +114,14 @@ module _ (v w : VersionData) where
 
   of_lower_rank : rank_of v < rank_of w → key_cmp v w ≡ Less
   of_lower_rank h =
-      elim (by_turn (class_of v * 2 ^ 45 + reach_of v) (class_of w * 2 ^ 45 + reach_of w) (turn_of v) (turn_of w) (short_turn (unsigned_abs v.id) v.number) (short_turn (unsigned_abs w.id) w.number) h) [
-        | inl k ↦ less_key class_cmp size_cmp (nat_cmp v.number w.number) (elim (by_reach (class_of v) (class_of w) (reach_of v) (reach_of w) (short_reach v) (short_reach w) k) [
-          | inl l ↦ ap (λ o. ordering_then o size_cmp) (of_lower_class l)
-          | inr l ↦ ap (λ o. ordering_then o size_cmp) (of_class (l.0)) ∙ less (unsigned_abs v.id) (unsigned_abs w.id) (of_capped _ _ far (l.1))
-        ])
+      elim (by_turn (class_of v * 2 ^ 45 + reach_of v) (class_of w * 2 ^ 45 + reach_of w) (turn_of v) (turn_of w)
+      (short_turn (unsigned_abs v.id) v.number) (short_turn (unsigned_abs w.id) w.number) h) [
+        | inl k ↦ less_key class_cmp size_cmp (nat_cmp v.number w.number)
+            (elim (by_reach (class_of v) (class_of w) (reach_of v) (reach_of w) (short_reach v) (short_reach w) k) [
+              | inl l ↦ ap (λ o. ordering_then o size_cmp) (of_lower_class l)
+              | inr l ↦ ap (λ o. ordering_then o size_cmp) (of_class (l.0))
+                  ∙ less (unsigned_abs v.id) (unsigned_abs w.id) (of_capped _ _ far (l.1))
+            ])
         | inr k ↦
             let one = one_reach (class_of v) (class_of w) (reach_of v) (reach_of w) (short_reach v) (short_reach w) (k.0) in
             let late = of_one_reach (unsigned_abs v.id) (unsigned_abs w.id) v.number w.number (one.1) (k.1) in

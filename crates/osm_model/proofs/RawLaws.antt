@@ -1,8 +1,11 @@
 -- The raw characters at the front of a text.
-use Rattle.std.proofs.Common.{◌≡◌, ◌⊎◌, ℕ, zero, suc, ◌-◌, Bool, T, eqb, eqb→eq, eq-zero-or-pos, inl, inr, ◌+◌, ◌/◌, ◌%◌, ◌<◌, ◌≤◌, true, false, cond, ltb, leb, ◌&&◌, List, [], ◌∷◌, ◌++◌, length, get_or, take, drop, refl, sym, ap, ◌∙◌, subst, arith, append_assoc, if◌then◌else◌, ⊎_elim, add_assoc, add-zero, ◌≢◌}
+use Rattle.std.proofs.Common.{◌≡◌, ◌⊎◌, ℕ, zero, suc, ◌-◌, Bool, T, eqb, eqb→eq, eq-zero-or-pos, inl, inr, ◌+◌, ◌/◌, ◌%◌, ◌<◌, ◌≤◌, true}
+use Rattle.std.proofs.Common.{false, cond, ltb, leb, ◌&&◌, List, [], ◌∷◌, ◌++◌, length, get_or, take, drop, refl, sym, ap, ◌∙◌, subst}
+use Rattle.std.proofs.Common.{arith, append_assoc, if◌then◌else◌, ⊎_elim, add_assoc, add-zero, ◌≢◌}
 use Rattle.std.proofs.lemmas.Bool.Decides.{nat_tests}
 use Rattle.std.proofs.lemmas.Bool.{ltb-true, ltb-false, leb-true, and_parts, cases_lt}
-use Rattle.std.proofs.lemmas.List.{append-nil, take_all, take-append-drop, take_at, length-append, drop_all, length-drop, length-take-le, get_or-drop}
+use Rattle.std.proofs.lemmas.List.{append-nil, take_all, take-append-drop, take_at, length-append, drop_all, length-drop, length-take-le}
+use Rattle.std.proofs.lemmas.List.{get_or-drop}
 use Rattle.std.proofs.lemmas.List.Sums.{take_while-cons}
 use Rattle.std.proofs.lemmas.Str.{chars-nil, chars_past_char, drop_past_char, IsUtf8-past_char, length-encode, len_utf8_ascii}
 use Rattle.std.specs.Char.{len_utf8}
@@ -15,7 +18,8 @@ use Rattle.osm_model.specs.declared.escape.TheConstants.{RAW_BYTES}
 use Rattle.osm_model.specs.Escape.{is_raw, is_raw_byte, are_raw_bytes, escape, raw_width, raw_length, IsPlain}
 use Rattle.osm_model.proofs.EscapeLaws.{escape_char-raw}
 
--- What a text's first two bytes tell of its first character's width. A character of one byte is that byte. One of two bytes after 0xC2 has the code of its second byte, and all after 0xC3 to 0xD7 are raw.
+-- What a text's first two bytes tell of its first character's width. A character of one byte is that byte. One of two bytes after 0xC2 has
+-- the code of its second byte, and all after 0xC3 to 0xD7 are raw.
 pub record IsLead (width lead next len : ℕ) : Type 0 where
   pub byte : lead < 0x80 → width ≡ (if is_raw lead then 1 else 0)
   pub latin : lead ≡ 0xC2 → (1 < len) × (0x80 ≤ next) × (next < 0xC0) × (width ≡ (if is_raw next then 2 else 0))
@@ -55,19 +59,25 @@ lead_of_more c lead next len low high = record {
   other = λ h k. rw (raw_not c (omega arith)) refl;
 }
 
-lead_of : (c : ℕ) (rest : List ℕ) → IsLead (raw_width (c ∷ [])) (get_or (encode c ++ rest) 0 0) (get_or (encode c ++ rest) 1 0) (length (encode c ++ rest))
+lead_of : (c : ℕ) (rest : List ℕ) → IsLead (raw_width (c ∷ [])) (get_or (encode c ++ rest) 0 0) (get_or (encode c ++ rest) 1 0)
+    (length (encode c ++ rest))
 unfolding encode
 lead_of c rest =
     elim (ltb c 128) as (λ a. ltb c 128 ≡ a →
-    let bs = cond a (c ∷ []) (cond (ltb c 2048) ((192 + c / 64) ∷ (128 + c % 64) ∷ []) (cond (ltb c 65536) ((224 + c / 4096) ∷ (128 + c / 64 % 64) ∷ (128 + c % 64) ∷ []) ((240 + c / 262144) ∷ (128 + c / 4096 % 64) ∷ (128 + c / 64 % 64) ∷ (128 + c % 64) ∷ []))) ++ rest in
+    let bs = cond a (c ∷ []) (cond (ltb c 2048) ((192 + c / 64) ∷ (128 + c % 64) ∷ [])
+    (cond (ltb c 65536) ((224 + c / 4096) ∷ (128 + c / 64 % 64) ∷ (128 + c % 64) ∷ [])
+    ((240 + c / 262144) ∷ (128 + c / 4096 % 64) ∷ (128 + c / 64 % 64) ∷ (128 + c % 64) ∷ []))) ++ rest in
     IsLead (raw_width (c ∷ [])) (get_or bs 0 0) (get_or bs 1 0) (length bs)) [
       | true ↦ λ e. lead_of_one c _ _ (ltb-true c 128 e)
       | false ↦ λ e. elim (ltb c 2048) as (λ a. ltb c 2048 ≡ a →
-          let bs = cond a ((192 + c / 64) ∷ (128 + c % 64) ∷ []) (cond (ltb c 65536) ((224 + c / 4096) ∷ (128 + c / 64 % 64) ∷ (128 + c % 64) ∷ []) ((240 + c / 262144) ∷ (128 + c / 4096 % 64) ∷ (128 + c / 64 % 64) ∷ (128 + c % 64) ∷ [])) ++ rest in
+          let bs = cond a ((192 + c / 64) ∷ (128 + c % 64) ∷ [])
+          (cond (ltb c 65536) ((224 + c / 4096) ∷ (128 + c / 64 % 64) ∷ (128 + c % 64) ∷ [])
+          ((240 + c / 262144) ∷ (128 + c / 4096 % 64) ∷ (128 + c / 64 % 64) ∷ (128 + c % 64) ∷ [])) ++ rest in
           IsLead (raw_width (c ∷ [])) (get_or bs 0 0) (get_or bs 1 0) (length bs)) [
             | true ↦ λ f. lead_of_two c _ (ltb-false c 128 e) (ltb-true c 2048 f) (omega arith)
             | false ↦ λ f. elim (ltb c 65536) as (λ a.
-                let bs = cond a ((224 + c / 4096) ∷ (128 + c / 64 % 64) ∷ (128 + c % 64) ∷ []) ((240 + c / 262144) ∷ (128 + c / 4096 % 64) ∷ (128 + c / 64 % 64) ∷ (128 + c % 64) ∷ []) ++ rest in
+                let bs = cond a ((224 + c / 4096) ∷ (128 + c / 64 % 64) ∷ (128 + c % 64) ∷ [])
+                ((240 + c / 262144) ∷ (128 + c / 4096 % 64) ∷ (128 + c / 64 % 64) ∷ (128 + c % 64) ∷ []) ++ rest in
                 IsLead (raw_width (c ∷ [])) (get_or bs 0 0) (get_or bs 1 0) (length bs)) [
                   | true ↦ lead_of_more c _ _ _ (ltb-false c 2048 f) (omega arith)
                   | false ↦ lead_of_more c _ _ _ (ltb-false c 2048 f) (omega arith)
@@ -97,7 +107,8 @@ begins_some bs (c ∷ cs) some utf8 e =
 pub begins : (bs : List ℕ) → 0 < length bs → IsUtf8 bs → Begins bs
 begins bs some utf8 = begins_some bs utf8.0 some utf8 utf8.1.1
 
-lead_at : (bs cs rest : List ℕ) (c : ℕ) → bs ≡ encode c ++ rest → chars bs ≡ c ∷ cs → IsLead (raw_width (chars bs)) (get_or bs 0 0) (get_or bs 1 0) (length bs)
+lead_at : (bs cs rest : List ℕ) (c : ℕ) → bs ≡ encode c ++ rest → chars bs ≡ c ∷ cs →
+    IsLead (raw_width (chars bs)) (get_or bs 0 0) (get_or bs 1 0) (length bs)
 lead_at bs cs rest c is chars_are =
     let P : List ℕ → Type 0 = λ xs. IsLead (raw_width (c ∷ [])) (get_or xs 0 0) (get_or xs 1 0) (length xs) in
     let width : raw_width (c ∷ []) ≡ raw_width (chars bs) = ap raw_width (sym chars_are) in
@@ -126,27 +137,34 @@ raw_from_width c cs some =
     elim (is_raw c) as (λ b. (cond b (len_utf8 c) 0 ≡ 0 → ⊥) → b ≡ true) [ true ↦ λ _. refl | false ↦ λ h. absurd (h refl) ] some
 
 -- one raw character more
-next_raw : (bs rest : List ℕ) (n c : ℕ) → IsPlainTo bs n → drop n bs ≡ encode c ++ rest → chars (drop n bs) ≡ c ∷ chars rest → IsUtf8 rest → is_raw c ≡ true →
+next_raw : (bs rest : List ℕ) (n c : ℕ) → IsPlainTo bs n → drop n bs ≡ encode c ++ rest → chars (drop n bs) ≡ c ∷ chars rest → IsUtf8 rest →
+    is_raw c ≡ true →
     IsPlainTo bs (n + len_utf8 c)
 next_raw bs rest n c so_far is chars_are utf8 raw =
     let behind : drop (n + len_utf8 c) bs ≡ rest = drop_past_char bs rest n c is in
     let whole : bs ≡ take n bs ++ (encode c ++ rest) = sym (take-append-drop n bs) ∙ ap (λ t. take n bs ++ t) is in
-    let len : length (take n bs ++ encode c) ≡ n + len_utf8 c = length-append (take n bs) (encode c) ∙ (λ i. length-take-le n bs so_far.within i + length-encode c i) in
+    let len : length (take n bs ++ encode c) ≡ n + len_utf8 c = length-append (take n bs) (encode c)
+    ∙ (λ i. length-take-le n bs so_far.within i + length-encode c i) in
     let front : take (n + len_utf8 c) bs ≡ take n bs ++ encode c =
-    ap (take (n + len_utf8 c)) (whole ∙ sym (append_assoc (take n bs) (encode c) rest)) ∙ take_at (take n bs ++ encode c) rest (n + len_utf8 c) len in
+    ap (take (n + len_utf8 c)) (whole ∙ sym (append_assoc (take n bs) (encode c) rest))
+    ∙ take_at (take n bs ++ encode c) rest (n + len_utf8 c) len in
     let fits : length bs ≡ n + (len_utf8 c + length rest) =
-    ap length whole ∙ length-append (take n bs) (encode c ++ rest) ∙ (λ i. length-take-le n bs so_far.within i + (length-append (encode c) rest ∙ ap (λ k. k + length rest) (length-encode c)) i) in
+    ap length whole ∙ length-append (take n bs) (encode c ++ rest)
+    ∙ (λ i. length-take-le n bs so_far.within i + (length-append (encode c) rest ∙ ap (λ k. k + length rest) (length-encode c)) i) in
     record {
       within = omega arith;
       utf8 = subst IsUtf8 (sym behind) utf8;
-      sum = so_far.sum ∙ ap (λ t. n + raw_length t) chars_are ∙ ap (λ k. n + k) (raw_length-raw c (chars rest) raw) ∙ sym (add_assoc n (len_utf8 c) (raw_length (chars rest)))
+      sum = so_far.sum ∙ ap (λ t. n + raw_length t) chars_are ∙ ap (λ k. n + k) (raw_length-raw c (chars rest) raw)
+          ∙ sym (add_assoc n (len_utf8 c) (raw_length (chars rest)))
           ∙ ap (λ t. n + len_utf8 c + raw_length (chars t)) (sym behind);
-      raw = so_far.raw ∙ ap (λ t. take n bs ++ escape t) chars_are ∙ ap (λ t. take n bs ++ (t ++ escape (chars rest))) (escape_char-raw c raw)
+      raw = so_far.raw ∙ ap (λ t. take n bs ++ escape t) chars_are
+          ∙ ap (λ t. take n bs ++ (t ++ escape (chars rest))) (escape_char-raw c raw)
           ∙ sym (append_assoc (take n bs) (encode c) (escape (chars rest)))
           ∙ (λ i. sym front i ++ escape (chars (sym behind i)));
     }
 
-pub plain_more : (bs : List ℕ) (n width : ℕ) → IsPlainTo bs n → n < length bs → width ≡ raw_width (chars (drop n bs)) → (width ≡ 0 → ⊥) → IsPlainTo bs (n + width)
+pub plain_more : (bs : List ℕ) (n width : ℕ) → IsPlainTo bs n → n < length bs → width ≡ raw_width (chars (drop n bs)) → (width ≡ 0 → ⊥) →
+    IsPlainTo bs (n + width)
 plain_more bs n width so_far more is some =
     let first = begins (drop n bs) (omega (arith, length-drop n bs)) so_far.utf8 in
     let same : width ≡ raw_width (first.c ∷ chars first.rest) = is ∙ ap raw_width first.chars_are in
@@ -167,12 +185,15 @@ plain_whole bs n e all =
 
 -- the width that each test of the first bytes gives
 pub width-byte : (width lead next len : ℕ) → IsLead width lead next len → (is_raw lead && ltb lead 0x80) ≡ true → 1 ≡ width
-width-byte width lead next len is e = let both = and_parts (is_raw lead) (ltb lead 0x80) e in sym (is.byte (ltb-true lead 0x80 both.1) ∙ rw both.0 refl)
+width-byte width lead next len is e = let both = and_parts (is_raw lead) (ltb lead 0x80) e in
+    sym (is.byte (ltb-true lead 0x80 both.1) ∙ rw both.0 refl)
 
 pub width-lead : (width lead next len : ℕ) → IsLead width lead next len → is_in_range 0xC3 0xD7 lead ≡ true → 2 ≡ width
-width-lead width lead next len is e = let both = and_parts (leb 0xC3 lead) (leb lead 0xD7) e in let low = leb-true 0xC3 lead both.0 in sym (is.two (omega arith) (leb-true lead 0xD7 both.1))
+width-lead width lead next len is e = let both = and_parts (leb 0xC3 lead) (leb lead 0xD7) e in let low = leb-true 0xC3 lead both.0 in
+    sym (is.two (omega arith) (leb-true lead 0xD7 both.1))
 
-pub width-other : (width lead next len : ℕ) → IsLead width lead next len → (is_raw lead && ltb lead 0x80) ≡ false → is_in_range 0xC3 0xD7 lead ≡ false → lead ≢ 0xC2 → 0 ≡ width
+pub width-other : (width lead next len : ℕ) → IsLead width lead next len → (is_raw lead && ltb lead 0x80) ≡ false →
+    is_in_range 0xC3 0xD7 lead ≡ false → lead ≢ 0xC2 → 0 ≡ width
 width-other width lead next len is no_byte no_lead no_latin = sym (⊎_elim
     (λ low. is.byte low ∙ (let no : is_raw lead ≡ false = grind (arith, nat_tests) in rw no refl))
     (λ high. is.other high (grind (arith, nat_tests)))
@@ -182,7 +203,8 @@ abbrev tells_raw_bytes : ℕ → Bool
 tells_raw_bytes zero = true
 tells_raw_bytes (suc byte) = eqb (get_or RAW_BYTES byte 0) (if is_raw byte && ltb byte 0x80 then 1 else 0) && tells_raw_bytes byte
 
-raw_bytes_below : (n byte : ℕ) → T (tells_raw_bytes n) → byte < n → get_or RAW_BYTES byte 0 ≡ (if is_raw byte && ltb byte 0x80 then 1 else 0)
+raw_bytes_below : (n byte : ℕ) → T (tells_raw_bytes n) → byte < n →
+    get_or RAW_BYTES byte 0 ≡ (if is_raw byte && ltb byte 0x80 then 1 else 0)
 raw_bytes_below zero byte t h = absurd (omega arith)
 raw_bytes_below (suc n) byte t h =
     elim (eq-zero-or-pos (n - byte)) [
@@ -193,7 +215,8 @@ raw_bytes_below (suc n) byte t h =
 -- the table tells of each byte whether it is raw
 pub raw_byte_at : (byte : ℕ) → byte < 256 → eqb (get_or RAW_BYTES byte 0) 1 ≡ (is_raw byte && ltb byte 0x80)
 raw_byte_at byte small =
-    rw (raw_bytes_below 256 byte tt small) (elim (is_raw byte && ltb byte 0x80) as (λ b. eqb (cond b 1 0) 1 ≡ b) [ true ↦ refl | false ↦ refl ])
+    rw (raw_bytes_below 256 byte tt small) (elim (is_raw byte && ltb byte 0x80) as
+    (λ b. eqb (cond b 1 0) 1 ≡ b) [ true ↦ refl | false ↦ refl ])
 
 -- one byte more that is a raw character by itself
 plain_byte : (bs : List ℕ) (n : ℕ) → IsPlainTo bs n → n < length bs → is_raw_byte (get_or bs n 0) ≡ true → IsPlainTo bs (n + 1)

@@ -1,5 +1,6 @@
 -- Tags that tie are equal, and the texts of tags.
-use Rattle.std.proofs.Common.{arith, ◌≡◌, ◌↔◌, ℕ, zero, suc, ◌+◌, ◌<◌, length, slice_index_or, Bool, true, false, not, ◌||◌, ◌&&◌, List, [], ◌∷◌, refl, sym, ap, ◌∙◌, subst}
+use Rattle.std.proofs.Common.{arith, ◌≡◌, ◌↔◌, ℕ, zero, suc, ◌+◌, ◌<◌, length, slice_index_or, Bool, true, false, not, ◌||◌, ◌&&◌, List, []}
+use Rattle.std.proofs.Common.{◌∷◌, refl, sym, ap, ◌∙◌, subst}
 use Rattle.std.specs.declared.cmp.Ordering.{Ordering}
 use Rattle.std.specs.declared.cmp.Ordering.TheVariants.{Less, Equal, Greater}
 use Rattle.std.specs.Bool.{IsTrue}
@@ -37,7 +38,8 @@ and_grouped false b c = refl
 -- a test of all texts of tags, tag by tag
 pub list_all-texts_of_tags : (p : List ℕ → Bool) (ts : List Tag) → list_all p (texts_of_tags ts) ≡ list_all (λ t. p t.key && p t.value) ts
 list_all-texts_of_tags p [] = refl
-list_all-texts_of_tags p (t ∷ ts) = ap (λ b. p t.key && (p t.value && b)) (list_all-texts_of_tags p ts) ∙ and_grouped (p t.key) (p t.value) _
+list_all-texts_of_tags p (t ∷ ts) = ap (λ b. p t.key && (p t.value && b)) (list_all-texts_of_tags p ts)
+    ∙ and_grouped (p t.key) (p t.value) _
 
 not_both : (a b : Bool) → (a && not b) ≡ not (not a || b)
 not_both true b = refl
@@ -56,21 +58,29 @@ list_all-normal p ts =
     ∙ sym (list_all-texts_of_tags p ts ∙ list_all-none _ ts)
 
 -- of a list that ascends, each tag stands below the next one
-below_next : (ts : List Tag) → IsStrictlySortedBy tag_cmp ts → (k : ℕ) (d : Tag) → k + 1 < length ts → is_lt (tag_cmp (slice_index_or ts k d) (slice_index_or ts (k + 1) d)) ≡ true
+below_next : (ts : List Tag) → IsStrictlySortedBy tag_cmp ts → (k : ℕ) (d : Tag) → k + 1 < length ts →
+    is_lt (tag_cmp (slice_index_or ts k d) (slice_index_or ts (k + 1) d)) ≡ true
 unfolding IsStrictlySortedBy
 below_next [] up k d low = absurd (omega arith)
 below_next (t ∷ []) up k d low = absurd (omega arith)
 below_next (t ∷ u ∷ ts) up zero d low = ap is_lt up.0.0
-below_next (t ∷ u ∷ ts) up (suc k) d low = let next : suc k + 1 ≡ suc (k + 1) = omega arith in rw next (below_next (u ∷ ts) up.1 k d (omega arith))
+below_next (t ∷ u ∷ ts) up (suc k) d low = let next : suc k + 1 ≡ suc (k + 1) = omega arith in
+    rw next (below_next (u ∷ ts) up.1 k d (omega arith))
 
 -- two neighbours that don't ascend
-descends : (ts : List Tag) → IsStrictlySortedBy tag_cmp ts → (k : ℕ) → k + 1 < length ts → ((d : Tag) → false ≡ is_lt (tag_cmp (slice_index_or ts k d) (slice_index_or ts (k + 1) d))) → ⊥
+descends : (ts : List Tag) → IsStrictlySortedBy tag_cmp ts → (k : ℕ) → k + 1 < length ts →
+    ((d : Tag) → false ≡ is_lt (tag_cmp (slice_index_or ts k d) (slice_index_or ts (k + 1) d))) → ⊥
 descends [] up k low h = absurd (omega arith)
 descends (t ∷ ts) up k low h = false≢true (h t ∙ below_next (t ∷ ts) up k t low)
 
 -- what a test of each two neighbours tells: tags that ascend, and they alone, are those of their set
-pub normal_test : (b : Bool) (xs ts : List Tag) → xs ≡ ts → IsAllAdjacentAnswer (λ x y a. a ≡ is_lt (tag_cmp x y)) xs b → IsTrue b ↔ (normal ts ≡ ts)
-normal_test true xs ts e h = (λ _. listed-from_list tag_cmp_total tag_cmp-IsAntisymmetric ts (subst (IsStrictlySortedBy tag_cmp) e (strict_from_neighbours tag_cmp_total xs h)), λ _. refl)
+pub normal_test : (b : Bool) (xs ts : List Tag) → xs ≡ ts → IsAllAdjacentAnswer (λ x y a. a ≡ is_lt (tag_cmp x y)) xs b →
+    IsTrue b ↔ (normal ts ≡ ts)
+normal_test true xs ts e h = (
+  λ _. listed-from_list tag_cmp_total tag_cmp-IsAntisymmetric ts
+      (subst (IsStrictlySortedBy tag_cmp) e (strict_from_neighbours tag_cmp_total xs h)),
+  λ _. refl,
+)
 normal_test false xs ts e h = (
   λ holds. absurd (false≢true holds),
   λ same. absurd (descends xs (subst (IsStrictlySortedBy tag_cmp) (same ∙ sym e) (strict-listed (from_list {R = tag_cmp} ts))) h.0 h.1 h.2),

@@ -1,5 +1,6 @@
 -- A time's text tells it, holds no separator, and is that of a date of the calendar.
-use Rattle.std.proofs.Common.{◌≡◌, ◌≢◌, ℕ, ◌+◌, ◌*◌, ◌/◌, ◌%◌, ◌^◌, ◌<◌, List, [], ◌∷◌, ◌++◌, Option, Some, None, refl, sym, ap, ◌∙◌, subst, arith, inl, inr}
+use Rattle.std.proofs.Common.{◌≡◌, ◌≢◌, ℕ, ◌+◌, ◌*◌, ◌/◌, ◌%◌, ◌^◌, ◌<◌, List, [], ◌∷◌, ◌++◌, Option, Some, None, refl, sym, ap, ◌∙◌, subst}
+use Rattle.std.proofs.Common.{arith, inl, inr}
 use Rattle.osm_model.specs.declared.calendar.Date.{Date}
 use Rattle.osm_model.specs.Numeral.{padded}
 use Rattle.osm_model.specs.Decimal.{number_text}
@@ -9,7 +10,8 @@ use Rattle.osm_model.specs.TimeLaw.{pair, spelled_time, IsTimeText, TimeLaw}
 use Rattle.osm_model.proofs.Separators.{Lacks, NoDigit, IsSeparator, no_digit-separator, mark-separator, split_same, lacks_append}
 use Rattle.osm_model.proofs.NumeralLaws.{padded_injective, padded_lacks}
 use Rattle.osm_model.proofs.DecimalLaws.{padded_pair, padded_pairs}
-use Rattle.osm_model.proofs.CalendarLaws.{date_of-is, SameDate, same_date, year_below, is_date-civil, civil-is_date, days_of_months-none, day_le}
+use Rattle.osm_model.proofs.CalendarLaws.{date_of-is, SameDate, same_date, year_below, is_date-civil, civil-is_date, days_of_months-none}
+use Rattle.osm_model.proofs.CalendarLaws.{day_le}
 
 padded_same : (v w m n : ℕ) → padded v (number_text m) ≡ padded w (number_text n) → m ≡ n
 unfolding number_text
@@ -22,20 +24,30 @@ padded_lack c width n apart = padded_lacks c 10 width n apart (omega arith) (ome
 date_text_lacks : (c : ℕ) (date : Date) → NoDigit c → 45 ≢ c → Lacks c (date_text date)
 unfolding date_text
 date_text_lacks c date apart dash =
-    lacks_append c (padded 4 (number_text date.year)) (45 ∷ (two_digits date.month ++ 45 ∷ two_digits date.day)) (padded_lack c 4 date.year apart)
-    (dash, lacks_append c (two_digits date.month) (45 ∷ two_digits date.day) (padded_lack c 2 date.month apart) (dash, padded_lack c 2 date.day apart))
+    lacks_append c (padded 4 (number_text date.year)) (45 ∷ (two_digits date.month ++ 45 ∷ two_digits date.day))
+    (padded_lack c 4 date.year apart) (
+      dash,
+      lacks_append c (two_digits date.month) (45 ∷ two_digits date.day) (padded_lack c 2 date.month apart)
+          (dash, padded_lack c 2 date.day apart),
+    )
 
 clock_text_lacks : (c second : ℕ) → NoDigit c → 58 ≢ c → Lacks c (clock_text second)
 unfolding clock_text
 clock_text_lacks c second apart colon =
-    lacks_append c (two_digits (second / 3600)) (58 ∷ (two_digits (second / 60 % 60) ++ 58 ∷ two_digits (second % 60))) (padded_lack c 2 _ apart)
-    (colon, lacks_append c (two_digits (second / 60 % 60)) (58 ∷ two_digits (second % 60)) (padded_lack c 2 _ apart) (colon, padded_lack c 2 _ apart))
+    lacks_append c (two_digits (second / 3600)) (58 ∷ (two_digits (second / 60 % 60) ++ 58 ∷ two_digits (second % 60)))
+    (padded_lack c 2 _ apart) (
+      colon,
+      lacks_append c (two_digits (second / 60 % 60)) (58 ∷ two_digits (second % 60)) (padded_lack c 2 _ apart)
+          (colon, padded_lack c 2 _ apart),
+    )
 
 date_text_injective : (d e : Date) → date_text d ≡ date_text e → SameDate d.year d.month d.day e.year e.month e.day
 unfolding date_text
 date_text_injective d e same =
-    let years = split_same 45 (padded 4 (number_text d.year)) (padded 4 (number_text e.year)) _ _ (padded_lack 45 4 d.year (inl (omega arith))) (padded_lack 45 4 e.year (inl (omega arith))) same in
-    let months = split_same 45 (two_digits d.month) (two_digits e.month) _ _ (padded_lack 45 2 d.month (inl (omega arith))) (padded_lack 45 2 e.month (inl (omega arith))) years.1 in
+    let years = split_same 45 (padded 4 (number_text d.year)) (padded 4 (number_text e.year)) _ _
+    (padded_lack 45 4 d.year (inl (omega arith))) (padded_lack 45 4 e.year (inl (omega arith))) same in
+    let months = split_same 45 (two_digits d.month) (two_digits e.month) _ _ (padded_lack 45 2 d.month (inl (omega arith)))
+    (padded_lack 45 2 e.month (inl (omega arith))) years.1 in
     record {
       same_year = padded_same 4 4 d.year e.year years.0;
       same_month = padded_same 2 2 d.month e.month months.0;
@@ -45,8 +57,10 @@ date_text_injective d e same =
 clock_text_injective : (s t : ℕ) → clock_text s ≡ clock_text t → s ≡ t
 unfolding clock_text
 clock_text_injective s t same =
-    let hours = split_same 58 (two_digits (s / 3600)) (two_digits (t / 3600)) _ _ (padded_lack 58 2 _ (inr (omega arith, omega arith))) (padded_lack 58 2 _ (inr (omega arith, omega arith))) same in
-    let minutes = split_same 58 (two_digits (s / 60 % 60)) (two_digits (t / 60 % 60)) _ _ (padded_lack 58 2 _ (inr (omega arith, omega arith))) (padded_lack 58 2 _ (inr (omega arith, omega arith))) hours.1 in
+    let hours = split_same 58 (two_digits (s / 3600)) (two_digits (t / 3600)) _ _ (padded_lack 58 2 _ (inr (omega arith, omega arith)))
+    (padded_lack 58 2 _ (inr (omega arith, omega arith))) same in
+    let minutes = split_same 58 (two_digits (s / 60 % 60)) (two_digits (t / 60 % 60)) _ _
+    (padded_lack 58 2 _ (inr (omega arith, omega arith))) (padded_lack 58 2 _ (inr (omega arith, omega arith))) hours.1 in
     let hour : s / 3600 ≡ t / 3600 = padded_same 2 2 (s / 3600) (t / 3600) hours.0 in
     let minute : s / 60 % 60 ≡ t / 60 % 60 = padded_same 2 2 (s / 60 % 60) (t / 60 % 60) minutes.0 in
     let second : s % 60 ≡ t % 60 = padded_same 2 2 (s % 60) (t % 60) minutes.1 in
@@ -64,10 +78,15 @@ unfolding time_text
 some_injective s t same =
     let d = date_of (s / 86_400) in
     let e = date_of (t / 86_400) in
-    let dates = split_same 84 (date_text d) (date_text e) _ _ (date_text_lacks 84 d (inr (omega arith, omega arith)) (different 45 84 (omega arith))) (date_text_lacks 84 e (inr (omega arith, omega arith)) (different 45 84 (omega arith))) same in
-    let clocks = split_same 90 (clock_text (s % 86_400)) (clock_text (t % 86_400)) [] [] (clock_text_lacks 90 _ (inr (omega arith, omega arith)) (different 58 90 (omega arith))) (clock_text_lacks 90 _ (inr (omega arith, omega arith)) (different 58 90 (omega arith))) dates.1 in
+    let dates = split_same 84 (date_text d) (date_text e) _ _
+    (date_text_lacks 84 d (inr (omega arith, omega arith)) (different 45 84 (omega arith)))
+    (date_text_lacks 84 e (inr (omega arith, omega arith)) (different 45 84 (omega arith))) same in
+    let clocks = split_same 90 (clock_text (s % 86_400)) (clock_text (t % 86_400)) [] []
+    (clock_text_lacks 90 _ (inr (omega arith, omega arith)) (different 58 90 (omega arith)))
+    (clock_text_lacks 90 _ (inr (omega arith, omega arith)) (different 58 90 (omega arith))) dates.1 in
     let one = date_text_injective d e dates.0 in
-    let number : day_number d.year d.month d.day ≡ day_number e.year e.month e.day = (λ i. day_number (one.same_year i) (one.same_month i) (one.same_day i)) in
+    let number : day_number d.year d.month d.day ≡ day_number e.year e.month e.day =
+    (λ i. day_number (one.same_year i) (one.same_month i) (one.same_day i)) in
     let days : s / 86_400 ≡ t / 86_400 = omega (arith, number, (date_of-is (s / 86_400)).number, (date_of-is (t / 86_400)).number) in
     let second : s % 86_400 ≡ t % 86_400 = clock_text_injective _ _ clocks.0 in
     omega arith
@@ -100,10 +119,12 @@ time_lacks (Some s) p = some_lacks s p
 
 -- a date and a second of the day, in two digits each
 spelled : (year month day second : ℕ) → year < 10_000 → month < 100 → day < 100 → second < 86_400 →
-    date_text (record { year = year; month = month; day = day }) ++ 84 ∷ (clock_text second ++ 90 ∷ []) ≡ spelled_time year month day (second / 3600) (second / 60 % 60) (second % 60)
+    date_text (record { year = year; month = month; day = day }) ++ 84 ∷ (clock_text second ++ 90 ∷ [])
+    ≡ spelled_time year month day (second / 3600) (second / 60 % 60) (second % 60)
 unfolding date_text clock_text
 spelled year month day second hy hm hd hs =
-    let y : padded 4 (number_text year) ≡ pair (year / 100) ++ pair (year % 100) = padded_pairs year ∙ (λ i. padded_pair (year / 100) (omega arith) i ++ padded_pair (year % 100) (omega arith) i) in
+    let y : padded 4 (number_text year) ≡ pair (year / 100) ++ pair (year % 100) = padded_pairs year
+    ∙ (λ i. padded_pair (year / 100) (omega arith) i ++ padded_pair (year % 100) (omega arith) i) in
     let m = padded_pair month hm in
     let d = padded_pair day hd in
     let hour = padded_pair (second / 3600) (omega arith) in
@@ -113,7 +134,8 @@ spelled year month day second hy hm hd hs =
 
 -- the date of a time of 32 bits has a year of four digits
 time_spelled : (s : ℕ) → s < 2 ^ 32 →
-    time_text (Some s) ≡ spelled_time (date_of (s / 86_400)).year (date_of (s / 86_400)).month (date_of (s / 86_400)).day (s % 86_400 / 3600) (s % 86_400 / 60 % 60) (s % 86_400 % 60)
+    time_text (Some s) ≡ spelled_time (date_of (s / 86_400)).year (date_of (s / 86_400)).month (date_of (s / 86_400)).day
+    (s % 86_400 / 3600) (s % 86_400 / 60 % 60) (s % 86_400 % 60)
 unfolding time_text
 time_spelled s small =
     let is = date_of-is (s / 86_400) in
@@ -156,7 +178,8 @@ only_time_text s text small h =
     let second_in = h.second_in in
     let days : s / 86_400 + days_of_years 1970 ≡ day_number h.year h.month h.day = omega (arith, h.sum) in
     let clock : s % 86_400 ≡ 3_600 * h.hour + 60 * h.minute + h.second = omega (arith, h.sum) in
-    let date = same_date h.year h.month h.day d.year d.month d.day (is_date-civil h.year h.month h.day h.of_calendar) is.civil (omega (arith, is.number)) in
+    let date = same_date h.year h.month h.day d.year d.month d.day (is_date-civil h.year h.month h.day h.of_calendar) is.civil
+    (omega (arith, is.number)) in
     let hour : h.hour ≡ s % 86_400 / 3600 = omega arith in
     let minute : h.minute ≡ s % 86_400 / 60 % 60 = omega arith in
     let second : h.second ≡ s % 86_400 % 60 = omega arith in

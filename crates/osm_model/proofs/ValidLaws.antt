@@ -1,5 +1,6 @@
 -- Data without a fault makes a version.
-use Rattle.std.proofs.Common.{rules, ◌≡◌, ℕ, ◌<◌, ◌^◌, Bool, true, false, not, eqb, ◌&&◌, ◌∙◌, List, [], ◌∷◌, refl, sym, ap, arith, Option, Some, None, ℤ}
+use Rattle.std.proofs.Common.{rules, ◌≡◌, ℕ, ◌<◌, ◌^◌, Bool, true, false, not, eqb, ◌&&◌, ◌∙◌, List, [], ◌∷◌, refl, sym, ap, arith, Option}
+use Rattle.std.proofs.Common.{Some, None, ℤ}
 use Rattle.std.proofs.lemmas.Bool.Decides.{nat_tests}
 use Rattle.std.proofs.lemmas.List.Folds.{list_all-append}
 use Rattle.std.specs.Cmp.{first_so, second_so}
@@ -29,7 +30,8 @@ record Passed (a b c d e f : Bool) : Type 0 where
   dated : e ≡ true
   texts : f ≡ true
 
-passed : (a b c d e f : Bool) → first_of_tests ((not a, IdRange) ∷ (b, NoVersion) ∷ (not c, NumberRange) ∷ (not d, TimeRange) ∷ (not e, NoTime) ∷ (not f, ZeroInText) ∷ []) ≡ None → Passed a b c d e f
+passed : (a b c d e f : Bool) → first_of_tests ((not a, IdRange) ∷ (b, NoVersion) ∷ (not c, NumberRange) ∷ (not d, TimeRange)
+    ∷ (not e, NoTime) ∷ (not f, ZeroInText) ∷ []) ≡ None → Passed a b c d e f
 passed false b c d e f h = cc
 passed true true c d e f h = cc
 passed true false false d e f h = cc
@@ -82,7 +84,8 @@ no_author meta h none =
     let rest = second_so _ _ author in
     (zero_is _ (first_so _ _ author), zero_is _ (first_so _ _ rest), empty_is _ (second_so _ _ rest))
 
-pub valid_version : (id : ℤ) (meta : Meta) (b : Body) → first_fault id meta b ≡ None → IsInRange (normal_body b) → IsVersion (version_of id meta b)
+pub valid_version : (id : ℤ) (meta : Meta) (b : Body) → first_fault id meta b ≡ None → IsInRange (normal_body b) →
+    IsVersion (version_of id meta b)
 valid_version id meta b h location =
     let p = passed _ _ _ _ _ _ h in
     let more = second_so (is_number meta.version) _ p.numbers in

@@ -39,7 +39,8 @@ same_test false v w h = elim (version_cmp v w) as (λ o. version_cmp v w ≡ o �
 pub listed-view : (vs : List VersionData) → IsStrictlySortedBy version_cmp vs → listed (from_list {R = version_cmp} vs) ≡ vs
 listed-view vs h = listed-from_list version_cmp_total version_cmp-IsAntisymmetric vs h
 
-pub union-view : (vs ws : List VersionData) → IsStrictlySortedBy version_cmp vs → IsStrictlySortedBy version_cmp ws → union (from_list {R = version_cmp} vs) (from_list ws) ≡ from_list (merged version_cmp vs ws)
+pub union-view : (vs ws : List VersionData) → IsStrictlySortedBy version_cmp vs → IsStrictlySortedBy version_cmp ws →
+    union (from_list {R = version_cmp} vs) (from_list ws) ≡ from_list (merged version_cmp vs ws)
 union-view vs ws h k =
     rw (listed-view vs h, listed-view ws k, ← from_list-merged version_cmp_total version_cmp-IsAntisymmetric vs ws)
 

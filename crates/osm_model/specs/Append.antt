@@ -1,4 +1,5 @@
--- The stretches of a canonical line that are appended at once (own definitions of this project, for `Version::append_line`).
+-- The stretches of a canonical line that are appended at once (own definitions of this project, for
+-- `Version::append_line`).
 use Rattle.std.specs.Prelude.{ℕ, ℤ, List, ◌∷◌, ◌++◌, codes}
 use Rattle.osm_model.specs.Kind.{kind_letter}
 use Rattle.osm_model.specs.Decimal.{number_text, integer_text}

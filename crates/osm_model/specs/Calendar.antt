@@ -1,4 +1,5 @@
--- The Gregorian calendar, also for the years before it was introduced, as ISO 8601 has it. The year 0 comes before the year 1.
+-- The Gregorian calendar, also for the years before it was introduced, as ISO 8601 has it. The year 0 comes before the
+-- year 1.
 use Rattle.std.specs.Prelude.{ℕ, zero, suc, ◌+◌, ◌-◌, ◌%◌, Bool, not, ◌&&◌, ◌||◌, ◌==◌, if◌then◌else◌}
 use Rattle.std.specs.Int.{is_in_range}
 

@@ -1,4 +1,5 @@
--- Coordinates in degrees, as the OPL manual has them; that a text has as few decimals as it can is an own rule of this project.
+-- Coordinates in degrees, as the OPL manual has them; that a text has as few decimals as it can is an own rule of this
+-- project.
 use Rattle.std.specs.Prelude.{ℕ, ℤ, unsigned_abs, ◌/◌, ◌%◌, ◌==◌, List, [], ◌∷◌, ◌++◌, if◌then◌else◌}
 use Rattle.osm_model.specs.Numeral.{padded}
 use Rattle.osm_model.specs.Decimal.{number_text, sign_text}

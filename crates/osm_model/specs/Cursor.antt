@@ -1,4 +1,5 @@
--- What is still to come of a canonical line, from a place in the version on (own definitions of this project, for `LineBytes`).
+-- What is still to come of a canonical line, from a place in the version on (own definitions of this project, for
+-- `LineBytes`).
 use Rattle.std.specs.Prelude.{◌≡◌, ℕ, Bool, true, false, List, [], ◌∷◌, ◌++◌, ◌<◌, length, codes, Option, MatchOption}
 use Rattle.std.specs.Str.{chars}
 use Rattle.osm_model.specs.declared.line_bytes.Field.{Field}

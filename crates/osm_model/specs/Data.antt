@@ -1,4 +1,5 @@
--- The data of a version, which is all that contracts see of it (its parts are those of the OSM wiki's page Elements; that a deleted version has a kind and nothing else in its body is an own rule).
+-- The data of a version, which is all that contracts see of it (its parts are those of the OSM wiki's page Elements;
+-- that a deleted version has a kind and nothing else in its body is an own rule).
 use Rattle.std.specs.Prelude.{ℕ, ℤ, Bool, true, false, List, [], ◌++◌, Option}
 use Rattle.osm_model.specs.declared.kind.Kind.{Kind}
 use Rattle.osm_model.specs.declared.kind.Kind.TheVariants as kind
@@ -61,4 +62,13 @@ normal_body (Relation members tags) = Relation members (normal tags)
 
 -- the version of data that was handed in
 abbrev pub version_of : ℤ → Meta → Body → VersionData
-version_of id meta body = record { id = id; number = meta.version; time = meta.time; changeset = meta.changeset; uid = meta.uid; user = meta.user; body = normal_body body }
+version_of id meta body = record {
+  id = id;
+  number = meta.version;
+  time = meta.time;
+  changeset = meta.changeset;
+  uid =
+      meta.uid;
+  user = meta.user;
+  body = normal_body body;
+}

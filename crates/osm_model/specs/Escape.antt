@@ -1,5 +1,7 @@
--- How the characters of a text stand in OPL. The form of an escape is that of the OPL manual; which characters are raw, and how many digits an escape has, are own rules of this project.
-use Rattle.std.specs.Prelude.{◌≡◌, ℕ, Bool, nat_lt, ◌+◌, ◌&&◌, ◌||◌, List, [], ◌∷◌, ◌++◌, length, slice_index, encode_utf8, encode_utf8_all, if◌then◌else◌}
+-- How the characters of a text stand in OPL. The form of an escape is that of the OPL manual; which characters are raw,
+-- and how many digits an escape has, are own rules of this project.
+use Rattle.std.specs.Prelude.{◌≡◌, ℕ, Bool, nat_lt, ◌+◌, ◌&&◌, ◌||◌, List, [], ◌∷◌, ◌++◌, length, slice_index}
+use Rattle.std.specs.Prelude.{encode_utf8, encode_utf8_all, if◌then◌else◌}
 use Rattle.std.specs.Char.{len_utf8}
 use Rattle.std.specs.Str.{chars}
 use Rattle.std.specs.Int.{is_in_range}
@@ -19,7 +21,8 @@ is_raw_byte b = is_raw b && nat_lt b 0x80
 -- four of them, from a place on
 abbrev pub are_raw_bytes : List ℕ → ℕ → Bool
 are_raw_bytes bs n =
-    is_raw_byte (slice_index bs n) && (is_raw_byte (slice_index bs (n + 1)) && (is_raw_byte (slice_index bs (n + 2)) && is_raw_byte (slice_index bs (n + 3))))
+    is_raw_byte (slice_index bs n) && (is_raw_byte (slice_index bs (n + 1))
+    && (is_raw_byte (slice_index bs (n + 2)) && is_raw_byte (slice_index bs (n + 3))))
 
 -- the least number of digits in an escape
 abbrev pub escape_width : ℕ → ℕ

@@ -7,4 +7,5 @@ use Rattle.osm_model.specs.Order.{version_cmp}
 
 -- the kinds of an ascending list don't fall: nodes, ways, relations
 abbrev pub KindsDontFall : Type 0
-KindsDontFall = (versions : List VersionData) → IsStrictlySortedBy version_cmp versions → IsNonDecreasingBy (λ v. kind_rank (kind_of v.body)) versions
+KindsDontFall = (versions : List VersionData) → IsStrictlySortedBy version_cmp versions →
+    IsNonDecreasingBy (λ v. kind_rank (kind_of v.body)) versions

@@ -1,10 +1,12 @@
 -- Which data makes a version, and why other data doesn't (own rules of this project).
-use Rattle.std.specs.Prelude.{◌≡◌, ◌≤◌, ℕ, ℤ, ◌^◌, Bool, true, not, ◌&&◌, ◌||◌, nat_lt, List, [], ◌∷◌, Option, Some, None, is_some, Result, Ok, Err, ◌==◌, if◌then◌else◌, length, encode_utf8_all}
+use Rattle.std.specs.Prelude.{◌≡◌, ◌≤◌, ℕ, ℤ, ◌^◌, Bool, true, not, ◌&&◌, ◌||◌, nat_lt, List, [], ◌∷◌, Option, Some}
+use Rattle.std.specs.Prelude.{None, is_some, Result, Ok, Err, ◌==◌, if◌then◌else◌, length, encode_utf8_all}
 use Rattle.std.specs.List.{list_all}
 use Rattle.osm_model.specs.declared.body.Body.{Body}
 use Rattle.osm_model.specs.declared.meta.Meta.{Meta}
 use Rattle.osm_model.specs.declared.fault.ValueFault.{ValueFault}
-use Rattle.osm_model.specs.declared.fault.ValueFault.TheVariants.{IdRange, NoVersion, NumberRange, TimeRange, ZeroInText, NoTime}
+use Rattle.osm_model.specs.declared.fault.ValueFault.TheVariants.{IdRange, NoVersion, NumberRange, TimeRange}
+use Rattle.osm_model.specs.declared.fault.ValueFault.TheVariants.{ZeroInText, NoTime}
 use Rattle.osm_model.specs.Data.{VersionData, version_of, ids_of, texts_of}
 use Rattle.osm_model.specs.Id.{is_id}
 use Rattle.osm_model.specs.Text.{is_empty, is_text}

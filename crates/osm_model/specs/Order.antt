@@ -1,4 +1,5 @@
--- The order of versions: that of osmium by type, id and version; then by time, visibility and line (own rules of this project).
+-- The order of versions: that of osmium by type, id and version; then by time, visibility and line (own rules of this
+-- project).
 use Rattle.std.specs.Prelude.{ℤ, pos, negsuc, Bool, nat_lt, unsigned_abs, unwrap_or, false}
 use Rattle.std.specs.declared.cmp.Ordering.{Ordering}
 use Rattle.std.specs.Ordering.{then_cmp, on, nat_cmp, bool_cmp}
@@ -14,7 +15,8 @@ is_positive (negsuc n) = false
 
 -- the kind, ids above 0 behind the others, the absolute value of the id
 abbrev pub object_cmp : VersionData → VersionData → Ordering
-object_cmp = then_cmp (then_cmp (on (λ v. kind_rank (kind_of v.body)) nat_cmp) (on (λ v. is_positive v.id) bool_cmp)) (on (λ v. unsigned_abs v.id) nat_cmp)
+object_cmp = then_cmp (then_cmp (on (λ v. kind_rank (kind_of v.body)) nat_cmp) (on (λ v. is_positive v.id) bool_cmp))
+    (on (λ v. unsigned_abs v.id) nat_cmp)
 
 -- the object, then the version number
 abbrev pub key_cmp : VersionData → VersionData → Ordering
@@ -30,14 +32,16 @@ version_cmp = then_cmp data_cmp (on line (slice_cmp nat_cmp))
 
 pub object_cmp_total : IsTotalOrder object_cmp
 object_cmp_total =
-    then_total (then_total (on_total (λ v. kind_rank (kind_of v.body)) nat_cmp_total) (on_total (λ v. is_positive v.id) bool_cmp_total))
+    then_total (then_total (on_total (λ v. kind_rank (kind_of v.body)) nat_cmp_total)
+    (on_total (λ v. is_positive v.id) bool_cmp_total))
     (on_total (λ v. unsigned_abs v.id) nat_cmp_total)
 
 pub key_cmp_total : IsTotalOrder key_cmp
 key_cmp_total = then_total object_cmp_total (on_total (λ v. v.number) nat_cmp_total)
 
 pub data_cmp_total : IsTotalOrder data_cmp
-data_cmp_total = then_total (then_total key_cmp_total (on_total (λ v. unwrap_or v.time 0) nat_cmp_total)) (on_total (λ v. is_deleted v.body) bool_cmp_total)
+data_cmp_total = then_total (then_total key_cmp_total (on_total (λ v. unwrap_or v.time 0) nat_cmp_total))
+    (on_total (λ v. is_deleted v.body) bool_cmp_total)
 
 pub version_cmp_total : IsTotalOrder version_cmp
 version_cmp_total = then_total data_cmp_total (on_total line nat_list_cmp_total)

@@ -1,21 +1,25 @@
 -- Times in seconds since 1970-01-01T00:00:00Z, as the OPL manual has them: `yyyy-mm-ddThh:mm:ssZ`, or nothing.
-use Rattle.std.specs.Prelude.{ℕ, zero, suc, ◌+◌, ◌-◌, ◌/◌, ◌%◌, nat_lt, if◌then◌else◌, List, [], ◌∷◌, ◌++◌, Option, None, Some}
+use Rattle.std.specs.Prelude.{ℕ, zero, suc, ◌+◌, ◌-◌, ◌/◌, ◌%◌, nat_lt, if◌then◌else◌, List, [], ◌∷◌, ◌++◌, Option}
+use Rattle.std.specs.Prelude.{None, Some}
 use Rattle.osm_model.specs.declared.calendar.Date.{Date}
 use Rattle.osm_model.specs.Numeral.{padded}
 use Rattle.osm_model.specs.Decimal.{number_text}
 use Rattle.osm_model.specs.Calendar.{days_in_year, days_in_month}
 
--- the year of the day that comes so many days after a year's 1 January, and the days before it in that year; at most so many years are walked
+-- the year of the day that comes so many days after a year's 1 January, and the days before it in that year; at most so
+-- many years are walked
 unfoldable pub year_walk : ℕ → ℕ → ℕ → ℕ × ℕ
 year_walk zero year days = (year, days)
 year_walk (suc most) year days =
     if nat_lt days (days_in_year year) then (year, days) else year_walk most (suc year) (days - days_in_year year)
 
--- the month of the day that comes so many days after the first of a month, and the days before it in that month; at most so many months are walked
+-- the month of the day that comes so many days after the first of a month, and the days before it in that month; at
+-- most so many months are walked
 unfoldable pub month_walk : ℕ → ℕ → ℕ → ℕ → ℕ × ℕ
 month_walk zero year month days = (month, days)
 month_walk (suc most) year month days =
-    if nat_lt days (days_in_month year month) then (month, days) else month_walk most year (suc month) (days - days_in_month year month)
+    if nat_lt days (days_in_month year month) then (month, days)
+    else month_walk most year (suc month) (days - days_in_month year month)
 
 -- the date that many days after 1970-01-01
 unfoldable pub date_of : ℕ → Date

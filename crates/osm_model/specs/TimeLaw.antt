@@ -26,7 +26,8 @@ pub record IsTimeText (seconds : ℕ) (text : List ℕ) : Type 0 where
   pub hour_in : hour < 24
   pub minute_in : minute < 60
   pub second_in : second < 60
-  pub sum : seconds + 86_400 * day_number 1970 1 1 ≡ 86_400 * day_number year month day + 3_600 * hour + 60 * minute + second
+  pub sum : seconds + 86_400 * day_number 1970 1 1
+      ≡ 86_400 * day_number year month day + 3_600 * hour + 60 * minute + second
   pub spelled : text ≡ spelled_time year month day hour minute second
 
 -- the text of a time of 32 bits is the one such text

@@ -1,6 +1,7 @@
 //! Canonical lines, appended to a vector.
 //!
-//! Why: `LineBytes` gives the same bytes from left to right, but takes more than twice as long. A line is appended in few stretches,
+//! Why: `LineBytes` gives the same bytes from left to right, but takes more than twice as long. A line is appended in
+//! few stretches,
 //! and that of a node without tags in one, since eight of ten lines of an extract are such lines.
 //! Assumes: for one stretch, a visible node without tags whose user name is known to be plain.
 //! Otherwise: one stretch up to the user name, one for the name, one for the tags, and one for the fields of the kind.
@@ -20,7 +21,8 @@ use crate::plain::SHORT;
 use crate::put::{put, put_byte, put_coordinate, put_integer, put_number, put_time};
 use crate::{Body, Member, Memory, Tag, Text, Version};
 
-/// How many bytes a stretch of a line has room for, which is appended at once: the fields before a user name take fewer.
+/// How many bytes a stretch of a line has room for, which is appended at once: the fields before a user name take
+/// fewer.
 const ROOM: usize = 128;
 
 /// How many bytes the line of a node has at most that has no tags, and a user name that is known to be plain.

@@ -6,7 +6,9 @@ use crate::piece::Piece;
 
 /// What stands behind the one form of a character in a canonical line, where some bytes begin with it.
 pub fn behind_escaped(bytes: &[u8], c: char) -> Option<&[u8]>
-    ensures { MatchOption result ((rest : List ℕ) → bytes.now ≢ escape_char c ++ rest) (λ behind. bytes.now ≡ escape_char c ++ behind.now) }
+    ensures { MatchOption result
+        ((rest : List ℕ) → bytes.now ≢ escape_char c ++ rest)
+        (λ behind. bytes.now ≡ escape_char c ++ behind.now) }
 {
     let mut piece = Piece::new();
     piece.set_escaped(c);

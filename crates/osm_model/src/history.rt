@@ -42,7 +42,8 @@ impl History {
         }
     }
 
-    /// The set of the versions of a list, which may stand in any order and be repeated. Where it is a few ascending stretches,
+    /// The set of the versions of a list, which may stand in any order and be repeated. Where it is a few ascending
+    /// stretches,
     /// like sorted files one behind the other, these are merged.
     ///
     /// # Errors
@@ -132,7 +133,8 @@ fn append_copies(versions: &mut Vec<Version>, more: &[Version]) -> Result<(), Me
     Ok(())
 }
 
-/// Copies of the versions of two ascending lists, ascending, behind those that are there. Of two equal ones one is taken.
+/// Copies of the versions of two ascending lists, ascending, behind those that are there. Of two equal ones one is
+/// taken.
 fn append_merged(
     versions: &mut Vec<Version>,
     left: &[Version],

@@ -7,7 +7,8 @@ ghost use Rattle.osm_model.specs.Data.{VersionData, tags_of};
 ghost use Rattle.osm_model.specs.Escape.{escape};
 ghost use Rattle.osm_model.specs.Piece.{left};
 ghost use Rattle.osm_model.specs.Line.{list_text, tag_text, reference_text, member_text, line};
-ghost use Rattle.osm_model.specs.Cursor.{after, from_field, from_kind, coming, more_text, items_text, run_text, run_of, behind, still, Gives, GivesOrEnds};
+ghost use Rattle.osm_model.specs.Cursor.{after, from_field, from_kind, coming, more_text, items_text, run_text, run_of};
+ghost use Rattle.osm_model.specs.Cursor.{behind, still, Gives, GivesOrEnds};
 
 use crate::escape::plain_length;
 use crate::piece::Piece;
@@ -273,7 +274,8 @@ enum Run<'a> {
 fn give_text<'a>(text: &'a str, piece: &mut Piece) -> Option<(Run<'a>, &'a str)>
     ensures { MatchOption result
         (chars text.now ≡ [])
-        (λ p. (escape (chars text.now) ≡ run_text p.0 piece.new ++ escape (chars p.1.now)) × (0 < length (run_text p.0 piece.new))) }
+        (λ p. (escape (chars text.now) ≡ run_text p.0 piece.new ++ escape (chars p.1.now))
+        × (0 < length (run_text p.0 piece.new))) }
 {
     let length = plain_length(text);
     if length > 0 {
@@ -345,7 +347,9 @@ impl<'a> LineBytes<'a> {
 
     /// The first byte of the run at hand, which is taken.
     fn take(&mut self) -> Option<u8>
-        ensures run { MatchOption result ((run_of self.old ≡ []) × (run_of self.new ≡ [])) (λ byte. run_of self.old ≡ byte ∷ run_of self.new) }
+        ensures run { MatchOption result
+            ((run_of self.old ≡ []) × (run_of self.new ≡ []))
+            (λ byte. run_of self.old ≡ byte ∷ run_of self.new) }
         ensures behind { behind self.new ≡ behind self.old }
     {
         match self.run {

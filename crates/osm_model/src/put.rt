@@ -1,6 +1,7 @@
 //! Parts of a line, written into `room` before the bytes that are there already.
 //!
-//! Why: a number is written from its last digit on, and the offset where the bytes begin is a parameter and a result, so it stays in
+//! Why: a number is written from its last digit on, and the offset where the bytes begin is a parameter and a result,
+//! so it stays in
 //! a register; as a field of a struct it was stored and loaded 25 times for a line.
 //! Assumes: each call has room for the longest form of its part.
 //! Otherwise: nothing; a text that may be longer is appended by `append`.

@@ -1,6 +1,7 @@
 //! Versions with their ranks.
 //!
-//! Why: versions are apart in memory, and ranks are beside each other: a sort of lines in any order takes 0.62 to 0.73 of the time.
+//! Why: versions are apart in memory, and ranks are beside each other: a sort of lines in any order takes 0.62 to 0.73
+//! of the time.
 //! Assumes: the rank is that of the version, which is an invariant of `Ranked`.
 //! Otherwise: where two ranks are equal, the versions are compared.
 //! Compared by: `versions_with_ranks_are_ordered`.
@@ -15,7 +16,8 @@ use std::cmp::Ordering;
 use std::marker::Model;
 
 impl Version {
-    /// The order of two versions of which it isn't known that they differ, as of two of one rank: nearly always they are equal,
+    /// The order of two versions of which it isn't known that they differ, as of two of one rank: nearly always they
+    /// are equal,
     /// which is looked at first.
     #[inline(always)]
     pub(crate) fn cmp_closely(&self, other: &Version) -> Ordering
@@ -29,7 +31,8 @@ impl Version {
     }
 }
 
-/// A version, and beside it its rank, by which nearly all comparisons are decided without a look at the version, which lies
+/// A version, and beside it its rank, by which nearly all comparisons are decided without a look at the version, which
+/// lies
 /// elsewhere in memory. Contracts see the version.
 #[derive(Debug, Drop)]
 pub struct Ranked {

@@ -1,6 +1,7 @@
 //! Memory of versions that are not needed any more. Later versions are made in it.
 //!
-//! Why: to allocate and free a block costs as much as to read three numbers, and a merge drops one version for each that it reads.
+//! Why: to allocate and free a block costs as much as to read three numbers, and a merge drops one version for each
+//! that it reads.
 //! Assumes: nothing about the memory; a version made in it has the same data as one made in new memory.
 //! Otherwise: where no version was given back, new memory is allocated.
 //! Compared by: `memory_of_a_version_is_used_again`.
@@ -11,7 +12,8 @@ use std::alloc::Global;
 use std::marker::Model;
 use std::mem;
 
-/// A version that isn't needed any more, and its lists, emptied. A reader that is given one back asks for no memory for the
+/// A version that isn't needed any more, and its lists, emptied. A reader that is given one back asks for no memory for
+/// the
 /// next.
 #[derive(Drop)]
 pub struct Spare {

@@ -183,8 +183,10 @@ impl Text {
         self.storage.push_str(alloc, characters)
     }
 
-    /// Finds out whether the text is plain, and keeps the answer: whether it lies in the value itself, and each of its characters
-    /// is written as itself in a line. A text known to be plain, and each copy of it, is written without another look. Takes no
+    /// Finds out whether the text is plain, and keeps the answer: whether it lies in the value itself, and each of its
+    /// characters
+    /// is written as itself in a line. A text known to be plain, and each copy of it, is written without another look.
+    /// Takes no
     /// memory.
     pub fn mark_plain(&mut self)
         ensures { self.new ≡ self.old }

@@ -82,7 +82,8 @@ pub(crate) fn first_fault(id: i64, meta: &Meta, body: &Body) -> Option<ValueFaul
 }
 
 impl Parts {
-    /// Parts to be filled, in memory of a version that isn't needed any more, or else in new memory. Their body has no ids and no
+    /// Parts to be filled, in memory of a version that isn't needed any more, or else in new memory. Their body has no
+    /// ids and no
     /// texts, and their user name has at most 24 bytes: neither holds memory of its own.
     ///
     /// # Errors
@@ -188,7 +189,8 @@ impl Version {
     ///
     /// # Errors
     ///
-    /// The first fault in the order of `IdRange`, `NoVersion`, `NumberRange`, `TimeRange`, `NoTime`, `ZeroInText`. Where
+    /// The first fault in the order of `IdRange`, `NoVersion`, `NumberRange`, `TimeRange`, `NoTime`, `ZeroInText`.
+    /// Where
     /// there is none, `Memory`, if a growth was refused.
     pub fn new(alloc: Global, id: i64, meta: Meta, body: Body) -> Result<Version, ValueFault>
         ensures value { MatchResult result
@@ -206,7 +208,8 @@ impl Version {
         }
     }
 
-    /// The version of data that has no fault, as [`Version::new`] makes it, without its tests, in the memory of a version
+    /// The version of data that has no fault, as [`Version::new`] makes it, without its tests, in the memory of a
+    /// version
     /// that isn't needed any more, where one is given.
     ///
     /// # Errors

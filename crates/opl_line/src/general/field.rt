@@ -73,8 +73,11 @@ impl Fields {
         text: Option<&str>,
     ) -> Result<(), OplReason>
         ensures { MatchResult result
-            (λ _. spec.reading_fields kind (pieces_of (is_end Blanks) (option_copied text.entry)) self.old ≡ Ok self.new)
-            (λ reason. (reason ≡ Memory) ⊎ (spec.reading_fields kind (pieces_of (is_end Blanks) (option_copied text.entry)) self.old ≡ Err reason)) }
+            (λ _. spec.reading_fields kind (pieces_of (is_end Blanks) (option_copied text.entry)) self.old
+            ≡ Ok self.new)
+            (λ reason. (reason ≡ Memory)
+            ⊎ (spec.reading_fields kind (pieces_of (is_end Blanks) (option_copied text.entry)) self.old
+            ≡ Err reason)) }
     {
         let mut rest = text;
         'fields: while let Some(text) = rest {

@@ -44,7 +44,8 @@ fn append_escape<'a>(out: &mut String, escape: &'a str) -> Result<Option<&'a str
     ensures text { MatchResult result
         (λ more. spec.text_from (string_bytes out.old) (cut (is_end Percents) escape.now)
         ≡ spec.text_from (string_bytes out.new) (pieces_of (is_end Percents) (option_copied more)))
-        (λ reason. (reason ≡ Memory) ⊎ ((reason ≡ BadText) × (spec.text_from (string_bytes out.old) (cut (is_end Percents) escape.now) ≡ None))) }
+        (λ reason. (reason ≡ Memory) ⊎ ((reason ≡ BadText)
+        × (spec.text_from (string_bytes out.old) (cut (is_end Percents) escape.now) ≡ None))) }
     ensures shorter { IfOk result (λ more. IfSome more (λ behind. length behind.now < length escape.now)) }
 {
     let (digits, Some(behind)) = Cut::Percents.split(escape) else {

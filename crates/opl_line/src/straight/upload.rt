@@ -15,7 +15,8 @@ use std::marker::Model;
 /// The changeset, the time and the user of versions that were uploaded together, with their fields in a canonical line.
 /// Neighbours in a file often were, and then these fields need not be read again.
 ///
-/// Each version is noted whose line doesn't say the same as what is kept. As soon as two in a row are of one changeset and
+/// Each version is noted whose line doesn't say the same as what is kept. As soon as two in a row are of one changeset
+/// and
 /// time, what the second one says is kept, so that lines of which no two say the same cost nearly nothing.
 #[derive(Drop)]
 pub(crate) struct Upload {
@@ -50,7 +51,8 @@ impl Upload {
         }
     }
 
-    /// Of a line's text from the changeset on, what it says of a version of this number, and what stands behind the user name,
+    /// Of a line's text from the changeset on, what it says of a version of this number, and what stands behind the
+    /// user name,
     /// where it begins with the fields that are kept and a blank ends them.
     #[inline(always)]
     pub(crate) fn read<'a>(&self, version: u64, text: &'a [u8]) -> Option<(Meta, &'a [u8])>
@@ -76,7 +78,8 @@ impl Upload {
         Some((meta, behind))
     }
 
-    /// Notes what a line says of a version from the changeset to the user name, and keeps it where the version noted before was
+    /// Notes what a line says of a version from the changeset to the user name, and keeps it where the version noted
+    /// before was
     /// of the same changeset and time.
     #[inline(always)]
     pub(crate) fn note(&mut self, meta: &Meta, text: &[u8], behind: &[u8])

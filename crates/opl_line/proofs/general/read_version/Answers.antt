@@ -16,7 +16,8 @@ returns-in_err-read c = search rules
 
 pub to_version-requires-clause-within : goal.to_version-requires-clause-within
 to_version-requires-clause-within c =
-    let read : reading_fields c.in_ok-kind.kind (pieces_of (is_end Blanks) (split_first (is_end Blanks) c.args.line.now).1) nothing_said ≡ Ok c.read.new.self = search rules in
+    let read : reading_fields c.in_ok-kind.kind (pieces_of (is_end Blanks) (split_first (is_end Blanks) c.args.line.now).1) nothing_said
+    ≡ Ok c.read.new.self = search rules in
     fields_within c.args.line.now c.in_ok-kind.kind c.read.new.self c.utf8.line read
 
 pub returns : goal.returns

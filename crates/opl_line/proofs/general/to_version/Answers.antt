@@ -10,7 +10,8 @@ of_sound_data-requires c =
     let some : (c.to_meta-meta.result.version == 0) ≡ false = search rules in
     let dated : is_dated c.to_meta-meta.result ≡ true = search rules in
     let read : reading_body c.args.kind c.args.fields.now ≡ Ok c.in_ok-body.body = search rules in
-    let is = sound c.args.kind c.args.id c.args.fields.now c.to_meta-meta.result c.in_ok-body.body same c.requires.id c.requires.within some dated read in
+    let is = sound c.args.kind c.args.id c.args.fields.now c.to_meta-meta.result c.in_ok-body.body same c.requires.id c.requires.within some
+    dated read in
     rw (to_z-of_z c.ranges.id) is.fault
 
 pub returns : goal.returns
@@ -19,5 +20,6 @@ returns c =
     let some : (c.to_meta-meta.result.version == 0) ≡ false = search rules in
     let dated : is_dated c.to_meta-meta.result ≡ true = search rules in
     let read : reading_body c.args.kind c.args.fields.now ≡ Ok c.in_ok-body.body = search rules in
-    let is = sound c.args.kind c.args.id c.args.fields.now c.to_meta-meta.result c.in_ok-body.body same c.requires.id c.requires.within some dated read in
+    let is = sound c.args.kind c.args.id c.args.fields.now c.to_meta-meta.result c.in_ok-body.body same c.requires.id c.requires.within some
+    dated read in
     is.whole ∙ sym (ap (λ v. Ok v) (rw (to_z-of_z c.ranges.id) at c.in_ok-of_sound_data.ensures.value))

@@ -7,11 +7,13 @@ use Rattle.osm_model.proofs.RawLaws.{plain_more, plain_four, plain_all}
 use Rattle.osm_model.proofs.escape.plain_length.Goals as goal
 
 -- the width of the character behind a place
-width_behind : (bytes text : List ℕ) (n width : ℕ) → bytes ≡ text → width ≡ raw_width (chars (take (length bytes - n) (drop n bytes))) → width ≡ raw_width (chars (drop n text))
+width_behind : (bytes text : List ℕ) (n width : ℕ) → bytes ≡ text → width ≡ raw_width (chars (take (length bytes - n) (drop n bytes))) →
+    width ≡ raw_width (chars (drop n text))
 width_behind bytes text n width same is = is ∙ ap (λ rest. raw_width (chars rest)) (take_rest bytes n ∙ ap (drop n) same)
 
 pub returns-then-width-eq0-clause-boundary : goal.returns-then-width-eq0-clause-boundary
-returns-then-width-eq0-clause-boundary c = IsCharBoundary-from_drop c.args.text.now c.characters.length c.characters.invariant.within c.characters.invariant.utf8
+returns-then-width-eq0-clause-boundary c = IsCharBoundary-from_drop c.args.text.now c.characters.length c.characters.invariant.within
+    c.characters.invariant.utf8
 
 pub characters-preserved : goal.characters-preserved
 characters-preserved c =

@@ -9,7 +9,8 @@ bounds-text-1 c =
     search rules
 
 pub latin_width-requires : goal.latin_width-requires
-latin_width-requires c = let is = lead c.args.text.now c.requires.some c.requires.utf8 in ((is.latin c.in-194.is).1, (is.latin c.in-194.is).2)
+latin_width-requires c = let is = lead c.args.text.now c.requires.some c.requires.utf8 in
+    ((is.latin c.in-194.is).1, (is.latin c.in-194.is).2)
 
 pub returns-then-is_raw_byte : goal.returns-then-is_raw_byte
 returns-then-is_raw_byte c = width-byte _ _ _ _ (lead c.args.text.now c.requires.some c.requires.utf8) (search rules)
@@ -23,4 +24,5 @@ returns-in-194 c =
     c.latin_width.ensures ∙ sym (is.latin c.in-194.is).3
 
 pub returns-in_default-3 : goal.returns-in_default-3
-returns-in_default-3 c = width-other _ _ _ _ (lead c.args.text.now c.requires.some c.requires.utf8) (search rules) (search rules) (search rules)
+returns-in_default-3 c = width-other _ _ _ _ (lead c.args.text.now c.requires.some c.requires.utf8) (search rules) (search rules)
+    (search rules)

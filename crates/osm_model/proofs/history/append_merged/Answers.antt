@@ -13,4 +13,5 @@ returns-then-j-right c =
     let total : c.merge.versions.items ++ rest ≡ c.args.versions.now.items ++ merged version_cmp c.args.left.now c.args.right.now =
     ap (λ t. c.merge.versions.items ++ t) (sym (merged-end version_cmp c.merge.j rest c.args.right.now c.if-j-right.true))
     ∙ c.merge.invariant.merged in
-    on_ok_weaker c.append_copies-then-j-right.result (λ e. e ∙ ap (λ t. c.merge.versions.items ++ t) all ∙ total) c.append_copies-then-j-right.ensures
+    on_ok_weaker c.append_copies-then-j-right.result
+    (λ e. e ∙ ap (λ t. c.merge.versions.items ++ t) all ∙ total) c.append_copies-then-j-right.ensures

@@ -7,7 +7,8 @@ abbrev pub invariant-merge : goal.invariant-merge
 invariant-merge l = record {
   left_in : l.i ≤ length l.left;
   right_in : l.j ≤ length l.right;
-  merged : l.versions.items ++ merged version_cmp (drop l.i l.left) (drop l.j l.right) ≡ l.fn.versions.items ++ merged version_cmp l.left l.right;
+  merged : l.versions.items ++ merged version_cmp (drop l.i l.left) (drop l.j l.right) ≡ l.fn.versions.items
+      ++ merged version_cmp l.left l.right;
 }
 
 abbrev pub decreases-merge : goal.decreases-merge

@@ -7,4 +7,5 @@ pub returns-clause-written : goal.returns-clause-written
 unfolding clock_text
 returns-clause-written c =
     let second = c.args.second in
-    rw (padded_pair (second / 3600) (omega arith), padded_pair (second / 60 % 60) (omega arith), padded_pair (second % 60) (omega arith)) (search rules)
+    rw (padded_pair (second / 3600) (omega arith), padded_pair (second / 60 % 60) (omega arith), padded_pair (second % 60) (omega arith))
+    (search rules)

@@ -11,16 +11,19 @@ put_byte-start-requires-clause-fits c =
     omega arith
 
 -- one digit of several
-next_digit : (rest digit : ℕ) (all here next : List ℕ) → 16 ≤ rest → all ≡ numeral 16 rest ++ here → digit ≡ digit_char (rest % 16) → next ≡ digit ∷ here →
+next_digit : (rest digit : ℕ) (all here next : List ℕ) → 16 ≤ rest → all ≡ numeral 16 rest ++ here → digit ≡ digit_char (rest % 16) →
+    next ≡ digit ∷ here →
     all ≡ numeral 16 (rest / 16) ++ next
 next_digit rest digit all here next more same is now =
-    rw (now, is) (same ∙ ap (λ t. t ++ here) (numeral-step 16 rest (omega arith) more) ∙ append_assoc (numeral 16 (rest / 16)) (digit_char (rest % 16) ∷ []) here)
+    rw (now, is) (same ∙ ap (λ t. t ++ here) (numeral-step 16 rest (omega arith) more)
+    ∙ append_assoc (numeral 16 (rest / 16)) (digit_char (rest % 16) ∷ []) here)
 
 pub loop-rest-preserved : goal.loop-rest-preserved
 loop-rest-preserved c =
     let more = length-numeral-step 16 c.loop-rest.rest (omega arith) c.loop-rest-test.true in
     record {
-      written = next_digit _ _ _ _ _ c.loop-rest-test.true c.loop-rest.invariant.written c.hex_digit.ensures c.put_byte-start.ensures.written;
+      written = next_digit _ _ _ _ _ c.loop-rest-test.true c.loop-rest.invariant.written c.hex_digit.ensures
+          c.put_byte-start.ensures.written;
       start = omega arith;
       onward = omega arith;
       size = search rules;

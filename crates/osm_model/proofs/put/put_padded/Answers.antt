@@ -12,7 +12,8 @@ overflow_sub-width c =
 pub returns-clause-written : goal.returns-clause-written
 unfolding padded
 returns-clause-written c =
-    let zeros : c.args.width - (c.args.end - c.put_number-digits.result) ≡ c.args.width - length (number_text c.args.number) = omega arith in
+    let zeros : c.args.width - (c.args.end - c.put_number-digits.result) ≡ c.args.width - length (number_text c.args.number) =
+    omega arith in
     c.put_zeros.ensures.written
     ∙ ap (λ n. replicate n 48 ++ drop c.put_number-digits.result c.put_number-digits.new.room) zeros
     ∙ ap (λ t. replicate (c.args.width - length (number_text c.args.number)) 48 ++ t) c.put_number-digits.ensures.written

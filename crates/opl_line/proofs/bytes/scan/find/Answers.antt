@@ -20,7 +20,11 @@ lanes-preserved g c =
     let p = g.C.ByteClass.has c.args.class in
     let room : c.lanes.seen + n ≤ length c.args.bytes.now = omega arith in
     let whole : n ≤ c.run-run.result = omega arith in
-    record { within = room; none = none_of_all p n c.args.bytes.now c.lanes.seen c.run-run.result room c.run-run.ensures c.lanes.invariant.none whole }
+    record {
+      within = room;
+      none =
+          none_of_all p n c.args.bytes.now c.lanes.seen c.run-run.result room c.run-run.ensures c.lanes.invariant.none whole;
+    }
 
 pub returns-then-contains : goal.returns-then-contains
 returns-then-contains g c =

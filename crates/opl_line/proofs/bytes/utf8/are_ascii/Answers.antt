@@ -11,4 +11,5 @@ returns c =
     let from = c.args.from in
     let v = chunk from 64 bytes in
     let long = length-chunk from 64 bytes c.requires in
-    OnTrue_from (eqb (highs v long) 0) (AsciiBetween bytes from (from + 64)) (λ none. ascii_there bytes from c.requires (none_high v long (eqb-true _ _ none)))
+    OnTrue_from (eqb (highs v long) 0) (AsciiBetween bytes from (from + 64))
+    (λ none. ascii_there bytes from c.requires (none_high v long (eqb-true _ _ none)))

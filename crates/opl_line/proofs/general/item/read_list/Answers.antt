@@ -9,7 +9,8 @@ returns-in_err-read g c =
     let rest : option_copied c.items.rest ≡ Some c.in-Some.text.now = search rules in
     let e = ap (pieces_of (is_end Commas)) rest ∙ c.split.ensures.pieces in
     let answer : c.from_residual-in_err-read.result ≡ Err c.in_err-read.field-0.0 = search rules in
-    rw answer (⊎_elim (λ memory. inl memory) (λ refused. inr (c.items.invariant ∙ refused_item g.T.Item.reading c.items.items.items _ _ _ _ e refused)) c.in_err-read.ensures)
+    rw answer (⊎_elim (λ memory. inl memory) (λ refused.
+    inr (c.items.invariant ∙ refused_item g.T.Item.reading c.items.items.items _ _ _ _ e refused)) c.in_err-read.ensures)
 
 pub items-preserved : goal.items-preserved
 items-preserved g c =
@@ -17,7 +18,8 @@ items-preserved g c =
     let e = ap (pieces_of (is_end Commas)) rest ∙ c.split.ensures.pieces in
     c.items.invariant
     ∙ one_item g.T.Item.reading c.items.items.items c.in_ok-read.field-0 _ _ _ e c.in_ok-read.ensures
-    ∙ ap (λ xs. reading_on g.T.Item.reading xs (pieces_of (is_end Commas) (option_copied c.split.result.1))) (sym c.in_ok-push.ensures.items)
+    ∙ ap (λ xs. reading_on g.T.Item.reading xs (pieces_of (is_end Commas) (option_copied c.split.result.1)))
+    (sym c.in_ok-push.ensures.items)
 
 pub returns : goal.returns
 returns g c =

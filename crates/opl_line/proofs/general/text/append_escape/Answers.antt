@@ -16,24 +16,38 @@ returns-in_default-clause-text c =
 
 pub returns-in_default-scalar_of-clause-text : goal.returns-in_default-scalar_of-clause-text
 returns-in_default-scalar_of-clause-text c =
-    let e : cut (is_end Percents) c.args.escape.now ≡ c.split.result.0.now ∷ cut (is_end Percents) c.in_default-Some.behind.now = search rules in
+    let e : cut (is_end Percents) c.args.escape.now ≡ c.split.result.0.now ∷ cut (is_end Percents) c.in_default-Some.behind.now =
+    search rules in
     let none : scalar_of c.split.result.0.now ≡ None = search rules in
-    inr (refl, bad_scalar (string_bytes c.args.out.now) c.split.result.0.now _ _ _ _ e (cut_split (is_end Percents) c.in_default-Some.behind.now) none)
+    inr (
+      refl,
+      bad_scalar (string_bytes c.args.out.now) c.split.result.0.now _ _ _ _ e
+          (cut_split (is_end Percents) c.in_default-Some.behind.now) none,
+    )
 
 pub returns-in_default-split_accepted-clause-text : goal.returns-in_default-split_accepted-clause-text
 returns-in_default-split_accepted-clause-text c =
-    let e : cut (is_end Percents) c.args.escape.now ≡ c.split.result.0.now ∷ cut (is_end Percents) c.in_default-Some.behind.now = search rules in
+    let e : cut (is_end Percents) c.args.escape.now ≡ c.split.result.0.now ∷ cut (is_end Percents) c.in_default-Some.behind.now =
+    search rules in
     let other : list_all stands_for_itself (split_first (is_end Percents) c.in_default-Some.behind.now).0 ≡ false = search rules in
-    inr (refl, bad_raw (string_bytes c.args.out.now) c.split.result.0.now _ _ _ _ e (cut_split (is_end Percents) c.in_default-Some.behind.now) other)
+    inr (
+      refl,
+      bad_raw (string_bytes c.args.out.now) c.split.result.0.now _ _ _ _ e
+          (cut_split (is_end Percents) c.in_default-Some.behind.now) other,
+    )
 
 pub returns-clause-text : goal.returns-clause-text
 returns-clause-text c =
-    let e : cut (is_end Percents) c.args.escape.now ≡ c.split.result.0.now ∷ cut (is_end Percents) c.in_default-Some.behind.now = search rules in
+    let e : cut (is_end Percents) c.args.escape.now ≡ c.split.result.0.now ∷ cut (is_end Percents) c.in_default-Some.behind.now =
+    search rules in
     let raw : list_all stands_for_itself c.in-Some-split_accepted.raw.now ≡ true = search rules in
-    let parts : split_first (is_end Percents) c.in_default-Some.behind.now ≡ (c.in-Some-split_accepted.raw.now, option_copied c.in-Some-split_accepted.more) = search rules in
-    let f : cut (is_end Percents) c.in_default-Some.behind.now ≡ c.in-Some-split_accepted.raw.now ∷ pieces_of (is_end Percents) (option_copied c.in-Some-split_accepted.more) =
+    let parts : split_first (is_end Percents) c.in_default-Some.behind.now
+    ≡ (c.in-Some-split_accepted.raw.now, option_copied c.in-Some-split_accepted.more) = search rules in
+    let f : cut (is_end Percents) c.in_default-Some.behind.now ≡ c.in-Some-split_accepted.raw.now
+    ∷ pieces_of (is_end Percents) (option_copied c.in-Some-split_accepted.more) =
     cut_split (is_end Percents) c.in_default-Some.behind.now ∙ ap (λ s. s.0 ∷ pieces_of (is_end Percents) s.1) parts in
     let some : scalar_of c.split.result.0.now ≡ Some c.in-Some.character = search rules in
-    let bytes : string_bytes c.push_str.new.self ≡ string_bytes c.args.out.now ++ encode_utf8 c.in-Some.character ++ c.in-Some-split_accepted.raw.now = search rules in
+    let bytes : string_bytes c.push_str.new.self ≡ string_bytes c.args.out.now ++ encode_utf8 c.in-Some.character
+    ++ c.in-Some-split_accepted.raw.now = search rules in
     one_escape (string_bytes c.args.out.now) c.split.result.0.now c.in-Some-split_accepted.raw.now c.in-Some.character _ _ _ e f some raw
     ∙ ap (λ t. text_from t (pieces_of (is_end Percents) (option_copied c.in-Some-split_accepted.more))) (sym bytes)

@@ -22,5 +22,6 @@ returns-in-Ok c =
 pub returns : goal.returns
 returns c =
     let none : option_copied c.escapes.escapes ≡ None = search rules in
-    let text : text_of c.args.text.now ≡ Some (string_bytes c.escapes.out) = c.escapes.invariant ∙ all_read _ _ (ap (pieces_of (is_end Percents)) none) in
+    let text : text_of c.args.text.now ≡ Some (string_bytes c.escapes.out) = c.escapes.invariant
+    ∙ all_read _ _ (ap (pieces_of (is_end Percents)) none) in
     ap (λ t. ok_or (option_map chars t) BadText) text ∙ ap (λ t. Ok t) (sym c.from_string.ensures.characters)

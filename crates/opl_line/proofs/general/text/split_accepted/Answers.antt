@@ -19,7 +19,8 @@ pub range_from-requires : goal.range_from-requires
 range_from-requires c =
     let found : position is_other c.args.text.now ≡ Some c.in-Some.end = search rules in
     let low : get_or c.args.text.now c.in-Some.end 0 < 128 = search rules in
-    let there = IsCharBoundary-after_ascii c.args.text.now c.in-Some.end c.utf8.text (raw_end c.args.text.now c.in-Some.end found).within low in
+    let there = IsCharBoundary-after_ascii c.args.text.now c.in-Some.end c.utf8.text
+    (raw_end c.args.text.now c.in-Some.end found).within low in
     λ _. there
 
 pub returns-clause-parts : goal.returns-clause-parts

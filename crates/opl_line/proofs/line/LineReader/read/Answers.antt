@@ -27,7 +27,13 @@ returns-in_default-to_str c =
     let kept : is_skipped c.args.line.now ≡ false = search rules in
     let answer : Result (Option VersionData) OplReason = Err NotUtf8 in
     let reading : Answers (reading_line c.args.line.now) answer = inr (not_utf8 c.args.line.now kept c.in_default-to_str.ensures) in
-    record { reading = reading; spelled = tt; refused = answer_refused c.args.line.now answer reading; reason = answer_reason c.args.line.now answer reading }
+    record {
+      reading = reading;
+      spelled = tt;
+      refused = answer_refused c.args.line.now answer reading;
+      reason =
+          answer_reason c.args.line.now answer reading;
+    }
 
 pub returns : goal.returns
 returns c =
@@ -41,4 +47,10 @@ returns c =
     let reading : Answers (reading_line c.args.line.now) c.map.result =
     subst P (ap (λ t. as_value some (reading_version t)) text ∙ sym (utf8_line c.args.line.now kept utf8))
     (subst Q (sym mapped) (as_answer some _ _ c.read_version.ensures)) in
-    record { reading = reading; spelled = answer_spelled c.args.line.now c.map.result reading; refused = answer_refused c.args.line.now c.map.result reading; reason = answer_reason c.args.line.now c.map.result reading }
+    record {
+      reading = reading;
+      spelled = answer_spelled c.args.line.now c.map.result reading;
+      refused =
+          answer_refused c.args.line.now c.map.result reading;
+      reason = answer_reason c.args.line.now c.map.result reading;
+    }

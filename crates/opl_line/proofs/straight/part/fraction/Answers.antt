@@ -10,9 +10,11 @@ pub returns-clause-text : goal.returns-clause-text
 returns-clause-text c =
     let read = c.leading_digits-decimals in
     let text = c.args.text.now in
-    fraction_front text _ read.result.1 read.result.0 c.scale.result (take_rest text 1) (omega arith) read.ensures.within read.ensures.few read.ensures.digits read.ensures.value c.scale.ensures.value c.if-decimals-eq0.false
+    fraction_front text _ read.result.1 read.result.0 c.scale.result (take_rest text 1)
+    (omega arith) read.ensures.within read.ensures.few read.ensures.digits read.ensures.value c.scale.ensures.value c.if-decimals-eq0.false
 
 pub returns-clause-bound : goal.returns-clause-bound
 returns-clause-bound c =
     let read = c.leading_digits-decimals in
-    fraction_fits _ read.result.1 read.result.0 c.scale.result read.ensures.within read.ensures.few read.ensures.digits read.ensures.value c.scale.ensures.value
+    fraction_fits _ read.result.1 read.result.0 c.scale.result read.ensures.within read.ensures.few read.ensures.digits read.ensures.value
+    c.scale.ensures.value

@@ -16,5 +16,6 @@ returns-clause-text c =
       | then-length-gt1 w ↦ no_zero text count (eqb-false (get_or text 0 0) 48 (sym w.value-is ∙ c.if-text-eq48.false))
       | else-length-gt1 w ↦ λ more. absurd (omega (arith, more, long, w.if-length-gt1))
     ] in
-    let is : number_text read.result.0 ≡ take count text = ap number_text read.ensures.value ∙ numeral_text (take count text) (omega (arith, long)) read.ensures.digits first in
+    let is : number_text read.result.0 ≡ take count text = ap number_text read.ensures.value
+    ∙ numeral_text (take count text) (omega (arith, long)) read.ensures.digits first in
     sym (take-append-drop count text) ∙ (λ i. sym is i ++ sym (take_rest text count) i)

@@ -10,8 +10,10 @@ returns-clause-text c =
     let text = c.args.text.now in
     let n = c.in_ok-magnitude.magnitude in
     let behind = c.in_ok-magnitude.behind.now in
-    let digits : without_sign text ≡ number_text n ++ behind = sym c.split_sign-is_negative.ensures.behind ∙ c.in_ok-magnitude.ensures.text in
-    let some : is_negative text ≡ true → 0 < n = some_signed c.split_sign-is_negative.result.0 (is_negative text) n c.split_sign-is_negative.ensures.sign c.else-is_negative.either in
+    let digits : without_sign text ≡ number_text n ++ behind = sym c.split_sign-is_negative.ensures.behind
+    ∙ c.in_ok-magnitude.ensures.text in
+    let some : is_negative text ≡ true → 0 < n = some_signed c.split_sign-is_negative.result.0
+    (is_negative text) n c.split_sign-is_negative.ensures.sign c.else-is_negative.either in
     let sign : c.split_sign-is_negative.result.0 ≡ is_negative text = c.split_sign-is_negative.ensures.sign in
     let same : signed (is_negative text) n ≡ c.if-is_negative-2.result = elim c.if-is_negative-2.branch [
       | then-is_negative-2 w ↦ search rules

@@ -6,7 +6,9 @@ pub from_utf8_unchecked-raw-requires : goal.from_utf8_unchecked-raw-requires
 from_utf8_unchecked-raw-requires c = raw_utf8 _ (raw_bytes _ c.raw_length-length.ensures.raw)
 
 pub returns-clause-text : goal.returns-clause-text
-returns-clause-text c = (read_front c.args.bytes.now c.in-Ok.text c.raw_length-length.result c.raw_length-length.ensures.raw (search rules)).spelled
+returns-clause-text c = (read_front c.args.bytes.now c.in-Ok.text c.raw_length-length.result c.raw_length-length.ensures.raw
+    (search rules)).spelled
 
 pub returns-clause-valid : goal.returns-clause-valid
-returns-clause-valid c = (read_front c.args.bytes.now c.in-Ok.text c.raw_length-length.result c.raw_length-length.ensures.raw (search rules)).valid
+returns-clause-valid c = (read_front c.args.bytes.now c.in-Ok.text c.raw_length-length.result c.raw_length-length.ensures.raw
+    (search rules)).valid

@@ -9,7 +9,8 @@ characters-preserved c =
     let text = c.args.text.now in
     let width = c.raw_width-width in
     let end = c.characters.end in
-    let more : AreRaw (take width.result (drop end text)) = subst (λ t. AreRaw (take width.result t)) (take_rest text end) width.ensures.raw in
+    let more : AreRaw (take width.result (drop end text)) =
+    subst (λ t. AreRaw (take width.result t)) (take_rest text end) width.ensures.raw in
     (omega (arith, length-drop end text, width.ensures.within), raw_next text end width.result c.characters.invariant.1 more)
 
 pub from_utf8_unchecked-raw-requires : goal.from_utf8_unchecked-raw-requires

@@ -7,6 +7,8 @@ use Rattle.osm_model.proofs.append.MemberListed.append_behind.Goals as goal
 
 pub returns-clause-appended : goal.returns-clause-appended
 returns-clause-appended c =
-    let front : c.append_from.new.out.items ≡ c.args.out.now.items ++ (c.args.mark.now ++ (kind_letter c.args.self.now.kind ∷ (integer_text c.args.self.now.id ++ codes "@"))) = search rules in
-    let whole : c.append_from.new.out.items ++ escape c.args.self.now.role ≡ c.args.out.now.items ++ (c.args.mark.now ++ member_text c.args.self.now) = rw front (simp append_assoc) in
+    let front : c.append_from.new.out.items ≡ c.args.out.now.items
+    ++ (c.args.mark.now ++ (kind_letter c.args.self.now.kind ∷ (integer_text c.args.self.now.id ++ codes "@"))) = search rules in
+    let whole : c.append_from.new.out.items ++ escape c.args.self.now.role ≡ c.args.out.now.items
+    ++ (c.args.mark.now ++ member_text c.args.self.now) = rw front (simp append_assoc) in
     rw whole at c.append_text.ensures.appended

@@ -9,7 +9,8 @@ use Rattle.osm_model.proofs.history.History.from_versions.Goals as goal
 
 pub invariant_of-result : goal.invariant_of-result
 invariant_of-result c =
-    rw (c.in_ok-versions.ensures, dedup_is _ _ _ c.dedup.ensures.filtered) (IsStrictlySortedBy-dedup version_cmp_total (λ x y. refl) _ c.in_ok-sort.ensures.sorted)
+    rw (c.in_ok-versions.ensures, dedup_is _ _ _ c.dedup.ensures.filtered)
+    (IsStrictlySortedBy-dedup version_cmp_total (λ x y. refl) _ c.in_ok-sort.ensures.sorted)
 
 pub returns : goal.returns
 returns c =

@@ -7,7 +7,8 @@ use Rattle.osm_model.proofs.history.History.join.Goals as goal
 
 pub invariant_of-result : goal.invariant_of-result
 invariant_of-result c =
-    let is : c.append_merged.new.versions.items ≡ merged version_cmp c.self.inside.versions.items c.other.inside.versions.items = search rules in
+    let is : c.append_merged.new.versions.items ≡ merged version_cmp c.self.inside.versions.items c.other.inside.versions.items =
+    search rules in
     rw is (sorted_merged version_cmp_total _ _ c.self.invariant c.other.invariant)
 
 pub returns : goal.returns

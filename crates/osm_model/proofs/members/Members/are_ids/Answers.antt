@@ -7,5 +7,6 @@ use Rattle.osm_model.proofs.members.Members.are_ids.Goals as goal
 
 pub returns : goal.returns
 returns c =
-    all_from_yields_List (λ m. is_id m.id) _ _ c.all.result c.all.ensures.ran (YieldsList-from_slice c.args.self.now cc) (λ x b q k. search (rules, tests))
+    all_from_yields_List (λ m. is_id m.id) _ _ c.all.result c.all.ensures.ran (YieldsList-from_slice c.args.self.now cc)
+    (λ x b q k. search (rules, tests))
     ∙ sym (list_all-map is_id (λ m. m.id) c.args.self.now)

@@ -7,5 +7,6 @@ use Rattle.osm_model.proofs.members.Members.are_texts.Goals as goal
 
 pub returns : goal.returns
 returns c =
-    all_from_yields_List (λ m. is_text m.role) _ _ c.all.result c.all.ensures.ran (YieldsList-from_slice c.args.self.now cc) (λ x b q k. search (rules, tests))
+    all_from_yields_List (λ m. is_text m.role) _ _ c.all.result c.all.ensures.ran (YieldsList-from_slice c.args.self.now cc)
+    (λ x b q k. search (rules, tests))
     ∙ sym (list_all-map is_text (λ m. m.role) c.args.self.now)

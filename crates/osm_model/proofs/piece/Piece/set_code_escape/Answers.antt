@@ -8,7 +8,8 @@ pub returns : goal.returns
 unfolding code_escape padded
 returns c =
     let code = c.args.code in
-    let zeros : c.saturating_sub-zeros.result ≡ escape_width code - length (numeral 16 code) = rw (c.saturating_sub-zeros.ensures, c.escape_width.ensures.value) (ap (λ n. escape_width code - n) (omega arith)) in
+    let zeros : c.saturating_sub-zeros.result ≡ escape_width code - length (numeral 16 code) =
+    rw (c.saturating_sub-zeros.ensures, c.escape_width.ensures.value) (ap (λ n. escape_width code - n) (omega arith)) in
     let mark = c.put_byte-end.ensures.written ∙ ap (λ t. 37 ∷ t) (drop_all 32 c.args.self.now.bytes (search rules)) in
     let behind = c.put_hex-digits.ensures.written ∙ ap (λ t. numeral 16 code ++ t) mark in
     let all = c.put_zeros-padded.ensures.written ∙ (λ i. replicate (zeros i) 48 ++ behind i) in

@@ -7,6 +7,7 @@ use Rattle.osm_model.proofs.tags.Tags.are_texts.Goals as goal
 
 pub returns : goal.returns
 returns c =
-    all_from_yields_List (λ t. is_text t.key && is_text t.value) _ _ c.all.result c.all.ensures.ran (YieldsList-from_slice c.args.self.now cc)
+    all_from_yields_List (λ t. is_text t.key && is_text t.value) _ _ c.all.result c.all.ensures.ran
+    (YieldsList-from_slice c.args.self.now cc)
     (λ x b q k. search (rules, tests))
     ∙ sym (list_all-texts_of_tags is_text c.args.self.now)

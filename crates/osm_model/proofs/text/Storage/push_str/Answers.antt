@@ -6,20 +6,25 @@ use Rattle.osm_model.proofs.text.Storage.push_str.Goals as goal
 
 pub returns-then-is_ok-clause-appended : goal.returns-then-is_ok-clause-appended
 returns-then-is_ok-clause-appended c =
-    appended_chars (bytes_of c.args.self.now) c.args.characters.now c.try_push_str.new.self.bytes (search (rules, c.as_str-text.utf8)) (search rules)
+    appended_chars (bytes_of c.args.self.now) c.args.characters.now c.try_push_str.new.self.bytes (search (rules, c.as_str-text.utf8))
+    (search rules)
 
 pub returns-in_ok-joined-in-Plain-clause-appended : goal.returns-in_ok-joined-in-Plain-clause-appended
 returns-in_ok-joined-in-Plain-clause-appended c =
-    appended_chars (bytes_of c.args.self.now) c.args.characters.now (string_bytes c.in_ok-joined-in-Plain.field-0) (search (rules, c.as_str-text.utf8)) (search rules)
+    appended_chars (bytes_of c.args.self.now) c.args.characters.now (string_bytes c.in_ok-joined-in-Plain.field-0)
+    (search (rules, c.as_str-text.utf8)) (search rules)
 
 pub returns-then-within-characters-le-SHORT-clause-appended : goal.returns-then-within-characters-le-SHORT-clause-appended
 returns-then-within-characters-le-SHORT-clause-appended c =
-    appended_chars (bytes_of c.args.self.now) c.args.characters.now c.push_str.new.self.bytes (search (rules, c.as_str-within.utf8)) (search rules)
+    appended_chars (bytes_of c.args.self.now) c.args.characters.now c.push_str.new.self.bytes (search (rules, c.as_str-within.utf8))
+    (search rules)
 
 pub returns-in_ok-joined-in-Within-clause-appended : goal.returns-in_ok-joined-in-Within-clause-appended
 returns-in_ok-joined-in-Within-clause-appended c =
-    appended_chars (bytes_of c.args.self.now) c.args.characters.now (string_bytes c.in_ok-joined-in-Within.field-0) (search (rules, c.as_str-within.utf8)) (search rules)
+    appended_chars (bytes_of c.args.self.now) c.args.characters.now (string_bytes c.in_ok-joined-in-Within.field-0)
+    (search (rules, c.as_str-within.utf8)) (search rules)
 
 pub returns-in_ok-push_str-in-Apart-clause-appended : goal.returns-in_ok-push_str-in-Apart-clause-appended
 returns-in_ok-push_str-in-Apart-clause-appended c =
-    appended_chars (bytes_of c.args.self.now) c.args.characters.now (string_bytes c.push_str-in-Apart.new.self) (search (rules, IsUtf8-string_bytes c.in-Apart.string)) (search rules)
+    appended_chars (bytes_of c.args.self.now) c.args.characters.now (string_bytes c.push_str-in-Apart.new.self)
+    (search (rules, IsUtf8-string_bytes c.in-Apart.string)) (search rules)

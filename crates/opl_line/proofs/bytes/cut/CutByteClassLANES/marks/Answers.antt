@@ -7,5 +7,6 @@ use Rattle.opl_line.proofs.bytes.cut.CutByteClassLANES.marks.Goals as goal
 
 pub returns : goal.returns
 returns c =
-    two_marked (is_end c.args.self) c.ends-one.result.0 c.ends-one.result.1 c.ends-one.ensures 16 (omega arith) (chunk c.args.from 16 c.args.bytes.now)
+    two_marked (is_end c.args.self) c.ends-one.result.0 c.ends-one.result.1 c.ends-one.ensures 16 (omega arith)
+    (chunk c.args.from 16 c.args.bytes.now)
     (length-chunk c.args.from 16 c.args.bytes.now c.requires)

@@ -9,7 +9,8 @@ returns-in_err-add c =
     let rest : option_copied c.fields.rest ≡ Some c.in-Some.text.now = search rules in
     let e = ap (pieces_of (is_end Blanks)) rest ∙ c.split.ensures.pieces in
     let answer : c.from_residual.result ≡ Err c.in_err-add.field-0.0 = search rules in
-    rw answer (⊎_elim (λ memory. inl memory) (λ refused. inr (c.fields.invariant ∙ refused_field c.args.kind _ _ _ _ _ e refused)) c.in_err-add.ensures)
+    rw answer (⊎_elim (λ memory. inl memory) (λ refused.
+    inr (c.fields.invariant ∙ refused_field c.args.kind _ _ _ _ _ e refused)) c.in_err-add.ensures)
 
 pub fields-preserved : goal.fields-preserved
 fields-preserved c =
