@@ -1,7 +1,6 @@
 -- What a file spells is within the ranges of versions.
-use Rattle.std.proofs.Common.{◌≡◌, ℕ, ℤ, zero, suc, ◌≤◌, Bool, true, false, cond, List, [], ◌∷◌, ◌++◌, filter, fold, append_assoc, refl, sym, subst, arith, Option, Some, None, Ok, Err, unwrap_or, nat_le, FitsSigned, w32}
+use Rattle.std.proofs.Common.{◌≡◌, ℕ, ℤ, zero, suc, ◌≤◌, true, false, cond, List, [], ◌∷◌, ◌++◌, filter, fold, append_assoc, refl, sym, subst, arith, Option, Some, None, Ok, unwrap_or, FitsSigned, w32}
 use Rattle.std.specs.List.{All, AllByRecursion}
-use Rattle.std.proofs.lemmas.Bool.{leb-true}
 use Rattle.std.proofs.lemmas.List.{append-nil}
 use Rattle.std.proofs.lemmas.List.Sums.{fold-append}
 use Rattle.std.proofs.lemmas.List.Elements.{All-cons}
@@ -17,15 +16,13 @@ use Rattle.osm_model.specs.New.{first_fault, unless_faulty}
 use Rattle.osm_model.specs.Valid.{IsVersion, IsInRange}
 use Rattle.osm_model.specs.Pairwise.{Pairwise}
 use Rattle.osm_model.proofs.ValidLaws.{valid_version}
-use Rattle.opl_line.specs.declared.reason.OplReason.TheVariants.{OutOfRange}
-use Rattle.opl_line.specs.Number.{signed, is_negative, without_sign, degree_parts, reading_degrees, reading_units, reading_coordinate}
-use Rattle.opl_line.specs.Field.{nothing_said, reading_optional}
+use Rattle.opl_line.specs.Number.{signed}
+use Rattle.opl_line.specs.Field.{nothing_said}
 use Rattle.opl_line.specs.Content.{SpellsCoordinate, plain_degrees, minus_degrees, SpellsPlace, no_place, some_place}
 use Rattle.opl_line.specs.Part as part
 use Rattle.opl_line.specs.Part.{Part, SpellsPart, with_part}
 use Rattle.opl_line.specs.Reading.{meta_of, reading_location, reading_visible, reading_body}
 use Rattle.opl_line.specs.Spells.{is_full, Spells}
-use Rattle.opl_line.proofs.AnswerLaws.{both, became}
 use Rattle.o5_codec.specs.declared.segment.Segment.{Segment}
 use Rattle.o5_codec.specs.Sound.{is_sound}
 use Rattle.o5_codec.specs.Decoder.{new_segment}

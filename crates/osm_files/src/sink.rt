@@ -13,7 +13,6 @@ use crate::format::Format;
 use crate::output::{Output, write_all, write_fault};
 use crate::unit::{END, O5C_HEADER, O5M_HEADER};
 use o5_codec::Encoder;
-use opl_line::append_line;
 use osm_model::{History, Kind, Memory, Version};
 use std::alloc::Global;
 use std::marker::Model;
@@ -57,7 +56,7 @@ impl Units {
         match self {
             Units::Lines(last) => {
                 *last = v.kind();
-                append_line(bytes, v)?;
+                v.append_line(bytes)?;
                 bytes.push(b'\n')?;
                 Ok(())
             }

@@ -1,6 +1,5 @@
 //! How answers are told: as lines.
 use anyhow::Result;
-use opl_line::append_line;
 use osm_files::{SliceIn, load_any};
 use osm_model::{History, Version};
 use std::alloc::Global;
@@ -8,7 +7,7 @@ use std::alloc::Global;
 /// The line of a version.
 pub fn line_of(alloc: Global, version: &Version) -> Result<Vec<u8>> {
     let mut line = Vec::new(alloc);
-    append_line(&mut line, version)?;
+    version.append_line(&mut line)?;
     line.push(b'\n')?;
     Ok(line)
 }
@@ -17,7 +16,7 @@ pub fn line_of(alloc: Global, version: &Version) -> Result<Vec<u8>> {
 pub fn lines_of(alloc: Global, history: &History) -> Result<Vec<u8>> {
     let mut lines = Vec::new(alloc);
     for place in 0..history.len() {
-        append_line(&mut lines, history.get(place))?;
+        history.get(place).append_line(&mut lines)?;
         lines.push(b'\n')?;
     }
     Ok(lines)

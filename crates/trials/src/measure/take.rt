@@ -1,7 +1,6 @@
 //! A file of changes taken by mirrors that hold many versions, and runs of a fleet over small files.
 use super::sample::text;
 use anyhow::{Result, bail};
-use opl_line::append_line;
 use osm_files::{Format, SliceIn, load_any};
 use osm_mirror::{Event, Fleet, Keep, Mirror};
 use osm_model::{Body, Meta, Tags, Version};
@@ -34,7 +33,7 @@ fn file(alloc: Global, count: u32, apart: u32, number: u64) -> Result<Vec<u8>> {
     let mut bytes = Vec::new(alloc);
     for place in 0..count {
         let node = version(alloc, place.saturating_mul(apart), number)?;
-        append_line(&mut bytes, &node)?;
+        node.append_line(&mut bytes)?;
         bytes.push(b'\n')?;
     }
     Ok(bytes)
