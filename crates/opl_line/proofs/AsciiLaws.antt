@@ -1,11 +1,8 @@
 -- Sixty-four bytes that are ASCII.
-use Rattle.std.proofs.Common.{◌≡◌, ℕ, ◌+◌, ◌-◌, ◌%◌, ◌^◌, ◌<◌, ◌≤◌, not, cond, leb, List, length, get_or, map, replicate, sym, ◌∙◌, arith}
-use Rattle.std.proofs.Common.{inl, inr}
-use Rattle.std.proofs.lemmas.Bool.{cases_lt, leb-false}
+use Rattle.std.proofs.Common.{◌≡◌, ℕ, ◌+◌, ◌%◌, ◌^◌, ◌<◌, ◌≤◌, not, cond, leb, List, length, get_or, map, replicate, sym, ◌∙◌, arith}
+use Rattle.std.proofs.lemmas.Bool.{leb-false}
 use Rattle.std.proofs.lemmas.Simd.{leading_from_mask_l, run_in_chunk_fails}
-use Rattle.std.proofs.lemmas.Str.Ascii.{IsAscii-from_reads}
 use Rattle.std.specs.List.{prefix_len}
-use Rattle.std.specs.Str.{IsAscii}
 use lib.Lanes.{chunk, zip2, mask_l, top}
 use Rattle.opl_line.proofs.LaneLaws.{splat_left, marked}
 
@@ -28,16 +25,3 @@ pub ascii_there : (bytes : List ℕ) (from : ℕ) → from + 64 ≤ length bytes
     AsciiBetween bytes from (from + 64)
 ascii_there bytes from room counted place late less =
     leb-false 128 _ (run_in_chunk_fails (leb 128) bytes from 64 64 0 room counted place late less)
-
-pub ascii_more : (bytes : List ℕ) (seen : ℕ) → AsciiBetween bytes 0 seen → AsciiBetween bytes seen (seen + 64) →
-    AsciiBetween bytes 0 (seen + 64)
-ascii_more bytes seen front more place low less = elim
-    (cases_lt place seen) [ inl early ↦ front place low early | inr late ↦ more place late less ]
-
-pub ascii_whole : (bytes : List ℕ) (seen : ℕ) → 64 ≤ length bytes → length bytes ≤ seen + 64 → AsciiBetween bytes 0 seen →
-    AsciiBetween bytes (length bytes - 64) (length bytes - 64 + 64) → IsAscii bytes
-ascii_whole bytes seen some few front last =
-    IsAscii-from_reads bytes (length bytes) (omega arith) (λ place less. elim (cases_lt place seen) [
-      | inl early ↦ front place (omega arith) early
-      | inr late ↦ last place (omega (arith, few, late)) (omega (arith, some, less))
-    ])

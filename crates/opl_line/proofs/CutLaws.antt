@@ -1,9 +1,8 @@
 -- Where a text is cut first, and into which pieces.
 use Rattle.std.proofs.Common.{◌≡◌, ℕ, zero, suc, ◌+◌, ◌<◌, ◌≤◌, Bool, true, false, not, ◌&&◌, cond, List, [], ◌∷◌, ◌++◌, length, take, drop}
-use Rattle.std.proofs.Common.{get_or, refl, sym, ap, ◌∙◌, arith, add-one, drop-cons, Option, Some, None, position, ltb}
+use Rattle.std.proofs.Common.{get_or, refl, ap, ◌∙◌, arith, add-one, Option, Some, None, position, ltb}
 use Rattle.std.proofs.lemmas.Bool.{and_parts, ltb-true, ltb-false, lt-ltb, le-ltb}
 use Rattle.std.proofs.lemmas.Bool.Decides.{nat_tests}
-use Rattle.std.proofs.lemmas.List.{take_all, take-append-drop}
 use Rattle.std.proofs.lemmas.List.Folds.{list_all_more}
 use Rattle.std.proofs.lemmas.List.Sums.{passes_at_first, position_or_len_is}
 use Rattle.std.proofs.lemmas.Str.{IsCharBoundary-before_ascii, IsCharBoundary-after_ascii}
@@ -141,36 +140,3 @@ module _ (p : ℕ → Bool) where
   split_never (x ∷ xs) none =
       let parts = and_parts (not (p x)) (list_all (λ y. not (p y)) xs) none in
       ap (λ t. cond t ([], Some xs) (lengthened x (split_first p xs))) (not_true (p x) parts.0) ∙ ap (lengthened x) (split_never xs parts.1)
-
-  -- where a text is split of whose first bytes none passes
-  pub split_behind : (bytes : List ℕ) (n : ℕ) → n < length bytes → list_all (λ x. not (p x)) (take n bytes) ≡ true →
-      p (get_or bytes n 0) ≡ true → split_first p bytes ≡ (take n bytes, Some (drop (n + 1) bytes))
-  split_behind bytes n within none is =
-      let rest : take n bytes ++ drop n bytes ≡ take n bytes ++ get_or bytes n 0 ∷ drop (n + 1) bytes =
-      rw (add-one, drop-cons bytes n 0) refl in
-      ap (split_first p) (sym (take-append-drop n bytes) ∙ rest)
-      ∙ split_front (take n bytes) (drop (n + 1) bytes) (get_or bytes n 0) none is
-
-  -- where it is not
-  pub split_whole : (bytes : List ℕ) (n : ℕ) → length bytes ≤ n → list_all (λ x. not (p x)) (take n bytes) ≡ true →
-      split_first p bytes ≡ (take n bytes, None)
-  split_whole bytes n all none =
-      let same : take n bytes ≡ bytes = take_all n bytes all in
-      split_never bytes (rw same at none) ∙ ap (λ t. (t, None)) (sym same)
-
-  -- what stands behind is shorter
-  pub split_shorter : (bytes piece rest : List ℕ) → split_first p bytes ≡ (piece, Some rest) → length rest < length bytes
-  split_shorter [] piece rest e = omega (arith, ap (λ (s : List ℕ × Option (List ℕ)). left_of s.1) e)
-  split_shorter (b ∷ bs) piece rest e =
-      elim (p b) as (λ t. cond t ([], Some bs) (lengthened b (split_first p bs)) ≡ (piece, Some rest) → length rest < suc (length bs)) [
-        | true ↦ λ f. omega (arith, ap (λ (s : List ℕ × Option (List ℕ)). left_of s.1) f)
-        | false ↦ λ f.
-            let behind : (split_first p bs).1 ≡ Some rest = ap (λ s. s.1) f in
-            let less = split_shorter bs (split_first p bs).0 rest (λ i. ((split_first p bs).0, behind i)) in
-            omega arith
-      ] e
-
-  pub split_leaves_less : (bytes piece : List ℕ) (behind : Option (List ℕ)) → split_first p bytes ≡ (piece, behind) →
-      left_of behind < left_of (Some bytes)
-  split_leaves_less bytes piece None e = omega arith
-  split_leaves_less bytes piece (Some rest) e = omega (arith, split_shorter bytes piece rest e)

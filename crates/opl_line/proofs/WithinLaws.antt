@@ -12,15 +12,13 @@ use Rattle.opl_line.specs.declared.bytes.cut.Cut.TheVariants.{Blanks}
 use Rattle.opl_line.specs.declared.general.field.Fields.{Fields}
 use Rattle.opl_line.specs.Cut.{is_end, split_first, pieces_of}
 use Rattle.opl_line.specs.Field.{nothing_said, reading_fields}
-use Rattle.opl_line.specs.Reading.{reading_object, meta_of, reading_body, unless_fault, reading_whole}
+use Rattle.opl_line.specs.Reading.{meta_of, reading_body, unless_fault, reading_whole}
 use Rattle.opl_line.specs.Within.{AreWithin}
-use Rattle.opl_line.proofs.NumeralLaws.{id_complete}
 use Rattle.opl_line.proofs.CutLaws.{cut_split}
 use Rattle.opl_line.proofs.MadeLaws.{Passes, without_fault, made}
 use Rattle.opl_line.proofs.PartLaws.{parts_of}
-use Rattle.opl_line.proofs.RangeLaws.{id_within, line_within, body_within}
+use Rattle.opl_line.proofs.RangeLaws.{line_within, body_within}
 use Rattle.opl_line.proofs.ReadingLaws.{whole_line}
-use Rattle.opl_line.proofs.SpellsLaws.{object_spelled}
 use Rattle.opl_line.proofs.Utf8Laws.{cut_utf8}
 
 pub passes : (k : Kind) (id : ℤ) (fields : Fields) (b : Body) → is_id id ≡ true → AreWithin fields →
@@ -51,10 +49,6 @@ sound k id fields meta b same is h some dated read =
       fault = without_fault id meta b p;
       whole = sym (whole_line k id fields meta b same some dated read) ∙ ap unless_fault (made id meta b p);
     }
-
-pub object_within : (field : List ℕ) (k : Kind) (id : ℤ) → reading_object field ≡ Ok (k, id) → is_id id ≡ true
-object_within field k id read = let names = object_spelled field k id read in
-    id_within names.digits id (id_complete names.digits id names.spelled)
 
 pub fields_within : (line : List ℕ) (k : Kind) (fields : Fields) → IsUtf8 line →
     reading_fields k (pieces_of (is_end Blanks) (split_first (is_end Blanks) line).1) nothing_said ≡ Ok fields → AreWithin fields
