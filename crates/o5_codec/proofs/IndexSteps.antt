@@ -208,14 +208,6 @@ pub found_in : (m most next : ℕ) (table : List FormedEntry) (number : FormedEn
 found_in m most next table number e n h is =
     (subst (λ o. Numbered m next (reference_to e table) o) (sym is) (h.each e), within_up (length table) most _ h.few (within e table))
 
-pub not_found : (m most next : ℕ) (table : List FormedEntry) (number : FormedEntry → Option ℕ) (e : FormedEntry) →
-    IsIndexed m most next table number → None ≡ number e → None ≡ reference_to e table
-not_found m most next table number e h is = none (reference_to e table) (subst (λ o. Numbered m next (reference_to e table) o) (sym is) (h.each e))
-  where
-    none : (r : Option ℕ) → Numbered m next r None → None ≡ r
-    none None k = refl
-    none (Some i) k = absurd k
-
 pub nothing_indexed : (m most next : ℕ) → next < m → (number : FormedEntry → Option ℕ) → ((e : FormedEntry) → number e ≡ None) → IsIndexed m most next [] number
 nothing_indexed m most next below number none = record {
   few = omega arith;

@@ -14,11 +14,6 @@ abbrev pub scaled : ℕ → ℕ → Result (ℕ × List ℕ) O5Reason → Result
 scaled value weight (Ok x) = Ok (value + weight * x.0, x.1)
 scaled value weight (Err e) = Err e
 
--- a number of one byte
-pub read_one : (bytes : List ℕ) (b : ℕ) (rest : List ℕ) → bytes ≡ b ∷ rest → b < 128 → number_at bytes ≡ Ok (b, rest)
-unfolding number_at groups_at
-read_one bytes b rest e low = let fits : b < 2 ^ 64 = omega arith in rw (e, lt-ltb b 128 low, lt-ltb b (2 ^ 64) fits) refl
-
 -- i bytes were read
 pub record Read (bytes : List ℕ) (i value weight : ℕ) : Type 0 where
   pub power : weight ≡ 128 ^ i

@@ -7,9 +7,8 @@ use Rattle.std.proofs.lemmas.Bool.{cases_Bool, false≢true}
 use Rattle.osm_model.specs.declared.members.Member.{Member}
 use Rattle.osm_model.specs.Members.{ids_of_members}
 use Rattle.osm_model.specs.Id.{is_id}
-use Rattle.o5_codec.specs.Writing.{WrittenSegment, Step, in_turn, plain, section_written}
+use Rattle.o5_codec.specs.Writing.{WrittenSegment, Step, in_turn, plain}
 use Rattle.o5_codec.specs.Appended.{Appended}
-use Rattle.o5_codec.specs.Shortest.{shortest_number}
 
 pub turn_none : (bytes : List ℕ) (s : WrittenSegment) → Appended bytes bytes s (in_turn [] s)
 unfolding in_turn
@@ -32,15 +31,6 @@ turn_last step b0 b1 s0 s1 first = turn_next step [] b0 b1 b1 s0 s1 s1 first (tu
 pub plainly : (bytes before after : List ℕ) (s : WrittenSegment) → after ≡ before ++ bytes → Appended before after s (plain bytes s)
 unfolding plain
 plainly bytes before after s e = record { bytes = e; context = refl }
-
--- a step whose bytes stand in a buffer of their own, and behind their length
-pub sectioned : (step : Step) (section before after : List ℕ) (s0 s1 : WrittenSegment) →
-    Appended [] section s1 (step s0) → after ≡ before ++ (shortest_number (length section) ++ section) → Appended before after s1 (section_written step s0)
-unfolding section_written
-sectioned step section before after s0 s1 made e = record {
-  bytes = e ∙ ap (λ b. before ++ (shortest_number (length b) ++ b)) made.bytes;
-  context = made.context;
-}
 
 module _ {X : Type 0} (step : X → Step) where
   -- what the steps left do makes the whole of what all do
