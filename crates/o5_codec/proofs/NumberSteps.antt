@@ -1,5 +1,6 @@
 -- The loop of the reader: what is read so far, and what is left, stand for the whole number.
-use Rattle.std.proofs.Common.{◌≡◌, ℕ, zero, suc, ◌+◌, ◌-◌, ◌*◌, ◌<◌, ◌≤◌, ◌^◌, List, [], ◌∷◌, refl, ap, sym, ◌∙◌, Result, Ok, Err, arith, length, drop, take, get_or, inl, inr, subst}
+use Rattle.std.proofs.Common.{◌≡◌, ℕ, zero, suc, ◌+◌, ◌-◌, ◌*◌, ◌<◌, ◌≤◌, ◌^◌, List, [], ◌∷◌, refl, ap, sym, ◌∙◌, Result, Ok, Err, arith}
+use Rattle.std.proofs.Common.{length, drop, take, get_or, inl, inr, subst}
 use Rattle.std.proofs.Math.Nat.{pow-le-pow_right, mul-le-mul_right}
 use Rattle.std.proofs.Math.ListN.{drop_of_length-le}
 use Rattle.std.proofs.lemmas.Bool.{le-ltb, lt-ltb, cases_lt}
@@ -36,7 +37,8 @@ scaled_end : (value weight room b : ℕ) (rest : List ℕ) → b < 128 →
 unfolding groups_at
 scaled_end value weight room b rest l = rw (lt-ltb b 128 l) refl
 
-pub read_more : (bytes : List ℕ) (i value weight b : ℕ) → Read bytes i value weight → b ≡ get_or bytes i 0 → i < 9 → i < length bytes → 128 ≤ b → b < 256 →
+pub read_more : (bytes : List ℕ) (i value weight b : ℕ) → Read bytes i value weight → b ≡ get_or bytes i 0 → i < 9 → i < length bytes →
+    128 ≤ b → b < 256 →
     Read bytes (i + 1) (value + (b - 128) * weight) (weight * 128)
 read_more bytes i value weight b r is small inside high byte =
     record {
@@ -57,13 +59,15 @@ unfolding groups_at
 groups_none zero = refl
 groups_none (suc room) = refl
 
-pub read_none : (bytes : List ℕ) (i value weight : ℕ) → Read bytes i value weight → i < 10 → i ≡ length bytes → number_at bytes ≡ Err BadNumber
+pub read_none : (bytes : List ℕ) (i value weight : ℕ) → Read bytes i value weight → i < 10 → i ≡ length bytes →
+    number_at bytes ≡ Err BadNumber
 unfolding number_at
 read_none bytes i value weight r small e =
     let none : drop i bytes ≡ [] = drop_of_length-le bytes (omega arith) in
     rw (r.left (10 - i) (omega arith), none, groups_none (10 - i)) refl
 
-pub read_end : (bytes : List ℕ) (i value weight b : ℕ) → Read bytes i value weight → b ≡ get_or bytes i 0 → i < 10 → i < length bytes → b < 128 → value + b * weight < 2 ^ 64 →
+pub read_end : (bytes : List ℕ) (i value weight b : ℕ) → Read bytes i value weight → b ≡ get_or bytes i 0 → i < 10 → i < length bytes →
+    b < 128 → value + b * weight < 2 ^ 64 →
     number_at bytes ≡ Ok (value + b * weight, take (length bytes - (i + 1)) (drop (i + 1) bytes))
 unfolding number_at
 read_end bytes i value weight b r is small inside low fits =
@@ -77,13 +81,15 @@ read_end bytes i value weight b r is small inside low fits =
     ap (λ r. and_then r within_word) read ∙ rw (lt-ltb (value + b * weight) (2 ^ 64) fits, take_rest bytes (i + 1)) refl
 
 -- a number whose last group is read, as a sum that is written in any way
-pub read_sum : (bytes : List ℕ) (i value weight b sum : ℕ) → Read bytes i value weight → b ≡ get_or bytes i 0 → i < 10 → i < length bytes → b < 128 → sum ≡ value + b * weight → sum < 2 ^ 64 →
+pub read_sum : (bytes : List ℕ) (i value weight b sum : ℕ) → Read bytes i value weight → b ≡ get_or bytes i 0 → i < 10 → i < length bytes →
+    b < 128 → sum ≡ value + b * weight → sum < 2 ^ 64 →
     number_at bytes ≡ Ok (sum, take (length bytes - (i + 1)) (drop (i + 1) bytes))
 read_sum bytes i value weight b sum r is small inside low same fits =
     read_end bytes i value weight b r is small inside low (omega arith) ∙ ap (λ n. Ok (n, take (length bytes - (i + 1)) (drop (i + 1) bytes))) (sym same)
 
 -- a last group that doesn't fit, or one that isn't the last
-over : (value weight b : ℕ) (rest : List ℕ) → 2 ^ 64 ≤ value + weight * b → and_then (scaled value weight (groups_at 1 (b ∷ rest))) within_word ≡ Err BadNumber
+over : (value weight b : ℕ) (rest : List ℕ) → 2 ^ 64 ≤ value + weight * b →
+    and_then (scaled value weight (groups_at 1 (b ∷ rest))) within_word ≡ Err BadNumber
 unfolding groups_at
 over value weight b rest h =
     elim (cases_lt b 128) [
@@ -92,7 +98,8 @@ over value weight b rest h =
     ]
 
 -- a tenth byte that is above 1
-pub read_over : (bytes : List ℕ) (i value weight b : ℕ) → Read bytes i value weight → b ≡ get_or bytes i 0 → i ≡ 9 → i < length bytes → 2 ≤ b → number_at bytes ≡ Err BadNumber
+pub read_over : (bytes : List ℕ) (i value weight b : ℕ) → Read bytes i value weight → b ≡ get_or bytes i 0 → i ≡ 9 → i < length bytes →
+    2 ≤ b → number_at bytes ≡ Err BadNumber
 unfolding number_at
 read_over bytes i value weight b r is nine inside high =
     let p : weight ≡ 128 ^ 9 = r.power ∙ ap (λ n. 128 ^ n) nine in

@@ -1,5 +1,6 @@
 -- Steps of writing one behind the other.
-use Rattle.std.proofs.Common.{◌≡◌, ℕ, ◌<◌, List, [], ◌∷◌, ◌++◌, map, length, refl, sym, ap, ◌∙◌, subst, arith, append_assoc, get_or, Bool, true, inl, inr}
+use Rattle.std.proofs.Common.{◌≡◌, ℕ, ◌<◌, List, [], ◌∷◌, ◌++◌, map, length, refl, sym, ap, ◌∙◌, subst, arith, append_assoc, get_or, Bool}
+use Rattle.std.proofs.Common.{true, inl, inr}
 use Rattle.std.specs.List.{list_all}
 use Rattle.std.proofs.lemmas.List.{append-nil, length-map, get_or-map}
 use Rattle.std.proofs.lemmas.List.Folds.{list_all_at}
@@ -25,7 +26,8 @@ turn_next step steps b0 b1 b2 s0 s1 s2 first rest =
       context = behind.context;
     }
 
-pub turn_last : (step : Step) (b0 b1 : List ℕ) (s0 s1 : WrittenSegment) → Appended b0 b1 s1 (step s0) → Appended b0 b1 s1 (in_turn (step ∷ []) s0)
+pub turn_last : (step : Step) (b0 b1 : List ℕ) (s0 s1 : WrittenSegment) → Appended b0 b1 s1 (step s0) →
+    Appended b0 b1 s1 (in_turn (step ∷ []) s0)
 turn_last step b0 b1 s0 s1 first = turn_next step [] b0 b1 b1 s0 s1 s1 first (turn_none b1 s1)
 
 pub plainly : (bytes before after : List ℕ) (s : WrittenSegment) → after ≡ before ++ bytes → Appended before after s (plain bytes s)
@@ -35,7 +37,8 @@ plainly bytes before after s e = record { bytes = e; context = refl }
 module _ {X : Type 0} (step : X → Step) where
   -- what the steps left do makes the whole of what all do
   pub record Turns (all rest : List X) (before now : List ℕ) (start s : WrittenSegment) : Type 0 where
-    pub left : (after : List ℕ) (reached : WrittenSegment) → Appended now after reached (in_turn (map step rest) s) → Appended before after reached (in_turn (map step all) start)
+    pub left : (after : List ℕ) (reached : WrittenSegment) → Appended now after reached (in_turn (map step rest) s) →
+        Appended before after reached (in_turn (map step all) start)
 
   pub turns_begin : (all : List X) (before : List ℕ) (start : WrittenSegment) → Turns all all before before start start
   turns_begin all before start = record { left = λ after reached h. h }
@@ -47,7 +50,8 @@ module _ {X : Type 0} (step : X → Step) where
         subst P (sym is) (turn_next (step x) (map step more) now next after s t reached one k));
   }
 
-  pub turns_end : (all rest : List X) (before now : List ℕ) (start s : WrittenSegment) → Turns all rest before now start s → rest ≡ [] → Appended before now s (in_turn (map step all) start)
+  pub turns_end : (all rest : List X) (before now : List ℕ) (start s : WrittenSegment) → Turns all rest before now start s → rest ≡ [] →
+      Appended before now s (in_turn (map step all) start)
   turns_end all rest before now start s h is = h.left now s (let P : List X → Type 0 = λ xs. Appended now now s (in_turn (map step xs) s) in subst P (sym is) (turn_none now s))
 
 -- each item of a list passes a test that all of them pass
@@ -57,7 +61,8 @@ all_at p xs i d inside all = elim (cases_Bool (p (get_or xs i d))) [
   | inr failed ↦ absurd (false≢true (sym (list_all_at p xs i d inside failed) ∙ all))
 ]
 
-pub member_at : (members : List Member) (i : ℕ) (m : Member) → i < length members → m ≡ get_or members i m → list_all is_id (ids_of_members members) ≡ true → is_id m.id ≡ true
+pub member_at : (members : List Member) (i : ℕ) (m : Member) → i < length members → m ≡ get_or members i m →
+    list_all is_id (ids_of_members members) ≡ true → is_id m.id ≡ true
 member_at members i m inside is all =
     ap (λ x. is_id x.id) is ∙ ap is_id (sym (get_or-map (λ (x : Member). x.id) members i m m.id inside))
     ∙ all_at is_id (ids_of_members members) i m.id (omega (arith, length-map members (λ (x : Member). x.id))) all

@@ -141,8 +141,8 @@ impl Model for NumberBase {
 }
 
 impl NumberBase {
-    /// The number whose difference stands at the front, and the bytes behind it. The base moves to the number. Versions that
-    /// were uploaded together mostly stand together, and so most differences are 0.
+    /// The number whose difference stands at the front, and the bytes after it. The base moves to the number. Most
+    /// differences are 0, since versions of one upload are mostly neighbours.
     ///
     /// # Errors
     ///

@@ -52,8 +52,8 @@ impl Bases {
 }
 
 impl Segment {
-    /// Puts the body of an object of this kind, to the end of the bytes, in the place of one that holds no memory. Where no byte
-    /// is left, the object was deleted.
+    /// Reads the body of an object of `kind`, to the end of the bytes, and replaces `body`, which holds no memory. An
+    /// object without a byte was deleted.
     #[tactic(auto, unfolding(crate::specs::Body::body_at))]
     pub(crate) fn read_body(
         &mut self,
@@ -95,7 +95,8 @@ impl Segment {
         self.read_tagged_node(lon, lat, rest, spare, body)
     }
 
-    /// Puts the body of a node at this place, with the tags to the end of the bytes.
+    /// Reads the tags of a node to the end of the bytes, and replaces `body` by the node at `lon` and `lat`. This is a
+    /// function of its own only for the optimizer, since most nodes have no tags.
     #[inline(always)]
     fn read_tagged_node(
         &mut self,
@@ -224,7 +225,8 @@ impl Segment {
         Tags::from_vec(Vec::new(self.table.allocator()))
     }
 
-    /// Tags to the end of the bytes, of which there are some.
+    /// Tags to the end of the bytes, which are not empty. This is a function of its own only for the optimizer, since
+    /// most objects have no tags.
     #[inline(never)]
     fn read_each_tag(&mut self, bytes: &[u8], spare: &mut Spare) -> Result<Tags, O5Reason>
         ensures { Answers (λ tags. (tags, self.new)) (items_at spec.tag_at self.old bytes.now) result }
@@ -241,7 +243,8 @@ impl Segment {
     #[inline(always)]
     #[tactic(auto, unfolding(crate::specs::Body::tag_at, crate::specs::Strings::strings_at))]
     fn add_tag<'a>(&mut self, bytes: &'a [u8], tags: &mut Vec<Tag>) -> Result<&'a [u8], O5Reason>
-        ensures value { Answers (λ rest. (tags.new.items, self.new, rest.now)) (and_one_more tags.old.items (spec.tag_at self.old bytes.now)) result }
+        ensures value { Answers (λ rest. (tags.new.items, self.new, rest.now))
+            (and_one_more tags.old.items (spec.tag_at self.old bytes.now)) result }
         ensures shorter { IfOk result (λ rest. length rest.now < length bytes.now) }
     {
         let (spelled, rest) = read_spelled(Form::Pair, bytes)?;

@@ -61,7 +61,7 @@ impl Segment {
         self.bases.time.read(bytes)
     }
 
-    /// Puts changeset and user of a version with this time, 0 being none, in their places, and answers the bytes behind them.
+    /// Reads changeset and user of a version with this time, 0 being none, into `meta`. Returns the bytes after them.
     #[tactic(auto, unfolding(crate::specs::Segment::author_at))]
     fn read_author<'a>(
         &mut self,
@@ -69,7 +69,8 @@ impl Segment {
         bytes: &'a [u8],
         meta: &mut Meta,
     ) -> Result<&'a [u8], O5Reason>
-        ensures { Answers (λ rest. (meta.new, self.new, rest.now)) (spec.and_author meta.old (spec.author_at time self.old bytes.now)) result }
+        ensures { Answers (λ rest. (meta.new, self.new, rest.now))
+            (spec.and_author meta.old (spec.author_at time self.old bytes.now)) result }
     {
         if time == 0 {
             meta.changeset = 0;
@@ -110,7 +111,8 @@ impl Segment {
     /// Puts user id and user name in their places, and answers the bytes behind them.
     #[tactic(auto, unfolding(crate::specs::Segment::user_at, crate::specs::Strings::strings_at))]
     fn read_user<'a>(&mut self, bytes: &'a [u8], meta: &mut Meta) -> Result<&'a [u8], O5Reason>
-        ensures { Answers (λ rest. (meta.new, self.new, rest.now)) (spec.and_user_read meta.old (spec.user_at self.old bytes.now)) result }
+        ensures { Answers (λ rest. (meta.new, self.new, rest.now))
+            (spec.and_user_read meta.old (spec.user_at self.old bytes.now)) result }
     {
         let (spelled, rest) = read_spelled(Form::Pair, bytes)?;
         self.table.store(&spelled)?;

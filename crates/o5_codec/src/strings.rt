@@ -61,7 +61,10 @@ pub(crate) fn read_spelled(form: Form, bytes: &[u8]) -> Result<(Spelled<'_>, &[u
     Ok((Spelled::Reference(reference), rest))
 }
 
-/// The strings behind the zero byte that begins them inline, as they are spelled, and the bytes behind them.
+/// The strings after the zero byte that begins them inline, as they are spelled, and the bytes after them.
+///
+/// This function exists only for the optimizer: it takes the result of `read_inline` apart, so that no room for that
+/// result is cleared where a reference is read.
 #[inline(always)]
 fn spelled_inline(form: Form, bytes: &[u8]) -> Result<(Spelled<'_>, &[u8]), O5Reason>
     ensures value { Gives (λ x. (x.0, x.1.now)) (inline_spelled form bytes.now) result }

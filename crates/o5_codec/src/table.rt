@@ -72,6 +72,8 @@ impl Table {
         }
     }
 
+    /// Stores two strings, unless they are too long. This is a function of its own only for the optimizer, since most
+    /// strings are references.
     #[inline(never)]
     fn store_strings(&mut self, first: &[u8], second: &[u8]) -> Result<(), Memory>
         ensures { OnOk result (self.new ≡ stored (entry_of first.now second.now) self.old) }
@@ -119,7 +121,8 @@ impl Table {
     /// `BadReference` where the table has no such entry, else as for [`put_user`].
     #[inline(always)]
     pub(crate) fn put_user(&self, spelled: &Spelled<'_>, meta: &mut Meta) -> Result<(), O5Reason>
-        ensures { Answers (λ _. meta.new) (and_user meta.old (and_then (strings_of self.now spelled.now) user_of)) result }
+        ensures { Answers (λ _. meta.new)
+            (and_user meta.old (and_then (strings_of self.now spelled.now) user_of)) result }
     {
         match spelled {
             Spelled::Inline(strings) => put_user(self.allocator(), strings, meta),
@@ -137,7 +140,8 @@ impl Table {
     /// `BadReference` where the table has no such entry, else as for [`add_tag`].
     #[inline(always)]
     pub(crate) fn add_tag(&self, spelled: &Spelled<'_>, tags: &mut Vec<Tag>) -> Result<(), O5Reason>
-        ensures { Answers (λ _. tags.new.items) (and_added tags.old.items (and_then (strings_of self.now spelled.now) tag_of)) result }
+        ensures { Answers (λ _. tags.new.items)
+            (and_added tags.old.items (and_then (strings_of self.now spelled.now) tag_of)) result }
     {
         match spelled {
             Spelled::Inline(strings) => add_tag(self.allocator(), strings, tags),

@@ -7,5 +7,6 @@ pub(crate) mod indexed_table;
 pub(crate) mod number;
 pub(crate) mod segment;
 pub(crate) mod slot;
+pub(crate) mod string_key;
 #[cfg(test)]
 mod tests;

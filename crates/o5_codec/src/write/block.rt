@@ -1,16 +1,23 @@
 //! Up to 128 bytes of a data set, filled in place.
+//!
+//! Why: a data set has many numbers of one to four bytes. One test of room for each number, and straight code for up to
+//! four groups, take 2.3 percent off the instructions of a merge from o5m to o5m.
+//! Assumes: each call has room for what it appends; `make_room` tests for it.
+//! Otherwise: a full block moves its bytes to the vector in front of it. A number of more than four groups is written
+//! by a loop.
+//! Compared by: `writes_numbers_at_their_limits`.
 ghost use Rattle.std.specs.Prelude.{◌≡◌, ◌≤◌, ◌<◌, ◌+◌, ◌++◌, ◌∷◌, [], length, drop, OnOk};
 ghost use Rattle.o5_codec.specs.Shortest.{shortest_number};
 
 use osm_model::Memory;
 
-/// How many bytes a block has room for: more than a short data set has.
-pub(crate) const ROOM: usize = 128;
+/// The number of bytes that a block has room for: more than a short data set has.
+pub(crate) const BLOCK_BYTES: usize = 128;
 
-/// At most 128 bytes. They stand in place, so that nothing is tested for each of them.
+/// At most 128 bytes, in place.
 #[derive(Drop)]
 pub(crate) struct Block {
-    bytes: [u8; ROOM],
+    bytes: [u8; BLOCK_BYTES],
     end: usize,
     ghost within: { end ≤ 128 },
 }
@@ -23,7 +30,7 @@ impl Block {
         ensures { filled result ≡ [] }
     {
         Block {
-            bytes: [0; ROOM],
+            bytes: [0; BLOCK_BYTES],
             end: 0,
         }
     }
@@ -78,7 +85,7 @@ impl Block {
         ensures bytes { OnOk result (front.new.items ++ filled self.new ≡ front.old.items ++ filled self.old) }
         ensures room { OnOk result (self.new.end + count ≤ 128) }
     {
-        if self.end <= ROOM - count {
+        if self.end <= BLOCK_BYTES - count {
             return Ok(());
         }
         self.flush(front)

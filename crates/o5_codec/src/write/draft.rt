@@ -4,7 +4,7 @@ ghost use Rattle.std.specs.Bool.{OnTrue, OnFalse};
 ghost use Rattle.osm_model.specs.Extends.{Extends};
 ghost use Rattle.o5_codec.specs.Shortest.{shortest_number};
 
-use crate::write::block::{Block, ROOM};
+use crate::write::block::{BLOCK_BYTES, Block};
 use osm_model::Memory;
 use std::alloc::Global;
 use std::marker::Model;
@@ -144,7 +144,7 @@ impl Draft {
     pub(crate) fn append(&mut self, bytes: &[u8]) -> Result<(), Memory>
         ensures { OnOk result (self.new ≡ self.old ++ bytes.now) }
     {
-        if bytes.len() <= ROOM - self.block.len() {
+        if bytes.len() <= BLOCK_BYTES - self.block.len() {
             self.block.append(bytes);
             return Ok(());
         }
