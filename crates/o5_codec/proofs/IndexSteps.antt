@@ -116,7 +116,8 @@ first_number m next after h up = (h, elim up [ inl round ↦ inr (omega arith) |
 
 -- an entry comes
 stored_one : (m most next after : ℕ) (table : List FormedEntry) (e : FormedEntry) (number number' : FormedEntry → Option ℕ) →
-    IsIndexed m most next table number → length table < most → length table < m → reference_to e table ≡ None → IsNext m next after → IsChanged e (Some next) number number' →
+    IsIndexed m most next table number → length table < most → length table < m → reference_to e table ≡ None →
+    IsNext m next after → IsChanged e (Some next) number number' →
     IsIndexed m most after (e ∷ table) number'
 stored_one m most next after table e number number' h room small absent up changed = record {
   few = omega arith;
@@ -159,21 +160,26 @@ first_of (y ∷ ys) x at = let same : y ≡ x = cc in ap (λ z. z ∷ ys) same
 -- an entry comes into a ring that has room
 pub put_free : (m most next after capacity : ℕ) (xs : List FormedEntry) (e : FormedEntry) (number number' : FormedEntry → Option ℕ) →
     most < m → capacity ≡ most →
-    IsIndexed m most next (reverse xs) number → reference_to e (reverse xs) ≡ None → IsNext m next after → IsChanged e (Some next) number number' →
+    IsIndexed m most next (reverse xs) number → reference_to e (reverse xs) ≡ None → IsNext m next after →
+    IsChanged e (Some next) number number' →
     None ≡ gone_from capacity xs e → IsIndexed m most after (take most (e ∷ reverse xs)) number'
 put_free m most next after capacity xs e number number' small full h absent up changed gone =
     let over = stored_over m most next after (reverse xs) e number number' small h absent up changed in
     let none : None ≡ gone_from most xs e = subst (λ k. None ≡ gone_from k xs e) full gone in
     elim (cases_lt (length xs) most) [
       | inl lt ↦ (let few : length (e ∷ reverse xs) ≤ most = omega (arith, length-reverse xs) in
-          subst (λ t. IsIndexed m most after t number') (sym (take_all most (e ∷ reverse xs) few)) (fewer m most (suc most) after (e ∷ reverse xs) number' over few))
+          subst (λ t. IsIndexed m most after t number') (sym (take_all most (e ∷ reverse xs) few))
+          (fewer m most (suc most) after (e ∷ reverse xs) number' over few))
       | inr le ↦ absurd (has_first xs e (sym (rw (le-ltb (length xs) most le) at none)))
     ]
 
 -- an entry comes into a full ring, and the oldest one goes
-pub put_full : (m most next after capacity : ℕ) (xs : List FormedEntry) (e last : FormedEntry) (number number' number'' : FormedEntry → Option ℕ) → most < m → capacity ≡ most →
-    IsIndexed m most next (reverse xs) number → reference_to e (reverse xs) ≡ None → IsNext m next after → IsChanged e (Some next) number number' →
-    Some last ≡ gone_from capacity xs e → IsChanged last None number' number'' → IsIndexed m most after (take most (e ∷ reverse xs)) number''
+pub put_full : (m most next after capacity : ℕ) (xs : List FormedEntry) (e last : FormedEntry)
+    (number number' number'' : FormedEntry → Option ℕ) → most < m → capacity ≡ most →
+    IsIndexed m most next (reverse xs) number → reference_to e (reverse xs) ≡ None → IsNext m next after →
+    IsChanged e (Some next) number number' →
+    Some last ≡ gone_from capacity xs e → IsChanged last None number' number'' →
+    IsIndexed m most after (take most (e ∷ reverse xs)) number''
 put_full m most next after capacity xs e last number number' number'' small full h absent up changed gone removed =
     let over = stored_over m most next after (reverse xs) e number number' small h absent up changed in
     let some : Some last ≡ gone_from most xs e = subst (λ k. Some last ≡ gone_from k xs e) full gone in
@@ -181,12 +187,14 @@ put_full m most next after capacity xs e last number number' number'' small full
       | inl lt ↦ absurd (let clash : Some last ≡ None = rw (lt-ltb (length xs) most lt) at some in cc)
       | inr le ↦ (let at : slice_get (xs ++ e ∷ []) 0 ≡ Some last = sym (rw (le-ltb (length xs) most le) at some) in
           let rest : List FormedEntry = drop 1 (xs ++ e ∷ []) in
-          let turned : e ∷ reverse xs ≡ reverse rest ++ last ∷ [] = sym (reverse-append xs (e ∷ [])) ∙ ap reverse (first_of (xs ++ e ∷ []) last at) ∙ reverse-append (last ∷ []) rest in
+          let turned : e ∷ reverse xs ≡ reverse rest ++ last ∷ [] =
+          sym (reverse-append xs (e ∷ [])) ∙ ap reverse (first_of (xs ++ e ∷ []) last at) ∙ reverse-append (last ∷ []) rest in
           let both : suc (length (reverse xs)) ≡ length (reverse rest) + 1 = ap length turned ∙ length-append (reverse rest) (last ∷ []) in
           let long : length (reverse rest) ≡ most = omega (arith, h.few, length-reverse xs) in
           subst (λ t. IsIndexed m most after t number'') (sym (ap (take most) turned ∙ take_at (reverse rest) (last ∷ []) most long))
           (fewer m most (suc most) after (reverse rest) number''
-          (evicted m (suc most) after (reverse rest) last number' number'' (subst (λ t. IsIndexed m (suc most) after t number') turned over) removed) (omega arith)))
+          (evicted m (suc most) after (reverse rest) last number' number''
+          (subst (λ t. IsIndexed m (suc most) after t number') turned over) removed) (omega arith)))
     ]
 
 -- the reference at a number, below next and not
@@ -212,7 +220,8 @@ within_up k m None le w = tt
 within_up k m (Some i) le w = (w.0, omega arith)
 
 pub found_in : (m most next : ℕ) (table : List FormedEntry) (number : FormedEntry → Option ℕ) (e : FormedEntry) (n : ℕ) →
-    IsIndexed m most next table number → Some n ≡ number e → Numbered m next (reference_to e table) (Some n) × Within most (reference_to e table)
+    IsIndexed m most next table number → Some n ≡ number e →
+    Numbered m next (reference_to e table) (Some n) × Within most (reference_to e table)
 found_in m most next table number e n h is =
     (subst (λ o. Numbered m next (reference_to e table) o) (sym is) (h.each e), within_up (length table) most _ h.few (within e table))
 
@@ -244,7 +253,8 @@ standing (x ∷ table) zero e distinct at =
 standing (x ∷ table) (suc i) e distinct at =
     let behind : reference_to e table ≡ Some (i + 1) = standing table i e distinct.1 at in
     elim (cases_Bool (same_entry e x)) [
-      | inl is ↦ absurd (let twice : Some (i + 1) ≡ None = sym behind ∙ ap (λ f. reference_to f table) ((same_entry_decides e x).0 is) ∙ distinct.0 in cc)
+      | inl is ↦ absurd (let twice : Some (i + 1) ≡ None =
+          sym behind ∙ ap (λ f. reference_to f table) ((same_entry_decides e x).0 is) ∙ distinct.0 in cc)
       | inr other ↦ (let one : i + 1 + 1 ≡ suc i + 1 = omega arith in
           cond-false (same_entry e x) (Some 1) _ other ∙ ap (option_map (λ n. n + 1)) behind ∙ ap (λ n. Some n) one)
     ]

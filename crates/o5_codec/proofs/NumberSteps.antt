@@ -24,7 +24,9 @@ pub record Read (bytes : List ℕ) (i value weight : ℕ) : Type 0 where
 
 scaled_low : (value weight low : ℕ) (r : Result (ℕ × List ℕ) O5Reason) →
     scaled value weight (with_low low r) ≡ scaled (value + low * weight) (weight * 128) r
-scaled_low value weight low (Ok x) = let e : value + weight * (low + 128 * x.0) ≡ value + low * weight + weight * 128 * x.0 = omega arith in ap (λ n. Ok (n, x.1)) e
+scaled_low value weight low (Ok x) =
+    let e : value + weight * (low + 128 * x.0) ≡ value + low * weight + weight * 128 * x.0 = omega arith in
+    ap (λ n. Ok (n, x.1)) e
 scaled_low value weight low (Err e) = refl
 
 scaled_step : (value weight room b : ℕ) (rest : List ℕ) → 128 ≤ b →
@@ -52,7 +54,10 @@ read_more bytes i value weight b r is small inside high byte =
     }
 
 pub weight_fits : (bytes : List ℕ) (i value weight : ℕ) → Read bytes i value weight → i ≤ 8 → weight * 128 ≤ 2 ^ 63
-weight_fits bytes i value weight r small = let p : 128 ^ i ≤ 128 ^ 8 = pow-le-pow_right (omega arith) small in let e = r.power in omega arith
+weight_fits bytes i value weight r small =
+    let p : 128 ^ i ≤ 128 ^ 8 = pow-le-pow_right (omega arith) small in
+    let e = r.power in
+    omega arith
 
 groups_none : (room : ℕ) → groups_at room [] ≡ Err BadNumber
 unfolding groups_at
@@ -85,7 +90,8 @@ pub read_sum : (bytes : List ℕ) (i value weight b sum : ℕ) → Read bytes i 
     b < 128 → sum ≡ value + b * weight → sum < 2 ^ 64 →
     number_at bytes ≡ Ok (sum, take (length bytes - (i + 1)) (drop (i + 1) bytes))
 read_sum bytes i value weight b sum r is small inside low same fits =
-    read_end bytes i value weight b r is small inside low (omega arith) ∙ ap (λ n. Ok (n, take (length bytes - (i + 1)) (drop (i + 1) bytes))) (sym same)
+    read_end bytes i value weight b r is small inside low (omega arith)
+    ∙ ap (λ n. Ok (n, take (length bytes - (i + 1)) (drop (i + 1) bytes))) (sym same)
 
 -- a last group that doesn't fit, or one that isn't the last
 over : (value weight b : ℕ) (rest : List ℕ) → 2 ^ 64 ≤ value + weight * b →

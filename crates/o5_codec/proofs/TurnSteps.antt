@@ -22,7 +22,8 @@ turn_next step steps b0 b1 b2 s0 s1 s2 first rest =
     let P : WrittenSegment → Type 0 = λ s. Appended b1 b2 s2 (in_turn steps s) in
     let behind : Appended b1 b2 s2 (in_turn steps (step s0).1) = subst P first.context rest in
     record {
-      bytes = behind.bytes ∙ ap (λ b. b ++ (in_turn steps (step s0).1).0) first.bytes ∙ append_assoc b0 (step s0).0 (in_turn steps (step s0).1).0;
+      bytes = behind.bytes ∙ ap (λ b. b ++ (in_turn steps (step s0).1).0) first.bytes
+          ∙ append_assoc b0 (step s0).0 (in_turn steps (step s0).1).0;
       context = behind.context;
     }
 
@@ -52,7 +53,9 @@ module _ {X : Type 0} (step : X → Step) where
 
   pub turns_end : (all rest : List X) (before now : List ℕ) (start s : WrittenSegment) → Turns all rest before now start s → rest ≡ [] →
       Appended before now s (in_turn (map step all) start)
-  turns_end all rest before now start s h is = h.left now s (let P : List X → Type 0 = λ xs. Appended now now s (in_turn (map step xs) s) in subst P (sym is) (turn_none now s))
+  turns_end all rest before now start s h is =
+      let P : List X → Type 0 = λ xs. Appended now now s (in_turn (map step xs) s) in
+      h.left now s (subst P (sym is) (turn_none now s))
 
 -- each item of a list passes a test that all of them pass
 all_at : {X : Type 0} (p : X → Bool) (xs : List X) (i : ℕ) (d : X) → i < length xs → list_all p xs ≡ true → p (get_or xs i d) ≡ true

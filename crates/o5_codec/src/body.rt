@@ -13,7 +13,7 @@ use crate::text::to_text;
 use osm_model::{Body, Kind, Member, Members, Memory, References, Spare, Tag, Tags};
 
 impl ListsSeen {
-    /// What the segment had behind a way with this section of references.
+    /// The lists that the segment had after a way with this section of references.
     fn with_section(self, section: &[u8]) -> Result<ListsSeen, O5Reason>
         ensures { result ≡ spec.with_section self section.now }
     {
@@ -26,7 +26,7 @@ impl ListsSeen {
         }
     }
 
-    /// What the segment had behind a member of this kind.
+    /// The lists that the segment had after a member of this kind.
     fn with_member(self, kind: Kind) -> Result<ListsSeen, O5Reason>
         ensures { result ≡ spec.with_member self kind }
     {
@@ -239,7 +239,7 @@ impl Segment {
         Ok(Tags::from_vec(tags))
     }
 
-    /// Adds a tag to a list, and answers the bytes behind it. Handed on by results, a tag was moved four times.
+    /// Adds a tag to a list. Returns the bytes after it. Handed on by results, a tag was moved four times.
     #[inline(always)]
     #[tactic(auto, unfolding(crate::specs::Body::tag_at, crate::specs::Strings::strings_at))]
     fn add_tag<'a>(&mut self, bytes: &'a [u8], tags: &mut Vec<Tag>) -> Result<&'a [u8], O5Reason>
@@ -265,7 +265,7 @@ fn room_for_references(bytes: &[u8], spare: &mut Spare) -> Result<Vec<i64>, Memo
     Ok(ids)
 }
 
-/// The section whose length stands in front of it, and the bytes behind it.
+/// The section at the front, which begins with its length, and the bytes after it.
 #[tactic(auto, unfolding(crate::specs::Body::section_at))]
 fn read_section(bytes: &[u8]) -> Result<(&[u8], &[u8]), O5Reason>
     ensures { Gives (λ x. (x.0.now, x.1.now)) (spec.section_at bytes.now) result }
@@ -277,7 +277,7 @@ fn read_section(bytes: &[u8]) -> Result<(&[u8], &[u8]), O5Reason>
     Ok(rest.split_at(length as usize))
 }
 
-/// The kind of a member by its first byte, and the role behind it.
+/// The kind of a member by its first byte, and the role after it.
 fn split_kind(text: &[u8]) -> Result<(Kind, &[u8]), O5Reason>
     ensures { Gives (λ x. (x.0, x.1.now)) (spec.kind_and_role text.now) result }
 {

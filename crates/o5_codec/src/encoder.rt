@@ -113,7 +113,7 @@ impl Encoder {
     }
 }
 
-/// Whether a version of a kind begins a segment, behind one of the kind `last`.
+/// Whether a version of a kind begins a segment after one of the kind `last`.
 fn begins_segment(last: Kind, kind: Kind) -> bool
     ensures { result ≡ spec.begins_segment last kind }
 {
@@ -177,7 +177,7 @@ fn append_short_set(out: &mut Vec<u8>, kind: Kind, set: &mut Draft) -> Result<()
     set.append_to(out)
 }
 
-/// Appends a data set with any content, behind a reset where it begins a segment.
+/// Appends a data set with any content, after a reset where it begins a segment.
 #[inline(never)]
 fn append_any_set(out: &mut Vec<u8>, begins: bool, kind: Kind, set: &Draft) -> Result<(), Memory>
     requires { 2 ≤ length set.now }

@@ -1,11 +1,11 @@
 //! Numbers in groups of seven bits.
 //!
-//! Why: most numbers have one or two groups. Straight code for few groups, with the other two fast paths of the reader,
-//! raised 10 million nodes a second to 18 to 25 million; alone it isn't measured. A difference of 0 that is read by one
-//! test saves 1.0 percent of the instructions of a merge from o5m to o5m.
+//! Why: most numbers have one or two groups. Straight code for few groups is one of three changes that together raised
+//! 10 million nodes a second to 18 to 25 million. One test for a difference of 0 saves 1.0 percent of the instructions
+//! of a merge from o5m to o5m.
 //! Assumes: nothing; the straight code tests the length before each group.
 //! Otherwise: a number of more than five groups, or one that isn't ended, is read by the loop of `read_groups`.
-//! Compared by: `reads_numbers_at_their_limits`, which has numbers of one to ten groups.
+//! Compared by: `reads_numbers_at_their_limits`.
 ghost use Rattle.std.specs.Prelude.{◌≡◌, ◌<◌, length, pos, Ok, IfOk, IfSome};
 ghost use Rattle.o5_codec.specs.Answer.{Gives};
 ghost use Rattle.o5_codec.specs.Number.{number_at, signed_at, signed_of};
@@ -24,7 +24,7 @@ const THREE_MARKS: u64 = TWO_MARKS + 128 * 16_384;
 /// The marks of the first four groups.
 const FOUR_MARKS: u64 = THREE_MARKS + 128 * 2_097_152;
 
-/// The unsigned number at the front, and the bytes behind it.
+/// The unsigned number at the front, and the bytes after it.
 ///
 /// # Errors
 ///
@@ -40,7 +40,7 @@ pub fn read_number(bytes: &[u8]) -> Result<(u64, &[u8]), O5Reason>
     }
 }
 
-/// The unsigned number at the front, and the bytes behind it, where it is ended and has five groups at most.
+/// The unsigned number at the front, and the bytes after it, where it is ended and has five groups at most.
 #[inline(always)]
 fn read_few_groups(bytes: &[u8]) -> Option<(u64, &[u8])>
     ensures value { IfSome result (λ x. number_at bytes.now ≡ Ok (x.0, x.1.now)) }
@@ -97,7 +97,7 @@ fn read_any_groups(bytes: &[u8]) -> Result<(u64, &[u8]), O5Reason>
     Ok((number, rest))
 }
 
-/// The unsigned number of any length at the front, read group by group, and the bytes behind it.
+/// The unsigned number of any length at the front, read group by group, and the bytes after it.
 #[cold]
 #[inline(never)]
 fn read_groups(bytes: &[u8]) -> Result<(u64, &[u8]), O5Reason>
@@ -132,7 +132,7 @@ pub(crate) fn count_ended(bytes: &[u8]) -> usize {
     bytes.iter().filter(|byte| **byte < 128).count()
 }
 
-/// The signed number at the front, and the bytes behind it.
+/// The signed number at the front, and the bytes after it.
 ///
 /// # Errors
 ///
@@ -147,7 +147,7 @@ pub(crate) fn read_signed(bytes: &[u8]) -> Result<(i64, &[u8]), O5Reason>
     Ok((to_signed(number), rest))
 }
 
-/// The bytes behind the signed number 0, where that stands at the front in its shortest form.
+/// The bytes after the signed number 0, if the front has it in its shortest form.
 #[inline(always)]
 #[tactic(auto, unfolding(crate::specs::Number::signed_at, crate::specs::Number::number_at, crate::specs::Number::groups_at))]
 pub(crate) fn behind_zero(bytes: &[u8]) -> Option<&[u8]>

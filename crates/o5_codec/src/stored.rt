@@ -112,7 +112,7 @@ impl Stored {
         }
     }
 
-    /// Puts the user id and the user name in their places.
+    /// Puts the user id and the user name into `meta`.
     ///
     /// # Errors
     ///

@@ -61,7 +61,7 @@ impl Table {
         self.ring.clear();
     }
 
-    /// Stores strings that stand inline, unless they are too long.
+    /// Stores strings that are inline, unless they are too long.
     #[inline(always)]
     pub(crate) fn store(&mut self, spelled: &Spelled<'_>) -> Result<(), Memory>
         ensures { OnOk result (self.new ≡ table_after spelled.now self.old) }
@@ -93,7 +93,7 @@ impl Table {
         self.ring.push_back(entry);
     }
 
-    /// The strings that stand inline or that a reference names.
+    /// The strings that are inline or that a reference names.
     ///
     /// # Errors
     ///
@@ -114,7 +114,7 @@ impl Table {
         }
     }
 
-    /// Puts the user id and the user name of strings that stand inline or that a reference names in their places.
+    /// Puts the user id and the user name of strings, which are inline or which a reference names, into `meta`.
     ///
     /// # Errors
     ///
@@ -133,7 +133,7 @@ impl Table {
         }
     }
 
-    /// Adds the tag of strings that stand inline or that a reference names to a list.
+    /// Adds the tag of strings, which are inline or which a reference names, to `tags`.
     ///
     /// # Errors
     ///

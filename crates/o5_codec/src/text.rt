@@ -74,7 +74,7 @@ pub(crate) fn add_tag(
     Ok(tags.push(Tag { key, value })?)
 }
 
-/// Puts the user id and the user name of a pair in their places.
+/// Puts the user id and the user name of a pair into `meta`.
 ///
 /// # Errors
 ///
@@ -95,11 +95,11 @@ pub(crate) fn put_user(
     Ok(())
 }
 
-/// The text of a string, where it is one. Its copies are written many times, so it is looked at whether it is plain.
+/// The text of a string that is one. Its copies are written many times, so it is marked if it is plain.
 ///
 /// # Errors
 ///
-/// For want of memory alone.
+/// `Memory` when out of memory.
 pub(crate) fn known_text(alloc: Global, bytes: &[u8]) -> Result<Option<Text>, Memory>
     ensures bytes { IfOk result (λ known. IfSome known (λ text. encode_utf8_all text ≡ bytes.now)) }
     ensures text { IfOk result (λ known. IfSome known (λ text. text_of bytes.now ≡ Ok text)) }

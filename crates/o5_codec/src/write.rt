@@ -1,4 +1,4 @@
-//! What stands in data sets, as it is written.
+//! Writing the parts of data sets.
 pub(crate) mod block;
 pub(crate) mod body;
 pub(crate) mod draft;

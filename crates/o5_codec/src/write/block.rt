@@ -35,7 +35,7 @@ impl Block {
         }
     }
 
-    /// Lets all bytes go.
+    /// Drops all bytes.
     pub(crate) fn clear(&mut self)
         ensures bytes { filled self.new ≡ [] }
         ensures room { self.new.end ≡ 0 }
@@ -43,7 +43,7 @@ impl Block {
         self.end = 0;
     }
 
-    /// Lets all bytes go, and leaves room for two in front, which are set later.
+    /// Drops all bytes, and leaves room for two in front, which are set later.
     pub(crate) fn begin(&mut self)
         ensures { length (filled self.new) ≡ 2 }
     {
@@ -59,7 +59,7 @@ impl Block {
         self.bytes[1] = two;
     }
 
-    /// How many bytes there are.
+    /// The number of bytes.
     pub(crate) fn len(&self) -> usize
         ensures place { result ≡ self.now.end }
         ensures length { result ≡ length (filled self.now) }
@@ -74,11 +74,11 @@ impl Block {
         &self.bytes[..self.end]
     }
 
-    /// Makes room for so many bytes more: where there isn't, the bytes are moved to the end of those in front of them.
+    /// Makes room for `count` bytes: without room the bytes move to the end of `front`.
     ///
     /// # Errors
     ///
-    /// For want of memory alone.
+    /// `Memory` when out of memory.
     #[inline(always)]
     pub(crate) fn make_room(&mut self, count: usize, front: &mut Vec<u8>) -> Result<(), Memory>
         requires { count ≤ 128 }
@@ -91,11 +91,11 @@ impl Block {
         self.flush(front)
     }
 
-    /// Moves the bytes to the end of those in front of them.
+    /// Moves the bytes to the end of `front`.
     ///
     /// # Errors
     ///
-    /// For want of memory alone.
+    /// `Memory` when out of memory.
     #[inline(never)]
     pub(crate) fn flush(&mut self, front: &mut Vec<u8>) -> Result<(), Memory>
         ensures bytes { OnOk result (front.new.items ≡ front.old.items ++ filled self.old) }
@@ -107,7 +107,7 @@ impl Block {
         Ok(())
     }
 
-    /// One byte more.
+    /// Appends a byte.
     pub(crate) fn push(&mut self, byte: u8)
         requires { self.old.end < 128 }
         ensures { filled self.new ≡ filled self.old ++ byte ∷ [] }
@@ -116,7 +116,7 @@ impl Block {
         self.end += 1;
     }
 
-    /// More bytes.
+    /// Appends bytes.
     pub(crate) fn append(&mut self, bytes: &[u8])
         requires { self.old.end + length bytes.now ≤ 128 }
         ensures { filled self.new ≡ filled self.old ++ bytes.now }
@@ -126,7 +126,7 @@ impl Block {
         self.end = end;
     }
 
-    /// An unsigned number.
+    /// Appends an unsigned number.
     #[inline(always)]
     pub(crate) fn append_number(&mut self, number: u64)
         requires { self.old.end + 10 ≤ 128 }

@@ -95,7 +95,7 @@ impl Hash for Entry {
 }
 
 impl Entry {
-    /// An entry to be filled.
+    /// An entry of two empty strings.
     pub(crate) fn new(alloc: Global) -> Entry {
         Entry {
             form: Form::Pair,
@@ -113,7 +113,7 @@ impl Entry {
         Strings { first, second }
     }
 
-    /// Whether it is the entry of these strings.
+    /// Whether it is the entry of the strings of `key`.
     #[inline(always)]
     pub(crate) fn matches(&self, key: StringKey<'_>) -> bool
         ensures { OnTrue result (self.now ≡ formed_of key.entry) }
@@ -176,7 +176,7 @@ impl Entry {
         })
     }
 
-    /// Takes these strings.
+    /// Fills the entry with the strings of `key`.
     #[inline(always)]
     pub(crate) fn fill(&mut self, key: StringKey<'_>) -> Result<(), Memory>
         ensures { OnOk result (self.new ≡ formed_of key.entry) }
@@ -196,7 +196,7 @@ impl Entry {
         }
     }
 
-    /// Takes two strings, of which `front` and `rest` are the first. The room of a long string is given back.
+    /// Fills the entry with two strings: `front` and `rest` together, and `second`. Memory of long strings is freed.
     fn fill_strings(
         &mut self,
         form: Form,
@@ -244,7 +244,7 @@ fn uid_digits(uid: u64) -> Block
     digits
 }
 
-/// Whether a string is the digit of a member's kind, and behind it this role.
+/// Whether a string is the digit of a member's kind and after it this role.
 #[inline(always)]
 fn is_member_string(string: &[u8], kind: Kind, role: &[u8]) -> bool
     ensures { OnTrue result (string.now ≡ member_string kind role.now) }

@@ -103,7 +103,7 @@ impl IndexedTable {
         }
     }
 
-    /// The reference that names the entry of these strings, if the cache has it.
+    /// The reference that names the entry of the strings of `key`, if the cache has it.
     #[inline(always)]
     pub(crate) fn cached_reference(&self, key: StringKey<'_>) -> Option<u64>
         ensures { IfSome result (λ n. reference_to (formed_of key.entry) self.now ≡ Some n) }

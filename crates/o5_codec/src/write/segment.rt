@@ -22,7 +22,7 @@ use std::marker::Model;
 pub(crate) struct WrittenSegment {
     bases: Bases,
     table: IndexedTable,
-    /// The entry at hand, whose buffer is used again.
+    /// The entry that is filled and appended, whose buffer is used again.
     entry: Entry,
 }
 
@@ -35,7 +35,7 @@ impl Model for WrittenSegment {
 }
 
 impl WrittenSegment {
-    /// What stands where a segment begins: nothing.
+    /// The beginning of a segment.
     pub(crate) fn new(alloc: Global) -> Result<WrittenSegment, Memory>
         ensures { IfOk result (λ c. c ≡ new_written_segment) }
     {
@@ -112,9 +112,9 @@ impl WrittenSegment {
         self.bases.changeset.append(out, changeset)
     }
 
-    /// Appends strings: the reference of their entry if the table has it, else the strings inline.
+    /// Appends the strings of `key`: the reference of their entry if the table has it, else the strings inline.
     ///
-    /// It is inlined so that at each caller only the code for its kind of strings is left.
+    /// The function is inlined so that each caller has only the code for its kind of strings.
     #[inline(always)]
     #[tactic(auto, unfolding(crate::specs::Writing::strings_written))]
     pub(crate) fn append_strings(

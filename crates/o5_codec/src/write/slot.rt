@@ -17,7 +17,7 @@ const SLOTS: usize = 65_536;
 /// A slot keeps the number of a storing modulo this. A table has fewer entries.
 const NUMBERS: u64 = 65_536;
 
-/// For each slot, the number of the storing of the entry that was written last of those of the slot.
+/// For each slot, the number of the entry that was written last. The table may not have that entry any more.
 #[derive(Drop)]
 pub(crate) struct SlotCache {
     numbers: Vec<u16>,
@@ -56,7 +56,7 @@ fn lowest_bits(number: u64) -> u16 {
 pub(crate) struct Slot(u64);
 
 impl Slot {
-    /// The slot of strings.
+    /// The slot of the strings of `key`.
     #[inline(always)]
     pub(crate) fn of(key: StringKey<'_>) -> Slot {
         match key {

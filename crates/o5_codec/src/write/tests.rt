@@ -264,8 +264,7 @@ fn refers_to_the_last_15000_pairs(rt: HostRuntime) -> Result<(), Fail> {
     check_second(&rt, alloc, 15_001, "00002", "10 07 02 01 00 00 00 98 75")
 }
 
-/// The table as the format has it, for entries that numbers stand for: the numbers stored last, the latest at the end,
-/// and a search of them.
+/// The table as the format has it: the numbers of the entries stored last, the latest at the end, and a search of them.
 #[derive(Drop)]
 struct Plain {
     stored: Vec<u32>,
@@ -307,7 +306,7 @@ fn long_text(alloc: Global) -> Result<String, Fail> {
     Ok(text)
 }
 
-/// The strings that a number stands for: a user's, a tag's or a member's, now and then long ones.
+/// The strings of a number: those of a user, a tag or a member, now and then long ones.
 fn key_of<'a>(number: u32, digits: &'a [u8], long: &'a [u8]) -> StringKey<'a> {
     match number % 16 {
         0..=3 => StringKey::User {
