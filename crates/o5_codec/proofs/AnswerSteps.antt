@@ -1,7 +1,6 @@
 -- Readings one after the other.
-use Rattle.std.proofs.Common.{◌≡◌, ◌∙◌, ◌⊎◌, inl, inr, ap, sym, Result, Ok, Err}
+use Rattle.std.proofs.Common.{◌≡◌, ◌∙◌, ap, sym, Result, Ok, Err}
 use Rattle.o5_codec.specs.declared.reason.O5Reason.{O5Reason}
-use Rattle.o5_codec.specs.declared.reason.O5Reason.TheVariants.{Memory}
 use Rattle.o5_codec.specs.Answer.{and_then}
 
 module _ {X Y : Type 0} (reading : Result X O5Reason) (next : X → Result Y O5Reason) where
@@ -10,14 +9,6 @@ module _ {X Y : Type 0} (reading : Result X O5Reason) (next : X → Result Y O5R
 
   pub read_next : (x : X) → reading ≡ Ok x → and_then reading next ≡ next x
   read_next x first = ap (λ r. and_then r next) first
-
-  pub wanting_first : (reason : O5Reason) → (reason ≡ Memory) ⊎ (reading ≡ Err reason) → (reason ≡ Memory) ⊎ (and_then reading next ≡ Err reason)
-  wanting_first reason (inl memory) = inl memory
-  wanting_first reason (inr first) = inr (refused_first reason first)
-
-  pub wanting_next : (x : X) (reason : O5Reason) → reading ≡ Ok x → (reason ≡ Memory) ⊎ (next x ≡ Err reason) → (reason ≡ Memory) ⊎ (and_then reading next ≡ Err reason)
-  wanting_next x reason first (inl memory) = inl memory
-  wanting_next x reason first (inr second) = inr (read_next x first ∙ second)
 
 -- one result is only one variant, with one value
 pub not_refused : {X E : Type 0} (r : Result X E) (x : X) (e : E) → r ≡ Ok x → r ≡ Err e → ⊥

@@ -1,5 +1,6 @@
 -- What storing an entry and evicting the oldest one do to the numbers.
-use Rattle.std.proofs.Common.{◌≡◌, ℕ, zero, suc, ◌+◌, ◌-◌, ◌<◌, ◌≤◌, ◌^◌, Bool, true, false, cond, List, [], ◌∷◌, ◌++◌, length, take, drop, reverse, length-append, refl, sym, ap, ◌∙◌, subst, arith, Option, Some, None, inl, inr, nat_lt, if◌then◌else◌}
+use Rattle.std.proofs.Common.{◌≡◌, ℕ, zero, suc, ◌+◌, ◌-◌, ◌<◌, ◌≤◌, ◌^◌, Bool, true, false, cond, List, [], ◌∷◌, ◌++◌, length, take, drop}
+use Rattle.std.proofs.Common.{reverse, length-append, refl, sym, ap, ◌∙◌, subst, arith, Option, Some, None, inl, inr, nat_lt, if◌then◌else◌}
 use Rattle.std.specs.Option.{option_map}
 use Rattle.std.specs.List.{slice_get}
 use Rattle.std.specs.HashMap as hash
@@ -20,7 +21,8 @@ apart : (e f k : FormedEntry) → same_entry e f ≡ false → same_entry e k �
 apart e f k n y = same.symm f k ∙ sym (same.congr e k f y) ∙ n
 
 -- what another entry finds after a change at e
-others_stay : {X : Type 0} (e f : FormedEntry) (old new : List (FormedEntry × X)) → KeepsOthers same_entry (λ k. same_entry e k) old new → same_entry e f ≡ false → lookup (λ k. same_entry f k) new ≡ lookup (λ k. same_entry f k) old
+others_stay : {X : Type 0} (e f : FormedEntry) (old new : List (FormedEntry × X)) → KeepsOthers same_entry (λ k. same_entry e k) old new →
+    same_entry e f ≡ false → lookup (λ k. same_entry f k) new ≡ lookup (λ k. same_entry f k) old
 unfolding KeepsOthers
 others_stay e f old new h n = h (λ k. same_entry f k) (λ x y. same.congr f x y) (λ k. apart e f k n)
 
@@ -42,7 +44,8 @@ within e (x ∷ table) =
     ]
 
 -- an entry that isn't the last one has its reference without the last one too
-without_last : (e : FormedEntry) (table : List FormedEntry) (last : FormedEntry) → same_entry e last ≡ false → reference_to e (table ++ last ∷ []) ≡ reference_to e table
+without_last : (e : FormedEntry) (table : List FormedEntry) (last : FormedEntry) → same_entry e last ≡ false →
+    reference_to e (table ++ last ∷ []) ≡ reference_to e table
 without_last e [] last n = cond-false (same_entry e last) (Some 1) None n
 without_last e (x ∷ table) last n = ap (λ r. cond (same_entry e x) (Some 1) (option_map (λ n. n + 1) r)) (without_last e table last n)
 
@@ -51,14 +54,16 @@ none_before true r e = cc
 none_before false None e = (refl, refl)
 none_before false (Some i) e = cc
 
-none_at_all : (e : FormedEntry) (table : List FormedEntry) (last : FormedEntry) → reference_to e (table ++ last ∷ []) ≡ None → (reference_to e table ≡ None) × (same_entry e last ≡ false)
+none_at_all : (e : FormedEntry) (table : List FormedEntry) (last : FormedEntry) → reference_to e (table ++ last ∷ []) ≡ None →
+    (reference_to e table ≡ None) × (same_entry e last ≡ false)
 none_at_all e [] last h = (refl, (none_before (same_entry e last) None h).0)
 none_at_all e (x ∷ table) last h =
     let first : (same_entry e x ≡ false) × (reference_to e (table ++ last ∷ []) ≡ None) = none_before _ _ h in
     let rest : (reference_to e table ≡ None) × (same_entry e last ≡ false) = none_at_all e table last first.1 in
     (cond-false (same_entry e x) _ _ first.0 ∙ ap (option_map (λ n. n + 1)) rest.0, rest.1)
 
-distinct_last : (table : List FormedEntry) (last : FormedEntry) → AreDistinct (table ++ last ∷ []) → AreDistinct table × (reference_to last table ≡ None)
+distinct_last : (table : List FormedEntry) (last : FormedEntry) → AreDistinct (table ++ last ∷ []) →
+    AreDistinct table × (reference_to last table ≡ None)
 distinct_last [] last h = (tt, refl)
 distinct_last (x ∷ table) last h =
     let first : (reference_to x table ≡ None) × (same_entry x last ≡ false) = none_at_all x table last h.0 in
@@ -93,7 +98,8 @@ evicted m most next table last number number' h changed =
       ];
     }
 
-numbered_more : (m next after k : ℕ) (r n : Option ℕ) → IsNext m next after → k < m → Within k r → Numbered m next r n → Numbered m after (option_map (λ n. n + 1) r) n
+numbered_more : (m next after k : ℕ) (r n : Option ℕ) → IsNext m next after → k < m → Within k r → Numbered m next r n →
+    Numbered m after (option_map (λ n. n + 1) r) n
 numbered_more m next after k None None up few w h = tt
 numbered_more m next after k None (Some n) up few w h = h
 numbered_more m next after k (Some i) None up few w h = h
@@ -110,7 +116,8 @@ first_number m next after h up = (h, elim up [ inl round ↦ inr (omega arith) |
 
 -- an entry comes
 stored_one : (m most next after : ℕ) (table : List FormedEntry) (e : FormedEntry) (number number' : FormedEntry → Option ℕ) →
-    IsIndexed m most next table number → length table < most → length table < m → reference_to e table ≡ None → IsNext m next after → IsChanged e (Some next) number number' →
+    IsIndexed m most next table number → length table < most → length table < m → reference_to e table ≡ None →
+    IsNext m next after → IsChanged e (Some next) number number' →
     IsIndexed m most after (e ∷ table) number'
 stored_one m most next after table e number number' h room small absent up changed = record {
   few = omega arith;
@@ -126,7 +133,8 @@ stored_one m most next after table e number number' h room small absent up chang
   ];
 }
 
-fewer : (m most more next : ℕ) (table : List FormedEntry) (number : FormedEntry → Option ℕ) → IsIndexed m more next table number → length table ≤ most → IsIndexed m most next table number
+fewer : (m most more next : ℕ) (table : List FormedEntry) (number : FormedEntry → Option ℕ) → IsIndexed m more next table number →
+    length table ≤ most → IsIndexed m most next table number
 fewer m most more next table number h few = record { few = few; below = h.below; distinct = h.distinct; each = h.each }
 
 -- an entry comes, and none goes yet
@@ -150,22 +158,28 @@ first_of [] x at = absurd (cc)
 first_of (y ∷ ys) x at = let same : y ≡ x = cc in ap (λ z. z ∷ ys) same
 
 -- an entry comes into a ring that has room
-pub put_free : (m most next after capacity : ℕ) (xs : List FormedEntry) (e : FormedEntry) (number number' : FormedEntry → Option ℕ) → most < m → capacity ≡ most →
-    IsIndexed m most next (reverse xs) number → reference_to e (reverse xs) ≡ None → IsNext m next after → IsChanged e (Some next) number number' →
+pub put_free : (m most next after capacity : ℕ) (xs : List FormedEntry) (e : FormedEntry) (number number' : FormedEntry → Option ℕ) →
+    most < m → capacity ≡ most →
+    IsIndexed m most next (reverse xs) number → reference_to e (reverse xs) ≡ None → IsNext m next after →
+    IsChanged e (Some next) number number' →
     None ≡ gone_from capacity xs e → IsIndexed m most after (take most (e ∷ reverse xs)) number'
 put_free m most next after capacity xs e number number' small full h absent up changed gone =
     let over = stored_over m most next after (reverse xs) e number number' small h absent up changed in
     let none : None ≡ gone_from most xs e = subst (λ k. None ≡ gone_from k xs e) full gone in
     elim (cases_lt (length xs) most) [
       | inl lt ↦ (let few : length (e ∷ reverse xs) ≤ most = omega (arith, length-reverse xs) in
-          subst (λ t. IsIndexed m most after t number') (sym (take_all most (e ∷ reverse xs) few)) (fewer m most (suc most) after (e ∷ reverse xs) number' over few))
+          subst (λ t. IsIndexed m most after t number') (sym (take_all most (e ∷ reverse xs) few))
+          (fewer m most (suc most) after (e ∷ reverse xs) number' over few))
       | inr le ↦ absurd (has_first xs e (sym (rw (le-ltb (length xs) most le) at none)))
     ]
 
 -- an entry comes into a full ring, and the oldest one goes
-pub put_full : (m most next after capacity : ℕ) (xs : List FormedEntry) (e last : FormedEntry) (number number' number'' : FormedEntry → Option ℕ) → most < m → capacity ≡ most →
-    IsIndexed m most next (reverse xs) number → reference_to e (reverse xs) ≡ None → IsNext m next after → IsChanged e (Some next) number number' →
-    Some last ≡ gone_from capacity xs e → IsChanged last None number' number'' → IsIndexed m most after (take most (e ∷ reverse xs)) number''
+pub put_full : (m most next after capacity : ℕ) (xs : List FormedEntry) (e last : FormedEntry)
+    (number number' number'' : FormedEntry → Option ℕ) → most < m → capacity ≡ most →
+    IsIndexed m most next (reverse xs) number → reference_to e (reverse xs) ≡ None → IsNext m next after →
+    IsChanged e (Some next) number number' →
+    Some last ≡ gone_from capacity xs e → IsChanged last None number' number'' →
+    IsIndexed m most after (take most (e ∷ reverse xs)) number''
 put_full m most next after capacity xs e last number number' number'' small full h absent up changed gone removed =
     let over = stored_over m most next after (reverse xs) e number number' small h absent up changed in
     let some : Some last ≡ gone_from most xs e = subst (λ k. Some last ≡ gone_from k xs e) full gone in
@@ -173,12 +187,14 @@ put_full m most next after capacity xs e last number number' number'' small full
       | inl lt ↦ absurd (let clash : Some last ≡ None = rw (lt-ltb (length xs) most lt) at some in cc)
       | inr le ↦ (let at : slice_get (xs ++ e ∷ []) 0 ≡ Some last = sym (rw (le-ltb (length xs) most le) at some) in
           let rest : List FormedEntry = drop 1 (xs ++ e ∷ []) in
-          let turned : e ∷ reverse xs ≡ reverse rest ++ last ∷ [] = sym (reverse-append xs (e ∷ [])) ∙ ap reverse (first_of (xs ++ e ∷ []) last at) ∙ reverse-append (last ∷ []) rest in
+          let turned : e ∷ reverse xs ≡ reverse rest ++ last ∷ [] =
+          sym (reverse-append xs (e ∷ [])) ∙ ap reverse (first_of (xs ++ e ∷ []) last at) ∙ reverse-append (last ∷ []) rest in
           let both : suc (length (reverse xs)) ≡ length (reverse rest) + 1 = ap length turned ∙ length-append (reverse rest) (last ∷ []) in
           let long : length (reverse rest) ≡ most = omega (arith, h.few, length-reverse xs) in
           subst (λ t. IsIndexed m most after t number'') (sym (ap (take most) turned ∙ take_at (reverse rest) (last ∷ []) most long))
           (fewer m most (suc most) after (reverse rest) number''
-          (evicted m (suc most) after (reverse rest) last number' number'' (subst (λ t. IsIndexed m (suc most) after t number') turned over) removed) (omega arith)))
+          (evicted m (suc most) after (reverse rest) last number' number''
+          (subst (λ t. IsIndexed m (suc most) after t number') turned over) removed) (omega arith)))
     ]
 
 -- the reference at a number, below next and not
@@ -204,19 +220,13 @@ within_up k m None le w = tt
 within_up k m (Some i) le w = (w.0, omega arith)
 
 pub found_in : (m most next : ℕ) (table : List FormedEntry) (number : FormedEntry → Option ℕ) (e : FormedEntry) (n : ℕ) →
-    IsIndexed m most next table number → Some n ≡ number e → Numbered m next (reference_to e table) (Some n) × Within most (reference_to e table)
+    IsIndexed m most next table number → Some n ≡ number e →
+    Numbered m next (reference_to e table) (Some n) × Within most (reference_to e table)
 found_in m most next table number e n h is =
     (subst (λ o. Numbered m next (reference_to e table) o) (sym is) (h.each e), within_up (length table) most _ h.few (within e table))
 
-pub not_found : (m most next : ℕ) (table : List FormedEntry) (number : FormedEntry → Option ℕ) (e : FormedEntry) →
-    IsIndexed m most next table number → None ≡ number e → None ≡ reference_to e table
-not_found m most next table number e h is = none (reference_to e table) (subst (λ o. Numbered m next (reference_to e table) o) (sym is) (h.each e))
-  where
-    none : (r : Option ℕ) → Numbered m next r None → None ≡ r
-    none None k = refl
-    none (Some i) k = absurd k
-
-pub nothing_indexed : (m most next : ℕ) → next < m → (number : FormedEntry → Option ℕ) → ((e : FormedEntry) → number e ≡ None) → IsIndexed m most next [] number
+pub nothing_indexed : (m most next : ℕ) → next < m → (number : FormedEntry → Option ℕ) → ((e : FormedEntry) → number e ≡ None) →
+    IsIndexed m most next [] number
 nothing_indexed m most next below number none = record {
   few = omega arith;
   below = below;
@@ -224,7 +234,8 @@ nothing_indexed m most next below number none = record {
   each = λ e. are_none m next None (number e) refl (none e);
 }
 
-pub changed_by : {S : Type 0} (e : FormedEntry) (w : Option ℕ) (old new : HashMap FormedEntry ℕ S) → hash.UpdatesBy same_entry (λ k. same_entry e k) old new w →
+pub changed_by : {S : Type 0} (e : FormedEntry) (w : Option ℕ) (old new : HashMap FormedEntry ℕ S) →
+    hash.UpdatesBy same_entry (λ k. same_entry e k) old new w →
     IsChanged e w (λ f. hash.get_by (same_entry f) old) (λ f. hash.get_by (same_entry f) new)
 changed_by e w old new h = record { here = h.1; others = λ f n. others_stay e f _ _ h.3 n }
 
@@ -233,7 +244,8 @@ unfolding limit
 limit_is_small = omega arith
 
 -- an entry that stands in a table of distinct ones has the reference of its place
-pub standing : (table : List FormedEntry) (i : ℕ) (e : FormedEntry) → AreDistinct table → slice_get table i ≡ Some e → reference_to e table ≡ Some (i + 1)
+pub standing : (table : List FormedEntry) (i : ℕ) (e : FormedEntry) → AreDistinct table → slice_get table i ≡ Some e →
+    reference_to e table ≡ Some (i + 1)
 standing [] i e distinct at = absurd (cc)
 standing (x ∷ table) zero e distinct at =
     let here : x ≡ e = cc in
@@ -241,7 +253,8 @@ standing (x ∷ table) zero e distinct at =
 standing (x ∷ table) (suc i) e distinct at =
     let behind : reference_to e table ≡ Some (i + 1) = standing table i e distinct.1 at in
     elim (cases_Bool (same_entry e x)) [
-      | inl is ↦ absurd (let twice : Some (i + 1) ≡ None = sym behind ∙ ap (λ f. reference_to f table) ((same_entry_decides e x).0 is) ∙ distinct.0 in cc)
+      | inl is ↦ absurd (let twice : Some (i + 1) ≡ None =
+          sym behind ∙ ap (λ f. reference_to f table) ((same_entry_decides e x).0 is) ∙ distinct.0 in cc)
       | inr other ↦ (let one : i + 1 + 1 ≡ suc i + 1 = omega arith in
           cond-false (same_entry e x) (Some 1) _ other ∙ ap (option_map (λ n. n + 1)) behind ∙ ap (λ n. Some n) one)
     ]

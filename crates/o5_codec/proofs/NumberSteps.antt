@@ -1,5 +1,6 @@
 -- The loop of the reader: what is read so far, and what is left, stand for the whole number.
-use Rattle.std.proofs.Common.{◌≡◌, ℕ, zero, suc, ◌+◌, ◌-◌, ◌*◌, ◌<◌, ◌≤◌, ◌^◌, List, [], ◌∷◌, refl, ap, sym, ◌∙◌, Result, Ok, Err, arith, length, drop, take, get_or, inl, inr, subst}
+use Rattle.std.proofs.Common.{◌≡◌, ℕ, zero, suc, ◌+◌, ◌-◌, ◌*◌, ◌<◌, ◌≤◌, ◌^◌, List, [], ◌∷◌, refl, ap, sym, ◌∙◌, Result, Ok, Err, arith}
+use Rattle.std.proofs.Common.{length, drop, take, get_or, inl, inr, subst}
 use Rattle.std.proofs.Math.Nat.{pow-le-pow_right, mul-le-mul_right}
 use Rattle.std.proofs.Math.ListN.{drop_of_length-le}
 use Rattle.std.proofs.lemmas.Bool.{le-ltb, lt-ltb, cases_lt}
@@ -14,11 +15,6 @@ abbrev pub scaled : ℕ → ℕ → Result (ℕ × List ℕ) O5Reason → Result
 scaled value weight (Ok x) = Ok (value + weight * x.0, x.1)
 scaled value weight (Err e) = Err e
 
--- a number of one byte
-pub read_one : (bytes : List ℕ) (b : ℕ) (rest : List ℕ) → bytes ≡ b ∷ rest → b < 128 → number_at bytes ≡ Ok (b, rest)
-unfolding number_at groups_at
-read_one bytes b rest e low = let fits : b < 2 ^ 64 = omega arith in rw (e, lt-ltb b 128 low, lt-ltb b (2 ^ 64) fits) refl
-
 -- i bytes were read
 pub record Read (bytes : List ℕ) (i value weight : ℕ) : Type 0 where
   pub power : weight ≡ 128 ^ i
@@ -28,7 +24,9 @@ pub record Read (bytes : List ℕ) (i value weight : ℕ) : Type 0 where
 
 scaled_low : (value weight low : ℕ) (r : Result (ℕ × List ℕ) O5Reason) →
     scaled value weight (with_low low r) ≡ scaled (value + low * weight) (weight * 128) r
-scaled_low value weight low (Ok x) = let e : value + weight * (low + 128 * x.0) ≡ value + low * weight + weight * 128 * x.0 = omega arith in ap (λ n. Ok (n, x.1)) e
+scaled_low value weight low (Ok x) =
+    let e : value + weight * (low + 128 * x.0) ≡ value + low * weight + weight * 128 * x.0 = omega arith in
+    ap (λ n. Ok (n, x.1)) e
 scaled_low value weight low (Err e) = refl
 
 scaled_step : (value weight room b : ℕ) (rest : List ℕ) → 128 ≤ b →
@@ -41,7 +39,8 @@ scaled_end : (value weight room b : ℕ) (rest : List ℕ) → b < 128 →
 unfolding groups_at
 scaled_end value weight room b rest l = rw (lt-ltb b 128 l) refl
 
-pub read_more : (bytes : List ℕ) (i value weight b : ℕ) → Read bytes i value weight → b ≡ get_or bytes i 0 → i < 9 → i < length bytes → 128 ≤ b → b < 256 →
+pub read_more : (bytes : List ℕ) (i value weight b : ℕ) → Read bytes i value weight → b ≡ get_or bytes i 0 → i < 9 → i < length bytes →
+    128 ≤ b → b < 256 →
     Read bytes (i + 1) (value + (b - 128) * weight) (weight * 128)
 read_more bytes i value weight b r is small inside high byte =
     record {
@@ -55,20 +54,25 @@ read_more bytes i value weight b r is small inside high byte =
     }
 
 pub weight_fits : (bytes : List ℕ) (i value weight : ℕ) → Read bytes i value weight → i ≤ 8 → weight * 128 ≤ 2 ^ 63
-weight_fits bytes i value weight r small = let p : 128 ^ i ≤ 128 ^ 8 = pow-le-pow_right (omega arith) small in let e = r.power in omega arith
+weight_fits bytes i value weight r small =
+    let p : 128 ^ i ≤ 128 ^ 8 = pow-le-pow_right (omega arith) small in
+    let e = r.power in
+    omega arith
 
 groups_none : (room : ℕ) → groups_at room [] ≡ Err BadNumber
 unfolding groups_at
 groups_none zero = refl
 groups_none (suc room) = refl
 
-pub read_none : (bytes : List ℕ) (i value weight : ℕ) → Read bytes i value weight → i < 10 → i ≡ length bytes → number_at bytes ≡ Err BadNumber
+pub read_none : (bytes : List ℕ) (i value weight : ℕ) → Read bytes i value weight → i < 10 → i ≡ length bytes →
+    number_at bytes ≡ Err BadNumber
 unfolding number_at
 read_none bytes i value weight r small e =
     let none : drop i bytes ≡ [] = drop_of_length-le bytes (omega arith) in
     rw (r.left (10 - i) (omega arith), none, groups_none (10 - i)) refl
 
-pub read_end : (bytes : List ℕ) (i value weight b : ℕ) → Read bytes i value weight → b ≡ get_or bytes i 0 → i < 10 → i < length bytes → b < 128 → value + b * weight < 2 ^ 64 →
+pub read_end : (bytes : List ℕ) (i value weight b : ℕ) → Read bytes i value weight → b ≡ get_or bytes i 0 → i < 10 → i < length bytes →
+    b < 128 → value + b * weight < 2 ^ 64 →
     number_at bytes ≡ Ok (value + b * weight, take (length bytes - (i + 1)) (drop (i + 1) bytes))
 unfolding number_at
 read_end bytes i value weight b r is small inside low fits =
@@ -82,13 +86,16 @@ read_end bytes i value weight b r is small inside low fits =
     ap (λ r. and_then r within_word) read ∙ rw (lt-ltb (value + b * weight) (2 ^ 64) fits, take_rest bytes (i + 1)) refl
 
 -- a number whose last group is read, as a sum that is written in any way
-pub read_sum : (bytes : List ℕ) (i value weight b sum : ℕ) → Read bytes i value weight → b ≡ get_or bytes i 0 → i < 10 → i < length bytes → b < 128 → sum ≡ value + b * weight → sum < 2 ^ 64 →
+pub read_sum : (bytes : List ℕ) (i value weight b sum : ℕ) → Read bytes i value weight → b ≡ get_or bytes i 0 → i < 10 → i < length bytes →
+    b < 128 → sum ≡ value + b * weight → sum < 2 ^ 64 →
     number_at bytes ≡ Ok (sum, take (length bytes - (i + 1)) (drop (i + 1) bytes))
 read_sum bytes i value weight b sum r is small inside low same fits =
-    read_end bytes i value weight b r is small inside low (omega arith) ∙ ap (λ n. Ok (n, take (length bytes - (i + 1)) (drop (i + 1) bytes))) (sym same)
+    read_end bytes i value weight b r is small inside low (omega arith)
+    ∙ ap (λ n. Ok (n, take (length bytes - (i + 1)) (drop (i + 1) bytes))) (sym same)
 
 -- a last group that doesn't fit, or one that isn't the last
-over : (value weight b : ℕ) (rest : List ℕ) → 2 ^ 64 ≤ value + weight * b → and_then (scaled value weight (groups_at 1 (b ∷ rest))) within_word ≡ Err BadNumber
+over : (value weight b : ℕ) (rest : List ℕ) → 2 ^ 64 ≤ value + weight * b →
+    and_then (scaled value weight (groups_at 1 (b ∷ rest))) within_word ≡ Err BadNumber
 unfolding groups_at
 over value weight b rest h =
     elim (cases_lt b 128) [
@@ -97,7 +104,8 @@ over value weight b rest h =
     ]
 
 -- a tenth byte that is above 1
-pub read_over : (bytes : List ℕ) (i value weight b : ℕ) → Read bytes i value weight → b ≡ get_or bytes i 0 → i ≡ 9 → i < length bytes → 2 ≤ b → number_at bytes ≡ Err BadNumber
+pub read_over : (bytes : List ℕ) (i value weight b : ℕ) → Read bytes i value weight → b ≡ get_or bytes i 0 → i ≡ 9 → i < length bytes →
+    2 ≤ b → number_at bytes ≡ Err BadNumber
 unfolding number_at
 read_over bytes i value weight b r is nine inside high =
     let p : weight ≡ 128 ^ 9 = r.power ∙ ap (λ n. 128 ^ n) nine in

@@ -18,4 +18,5 @@ Gives view reading answer = MatchResult answer (λ x. reading ≡ Ok (view x)) (
 
 -- the answer, seen by a view, is the reading, unless memory was wanting
 abbrev pub Answers : {X Y : Type 0} → (X → Y) → Result Y O5Reason → Result X O5Reason → Type 0
-Answers view reading answer = MatchResult answer (λ x. reading ≡ Ok (view x)) (λ reason. (reason ≡ Memory) ⊎ (reading ≡ Err reason))
+Answers view reading answer =
+    MatchResult answer (λ x. reading ≡ Ok (view x)) (λ reason. (reason ≡ Memory) ⊎ (reading ≡ Err reason))

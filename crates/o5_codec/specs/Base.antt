@@ -1,4 +1,5 @@
--- Numbers as differences to the base of their field (the OSM wiki's page on o5m); their ranges are own rules of this project.
+-- Numbers as differences to the base of their field (the OSM wiki's page on o5m); their ranges are own rules of this
+-- project.
 use Rattle.std.specs.Prelude.{ℕ, ℤ, pos, negsuc, ◌+ℤ◌, ◌^◌, nat_lt, unsigned_abs, List, Result, Ok, Err, if◌then◌else◌}
 use Rattle.std.specs.Int.{w32, int_wrap}
 use Rattle.osm_model.specs.Id.{is_id}
@@ -29,4 +30,5 @@ moved_number base difference = number_within (pos base +ℤ difference)
 
 -- a longitude or a latitude: the sum, reduced modulo 2^32 to a number of 32 bits
 abbrev pub moved_coordinate : ℤ → ℤ → Result ℤ O5Reason
-moved_coordinate base difference = if nat_lt (unsigned_abs difference) (2 ^ 32) then Ok (int_wrap w32 (base +ℤ difference)) else Err OutOfRange
+moved_coordinate base difference =
+    if nat_lt (unsigned_abs difference) (2 ^ 32) then Ok (int_wrap w32 (base +ℤ difference)) else Err OutOfRange

@@ -1,4 +1,5 @@
--- The bodies of objects (the OSM wiki's page on o5m). That coordinates are reduced, that a segment may not have both a way with references and a relation with a node member, and the ranges, are own rules of this project.
+-- The bodies of objects (the OSM wiki's page on o5m). That coordinates are reduced, that a segment may not have both a
+-- way with references and a relation with a node member, and the ranges, are own rules of this project.
 use Rattle.std.specs.Prelude.{ℕ, ℤ, ◌==◌, nat_le, List, [], ◌∷◌, length, take, drop, Result, Ok, Err, if◌then◌else◌}
 use Rattle.osm_model.specs.declared.kind.Kind.{Kind}
 use Rattle.osm_model.specs.declared.kind.Kind.TheVariants as kind
@@ -31,7 +32,8 @@ with_seen s seen = record s { seen = seen }
 
 -- a tag is a pair
 unfoldable pub tag_at : Segment → List ℕ → Step Tag
-tag_at s bytes = and_then (strings_at Pair s.table bytes) (λ x. and_then (tag_of x.0) (λ tag. Ok (tag, with_table s x.1, x.2)))
+tag_at s bytes =
+    and_then (strings_at Pair s.table bytes) (λ x. and_then (tag_of x.0) (λ tag. Ok (tag, with_table s x.1, x.2)))
 
 -- a longitude, by its difference to the one before it
 unfoldable pub longitude_at : Segment → List ℕ → Step ℤ
@@ -82,7 +84,9 @@ way_at s bytes = and_then (section_at bytes) (λ x. and_then (with_section s.see
 
 -- the kind of a member by the digit 0, 1 or 2 in front of its role
 abbrev pub member_kind : ℕ → Result Kind O5Reason
-member_kind b = if b == 48 then Ok kind.Node else (if b == 49 then Ok kind.Way else (if b == 50 then Ok kind.Relation else Err BadMemberType))
+member_kind b =
+    if b == 48 then Ok kind.Node else
+    (if b == 49 then Ok kind.Way else (if b == 50 then Ok kind.Relation else Err BadMemberType))
 
 -- the kind, and the role behind it
 abbrev pub kind_and_role : List ℕ → Result (Kind × List ℕ) O5Reason
@@ -103,9 +107,12 @@ with_member seen kind.Relation = Ok seen
 
 -- the id of a member, by its difference to that of the member of its kind before it, and the bases behind it
 abbrev pub moved_member : Bases → Kind → ℤ → Result (ℤ × Bases) O5Reason
-moved_member bases kind.Node difference = and_then (moved_id bases.node_member difference) (λ id. Ok (id, record bases { node_member = id }))
-moved_member bases kind.Way difference = and_then (moved_id bases.way_member difference) (λ id. Ok (id, record bases { way_member = id }))
-moved_member bases kind.Relation difference = and_then (moved_id bases.relation_member difference) (λ id. Ok (id, record bases { relation_member = id }))
+moved_member bases kind.Node difference =
+    and_then (moved_id bases.node_member difference) (λ id. Ok (id, record bases { node_member = id }))
+moved_member bases kind.Way difference =
+    and_then (moved_id bases.way_member difference) (λ id. Ok (id, record bases { way_member = id }))
+moved_member bases kind.Relation difference =
+    and_then (moved_id bases.relation_member difference) (λ id. Ok (id, record bases { relation_member = id }))
 
 -- a member: the difference of its id, and a single string with its kind and its role
 unfoldable pub member_at : Segment → List ℕ → Step Member
@@ -116,7 +123,9 @@ member_at s bytes = and_then (signed_at bytes) (λ x. and_then (strings_at Singl
 
 -- a section of members, and tags
 unfoldable pub relation_at : Segment → List ℕ → Whole Body
-relation_at s bytes = and_then (section_at bytes) (λ x. and_then (items_at member_at s x.0) (λ members. and_then (items_at tag_at members.1 x.1) (λ tags.
+relation_at s bytes =
+    and_then (section_at bytes)
+    (λ x. and_then (items_at member_at s x.0) (λ members. and_then (items_at tag_at members.1 x.1) (λ tags.
     Ok (Relation members.0 tags.0, tags.1))))
 
 -- the body of a visible object
@@ -132,5 +141,6 @@ body_at k s (b ∷ bytes) = visible_at k s (b ∷ bytes)
 
 -- the version that a data set has, and the segment behind it
 unfoldable pub set_at : Kind → Segment → List ℕ → Whole VersionData
-set_at k s content = and_then (id_at s content) (λ x. and_then (meta_at x.1 x.2) (λ m. and_then (body_at k m.1 m.2) (λ b.
+set_at k s content =
+    and_then (id_at s content) (λ x. and_then (meta_at x.1 x.2) (λ m. and_then (body_at k m.1 m.2) (λ b.
     Ok (version_of x.0 m.0 b.0, b.1))))

@@ -11,7 +11,17 @@ use Rattle.o5_codec.specs.Body.{set_at}
 
 -- the bases where a segment begins
 abbrev pub no_bases : Bases
-no_bases = record { id = pos 0; time = 0; changeset = 0; lon = pos 0; lat = pos 0; reference = pos 0; node_member = pos 0; way_member = pos 0; relation_member = pos 0 }
+no_bases = record {
+  id = pos 0;
+  time = 0;
+  changeset = 0;
+  lon = pos 0;
+  lat = pos 0;
+  reference = pos 0;
+  node_member = pos 0;
+  way_member = pos 0;
+  relation_member = pos 0;
+}
 
 -- a segment that had nothing
 abbrev pub new_segment : Segment
@@ -27,6 +37,8 @@ reading_in s = record { segment = s; failed = false }
 
 -- after a data set of this kind was read, or refused: the answer, with the state before and the state after
 pub record Reads (k : Kind) (content : List ℕ) (old new : State) (answer : Result VersionData O5Reason) : Type 0 where
-  pub read : MatchResult answer (λ v. (old.failed ≡ false) × (new.failed ≡ false) × (set_at k old.segment content ≡ Ok (v, new.segment)))
-      (λ reason. (new.failed ≡ true) × (old.failed ≡ false → (reason ≡ Memory) ⊎ (set_at k old.segment content ≡ Err reason)))
+  pub read : MatchResult answer
+      (λ v. (old.failed ≡ false) × (new.failed ≡ false) × (set_at k old.segment content ≡ Ok (v, new.segment)))
+      (λ reason. (new.failed ≡ true) ×
+      (old.failed ≡ false → (reason ≡ Memory) ⊎ (set_at k old.segment content ≡ Err reason)))
   pub failed : old.failed ≡ true → answer ≡ Err Failed

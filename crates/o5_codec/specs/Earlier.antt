@@ -1,5 +1,7 @@
--- What a segment had, told by the list of its objects and the list of the entries that stood inline (delta coding and the string table of the OSM wiki's page on o5m).
-use Rattle.std.specs.Prelude.{◌≡◌, ℕ, ℤ, pos, Bool, true, false, List, [], ◌∷◌, ◌++◌, is_some, unwrap_or, Result, Ok, if◌then◌else◌}
+-- What a segment had, told by the list of its objects and the list of the entries that stood inline (delta coding and
+-- the string table of the OSM wiki's page on o5m).
+use Rattle.std.specs.Prelude.{◌≡◌, ℕ, ℤ, pos, Bool, true, false, List, [], ◌∷◌, ◌++◌, is_some, unwrap_or, Result, Ok}
+use Rattle.std.specs.Prelude.{if◌then◌else◌}
 use Rattle.std.specs.List.{flat_map, list_any}
 use Rattle.std.proofs.Common.{inl, inr}
 use Rattle.osm_model.specs.declared.kind.Kind.{Kind}
@@ -21,7 +23,8 @@ use Rattle.o5_codec.specs.Entry.{Entry}
 use Rattle.o5_codec.specs.Table.{table_of}
 use Rattle.o5_codec.specs.Answer.{and_then}
 use Rattle.o5_codec.specs.Body.{set_at}
-use Rattle.o5_codec.specs.Spelling.{StringsStand, AuthorBehind, AuthorStands, TagStands, MemberStands, ItemsStand, NodeStands, WayStands, RelationStands, BodyStands, SpellsSet}
+use Rattle.o5_codec.specs.Spelling.{StringsStand, AuthorBehind, AuthorStands, TagStands, MemberStands, ItemsStand}
+use Rattle.o5_codec.specs.Spelling.{NodeStands, WayStands, RelationStands, BodyStands, SpellsSet}
 
 -- ---- the values that a version spells for a field, in their order
 
@@ -122,7 +125,9 @@ has_node_members v = is_some_of (node_ids (members_of v.body))
 
 -- which of the two was among these objects; no segment has both
 abbrev pub lists_of : List VersionData → ListsSeen
-lists_of objects = if list_any has_references objects then References else (if list_any has_node_members objects then NodeMembers else Neither)
+lists_of objects =
+    if list_any has_references objects then References else
+    (if list_any has_node_members objects then NodeMembers else Neither)
 
 -- the segment that had these objects, and these entries inline
 abbrev pub segment_of : List VersionData → List Entry → Segment
@@ -130,15 +135,20 @@ segment_of objects entries = record { bases = bases_of objects; table = table_of
 
 -- ---- the entries that stand inline in what spells a version, in their order
 
-abbrev pub inline_strings : (form : Form) (table : List Entry) (bytes : List ℕ) (x : Entry × List Entry × List ℕ) → StringsStand form table bytes x → List Entry
+abbrev pub inline_strings : (form : Form) (table : List Entry) (bytes : List ℕ) (x : Entry × List Entry × List ℕ) →
+    StringsStand form table bytes x → List Entry
 inline_strings form table bytes x (inl inline) = x.0 ∷ []
 inline_strings form table bytes x (inr reference) = []
 
-abbrev pub inline_user : (changeset : ℕ) (s : Segment) (bytes : List ℕ) (x : Author × Segment × List ℕ) → AuthorBehind changeset s bytes x → List Entry
+abbrev pub inline_user : (changeset : ℕ) (s : Segment) (bytes : List ℕ) (x : Author × Segment × List ℕ) →
+    AuthorBehind changeset s bytes x → List Entry
 inline_user changeset s [] x stands = []
-inline_user changeset s (b ∷ bytes) x stands = let user = stands.1 in inline_strings Pair s.table (b ∷ bytes) (user.0, user.1, x.2) user.2
+inline_user changeset s (b ∷ bytes) x stands =
+    let user = stands.1 in
+    inline_strings Pair s.table (b ∷ bytes) (user.0, user.1, x.2) user.2
 
-abbrev pub inline_author : (time : ℕ) (s : Segment) (bytes : List ℕ) (x : Author × Segment × List ℕ) → AuthorStands time s bytes x → List Entry
+abbrev pub inline_author : (time : ℕ) (s : Segment) (bytes : List ℕ) (x : Author × Segment × List ℕ) →
+    AuthorStands time s bytes x → List Entry
 inline_author time s bytes x (inl none) = []
 inline_author time s bytes x (inr author) = inline_user author.1.0.0 author.1.0.1 author.1.0.2 x author.1.2
 
@@ -153,13 +163,16 @@ inline_items Stands of_item s bytes (x ∷ xs) end stands =
 abbrev pub inline_tag : (s : Segment) (bytes : List ℕ) (x : Tag × Segment × List ℕ) → TagStands s bytes x → List Entry
 inline_tag s bytes x stands = inline_strings Pair s.table bytes (stands.0, stands.1, x.2) stands.2
 
-abbrev pub inline_tags : (s : Segment) (bytes : List ℕ) (tags : List Tag) (end : Segment) → ItemsStand TagStands s bytes tags end → List Entry
+abbrev pub inline_tags : (s : Segment) (bytes : List ℕ) (tags : List Tag) (end : Segment) →
+    ItemsStand TagStands s bytes tags end → List Entry
 inline_tags = inline_items TagStands inline_tag
 
-abbrev pub inline_member : (s : Segment) (bytes : List ℕ) (x : Member × Segment × List ℕ) → MemberStands s bytes x → List Entry
+abbrev pub inline_member : (s : Segment) (bytes : List ℕ) (x : Member × Segment × List ℕ) → MemberStands s bytes x →
+    List Entry
 inline_member s bytes x stands = inline_strings Single s.table stands.0.1 (stands.1.0, stands.1.1, x.2) stands.6
 
-abbrev pub inline_members : (s : Segment) (bytes : List ℕ) (members : List Member) (end : Segment) → ItemsStand MemberStands s bytes members end → List Entry
+abbrev pub inline_members : (s : Segment) (bytes : List ℕ) (members : List Member) (end : Segment) →
+    ItemsStand MemberStands s bytes members end → List Entry
 inline_members = inline_items MemberStands inline_member
 
 abbrev pub inline_node : (s : Segment) (bytes : List ℕ) (x : Body × Segment) → NodeStands s bytes x → List Entry
@@ -170,23 +183,28 @@ inline_way s bytes x stands = inline_tags stands.2.1 stands.0.1 stands.3 x.1 sta
 
 abbrev pub inline_relation : (s : Segment) (bytes : List ℕ) (x : Body × Segment) → RelationStands s bytes x → List Entry
 inline_relation s bytes x stands =
-    inline_members s stands.0.0 stands.1.0 stands.1.1 stands.4 ++ inline_tags stands.1.1 stands.0.1 stands.2 x.1 stands.5
+    inline_members s stands.0.0 stands.1.0 stands.1.1 stands.4 ++
+    inline_tags stands.1.1 stands.0.1 stands.2 x.1 stands.5
 
-abbrev pub inline_body : (k : Kind) (s : Segment) (bytes : List ℕ) (x : Body × Segment) → BodyStands k s bytes x → List Entry
+abbrev pub inline_body : (k : Kind) (s : Segment) (bytes : List ℕ) (x : Body × Segment) → BodyStands k s bytes x →
+    List Entry
 inline_body k s [] x stands = []
 inline_body kind.Node s (b ∷ bytes) x stands = inline_node s (b ∷ bytes) x stands
 inline_body kind.Way s (b ∷ bytes) x stands = inline_way s (b ∷ bytes) x stands
 inline_body kind.Relation s (b ∷ bytes) x stands = inline_relation s (b ∷ bytes) x stands
 
 -- of a data set: the user, the members, the tags
-abbrev pub inline_entries : (k : Kind) (s : Segment) (content : List ℕ) (x : VersionData × Segment) → SpellsSet k s content x → List Entry
+abbrev pub inline_entries : (k : Kind) (s : Segment) (content : List ℕ) (x : VersionData × Segment) →
+    SpellsSet k s content x → List Entry
 inline_entries k s content x spells =
     let meta = spells.meta_stands in
-    inline_author meta.1.0 meta.1.1 meta.1.2 meta.2 meta.5 ++ inline_body k spells.meta.1 spells.meta.2 spells.body spells.body_stands
+    inline_author meta.1.0 meta.1.1 meta.1.2 meta.2 meta.5 ++
+    inline_body k spells.meta.1 spells.meta.2 spells.body spells.body_stands
 
 -- ---- data sets one after the other
 
--- contents, each with its kind, spell these versions one after the other, with these entries inline, from a segment to the segment behind them
+-- contents, each with its kind, spell these versions one after the other, with these entries inline, from a segment to
+-- the segment behind them
 abbrev pub SpellSets : Segment → List (Kind × List ℕ) → List VersionData → List Entry → Segment → Type 0
 SpellSets s [] [] inline end = (inline ≡ []) × (s ≡ end)
 SpellSets s [] (v ∷ versions) inline end = ⊥
@@ -198,4 +216,5 @@ SpellSets s (set ∷ sets) (v ∷ versions) inline end =
 -- the versions of data sets that are read one after the other, and the segment behind them
 abbrev pub sets_at : Segment → List (Kind × List ℕ) → Result (List VersionData × Segment) O5Reason
 sets_at s [] = Ok ([], s)
-sets_at s (set ∷ sets) = and_then (set_at set.0 s set.1) (λ x. and_then (sets_at x.1 sets) (λ more. Ok (x.0 ∷ more.0, more.1)))
+sets_at s (set ∷ sets) =
+    and_then (set_at set.0 s set.1) (λ x. and_then (sets_at x.1 sets) (λ more. Ok (x.0 ∷ more.0, more.1)))

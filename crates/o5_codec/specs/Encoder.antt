@@ -1,4 +1,5 @@
--- What an encoder keeps between two versions, and what it writes (the OSM wiki's page on o5m; where resets stand is an own rule of this project).
+-- What an encoder keeps between two versions, and what it writes (the OSM wiki's page on o5m; where resets stand is an
+-- own rule of this project).
 use Rattle.std.specs.Prelude.{◌≡◌, ◌≤◌, ℕ, Bool, true, false, not, ◌==◌, List, [], ◌∷◌, ◌++◌, length, if◌then◌else◌}
 use Rattle.osm_model.specs.declared.kind.Kind.{Kind}
 use Rattle.osm_model.specs.declared.kind.Kind.TheVariants as kind
@@ -50,7 +51,9 @@ context_of w v = context_for (begins_segment w.last (kind_of v.body)) w.context
 
 -- the bytes of a version
 unfoldable pub spelled_set : Written → VersionData → List ℕ
-spelled_set w v = reset_before (begins_segment w.last (kind_of v.body)) ++ data_set (kind_of v.body) (content_written v (context_of w v)).0
+spelled_set w v =
+    reset_before (begins_segment w.last (kind_of v.body)) ++
+    data_set (kind_of v.body) (content_written v (context_of w v)).0
 
 -- what is written after it
 unfoldable pub written_after : Written → VersionData → Written

@@ -1,5 +1,7 @@
--- The string table of a segment that is written (the OSM wiki's page on o5m). That each entry keeps its form, and that a reference names an entry of the same form alone, are own rules of this project.
-use Rattle.std.specs.Prelude.{ℕ, ◌+◌, Bool, true, false, ◌&&◌, List, [], ◌∷◌, ◌++◌, take, Option, Some, None, if◌then◌else◌}
+-- The string table of a segment that is written (the OSM wiki's page on o5m). That each entry keeps its form, and that
+-- a reference names an entry of the same form alone, are own rules of this project.
+use Rattle.std.specs.Prelude.{ℕ, ◌+◌, Bool, true, false, ◌&&◌, List, [], ◌∷◌, ◌++◌, take, Option, Some, None}
+use Rattle.std.specs.Prelude.{if◌then◌else◌}
 use Rattle.std.specs.Option.{option_map}
 use Rattle.std.specs.Str.{bytes_eq}
 use Rattle.o5_codec.specs.declared.strings.Form.{Form}
@@ -25,7 +27,8 @@ same_form Single Single = true
 
 -- the form and both strings are equal
 abbrev pub same_entry : FormedEntry → FormedEntry → Bool
-same_entry x y = same_form x.form y.form && (bytes_eq x.strings.first y.strings.first && bytes_eq x.strings.second y.strings.second)
+same_entry x y =
+    same_form x.form y.form && (bytes_eq x.strings.first y.strings.first && bytes_eq x.strings.second y.strings.second)
 
 -- how strings stand inline
 abbrev pub inline_bytes : Form → Entry → List ℕ

@@ -11,12 +11,14 @@ module _ {X : Type 0} (item_at : Segment → List ℕ → Step X) where
   unfoldable pub items_up_to : ℕ → Segment → List ℕ → Result (List X × Segment) O5Reason
   items_up_to most s [] = Ok ([], s)
   items_up_to zero s (b ∷ bytes) = Err BadText
-  items_up_to (suc most) s (b ∷ bytes) = and_then (item_at s (b ∷ bytes)) (λ x. and_then (items_up_to most x.1 x.2) (λ more. Ok (x.0 ∷ more.0, more.1)))
+  items_up_to (suc most) s (b ∷ bytes) =
+      and_then (item_at s (b ∷ bytes)) (λ x. and_then (items_up_to most x.1 x.2) (λ more. Ok (x.0 ∷ more.0, more.1)))
 
   -- items to the end of the bytes, and the segment behind them
   unfoldable pub items_at : Segment → List ℕ → Result (List X × Segment) O5Reason
   items_at s bytes = items_up_to (length bytes) s bytes
 
 -- a list with one item more, and the segment and the bytes behind it
-abbrev pub and_one_more : {X : Type 0} → List X → Result (X × Segment × List ℕ) O5Reason → Result (List X × Segment × List ℕ) O5Reason
+abbrev pub and_one_more : {X : Type 0} → List X → Result (X × Segment × List ℕ) O5Reason →
+    Result (List X × Segment × List ℕ) O5Reason
 and_one_more done reading = and_then reading (λ x. Ok (done ++ x.0 ∷ [], x.1, x.2))

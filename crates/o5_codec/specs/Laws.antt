@@ -22,16 +22,21 @@ use Rattle.o5_codec.specs.Spelling.{NumberStands, SignedStands, StringsStand, Sp
 
 -- an unsigned number is read exactly where it is spelled
 abbrev pub NumbersAreRead : Type 0
-NumbersAreRead = (bytes : List ℕ) (x : ℕ × List ℕ) → (number_at bytes ≡ Ok x → NumberStands bytes x) × (NumberStands bytes x → number_at bytes ≡ Ok x)
+NumbersAreRead =
+    (bytes : List ℕ) (x : ℕ × List ℕ) → (number_at bytes ≡ Ok x → NumberStands bytes x) ×
+    (NumberStands bytes x → number_at bytes ≡ Ok x)
 
 -- a signed number is read exactly where it is spelled
 abbrev pub SignedNumbersAreRead : Type 0
-SignedNumbersAreRead = (bytes : List ℕ) (x : ℤ × List ℕ) → (signed_at bytes ≡ Ok x → SignedStands bytes x) × (SignedStands bytes x → signed_at bytes ≡ Ok x)
+SignedNumbersAreRead =
+    (bytes : List ℕ) (x : ℤ × List ℕ) → (signed_at bytes ≡ Ok x → SignedStands bytes x) ×
+    (SignedStands bytes x → signed_at bytes ≡ Ok x)
 
 -- strings are read exactly where they are spelled, inline or by a reference
 abbrev pub StringsAreRead : Type 0
 StringsAreRead = (form : Form) (table : List Entry) (bytes : List ℕ) (x : Entry × List Entry × List ℕ) →
-    (strings_at form table bytes ≡ Ok x → StringsStand form table bytes x) × (StringsStand form table bytes x → strings_at form table bytes ≡ Ok x)
+    (strings_at form table bytes ≡ Ok x → StringsStand form table bytes x) ×
+    (StringsStand form table bytes x → strings_at form table bytes ≡ Ok x)
 
 -- a user id: an empty string for 0, else one number below 2^32 with nothing behind it
 abbrev pub SpellsUid : List ℕ → ℕ → Type 0
@@ -41,7 +46,8 @@ SpellsUid (b ∷ bytes) n = SpellsNumber (b ∷ bytes) n × (n < 2 ^ 32)
 -- a user is read exactly where the first string of a pair spells its id and the second its name
 abbrev pub UsersAreRead : Type 0
 UsersAreRead = (e : Entry) (x : ℕ × List ℕ) →
-    (user_of e ≡ Ok x → SpellsUid e.first x.0 × (text_of e.second ≡ Ok x.1)) × (SpellsUid e.first x.0 × (text_of e.second ≡ Ok x.1) → user_of e ≡ Ok x)
+    (user_of e ≡ Ok x → SpellsUid e.first x.0 × (text_of e.second ≡ Ok x.1)) ×
+    (SpellsUid e.first x.0 × (text_of e.second ≡ Ok x.1) → user_of e ≡ Ok x)
 
 -- one more inline entry
 abbrev pub TableOfEntries : Type 0
@@ -54,16 +60,21 @@ SetsAreRead = (k : Kind) (s : Segment) (content : List ℕ) (x : VersionData × 
 
 -- a content spells at most one version
 abbrev pub OneVersion : Type 0
-OneVersion = (k : Kind) (s : Segment) (content : List ℕ) (x y : VersionData × Segment) → SpellsSet k s content x → SpellsSet k s content y → x ≡ y
+OneVersion =
+    (k : Kind) (s : Segment) (content : List ℕ) (x y : VersionData × Segment) → SpellsSet k s content x →
+    SpellsSet k s content y → x ≡ y
 
 -- a content is refused exactly for the reason of its first step that can't be done
 abbrev pub SetsAreRefused : Type 0
 SetsAreRefused = (k : Kind) (s : Segment) (content : List ℕ) (reason : O5Reason) →
-    (set_at k s content ≡ Err reason → SetReason k s content reason) × (SetReason k s content reason → set_at k s content ≡ Err reason)
+    (set_at k s content ≡ Err reason → SetReason k s content reason) ×
+    (SetReason k s content reason → set_at k s content ≡ Err reason)
 
 -- a content spells a version, or there is a reason why it spells none
 abbrev pub SpelledOrRefused : Type 0
-SpelledOrRefused = (k : Kind) (s : Segment) (content : List ℕ) → ((x : VersionData × Segment) × SpellsSet k s content x) ⊎ ((reason : O5Reason) × SetReason k s content reason)
+SpelledOrRefused =
+    (k : Kind) (s : Segment) (content : List ℕ) → ((x : VersionData × Segment) × SpellsSet k s content x) ⊎
+    ((reason : O5Reason) × SetReason k s content reason)
 
 -- not both, and one reason alone, which is a reason of the steps
 pub record IsTheOnlyReason (k : Kind) (s : Segment) (content : List ℕ) (reason : O5Reason) : Type 0 where
@@ -72,33 +83,46 @@ pub record IsTheOnlyReason (k : Kind) (s : Segment) (content : List ℕ) (reason
   pub of_a_step : is_step_reason reason ≡ true
 
 abbrev pub OneReason : Type 0
-OneReason = (k : Kind) (s : Segment) (content : List ℕ) (reason : O5Reason) → SetReason k s content reason → IsTheOnlyReason k s content reason
+OneReason =
+    (k : Kind) (s : Segment) (content : List ℕ) (reason : O5Reason) → SetReason k s content reason →
+    IsTheOnlyReason k s content reason
 
 -- Data sets one after the other are read exactly where they spell these versions one after the other.
 abbrev pub ListsAreRead : Type 0
 ListsAreRead = (s : Segment) (sets : List (Kind × List ℕ)) (x : List VersionData × Segment) →
-    (sets_at s sets ≡ Ok x → (inline : List Entry) × SpellSets s sets x.0 inline x.1) × ((inline : List Entry) → SpellSets s sets x.0 inline x.1 → sets_at s sets ≡ Ok x)
+    (sets_at s sets ≡ Ok x → (inline : List Entry) × SpellSets s sets x.0 inline x.1) ×
+    ((inline : List Entry) → SpellSets s sets x.0 inline x.1 → sets_at s sets ≡ Ok x)
 
 -- one more data set behind others
 abbrev pub SetsGoOn : Type 0
-SetsGoOn = (s : Segment) (sets : List (Kind × List ℕ)) (versions : List VersionData) (inline : List Entry) (end : Segment) (k : Kind) (content : List ℕ) (x : VersionData × Segment) →
+SetsGoOn =
+    (s : Segment) (sets : List (Kind × List ℕ)) (versions : List VersionData) (inline : List Entry) (end : Segment)
+    (k : Kind) (content : List ℕ) (x : VersionData × Segment) →
     SpellSets s sets versions inline end → (spells : SpellsSet k end content x) →
     SpellSets s (sets ++ (k, content) ∷ []) (versions ++ x.0 ∷ []) (inline ++ inline_entries k end content x spells) x.1
 
--- What a segment keeps is told by the lists of what it had: each base is the value last spelled for its field, the table that of all inline entries, and the lists those that the objects have.
+-- What a segment keeps is told by the lists of what it had: each base is the value last spelled for its field, the
+-- table that of all inline entries, and the lists those that the objects have.
 abbrev pub SegmentsAreToldByLists : Type 0
-SegmentsAreToldByLists = (sets : List (Kind × List ℕ)) (versions : List VersionData) (inline : List Entry) (end : Segment) →
+SegmentsAreToldByLists =
+    (sets : List (Kind × List ℕ)) (versions : List VersionData) (inline : List Entry) (end : Segment) →
     SpellSets new_segment sets versions inline end → end ≡ segment_of versions inline
 
 -- No segment has both a way with references and a relation with a node member.
 abbrev pub ListsAreNotMixed : Type 0
 ListsAreNotMixed = (sets : List (Kind × List ℕ)) (versions : List VersionData) (inline : List Entry) (end : Segment) →
-    SpellSets new_segment sets versions inline end → list_any has_references versions && list_any has_node_members versions ≡ false
+    SpellSets new_segment sets versions inline end →
+    list_any has_references versions && list_any has_node_members versions ≡ false
 
 -- What is read from a new segment on is within the ranges of versions.
 abbrev pub SetsMakeVersions : Type 0
-SetsMakeVersions = (sets : List (Kind × List ℕ)) (versions : List VersionData) (end : Segment) → sets_at new_segment sets ≡ Ok (versions, end) → All IsVersion versions
+SetsMakeVersions =
+    (sets : List (Kind × List ℕ)) (versions : List VersionData) (end : Segment) →
+    sets_at new_segment sets ≡ Ok (versions, end) → All IsVersion versions
 
--- One data set, in a segment whose table has no zero bytes, is within the ranges of versions, and leaves such a segment.
+-- One data set, in a segment whose table has no zero bytes, is within the ranges of versions, and leaves such a
+-- segment.
 abbrev pub SoundSetsMakeVersions : Type 0
-SoundSetsMakeVersions = (k : Kind) (s : Segment) (content : List ℕ) (x : VersionData × Segment) → is_sound s ≡ true → set_at k s content ≡ Ok x → IsVersion x.0 × (is_sound x.1 ≡ true)
+SoundSetsMakeVersions =
+    (k : Kind) (s : Segment) (content : List ℕ) (x : VersionData × Segment) → is_sound s ≡ true →
+    set_at k s content ≡ Ok x → IsVersion x.0 × (is_sound x.1 ≡ true)

@@ -32,3 +32,4 @@ pub mod Meaning
 pub mod StoredInside
 pub mod EntryInside
 pub mod Digest
+pub mod StringKey

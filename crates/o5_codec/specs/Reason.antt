@@ -1,7 +1,9 @@
 -- The names of the reasons (own rule of this project).
 use Rattle.std.specs.Prelude.{ℕ, Bool, true, false, List, codes}
 use Rattle.o5_codec.specs.declared.reason.O5Reason.{O5Reason}
-use Rattle.o5_codec.specs.declared.reason.O5Reason.TheVariants.{BadNumber, OutOfRange, NoVersion, BadReference, BadText, NotUtf8, BadSection, BadMemberType, MixedSegment, Truncated, Memory, Failed}
+use Rattle.o5_codec.specs.declared.reason.O5Reason.TheVariants.{BadNumber, OutOfRange, NoVersion, BadReference, BadText}
+use Rattle.o5_codec.specs.declared.reason.O5Reason.TheVariants.{NotUtf8, BadSection, BadMemberType, MixedSegment}
+use Rattle.o5_codec.specs.declared.reason.O5Reason.TheVariants.{Truncated, Memory, Failed}
 
 abbrev pub o5_reason_name : O5Reason → List ℕ
 o5_reason_name BadNumber = codes "BadNumber"

@@ -1,4 +1,6 @@
--- Why a data set spells no version: the reason of the first step such that what stands at the front of its bytes doesn't spell it (the order of the steps is that of the OSM wiki's page on o5m; the reasons are own rules of this project).
+-- Why a data set spells no version: the reason of the first step such that what stands at the front of its bytes
+-- doesn't spell it (the order of the steps is that of the OSM wiki's page on o5m; the reasons are own rules of this
+-- project).
 use Rattle.std.specs.Prelude.{◌≡◌, ◌⊎◌, ◌<◌, ℕ, ℤ, true, false, List, [], ◌∷◌, length, None, Result, Ok, Err, ◌==◌}
 use Rattle.osm_model.specs.declared.kind.Kind.{Kind}
 use Rattle.osm_model.specs.declared.kind.Kind.TheVariants as kind
@@ -14,7 +16,9 @@ use Rattle.o5_codec.specs.Base.{moved_id, moved_number, moved_coordinate}
 use Rattle.o5_codec.specs.Text.{text_of, tag_of, user_of}
 use Rattle.o5_codec.specs.Segment.{numbered}
 use Rattle.o5_codec.specs.Body.{with_seen, with_section, kind_and_role, with_member, moved_member}
-use Rattle.o5_codec.specs.Spelling.{NumberStands, SignedStands, InlineStands, StringsStand, IdStands, TimeStands, ChangesetStands, LongitudeStands, LatitudeStands, ReferenceStands, VersionStands, MetaStands, TagStands, MemberStands, ItemsStand, SectionStands}
+use Rattle.o5_codec.specs.Spelling.{NumberStands, SignedStands, InlineStands, StringsStand, IdStands, TimeStands}
+use Rattle.o5_codec.specs.Spelling.{ChangesetStands, LongitudeStands, LatitudeStands, ReferenceStands, VersionStands}
+use Rattle.o5_codec.specs.Spelling.{MetaStands, TagStands, MemberStands, ItemsStand, SectionStands}
 
 -- nothing stands there, whatever it would spell
 abbrev pub Nothing : {X : Type 0} → (X → Type 0) → Type 0
@@ -39,12 +43,14 @@ InlineRefused form bytes reason = (reason ≡ BadText) × Nothing (InlineStands 
 
 -- a number that refers to no entry
 abbrev pub ReferenceMissing : List Entry → List ℕ → O5Reason → Type 0
-ReferenceMissing table bytes reason = Then (NumberRefused bytes reason) (NumberStands bytes) (λ x. (entry_at table x.0 ≡ None) × (reason ≡ BadReference))
+ReferenceMissing table bytes reason =
+    Then (NumberRefused bytes reason) (NumberStands bytes) (λ x. (entry_at table x.0 ≡ None) × (reason ≡ BadReference))
 
 -- no byte is left, a string isn't ended, or there is no such entry
 abbrev pub StringsRefused : Form → List Entry → List ℕ → O5Reason → Type 0
 StringsRefused form table [] reason = reason ≡ BadText
-StringsRefused form table (b ∷ bytes) reason = ((b == 0 ≡ true) × InlineRefused form bytes reason) ⊎ ((b == 0 ≡ false) × ReferenceMissing table (b ∷ bytes) reason)
+StringsRefused form table (b ∷ bytes) reason =
+    ((b == 0 ≡ true) × InlineRefused form bytes reason) ⊎ ((b == 0 ≡ false) × ReferenceMissing table (b ∷ bytes) reason)
 
 abbrev pub MovedRefused : {X : Type 0} → (ℤ → Result X O5Reason) → List ℕ → O5Reason → Type 0
 MovedRefused moved bytes reason = Then (SignedRefused bytes reason) (SignedStands bytes) (λ x. moved x.0 ≡ Err reason)
@@ -53,7 +59,8 @@ abbrev pub VersionRefused : List ℕ → O5Reason → Type 0
 VersionRefused bytes reason = Then (NumberRefused bytes reason) (NumberStands bytes) (λ x. numbered x ≡ Err reason)
 
 abbrev pub UserRefused : Segment → List ℕ → O5Reason → Type 0
-UserRefused s bytes reason = Then (StringsRefused Pair s.table bytes reason) (StringsStand Pair s.table bytes) (λ x. user_of x.0 ≡ Err reason)
+UserRefused s bytes reason =
+    Then (StringsRefused Pair s.table bytes reason) (StringsStand Pair s.table bytes) (λ x. user_of x.0 ≡ Err reason)
 
 abbrev pub BehindRefused : Segment → List ℕ → O5Reason → Type 0
 BehindRefused s [] reason = ⊥
@@ -61,14 +68,17 @@ BehindRefused s (b ∷ bytes) reason = UserRefused s (b ∷ bytes) reason
 
 abbrev pub AuthorRefused : ℕ → Segment → List ℕ → O5Reason → Type 0
 AuthorRefused time s bytes reason =
-    (time == 0 ≡ false) × Then (MovedRefused (moved_number s.bases.changeset) bytes reason) (ChangesetStands s bytes) (λ x. BehindRefused x.1 x.2 reason)
+    (time == 0 ≡ false) × Then (MovedRefused (moved_number s.bases.changeset) bytes reason) (ChangesetStands s bytes)
+    (λ x. BehindRefused x.1 x.2 reason)
 
 abbrev pub MetaRefused : Segment → List ℕ → O5Reason → Type 0
 MetaRefused s bytes reason = Then (VersionRefused bytes reason) (VersionStands bytes) (λ v.
-    Then (MovedRefused (moved_number s.bases.time) v.1 reason) (TimeStands s v.1) (λ t. AuthorRefused t.0 t.1 t.2 reason))
+    Then (MovedRefused (moved_number s.bases.time) v.1 reason) (TimeStands s v.1)
+    (λ t. AuthorRefused t.0 t.1 t.2 reason))
 
 abbrev pub TagRefused : Segment → List ℕ → O5Reason → Type 0
-TagRefused s bytes reason = Then (StringsRefused Pair s.table bytes reason) (StringsStand Pair s.table bytes) (λ x. tag_of x.0 ≡ Err reason)
+TagRefused s bytes reason =
+    Then (StringsRefused Pair s.table bytes reason) (StringsStand Pair s.table bytes) (λ x. tag_of x.0 ≡ Err reason)
 
 abbrev pub ReferenceRefused : Segment → List ℕ → O5Reason → Type 0
 ReferenceRefused s = MovedRefused (moved_id s.bases.reference)
@@ -77,36 +87,48 @@ ReferenceRefused s = MovedRefused (moved_id s.bases.reference)
 abbrev pub MemberRefused : Segment → List ℕ → O5Reason → Type 0
 MemberRefused s bytes reason = Then (SignedRefused bytes reason) (SignedStands bytes) (λ d.
     Then (StringsRefused Single s.table d.1 reason) (StringsStand Single s.table d.1) (λ x.
-    Made (kind_and_role x.0.first) (λ m. Made (with_member s.seen m.0) (λ _. Made (moved_member s.bases m.0 d.0) (λ _. text_of m.1 ≡ Err reason) reason) reason) reason))
+    Made (kind_and_role x.0.first)
+    (λ m. Made (with_member s.seen m.0)
+    (λ _. Made (moved_member s.bases m.0 d.0) (λ _. text_of m.1 ≡ Err reason) reason) reason) reason))
 
 -- these items stand, and behind them, where bytes are left, the next one is refused
-abbrev pub RefusedBehind : {X : Type 0} → (Segment → List ℕ → X × Segment × List ℕ → Type 0) → (Segment → List ℕ → O5Reason → Type 0) → O5Reason → List X → Segment → List ℕ → Type 0
+abbrev pub RefusedBehind : {X : Type 0} → (Segment → List ℕ → X × Segment × List ℕ → Type 0) →
+    (Segment → List ℕ → O5Reason → Type 0) → O5Reason → List X → Segment → List ℕ → Type 0
 RefusedBehind Stands Refused reason [] s bytes = Refused s bytes reason × (bytes ≡ [] → ⊥)
-RefusedBehind Stands Refused reason (x ∷ xs) s bytes = (middle : Segment) × (behind : List ℕ) × Stands s bytes (x, middle, behind) × RefusedBehind Stands Refused reason xs middle behind
+RefusedBehind Stands Refused reason (x ∷ xs) s bytes =
+    (middle : Segment) × (behind : List ℕ) × Stands s bytes (x, middle, behind) ×
+    RefusedBehind Stands Refused reason xs middle behind
 
 -- some of the items of a list is refused
-abbrev pub ItemsRefused : {X : Type 0} → (Segment → List ℕ → X × Segment × List ℕ → Type 0) → (Segment → List ℕ → O5Reason → Type 0) → Segment → List ℕ → O5Reason → Type 0
+abbrev pub ItemsRefused : {X : Type 0} → (Segment → List ℕ → X × Segment × List ℕ → Type 0) →
+    (Segment → List ℕ → O5Reason → Type 0) → Segment → List ℕ → O5Reason → Type 0
 ItemsRefused {X} Stands Refused s bytes reason = (xs : List X) × RefusedBehind Stands Refused reason xs s bytes
 
 abbrev pub TagsRefused : Segment → List ℕ → O5Reason → Type 0
 TagsRefused = ItemsRefused TagStands TagRefused
 
 abbrev pub NodeRefused : Segment → List ℕ → O5Reason → Type 0
-NodeRefused s bytes reason = Then (MovedRefused (moved_coordinate s.bases.lon) bytes reason) (LongitudeStands s bytes) (λ lon.
-    Then (MovedRefused (moved_coordinate lon.1.bases.lat) lon.2 reason) (LatitudeStands lon.1 lon.2) (λ lat. TagsRefused lat.1 lat.2 reason))
+NodeRefused s bytes reason =
+    Then (MovedRefused (moved_coordinate s.bases.lon) bytes reason) (LongitudeStands s bytes) (λ lon.
+    Then (MovedRefused (moved_coordinate lon.1.bases.lat) lon.2 reason) (LatitudeStands lon.1 lon.2)
+    (λ lat. TagsRefused lat.1 lat.2 reason))
 
 -- the length is no number, or more than what is left
 abbrev pub SectionRefused : List ℕ → O5Reason → Type 0
-SectionRefused bytes reason = Then (NumberRefused bytes reason) (NumberStands bytes) (λ x. (length x.1 < x.0) × (reason ≡ BadSection))
+SectionRefused bytes reason =
+    Then (NumberRefused bytes reason) (NumberStands bytes) (λ x. (length x.1 < x.0) × (reason ≡ BadSection))
 
 abbrev pub WayRefused : Segment → List ℕ → O5Reason → Type 0
-WayRefused s bytes reason = Then (SectionRefused bytes reason) (SectionStands bytes) (λ section. Made (with_section s.seen section.0) (λ seen.
-    Then (ItemsRefused ReferenceStands ReferenceRefused (with_seen s seen) section.0 reason) (λ (ids : List ℤ × Segment). ItemsStand ReferenceStands (with_seen s seen) section.0 ids.0 ids.1) (λ ids.
+WayRefused s bytes reason =
+    Then (SectionRefused bytes reason) (SectionStands bytes) (λ section. Made (with_section s.seen section.0) (λ seen.
+    Then (ItemsRefused ReferenceStands ReferenceRefused (with_seen s seen) section.0 reason)
+    (λ (ids : List ℤ × Segment). ItemsStand ReferenceStands (with_seen s seen) section.0 ids.0 ids.1) (λ ids.
     TagsRefused ids.1 section.1 reason)) reason)
 
 abbrev pub RelationRefused : Segment → List ℕ → O5Reason → Type 0
 RelationRefused s bytes reason = Then (SectionRefused bytes reason) (SectionStands bytes) (λ section.
-    Then (ItemsRefused MemberStands MemberRefused s section.0 reason) (λ (members : List Member × Segment). ItemsStand MemberStands s section.0 members.0 members.1) (λ members.
+    Then (ItemsRefused MemberStands MemberRefused s section.0 reason)
+    (λ (members : List Member × Segment). ItemsStand MemberStands s section.0 members.0 members.1) (λ members.
     TagsRefused members.1 section.1 reason))
 
 abbrev pub VisibleRefused : Kind → Segment → List ℕ → O5Reason → Type 0

@@ -21,15 +21,19 @@ both false b e = absurd (cc)
 pub same_entry_decides : (x y : FormedEntry) → Decides (same_entry x y) (x ≡ y)
 same_entry_decides x y = (
   λ e.
-      let outer = both (same_form x.form y.form) (bytes_eq x.strings.first y.strings.first && bytes_eq x.strings.second y.strings.second) e in
-      let inner = both (bytes_eq x.strings.first y.strings.first) (bytes_eq x.strings.second y.strings.second) outer.1 in
+      let outer = both (same_form x.form y.form)
+      (bytes_eq x.strings.first y.strings.first && bytes_eq x.strings.second y.strings.second) e in
+      let inner = both (bytes_eq x.strings.first y.strings.first)
+      (bytes_eq x.strings.second y.strings.second) outer.1 in
       let form : x.form ≡ y.form = (same_form_decides x.form y.form).0 outer.0 in
       let first : x.strings.first ≡ y.strings.first = (bytes_decides x.strings.first y.strings.first).0 inner.0 in
       let second : x.strings.second ≡ y.strings.second = (bytes_decides x.strings.second y.strings.second).0 inner.1 in
       λ i. formed (form i) (first i) (second i),
   λ e.
       let form : same_form x.form y.form ≡ true = (same_form_decides x.form y.form).1 (ap (λ z. z.form) e) in
-      let first : bytes_eq x.strings.first y.strings.first ≡ true = (bytes_decides x.strings.first y.strings.first).1 (ap (λ z. z.strings.first) e) in
-      let second : bytes_eq x.strings.second y.strings.second ≡ true = (bytes_decides x.strings.second y.strings.second).1 (ap (λ z. z.strings.second) e) in
+      let first : bytes_eq x.strings.first y.strings.first ≡ true =
+      (bytes_decides x.strings.first y.strings.first).1 (ap (λ z. z.strings.first) e) in
+      let second : bytes_eq x.strings.second y.strings.second ≡ true =
+      (bytes_decides x.strings.second y.strings.second).1 (ap (λ z. z.strings.second) e) in
       λ i. form i && (first i && second i),
 )

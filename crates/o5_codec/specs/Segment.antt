@@ -1,4 +1,5 @@
--- What a segment had so far, as far as later data sets are read relative to it (the OSM wiki's page on o5m), and the steps of a data set before its body.
+-- What a segment had so far, as far as later data sets are read relative to it (the OSM wiki's page on o5m), and the
+-- steps of a data set before its body.
 use Rattle.std.specs.Prelude.{ℕ, ℤ, ◌==◌, List, [], ◌∷◌, Option, Some, None, Result, Ok, Err, if◌then◌else◌}
 use Rattle.osm_model.specs.declared.meta.Meta.{Meta}
 use Rattle.o5_codec.specs.declared.reason.O5Reason.{O5Reason}
@@ -46,7 +47,8 @@ changeset_at s bytes = and_then (signed_at bytes) (λ x. and_then (moved_number 
     Ok (changeset, with_bases s (record s.bases { changeset = changeset }), x.1)))
 
 unfoldable pub user_at : Segment → List ℕ → Step (ℕ × List ℕ)
-user_at s bytes = and_then (strings_at Pair s.table bytes) (λ x. and_then (user_of x.0) (λ user. Ok (user, with_table s x.1, x.2)))
+user_at s bytes =
+    and_then (strings_at Pair s.table bytes) (λ x. and_then (user_of x.0) (λ user. Ok (user, with_table s x.1, x.2)))
 
 abbrev pub author : ℕ → ℕ → List ℕ → Author
 author changeset uid user = record { changeset = changeset; uid = uid; user = user }
@@ -54,26 +56,31 @@ author changeset uid user = record { changeset = changeset; uid = uid; user = us
 -- the user behind a changeset; none where the data set ends (own rule of this project)
 unfoldable pub author_behind : ℕ × Segment × List ℕ → Step Author
 author_behind (changeset, s, []) = Ok (author changeset 0 [], s, [])
-author_behind (changeset, s, b ∷ bytes) = and_then (user_at s (b ∷ bytes)) (λ x. Ok (author changeset x.0.0 x.0.1, x.1, x.2))
+author_behind (changeset, s, b ∷ bytes) =
+    and_then (user_at s (b ∷ bytes)) (λ x. Ok (author changeset x.0.0 x.0.1, x.1, x.2))
 
 -- changeset and user; they are left out where there is no time
 unfoldable pub author_at : ℕ → Segment → List ℕ → Step Author
-author_at time s bytes = if time == 0 then Ok (author 0 0 [], s, bytes) else and_then (changeset_at s bytes) author_behind
+author_at time s bytes =
+    if time == 0 then Ok (author 0 0 [], s, bytes) else and_then (changeset_at s bytes) author_behind
 
 abbrev pub time_of : ℕ → Option ℕ
 time_of time = if time == 0 then None else Some time
 
 abbrev pub meta_of : ℕ → ℕ → Author → Meta
-meta_of version time a = record { version = version; time = time_of time; changeset = a.changeset; uid = a.uid; user = a.user }
+meta_of version time a =
+    record { version = version; time = time_of time; changeset = a.changeset; uid = a.uid; user = a.user }
 
 -- version number, time, changeset and user
 unfoldable pub meta_at : Segment → List ℕ → Step Meta
-meta_at s bytes = and_then (version_at bytes) (λ v. and_then (time_at s v.1) (λ t. and_then (author_at t.0 t.1 t.2) (λ a.
+meta_at s bytes =
+    and_then (version_at bytes) (λ v. and_then (time_at s v.1) (λ t. and_then (author_at t.0 t.1 t.2) (λ a.
     Ok (meta_of v.0 t.0 a.0, a.1, a.2))))
 
 -- metadata, the author replaced by the one read
 abbrev pub and_author : Meta → Step Author → Step Meta
-and_author m reading = and_then reading (λ a. Ok (record m { changeset = a.0.changeset; uid = a.0.uid; user = a.0.user }, a.1, a.2))
+and_author m reading =
+    and_then reading (λ a. Ok (record m { changeset = a.0.changeset; uid = a.0.uid; user = a.0.user }, a.1, a.2))
 
 -- metadata, the user replaced by the one read
 abbrev pub and_user_read : Meta → Step (ℕ × List ℕ) → Step Meta

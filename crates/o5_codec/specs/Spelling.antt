@@ -1,4 +1,5 @@
--- What a data set spells (the OSM wiki's page on o5m), as a relation: bytes are what is spelled, followed by the bytes behind it. A value stands at the front of bytes, together with the segment and the bytes behind it.
+-- What a data set spells (the OSM wiki's page on o5m), as a relation: bytes are what is spelled, followed by the bytes
+-- behind it. A value stands at the front of bytes, together with the segment and the bytes behind it.
 use Rattle.std.specs.Prelude.{◌≡◌, ◌⊎◌, ℕ, ℤ, true, List, [], ◌∷◌, ◌++◌, length, Some, Result, Ok, ◌==◌, false}
 use Rattle.osm_model.specs.declared.kind.Kind.{Kind}
 use Rattle.osm_model.specs.declared.kind.Kind.TheVariants as kind
@@ -38,7 +39,8 @@ StringStands bytes x = (has_no_zero x.0 ≡ true) × (bytes ≡ x.0 ++ 0 ∷ x.1
 
 -- two strings, or one; with one the second is empty
 abbrev pub InlineStands : Form → List ℕ → Entry × List ℕ → Type 0
-InlineStands Pair bytes x = (behind : List ℕ) × StringStands bytes (x.0.first, behind) × StringStands behind (x.0.second, x.1)
+InlineStands Pair bytes x =
+    (behind : List ℕ) × StringStands bytes (x.0.first, behind) × StringStands behind (x.0.second, x.1)
 InlineStands Single bytes x = StringStands bytes (x.0.first, x.1) × (x.0.second ≡ [])
 
 -- strings behind a zero byte, which are stored; or a number that refers to them
@@ -49,7 +51,8 @@ StringsStand form table bytes x =
 
 -- a difference, the value that it makes, and the segment behind that
 abbrev pub MovedStands : {X : Type 0} → (ℤ → Result X O5Reason) → (X → Segment) → List ℕ → X × Segment × List ℕ → Type 0
-MovedStands moved after bytes x = (difference : ℤ) × SignedStands bytes (difference, x.2) × (moved difference ≡ Ok x.0) × (x.1 ≡ after x.0)
+MovedStands moved after bytes x =
+    (difference : ℤ) × SignedStands bytes (difference, x.2) × (moved difference ≡ Ok x.0) × (x.1 ≡ after x.0)
 
 abbrev pub IdStands : Segment → List ℕ → ℤ × Segment × List ℕ → Type 0
 IdStands s = MovedStands (moved_id s.bases.id) (λ id. with_bases s (record s.bases { id = id }))
@@ -58,7 +61,8 @@ abbrev pub TimeStands : Segment → List ℕ → ℕ × Segment × List ℕ → 
 TimeStands s = MovedStands (moved_number s.bases.time) (λ time. with_bases s (record s.bases { time = time }))
 
 abbrev pub ChangesetStands : Segment → List ℕ → ℕ × Segment × List ℕ → Type 0
-ChangesetStands s = MovedStands (moved_number s.bases.changeset) (λ changeset. with_bases s (record s.bases { changeset = changeset }))
+ChangesetStands s =
+    MovedStands (moved_number s.bases.changeset) (λ changeset. with_bases s (record s.bases { changeset = changeset }))
 
 abbrev pub LongitudeStands : Segment → List ℕ → ℤ × Segment × List ℕ → Type 0
 LongitudeStands s = MovedStands (moved_coordinate s.bases.lon) (λ lon. with_bases s (record s.bases { lon = lon }))
@@ -74,12 +78,15 @@ abbrev pub VersionStands : List ℕ → ℕ × List ℕ → Type 0
 VersionStands bytes x = (n : ℕ) × NumberStands bytes (n, x.1) × (numbered (n, x.1) ≡ Ok x)
 
 abbrev pub UserStands : Segment → List ℕ → (ℕ × List ℕ) × Segment × List ℕ → Type 0
-UserStands s bytes x = (e : Entry) × (table : List Entry) × StringsStand Pair s.table bytes (e, table, x.2) × (user_of e ≡ Ok x.0) × (x.1 ≡ with_table s table)
+UserStands s bytes x =
+    (e : Entry) × (table : List Entry) × StringsStand Pair s.table bytes (e, table, x.2) × (user_of e ≡ Ok x.0) ×
+    (x.1 ≡ with_table s table)
 
 -- behind a changeset a user stands, or the data set ends
 abbrev pub AuthorBehind : ℕ → Segment → List ℕ → Author × Segment × List ℕ → Type 0
 AuthorBehind changeset s [] x = x ≡ (author changeset 0 [], s, [])
-AuthorBehind changeset s (b ∷ bytes) x = (user : ℕ × List ℕ) × UserStands s (b ∷ bytes) (user, x.1, x.2) × (x.0 ≡ author changeset user.0 user.1)
+AuthorBehind changeset s (b ∷ bytes) x =
+    (user : ℕ × List ℕ) × UserStands s (b ∷ bytes) (user, x.1, x.2) × (x.0 ≡ author changeset user.0 user.1)
 
 -- with no time there is no author
 abbrev pub AuthorStands : ℕ → Segment → List ℕ → Author × Segment × List ℕ → Type 0
@@ -93,17 +100,22 @@ MetaStands s bytes x =
     VersionStands bytes v × TimeStands s v.1 t × AuthorStands t.0 t.1 t.2 a × (x ≡ (meta_of v.0 t.0 a.0, a.1, a.2))
 
 abbrev pub TagStands : Segment → List ℕ → Tag × Segment × List ℕ → Type 0
-TagStands s bytes x = (e : Entry) × (table : List Entry) × StringsStand Pair s.table bytes (e, table, x.2) × (tag_of e ≡ Ok x.0) × (x.1 ≡ with_table s table)
+TagStands s bytes x =
+    (e : Entry) × (table : List Entry) × StringsStand Pair s.table bytes (e, table, x.2) × (tag_of e ≡ Ok x.0) ×
+    (x.1 ≡ with_table s table)
 
 -- items one behind the other, to the end of the bytes
-abbrev pub ItemsStand : {X : Type 0} → (Segment → List ℕ → X × Segment × List ℕ → Type 0) → Segment → List ℕ → List X → Segment → Type 0
+abbrev pub ItemsStand : {X : Type 0} → (Segment → List ℕ → X × Segment × List ℕ → Type 0) → Segment → List ℕ → List X →
+    Segment → Type 0
 ItemsStand Stands s bytes [] end = (bytes ≡ []) × (s ≡ end)
-ItemsStand Stands s bytes (x ∷ xs) end = (middle : Segment) × (behind : List ℕ) × Stands s bytes (x, middle, behind) × ItemsStand Stands middle behind xs end
+ItemsStand Stands s bytes (x ∷ xs) end =
+    (middle : Segment) × (behind : List ℕ) × Stands s bytes (x, middle, behind) × ItemsStand Stands middle behind xs end
 
 abbrev pub NodeStands : Segment → List ℕ → Body × Segment → Type 0
 NodeStands s bytes x =
     (lon : ℤ × Segment × List ℕ) × (lat : ℤ × Segment × List ℕ) × (tags : List Tag) ×
-    LongitudeStands s bytes lon × LatitudeStands lon.1 lon.2 lat × ItemsStand TagStands lat.1 lat.2 tags x.1 × (x.0 ≡ Node lon.0 lat.0 tags)
+    LongitudeStands s bytes lon × LatitudeStands lon.1 lon.2 lat × ItemsStand TagStands lat.1 lat.2 tags x.1 ×
+    (x.0 ≡ Node lon.0 lat.0 tags)
 
 -- a section with its length in front
 abbrev pub SectionStands : List ℕ → List ℕ × List ℕ → Type 0
@@ -112,14 +124,16 @@ SectionStands bytes x = NumberStands bytes (length x.0, x.0 ++ x.1)
 abbrev pub WayStands : Segment → List ℕ → Body × Segment → Type 0
 WayStands s bytes x =
     (section : List ℕ × List ℕ) × (seen : ListsSeen) × (ids : List ℤ × Segment) × (tags : List Tag) ×
-    SectionStands bytes section × (with_section s.seen section.0 ≡ Ok seen) × ItemsStand ReferenceStands (with_seen s seen) section.0 ids.0 ids.1 ×
+    SectionStands bytes section × (with_section s.seen section.0 ≡ Ok seen) ×
+    ItemsStand ReferenceStands (with_seen s seen) section.0 ids.0 ids.1 ×
     ItemsStand TagStands ids.1 section.1 tags x.1 × (x.0 ≡ Way ids.0 tags)
 
 -- the difference of the id, and a single string of kind and role
 abbrev pub MemberStands : Segment → List ℕ → Member × Segment × List ℕ → Type 0
 MemberStands s bytes x =
     (d : ℤ × List ℕ) × (e : Entry × List Entry) × (m : Kind × List ℕ) × (seen : ListsSeen) × (id : ℤ × Bases) ×
-    SignedStands bytes d × StringsStand Single s.table d.1 (e.0, e.1, x.2) × (kind_and_role e.0.first ≡ Ok m) × (with_member s.seen m.0 ≡ Ok seen) ×
+    SignedStands bytes d × StringsStand Single s.table d.1 (e.0, e.1, x.2) × (kind_and_role e.0.first ≡ Ok m) ×
+    (with_member s.seen m.0 ≡ Ok seen) ×
     (moved_member s.bases m.0 d.0 ≡ Ok id) × (text_of m.1 ≡ Ok x.0.role) × (x.0.kind ≡ m.0) × (x.0.id ≡ id.0) ×
     (x.1 ≡ record { bases = id.1; table = e.1; seen = seen })
 

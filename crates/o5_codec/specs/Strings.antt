@@ -1,5 +1,6 @@
 -- Pairs of strings and single strings (the OSM wiki's page on o5m), as they stand in a data set.
-use Rattle.std.specs.Prelude.{ℕ, ◌+◌, Bool, ◌==◌, List, [], ◌∷◌, position, take, drop, Option, Some, None, Result, Ok, Err, if◌then◌else◌}
+use Rattle.std.specs.Prelude.{ℕ, ◌+◌, Bool, ◌==◌, List, [], ◌∷◌, position, take, drop, Option, Some, None, Result, Ok}
+use Rattle.std.specs.Prelude.{Err, if◌then◌else◌}
 use Rattle.o5_codec.specs.declared.reason.O5Reason.{O5Reason}
 use Rattle.o5_codec.specs.declared.reason.O5Reason.TheVariants.{BadText, BadReference}
 use Rattle.o5_codec.specs.declared.strings.Form.{Form}
@@ -58,4 +59,5 @@ table_after (Reference n) table = table
 
 -- the strings at the front with the table afterwards, and the bytes behind them
 unfoldable pub strings_at : Form → List Entry → List ℕ → Result (Entry × List Entry × List ℕ) O5Reason
-strings_at form table bytes = and_then (spelled_at form bytes) (λ x. and_then (strings_of table x.0) (λ e. Ok (e, table_after x.0 table, x.1)))
+strings_at form table bytes =
+    and_then (spelled_at form bytes) (λ x. and_then (strings_of table x.0) (λ e. Ok (e, table_after x.0 table, x.1)))

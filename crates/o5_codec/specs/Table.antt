@@ -1,11 +1,13 @@
 -- The string table of a segment (the OSM wiki's page on o5m), the entry stored last first.
-use Rattle.std.specs.Prelude.{ℕ, zero, suc, ◌+◌, Bool, nat_le, List, ◌∷◌, length, reverse, filter, take, slice_get, Option, None, if◌then◌else◌}
+use Rattle.std.specs.Prelude.{ℕ, zero, suc, ◌+◌, Bool, nat_le, List, ◌∷◌, length, reverse, filter, take, slice_get}
+use Rattle.std.specs.Prelude.{Option, None, if◌then◌else◌}
 use Rattle.o5_codec.specs.Entry.{Entry}
 
 unfoldable pub limit : ℕ
 limit = 15_000
 
--- how many bytes the two strings of a stored entry have together at most, zero bytes not counted (that they aren't is an own rule of this project)
+-- how many bytes the two strings of a stored entry have together at most, zero bytes not counted (that they aren't is
+-- an own rule of this project)
 abbrev pub longest_stored : ℕ
 longest_stored = 250
 

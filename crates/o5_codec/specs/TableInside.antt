@@ -6,7 +6,8 @@ use Rattle.o5_codec.specs.Table.{limit}
 use Rattle.o5_codec.specs.Formed.{same_entry}
 use Rattle.o5_codec.specs.Indexed.{IsIndexed}
 
--- the ring has room for all entries; they are distinct, and the map has exactly these, each with the number of its storing
+-- the ring has room for all entries; they are distinct, and the map has exactly these, each with the number of its
+-- storing
 pub record IsTable (t : Inside) : Type 0 where
   pub capacity : t.ring.capacity ≡ limit
   pub indexed : IsIndexed (2 ^ 64) limit t.next (reverse t.ring.items) (λ e. hash.get_by (same_entry e) t.numbers)

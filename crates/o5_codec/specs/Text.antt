@@ -16,7 +16,8 @@ text_of bytes = if is_utf8 bytes then Ok (chars bytes) else Err NotUtf8
 
 -- a tag: its key and its value
 unfoldable pub tag_of : Entry → Result Tag O5Reason
-tag_of e = and_then (text_of e.first) (λ key. and_then (text_of e.second) (λ value. Ok (record { key = key; value = value })))
+tag_of e =
+    and_then (text_of e.first) (λ key. and_then (text_of e.second) (λ value. Ok (record { key = key; value = value })))
 
 -- a number with nothing behind it
 abbrev pub whole_number : ℕ × List ℕ → Result ℕ O5Reason

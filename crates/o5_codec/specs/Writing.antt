@@ -1,5 +1,7 @@
--- What is written for a version (the OSM wiki's page on o5m), relative to what stands before it in its segment. That each field stands in one form alone is an own rule of this project.
-use Rattle.std.specs.Prelude.{ℕ, ℤ, pos, ◌+◌, ◌==◌, List, [], ◌∷◌, ◌++◌, map, length, Option, Some, None, unwrap_or, encode_utf8_all, if◌then◌else◌}
+-- What is written for a version (the OSM wiki's page on o5m), relative to what stands before it in its segment. That
+-- each field stands in one form alone is an own rule of this project.
+use Rattle.std.specs.Prelude.{ℕ, ℤ, pos, ◌+◌, ◌==◌, List, [], ◌∷◌, ◌++◌, map, length, Option, Some, None, unwrap_or}
+use Rattle.std.specs.Prelude.{encode_utf8_all, if◌then◌else◌}
 use Rattle.osm_model.specs.declared.kind.Kind.{Kind}
 use Rattle.osm_model.specs.declared.kind.Kind.TheVariants as kind
 use Rattle.osm_model.specs.declared.tags.Tag.{Tag}
@@ -44,7 +46,8 @@ unfoldable pub time_written : ℕ → Step
 time_written time s = (difference (pos s.bases.time) (pos time), after_bases s (record s.bases { time = time }))
 
 unfoldable pub changeset_written : ℕ → Step
-changeset_written changeset s = (difference (pos s.bases.changeset) (pos changeset), after_bases s (record s.bases { changeset = changeset }))
+changeset_written changeset s =
+    (difference (pos s.bases.changeset) (pos changeset), after_bases s (record s.bases { changeset = changeset }))
 
 -- a coordinate's difference is the plain one of the two values
 unfoldable pub longitude_written : ℤ → Step
@@ -58,13 +61,17 @@ reference_written id s = (difference s.bases.reference id, after_bases s (record
 
 -- each kind of members has its own base
 unfoldable pub member_id_written : Kind → ℤ → Step
-member_id_written kind.Node id s = (difference s.bases.node_member id, after_bases s (record s.bases { node_member = id }))
-member_id_written kind.Way id s = (difference s.bases.way_member id, after_bases s (record s.bases { way_member = id }))
-member_id_written kind.Relation id s = (difference s.bases.relation_member id, after_bases s (record s.bases { relation_member = id }))
+member_id_written kind.Node id s =
+    (difference s.bases.node_member id, after_bases s (record s.bases { node_member = id }))
+member_id_written kind.Way id s =
+    (difference s.bases.way_member id, after_bases s (record s.bases { way_member = id }))
+member_id_written kind.Relation id s =
+    (difference s.bases.relation_member id, after_bases s (record s.bases { relation_member = id }))
 
 -- a pair or a single string: a reference where it stands in the table, else inline
 unfoldable pub strings_written : FormedEntry → Step
-strings_written e s = (spelled_by e (reference_to e s.table), record s { table = kept_by e (reference_to e s.table) s.table })
+strings_written e s =
+    (spelled_by e (reference_to e s.table), record s { table = kept_by e (reference_to e s.table) s.table })
 
 -- a user id as a string; 0 is the empty one
 abbrev pub uid_string : ℕ → List ℕ
@@ -119,4 +126,6 @@ body_written (Relation members tags) = in_turn (section_written (members_written
 
 -- the content of a version's data set; no time spells time 0
 unfoldable pub content_written : VersionData → Step
-content_written v = in_turn (id_written v.id ∷ plain (shortest_number v.number) ∷ time_written (unwrap_or v.time 0) ∷ author_written v ∷ body_written v.body ∷ [])
+content_written v =
+    in_turn (id_written v.id ∷ plain (shortest_number v.number) ∷ time_written (unwrap_or v.time 0) ∷ author_written v ∷
+    body_written v.body ∷ [])

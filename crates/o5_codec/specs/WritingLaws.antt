@@ -11,12 +11,15 @@ use Rattle.o5_codec.specs.Number.{SpellsNumber}
 use Rattle.o5_codec.specs.Shortest.{shortest_number}
 use Rattle.o5_codec.specs.Writing.{content_written}
 use Rattle.o5_codec.specs.Agreement.{segment_behind, IsContext, MayHaveSeen}
-use Rattle.o5_codec.specs.Encoder.{Written, nothing_written, type_byte, begins_segment, reset_before, context_of, spelled_set, written_after}
+use Rattle.o5_codec.specs.Encoder.{Written, nothing_written, type_byte, begins_segment, reset_before, context_of}
+use Rattle.o5_codec.specs.Encoder.{spelled_set, written_after}
 
 -- no fewer bytes spell the number
 abbrev pub WrittenNumbersAreShortest : Type 0
 WrittenNumbersAreShortest = (n : ℕ) → n < 2 ^ 64 →
-    SpellsNumber (shortest_number n) n × ((bytes : List ℕ) → All (λ b. b < 256) bytes → SpellsNumber bytes n → length (shortest_number n) ≤ length bytes)
+    SpellsNumber (shortest_number n) n ×
+    ((bytes : List ℕ) → All (λ b. b < 256) bytes → SpellsNumber bytes n →
+    length (shortest_number n) ≤ length bytes)
 
 -- a reset begins a segment
 abbrev pub segment_for : Bool → Segment → Segment
@@ -39,11 +42,15 @@ content_after w v = (content_written v (context_of w v)).0
 -- what is written for a version is read as this version and no other, and encoder and reader go on alike
 pub record IsReadNext (w : Written) (seen : ListsSeen) (v : VersionData) : Type 0 where
   pub after : ListsSeen
-  pub spells : SpellsSet (kind_of v.body) (segment_for (begins_segment w.last (kind_of v.body)) (segment_after w seen)) (content_after w v) (v, segment_after (written_after w v) after)
+  pub spells : SpellsSet (kind_of v.body) (segment_for (begins_segment w.last (kind_of v.body)) (segment_after w seen))
+      (content_after w v) (v, segment_after (written_after w v) after)
   pub behind : IsBehind (written_after w v) after
 
 abbrev pub WrittenSetsAreRead : Type 0
-WrittenSetsAreRead = IsBehind nothing_written Neither × ((w : Written) (seen : ListsSeen) (v : VersionData) → IsBehind w seen → IsVersion v → length (spelled_set w v) < 2 ^ 64 → IsReadNext w seen v)
+WrittenSetsAreRead =
+    IsBehind nothing_written Neither ×
+    ((w : Written) (seen : ListsSeen) (v : VersionData) → IsBehind w seen → IsVersion v →
+    length (spelled_set w v) < 2 ^ 64 → IsReadNext w seen v)
 
 -- data sets one behind the other, some of them behind a reset, that spell these versions
 abbrev pub SetsStand : Segment → List ℕ → List VersionData → Type 0
@@ -60,6 +67,8 @@ spelled_sets w (v ∷ versions) = spelled_set w v ++ spelled_sets (written_after
 
 -- what is written for a list of versions spells that list and no other
 abbrev pub WrittenListsAreRead : Type 0
-WrittenListsAreRead = (versions : List VersionData) → All IsVersion versions → length (spelled_sets nothing_written versions) < 2 ^ 64 →
+WrittenListsAreRead =
+    (versions : List VersionData) → All IsVersion versions → length (spelled_sets nothing_written versions) < 2 ^ 64 →
     SetsStand new_segment (spelled_sets nothing_written versions) versions ×
-    ((others : List VersionData) → SetsStand new_segment (spelled_sets nothing_written versions) others → others ≡ versions)
+    ((others : List VersionData) → SetsStand new_segment (spelled_sets nothing_written versions) others →
+    others ≡ versions)

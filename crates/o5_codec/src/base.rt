@@ -74,7 +74,7 @@ impl Model for IdBase {
 }
 
 impl IdBase {
-    /// The id whose difference stands at the front, and the bytes behind it. The base moves to the id.
+    /// The id whose difference is at the front, and the bytes after it. The base moves to the id.
     ///
     /// # Errors
     ///
@@ -113,7 +113,7 @@ impl IdBase {
     ///
     /// # Errors
     ///
-    /// For want of memory alone.
+    /// `Memory` when out of memory.
     #[inline(always)]
     pub(crate) fn append(&mut self, out: &mut Draft, id: i64) -> Result<(), Memory>
         requires { is_id id ≡ true }
@@ -141,8 +141,8 @@ impl Model for NumberBase {
 }
 
 impl NumberBase {
-    /// The number whose difference stands at the front, and the bytes behind it. The base moves to the number. Versions that
-    /// were uploaded together mostly stand together, and so most differences are 0.
+    /// The number whose difference is at the front, and the bytes after it. The base moves to the number. Most
+    /// differences are 0, since versions of one upload are mostly neighbours.
     ///
     /// # Errors
     ///
@@ -185,7 +185,7 @@ impl NumberBase {
     ///
     /// # Errors
     ///
-    /// For want of memory alone.
+    /// `Memory` when out of memory.
     #[inline(always)]
     pub(crate) fn append(&mut self, out: &mut Draft, number: u32) -> Result<(), Memory>
         ensures bytes { OnOk result (out.new ≡ out.old ++ difference (pos self.old) (pos number)) }
@@ -212,7 +212,7 @@ impl Model for CoordinateBase {
 }
 
 impl CoordinateBase {
-    /// The coordinate whose difference stands at the front, and the bytes behind it. The base moves to the coordinate.
+    /// The coordinate whose difference is at the front, and the bytes after it. The base moves to the coordinate.
     ///
     /// # Errors
     ///
@@ -250,7 +250,7 @@ impl CoordinateBase {
     ///
     /// # Errors
     ///
-    /// For want of memory alone.
+    /// `Memory` when out of memory.
     #[inline(always)]
     pub(crate) fn append(&mut self, out: &mut Draft, coordinate: i32) -> Result<(), Memory>
         ensures bytes { OnOk result (out.new ≡ out.old ++ difference self.old coordinate) }

@@ -13,7 +13,7 @@ use crate::text::to_text;
 use osm_model::{Body, Kind, Member, Members, Memory, References, Spare, Tag, Tags};
 
 impl ListsSeen {
-    /// What the segment had behind a way with this section of references.
+    /// The lists that the segment had after a way with this section of references.
     fn with_section(self, section: &[u8]) -> Result<ListsSeen, O5Reason>
         ensures { result ≡ spec.with_section self section.now }
     {
@@ -26,7 +26,7 @@ impl ListsSeen {
         }
     }
 
-    /// What the segment had behind a member of this kind.
+    /// The lists that the segment had after a member of this kind.
     fn with_member(self, kind: Kind) -> Result<ListsSeen, O5Reason>
         ensures { result ≡ spec.with_member self kind }
     {
@@ -52,8 +52,8 @@ impl Bases {
 }
 
 impl Segment {
-    /// Puts the body of an object of this kind, to the end of the bytes, in the place of one that holds no memory. Where no byte
-    /// is left, the object was deleted.
+    /// Reads the body of an object of `kind`, to the end of the bytes, and replaces `body`, which holds no memory. An
+    /// object without a byte was deleted.
     #[tactic(auto, unfolding(crate::specs::Body::body_at))]
     pub(crate) fn read_body(
         &mut self,
@@ -95,7 +95,8 @@ impl Segment {
         self.read_tagged_node(lon, lat, rest, spare, body)
     }
 
-    /// Puts the body of a node at this place, with the tags to the end of the bytes.
+    /// Reads the tags of a node to the end of the bytes, and replaces `body` by the node at `lon` and `lat`. This is a
+    /// function of its own only for the optimizer, since most nodes have no tags.
     #[inline(always)]
     fn read_tagged_node(
         &mut self,
@@ -224,7 +225,8 @@ impl Segment {
         Tags::from_vec(Vec::new(self.table.allocator()))
     }
 
-    /// Tags to the end of the bytes, of which there are some.
+    /// Tags to the end of the bytes, which are not empty. This is a function of its own only for the optimizer, since
+    /// most objects have no tags.
     #[inline(never)]
     fn read_each_tag(&mut self, bytes: &[u8], spare: &mut Spare) -> Result<Tags, O5Reason>
         ensures { Answers (λ tags. (tags, self.new)) (items_at spec.tag_at self.old bytes.now) result }
@@ -237,11 +239,12 @@ impl Segment {
         Ok(Tags::from_vec(tags))
     }
 
-    /// Adds a tag to a list, and answers the bytes behind it. Handed on by results, a tag was moved four times.
+    /// Adds a tag to a list. Returns the bytes after it. Handed on by results, a tag was moved four times.
     #[inline(always)]
     #[tactic(auto, unfolding(crate::specs::Body::tag_at, crate::specs::Strings::strings_at))]
     fn add_tag<'a>(&mut self, bytes: &'a [u8], tags: &mut Vec<Tag>) -> Result<&'a [u8], O5Reason>
-        ensures value { Answers (λ rest. (tags.new.items, self.new, rest.now)) (and_one_more tags.old.items (spec.tag_at self.old bytes.now)) result }
+        ensures value { Answers (λ rest. (tags.new.items, self.new, rest.now))
+            (and_one_more tags.old.items (spec.tag_at self.old bytes.now)) result }
         ensures shorter { IfOk result (λ rest. length rest.now < length bytes.now) }
     {
         let (spelled, rest) = read_spelled(Form::Pair, bytes)?;
@@ -262,7 +265,7 @@ fn room_for_references(bytes: &[u8], spare: &mut Spare) -> Result<Vec<i64>, Memo
     Ok(ids)
 }
 
-/// The section whose length stands in front of it, and the bytes behind it.
+/// The section at the front, which begins with its length, and the bytes after it.
 #[tactic(auto, unfolding(crate::specs::Body::section_at))]
 fn read_section(bytes: &[u8]) -> Result<(&[u8], &[u8]), O5Reason>
     ensures { Gives (λ x. (x.0.now, x.1.now)) (spec.section_at bytes.now) result }
@@ -274,7 +277,7 @@ fn read_section(bytes: &[u8]) -> Result<(&[u8], &[u8]), O5Reason>
     Ok(rest.split_at(length as usize))
 }
 
-/// The kind of a member by its first byte, and the role behind it.
+/// The kind of a member by its first byte, and the role after it.
 fn split_kind(text: &[u8]) -> Result<(Kind, &[u8]), O5Reason>
     ensures { Gives (λ x. (x.0, x.1.now)) (spec.kind_and_role text.now) result }
 {

@@ -56,7 +56,7 @@ impl Decoder {
     ///
     /// # Errors
     ///
-    /// The reason of the first step that can't be done, or `Memory`. After any of them the answer is `Failed` from then on.
+    /// The reason of the first step that can't be done, or `Memory`. After an error every call returns `Failed`.
     pub fn read_set(&mut self, kind: Kind, content: &[u8]) -> Result<Version, O5Reason>
         ensures state { Reads kind content.now self.old self.new result }
         ensures spelled { IfOk result (λ v. SpellsSet kind self.old.segment content.now (v, self.new.segment)) }

@@ -12,7 +12,8 @@ use osm_model::{Kind, Memory, Version};
 use std::alloc::Global;
 use std::marker::Model;
 
-/// Writes the data sets of o5m and o5c files one after the other, each relative to those before it in its segment, in the one form that stands for a version.
+/// Writes the data sets of o5m and o5c files one after the other, each relative to those before it in its segment. A
+/// version has one form.
 #[derive(Drop)]
 pub struct Encoder {
     last: Kind,
@@ -51,7 +52,8 @@ impl Encoder {
         })
     }
 
-    /// The data set of a version, with a reset before it where it begins a segment. The kind may not be below the kind of the version written last.
+    /// The data set of a version, with a reset before it where it begins a segment. The kind may not be below that of
+    /// the version written last.
     ///
     /// # Errors
     ///
@@ -67,7 +69,8 @@ impl Encoder {
         Ok(set)
     }
 
-    /// Appends the data set of a version, as [`Encoder::write_set`] gives it. After an error the bytes are those that stood there before.
+    /// Appends the data set of a version, as [`Encoder::write_set`] gives it. After an error `out` has the bytes that
+    /// it had before.
     ///
     /// # Errors
     ///
@@ -95,7 +98,8 @@ impl Encoder {
     #[tactic(auto, using(crate::proofs::FrontLaws::behind_two), unfolding(crate::specs::Encoder::context_of, crate::specs::Encoder::spelled_set, crate::specs::Encoder::written_after))]
     fn append_version(&mut self, out: &mut Vec<u8>, v: &Version) -> Result<(), Memory>
         ensures bytes { OnOk result (out.new.items ≡ out.old.items ++ spec.spelled_set self.old.written v.now) }
-        ensures written { OnOk result (self.new ≡ record { written = spec.written_after self.old.written v.now; failed = self.old.failed }) }
+        ensures written { OnOk result
+            (self.new ≡ record { written = spec.written_after self.old.written v.now; failed = self.old.failed }) }
         ensures unchanged { OnErr result (out.new.items ≡ out.old.items) }
     {
         let kind = v.kind();
@@ -109,7 +113,7 @@ impl Encoder {
     }
 }
 
-/// Whether a version of a kind begins a segment, behind one of the kind `last`.
+/// Whether a version of a kind begins a segment after one of the kind `last`.
 fn begins_segment(last: Kind, kind: Kind) -> bool
     ensures { result ≡ spec.begins_segment last kind }
 {
@@ -125,11 +129,12 @@ fn begin_if(begins: bool, context: &mut WrittenSegment)
     }
 }
 
-/// Appends a data set whose content stands behind room for two bytes, and a reset before it where it begins a segment. After an
-/// error the bytes are those that stood there before.
+/// Appends a data set whose content has room for two bytes in front of it, and a reset before it where it begins a
+/// segment. After an error `out` has the bytes that it had before.
 fn append_whole(out: &mut Vec<u8>, begins: bool, kind: Kind, set: &mut Draft) -> Result<(), Memory>
     requires { 2 ≤ length set.old }
-    ensures bytes { OnOk result (out.new.items ≡ out.old.items ++ (spec.reset_before begins ++ spec.data_set kind (drop 2 set.old))) }
+    ensures bytes { OnOk result
+        (out.new.items ≡ out.old.items ++ (spec.reset_before begins ++ spec.data_set kind (drop 2 set.old))) }
     ensures unchanged { OnErr result (out.new.items ≡ out.old.items) }
 {
     let before = out.len();
@@ -146,7 +151,8 @@ fn append_whole(out: &mut Vec<u8>, begins: bool, kind: Kind, set: &mut Draft) ->
 #[inline(always)]
 fn append_parts(out: &mut Vec<u8>, begins: bool, kind: Kind, set: &mut Draft) -> Result<(), Memory>
     requires { 2 ≤ length set.old }
-    ensures bytes { OnOk result (out.new.items ≡ out.old.items ++ (spec.reset_before begins ++ spec.data_set kind (drop 2 set.old))) }
+    ensures bytes { OnOk result
+        (out.new.items ≡ out.old.items ++ (spec.reset_before begins ++ spec.data_set kind (drop 2 set.old))) }
     ensures kept { Extends out.old.items out.new.items }
 {
     let length = set.len() - 2;
@@ -171,11 +177,12 @@ fn append_short_set(out: &mut Vec<u8>, kind: Kind, set: &mut Draft) -> Result<()
     set.append_to(out)
 }
 
-/// Appends a data set with any content, behind a reset where it begins a segment.
+/// Appends a data set with any content, after a reset where it begins a segment.
 #[inline(never)]
 fn append_any_set(out: &mut Vec<u8>, begins: bool, kind: Kind, set: &Draft) -> Result<(), Memory>
     requires { 2 ≤ length set.now }
-    ensures bytes { OnOk result (out.new.items ≡ out.old.items ++ (spec.reset_before begins ++ spec.data_set kind (drop 2 set.now))) }
+    ensures bytes { OnOk result
+        (out.new.items ≡ out.old.items ++ (spec.reset_before begins ++ spec.data_set kind (drop 2 set.now))) }
     ensures kept { Extends out.old.items out.new.items }
 {
     if begins {

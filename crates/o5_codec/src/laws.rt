@@ -22,7 +22,8 @@ pub fn users_are_read()
     ensures { law.UsersAreRead }
 {}
 
-/// A version is read exactly where the content of a data set spells it, relative to the segment so far: so a content that is refused spells none.
+/// A version is read exactly where the content of a data set spells it, relative to the segment so far. So a content
+/// that is refused spells none.
 pub fn sets_are_read()
     ensures { law.SetsAreRead }
 {}
@@ -79,7 +80,8 @@ pub fn sets_make_versions()
     ensures { law.SetsMakeVersions }
 {}
 
-/// What one data set spells, in a segment whose string table has no zero bytes, is within the ranges of versions, and leaves such a segment.
+/// A version that one data set spells, in a segment whose string table has no zero bytes, is within the ranges of
+/// versions. The string table after it has no zero bytes either.
 pub fn sound_sets_make_versions()
     ensures { law.SoundSetsMakeVersions }
 {}

@@ -1,20 +1,30 @@
 //! Numbers in groups of seven bits.
+//!
+//! Why: most numbers have one or two groups. Straight code for few groups is one of three changes that together raised
+//! 10 million nodes a second to 18 to 25 million. One test for a difference of 0 saves 1.0 percent of the instructions
+//! of a merge from o5m to o5m.
+//! Assumes: nothing; the straight code tests the length before each group.
+//! Otherwise: a number of more than five groups, or one that isn't ended, is read by the loop of `read_groups`.
+//! Compared by: `reads_numbers_at_their_limits`.
 ghost use Rattle.std.specs.Prelude.{◌≡◌, ◌<◌, length, pos, Ok, IfOk, IfSome};
 ghost use Rattle.o5_codec.specs.Answer.{Gives};
 ghost use Rattle.o5_codec.specs.Number.{number_at, signed_at, signed_of};
 
 use crate::O5Reason;
 
-/// What the marks of one group, of two, three and four, each of which others follow, add to the sum of the groups.
+/// The mark of a group that another one follows, as the sum of the groups has it.
 const ONE_MARK: u64 = 128;
 
+/// The marks of the first two groups.
 const TWO_MARKS: u64 = ONE_MARK + 128 * 128;
 
+/// The marks of the first three groups.
 const THREE_MARKS: u64 = TWO_MARKS + 128 * 16_384;
 
+/// The marks of the first four groups.
 const FOUR_MARKS: u64 = THREE_MARKS + 128 * 2_097_152;
 
-/// The unsigned number at the front, and the bytes behind it.
+/// The unsigned number at the front, and the bytes after it.
 ///
 /// # Errors
 ///
@@ -30,7 +40,7 @@ pub fn read_number(bytes: &[u8]) -> Result<(u64, &[u8]), O5Reason>
     }
 }
 
-/// The unsigned number at the front, and the bytes behind it, where it is ended and has five groups at most.
+/// The unsigned number at the front, and the bytes after it, where it is ended and has five groups at most.
 #[inline(always)]
 fn read_few_groups(bytes: &[u8]) -> Option<(u64, &[u8])>
     ensures value { IfSome result (λ x. number_at bytes.now ≡ Ok (x.0, x.1.now)) }
@@ -74,8 +84,10 @@ fn read_few_groups(bytes: &[u8]) -> Option<(u64, &[u8])>
     None
 }
 
-/// The unsigned number of any length at the front, and the bytes behind it. The answer is taken apart here, so that no
-/// room for it is cleared where it isn't asked for.
+/// The unsigned number of any length at the front, and the bytes after it.
+///
+/// This function exists only for the optimizer: it takes the result of `read_groups` apart, so that no room for that
+/// result is cleared where `read_few_groups` reads the number.
 #[inline(always)]
 fn read_any_groups(bytes: &[u8]) -> Result<(u64, &[u8]), O5Reason>
     ensures value { Gives (λ x. (x.0, x.1.now)) (number_at bytes.now) result }
@@ -85,7 +97,7 @@ fn read_any_groups(bytes: &[u8]) -> Result<(u64, &[u8]), O5Reason>
     Ok((number, rest))
 }
 
-/// The unsigned number of any length at the front, read group by group, and the bytes behind it.
+/// The unsigned number of any length at the front, read group by group, and the bytes after it.
 #[cold]
 #[inline(never)]
 fn read_groups(bytes: &[u8]) -> Result<(u64, &[u8]), O5Reason>
@@ -120,7 +132,7 @@ pub(crate) fn count_ended(bytes: &[u8]) -> usize {
     bytes.iter().filter(|byte| **byte < 128).count()
 }
 
-/// The signed number at the front, and the bytes behind it.
+/// The signed number at the front, and the bytes after it.
 ///
 /// # Errors
 ///
@@ -135,7 +147,7 @@ pub(crate) fn read_signed(bytes: &[u8]) -> Result<(i64, &[u8]), O5Reason>
     Ok((to_signed(number), rest))
 }
 
-/// The bytes behind the signed number 0, where that stands at the front in its shortest form.
+/// The bytes after the signed number 0, if the front has it in its shortest form.
 #[inline(always)]
 #[tactic(auto, unfolding(crate::specs::Number::signed_at, crate::specs::Number::number_at, crate::specs::Number::groups_at))]
 pub(crate) fn behind_zero(bytes: &[u8]) -> Option<&[u8]>

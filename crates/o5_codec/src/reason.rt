@@ -36,7 +36,7 @@ pub enum O5Reason {
     /// A segment has both a way with references and a relation with a node member.
     #[error("mixed segment")]
     MixedSegment,
-    /// The file ends within the data set. Whole files alone are refused for it.
+    /// The file ends within the data set. Only whole files are refused for it.
     #[error("truncated")]
     Truncated,
     /// A growth of memory was refused.

@@ -10,7 +10,7 @@ use crate::strings::{Form, read_spelled};
 use crate::table::Table;
 use osm_model::{Meta, Text};
 
-/// Which of two kinds of lists a segment had, that may not stand in one segment.
+/// Which of two kinds of lists a segment had. No segment may have both.
 #[derive(Clone, Copy, Debug, PartialEq, Eq)]
 pub enum ListsSeen {
     /// Neither of them.
@@ -30,7 +30,7 @@ pub struct Segment {
 }
 
 impl Segment {
-    /// The object's id, and the bytes behind it.
+    /// The object's id, and the bytes after it.
     #[tactic(auto, unfolding(crate::specs::Segment::id_at))]
     pub(crate) fn read_id<'a>(&mut self, bytes: &'a [u8]) -> Result<(i64, &'a [u8]), O5Reason>
         ensures { Gives (λ x. (x.0, self.new, x.1.now)) (spec.id_at self.old bytes.now) result }
@@ -38,7 +38,7 @@ impl Segment {
         self.bases.id.read(bytes)
     }
 
-    /// Puts version number, time, changeset and user in their places, and answers the bytes behind them.
+    /// Puts version number, time, changeset and user into `meta`. Returns the bytes after them.
     #[tactic(auto, unfolding(crate::specs::Segment::meta_at))]
     pub(crate) fn read_meta<'a>(
         &mut self,
@@ -61,7 +61,7 @@ impl Segment {
         self.bases.time.read(bytes)
     }
 
-    /// Puts changeset and user of a version with this time, 0 being none, in their places, and answers the bytes behind them.
+    /// Reads changeset and user of a version with this time, 0 being none, into `meta`. Returns the bytes after them.
     #[tactic(auto, unfolding(crate::specs::Segment::author_at))]
     fn read_author<'a>(
         &mut self,
@@ -69,7 +69,8 @@ impl Segment {
         bytes: &'a [u8],
         meta: &mut Meta,
     ) -> Result<&'a [u8], O5Reason>
-        ensures { Answers (λ rest. (meta.new, self.new, rest.now)) (spec.and_author meta.old (spec.author_at time self.old bytes.now)) result }
+        ensures { Answers (λ rest. (meta.new, self.new, rest.now))
+            (spec.and_author meta.old (spec.author_at time self.old bytes.now)) result }
     {
         if time == 0 {
             meta.changeset = 0;
@@ -82,7 +83,7 @@ impl Segment {
         self.read_author_behind(rest, meta)
     }
 
-    /// Puts the user in its place, where the changeset was put in its own, and answers the bytes behind it.
+    /// Puts the user into `meta`, which has the changeset already. Returns the bytes after it.
     #[tactic(auto, unfolding(crate::specs::Segment::author_behind))]
     fn read_author_behind<'a>(
         &mut self,
@@ -107,10 +108,11 @@ impl Segment {
         self.bases.changeset.read(bytes)
     }
 
-    /// Puts user id and user name in their places, and answers the bytes behind them.
+    /// Puts user id and user name into `meta`. Returns the bytes after them.
     #[tactic(auto, unfolding(crate::specs::Segment::user_at, crate::specs::Strings::strings_at))]
     fn read_user<'a>(&mut self, bytes: &'a [u8], meta: &mut Meta) -> Result<&'a [u8], O5Reason>
-        ensures { Answers (λ rest. (meta.new, self.new, rest.now)) (spec.and_user_read meta.old (spec.user_at self.old bytes.now)) result }
+        ensures { Answers (λ rest. (meta.new, self.new, rest.now))
+            (spec.and_user_read meta.old (spec.user_at self.old bytes.now)) result }
     {
         let (spelled, rest) = read_spelled(Form::Pair, bytes)?;
         self.table.store(&spelled)?;
@@ -119,7 +121,7 @@ impl Segment {
     }
 }
 
-/// The version number, and the bytes behind it.
+/// The version number, and the bytes after it.
 #[tactic(auto, unfolding(crate::specs::Segment::version_at))]
 fn read_version(bytes: &[u8]) -> Result<(u32, &[u8]), O5Reason>
     ensures { Gives (λ x. (x.0, x.1.now)) (spec.version_at bytes.now) result }

@@ -7,7 +7,7 @@ use crate::O5Reason;
 use crate::number::read_number;
 use std::marker::Model;
 
-/// How many strings stand in one place.
+/// The number of strings of an entry.
 #[derive(Clone, Copy, Debug, PartialEq, Eq)]
 pub(crate) enum Form {
     /// Two strings.
@@ -31,16 +31,16 @@ impl<'a> Model for Strings<'a> {
     ghost view = { λ s. record { first = s.first.now; second = s.second.now } };
 }
 
-/// A pair or a single string as it stands in a data set.
+/// A pair or a single string in a data set.
 #[derive(Drop)]
 pub(crate) enum Spelled<'a> {
-    /// Its strings stand there.
+    /// The strings themselves.
     Inline(Strings<'a>),
-    /// An entry of the table stands for it; 1 is the entry stored last.
+    /// The reference that names an entry of the table; 1 is the entry stored last.
     Reference(u64),
 }
 
-/// The pair or single string at the front, and the bytes behind it.
+/// The pair or single string at the front, and the bytes after it.
 ///
 /// # Errors
 ///
@@ -61,7 +61,10 @@ pub(crate) fn read_spelled(form: Form, bytes: &[u8]) -> Result<(Spelled<'_>, &[u
     Ok((Spelled::Reference(reference), rest))
 }
 
-/// The strings behind the zero byte that begins them inline, as they are spelled, and the bytes behind them.
+/// The strings after the zero byte that begins them inline, as they are spelled, and the bytes after them.
+///
+/// This function exists only for the optimizer: it takes the result of `read_inline` apart, so that no room for that
+/// result is cleared where a reference is read.
 #[inline(always)]
 fn spelled_inline(form: Form, bytes: &[u8]) -> Result<(Spelled<'_>, &[u8]), O5Reason>
     ensures value { Gives (λ x. (x.0, x.1.now)) (inline_spelled form bytes.now) result }
@@ -71,7 +74,7 @@ fn spelled_inline(form: Form, bytes: &[u8]) -> Result<(Spelled<'_>, &[u8]), O5Re
     Ok((Spelled::Inline(strings), rest))
 }
 
-/// The strings behind the zero byte that begins them inline, and the bytes behind them.
+/// The strings after the zero byte that begins them inline, and the bytes after them.
 #[inline(never)]
 #[tactic(auto, unfolding(crate::specs::Strings::inline_at))]
 fn read_inline(form: Form, bytes: &[u8]) -> Result<(Strings<'_>, &[u8]), O5Reason>
@@ -88,7 +91,7 @@ fn read_inline(form: Form, bytes: &[u8]) -> Result<(Strings<'_>, &[u8]), O5Reaso
     }
 }
 
-/// The string at the front, which ends at the first zero byte, and the bytes behind it.
+/// The string at the front, which ends at the first zero byte, and the bytes after it.
 #[tactic(auto, unfolding(crate::specs::Strings::string_at))]
 fn read_string(bytes: &[u8]) -> Result<(&[u8], &[u8]), O5Reason>
     ensures value { Gives (λ x. (x.0.now, x.1.now)) (string_at bytes.now) result }

@@ -61,7 +61,7 @@ impl Table {
         self.ring.clear();
     }
 
-    /// Stores strings that stand inline, unless they are too long.
+    /// Stores strings that are inline, unless they are too long.
     #[inline(always)]
     pub(crate) fn store(&mut self, spelled: &Spelled<'_>) -> Result<(), Memory>
         ensures { OnOk result (self.new ≡ table_after spelled.now self.old) }
@@ -72,6 +72,8 @@ impl Table {
         }
     }
 
+    /// Stores two strings, unless they are too long. This is a function of its own only for the optimizer, since most
+    /// strings are references.
     #[inline(never)]
     fn store_strings(&mut self, first: &[u8], second: &[u8]) -> Result<(), Memory>
         ensures { OnOk result (self.new ≡ stored (entry_of first.now second.now) self.old) }
@@ -91,7 +93,7 @@ impl Table {
         self.ring.push_back(entry);
     }
 
-    /// The strings that stand inline or that a reference names.
+    /// The strings that are inline or that a reference names.
     ///
     /// # Errors
     ///
@@ -112,14 +114,15 @@ impl Table {
         }
     }
 
-    /// Puts the user id and the user name of strings that stand inline or that a reference names in their places.
+    /// Puts the user id and the user name of strings, which are inline or which a reference names, into `meta`.
     ///
     /// # Errors
     ///
     /// `BadReference` where the table has no such entry, else as for [`put_user`].
     #[inline(always)]
     pub(crate) fn put_user(&self, spelled: &Spelled<'_>, meta: &mut Meta) -> Result<(), O5Reason>
-        ensures { Answers (λ _. meta.new) (and_user meta.old (and_then (strings_of self.now spelled.now) user_of)) result }
+        ensures { Answers (λ _. meta.new)
+            (and_user meta.old (and_then (strings_of self.now spelled.now) user_of)) result }
     {
         match spelled {
             Spelled::Inline(strings) => put_user(self.allocator(), strings, meta),
@@ -130,14 +133,15 @@ impl Table {
         }
     }
 
-    /// Adds the tag of strings that stand inline or that a reference names to a list.
+    /// Adds the tag of strings, which are inline or which a reference names, to `tags`.
     ///
     /// # Errors
     ///
     /// `BadReference` where the table has no such entry, else as for [`add_tag`].
     #[inline(always)]
     pub(crate) fn add_tag(&self, spelled: &Spelled<'_>, tags: &mut Vec<Tag>) -> Result<(), O5Reason>
-        ensures { Answers (λ _. tags.new.items) (and_added tags.old.items (and_then (strings_of self.now spelled.now) tag_of)) result }
+        ensures { Answers (λ _. tags.new.items)
+            (and_added tags.old.items (and_then (strings_of self.now spelled.now) tag_of)) result }
     {
         match spelled {
             Spelled::Inline(strings) => add_tag(self.allocator(), strings, tags),

@@ -1,4 +1,10 @@
 //! Texts in the strings of data sets.
+//!
+//! Why: nearly all strings are ASCII, and ASCII is UTF-8. The test of UTF-8 took a twentieth of reading a line, and
+//! more of reading a data set.
+//! Assumes: nothing; `is_ascii` looks at every byte.
+//! Otherwise: a string with another byte is tested by `simdutf8`.
+//! Compared by: `reads_texts`.
 ghost use Rattle.std.specs.Prelude.{◌≡◌, Ok, IfOk, IfSome, encode_utf8_all};
 ghost use Rattle.std.specs.Str.{chars};
 ghost use Rattle.o5_codec.specs.Answer.{Gives, Answers, and_added};
@@ -31,12 +37,13 @@ fn to_str(bytes: &[u8]) -> Result<&str, O5Reason>
     ensures bytes { IfOk result (λ text. text.now ≡ bytes.now) }
 {
     if bytes.is_ascii() {
+        // SAFETY: ASCII bytes are UTF-8.
         return Ok(unsafe { str::from_utf8_unchecked(bytes) });
     }
     any_to_str(bytes)
 }
 
-/// A string with characters of any kind as a slice of a text.
+/// A string with characters of any kind as a slice of a text. This is a function of its own only for the optimizer.
 #[inline(never)]
 fn any_to_str(bytes: &[u8]) -> Result<&str, O5Reason>
     ensures text { Gives (λ text. chars text.now) (text_of bytes.now) result }
@@ -48,26 +55,13 @@ fn any_to_str(bytes: &[u8]) -> Result<&str, O5Reason>
     }
 }
 
-/// The tag of a pair: its key and its value.
-///
-/// # Errors
-///
-/// As for [`to_text`].
-#[tactic(auto, unfolding(crate::specs::Text::tag_of))]
-fn to_tag(alloc: Global, strings: &Strings<'_>) -> Result<Tag, O5Reason>
-    ensures { Answers (λ tag. tag) (tag_of strings.now) result }
-{
-    let key = to_text(alloc, strings.first)?;
-    let value = to_text(alloc, strings.second)?;
-    Ok(Tag { key, value })
-}
-
 /// Adds the tag of a pair to a list.
 ///
 /// # Errors
 ///
 /// As for [`to_text`].
 #[inline(never)]
+#[tactic(auto, unfolding(crate::specs::Text::tag_of))]
 pub(crate) fn add_tag(
     alloc: Global,
     strings: &Strings<'_>,
@@ -75,16 +69,18 @@ pub(crate) fn add_tag(
 ) -> Result<(), O5Reason>
     ensures { Answers (λ _. tags.new.items) (and_added tags.old.items (tag_of strings.now)) result }
 {
-    let tag = to_tag(alloc, strings)?;
-    Ok(tags.push(tag)?)
+    let key = to_text(alloc, strings.first)?;
+    let value = to_text(alloc, strings.second)?;
+    Ok(tags.push(Tag { key, value })?)
 }
 
-/// Puts the user id and the user name of a pair in their places.
+/// Puts the user id and the user name of a pair into `meta`.
 ///
 /// # Errors
 ///
 /// `BadNumber` and `OutOfRange` for the user id, `NotUtf8` for the name.
 #[inline(never)]
+#[tactic(auto, unfolding(crate::specs::Text::user_of))]
 pub(crate) fn put_user(
     alloc: Global,
     strings: &Strings<'_>,
@@ -92,27 +88,18 @@ pub(crate) fn put_user(
 ) -> Result<(), O5Reason>
     ensures { Answers (λ _. meta.new) (and_user meta.old (user_of strings.now)) result }
 {
-    let (uid, name) = to_user(alloc, strings)?;
+    let uid = to_uid(strings.first)?;
+    let name = to_text(alloc, strings.second)?;
     meta.uid = u64::from(uid);
     meta.user.replace(name);
     Ok(())
 }
 
-/// The user id and the user name of a pair.
-#[tactic(auto, unfolding(crate::specs::Text::user_of))]
-fn to_user(alloc: Global, strings: &Strings<'_>) -> Result<(u32, Text), O5Reason>
-    ensures { Answers (λ user. user) (user_of strings.now) result }
-{
-    let uid = to_uid(strings.first)?;
-    let name = to_text(alloc, strings.second)?;
-    Ok((uid, name))
-}
-
-/// The text of a string, where it is one. Its copies are written many times, so it is looked at whether it is plain.
+/// The text of a string that is one. Its copies are written many times, so it is marked if it is plain.
 ///
 /// # Errors
 ///
-/// For want of memory alone.
+/// `Memory` when out of memory.
 pub(crate) fn known_text(alloc: Global, bytes: &[u8]) -> Result<Option<Text>, Memory>
     ensures bytes { IfOk result (λ known. IfSome known (λ text. encode_utf8_all text ≡ bytes.now)) }
     ensures text { IfOk result (λ known. IfSome known (λ text. text_of bytes.now ≡ Ok text)) }
@@ -127,19 +114,13 @@ pub(crate) fn known_text(alloc: Global, bytes: &[u8]) -> Result<Option<Text>, Me
     }
 }
 
-/// The user id that a string spells, where it spells one.
-pub(crate) fn known_uid(bytes: &[u8]) -> Option<u32>
-    ensures { IfSome result (λ uid. uid_of bytes.now ≡ Ok uid) }
-{
-    match to_uid(bytes) {
-        Ok(uid) => Some(uid),
-        Err(_) => None,
-    }
-}
-
-/// A user id; an empty string means 0.
+/// The user id that a string spells. An empty string means 0.
+///
+/// # Errors
+///
+/// `BadNumber` where the string is no number, `OutOfRange` where that is above 4294967295.
 #[tactic(auto, unfolding(crate::specs::Text::uid_of))]
-fn to_uid(bytes: &[u8]) -> Result<u32, O5Reason>
+pub(crate) fn to_uid(bytes: &[u8]) -> Result<u32, O5Reason>
     ensures { Gives (λ uid. uid) (uid_of bytes.now) result }
 {
     if bytes.is_empty() {

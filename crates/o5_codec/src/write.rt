@@ -1,4 +1,4 @@
-//! What stands in data sets, as it is written.
+//! Writing the parts of data sets.
 pub(crate) mod block;
 pub(crate) mod body;
 pub(crate) mod draft;
@@ -7,5 +7,6 @@ pub(crate) mod indexed_table;
 pub(crate) mod number;
 pub(crate) mod segment;
 pub(crate) mod slot;
+pub(crate) mod string_key;
 #[cfg(test)]
 mod tests;

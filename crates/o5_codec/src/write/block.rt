@@ -1,16 +1,23 @@
 //! Up to 128 bytes of a data set, filled in place.
+//!
+//! Why: a data set has many numbers of one to four bytes. One test of room for each number, and straight code for up to
+//! four groups, take 2.3 percent off the instructions of a merge from o5m to o5m.
+//! Assumes: each call has room for what it appends; `make_room` tests for it.
+//! Otherwise: a full block moves its bytes to the vector in front of it. A number of more than four groups is written
+//! by a loop.
+//! Compared by: `writes_numbers_at_their_limits`.
 ghost use Rattle.std.specs.Prelude.{◌≡◌, ◌≤◌, ◌<◌, ◌+◌, ◌++◌, ◌∷◌, [], length, drop, OnOk};
 ghost use Rattle.o5_codec.specs.Shortest.{shortest_number};
 
 use osm_model::Memory;
 
-/// How many bytes a block has room for: more than a short data set has.
-pub(crate) const ROOM: usize = 128;
+/// The number of bytes that a block has room for: more than a short data set has.
+pub(crate) const BLOCK_BYTES: usize = 128;
 
-/// At most 128 bytes. They stand in place, so that nothing is tested for each of them.
+/// At most 128 bytes, in place.
 #[derive(Drop)]
 pub(crate) struct Block {
-    bytes: [u8; ROOM],
+    bytes: [u8; BLOCK_BYTES],
     end: usize,
     ghost within: { end ≤ 128 },
 }
@@ -23,12 +30,12 @@ impl Block {
         ensures { filled result ≡ [] }
     {
         Block {
-            bytes: [0; ROOM],
+            bytes: [0; BLOCK_BYTES],
             end: 0,
         }
     }
 
-    /// Lets all bytes go.
+    /// Drops all bytes.
     pub(crate) fn clear(&mut self)
         ensures bytes { filled self.new ≡ [] }
         ensures room { self.new.end ≡ 0 }
@@ -36,7 +43,7 @@ impl Block {
         self.end = 0;
     }
 
-    /// Lets all bytes go, and leaves room for two in front, which are set later.
+    /// Drops all bytes, and leaves room for two in front, which are set later.
     pub(crate) fn begin(&mut self)
         ensures { length (filled self.new) ≡ 2 }
     {
@@ -52,7 +59,7 @@ impl Block {
         self.bytes[1] = two;
     }
 
-    /// How many bytes there are.
+    /// The number of bytes.
     pub(crate) fn len(&self) -> usize
         ensures place { result ≡ self.now.end }
         ensures length { result ≡ length (filled self.now) }
@@ -67,28 +74,28 @@ impl Block {
         &self.bytes[..self.end]
     }
 
-    /// Makes room for so many bytes more: where there isn't, the bytes are moved to the end of those in front of them.
+    /// Makes room for `count` bytes: without room the bytes move to the end of `front`.
     ///
     /// # Errors
     ///
-    /// For want of memory alone.
+    /// `Memory` when out of memory.
     #[inline(always)]
     pub(crate) fn make_room(&mut self, count: usize, front: &mut Vec<u8>) -> Result<(), Memory>
         requires { count ≤ 128 }
         ensures bytes { OnOk result (front.new.items ++ filled self.new ≡ front.old.items ++ filled self.old) }
         ensures room { OnOk result (self.new.end + count ≤ 128) }
     {
-        if self.end <= ROOM - count {
+        if self.end <= BLOCK_BYTES - count {
             return Ok(());
         }
         self.flush(front)
     }
 
-    /// Moves the bytes to the end of those in front of them.
+    /// Moves the bytes to the end of `front`.
     ///
     /// # Errors
     ///
-    /// For want of memory alone.
+    /// `Memory` when out of memory.
     #[inline(never)]
     pub(crate) fn flush(&mut self, front: &mut Vec<u8>) -> Result<(), Memory>
         ensures bytes { OnOk result (front.new.items ≡ front.old.items ++ filled self.old) }
@@ -100,7 +107,7 @@ impl Block {
         Ok(())
     }
 
-    /// One byte more.
+    /// Appends a byte.
     pub(crate) fn push(&mut self, byte: u8)
         requires { self.old.end < 128 }
         ensures { filled self.new ≡ filled self.old ++ byte ∷ [] }
@@ -109,7 +116,7 @@ impl Block {
         self.end += 1;
     }
 
-    /// More bytes.
+    /// Appends bytes.
     pub(crate) fn append(&mut self, bytes: &[u8])
         requires { self.old.end + length bytes.now ≤ 128 }
         ensures { filled self.new ≡ filled self.old ++ bytes.now }
@@ -119,7 +126,7 @@ impl Block {
         self.end = end;
     }
 
-    /// An unsigned number.
+    /// Appends an unsigned number.
     #[inline(always)]
     pub(crate) fn append_number(&mut self, number: u64)
         requires { self.old.end + 10 ≤ 128 }

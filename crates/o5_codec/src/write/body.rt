@@ -10,6 +10,7 @@ ghost use Rattle.o5_codec.specs.Writing as spec;
 
 use crate::write::draft::Draft;
 use crate::write::segment::WrittenSegment;
+use crate::write::string_key::StringKey;
 use osm_model::{Body, Member, Memory, Tag};
 
 impl WrittenSegment {
@@ -56,14 +57,15 @@ impl WrittenSegment {
         self.append_each_tag(out, tags)
     }
 
-    /// Appends the tags, of which there are some.
+    /// Appends the tags, which are not empty. This is a function of its own only for the optimizer, since most objects
+    /// have no tags.
     #[inline(never)]
     #[tactic(auto, unfolding(crate::specs::Writing::tags_written))]
     fn append_each_tag(&mut self, out: &mut Draft, tags: &[Tag]) -> Result<(), Memory>
         ensures { OnOk result (Appended out.old out.new self.new (spec.tags_written tags.now self.old)) }
     {
         for tag in tags {
-            self.append_tag(out, tag)?;
+            self.append_strings(out, StringKey::of_tag(tag))?;
         }
         Ok(())
     }
@@ -77,7 +79,8 @@ impl WrittenSegment {
         ids: &[i64],
     ) -> Result<(), Memory>
         requires { list_all is_id ids.now ≡ true }
-        ensures { OnOk result (Appended out.old out.new self.new (spec.section_written (spec.references_written ids.now) self.old)) }
+        ensures { OnOk result
+            (Appended out.old out.new self.new (spec.section_written (spec.references_written ids.now) self.old)) }
     {
         section.clear();
         self.append_each_reference(section, ids)?;
@@ -104,7 +107,8 @@ impl WrittenSegment {
         members: &[Member],
     ) -> Result<(), Memory>
         requires { list_all is_id (ids_of_members members.now) ≡ true }
-        ensures { OnOk result (Appended out.old out.new self.new (spec.section_written (spec.members_written members.now) self.old)) }
+        ensures { OnOk result
+            (Appended out.old out.new self.new (spec.section_written (spec.members_written members.now) self.old)) }
     {
         section.clear();
         self.append_each_member(section, members)?;
@@ -128,7 +132,7 @@ impl WrittenSegment {
         ensures { OnOk result (Appended out.old out.new self.new (spec.member_written member.now self.old)) }
     {
         self.append_member_id(out, member.kind, member.id)?;
-        self.append_role(out, member.kind, &member.role)?;
+        self.append_strings(out, StringKey::of_member(member.kind, &member.role))?;
         Ok(())
     }
 }

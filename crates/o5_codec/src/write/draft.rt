@@ -4,7 +4,7 @@ ghost use Rattle.std.specs.Bool.{OnTrue, OnFalse};
 ghost use Rattle.osm_model.specs.Extends.{Extends};
 ghost use Rattle.o5_codec.specs.Shortest.{shortest_number};
 
-use crate::write::block::{Block, ROOM};
+use crate::write::block::{BLOCK_BYTES, Block};
 use osm_model::Memory;
 use std::alloc::Global;
 use std::marker::Model;
@@ -12,7 +12,7 @@ use std::marker::Model;
 /// The bytes that a number has at most.
 const LONGEST_NUMBER: usize = 10;
 
-/// Bytes that grow at their end, whose last ones stand in a block. Contracts see all of them.
+/// Bytes that grow at their end. The last ones are in a block. Contracts see all of them.
 #[derive(Drop)]
 pub(crate) struct Draft {
     front: Vec<u8>,
@@ -39,7 +39,7 @@ impl Draft {
         }
     }
 
-    /// Lets all bytes go.
+    /// Drops all bytes.
     pub(crate) fn clear(&mut self)
         ensures { self.new ≡ [] }
     {
@@ -47,7 +47,7 @@ impl Draft {
         self.block.clear();
     }
 
-    /// Lets all bytes go, and leaves room for two in front, which are set later.
+    /// Drops all bytes, and leaves room for two in front, which are set later.
     pub(crate) fn begin(&mut self)
         ensures { length self.new ≡ 2 }
     {
@@ -55,7 +55,7 @@ impl Draft {
         self.block.begin();
     }
 
-    /// Sets the first two bytes, where all are few enough to stand in the block alone, and answers whether they are.
+    /// Sets the first two bytes if all bytes are in the block. Returns whether they are.
     pub(crate) fn set_front(&mut self, one: u8, two: u8) -> bool
         requires { 2 ≤ length self.old }
         ensures set { OnTrue result (self.new ≡ one ∷ two ∷ drop 2 self.old) }
@@ -68,7 +68,7 @@ impl Draft {
         true
     }
 
-    /// How many bytes there are.
+    /// The number of bytes.
     pub(crate) fn len(&self) -> u64
         ensures { result ≡ length self.now }
     {
@@ -79,7 +79,7 @@ impl Draft {
     ///
     /// # Errors
     ///
-    /// For want of memory alone; a part of them may then stand there.
+    /// `Memory` when out of memory; `out` may then have a part of them.
     #[inline(always)]
     pub(crate) fn append_to(&self, out: &mut Vec<u8>) -> Result<(), Memory>
         ensures appended { OnOk result (out.new.items ≡ out.old.items ++ self.now) }
@@ -96,7 +96,7 @@ impl Draft {
     ///
     /// # Errors
     ///
-    /// For want of memory alone; a part of them may then stand there.
+    /// `Memory` when out of memory; `out` may then have a part of them.
     pub(crate) fn append_behind_front(&self, out: &mut Vec<u8>) -> Result<(), Memory>
         requires { 2 ≤ length self.now }
         ensures appended { OnOk result (out.new.items ≡ out.old.items ++ drop 2 self.now) }
@@ -113,7 +113,7 @@ impl Draft {
     ///
     /// # Errors
     ///
-    /// For want of memory alone.
+    /// `Memory` when out of memory.
     #[inline(always)]
     pub(crate) fn append_number(&mut self, number: u64) -> Result<(), Memory>
         ensures { OnOk result (self.new ≡ self.old ++ shortest_number number) }
@@ -127,7 +127,7 @@ impl Draft {
     ///
     /// # Errors
     ///
-    /// For want of memory alone.
+    /// `Memory` when out of memory.
     pub(crate) fn push(&mut self, byte: u8) -> Result<(), Memory>
         ensures { OnOk result (self.new ≡ self.old ++ byte ∷ []) }
     {
@@ -140,11 +140,11 @@ impl Draft {
     ///
     /// # Errors
     ///
-    /// For want of memory alone.
+    /// `Memory` when out of memory.
     pub(crate) fn append(&mut self, bytes: &[u8]) -> Result<(), Memory>
         ensures { OnOk result (self.new ≡ self.old ++ bytes.now) }
     {
-        if bytes.len() <= ROOM - self.block.len() {
+        if bytes.len() <= BLOCK_BYTES - self.block.len() {
             self.block.append(bytes);
             return Ok(());
         }
@@ -157,7 +157,7 @@ impl Draft {
     ///
     /// # Errors
     ///
-    /// For want of memory alone; a part of them may then stand there.
+    /// `Memory` when out of memory; `self` may then have a part of them.
     pub(crate) fn append_draft(&mut self, other: &Draft) -> Result<(), Memory>
         ensures { OnOk result (self.new ≡ self.old ++ other.now) }
     {

@@ -1,39 +1,40 @@
 //! Entries of the string table.
-ghost use Rattle.std.specs.Prelude.{◌≡◌, ◌++◌, [], IfOk, OnOk};
+ghost use Rattle.std.specs.Prelude.{◌≡◌, ◌++◌, IfOk, OnOk};
 ghost use Rattle.std.specs.Hash as fed;
 ghost use Rattle.std.specs.Bool.{OnTrue};
-ghost use Rattle.o5_codec.specs.declared.strings.Form.TheVariants.{Pair, Single};
 ghost use Rattle.std.specs.Cmp.{decided, partial_equiv_from_equiv};
 ghost use Rattle.std.proofs.Common.{ap};
 ghost use Rattle.o5_codec.specs.Table.{is_short};
 ghost use Rattle.o5_codec.specs.Block.{filled};
 ghost use Rattle.o5_codec.specs.Digest.{digest};
 ghost use Rattle.o5_codec.specs.Formed.{formed, same_form, same_entry, inline_bytes};
-ghost use Rattle.o5_codec.specs.Writing.{uid_string, user_entry, tag_entry, member_string, member_entry};
+ghost use Rattle.o5_codec.specs.Writing.{uid_string, member_string};
+ghost use Rattle.o5_codec.specs.StringKey.{formed_of};
 ghost use Rattle.o5_codec.specs.SameEntry.{same_entry_decides};
 
 use crate::strings::{Form, Strings};
 use crate::table::is_short;
 use crate::write::block::Block;
 use crate::write::draft::Draft;
-use osm_model::{Kind, Memory, Tag, Text};
+use crate::write::string_key::StringKey;
+use osm_model::{Kind, Memory};
 use smallvec::SmallVec;
 use std::alloc::Global;
 use std::hash::{DefaultHasher, Hash, Hasher};
 use std::marker::Model;
 
 /// The number of bytes that an entry keeps without an allocation. Most pairs, and most names, have fewer.
-const FEW: usize = 24;
+const INLINE_BYTES: usize = 24;
 
 /// A pair or a single string. The bytes are those of the first string and then those of the second. Contracts see the
 /// form and the strings.
 ///
-/// Two entries are compared by their digests first, and the map of the table hashes the digest. It is SipHash with a fixed key, so
-/// strings whose digests are equal have to be searched for.
+/// Two entries are compared by their digests first, and the map of the table hashes the digest. It is SipHash with a
+/// fixed key, so strings whose digests are equal have to be searched for.
 #[derive(Drop)]
 pub(crate) struct Entry {
     form: Form,
-    bytes: SmallVec<u8, FEW>,
+    bytes: SmallVec<u8, INLINE_BYTES>,
     split: usize,
     /// The digest of the bytes.
     digest: u64,
@@ -85,7 +86,8 @@ impl Eq for Entry {
 impl Hash for Entry {
     ghost hash_input = { λ e. fed.u64 (digest (e.strings.first ++ e.strings.second)) };
 
-    ghost respects_eq = { λ x y same. ap (λ e. fed.u64 (digest (e.strings.first ++ e.strings.second))) ((same_entry_decides x y).0 same) };
+    ghost respects_eq = { λ x y same.
+        ap (λ e. fed.u64 (digest (e.strings.first ++ e.strings.second))) ((same_entry_decides x y).0 same) };
 
     fn hash<H: Hasher>(&self, state: &mut H) {
         state.write_u64(self.digest);
@@ -93,7 +95,7 @@ impl Hash for Entry {
 }
 
 impl Entry {
-    /// An entry to be filled.
+    /// An entry of two empty strings.
     pub(crate) fn new(alloc: Global) -> Entry {
         Entry {
             form: Form::Pair,
@@ -111,35 +113,29 @@ impl Entry {
         Strings { first, second }
     }
 
-    /// Whether it is the pair of a user's id and name.
+    /// Whether it is the entry of the strings of `key`.
     #[inline(always)]
-    pub(crate) fn is_user(&self, uid: u64, name: &[u8]) -> bool
-        ensures { OnTrue result (self.now ≡ formed Pair (uid_string uid) name.now) }
+    pub(crate) fn matches(&self, key: StringKey<'_>) -> bool
+        ensures { OnTrue result (self.now ≡ formed_of key.entry) }
     {
-        let is_its = match self.uid {
-            Some(known) => known == uid,
-            None => false,
-        };
-        is_its && self.form.is_same(Form::Pair) && self.strings().second == name
-    }
-
-    /// Whether it is the pair of these strings.
-    #[inline(always)]
-    pub(crate) fn is_pair(&self, first: &[u8], second: &[u8]) -> bool
-        ensures { OnTrue result (self.now ≡ formed Pair first.now second.now) }
-    {
-        let strings = self.strings();
-        self.form.is_same(Form::Pair) && strings.first == first && strings.second == second
-    }
-
-    /// Whether it is the single string of a member: the digit of this kind, and this role.
-    #[inline(always)]
-    pub(crate) fn is_member(&self, kind: Kind, role: &[u8]) -> bool
-        ensures { OnTrue result (self.now ≡ formed Single (member_string kind role.now) []) }
-    {
-        let strings = self.strings();
-        let is_its = is_member_string(strings.first, kind, role);
-        is_its && self.form.is_same(Form::Single) && strings.second.is_empty()
+        match key {
+            StringKey::User { uid, name } => {
+                let is_its = match self.uid {
+                    Some(known) => known == uid,
+                    None => false,
+                };
+                is_its && self.form.is_same(Form::Pair) && self.strings().second == name
+            }
+            StringKey::Tag { key, value } => {
+                let strings = self.strings();
+                self.form.is_same(Form::Pair) && strings.first == key && strings.second == value
+            }
+            StringKey::Member { kind, role } => {
+                let strings = self.strings();
+                let is_its = is_member_string(strings.first, kind, role);
+                is_its && self.form.is_same(Form::Single) && strings.second.is_empty()
+            }
+        }
     }
 
     /// Whether the strings are few enough bytes to be stored.
@@ -180,34 +176,34 @@ impl Entry {
         })
     }
 
-    /// Takes the pair of a user's id and name.
-    pub(crate) fn fill_user(&mut self, uid: u64, user: &Text) -> Result<(), Memory>
-        ensures { OnOk result (self.new ≡ user_entry uid user.now) }
+    /// Fills the entry with the strings of `key`.
+    #[inline(always)]
+    pub(crate) fn fill(&mut self, key: StringKey<'_>) -> Result<(), Memory>
+        ensures { OnOk result (self.new ≡ formed_of key.entry) }
     {
-        let digits = uid_digits(uid);
-        self.fill(Form::Pair, &[], digits.as_slice(), user.as_str().as_bytes())?;
-        self.uid = Some(uid);
-        Ok(())
+        match key {
+            StringKey::User { uid, name } => {
+                let digits = uid_digits(uid);
+                self.fill_strings(Form::Pair, &[], digits.as_slice(), name)?;
+                self.uid = Some(uid);
+                Ok(())
+            }
+            StringKey::Tag { key, value } => self.fill_strings(Form::Pair, &[], key, value),
+            StringKey::Member { kind, role } => {
+                let digit = [b'0' + kind.rank()];
+                self.fill_strings(Form::Single, &digit, role, &[])
+            }
+        }
     }
 
-    /// Takes the pair of a tag.
-    pub(crate) fn fill_tag(&mut self, tag: &Tag) -> Result<(), Memory>
-        ensures { OnOk result (self.new ≡ tag_entry tag.now) }
-    {
-        let (key, value) = (tag.key.as_str(), tag.value.as_str());
-        self.fill(Form::Pair, &[], key.as_bytes(), value.as_bytes())
-    }
-
-    /// Takes the single string of a member: the digit of its kind, and its role.
-    pub(crate) fn fill_member(&mut self, kind: Kind, role: &Text) -> Result<(), Memory>
-        ensures { OnOk result (self.new ≡ member_entry kind role.now) }
-    {
-        let digit = [b'0' + kind.rank()];
-        self.fill(Form::Single, &digit, role.as_str().as_bytes(), &[])
-    }
-
-    /// Takes two strings, of which `front` and `rest` are the first. The room of a long string is given back.
-    fn fill(&mut self, form: Form, front: &[u8], rest: &[u8], second: &[u8]) -> Result<(), Memory>
+    /// Fills the entry with two strings: `front` and `rest` together, and `second`. Memory of long strings is freed.
+    fn fill_strings(
+        &mut self,
+        form: Form,
+        front: &[u8],
+        rest: &[u8],
+        second: &[u8],
+    ) -> Result<(), Memory>
         ensures { OnOk result (self.new ≡ formed form (front.now ++ rest.now) second.now) }
     {
         let mut bytes = SmallVec::new(*self.bytes.allocator());
@@ -248,7 +244,7 @@ fn uid_digits(uid: u64) -> Block
     digits
 }
 
-/// Whether a string is the digit of a member's kind, and behind it this role.
+/// Whether a string is the digit of a member's kind and after it this role.
 #[inline(always)]
 fn is_member_string(string: &[u8], kind: Kind, role: &[u8]) -> bool
     ensures { OnTrue result (string.now ≡ member_string kind role.now) }

@@ -1,18 +1,24 @@
 //! The string table of a segment that is written.
+//!
+//! Why: a table has up to 15,000 entries, and a search of it would compare each. The hash map finds an entry by its
+//! digest, and the cache of `slot` finds most of them before that, which saves half of what writing a version costs.
+//! Assumes: the map has exactly the entries of the ring, each with the number of its storing (`IsTable`).
+//! Otherwise: an entry that neither has is written inline, and stored in both.
+//! Compared by: `refers_as_a_plain_search_does`.
 ghost use Rattle.std.specs.Prelude.{◌≡◌, ◌∷◌, ◌^◌, ◌++◌, [], take, IfOk, OnOk, None, Some, IfSome};
 ghost use Rattle.o5_codec.specs.Table.{limit};
-ghost use Rattle.o5_codec.specs.declared.strings.Form.TheVariants.{Pair, Single};
 ghost use Rattle.std.specs.HashMap as hash;
-ghost use Rattle.o5_codec.specs.Formed.{formed, same_entry, reference_to, kept, spelled_by, kept_by};
+ghost use Rattle.o5_codec.specs.Formed.{same_entry, reference_to, kept, spelled_by, kept_by};
 ghost use Rattle.o5_codec.specs.Indexed.{IsNext};
-ghost use Rattle.o5_codec.specs.Writing.{uid_string, member_string};
+ghost use Rattle.o5_codec.specs.StringKey.{formed_of};
 
 use crate::table::LIMIT;
 use crate::write::draft::Draft;
 use crate::write::entry::Entry;
 use crate::write::slot::{Slot, SlotCache};
+use crate::write::string_key::StringKey;
 use circular_buffer::HeapCircularBuffer;
-use osm_model::{Kind, Memory};
+use osm_model::Memory;
 use std::alloc::Global;
 use std::collections::HashMap;
 use std::marker::Model;
@@ -97,39 +103,13 @@ impl IndexedTable {
         }
     }
 
-    /// The reference that names a user's entry, if the cache has it.
+    /// The reference that names the entry of the strings of `key`, if the cache has it.
     #[inline(always)]
-    pub(crate) fn user_reference(&self, uid: u64, name: &[u8]) -> Option<u64>
-        ensures { IfSome result (λ n. reference_to (formed Pair (uid_string uid) name.now) self.now ≡ Some n) }
+    pub(crate) fn cached_reference(&self, key: StringKey<'_>) -> Option<u64>
+        ensures { IfSome result (λ n. reference_to (formed_of key.entry) self.now ≡ Some n) }
     {
-        let (entry, reference) = self.remembered(Slot::of_user(uid))?;
-        if entry.is_user(uid, name) {
-            Some(reference)
-        } else {
-            None
-        }
-    }
-
-    /// The reference that names a tag's entry, if the cache has it.
-    #[inline(always)]
-    pub(crate) fn tag_reference(&self, key: &[u8], value: &[u8]) -> Option<u64>
-        ensures { IfSome result (λ n. reference_to (formed Pair key.now value.now) self.now ≡ Some n) }
-    {
-        let (entry, reference) = self.remembered(Slot::of_strings(key, value))?;
-        if entry.is_pair(key, value) {
-            Some(reference)
-        } else {
-            None
-        }
-    }
-
-    /// The reference that names a member's entry, if the cache has it.
-    #[inline(always)]
-    pub(crate) fn member_reference(&self, kind: Kind, role: &[u8]) -> Option<u64>
-        ensures { IfSome result (λ n. reference_to (formed Single (member_string kind role.now) []) self.now ≡ Some n) }
-    {
-        let (entry, reference) = self.remembered(Slot::of_member(kind, role))?;
-        if entry.is_member(kind, role) {
+        let (entry, reference) = self.remembered(Slot::of(key))?;
+        if entry.matches(key) {
             Some(reference)
         } else {
             None

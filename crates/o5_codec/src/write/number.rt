@@ -11,7 +11,7 @@ use osm_model::Memory;
 ///
 /// # Errors
 ///
-/// For want of memory alone; nothing is appended then.
+/// `Memory` when out of memory; nothing is appended then.
 pub(crate) fn append_number(out: &mut Vec<u8>, number: u64) -> Result<(), Memory>
     ensures appended { OnOk result (out.new.items ≡ out.old.items ++ shortest_number number) }
     ensures unchanged { OnErr result (out.new.items ≡ out.old.items) }

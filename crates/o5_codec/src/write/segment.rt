@@ -4,6 +4,7 @@ ghost use Rattle.osm_model.specs.Id.{is_id};
 ghost use Rattle.o5_codec.specs.Encoder.{new_written_segment};
 ghost use Rattle.o5_codec.specs.Formed.{reference_to};
 ghost use Rattle.o5_codec.specs.Appended.{Appended};
+ghost use Rattle.o5_codec.specs.StringKey.{formed_of};
 ghost use Rattle.o5_codec.specs.Writing as spec;
 
 use crate::base::Bases;
@@ -11,16 +12,17 @@ use crate::write::draft::Draft;
 use crate::write::entry::Entry;
 use crate::write::indexed_table::IndexedTable;
 use crate::write::slot::Slot;
-use osm_model::{Kind, Memory, Tag, Text, Version};
+use crate::write::string_key::StringKey;
+use osm_model::{Kind, Memory, Version};
 use std::alloc::Global;
 use std::marker::Model;
 
-/// What stands before in a segment, as far as later data sets are written relative to it. Contracts see the bases and the table.
+/// The part of a segment that later data sets are written relative to. Contracts see the bases and the table.
 #[derive(Drop)]
 pub(crate) struct WrittenSegment {
     bases: Bases,
     table: IndexedTable,
-    /// The entry at hand, whose buffer is used again.
+    /// The entry that is filled and appended, whose buffer is used again.
     entry: Entry,
 }
 
@@ -33,7 +35,7 @@ impl Model for WrittenSegment {
 }
 
 impl WrittenSegment {
-    /// What stands where a segment begins: nothing.
+    /// The beginning of a segment.
     pub(crate) fn new(alloc: Global) -> Result<WrittenSegment, Memory>
         ensures { IfOk result (λ c. c ≡ new_written_segment) }
     {
@@ -97,7 +99,7 @@ impl WrittenSegment {
             None => Ok(()),
             Some(_) => {
                 self.append_changeset(out, v.changeset() as u32)?;
-                self.append_user(out, v.uid(), v.user())?;
+                self.append_strings(out, StringKey::of_user(v.uid(), v.user()))?;
                 Ok(())
             }
         }
@@ -110,49 +112,24 @@ impl WrittenSegment {
         self.bases.changeset.append(out, changeset)
     }
 
+    /// Appends the strings of `key`: the reference of their entry if the table has it, else the strings inline.
+    ///
+    /// The function is inlined so that each caller has only the code for its kind of strings.
+    #[inline(always)]
     #[tactic(auto, unfolding(crate::specs::Writing::strings_written))]
-    fn append_user(&mut self, out: &mut Draft, uid: u64, user: &Text) -> Result<(), Memory>
-        ensures { OnOk result (Appended out.old out.new self.new (spec.strings_written (spec.user_entry uid user.now) self.old)) }
-    {
-        let name = user.as_str().as_bytes();
-        if let Some(reference) = self.table.user_reference(uid, name) {
-            return out.append_number(reference);
-        }
-        self.entry.fill_user(uid, user)?;
-        self.table.append(out, Slot::of_user(uid), &self.entry)
-    }
-
-    /// Appends a tag.
-    #[tactic(auto, unfolding(crate::specs::Writing::strings_written))]
-    pub(crate) fn append_tag(&mut self, out: &mut Draft, tag: &Tag) -> Result<(), Memory>
-        ensures { OnOk result (Appended out.old out.new self.new (spec.tag_written tag.now self.old)) }
-    {
-        let (key, value) = (tag.key.as_str().as_bytes(), tag.value.as_str().as_bytes());
-        if let Some(reference) = self.table.tag_reference(key, value) {
-            return out.append_number(reference);
-        }
-        self.entry.fill_tag(tag)?;
-        self.table
-            .append(out, Slot::of_strings(key, value), &self.entry)
-    }
-
-    /// Appends the string of a member: its kind and its role.
-    #[tactic(auto, unfolding(crate::specs::Writing::strings_written))]
-    pub(crate) fn append_role(
+    pub(crate) fn append_strings(
         &mut self,
         out: &mut Draft,
-        kind: Kind,
-        role: &Text,
+        key: StringKey<'_>,
     ) -> Result<(), Memory>
-        ensures { OnOk result (Appended out.old out.new self.new (spec.strings_written (spec.member_entry kind role.now) self.old)) }
+        ensures { OnOk result
+            (Appended out.old out.new self.new (spec.strings_written (formed_of key.entry) self.old)) }
     {
-        let characters = role.as_str().as_bytes();
-        if let Some(reference) = self.table.member_reference(kind, characters) {
+        if let Some(reference) = self.table.cached_reference(key) {
             return out.append_number(reference);
         }
-        self.entry.fill_member(kind, role)?;
-        self.table
-            .append(out, Slot::of_member(kind, characters), &self.entry)
+        self.entry.fill(key)?;
+        self.table.append(out, Slot::of(key), &self.entry)
     }
 
     /// Appends the id of a member.

@@ -4,8 +4,8 @@ ghost use Rattle.std.specs.Prelude.{◌≡◌, false};
 use crate::number::read_number;
 use crate::write::draft::Draft;
 use crate::write::entry::Entry;
-use crate::write::indexed_table::IndexedTable;
-use crate::write::slot::Slot;
+use crate::write::segment::WrittenSegment;
+use crate::write::string_key::StringKey;
 use crate::{Decoder, Encoder};
 use osm_model::{Body, Kind, Meta, Tag, Tags, Text, Version};
 use std::alloc::Global;
@@ -264,21 +264,23 @@ fn refers_to_the_last_15000_pairs(rt: HostRuntime) -> Result<(), Fail> {
     check_second(&rt, alloc, 15_001, "00002", "10 07 02 01 00 00 00 98 75")
 }
 
-/// The table as the format has it, for entries that numbers stand for: the numbers stored last, the latest at the end, and a search of them.
+/// The table as the format has it: the numbers of the entries stored last, the latest at the end, and a search of them.
 #[derive(Drop)]
 struct Plain {
     stored: Vec<u32>,
+    entry: Entry,
 }
 
 impl Plain {
-    fn append(&mut self, out: &mut Draft, number: u32, entry: &Entry) -> Result<(), Fail> {
+    fn append(&mut self, out: &mut Draft, number: u32, key: StringKey<'_>) -> Result<(), Fail> {
         for (place, other) in self.stored.iter().enumerate() {
             if *other == number {
                 return Ok(out.append_number((self.stored.len() - place) as u64)?);
             }
         }
-        entry.append_inline(out)?;
-        if entry.is_short() {
+        self.entry.fill(key)?;
+        self.entry.append_inline(out)?;
+        if self.entry.is_short() {
             self.stored.push(number)?;
         }
         if self.stored.len() > 15_000 {
@@ -304,37 +306,47 @@ fn long_text(alloc: Global) -> Result<String, Fail> {
     Ok(text)
 }
 
-/// Fills the entry that a number stands for: a member, or a tag, now and then a long one.
-fn fill(alloc: Global, entry: &mut Entry, number: u32) -> Result<(), Fail> {
-    let text = format!(in alloc; "{number}")?;
+/// The strings of a number: those of a user, a tag or a member, now and then long ones.
+fn key_of<'a>(number: u32, digits: &'a [u8], long: &'a [u8]) -> StringKey<'a> {
     match number % 16 {
-        0..=4 => entry.fill_tag(&tag(alloc, text.as_str(), "")?)?,
-        5..=9 => entry.fill_tag(&tag(alloc, "", text.as_str())?)?,
-        10..=14 => {
-            let role = Text::from_string(String::from_str(alloc, text.as_str())?);
-            entry.fill_member(Kind::Way, &role)?;
-        }
-        _ => {
-            let value = long_text(alloc)?;
-            entry.fill_tag(&tag(alloc, text.as_str(), value.as_str())?)?;
-        }
+        0..=3 => StringKey::User {
+            uid: u64::from(number),
+            name: b"u",
+        },
+        4..=7 => StringKey::Tag {
+            key: digits,
+            value: &[],
+        },
+        8..=11 => StringKey::Tag {
+            key: &[],
+            value: digits,
+        },
+        12..=14 => StringKey::Member {
+            kind: Kind::Way,
+            role: digits,
+        },
+        _ => StringKey::Tag {
+            key: digits,
+            value: long,
+        },
     }
-    Ok(())
 }
 
-/// Appends the entry of a number to both tables, and sees that they write the same.
+/// Appends the strings of a number to both tables, and compares the bytes.
 fn append_to_both(
     rt: &impl Abort,
     alloc: Global,
-    table: &mut IndexedTable,
+    segment: &mut WrittenSegment,
     plain: &mut Plain,
     number: u32,
-    entry: &Entry,
+    long: &[u8],
 ) -> Result<(), Fail> {
+    let digits = format!(in alloc; "{number}")?;
+    let key = key_of(number, digits.as_str().as_bytes(), long);
     let mut written = Draft::new(alloc);
-    table.append(&mut written, Slot::of_user(u64::from(number)), entry)?;
+    segment.append_strings(&mut written, key)?;
     let mut expected = Draft::new(alloc);
-    plain.append(&mut expected, number, entry)?;
+    plain.append(&mut expected, number, key)?;
     let written = all_of(alloc, &written)?;
     assert_eq!(rt; written.as_slice(), all_of(alloc, &expected)?.as_slice());
     Ok(())
@@ -343,19 +355,26 @@ fn append_to_both(
 #[test]
 fn refers_as_a_plain_search_does(rt: HostRuntime) -> Result<(), Fail> {
     let alloc = rt.alloc();
-    let mut table = IndexedTable::new(alloc)?;
+    let mut segment = WrittenSegment::new(alloc)?;
     let mut plain = Plain {
         stored: Vec::new(alloc),
+        entry: Entry::new(alloc),
     };
-    let mut entry = Entry::new(alloc);
+    let long = long_text(alloc)?;
     let mut random: u64 = 1;
     for _ in 0..20_000u32 {
         random = random
             .wrapping_mul(6_364_136_223_846_793_005)
             .wrapping_add(1);
         let number = (random >> 33) as u32 % 60_000;
-        fill(alloc, &mut entry, number)?;
-        append_to_both(&rt, alloc, &mut table, &mut plain, number, &entry)?;
+        append_to_both(
+            &rt,
+            alloc,
+            &mut segment,
+            &mut plain,
+            number,
+            long.as_str().as_bytes(),
+        )?;
     }
     assert_eq!(rt; plain.stored.len(), 15_000);
     Ok(())

@@ -13,7 +13,8 @@ append_member-requires c = member_at c.args.members.now c.loop-member.member-ind
 pub loop-member-preserved : goal.loop-member-preserved
 loop-member-preserved c =
     turns_more _ _ _ _ c.member-item.result _ _ _ _ _ _ c.loop-member.invariant
-    (drop_more c.args.members.now c.loop-member.member-index c.member-item.result c.loop-member-test.true ∙ ap (λ x. x ∷ drop (c.loop-member.member-index + 1) c.args.members.now) (sym c.member-item.is))
+    (drop_more c.args.members.now c.loop-member.member-index c.member-item.result c.loop-member-test.true
+    ∙ ap (λ x. x ∷ drop (c.loop-member.member-index + 1) c.args.members.now) (sym c.member-item.is))
     c.in_ok-append_member.ensures
 
 pub returns : goal.returns

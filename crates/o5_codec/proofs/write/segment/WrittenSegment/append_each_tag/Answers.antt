@@ -10,8 +10,9 @@ loop-tag-init c = turns_begin _ _ _ _
 pub loop-tag-preserved : goal.loop-tag-preserved
 loop-tag-preserved c =
     turns_more _ _ _ _ c.tag-item.result _ _ _ _ _ _ c.loop-tag.invariant
-    (drop_more c.args.tags.now c.loop-tag.tag-index c.tag-item.result c.loop-tag-test.true ∙ ap (λ x. x ∷ drop (c.loop-tag.tag-index + 1) c.args.tags.now) (sym c.tag-item.is))
-    c.in_ok-append_tag.ensures
+    (drop_more c.args.tags.now c.loop-tag.tag-index c.tag-item.result c.loop-tag-test.true
+    ∙ ap (λ x. x ∷ drop (c.loop-tag.tag-index + 1) c.args.tags.now) (sym c.tag-item.is))
+    (rw c.of_tag.ensures at c.in_ok-append_strings.ensures)
 
 pub returns : goal.returns
 unfolding tags_written

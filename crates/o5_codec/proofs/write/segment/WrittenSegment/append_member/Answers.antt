@@ -11,4 +11,4 @@ unfolding member_written
 returns c =
     let fits : SFits w64 c.args.member.now.id = search rules in
     let id = simp to_z-of_z at c.in_ok-append_member_id.ensures in
-    turn_next _ _ _ _ _ _ _ _ id (turn_last _ _ _ _ _ c.in_ok-append_role.ensures)
+    turn_next _ _ _ _ _ _ _ _ id (turn_last _ _ _ _ _ (rw c.of_member.ensures at c.in_ok-append_strings.ensures))
