@@ -41,11 +41,13 @@ neither : (x y : Bool) → x || y ≡ false → (x ≡ false) × (y ≡ false)
 neither true y e = absurd (true≢false e)
 neither false y e = (refl, e)
 
-lines_start : (part : List ℕ) (i : ℕ) → is_some (slice_get part i) ≡ true → is_reset (slice_get part 0) ≡ false → start_of (take (suc i) part ++ []) ≡ InOpl
+lines_start : (part : List ℕ) (i : ℕ) → is_some (slice_get part i) ≡ true → is_reset (slice_get part 0) ≡ false
+    → start_of (take (suc i) part ++ []) ≡ InOpl
 lines_start [] i some e = absurd (false≢true some)
 lines_start (p ∷ part) i some e = ap (λ t. cond t BeforeHeader InOpl) e
 
-rest_starts : (part after : List ℕ) (m : ℕ) → is_some (slice_get part 0) ≡ true → is_reset (slice_get part 0) ≡ false → start_of (take (suc m) part ++ after) ≡ InOpl
+rest_starts : (part after : List ℕ) (m : ℕ) → is_some (slice_get part 0) ≡ true → is_reset (slice_get part 0) ≡ false
+    → start_of (take (suc m) part ++ after) ≡ InOpl
 rest_starts [] after m some e = absurd (false≢true some)
 rest_starts (p ∷ part) after m some e = ap (λ t. cond t BeforeHeader InOpl) e
 
@@ -61,7 +63,8 @@ module _ (part : List ℕ) (i m b : ℕ) (after : List ℕ) (at : slice_get part
   abbrev rest : List ℕ
   rest = take (suc m) (drop (suc i) part)
 
-  after_line : is_line_end b ≡ true → is_reset (slice_get part 0) ≡ false → is_some (slice_get (drop (suc i) part) 0) ≡ true → is_reset (slice_get (drop (suc i) part) 0) ≡ false
+  after_line : is_line_end b ≡ true → is_reset (slice_get part 0) ≡ false
+      → is_some (slice_get (drop (suc i) part) 0) ≡ true → is_reset (slice_get (drop (suc i) part) 0) ≡ false
       → SplitAfterLine (take (suc i) part ++ []) (rest ++ after) (take (suc i + suc m) part ++ after)
   after_line ends first some next = record {
     front = take i part;
@@ -77,7 +80,8 @@ module _ (part : List ℕ) (i m b : ℕ) (after : List ℕ) (at : slice_get part
   }
 
   at_reset : (before : List ℕ) → b ≡ reset_byte → start_of (before ++ (take i part ++ end_byte ∷ [])) ≡ BeforeHeader
-      → SplitAtReset (before ++ (take i part ++ end_byte ∷ [])) (o5m_header ++ (rest ++ after)) (before ++ (take (suc i + suc m) part ++ after))
+      → SplitAtReset (before ++ (take i part ++ end_byte ∷ [])) (o5m_header ++ (rest ++ after))
+      (before ++ (take (suc i + suc m) part ++ after))
   at_reset before is starts = record {
     front = before ++ take i part;
     header = o5m_header;
@@ -88,7 +92,8 @@ module _ (part : List ℕ) (i m b : ℕ) (after : List ℕ) (at : slice_get part
     is_rest = refl;
     whole =
         let split : take (suc i + suc m) part ≡ take i part ++ (reset_byte ∷ rest) =
-        take-add (suc i) (suc m) part ∙ ap (λ x. x ++ rest) (take_one part i b at ∙ ap (λ x. take i part ++ x ∷ []) is) ∙ append_assoc (take i part) (reset_byte ∷ []) rest in
+        take-add (suc i) (suc m) part ∙ ap (λ x. x ++ rest) (take_one part i b at ∙ ap (λ x. take i part ++ x ∷ []) is)
+        ∙ append_assoc (take i part) (reset_byte ∷ []) rest in
         ap (λ x. before ++ (x ++ after)) split
         ∙ ap (λ x. before ++ x) (append_assoc (take i part) (reset_byte ∷ rest) after)
         ∙ sym (append_assoc before (take i part) (reset_byte ∷ (rest ++ after)));
@@ -137,8 +142,10 @@ module _ (run : SortedRun) (offset : ℕ) (bytes : BytesAtSplit) (file : List �
   o5 is can =
       let parts = and_parts (nat_lt (run.start + 1) offset) (is_reset bytes.before) can in
       let inner = ltb-true (run.start + 1) offset parts.0 in
-      let starts = sets_start run.lacks_header part i (ap (λ o. run.lacks_header || is_reset o) first_is ∙ is) (omega (arith, inner, offset_is)) in
-      let split = at_reset part i m reset_byte (bytes_after run) (before_is ∙ some_reset bytes.before parts.1) (bytes_before run) refl starts in
+      let starts =
+      sets_start run.lacks_header part i (ap (λ o. run.lacks_header || is_reset o) first_is ∙ is) (omega (arith, inner, offset_is)) in
+      let reset_is = before_is ∙ some_reset bytes.before parts.1 in
+      let split = at_reset part i m reset_byte (bytes_after run) reset_is (bytes_before run) refl starts in
       rw (sets_size, rest_size, rest_is, size_is) split
 
   either : is_some bytes.at ≡ true → (t : Bool) → is_o5_run run bytes ≡ t → cond t (splits_o5 run offset bytes) (splits_opl bytes) ≡ true
@@ -146,20 +153,23 @@ module _ (run : SortedRun) (offset : ℕ) (bytes : BytesAtSplit) (file : List �
   either some true is can = inr (o5 is can)
   either some false is can = inl (opl some is can)
 
-pub splits : (run : SortedRun) (offset : ℕ) (bytes : BytesAtSplit) (file : List ℕ) → HasBytes file run.start offset bytes → can_split run offset bytes ≡ true
-    → IsSplit (run_bytes (front_run (is_o5_run run bytes) run offset) file) (run_bytes (rest_run (is_o5_run run bytes) run offset) file) (run_bytes run file)
+pub splits : (run : SortedRun) (offset : ℕ) (bytes : BytesAtSplit) (file : List ℕ)
+    → HasBytes file run.start offset bytes → can_split run offset bytes ≡ true
+    → IsSplit (run_bytes (front_run (is_o5_run run bytes) run offset) file) (run_bytes (rest_run (is_o5_run run bytes) run offset) file)
+    (run_bytes run file)
 splits run offset bytes file has can =
-    let parts = and_parts (is_within run offset bytes) (cond (is_o5_run run bytes) (splits_o5 run offset bytes) (splits_opl bytes)) can in
+    let by_grammar = cond (is_o5_run run bytes) (splits_o5 run offset bytes) (splits_opl bytes) in
+    let parts = and_parts (is_within run offset bytes) by_grammar can in
     let within = and_parts (nat_lt run.start offset) (nat_lt (offset - run.start) run.size && is_some bytes.at) parts.0 in
     let inner = and_parts (nat_lt (offset - run.start) run.size) (is_some bytes.at) within.1 in
     let above = ltb-true run.start offset within.0 in
     let below = ltb-true (offset - run.start) run.size inner.0 in
-    either run offset bytes file has (offset - run.start - 1) (run.size - (offset - run.start) - 1) (omega (arith, above)) (omega (arith, above, below))
-    inner.1 (is_o5_run run bytes) refl parts.1
+    either run offset bytes file has (offset - run.start - 1) (run.size - (offset - run.start) - 1)
+    (omega (arith, above)) (omega (arith, above, below)) inner.1 (is_o5_run run bytes) refl parts.1
 
 -- ---- the last of several files, split once more
-split_last : (bytes : List ℕ) (files : List (List ℕ)) (last file rest : List ℕ) → IsSplit file rest last → IsSplitInto bytes (files ++ last ∷ [])
-    → IsSplitInto bytes (files ++ file ∷ rest ∷ [])
+split_last : (bytes : List ℕ) (files : List (List ℕ)) (last file rest : List ℕ)
+    → IsSplit file rest last → IsSplitInto bytes (files ++ last ∷ []) → IsSplitInto bytes (files ++ file ∷ rest ∷ [])
 split_last bytes [] last file rest split is = (rest, subst (λ b. IsSplit file rest b) (sym is) split, refl)
 split_last bytes (f ∷ []) last file rest split (more, first, is) = (more, first, split_last more [] last file rest split is)
 split_last bytes (f ∷ g ∷ files) last file rest split (more, first, is) = (more, first, split_last more (g ∷ files) last file rest split is)
@@ -168,13 +178,14 @@ module _ (file : List ℕ) where
   abbrev of : SortedRun → List ℕ
   of run = run_bytes run file
 
-  pub split_rest : (fronts : List SortedRun) (last front rest : SortedRun) → IsSplit (of front) (of rest) (of last) → IsSplitIntoRuns file (fronts ++ last ∷ [])
-      → IsSplitIntoRuns file ((fronts ++ front ∷ []) ++ rest ∷ [])
+  pub split_rest : (fronts : List SortedRun) (last front rest : SortedRun) → IsSplit (of front) (of rest) (of last)
+      → IsSplitIntoRuns file (fronts ++ last ∷ []) → IsSplitIntoRuns file ((fronts ++ front ∷ []) ++ rest ∷ [])
   split_rest fronts last front rest split is =
       let old : map of (fronts ++ last ∷ []) ≡ map of fronts ++ of last ∷ [] = map-append of fronts (last ∷ []) in
       let new : map of ((fronts ++ front ∷ []) ++ rest ∷ []) ≡ map of fronts ++ of front ∷ of rest ∷ [] =
       ap (map of) (append_assoc fronts (front ∷ []) (rest ∷ [])) ∙ map-append of fronts (front ∷ rest ∷ []) in
-      subst (λ files. IsSplitInto file files) (sym new) (split_last file (map of fronts) (of last) (of front) (of rest) split (subst (λ files. IsSplitInto file files) old is))
+      let before : IsSplitInto file (map of fronts ++ of last ∷ []) = subst (λ files. IsSplitInto file files) old is in
+      subst (λ files. IsSplitInto file files) (sym new) (split_last file (map of fronts) (of last) (of front) (of rest) split before)
 
 pub whole_file : (file : List ℕ) → length file < 2 ^ 64 → take (2 ^ 64 - 1) file ++ [] ≡ file
 whole_file file short = append-nil (take (2 ^ 64 - 1) file) ∙ take_all (2 ^ 64 - 1) file (omega (arith, short))

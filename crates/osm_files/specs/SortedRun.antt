@@ -1,4 +1,4 @@
--- A file that is several files in sequence, and the parts of a file that are files of their own: an own rule of this project.
+-- A file that is several files in sequence, and its parts that are files: an own rule of this project.
 use Rattle.std.specs.Prelude.{◌≡◌, ◌⊎◌, ℕ, ◌+◌, ◌-◌, ◌==◌, ◌&&◌, ◌||◌, not, nat_lt, Bool, true, false, List, [], ◌∷◌, ◌++◌, map, take, drop, slice_get, Option, Some, None, is_some, if◌then◌else◌}
 use Rattle.opl_line.specs.Cut.{is_line_end}
 use Rattle.osm_files.specs.declared.sorted_run.BytesAtSplit.{BytesAtSplit}
@@ -16,8 +16,7 @@ pub record SplitAfterLine (file rest bytes : List ℕ) : Type 0 where
   pub more_lines : start_of rest ≡ InOpl
   pub whole : bytes ≡ file ++ rest
 
--- Data sets up to a reset, instead of which the file has the end byte; and the data sets after it, before which the rest has a
--- header.
+-- Data sets up to a reset, which the end byte replaces in the file. The rest has a header before the data sets after it.
 pub record SplitAtReset (file rest bytes : List ℕ) : Type 0 where
   pub front : List ℕ
   pub header : List ℕ
@@ -60,10 +59,12 @@ pub record HasBytes (file : List ℕ) (start offset : ℕ) (bytes : BytesAtSplit
   pub before : slice_get file (offset - 1) ≡ bytes.before
   pub at : slice_get file offset ≡ bytes.at
 
+-- is there a byte, and is it that of resets?
 abbrev pub is_reset : Option ℕ → Bool
 is_reset None = false
 is_reset (Some byte) = byte == reset_byte
 
+-- is there a byte, and does it end a line?
 abbrev pub ends_line : Option ℕ → Bool
 ends_line None = false
 ends_line (Some byte) = is_line_end byte
@@ -84,8 +85,10 @@ splits_o5 run offset bytes = nat_lt (run.start + 1) offset && is_reset bytes.bef
 abbrev pub splits_opl : BytesAtSplit → Bool
 splits_opl bytes = ends_line bytes.before && not (is_reset bytes.at)
 
+-- may the run be split at the offset?
 abbrev pub can_split : SortedRun → ℕ → BytesAtSplit → Bool
-can_split run offset bytes = is_within run offset bytes && (if is_o5_run run bytes then splits_o5 run offset bytes else splits_opl bytes)
+can_split run offset bytes =
+    is_within run offset bytes && (if is_o5_run run bytes then splits_o5 run offset bytes else splits_opl bytes)
 
 -- the run up to the offset; of an o5 file without the reset
 abbrev pub front_run : Bool → SortedRun → ℕ → SortedRun
@@ -108,13 +111,15 @@ rest_run is_o5 run offset = record {
 -- the run split at the offset, where it can be split
 abbrev pub split_run : SortedRun → ℕ → BytesAtSplit → Option (SortedRun × SortedRun)
 split_run run offset bytes =
-    if can_split run offset bytes then Some (front_run (is_o5_run run bytes) run offset, rest_run (is_o5_run run bytes) run offset) else None
+    let is_o5 = is_o5_run run bytes in
+    if can_split run offset bytes then Some (front_run is_o5 run offset, rest_run is_o5 run offset) else None
 
 -- a file that is split from its front on: the runs that were split off, and the rest
 pub record FileRuns : Type 0 where
   pub fronts : List SortedRun
   pub rest : SortedRun
 
+-- all runs, in the file's order
 abbrev pub runs_of : FileRuns → List SortedRun
 runs_of file = file.fronts ++ file.rest ∷ []
 

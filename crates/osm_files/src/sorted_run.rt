@@ -18,7 +18,7 @@ const NOTHING: &[u8] = b"";
 pub struct SortedRun {
     /// The offset in the file of the part's first byte.
     pub start: u64,
-    /// The most bytes of the file that the part has. The file may end before.
+    /// The most bytes of the file that the part has. The file may end earlier.
     pub size: u64,
     /// The part begins after a reset, so a header is read before it.
     pub lacks_header: bool,
@@ -26,7 +26,7 @@ pub struct SortedRun {
     pub lacks_end: bool,
 }
 
-/// The bytes of a file that determine whether a run of it may be split at an offset. Each is none where the file has no byte
+/// The bytes of a file that determine whether a run of it may be split at an offset. A byte is none if the file has none
 /// there.
 #[derive(Clone, Copy, Debug, PartialEq, Eq)]
 pub struct BytesAtSplit {
@@ -65,8 +65,8 @@ impl SortedRun {
         if self.lacks_end { END_BYTES } else { NOTHING }
     }
 
-    /// The offset in the file of the byte at this offset of the run. A byte of the header that is read before the part has the
-    /// part's start.
+    /// The offset in the file of the byte at this offset of the run. A byte of the header that is read before the part has
+    /// the part's start.
     pub fn offset_in_file(self, offset: u64) -> u64
         ensures { self.start + offset < 2 ^ 64 → result ≡ self.start + (offset - length (spec.bytes_before self)) }
     {
@@ -74,12 +74,13 @@ impl SortedRun {
         self.start.saturating_add(read)
     }
 
-    /// Splits the run before the byte at this offset of the file: after the end of a line of OPL, or after a reset of o5, which
-    /// the end byte replaces in the front. `bytes` are the file's bytes that determine whether this may be done. The rest of
-    /// OPL must not begin with `ff`, since it would be read as o5.
+    /// Splits the run before the byte at this offset of the file, and returns the front and the rest. OPL is split after the
+    /// end of a line. o5 is split after a reset, which the end byte replaces in the front. `bytes` determine whether the run
+    /// may be split. The rest of OPL must not begin with `ff`, since it would be read as o5.
     ///
-    /// That a byte `ff` is a reset isn't known from `bytes`: it may be a byte within a data set, or the last byte of one that
-    /// is skipped. It is a reset if the front can be read as a file, so the caller reads the front before it uses the two.
+    /// `bytes` don't determine whether a byte `ff` of o5 is a reset. It may be within a data set, or the last byte of one
+    /// that is skipped. It is a reset if the front can be read as a file. So the caller reads the front before it uses the
+    /// two runs.
     pub fn split(self, offset: u64, bytes: BytesAtSplit) -> Option<(SortedRun, SortedRun)>
         ensures value { result ≡ spec.split_run self offset bytes }
         ensures split { IfSome result (λ two. (file : List ℕ) → spec.HasBytes file self.start offset bytes
@@ -132,6 +133,7 @@ impl SortedRun {
     }
 }
 
+/// Whether the byte is the one of resets.
 fn is_reset(byte: Option<u8>) -> bool
     ensures { result ≡ spec.is_reset byte }
 {
@@ -141,6 +143,7 @@ fn is_reset(byte: Option<u8>) -> bool
     }
 }
 
+/// Whether the byte ends a line.
 fn ends_line(byte: Option<u8>) -> bool
     ensures { result ≡ spec.ends_line byte }
 {

@@ -42,17 +42,18 @@ impl SplitFile {
         self.rest
     }
 
-    /// Splits the rest before the byte at this offset of the file, and returns the run that was split off. There is none where
-    /// the rest can't be split there. `bytes` are the file's bytes that determine it.
+    /// Splits the rest before the byte at this offset of the file, and returns the run that was split off. It returns none
+    /// if the rest can't be split there (`SortedRun::split`).
     ///
-    /// The file was split into the runs, and still is, if it has these bytes. So a file that has the bytes of all calls is split
-    /// into the runs after them, and a merge of its runs writes what is written of the file, if each run is a sorted file.
+    /// A file that has the bytes of all calls is split into the runs. If each run is a sorted file, a merge of the runs
+    /// writes what is written of the file.
     ///
     /// # Errors
     ///
     /// Out of memory. The runs are as they were.
     pub fn split(&mut self, offset: u64, bytes: BytesAtSplit) -> Result<Option<SortedRun>, Memory>
-        ensures value { IfOk result (λ front. (self.new, front) ≡ spec.after_split self.old (spec.split_run self.old.rest offset bytes)) }
+        ensures value { IfOk result (λ front.
+            (self.new, front) ≡ spec.after_split self.old (spec.split_run self.old.rest offset bytes)) }
         ensures refused { OnErr result (self.new ≡ self.old) }
         ensures runs { (file : List ℕ) → spec.HasBytes file self.old.rest.start offset bytes
             → spec.IsSplitIntoRuns file (spec.runs_of self.old) → spec.IsSplitIntoRuns file (spec.runs_of self.new) }

@@ -21,4 +21,5 @@ abbrev pub SortedRunsWriteTheFile : Type 0
 SortedRunsWriteTheFile =
     (bytes : List ℕ) (set : VersionSet) (files : List (List ℕ)) (held : List VersionSet) → Holds bytes set
     → IsSplitInto bytes files → Pairwise Holds files held
-    → (selection : Selection) (format : Format) → spell format (selected selection set) ≡ spell format (selected selection (union_of held))
+    → (selection : Selection) (format : Format)
+    → spell format (selected selection set) ≡ spell format (selected selection (union_of held))

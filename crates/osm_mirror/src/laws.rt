@@ -1,4 +1,5 @@
-//! Laws of merges, fleets and files that are split, each the contract of a function with an empty body. Nothing is run to use them.
+//! Laws of merges, fleets and files that are split, each the contract of a function with an empty body. Nothing is run to
+//! use them.
 ghost use Rattle.osm_mirror.specs.FleetLaws.{LatestMirrorsAgree, FullMirrorsAgree};
 ghost use Rattle.osm_mirror.specs.Merges.{MergesOfTheSameFiles};
 ghost use Rattle.osm_mirror.specs.SortedRuns.{SortedRunsHoldTheFile, SortedRunsWriteTheFile};

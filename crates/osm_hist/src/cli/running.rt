@@ -122,10 +122,10 @@ where
         }
     }
 
-    /// Writes what is selected. At first all files that can be read again are taken as sorted. Where one of them turns out not
-    /// to be sorted, the run writes anew with that file split into sorted runs, or held. Where that happens again, the run
-    /// checks the order of the others before it writes, so that there are few turns, however many files there are. There is
-    /// only one turn where a file can't be read again, or the output can't be made anew.
+    /// Writes what is selected. At first all files that can be read again are taken as sorted. If one of them turns out not
+    /// to be sorted, the run writes anew with that file split into sorted runs, or held. If that happens again, the run
+    /// checks the order of the others before it writes, so that there are few turns, however many files there are. There
+    /// is only one turn if a file can't be read again, or the output can't be made anew.
     fn write_by_turns<I: Read + Drop, O: Write>(
         &self,
         files: &mut OpenFiles<R::File, I>,
@@ -238,7 +238,7 @@ where
         }
     }
 
-    /// Readers of the sorted runs of the files. Each file is handed to its first run, and opened once more for each other one.
+    /// Readers of the runs of the files. Each file is handed to its first run, and opened once more for each other run.
     fn open_runs<I: Read + Drop>(
         &self,
         files: &mut [Option<Stream<R::File, I>>],

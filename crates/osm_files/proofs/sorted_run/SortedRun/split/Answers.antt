@@ -18,5 +18,6 @@ returns-clause-split c =
     let one : c.from.result ≡ cond c.is_o5-is_o5.result 1 0 = c.from.ensures ∙ one_if c.is_o5-is_o5.result in
     let by_grammar : cond (is_o5_run run bytes) (splits_o5 run offset bytes) (splits_opl bytes) ≡ true =
     ap (λ t. cond t (splits_o5 run offset bytes) (splits_opl bytes)) (sym is_o5) ∙ sym c.splits_as.ensures ∙ c.if-not-splits_as.false in
-    let can : can_split run offset bytes ≡ true = and_from (is_within run offset bytes) _ (sym c.is_within.ensures ∙ c.if-not-is_within.false) by_grammar in
+    let within : is_within run offset bytes ≡ true = sym c.is_within.ensures ∙ c.if-not-is_within.false in
+    let can : can_split run offset bytes ≡ true = and_from (is_within run offset bytes) _ within by_grammar in
     λ file has. rw (one, is_o5) (splits run offset bytes file has can)

@@ -11,4 +11,5 @@ returns-in-Ok-clause-runs c =
     let view = sym c.self.view_is in
     let old = subst (λ (v : FileRuns). IsSplitIntoRuns file (runs_of v)) view is in
     let split = c.in-Some.ensures.split file (subst (λ (v : FileRuns). HasBytes file v.rest.start c.args.offset c.args.bytes) view has) in
-    subst (λ fronts. IsSplitIntoRuns file (fronts ++ c.in-Some.rest ∷ [])) (sym items) (split_rest file fronts c.self.inside.rest c.in-Some.front c.in-Some.rest split old)
+    subst (λ fronts. IsSplitIntoRuns file (fronts ++ c.in-Some.rest ∷ [])) (sym items)
+    (split_rest file fronts c.self.inside.rest c.in-Some.front c.in-Some.rest split old)
