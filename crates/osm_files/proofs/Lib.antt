@@ -25,4 +25,5 @@ pub mod RefusedLaws
 pub mod SpellSteps
 pub mod SinkLaws
 pub mod SpellLaws
+mod SplitLaws
 pub mod RangeLaws

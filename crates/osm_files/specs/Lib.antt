@@ -10,6 +10,7 @@ pub mod Opl
 pub mod O5
 pub mod Units
 pub mod Held
+pub mod SortedRun
 pub mod Verdict
 pub mod Laws
 pub mod Reading

@@ -13,7 +13,9 @@ mod placed;
 mod reading;
 mod reason;
 mod sink;
+mod sorted_run;
 mod source;
+mod split_file;
 mod unit;
 mod unread;
 
@@ -25,7 +27,9 @@ pub use load::{Loaded, load_any};
 pub use output::{Output, ToWrite, VecOut, write_all};
 pub use reason::Reason;
 pub use sink::{Sink, write_history};
+pub use sorted_run::{BytesAtSplit, SortedRun};
 pub use source::{FileSource, Source};
+pub use split_file::SplitFile;
 
 #[cfg(test)]
 mod devices;

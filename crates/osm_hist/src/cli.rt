@@ -8,7 +8,7 @@ mod progress;
 mod refusal;
 mod request;
 mod running;
-mod stretches;
+mod runs;
 mod target;
 
 use crate::cli::request::Request;

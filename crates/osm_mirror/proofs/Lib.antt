@@ -11,4 +11,4 @@ mod MirrorLaws
 mod PlanLineLaws
 mod PlanTextLaws
 mod MergesLaws
-mod StretchLaws
+mod SortedRunLaws

@@ -14,4 +14,4 @@ pub mod Plan
 pub mod PlanLaws
 pub mod Merges
 pub mod FaultLine
-pub mod Stretches
+pub mod SortedRuns

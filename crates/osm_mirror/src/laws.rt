@@ -1,7 +1,8 @@
-//! Laws of merges, fleets and files that are cut, each the contract of a function with an empty body. Nothing is run to use them.
+//! Laws of merges, fleets and files that are split, each the contract of a function with an empty body. Nothing is run to
+//! use them.
 ghost use Rattle.osm_mirror.specs.FleetLaws.{LatestMirrorsAgree, FullMirrorsAgree};
 ghost use Rattle.osm_mirror.specs.Merges.{MergesOfTheSameFiles};
-ghost use Rattle.osm_mirror.specs.Stretches.{StretchesHoldTheFile, StretchesWriteTheFile};
+ghost use Rattle.osm_mirror.specs.SortedRuns.{SortedRunsHoldTheFile, SortedRunsWriteTheFile};
 
 /// Merges of the same files write the same bytes, in whatever order the files come, in whatever groups they are merged first, in
 /// whatever formats, and however often each is among them.
@@ -21,12 +22,12 @@ pub fn full_mirrors_agree()
     ensures { FullMirrorsAgree }
 {}
 
-/// A file that is cut behind lines or at resets into files holds the union of what these hold.
-pub fn stretches_hold_the_file()
-    ensures { StretchesHoldTheFile }
+/// A file that is split after lines or at resets into files holds the union of what these hold.
+pub fn sorted_runs_hold_the_file()
+    ensures { SortedRunsHoldTheFile }
 {}
 
-/// What a run over a file in any order writes is what it writes over the files that this one is cut into.
-pub fn stretches_write_the_file()
-    ensures { StretchesWriteTheFile }
+/// A run over a file in any order writes what it writes over the files that this one is split into.
+pub fn sorted_runs_write_the_file()
+    ensures { SortedRunsWriteTheFile }
 {}

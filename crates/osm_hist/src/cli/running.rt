@@ -5,9 +5,11 @@ use super::part::PartFile;
 use super::progress::{Meter, Metered};
 use super::refusal::Refusal;
 use super::request::FileRun;
-use super::stretches::{Found, MOST_STRETCHES, Stretch, StretchReader, cut_file};
+use super::runs::{
+    MOST_RUNS, OrderCheck, RunReader, check_order, open_at, run_reader, split_into_runs,
+};
 use super::target::{Destination, Target};
-use osm_files::{Fault, Format, FromRead};
+use osm_files::{Fault, Format, FromRead, SortedRun};
 use osm_mirror::{Counts, InputFile, Order, Selection, run_merge, run_selected};
 use std::alloc::{AllocError, Global};
 use std::io::{IsTerminal, Read, Write};
@@ -120,10 +122,10 @@ where
         }
     }
 
-    /// Writes what is selected. At first all files that can be read again are taken as sorted. Where one of them turns out not
-    /// to be sorted, the run writes anew with that file cut into its stretches, or held. Where that happens again, the run looks
-    /// through the others before it writes, so that there are few turns, however many files there are. There is only one turn
-    /// where a file can't be read again, or the output can't be made anew.
+    /// Writes what is selected. At first all files that can be read again are taken as sorted. If one of them turns out not
+    /// to be sorted, the run writes anew with that file split into sorted runs, or held. If that happens again, the run
+    /// checks the order of the others before it writes, so that there are few turns, however many files there are. There
+    /// is only one turn if a file can't be read again, or the output can't be made anew.
     fn write_by_turns<I: Read + Drop, O: Write>(
         &self,
         files: &mut OpenFiles<R::File, I>,
@@ -134,18 +136,18 @@ where
         let has_one_turn = !destination.can_be_emptied()
             || takings.iter().any(|taking| taking.is_held());
         if has_one_turn && !self.asked.sorted {
-            self.cut_unsorted(takings.as_mut_slice())?;
+            self.split_unsorted(takings.as_mut_slice())?;
         }
         let mut outcome = self.write(files.as_mut_slice(), takings.as_slice(), destination)?;
         if has_one_turn || self.asked.sorted {
             return Ok(outcome);
         }
         for turn in 0..=self.asked.files.len() {
-            if !self.cut_refused(takings.as_mut_slice(), &outcome)? {
+            if !self.split_refused(takings.as_mut_slice(), &outcome)? {
                 break;
             }
             if turn > 0 {
-                self.cut_unsorted(takings.as_mut_slice())?;
+                self.split_unsorted(takings.as_mut_slice())?;
             }
             open_all(self.rt, self.asked.files.as_slice(), &mut None, files)?;
             self.target.empty(destination)?;
@@ -171,44 +173,48 @@ where
         Ok(())
     }
 
-    /// Looks through the files that are taken as sorted, and cuts those that aren't, or holds them.
-    fn cut_unsorted(&self, takings: &mut [Taking]) -> Result<(), Refusal<'a>> {
+    /// Checks the order of the files that are taken as sorted, and splits those that aren't, or holds them.
+    fn split_unsorted(&self, takings: &mut [Taking]) -> Result<(), Refusal<'a>> {
         for (file, name) in self.asked.files.iter().enumerate() {
             if takings.get(file).is_some_and(Taking::is_streamed_whole)
-                && let Found::Unsorted(place) = Stretch::WHOLE.look_through(self.rt, *name)?
+                && let OrderCheck::Unsorted(offset) = check_order(
+                    self.rt,
+                    *name,
+                    SortedRun::whole(),
+                )?
             {
-                self.cut(takings, file, place)?;
+                self.split(takings, file, offset)?;
             }
         }
         Ok(())
     }
 
-    /// Cuts the file that was refused because it isn't sorted, or holds it, and answers whether there is one.
-    fn cut_refused(
+    /// Splits the file that was refused because it isn't sorted, or holds it, and returns whether there is one.
+    fn split_refused(
         &self,
         takings: &mut [Taking],
         outcome: &Result<Counts, Fault>,
     ) -> Result<bool, Refusal<'a>> {
         match outcome {
             Err(fault) if fault.input < takings.len() && is_unsorted(fault) => {
-                self.cut(takings, fault.input, fault.place)?;
+                self.split(takings, fault.input, fault.place)?;
                 Ok(true)
             }
             _ => Ok(false),
         }
     }
 
-    /// Takes a file by its stretches from now on, whose version at this place is its first one that stands too late. It is
-    /// held where it can't be cut, or would be cut into too many, or was cut before and has changed since.
-    fn cut(&self, takings: &mut [Taking], file: usize, place: u64) -> Result<(), Refusal<'a>> {
-        let most = MOST_STRETCHES.saturating_sub(stretches_beside(takings, file));
+    /// Takes a file by its sorted runs from now on. The version at `offset` is its first that is out of order. The file is
+    /// held if it can't be split, if it has too many runs, or if it was split before and has changed since.
+    fn split(&self, takings: &mut [Taking], file: usize, offset: u64) -> Result<(), Refusal<'a>> {
+        let most = MOST_RUNS.saturating_sub(runs_of_others(takings, file));
         let (Some(taking), Some(name)) = (takings.get_mut(file), self.asked.files.get(file)) else {
             return Ok(());
         };
         if taking.is_streamed_whole()
-            && let Some(stretches) = cut_file(self.rt, *name, place, most)?
+            && let Some(sorted_runs) = split_into_runs(self.rt, *name, offset, most)?
         {
-            taking.stretches = stretches;
+            taking.sorted_runs = sorted_runs;
         } else {
             *taking = Taking::whole(self.rt.alloc(), Order::Any)?;
         }
@@ -223,7 +229,7 @@ where
         destination: &mut Destination<R::File, O>,
     ) -> Result<Result<Counts, Fault>, Refusal<'a>> {
         self.meter.read_files(files);
-        match self.open_stretches(files, takings) {
+        match self.open_runs(files, takings) {
             Ok(inputs) => match self.write_inputs(inputs, destination) {
                 Ok(counts) => Ok(Ok(counts)),
                 Err(fault) => Ok(Err(fault_of_file(takings, &fault))),
@@ -232,21 +238,21 @@ where
         }
     }
 
-    /// Readers of the stretches of the files. Each file is handed to its first stretch, and opened once more for each other one.
-    fn open_stretches<I: Read + Drop>(
+    /// Readers of the runs of the files. Each file is handed to its first run, and opened once more for each other run.
+    fn open_runs<I: Read + Drop>(
         &self,
         files: &mut [Option<Stream<R::File, I>>],
         takings: &[Taking],
-    ) -> Result<Vec<InputFile<StretchReader<Stream<R::File, I>>>>, Refusal<'a>> {
+    ) -> Result<Vec<InputFile<RunReader<Stream<R::File, I>>>>, Refusal<'a>> {
         let mut inputs = Vec::new(self.rt.alloc());
         for ((file, taking), name) in files.iter_mut().zip(takings).zip(&self.asked.files) {
-            for stretch in &taking.stretches {
+            for run in &taking.sorted_runs {
                 let file = match file.take() {
                     Some(file) => file,
-                    None => Stream::File(stretch.open(self.rt, *name)?),
+                    None => Stream::File(open_at(self.rt, *name, run.start)?),
                 };
                 inputs.push(InputFile {
-                    reader: stretch.reader(file),
+                    reader: run_reader(*run, file),
                     order: taking.order,
                 })?;
             }
@@ -303,17 +309,17 @@ fn merge<F: Read + Drop, W: Write + Drop>(
 /// How a file is taken.
 #[derive(Drop)]
 struct Taking {
-    /// The order in which its versions, or those of each of its stretches, are to stand.
+    /// The order in which the versions of each of its runs are to stand.
     order: Order,
-    /// Its stretches, one behind the other: the whole file, or sorted ones.
-    stretches: Vec<Stretch>,
+    /// Its runs, in the file's order: the whole file, or sorted ones.
+    sorted_runs: Vec<SortedRun>,
 }
 
 impl Taking {
     /// The whole file, whose versions stand in this order.
     fn whole(alloc: Global, order: Order) -> Result<Taking, AllocError> {
-        let stretches = vec![in alloc; Stretch::WHOLE]?;
-        Ok(Taking { order, stretches })
+        let sorted_runs = vec![in alloc; SortedRun::whole()]?;
+        Ok(Taking { order, sorted_runs })
     }
 
     /// Whether it is held.
@@ -321,31 +327,31 @@ impl Taking {
         self.order == Order::Any
     }
 
-    /// Whether it is read on as it is needed, and wasn't cut.
+    /// Whether it is read on as it is needed, and wasn't split.
     fn is_streamed_whole(&self) -> bool {
-        !self.is_held() && self.stretches.len() == 1
+        !self.is_held() && self.sorted_runs.len() == 1
     }
 }
 
-/// How many stretches there are of all files but this one.
-fn stretches_beside(takings: &[Taking], file: usize) -> usize {
+/// The number of runs of all files but this one.
+fn runs_of_others(takings: &[Taking], file: usize) -> usize {
     let mut count = 0_usize;
     for (number, taking) in takings.iter().enumerate() {
         if number != file {
-            count = count.saturating_add(taking.stretches.len());
+            count = count.saturating_add(taking.sorted_runs.len());
         }
     }
     count
 }
 
-/// A fault of a stretch, by the number of its file and its place in it; and one of the output, by the number of the files.
+/// A fault of a run, by the number of its file and its place in it; and one of the output, by the number of the files.
 fn fault_of_file(takings: &[Taking], fault: &Fault) -> Fault {
     let mut input = fault.input;
     for (file, taking) in takings.iter().enumerate() {
-        if let Some(stretch) = taking.stretches.get(input) {
-            return Fault::at(file, stretch.place_in_file(fault.place), fault.reason);
+        if let Some(run) = taking.sorted_runs.get(input) {
+            return Fault::at(file, run.offset_in_file(fault.place), fault.reason);
         }
-        input = input.saturating_sub(taking.stretches.len());
+        input = input.saturating_sub(taking.sorted_runs.len());
     }
     Fault::at(takings.len(), fault.place, fault.reason)
 }

@@ -1,4 +1,4 @@
--- A file that is cut into files, one behind the other, holds the union of what they hold.
+-- A file that is split into files in sequence holds the union of what they hold.
 use Rattle.std.proofs.Common.{◌≡◌, ◌⊎◌, ⊎_elim, ℕ, Bool, true, false, cond, List, [], ◌∷◌, ◌++◌, drop, map, filter, refl, sym, ap, ◌∙◌, append_assoc, append-nil, None}
 use Rattle.std.specs.List.{flat_map}
 use Rattle.std.proofs.lemmas.Grind.{flat_map-append}
@@ -16,13 +16,14 @@ use Rattle.osm_files.specs.Opl.{is_read, OplFile}
 use Rattle.osm_files.specs.O5.{o5m_header, o5c_header, end_byte, reset_byte, Part, Reset, Lone, Skipped, Object, part_bytes, PartsSpell, O5File}
 use Rattle.osm_files.specs.Units.{InOpl, BeforeHeader, start_of}
 use Rattle.osm_files.specs.Held.{IsFile, Holds}
+use Rattle.osm_files.specs.SortedRun.{SplitAfterLine, SplitAtReset, IsSplitInto}
 use Rattle.osm_files.specs.Spell.{spell}
 use Rattle.osm_files.proofs.SpellLaws.{held_is_one_set}
 use Rattle.osm_merge.specs.Selected.{selected}
 use Rattle.osm_merge.specs.ToCome.{VersionsToCome}
 use Rattle.osm_merge.specs.Union as merged
 use Rattle.osm_mirror.specs.Merge.{union_of}
-use Rattle.osm_mirror.specs.Stretches.{CutBehindLine, CutAtReset, IsCutInto, StretchesHoldTheFile, StretchesWriteTheFile}
+use Rattle.osm_mirror.specs.SortedRuns.{SortedRunsHoldTheFile, SortedRunsWriteTheFile}
 use Rattle.osm_mirror.proofs.MergeLaws.{set_given, union_given_is}
 
 -- ---- lines
@@ -34,13 +35,13 @@ module _ {X Y : Type 0} (R : X → Y → Type 0) where
   pairwise_append (x ∷ xs) more (y ∷ ys) others h g = (h.0, pairwise_append xs more ys others h.1 g)
 
 module _ (p : ℕ → Bool) (last : ℕ) (ends : p last ≡ true) (rest : List ℕ) where
-  cut_behind : (front : List ℕ) → cut p (front ++ last ∷ rest) ≡ cut p front ++ cut p rest
-  cut_behind [] = rw ends refl
-  cut_behind (b ∷ front) =
+  cut_after : (front : List ℕ) → cut p (front ++ last ∷ rest) ≡ cut p front ++ cut p rest
+  cut_after [] = rw ends refl
+  cut_after (b ∷ front) =
       let all : List (List ℕ) = cut p (front ++ last ∷ rest) in
       elim (p b) as (λ t. cond t ([] ∷ all) (begun_with b all) ≡ cond t ([] ∷ cut p front) (begun_with b (cut p front)) ++ cut p rest) [
-        | true ↦ ap (λ pieces. [] ∷ pieces) (cut_behind front)
-        | false ↦ ap (begun_with b) (cut_behind front) ∙ rw (cut_split p front) refl
+        | true ↦ ap (λ pieces. [] ∷ pieces) (cut_after front)
+        | false ↦ ap (begun_with b) (cut_after front) ∙ rw (cut_split p front) refl
       ]
 
 -- the lines that are read
@@ -48,14 +49,14 @@ abbrev lines_of : List ℕ → List (List ℕ)
 lines_of bytes = filter is_read (cut is_line_end bytes)
 
 module _ (last : ℕ) (ends : is_line_end last ≡ true) (front : List ℕ) where
-  lines_behind : (rest : List ℕ) → lines_of (front ++ last ∷ rest) ≡ lines_of front ++ lines_of rest
-  lines_behind rest = ap (filter is_read) (cut_behind is_line_end last ends rest front) ∙ filter-append is_read (cut is_line_end front) (cut is_line_end rest)
+  lines_after : (rest : List ℕ) → lines_of (front ++ last ∷ rest) ≡ lines_of front ++ lines_of rest
+  lines_after rest = ap (filter is_read) (cut_after is_line_end last ends rest front) ∙ filter-append is_read (cut is_line_end front) (cut is_line_end rest)
 
   opl_joined : (rest : List ℕ) (earlier later : List VersionData) → OplFile (front ++ last ∷ []) earlier → OplFile rest later
       → OplFile (front ++ last ∷ rest) (earlier ++ later)
   opl_joined rest earlier later one other =
-      let first : lines_of (front ++ last ∷ []) ≡ lines_of front = lines_behind [] ∙ append-nil (lines_of front) in
-      rw (lines_behind rest) (pairwise_append Spells (lines_of front) (lines_of rest) earlier later (rw first at one) other)
+      let first : lines_of (front ++ last ∷ []) ≡ lines_of front = lines_after [] ∙ append-nil (lines_of front) in
+      rw (lines_after rest) (pairwise_append Spells (lines_of front) (lines_of rest) earlier later (rw first at one) other)
 
 -- ---- data sets
 module _ (more : List Part) (later : List VersionData) (spelled : PartsSpell new_segment more later) where
@@ -86,16 +87,16 @@ before_end front versions file =
     append_cancel_right front (file.header ++ bytes_of file.parts) (end_byte ∷ [])
     (file.whole ∙ sym (append_assoc file.header (bytes_of file.parts) (end_byte ∷ [])))
 
-behind_header : (header behind : List ℕ) (versions : List VersionData) → Header header → (file : O5File (header ++ behind) versions)
-    → behind ≡ bytes_of file.parts ++ end_byte ∷ []
-behind_header header behind versions is file =
-    sym (drop_header header behind is) ∙ ap (drop 7) file.whole ∙ drop_header file.header (bytes_of file.parts ++ end_byte ∷ []) file.begins
+after_header : (header more : List ℕ) (versions : List VersionData) → Header header → (file : O5File (header ++ more) versions)
+    → more ≡ bytes_of file.parts ++ end_byte ∷ []
+after_header header more versions is file =
+    sym (drop_header header more is) ∙ ap (drop 7) file.whole ∙ drop_header file.header (bytes_of file.parts ++ end_byte ∷ []) file.begins
 
-o5_joined : (front header behind : List ℕ) (earlier later : List VersionData) → Header header
-    → O5File (front ++ end_byte ∷ []) earlier → O5File (header ++ behind) later → O5File (front ++ reset_byte ∷ behind) (earlier ++ later)
-o5_joined front header behind earlier later is one other =
+o5_joined : (front header more : List ℕ) (earlier later : List VersionData) → Header header
+    → O5File (front ++ end_byte ∷ []) earlier → O5File (header ++ more) later → O5File (front ++ reset_byte ∷ more) (earlier ++ later)
+o5_joined front header more earlier later is one other =
     let before = before_end front earlier one in
-    let after = behind_header header behind later is other in
+    let after = after_header header more later is other in
     record {
       header = one.header;
       parts = one.parts ++ Reset ∷ other.parts;
@@ -109,7 +110,7 @@ o5_joined front header behind earlier later is one other =
     }
 
 -- ---- files
--- the first byte tells the grammar, whatever stands behind it
+-- the first byte tells the grammar, whatever comes after it
 starts_as : (front rest : List ℕ) (last : ℕ) → start_of (front ++ last ∷ rest) ≡ start_of (front ++ last ∷ [])
 starts_as [] rest last = refl
 starts_as (b ∷ front) rest last = refl
@@ -119,50 +120,50 @@ starts_with_reset [] rest at = refl
 starts_with_reset (b ∷ front) rest at = at
 
 module _ (file rest bytes : List ℕ) (earlier later : List VersionData) (one : IsFile file earlier) (other : IsFile rest later) where
-  behind_line : CutBehindLine file rest bytes → IsFile bytes (earlier ++ later)
-  behind_line c =
+  after_line : SplitAfterLine file rest bytes → IsFile bytes (earlier ++ later)
+  after_line c =
       let is : bytes ≡ c.front ++ c.last ∷ rest = c.whole ∙ ap (λ f. f ++ rest) c.is_file ∙ append_assoc c.front (c.last ∷ []) rest in
       let starts : start_of (c.front ++ c.last ∷ rest) ≡ InOpl = starts_as c.front rest c.last ∙ ap start_of (sym c.is_file) ∙ c.lines in
       let lines : OplFile file earlier = rw c.lines at one in
       rw (is, starts) (opl_joined c.last c.ends c.front rest earlier later (rw c.is_file at lines) (rw c.more_lines at other))
 
-  at_reset : CutAtReset file rest bytes → IsFile bytes (earlier ++ later)
+  at_reset : SplitAtReset file rest bytes → IsFile bytes (earlier ++ later)
   at_reset c =
-      let starts : start_of (c.front ++ reset_byte ∷ c.behind) ≡ BeforeHeader =
-      starts_with_reset c.front c.behind (ap start_of (sym c.is_file) ∙ c.data_sets) in
+      let starts : start_of (c.front ++ reset_byte ∷ c.after) ≡ BeforeHeader =
+      starts_with_reset c.front c.after (ap start_of (sym c.is_file) ∙ c.data_sets) in
       let sets : O5File file earlier = rw c.data_sets at one in
-      let more : O5File (c.header ++ c.behind) later = rw (header_starts c.header c.behind c.is_header) at (rw c.is_rest at other) in
-      rw (c.whole, starts) (o5_joined c.front c.header c.behind earlier later c.is_header (rw c.is_file at sets) more)
+      let more : O5File (c.header ++ c.after) later = rw (header_starts c.header c.after c.is_header) at (rw c.is_rest at other) in
+      rw (c.whole, starts) (o5_joined c.front c.header c.after earlier later c.is_header (rw c.is_file at sets) more)
 
 -- ---- the law
--- files that are one behind the other spell this together, and hold these sets
+-- files in sequence spell this together, and hold these sets
 record Spelled (bytes : List ℕ) (held : List VersionSet) : Type 0 where
   given : List VersionsToCome
   file : IsFile bytes (merged.versions_of given)
   sets : held ≡ map set_given given
 
-spelled : (bytes : List ℕ) (files : List (List ℕ)) (held : List VersionSet) → IsCutInto bytes files → Pairwise Holds files held → Spelled bytes held
-spelled bytes [] held cut holds = absurd cut
-spelled bytes (file ∷ files) [] cut holds = absurd holds
-spelled bytes (file ∷ []) (s ∷ t ∷ held) cut holds = absurd holds.1
-spelled bytes (file ∷ []) (s ∷ []) cut (h, holds) = record {
+spelled : (bytes : List ℕ) (files : List (List ℕ)) (held : List VersionSet) → IsSplitInto bytes files → Pairwise Holds files held → Spelled bytes held
+spelled bytes [] held split holds = absurd split
+spelled bytes (file ∷ files) [] split holds = absurd holds
+spelled bytes (file ∷ []) (s ∷ t ∷ held) split holds = absurd holds.1
+spelled bytes (file ∷ []) (s ∷ []) split (h, holds) = record {
   given = record { list = h.versions; refusal = None } ∷ [];
-  file = rw (cut, append-nil) h.file;
+  file = rw (split, append-nil) h.file;
   sets = ap (λ set. set ∷ []) h.members;
 }
-spelled bytes (file ∷ next ∷ files) (s ∷ held) (rest, cut, more_cut) (h, holds) =
-    let more = spelled rest (next ∷ files) held more_cut holds in
+spelled bytes (file ∷ next ∷ files) (s ∷ held) (rest, split, more_split) (h, holds) =
+    let more = spelled rest (next ∷ files) held more_split holds in
     let later : List VersionData = merged.versions_of more.given in
     record {
       given = record { list = h.versions; refusal = None } ∷ more.given;
-      file = ⊎_elim (behind_line file rest bytes h.versions later h.file more.file) (at_reset file rest bytes h.versions later h.file more.file) cut;
+      file = ⊎_elim (after_line file rest bytes h.versions later h.file more.file) (at_reset file rest bytes h.versions later h.file more.file) split;
       sets = λ i. h.members i ∷ more.sets i;
     }
 
-pub stretches_hold_the_file : StretchesHoldTheFile
+pub sorted_runs_hold_the_file : SortedRunsHoldTheFile
 unfolding merged.union_given
-stretches_hold_the_file bytes files held short cut holds =
-    let all = spelled bytes files held cut holds in
+sorted_runs_hold_the_file bytes files held short split holds =
+    let all = spelled bytes files held split holds in
     record {
       short = short;
       versions = merged.versions_of all.given;
@@ -170,6 +171,6 @@ stretches_hold_the_file bytes files held short cut holds =
       members = ap union_of all.sets ∙ sym (union_given_is all.given);
     }
 
-pub stretches_write_the_file : StretchesWriteTheFile
-stretches_write_the_file bytes set files held h cut holds selection format =
-    ap (λ s. spell format (selected selection s)) (held_is_one_set bytes set (union_of held) h (stretches_hold_the_file bytes files held h.short cut holds))
+pub sorted_runs_write_the_file : SortedRunsWriteTheFile
+sorted_runs_write_the_file bytes set files held h split holds selection format =
+    ap (λ s. spell format (selected selection s)) (held_is_one_set bytes set (union_of held) h (sorted_runs_hold_the_file bytes files held h.short split holds))

@@ -1,5 +1,0 @@
-use Rattle.osm_mirror.proofs.StretchLaws.{stretches_write_the_file}
-use Rattle.osm_mirror.proofs.laws.stretches_write_the_file.Goals as goal
-
-pub returns : goal.returns
-returns c = stretches_write_the_file
