@@ -27,3 +27,4 @@ pub mod SinkLaws
 pub mod SpellLaws
 mod SplitLaws
 pub mod RangeLaws
+pub mod LineLists

@@ -16,5 +16,7 @@ mod RepeatLaws
 mod Running
 pub mod SnapLaws
 pub mod UnionAllLaws
+pub mod SliceLaws
+pub mod PieceLaws
 mod TakingLaws
 mod TakenLaws

@@ -9,5 +9,7 @@ pub mod Repeats
 pub mod Put
 pub mod Merged
 pub mod Laws
+pub mod Slice
+pub mod SliceLaws
 pub mod Rest
 pub mod Taking

@@ -1,5 +1,7 @@
 //! Laws of unions, snapshots and states, each the contract of a function with an empty body. Nothing is run to use them.
 ghost use Rattle.osm_merge.specs.Laws.{SnapshotOfUnion, SnapshotOfUnions, SnapshotOfSnapshot, StateOfUnion, StateOfUnions};
+ghost use Rattle.osm_merge.specs.SliceLaws.{LinesOfSlices, SelectedOfSlice, SliceOfUnions, SlicesWriteTheWhole};
+ghost use Rattle.osm_merge.specs.SliceLaws.{SetsWithinAreSlices};
 ghost use Rattle.osm_merge.specs.Laws.{UnionOfTheSame, UnionOfGroups, UnionWithEmpty, UnionStaysInRange};
 
 /// The union of some sets changes neither with their order nor with how often each is among them.
@@ -45,4 +47,29 @@ pub fn state_of_union()
 /// The state at a moment of any number of histories joined is the snapshot of their states joined.
 pub fn state_of_unions()
     ensures { StateOfUnions }
+{}
+
+/// The lines of a set are those of its slices, one after the other, for any ascending bounds.
+pub fn lines_of_slices()
+    ensures { LinesOfSlices }
+{}
+
+/// What is selected of a slice is the slice of what is selected.
+pub fn selected_of_slice()
+    ensures { SelectedOfSlice }
+{}
+
+/// The slice of a union is the union of the slices.
+pub fn slice_of_unions()
+    ensures { SliceOfUnions }
+{}
+
+/// What is selected of a union of sets is written slice by slice, each from the slices of the sets.
+pub fn slices_write_the_whole()
+    ensures { SlicesWriteTheWhole }
+{}
+
+/// Sets that are within the spans of ascending bounds, one for one, are the slices of their union.
+pub fn sets_within_are_slices()
+    ensures { SetsWithinAreSlices }
 {}

@@ -1,0 +1,41 @@
+-- Laws of slices: shards of a merge, written one after the other, are the output of the whole merge.
+use Rattle.std.specs.Prelude.{◌≡◌, List, map, Option}
+use Rattle.std.specs.List.{concat}
+use Rattle.std.specs.List.Sorted.{IsSorted}
+use Rattle.osm_model.specs.Pairwise.{Pairwise}
+use Rattle.osm_model.specs.VersionSet.{VersionSet}
+use Rattle.osm_files.specs.declared.format.Format.TheVariants.{Opl}
+use Rattle.osm_files.specs.Spell.{spell}
+use Rattle.osm_merge.specs.declared.object.Object.{Object}
+use Rattle.osm_merge.specs.declared.selection.Selection.{Selection}
+use Rattle.osm_merge.specs.Members.{union_all}
+use Rattle.osm_merge.specs.Selected.{selected}
+use Rattle.osm_merge.specs.Slice.{object_order, slice_of, spans, slices, IsWithin}
+
+-- the lines of a set are those of its slices, one after the other
+abbrev pub LinesOfSlices : Type 0
+LinesOfSlices = (bounds : List Object) (s : VersionSet) → IsSorted object_order bounds →
+    spell Opl s ≡ concat (map (spell Opl) (slices bounds s))
+
+-- what is selected of a slice is the slice of what is selected
+abbrev pub SelectedOfSlice : Type 0
+SelectedOfSlice = (selection : Selection) (from to : Option Object) (s : VersionSet) →
+    selected selection (slice_of from to s) ≡ slice_of from to (selected selection s)
+
+-- the slice of a union is the union of the slices
+abbrev pub SliceOfUnions : Type 0
+SliceOfUnions = (from to : Option Object) (sets : List VersionSet) →
+    slice_of from to (union_all sets) ≡ union_all (map (slice_of from to) sets)
+
+-- sets that are within the spans of bounds, one for one, are the slices of their union
+abbrev pub SetsWithinAreSlices : Type 0
+SetsWithinAreSlices = (bounds : List Object) (sets : List VersionSet) → IsSorted object_order bounds →
+    Pairwise IsWithin (spans bounds) sets → slices bounds (union_all sets) ≡ sets
+
+-- what is selected of the union of sets is written span by span, of the slice of each set
+abbrev pub SlicesWriteTheWhole : Type 0
+SlicesWriteTheWhole =
+    (selection : Selection) (bounds : List Object) (sets : List VersionSet) → IsSorted object_order bounds
+    → spell Opl (selected selection (union_all sets))
+    ≡ concat (map (λ span. spell Opl (selected selection (union_all (map (slice_of span.from span.to) sets))))
+    (spans bounds))
