@@ -175,13 +175,10 @@ where
 
     /// Checks the order of the files that are taken as sorted, and splits those that aren't, or holds them.
     fn split_unsorted(&self, takings: &mut [Taking]) -> Result<(), Refusal<'a>> {
+        let whole = SortedRun::whole();
         for (file, name) in self.asked.files.iter().enumerate() {
             if takings.get(file).is_some_and(Taking::is_streamed_whole)
-                && let OrderCheck::Unsorted(offset) = check_order(
-                    self.rt,
-                    *name,
-                    SortedRun::whole(),
-                )?
+                && let OrderCheck::Unsorted(offset) = check_order(self.rt, *name, whole)?
             {
                 self.split(takings, file, offset)?;
             }
