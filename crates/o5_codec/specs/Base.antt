@@ -1,5 +1,5 @@
--- Numbers as differences to the base of their field (the OSM wiki's page on o5m); their ranges are own rules of this
--- project.
+-- Numbers as differences to the base of their field (the OSM wiki's page on o5m).
+-- Their ranges are own rules of this project.
 use Rattle.std.specs.Prelude.{ℕ, ℤ, pos, negsuc, ◌+ℤ◌, ◌^◌, nat_lt, unsigned_abs, List, Result, Ok, Err, if◌then◌else◌}
 use Rattle.std.specs.Int.{w32, int_wrap}
 use Rattle.osm_model.specs.Id.{is_id}

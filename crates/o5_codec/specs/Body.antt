@@ -1,5 +1,6 @@
--- The bodies of objects (the OSM wiki's page on o5m). That coordinates are reduced, that a segment may not have both a
--- way with references and a relation with a node member, and the ranges, are own rules of this project.
+-- The bodies of objects (the OSM wiki's page on o5m).
+-- Own rules of this project: coordinates are reduced, no segment has both a way with references and a relation with a
+-- node member, and the ranges.
 use Rattle.std.specs.Prelude.{ℕ, ℤ, ◌==◌, nat_le, List, [], ◌∷◌, length, take, drop, Result, Ok, Err, if◌then◌else◌}
 use Rattle.osm_model.specs.declared.kind.Kind.{Kind}
 use Rattle.osm_model.specs.declared.kind.Kind.TheVariants as kind

@@ -1,5 +1,5 @@
--- What a segment had, told by the list of its objects and the list of the entries that stood inline (delta coding and
--- the string table of the OSM wiki's page on o5m).
+-- What a segment had, by the list of its objects and the list of its inline entries.
+-- Delta coding and the string table are those of the OSM wiki's page on o5m.
 use Rattle.std.specs.Prelude.{◌≡◌, ℕ, ℤ, pos, Bool, true, false, List, [], ◌∷◌, ◌++◌, is_some, unwrap_or, Result, Ok}
 use Rattle.std.specs.Prelude.{if◌then◌else◌}
 use Rattle.std.specs.List.{flat_map, list_any}

@@ -1,5 +1,5 @@
--- What an encoder keeps between two versions, and what it writes (the OSM wiki's page on o5m; where resets stand is an
--- own rule of this project).
+-- What an encoder keeps between two versions, and what it writes (the OSM wiki's page on o5m).
+-- Where resets are is an own rule of this project.
 use Rattle.std.specs.Prelude.{◌≡◌, ◌≤◌, ℕ, Bool, true, false, not, ◌==◌, List, [], ◌∷◌, ◌++◌, length, if◌then◌else◌}
 use Rattle.osm_model.specs.declared.kind.Kind.{Kind}
 use Rattle.osm_model.specs.declared.kind.Kind.TheVariants as kind

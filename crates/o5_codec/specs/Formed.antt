@@ -1,5 +1,5 @@
--- The string table of a segment that is written (the OSM wiki's page on o5m). That each entry keeps its form, and that
--- a reference names an entry of the same form alone, are own rules of this project.
+-- The string table of a segment that is written (the OSM wiki's page on o5m).
+-- Own rules of this project: each entry keeps its form, and a reference names only an entry of the same form.
 use Rattle.std.specs.Prelude.{ℕ, ◌+◌, Bool, true, false, ◌&&◌, List, [], ◌∷◌, ◌++◌, take, Option, Some, None}
 use Rattle.std.specs.Prelude.{if◌then◌else◌}
 use Rattle.std.specs.Option.{option_map}

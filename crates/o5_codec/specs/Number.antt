@@ -1,5 +1,5 @@
--- Numbers in groups of seven bits (the OSM wiki's page on o5m). That a number has ten bytes at most and is below 2^64,
--- and that padding is accepted, are own rules of this project.
+-- Numbers in groups of seven bits (the OSM wiki's page on o5m).
+-- Own rules of this project: a number has ten bytes at most and is below 2^64, and padding is accepted.
 use Rattle.std.specs.Prelude.{◌≡◌, ℕ, zero, suc, ℤ, pos, negsuc, ◌+◌, ◌-◌, ◌*◌, ◌/◌, ◌%◌, ◌^◌, ◌<◌, ◌≤◌, ◌==◌, nat_lt}
 use Rattle.std.specs.Prelude.{List, [], ◌∷◌, length, Result, Ok, Err, if◌then◌else◌}
 use Rattle.o5_codec.specs.declared.reason.O5Reason.{O5Reason}

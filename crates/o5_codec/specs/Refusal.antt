@@ -1,6 +1,5 @@
--- Why a data set spells no version: the reason of the first step such that what stands at the front of its bytes
--- doesn't spell it (the order of the steps is that of the OSM wiki's page on o5m; the reasons are own rules of this
--- project).
+-- Why a data set spells no version: the reason of the first step that the front of its bytes doesn't spell.
+-- The order of the steps is that of the OSM wiki's page on o5m; the reasons are own rules of this project.
 use Rattle.std.specs.Prelude.{◌≡◌, ◌⊎◌, ◌<◌, ℕ, ℤ, true, false, List, [], ◌∷◌, length, None, Result, Ok, Err, ◌==◌}
 use Rattle.osm_model.specs.declared.kind.Kind.{Kind}
 use Rattle.osm_model.specs.declared.kind.Kind.TheVariants as kind

@@ -1,5 +1,4 @@
--- What a segment had so far, as far as later data sets are read relative to it (the OSM wiki's page on o5m), and the
--- steps of a data set before its body.
+-- What a segment had so far, and the steps of a data set before its body (the OSM wiki's page on o5m).
 use Rattle.std.specs.Prelude.{ℕ, ℤ, ◌==◌, List, [], ◌∷◌, Option, Some, None, Result, Ok, Err, if◌then◌else◌}
 use Rattle.osm_model.specs.declared.meta.Meta.{Meta}
 use Rattle.o5_codec.specs.declared.reason.O5Reason.{O5Reason}

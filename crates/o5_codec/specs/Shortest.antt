@@ -1,5 +1,5 @@
--- Numbers as they are written: in the shortest form that spells them (the OSM wiki's page on o5m; that no other form is
--- written is an own rule of this project).
+-- Numbers in the shortest form that spells them, as they are written (the OSM wiki's page on o5m).
+-- No other form is written, which is an own rule of this project.
 use Rattle.std.specs.Prelude.{ℕ, zero, suc, ℤ, ◌+◌, ◌/◌, ◌%◌, ◌-ℤ◌, nat_lt, List, [], ◌∷◌, if◌then◌else◌}
 use Rattle.o5_codec.specs.Number.{unsigned_of}
 

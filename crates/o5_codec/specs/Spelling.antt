@@ -1,5 +1,5 @@
--- What a data set spells (the OSM wiki's page on o5m), as a relation: bytes are what is spelled, followed by the bytes
--- behind it. A value stands at the front of bytes, together with the segment and the bytes behind it.
+-- What a data set spells, as a relation (the OSM wiki's page on o5m).
+-- A value is related to the bytes that begin with it, together with the segment and the bytes after it.
 use Rattle.std.specs.Prelude.{◌≡◌, ◌⊎◌, ℕ, ℤ, true, List, [], ◌∷◌, ◌++◌, length, Some, Result, Ok, ◌==◌, false}
 use Rattle.osm_model.specs.declared.kind.Kind.{Kind}
 use Rattle.osm_model.specs.declared.kind.Kind.TheVariants as kind

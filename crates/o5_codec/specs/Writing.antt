@@ -1,5 +1,5 @@
--- What is written for a version (the OSM wiki's page on o5m), relative to what stands before it in its segment. That
--- each field stands in one form alone is an own rule of this project.
+-- What is written for a version, relative to what its segment had before (the OSM wiki's page on o5m).
+-- Each field has only one form, which is an own rule of this project.
 use Rattle.std.specs.Prelude.{ℕ, ℤ, pos, ◌+◌, ◌==◌, List, [], ◌∷◌, ◌++◌, map, length, Option, Some, None, unwrap_or}
 use Rattle.std.specs.Prelude.{encode_utf8_all, if◌then◌else◌}
 use Rattle.osm_model.specs.declared.kind.Kind.{Kind}

@@ -8,7 +8,8 @@ pub loop-member-init : goal.loop-member-init
 loop-member-init c = turns_begin _ _ _ _
 
 pub append_member-requires : goal.append_member-requires
-append_member-requires c = member_at c.args.members.now c.loop-member.member-index c.member-item.result c.loop-member-test.true c.member-item.is c.requires
+append_member-requires c =
+    member_at c.args.members.now c.loop-member.member-index c.member-item.result c.loop-member-test.true c.member-item.is c.requires
 
 pub loop-member-preserved : goal.loop-member-preserved
 loop-member-preserved c =
