@@ -1,11 +1,14 @@
 -- What the calls of a reading do, step by step.
-use Rattle.std.proofs.Common.{◌≡◌, ◌⊎◌, inl, inr, ⊎_elim, ℕ, ◌+◌, ◌≤◌, ◌<◌, ◌^◌, true, false, cond, List, [], ◌∷◌, length, take, drop, refl, sym, ap, ◌∙◌, subst, arith, Option, Some, None, option_map, IfSome, is_some, Result, Ok, Err, slice_get, nat_lt}
+use Rattle.std.proofs.Common.{◌≡◌, ◌⊎◌, inl, inr, ⊎_elim, ℕ, ◌+◌, ◌≤◌, ◌<◌, ◌^◌, true, false, cond, List, [], ◌∷◌, length, take, drop, refl}
+use Rattle.std.proofs.Common.{sym, ap, ◌∙◌, subst, arith, Option, Some, None, option_map, IfSome, is_some, Result, Ok, Err, slice_get}
+use Rattle.std.proofs.Common.{nat_lt}
 use Rattle.std.proofs.lemmas.Bool.{false≢true}
 use Rattle.std.proofs.lemmas.Bool.Decides.{nat_tests}
 use Rattle.osm_model.specs.Data.{VersionData}
 use Rattle.osm_files.specs.declared.fault.Fault.{Fault}
 use Rattle.osm_files.specs.declared.reason.Reason.{Reason}
-use Rattle.osm_files.specs.declared.reason.Reason.TheVariants.{Memory, Unsorted, Opl, O5, BadHeader, NoEnd, AfterEnd, TooLong, ReadFault, WriteFault, Failed}
+use Rattle.osm_files.specs.declared.reason.Reason.TheVariants.{Memory, Unsorted, Opl, O5, BadHeader, NoEnd, AfterEnd, TooLong, ReadFault}
+use Rattle.osm_files.specs.declared.reason.Reason.TheVariants.{WriteFault, Failed}
 use Rattle.osm_files.specs.declared.unit.ReadUnit.{ReadUnit}
 use Rattle.osm_files.specs.declared.unit.Stage.{Stage}
 use Rattle.osm_files.specs.Fault.{memory_fault, failed_fault, fault_at}
@@ -13,15 +16,19 @@ use Rattle.osm_files.specs.Input.{Coming}
 use Rattle.osm_files.specs.Stream.{verdict_at, Placed, placed, Still, whole, refused, front}
 use Rattle.osm_files.specs.Source.{Step}
 use Rattle.opl_line.specs.Cut.{is_line_end, split_first}
-use Rattle.osm_files.specs.Units.{Stand, InOpl, BeforeHeader, InSegment, BehindEnd, Found, unit, unit_at, line_unit, last_at, found_then, units}
+use Rattle.osm_files.specs.Units.{Stand, InOpl, BeforeHeader, InSegment, BehindEnd, Found, unit, unit_at, line_unit, last_at, found_then}
+use Rattle.osm_files.specs.Units.{units}
 use Rattle.osm_files.specs.Reading.{Finds, FindsLast, stand_of, without_stand}
-use Rattle.osm_files.specs.Position.{Position, Told, telling, ahead, stand_in, closing, window, units_from, fault_of, named, to_come, still_to_come, Keeps, GoesOn, stand_at, seen, FindsHeld}
+use Rattle.osm_files.specs.Position.{Position, Told, telling, ahead, stand_in, closing, window, units_from, fault_of, named, to_come}
+use Rattle.osm_files.specs.Position.{still_to_come, Keeps, GoesOn, stand_at, seen, FindsHeld}
 use Rattle.osm_files.proofs.FillLaws.{weaker, mapped}
 use Rattle.osm_files.proofs.StepLaws.{unit_sized}
-use Rattle.osm_files.proofs.PositionLaws.{from_is, behind, same_stand, with_each, gone_over, gone_passed, gone_gave, gone_refused, none_in_nothing, at_the_end, goes_on}
+use Rattle.osm_files.proofs.PositionLaws.{from_is, behind, same_stand, with_each, gone_over, gone_passed, gone_gave, gone_refused}
+use Rattle.osm_files.proofs.PositionLaws.{none_in_nothing, at_the_end, goes_on}
 
 -- the fault of a reason at a place
-fault_is : (input place : ℕ) (reason : Reason) → (fault_at input place reason ≡ memory_fault) ⊎ (fault_at input place reason ≡ fault_of input (verdict_at place reason))
+fault_is : (input place : ℕ) (reason : Reason)
+    → (fault_at input place reason ≡ memory_fault) ⊎ (fault_at input place reason ≡ fault_of input (verdict_at place reason))
 fault_is input place Memory = inl refl
 fault_is input place (Opl inner) = inr refl
 fault_is input place (O5 inner) = inr refl
@@ -35,9 +42,12 @@ fault_is input place WriteFault = inr refl
 fault_is input place Failed = inr refl
 
 -- ---- the first byte
-seen_by : {C : Type 0} (p : Position C) (P : Position C → Type 0) → (is_some (slice_get p.held 0) ≡ true → P (record p { stand = Some (stand_at p) })) → (is_some (slice_get p.held 0) ≡ false → P p) → P (seen p)
+seen_by : {C : Type 0} (p : Position C) (P : Position C → Type 0)
+    → (is_some (slice_get p.held 0) ≡ true → P (record p { stand = Some (stand_at p) })) → (is_some (slice_get p.held 0) ≡ false → P p)
+    → P (seen p)
 seen_by p P there not_there =
-    elim (is_some (slice_get p.held 0)) as (λ t. is_some (slice_get p.held 0) ≡ t → P (cond t (record p { stand = Some (stand_at p) }) p)) [ true ↦ there | false ↦ not_there ] refl
+    elim (is_some (slice_get p.held 0)) as (λ t. is_some (slice_get p.held 0) ≡ t → P (cond t (record p { stand = Some (stand_at p) }) p))
+    [ true ↦ there | false ↦ not_there ] refl
 
 none_held : (held : List ℕ) → is_some (slice_get held 0) ≡ false → held ≡ []
 none_held [] e = refl
@@ -55,10 +65,13 @@ stand_is None held s e = absurd (let f : None ≡ Some s = e in cc)
 stand_is (Some t) held s e = cc
 
 seen_stand : {C : Type 0} (p : Position C) (s : Stand) → (seen p).stand ≡ Some s → stand_at p ≡ s
-seen_stand p s = seen_by p (λ q. q.stand ≡ Some s → stand_at p ≡ s) (λ e f. (let g : Some (stand_at p) ≡ Some s = f in cc)) (λ e f. stand_is p.stand p.held s f)
+seen_stand p s =
+    seen_by p (λ q. q.stand ≡ Some s → stand_at p ≡ s) (λ e f. (let g : Some (stand_at p) ≡ Some s = f in cc))
+    (λ e f. stand_is p.stand p.held s f)
 
 pub seen_none : {C : Type 0} (p : Position C) → (seen p).stand ≡ None → p.held ≡ []
-seen_none p = seen_by p (λ q. q.stand ≡ None → p.held ≡ []) (λ e f. absurd (let g : Some (stand_at p) ≡ None = f in cc)) (λ e f. none_held p.held e)
+seen_none p =
+    seen_by p (λ q. q.stand ≡ None → p.held ≡ []) (λ e f. absurd (let g : Some (stand_at p) ≡ None = f in cc)) (λ e f. none_held p.held e)
 
 seen_stands : {C : Type 0} (p : Position C) (s : Stand) → record (seen p) { stand = Some s } ≡ record p { stand = Some s }
 seen_stands p s = seen_by p (λ q. record q { stand = Some s } ≡ record p { stand = Some s }) (λ e. refl) (λ e. refl)
@@ -71,17 +84,22 @@ stands_there p s e is = record {
   keeps =
       mapped (ahead p) _ (λ x. to_come (record p { stand = Some s }) ≡ Some x) (with_each (ahead p) _ (λ c at. (
       let b = behind p c at in
-      let in_there : stand_in p.stand c.bytes ≡ s = ap (λ (d : Coming). stand_in p.stand d.bytes) b.here ∙ same_stand p.stand p.held b.more (some_held p.held e) ∙ is in
+      let in_there : stand_in p.stand c.bytes ≡ s =
+      ap (λ (d : Coming). stand_in p.stand d.bytes) b.here ∙ same_stand p.stand p.held b.more (some_held p.held e) ∙ is in
       let same : units_from (Some s) p.place c ≡ units_from p.stand p.place c =
-      from_is (Some s) p.place c ∙ ap (λ x. units (closing p.place c) x p.place (window p.place c)) (sym in_there) ∙ sym (from_is p.stand p.place c) in
+      from_is (Some s) p.place c ∙ ap (λ x. units (closing p.place c) x p.place (window p.place c)) (sym in_there)
+      ∙ sym (from_is p.stand p.place c) in
       ap (option_map (λ x. named p.input (units_from (Some s) p.place x))) at ∙ ap (λ x. Some (named p.input x)) same)));
 }
 
 pub seen_goes_on : (p : Told) → GoesOn p (seen p)
 seen_goes_on p = seen_by p (GoesOn p) (λ e. stands_there p (stand_at p) e refl) (λ e. goes_on p)
 
-seen_same : {C : Type 0} (p : Position C) → ((seen p).coming ≡ p.coming) × ((seen p).input ≡ p.input) × ((seen p).place ≡ p.place) × ((seen p).failed ≡ p.failed)
-seen_same p = seen_by p (λ q. (q.coming ≡ p.coming) × (q.input ≡ p.input) × (q.place ≡ p.place) × (q.failed ≡ p.failed)) (λ e. (refl, refl, refl, refl)) (λ e. (refl, refl, refl, refl))
+seen_same : {C : Type 0} (p : Position C)
+    → ((seen p).coming ≡ p.coming) × ((seen p).input ≡ p.input) × ((seen p).place ≡ p.place) × ((seen p).failed ≡ p.failed)
+seen_same p =
+    seen_by p (λ q. (q.coming ≡ p.coming) × (q.input ≡ p.input) × (q.place ≡ p.place) × (q.failed ≡ p.failed))
+    (λ e. (refl, refl, refl, refl)) (λ e. (refl, refl, refl, refl))
 
 -- ---- the unit at the front of the bytes held
 pub nothing_held : {C : Type 0} (p m : Position C) → m ≡ seen p → m.stand ≡ None → FindsHeld p (Ok None) m
@@ -92,25 +110,31 @@ nothing_held p m is none =
 abbrev pub answers : Option ReadUnit → Result (Option ReadUnit) Reason
 answers unit = Ok unit
 
-module _ {C : Type 0} (p m : Position C) (at : Stage) (bytes : List ℕ) (is : m ≡ seen p) (stands : m.stand ≡ Some (stand_of at)) (held : bytes ≡ m.held) where
+module _ {C : Type 0} (p m : Position C) (at : Stage) (bytes : List ℕ) (is : m ≡ seen p) (stands : m.stand ≡ Some (stand_of at))
+    (held : bytes ≡ m.held) where
   there : stand_at p ≡ stand_of at
   there = seen_stand p (stand_of at) (ap (λ q. q.stand) (sym is) ∙ stands)
 
   same_unit : unit_at (stand_of at) bytes ≡ unit_at (stand_at p) p.held
   same_unit = (λ i. unit_at (sym there i) ((held ∙ ap (λ q. q.held) is ∙ seen_held p) i))
 
-  pub found_held : (answer : Option ReadUnit) (next : Stand) → Finds (unit_at (stand_of at) bytes) (Ok answer) next → (answers answer ≡ answers None → next ≡ stand_of at) → FindsHeld p (Ok answer) (record m { stand = Some next })
-  found_held None next h unmoved = (sym same_unit ∙ h, (λ i. record m { stand = Some (unmoved refl i) }) ∙ (λ i. record m { stand = sym stands i }) ∙ is)
+  pub found_held : (answer : Option ReadUnit) (next : Stand) → Finds (unit_at (stand_of at) bytes) (Ok answer) next
+      → (answers answer ≡ answers None → next ≡ stand_of at) → FindsHeld p (Ok answer) (record m { stand = Some next })
+  found_held None next h unmoved =
+      (sym same_unit ∙ h, (λ i. record m { stand = Some (unmoved refl i) }) ∙ (λ i. record m { stand = sym stands i }) ∙ is)
   found_held (Some u) next h unmoved = (next, sym same_unit ∙ h, (λ i. record (is i) { stand = Some next }) ∙ seen_stands p next)
 
-  pub refused_held : (reason : Reason) (next : Stand) (q : Position C) → Finds (unit_at (stand_of at) bytes) (Err reason) next → FindsHeld p (Err reason) q
+  pub refused_held : (reason : Reason) (next : Stand) (q : Position C) → Finds (unit_at (stand_of at) bytes) (Err reason) next
+      → FindsHeld p (Err reason) q
   refused_held reason next q (inl e) = inl e
   refused_held reason next q (inr h) = inr (h.0, sym same_unit ∙ h.1)
 
-pub some_found : {C : Type 0} (m q : Position C) (u : ReadUnit) (answer : Option ReadUnit) → answer ≡ Some u → FindsHeld m (Ok answer) q → FindsHeld m (Ok (Some u)) q
+pub some_found : {C : Type 0} (m q : Position C) (u : ReadUnit) (answer : Option ReadUnit) → answer ≡ Some u → FindsHeld m (Ok answer) q
+    → FindsHeld m (Ok (Some u)) q
 some_found m q u answer is h = subst (λ (o : Option ReadUnit). FindsHeld m (Ok o) q) is h
 
-pub none_found : {C : Type 0} (m q : Position C) (answer : Option ReadUnit) → answer ≡ None → FindsHeld m (Ok answer) q → FindsHeld m (Ok None) q
+pub none_found : {C : Type 0} (m q : Position C) (answer : Option ReadUnit) → answer ≡ None → FindsHeld m (Ok answer) q
+    → FindsHeld m (Ok None) q
 none_found m q answer is h = subst (λ (o : Option ReadUnit). FindsHeld m (Ok o) q) is h
 
 seen_stand_at : {C : Type 0} (p : Position C) → stand_at (seen p) ≡ stand_at p
@@ -132,65 +156,80 @@ module _ {C : Type 0} (m q : Position C) (h : FindsHeld m (Ok None) q) where
   none_known e = ap (λ x. x.held) h.1 ∙ seen_held m ∙ seen_none m (ap (λ x. x.stand) (sym h.1) ∙ e)
 
 -- where no unit stood whole in the bytes held, none does in these once more are held
-none_among : (stand : Option Stand) (held more : List ℕ) → (stand ≡ None → held ≡ []) → unit_at (stand_in stand held) held ≡ None → unit_at (stand_in stand more) held ≡ None
+none_among : (stand : Option Stand) (held more : List ℕ) → (stand ≡ None → held ≡ []) → unit_at (stand_in stand held) held ≡ None
+    → unit_at (stand_in stand more) held ≡ None
 none_among None held more empty none = ap (unit_at (stand_in None more)) (empty refl) ∙ none_in_nothing (stand_in None more)
 none_among (Some s) held more empty none = none
 
-pub none_still : {C : Type 0} (m q r : Position C) → FindsHeld m (Ok None) q → r.stand ≡ q.stand → take (length q.held) r.held ≡ q.held → unit_at (stand_at r) (take (length q.held) r.held) ≡ None
-none_still m q r h stand kept = (λ i. unit_at (stand_in (stand i) r.held) (kept i)) ∙ none_among q.stand q.held r.held (none_known m q h) (none_there m q h)
+pub none_still : {C : Type 0} (m q r : Position C) → FindsHeld m (Ok None) q → r.stand ≡ q.stand → take (length q.held) r.held ≡ q.held
+    → unit_at (stand_at r) (take (length q.held) r.held) ≡ None
+none_still m q r h stand kept =
+    (λ i. unit_at (stand_in (stand i) r.held) (kept i)) ∙ none_among q.stand q.held r.held (none_known m q h) (none_there m q h)
 
 -- what is found doesn't rest on what is to come
 telling_seen : {R : Type 0} (p : Position R) (c : Coming) → telling (seen p) c ≡ seen (telling p c)
 telling_seen p c =
-    elim (is_some (slice_get p.held 0)) as (λ t. telling (cond t (record p { stand = Some (stand_at p) }) p) c ≡ cond t (record (telling p c) { stand = Some (stand_at p) }) (telling p c)) [ true ↦ refl | false ↦ refl ]
+    elim (is_some (slice_get p.held 0)) as
+    (λ t. telling (cond t (record p { stand = Some (stand_at p) }) p) c ≡ cond t (record (telling p c) { stand = Some (stand_at p) })
+    (telling p c)) [ true ↦ refl | false ↦ refl ]
 
-pub telling_found : {R : Type 0} (p q : Position R) (answer : Result (Option ReadUnit) Reason) (c : Coming) → FindsHeld p answer q → FindsHeld (telling p c) answer (telling q c)
+pub telling_found : {R : Type 0} (p q : Position R) (answer : Result (Option ReadUnit) Reason) (c : Coming) → FindsHeld p answer q
+    → FindsHeld (telling p c) answer (telling q c)
 telling_found p q (Ok None) c h = (h.0, ap (λ x. telling x c) h.1 ∙ telling_seen p c)
 telling_found p q (Ok (Some u)) c h = (h.0, h.1, ap (λ x. telling x c) h.2)
 telling_found p q (Err reason) c h = h
 
 -- ---- one unit further
 -- a fault of this reason, where what was to come was refused for it
-pub refuses : (m : Told) (reason : Reason) (fault : Fault) → fault ≡ fault_at m.input m.place reason → (reason ≡ Memory) ⊎ IfSome (to_come m) (λ s. s ≡ refused (fault_of m.input (verdict_at m.place reason))) → (fault ≡ memory_fault) ⊎ IfSome (to_come m) (λ s. s ≡ refused fault)
+pub refuses : (m : Told) (reason : Reason) (fault : Fault) → fault ≡ fault_at m.input m.place reason
+    → (reason ≡ Memory) ⊎ IfSome (to_come m) (λ s. s ≡ refused (fault_of m.input (verdict_at m.place reason)))
+    → (fault ≡ memory_fault) ⊎ IfSome (to_come m) (λ s. s ≡ refused fault)
 refuses m reason fault is (inl e) = inl (is ∙ ap (fault_at m.input m.place) e)
 refuses m reason fault is (inr h) =
-    ⊎_elim (λ k. inl (is ∙ k)) (λ k. inr (weaker (to_come m) _ _ (λ s e. e ∙ ap refused (sym (is ∙ k))) h)) (fault_is m.input m.place reason)
+    ⊎_elim (λ k. inl (is ∙ k)) (λ k. inr (weaker (to_come m) _ _ (λ s e. e ∙ ap refused (sym (is ∙ k))) h))
+    (fault_is m.input m.place reason)
 
-pub held_refuses : (m q : Told) (reason : Reason) (fault : Fault) → m.place + length m.held < 2 ^ 62 → FindsHeld m (Err reason) q → fault ≡ fault_at m.input m.place reason → (fault ≡ memory_fault) ⊎ IfSome (to_come m) (λ s. s ≡ refused fault)
+pub held_refuses : (m q : Told) (reason : Reason) (fault : Fault) → m.place + length m.held < 2 ^ 62 → FindsHeld m (Err reason) q
+    → fault ≡ fault_at m.input m.place reason → (fault ≡ memory_fault) ⊎ IfSome (to_come m) (λ s. s ≡ refused fault)
 held_refuses m q reason fault bound (inl e) is = refuses m reason fault is (inl e)
-held_refuses m q reason fault bound (inr h) is = refuses m reason fault is (inr (gone_refused m (unit h.0 (Err reason)) h.1 bound reason refl))
+held_refuses m q reason fault bound (inr h) is =
+    refuses m reason fault is (inr (gone_refused m (unit h.0 (Err reason)) h.1 bound reason refl))
 
 -- a unit was gone over, which gave this version, or none
 abbrev pub GoesOver : Told → Option Placed → Told → Type 0
 GoesOver m None q = Keeps (to_come m) (to_come q)
 GoesOver m (Some u) q = IfSome (to_come m) (λ s. (t : Still Placed Fault) × (s ≡ front u t) × (to_come q ≡ Some t))
 
-goes_over : (m : Told) (size : ℕ) (version : Option VersionData) (next : Stand) → unit_at (stand_at m) m.held ≡ Some (unit size (Ok (version, next))) → m.place + length m.held < 2 ^ 62 → GoesOver m (option_map (placed m.place) version) (gone_over m size next)
+goes_over : (m : Told) (size : ℕ) (version : Option VersionData) (next : Stand)
+    → unit_at (stand_at m) m.held ≡ Some (unit size (Ok (version, next))) → m.place + length m.held < 2 ^ 62
+    → GoesOver m (option_map (placed m.place) version) (gone_over m size next)
 goes_over m size None next e bound = gone_passed m (unit size (Ok (None, next))) e bound next refl
 goes_over m size (Some v) next e bound = gone_gave m (unit size (Ok (Some v, next))) e bound v next refl
 
-pub held_goes_over : (m q r : Told) (u : ReadUnit) (given : Option Placed) → m.place + length m.held < 2 ^ 62 → FindsHeld m (Ok (Some u)) q → given ≡ option_map (placed q.place) u.version
+pub held_goes_over : (m q r : Told) (u : ReadUnit) (given : Option Placed) → m.place + length m.held < 2 ^ 62 → FindsHeld m (Ok (Some u)) q
+    → given ≡ option_map (placed q.place) u.version
     → r ≡ record q { place = q.place + u.size; held = drop u.size q.held } → GoesOver m given r
 held_goes_over m q r u given bound h is gone =
-    let same : r ≡ gone_over m u.size h.0 = gone ∙ (λ i. record (h.2 i) { place = (h.2 i).place + u.size; held = drop u.size (h.2 i).held }) in
+    let same : r ≡ gone_over m u.size h.0 =
+    gone ∙ (λ i. record (h.2 i) { place = (h.2 i).place + u.size; held = drop u.size (h.2 i).held }) in
     subst (λ (x : Told). GoesOver m given x) (sym same)
-    (subst (λ (g : Option Placed). GoesOver m g (gone_over m u.size h.0)) (sym (is ∙ ap (λ (x : Told). option_map (placed x.place) u.version) h.2)) (goes_over m u.size u.version h.0 h.1 bound))
+    (subst (λ (g : Option Placed). GoesOver m g (gone_over m u.size h.0))
+    (sym (is ∙ ap (λ (x : Told). option_map (placed x.place) u.version) h.2)) (goes_over m u.size u.version h.0 h.1 bound))
 
-pub held_size : {C : Type 0} (m q : Position C) (u : ReadUnit) → FindsHeld m (Ok (Some u)) q → (1 ≤ u.size) × (u.size ≤ length q.held) × (q.place ≡ m.place) × (q.input ≡ m.input) × (q.failed ≡ m.failed)
+pub held_size : {C : Type 0} (m q : Position C) (u : ReadUnit) → FindsHeld m (Ok (Some u)) q
+    → (1 ≤ u.size) × (u.size ≤ length q.held) × (q.place ≡ m.place) × (q.input ≡ m.input) × (q.failed ≡ m.failed)
 held_size m q u h =
-    let sized = unit_sized (stand_at m) m.held (unit u.size (Ok (u.version, h.0))) h.1 in
-    (sized.some, subst (λ xs. u.size ≤ length xs) (ap (λ x. x.held) (sym h.2)) sized.within, ap (λ x. x.place) h.2, ap (λ x. x.input) h.2, ap (λ x. x.failed) h.2)
-
--- the line at the front of the bytes held
-pub held_line : {C : Type 0} (p : Position C) (bytes : List ℕ) (answer : Option ReadUnit) (u : ReadUnit) → p.stand ≡ Some InOpl → bytes ≡ p.held → answer ≡ Some u → Finds (line_unit (split_first is_line_end bytes)) (Ok answer) InOpl
-    → FindsHeld p (Ok (Some u)) p
-unfolding unit_at
-held_line p bytes answer u in_opl held is found =
-    let there = subst (λ (o : Option ReadUnit). Finds (line_unit (split_first is_line_end bytes)) (Ok o) InOpl) is found in
-    (InOpl, (λ i. unit_at (stand_in (in_opl i) p.held) (sym held i)) ∙ there, (λ i. record p { stand = in_opl i }))
+    let sized = unit_sized (stand_at m) m.held (unit u.size (Ok (u.version, h.0))) h.1 in (
+      sized.some,
+      subst (λ xs. u.size ≤ length xs) (ap (λ x. x.held) (sym h.2)) sized.within,
+      ap (λ x. x.place) h.2,
+      ap (λ x. x.input) h.2,
+      ap (λ x. x.failed) h.2,
+    )
 
 -- why it can't be read
-pub refused_line : {C : Type 0} (p : Position C) (reason : Reason) → p.stand ≡ Some InOpl → Finds (line_unit (split_first is_line_end p.held)) (Err reason) InOpl → FindsHeld p (Err reason) p
+pub refused_line : {C : Type 0} (p : Position C) (reason : Reason) → p.stand ≡ Some InOpl
+    → Finds (line_unit (split_first is_line_end p.held)) (Err reason) InOpl → FindsHeld p (Err reason) p
 unfolding unit_at
 refused_line p reason in_opl (inl e) = inl e
 refused_line p reason in_opl (inr h) = inr (h.0, (λ i. unit_at (stand_in (in_opl i) p.held) p.held) ∙ h.1)
@@ -202,28 +241,35 @@ come_still p fine = ap (λ b. cond b (Some (refused (failed_fault p.input))) (to
 come_failed : (p : Told) → p.failed ≡ true → still_to_come p ≡ Some (refused (failed_fault p.input))
 come_failed p bad = ap (λ b. cond b (Some (refused (failed_fault p.input))) (to_come p)) bad
 
-pub still_step : (p q : Told) (r : Result (Option Placed) Fault) → p.failed ≡ false → q.failed ≡ false → Step (to_come p) r (to_come q) → Step (still_to_come p) r (still_to_come q)
+pub still_step : (p q : Told) (r : Result (Option Placed) Fault) → p.failed ≡ false → q.failed ≡ false → Step (to_come p) r (to_come q)
+    → Step (still_to_come p) r (still_to_come q)
 still_step p q r fine good h =
-    subst (λ (o : Option (Still Placed Fault)). Step o r (still_to_come q)) (sym (come_still p fine)) (subst (λ (o : Option (Still Placed Fault)). Step (to_come p) r o) (sym (come_still q good)) h)
+    subst (λ (o : Option (Still Placed Fault)). Step o r (still_to_come q)) (sym (come_still p fine))
+    (subst (λ (o : Option (Still Placed Fault)). Step (to_come p) r o) (sym (come_still q good)) h)
 
 -- a version was given, or a unit without one was gone over
-pub over_gives : (m q : Told) (u : Placed) → m.failed ≡ false → q.failed ≡ m.failed → GoesOver m (Some u) q → Step (still_to_come m) (Ok (Some u)) (still_to_come q)
+pub over_gives : (m q : Told) (u : Placed) → m.failed ≡ false → q.failed ≡ m.failed → GoesOver m (Some u) q
+    → Step (still_to_come m) (Ok (Some u)) (still_to_come q)
 over_gives m q u fine same h = still_step m q (Ok (Some u)) fine (same ∙ fine) h
 
 pub over_passes : (m q : Told) → q.input ≡ m.input → m.place ≤ q.place → q.failed ≡ m.failed → GoesOver m None q → GoesOn m q
 over_passes m q input place failed h = record { input = input; place = place; failed = failed; keeps = h }
 
 -- the reading was refused, now and ever after
-pub refusal_step : (m q : Told) (fault : Fault) → m.failed ≡ false → q.failed ≡ true → (fault ≡ memory_fault) ⊎ IfSome (to_come m) (λ s. s ≡ refused fault) → Step {A = Placed} (still_to_come m) (Err fault) (still_to_come q)
+pub refusal_step : (m q : Told) (fault : Fault) → m.failed ≡ false → q.failed ≡ true
+    → (fault ≡ memory_fault) ⊎ IfSome (to_come m) (λ s. s ≡ refused fault) → Step {A = Placed} (still_to_come m) (Err fault) (still_to_come q)
 refusal_step m q fault fine failed h =
-    subst (λ (o : Option (Still Placed Fault)). Step {A = Placed} o (Err fault) (still_to_come q)) (sym (come_still m fine)) (h, (q.input, come_failed q failed))
+    subst (λ (o : Option (Still Placed Fault)). Step {A = Placed} o (Err fault) (still_to_come q)) (sym (come_still m fine))
+    (h, (q.input, come_failed q failed))
 
 pub keeps_still : (p m : Told) → GoesOn p m → p.failed ≡ false → Keeps (still_to_come p) (still_to_come m)
 keeps_still p m on fine =
-    subst (λ (o : Option (Still Placed Fault)). Keeps o (still_to_come m)) (sym (come_still p fine)) (subst (λ (o : Option (Still Placed Fault)). Keeps (to_come p) o) (sym (come_still m (on.failed ∙ fine))) on.keeps)
+    subst (λ (o : Option (Still Placed Fault)). Keeps o (still_to_come m)) (sym (come_still p fine))
+    (subst (λ (o : Option (Still Placed Fault)). Keeps (to_come p) o) (sym (come_still m (on.failed ∙ fine))) on.keeps)
 
 -- ---- the last bytes of an ended input
-last_nothing : (stand : Stand) (bytes : List ℕ) (version : Option VersionData) → without_stand (last_at stand bytes) ≡ Ok version → without_stand (last_at stand []) ≡ Ok None
+last_nothing : (stand : Stand) (bytes : List ℕ) (version : Option VersionData) → without_stand (last_at stand bytes) ≡ Ok version
+    → without_stand (last_at stand []) ≡ Ok None
 unfolding last_at
 last_nothing InOpl bytes version e = refl
 last_nothing BeforeHeader bytes version e = cc
@@ -234,17 +280,20 @@ opl_nothing : without_stand (last_at InOpl []) ≡ Ok None
 unfolding last_at
 opl_nothing = refl
 
-stand_nothing : (stand : Option Stand) (held : List ℕ) (version : Option VersionData) → without_stand (last_at (stand_in stand held) held) ≡ Ok version → without_stand (last_at (stand_in stand []) []) ≡ Ok None
+stand_nothing : (stand : Option Stand) (held : List ℕ) (version : Option VersionData)
+    → without_stand (last_at (stand_in stand held) held) ≡ Ok version → without_stand (last_at (stand_in stand []) []) ≡ Ok None
 stand_nothing None held version e = opl_nothing
 stand_nothing (Some s) held version e = last_nothing s held version e
 
 -- what is found by its version alone
-found_by : (place : ℕ) (found : Found) (version : Option VersionData) → without_stand found ≡ Ok version → found_then place found (λ next. whole) ≡ found_then place (Ok (version, InOpl)) (λ next. whole)
+found_by : (place : ℕ) (found : Found) (version : Option VersionData) → without_stand found ≡ Ok version
+    → found_then place found (λ next. whole) ≡ found_then place (Ok (version, InOpl)) (λ next. whole)
 found_by place (Ok (None, next)) version e = let f : None ≡ version = cc in ap (λ v. found_then place (Ok (v, InOpl)) (λ next. whole)) f
 found_by place (Ok (Some v, next)) version e = let f : Some v ≡ version = cc in ap (λ w. found_then place (Ok (w, InOpl)) (λ next. whole)) f
 found_by place (Err reason) version e = absurd (let f : Err reason ≡ Ok version = e in cc)
 
-refused_by : (place : ℕ) (found : Found) (reason : Reason) → without_stand found ≡ Err reason → found_then place found (λ next. whole) ≡ refused (verdict_at place reason)
+refused_by : (place : ℕ) (found : Found) (reason : Reason) → without_stand found ≡ Err reason
+    → found_then place found (λ next. whole) ≡ refused (verdict_at place reason)
 refused_by place (Ok found) reason e = absurd (let f : Ok found.0 ≡ Err reason = e in cc)
 refused_by place (Err other) reason e = let f : other ≡ reason = cc in ap (λ r. refused (verdict_at place r)) f
 
@@ -260,7 +309,8 @@ module _ (m : Told) (nothing : unit_at (stand_at m) m.held ≡ None) (bound : m.
   abbrev last_found : Found
   last_found = last_at (stand_at m) m.held
 
-  comes : (version : Option VersionData) → without_stand last_found ≡ Ok version → to_come m ≡ Some (named m.input (found_then m.place (Ok (version, InOpl)) (λ next. whole)))
+  comes : (version : Option VersionData) → without_stand last_found ≡ Ok version
+      → to_come m ≡ Some (named m.input (found_then m.place (Ok (version, InOpl)) (λ next. whole)))
   comes version e = at_the_end m nothing bound ended ∙ ap (λ s. Some (named m.input s)) (found_by m.place last_found version e)
 
   -- a version has bytes
@@ -271,7 +321,8 @@ module _ (m : Told) (nothing : unit_at (stand_at m) m.held ≡ None) (bound : m.
         | false ↦ λ is. (
             let empty : length m.held ≡ 0 = grind (arith, nat_tests) in
             let is_nil : m.held ≡ [] = nil_of m.held empty in
-            let none : Ok (Some v) ≡ Ok None = sym e ∙ (λ i. without_stand (last_at (stand_in m.stand (is_nil i)) (is_nil i))) ∙ stand_nothing m.stand m.held (Some v) e in
+            let none : Ok (Some v) ≡ Ok None =
+            sym e ∙ (λ i. without_stand (last_at (stand_in m.stand (is_nil i)) (is_nil i))) ∙ stand_nothing m.stand m.held (Some v) e in
             absurd cc)
       ] refl
 
@@ -284,14 +335,22 @@ module _ (m : Told) (nothing : unit_at (stand_at m) m.held ≡ None) (bound : m.
       let q : Told = record m { place = m.place + length m.held; held = [] } in
       let same : behind_last ≡ q = (λ i. record m { place = m.place + length m.held; held = drop_all m.held i }) in
       let found : without_stand (last_at (stand_at q) []) ≡ Ok None = stand_nothing m.stand m.held version e in
-      ap to_come same ∙ at_the_end q (none_in_nothing (stand_at q)) (omega (arith, bound)) ended ∙ ap (λ s. Some (named m.input s)) (found_by q.place (last_at (stand_at q) []) None found)
+      ap to_come same ∙ at_the_end q (none_in_nothing (stand_at q)) (omega (arith, bound)) ended
+      ∙ ap (λ s. Some (named m.input s)) (found_by q.place (last_at (stand_at q) []) None found)
 
-  given_last : (version : Option VersionData) → without_stand last_found ≡ Ok version → Step (to_come m) (Ok (option_map (placed m.place) version)) (to_come behind_last)
+  given_last : (version : Option VersionData) → without_stand last_found ≡ Ok version
+      → Step (to_come m) (Ok (option_map (placed m.place) version)) (to_come behind_last)
   given_last None e = (subst (λ (o : Option (Still Placed Fault)). IfSome o (λ s. s ≡ whole)) (sym (comes None e)) refl, no_more None e)
   given_last (Some v) e =
-      subst (λ (o : Option (Still Placed Fault)). IfSome o (λ s. (t : Still Placed Fault) × (s ≡ front (placed m.place v) t) × (to_come behind_last ≡ Some t))) (sym (comes (Some v) e)) (whole, refl, no_more (Some v) e)
+      subst (λ (o : Option (Still Placed Fault)). IfSome o
+      (λ s. (t : Still Placed Fault) × (s ≡ front (placed m.place v) t) × (to_come behind_last ≡ Some t))) (sym (comes (Some v) e)) (
+        whole,
+        refl,
+        no_more (Some v) e,
+      )
 
-  pub last_gives : m.failed ≡ false → (version : Option VersionData) (size : ℕ) (given : Option Placed) (q : Told) → FindsLast last_found (Ok version) → size ≡ length m.held → given ≡ option_map (placed m.place) version
+  pub last_gives : m.failed ≡ false → (version : Option VersionData) (size : ℕ) (given : Option Placed) (q : Told)
+      → FindsLast last_found (Ok version) → size ≡ length m.held → given ≡ option_map (placed m.place) version
       → q ≡ record m { place = m.place + size; held = drop size m.held } → Step (still_to_come m) (Ok given) (still_to_come q)
   last_gives fine version size given q e long is gone =
       let same : q ≡ behind_last = gone ∙ (λ i. record m { place = m.place + long i; held = drop (long i) m.held }) in
@@ -299,19 +358,27 @@ module _ (m : Told) (nothing : unit_at (stand_at m) m.held ≡ None) (bound : m.
       (subst (λ (g : Option Placed). Step (still_to_come m) (Ok g) (still_to_come behind_last)) (sym is)
       (still_step m behind_last (Ok (option_map (placed m.place) version)) fine fine (given_last version e)))
 
-  pub last_further : (version : Option VersionData) (size : ℕ) (given : Option Placed) → FindsLast last_found (Ok version) → size ≡ length m.held → given ≡ option_map (placed m.place) version → is_some given ≡ true → 0 < size
+  pub last_further : (version : Option VersionData) (size : ℕ) (given : Option Placed) → FindsLast last_found (Ok version)
+      → size ≡ length m.held → given ≡ option_map (placed m.place) version → is_some given ≡ true → 0 < size
   last_further None size given e long is some = absurd (false≢true (sym (ap is_some is) ∙ some))
   last_further (Some v) size given e long is some = omega (arith, long, last_some v e)
 
-  pub last_refuses : (reason : Reason) (fault : Fault) → FindsLast last_found (Err reason) → fault ≡ fault_at m.input m.place reason → (fault ≡ memory_fault) ⊎ IfSome (to_come m) (λ s. s ≡ refused fault)
+  pub last_refuses : (reason : Reason) (fault : Fault) → FindsLast last_found (Err reason) → fault ≡ fault_at m.input m.place reason
+      → (fault ≡ memory_fault) ⊎ IfSome (to_come m) (λ s. s ≡ refused fault)
   last_refuses reason fault (inl e) is = refuses m reason fault is (inl e)
   last_refuses reason fault (inr e) is =
-      let at : to_come m ≡ Some (refused (fault_of m.input (verdict_at m.place reason))) = at_the_end m nothing bound ended ∙ ap (λ s. Some (named m.input s)) (refused_by m.place last_found reason e) in
-      refuses m reason fault is (inr (subst (λ (o : Option (Still Placed Fault)). IfSome o (λ s. s ≡ refused (fault_of m.input (verdict_at m.place reason)))) (sym at) refl))
+      let at : to_come m ≡ Some (refused (fault_of m.input (verdict_at m.place reason))) =
+      at_the_end m nothing bound ended ∙ ap (λ s. Some (named m.input s)) (refused_by m.place last_found reason e) in
+      refuses m reason fault is
+      (inr (subst (λ (o : Option (Still Placed Fault)). IfSome o (λ s. s ≡ refused (fault_of m.input (verdict_at m.place reason)))) (sym at)
+      refl))
 
-pub failed_already : (p : Told) (fault : Fault) → p.failed ≡ true → fault ≡ failed_fault p.input → Step {A = Placed} (still_to_come p) (Err fault) (still_to_come p)
-failed_already p fault bad is =
-    (inr (subst (λ (o : Option (Still Placed Fault)). IfSome o (λ s. s ≡ refused fault)) (sym (come_failed p bad)) (ap refused (sym is))), (p.input, come_failed p bad))
+pub failed_already : (p : Told) (fault : Fault) → p.failed ≡ true → fault ≡ failed_fault p.input
+    → Step {A = Placed} (still_to_come p) (Err fault) (still_to_come p)
+failed_already p fault bad is = (
+  inr (subst (λ (o : Option (Still Placed Fault)). IfSome o (λ s. s ≡ refused fault)) (sym (come_failed p bad)) (ap refused (sym is))),
+  (p.input, come_failed p bad),
+)
 
 -- before the first byte nothing is held
 pub nothing_read : {C : Type 0} (p : Position C) → p.stand ≡ None → p.held ≡ [] → without_stand (last_at (stand_at p) p.held) ≡ Ok None

@@ -3,6 +3,7 @@ pub mod Reason
 pub mod Fault
 pub mod Input
 pub mod Output
+pub mod Change
 pub mod Stream
 pub mod Source
 pub mod Groups

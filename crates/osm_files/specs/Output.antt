@@ -1,6 +1,7 @@
 -- What an output holds, whether it has failed, and what is written to it. That a write may take a front of the bytes
 -- is the rule of Rust's `std::io::Write`; the rest is an own rule of this project.
-use Rattle.std.specs.Prelude.{◌≡◌, ◌≢◌, ℕ, ◌+◌, ◌<◌, ◌≤◌, ◌^◌, ◌⊎◌, Bool, true, false, List, [], ◌++◌, length, take, Result, Ok, Err}
+use Rattle.std.specs.Prelude.{◌≡◌, ◌≢◌, ℕ, ◌+◌, ◌<◌, ◌≤◌, ◌^◌, ◌⊎◌, Bool, true, false, List, [], ◌++◌, length, take}
+use Rattle.std.specs.Prelude.{Result, Ok, Err}
 use Rattle.osm_files.specs.declared.fault.Fault.{Fault}
 use Rattle.osm_files.specs.Fault.{too_long_fault, write_fault}
 
@@ -10,54 +11,66 @@ pub record Collected : Type 0 where
   pub capacity : ℕ
   pub failed : Bool
 
--- What an output may hold: a predicate of bytes. Of an output that tells its bytes it is an equation. Of one that tells nothing
--- it is known only by what was held before and was written since.
+-- What an output may hold: a predicate of bytes. For an output that reports its bytes it is an equation. Of one that
+-- reports nothing it is known only by what was held before and was written since.
 abbrev pub Content : Type 1
 Content = List ℕ → Type 0
 
--- These bytes were appended: whatever was held before, that and these bytes behind it are held after.
+-- A change of an output: what it may hold before and after, and whether it had failed before and has failed after.
+pub record Change : Type 1 where
+  pub before : Content
+  pub after : Content
+  pub failed_before : Bool
+  pub failed : Bool
+
+-- These bytes were appended: whatever was held before, that and then these bytes are held after.
 abbrev pub Appended : Content → Content → List ℕ → Type 0
 Appended before after bytes = (held : List ℕ) → before held → after (held ++ bytes)
 
--- A write of these bytes fails the output where it answers an error, or takes none of some bytes. An output that had
--- failed before answers an error.
+-- a change that appends these bytes
+abbrev pub Appends : Change → List ℕ → Type 0
+Appends change bytes = Appended change.before change.after bytes
+
+-- A write of these bytes fails the output if it returns an error, or takes none of some bytes. An output that had
+-- failed before returns an error.
 abbrev pub WriteFails : {E : Type 0} → Bool → List ℕ → Result ℕ E → Bool → Type 0
-WriteFails old bytes (Ok count) new = (old ≡ false) × (0 < count → new ≡ false) × (bytes ≡ [] → new ≡ false) × (count ≡ 0 → bytes ≢ [] → new ≡ true)
+WriteFails old bytes (Ok count) new =
+    (old ≡ false) × (0 < count → new ≡ false) × (bytes ≡ [] → new ≡ false) × (count ≡ 0 → bytes ≢ [] → new ≡ true)
 WriteFails old bytes (Err error) new = new ≡ true
 
--- A flush fails the output where it answers an error. An output that had failed before answers an error.
+-- A flush fails the output if it returns an error. An output that had failed before returns an error.
 abbrev pub FlushFails : {A E : Type 0} → Bool → Result A E → Bool → Type 0
 FlushFails old (Ok done) new = (old ≡ false) × (new ≡ false)
 FlushFails old (Err error) new = new ≡ true
 
 -- Failing lasts: an output that has not failed after a call had not failed before it.
-abbrev pub FailingLasts : Bool → Bool → Type 0
-FailingLasts before after = after ≡ false → before ≡ false
+abbrev pub FailingLasts : Change → Type 0
+FailingLasts change = change.failed ≡ false → change.failed_before ≡ false
 
 -- the output had not failed before a call, and has not failed after it
-abbrev pub IsGoodThroughout : Bool → Bool → Type 0
-IsGoodThroughout before after = (before ≡ false) × (after ≡ false)
+abbrev pub IsGoodThroughout : Change → Type 0
+IsGoodThroughout change = (change.failed_before ≡ false) × (change.failed ≡ false)
 
--- all these bytes were appended, after so many written before, and the output has not failed
-pub record WroteAll (before after : Content) (failed : Bool) (written : ℕ) (bytes : List ℕ) : Type 0 where
-  pub appended : Appended before after bytes
+-- all these bytes were appended, after `written` bytes, and the output has not failed
+pub record WroteAll (change : Change) (written : ℕ) (bytes : List ℕ) : Type 0 where
+  pub appended : Appends change bytes
   pub short : written + length bytes < 2 ^ 62
-  pub good : failed ≡ false
+  pub good : change.failed ≡ false
 
--- why no more than so many of the bytes were appended: the output failed there, or the file would be too long
+-- why only `count` of the bytes were appended: the output failed there, or the file would be too long
 abbrev pub WhyStopped : ℕ → ℕ → List ℕ → ℕ → Bool → Fault → Type 0
 WhyStopped output written bytes count failed fault =
     ((fault ≡ write_fault output (written + count)) × (failed ≡ true) × (written + length bytes < 2 ^ 62))
     ⊎ ((fault ≡ too_long_fault output) × (2 ^ 62 ≤ written + length bytes))
 
--- a front of these bytes was appended, and why no more
-pub record StoppedWriting (output : ℕ) (before after : Content) (failed : Bool) (written : ℕ) (bytes : List ℕ) (fault : Fault) : Type 0 where
+-- a front of these bytes was appended, after `written` bytes, and why no more
+pub record StoppedWriting (output : ℕ) (change : Change) (written : ℕ) (bytes : List ℕ) (fault : Fault) : Type 0 where
   pub count : ℕ
   pub within : count ≤ length bytes
-  pub appended : Appended before after (take count bytes)
-  pub why : WhyStopped output written bytes count failed fault
+  pub appended : Appends change (take count bytes)
+  pub why : WhyStopped output written bytes count change.failed fault
 
--- what writing all these bytes did, after so many written before to the output of this number
-abbrev pub Writes : {A : Type 0} → ℕ → Content → Content → Bool → ℕ → List ℕ → Result A Fault → Type 0
-Writes output before after failed written bytes (Ok done) = WroteAll before after failed written bytes
-Writes output before after failed written bytes (Err fault) = StoppedWriting output before after failed written bytes fault
+-- what writing all these bytes did, after `written` bytes, to the output of this number
+abbrev pub Writes : {A : Type 0} → ℕ → Change → ℕ → List ℕ → Result A Fault → Type 0
+Writes output change written bytes (Ok done) = WroteAll change written bytes
+Writes output change written bytes (Err fault) = StoppedWriting output change written bytes fault

@@ -1,5 +1,6 @@
 -- What a sink keeps between two calls, and what a call of it does: an own rule of this project.
-use Rattle.std.specs.Prelude.{◌≡◌, ℕ, ◌+◌, ◌<◌, ◌≤◌, ◌^◌, ◌⊎◌, Bool, true, false, List, [], length, take, Result, Ok, Err, MatchBool}
+use Rattle.std.specs.Prelude.{◌≡◌, ℕ, ◌+◌, ◌<◌, ◌≤◌, ◌^◌, ◌⊎◌, Bool, true, false, List, [], length, take}
+use Rattle.std.specs.Prelude.{Result, Ok, Err, MatchBool}
 use Rattle.osm_model.specs.Kind.{kind_rank}
 use Rattle.osm_model.specs.Data.{VersionData, kind_of}
 use Rattle.o5_codec.specs.Encoder.{Written, nothing_written, new_written_segment}
@@ -9,7 +10,7 @@ use Rattle.osm_files.specs.declared.format.Format.TheVariants.{Opl, O5m, O5c}
 use Rattle.osm_files.specs.declared.sink.Units.{Units}
 use Rattle.osm_files.specs.declared.sink.Units.TheVariants.{Lines, DataSets}
 use Rattle.osm_files.specs.Fault.{memory_fault, failed_fault, too_long_fault, write_fault}
-use Rattle.osm_files.specs.Output.{Content, Appended, StoppedWriting}
+use Rattle.osm_files.specs.Output.{Change, Appends, StoppedWriting}
 use Rattle.osm_files.specs.Spell.{behind, behind_all, spelled_open}
 
 -- what versions are written relative to
@@ -31,7 +32,8 @@ abbrev pub IsGood : Units → Type 0
 IsGood (Lines last) = Unit {0}
 IsGood (DataSets encoder) = encoder.failed ≡ false
 
--- a sink between two calls: its format and number, the kind written last and the state of its encoder, how many bytes it
+-- a sink between two calls: its format and number, the kind written last and the state of its encoder, how many bytes
+-- it
 -- has written, and whether it has begun, ended or failed
 pub record SinkState : Type 0 where
   pub format : Format
@@ -44,7 +46,15 @@ pub record SinkState : Type 0 where
 
 -- a sink that has written nothing
 abbrev pub new_sink : Format → ℕ → SinkState
-new_sink format number = record { format = format; number = number; encoder = nothing_written; written = 0; begun = false; ended = false; failed = false }
+new_sink format number = record {
+  format = format;
+  number = number;
+  encoder = nothing_written;
+  written = 0;
+  begun = false;
+  ended = false;
+  failed = false;
+}
 
 -- it was begun and not ended
 abbrev pub IsOpen : SinkState → Type 0
@@ -58,47 +68,59 @@ MayFollow v w = kind_rank w.last ≤ kind_rank (kind_of v.body)
 abbrev pub Takes : VersionData → SinkState → Type 0
 Takes v s = s.failed ≡ false → MayFollow v s.encoder
 
--- all these bytes were appended, after so many written before, to less than 2^62 bytes in all
-pub record Sent (before after : Content) (written : ℕ) (bytes : List ℕ) : Type 0 where
-  pub appended : Appended before after bytes
+-- all these bytes were appended, after `written` bytes, to less than 2^62 bytes in all
+pub record Sent (change : Change) (written : ℕ) (bytes : List ℕ) : Type 0 where
+  pub appended : Appends change bytes
   pub short : written + length bytes < 2 ^ 62
 
--- why not all these bytes were appended: memory was refused, and then none was, or writing them stopped
-abbrev pub NotSent : ℕ → Content → Content → Bool → ℕ → List ℕ → Fault → Type 0
-NotSent output before after failed written bytes fault = ((fault ≡ memory_fault) × Appended before after []) ⊎ StoppedWriting output before after failed written bytes fault
+-- why not all these bytes were appended: memory ran out, and then none was, or writing them stopped
+abbrev pub NotSent : ℕ → Change → ℕ → List ℕ → Fault → Type 0
+NotSent output change written bytes fault =
+    ((fault ≡ memory_fault) × Appends change []) ⊎ StoppedWriting output change written bytes fault
 
--- what a call that sends these bytes did, after so many written before to the output of this number
-abbrev pub Sends : {A : Type 0} → ℕ → Content → Content → Bool → ℕ → List ℕ → Result A Fault → Type 0
-Sends output before after failed written bytes (Ok done) = Sent before after written bytes
-Sends output before after failed written bytes (Err fault) = NotSent output before after failed written bytes fault
+-- what a call that sends these bytes did, after `written` bytes, to the output of this number
+abbrev pub Sends : {A : Type 0} → ℕ → Change → ℕ → List ℕ → Result A Fault → Type 0
+Sends output change written bytes (Ok done) = Sent change written bytes
+Sends output change written bytes (Err fault) = NotSent output change written bytes fault
 
 -- how a call that sent these bytes leaves the sink: refused, it has failed
 abbrev pub Leaves : {A : Type 0} → SinkState → SinkState → (SinkState → SinkState) → List ℕ → Result A Fault → Type 0
 Leaves old new next bytes (Ok done) = new ≡ next (record old { written = old.written + length bytes })
-Leaves old new next bytes (Err fault) = (new.failed ≡ true) × (new.number ≡ old.number) × (new.begun ≡ old.begun) × (new.ended ≡ old.ended)
+Leaves old new next bytes (Err fault) =
+    (new.failed ≡ true) × (new.number ≡ old.number) × (new.begun ≡ old.begun) × (new.ended ≡ old.ended)
 
--- A call of a sink that has not failed sends these bytes and leaves it so; any other answers Failed and changes nothing.
-abbrev pub Calls : {A : Type 0} → SinkState → SinkState → (SinkState → SinkState) → Content → Content → Bool → List ℕ → Result A Fault → Type 0
-Calls old new next before after failed bytes result = MatchBool old.failed
-    ((result ≡ Err (failed_fault old.number)) × (new ≡ old) × Appended before after [])
-    (Sends old.number before after failed old.written bytes result × Leaves old new next bytes result)
+-- A call of a sink that has not failed sends these bytes and leaves it so; any other returns Failed and changes
+-- nothing.
+abbrev pub Calls : {A : Type 0} → SinkState → SinkState → (SinkState → SinkState) → Change → List ℕ → Result A Fault
+    → Type 0
+Calls old new next change bytes result = MatchBool old.failed
+    ((result ≡ Err (failed_fault old.number)) × (new ≡ old) × Appends change [])
+    (Sends old.number change old.written bytes result × Leaves old new next bytes result)
 
--- calls that together were to append these bytes appended a front of them: memory was refused, the output failed when it
--- had taken so many, or these are 2^62 bytes or more
-pub record CutShort (output : ℕ) (before after : Content) (failed : Bool) (bytes : List ℕ) (fault : Fault) : Type 0 where
+-- why only `count` of these bytes were appended: memory ran out, the output failed there, or they are 2^62 bytes or
+-- more
+abbrev pub WhyCut : ℕ → List ℕ → ℕ → Bool → Fault → Type 0
+WhyCut output bytes count failed fault =
+    (fault ≡ memory_fault)
+    ⊎ ((fault ≡ write_fault output count) × (failed ≡ true))
+    ⊎ ((fault ≡ too_long_fault output) × (2 ^ 62 ≤ length bytes))
+
+-- calls that together were to append these bytes appended a front of them, and why no more
+pub record CutShort (output : ℕ) (change : Change) (bytes : List ℕ) (fault : Fault) : Type 0 where
   pub count : ℕ
   pub within : count ≤ length bytes
-  pub appended : Appended before after (take count bytes)
-  pub why : (fault ≡ memory_fault) ⊎ ((fault ≡ write_fault output count) × (failed ≡ true)) ⊎ ((fault ≡ too_long_fault output) × (2 ^ 62 ≤ length bytes))
+  pub appended : Appends change (take count bytes)
+  pub why : WhyCut output bytes count change.failed fault
 
 -- what calls did that together were to append these bytes to the output of this number
-abbrev pub WritesFile : {A : Type 0} → ℕ → Content → Content → Bool → List ℕ → Result A Fault → Type 0
-WritesFile output before after failed bytes (Ok done) = Sent before after 0 bytes
-WritesFile output before after failed bytes (Err fault) = CutShort output before after failed bytes fault
+abbrev pub WritesFile : {A : Type 0} → ℕ → Change → List ℕ → Result A Fault → Type 0
+WritesFile output change bytes (Ok done) = Sent change 0 bytes
+WritesFile output change bytes (Err fault) = CutShort output change bytes fault
 
 -- the refusals before which nothing of the call was written
 abbrev pub IsBeforeWriting : {A : Type 0} → ℕ → Result A Fault → Type 0
-IsBeforeWriting output result = (result ≡ Err memory_fault) ⊎ (result ≡ Err (too_long_fault output)) ⊎ (result ≡ Err (failed_fault output))
+IsBeforeWriting output result =
+    (result ≡ Err memory_fault) ⊎ (result ≡ Err (too_long_fault output)) ⊎ (result ≡ Err (failed_fault output))
 
 -- the sink whose beginning was called for, its end, or a version
 abbrev pub begins : SinkState → SinkState
@@ -126,6 +148,7 @@ having_put format number versions = record {
 }
 
 -- a sink has put these versions, and their file up to the mark of its end was appended
-pub record HasPut (format : Format) (number : ℕ) (versions : List VersionData) (before : Content) (s : SinkState) (now : Content) : Type 0 where
+pub record HasPut (format : Format) (number : ℕ) (versions : List VersionData) (change : Change)
+    (s : SinkState) : Type 0 where
   pub state : s ≡ having_put format number versions
-  pub sent : Sent before now 0 (spelled_open format versions)
+  pub sent : Sent change 0 (spelled_open format versions)

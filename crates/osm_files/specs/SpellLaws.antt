@@ -1,5 +1,5 @@
 -- Laws of the one spelling of a set, and of what a sink writes.
-use Rattle.std.specs.Prelude.{◌≡◌, ◌↔◌, ℕ, ◌<◌, ◌^◌, Bool, List, [], ◌∷◌, ◌++◌, length, None, Result, Ok, Err}
+use Rattle.std.specs.Prelude.{◌≡◌, ◌↔◌, ℕ, ◌<◌, ◌^◌, List, [], ◌∷◌, ◌++◌, length, None, Result, Ok, Err}
 use Rattle.std.specs.List.{All}
 use Rattle.std.specs.List.Sorted.{IsStrictlySortedBy}
 use Rattle.osm_model.specs.Data.{VersionData}
@@ -11,10 +11,13 @@ use Rattle.o5_codec.specs.Encoder.{nothing_written}
 use Rattle.osm_files.specs.declared.fault.Fault.{Fault}
 use Rattle.osm_files.specs.declared.format.Format.{Format}
 use Rattle.osm_files.specs.Held.{IsFile, Holds, HoldsSorted}
-use Rattle.osm_files.specs.Output.{Content}
+use Rattle.osm_files.specs.Output.{Change}
+use Rattle.osm_files.specs.Change.{change_of}
+use Rattle.osm_files.specs.declared.output.Output.{Ghosts}
 use Rattle.osm_files.specs.Verdict.{verdict, held_by}
 use Rattle.osm_files.specs.Spell.{begun, ended, spelled_in, behind_all, spelled_open, spell_list, spell}
-use Rattle.osm_files.specs.Sink.{SinkState, new_sink, MayFollow, Calls, CutShort, WritesFile, begins, puts, ends, stays, HasPut}
+use Rattle.osm_files.specs.Sink.{SinkState, new_sink, MayFollow, Calls, CutShort, WritesFile, begins, puts, ends, stays}
+use Rattle.osm_files.specs.Sink.{HasPut}
 
 -- each member is within the ranges of versions
 abbrev pub AreVersions : VersionSet → Type 0
@@ -22,7 +25,9 @@ AreVersions set = All IsVersion (listed set)
 
 -- the file of a set of versions, if it is shorter than 2^62 bytes, is sorted and holds the set
 abbrev pub SpellHoldsItsSet : Type 0
-SpellHoldsItsSet = (format : Format) (set : VersionSet) → AreVersions set → length (spell format set) < 2 ^ 62 → HoldsSorted (spell format set) set
+SpellHoldsItsSet =
+    (format : Format) (set : VersionSet) → AreVersions set → length (spell format set) < 2 ^ 62
+    → HoldsSorted (spell format set) set
 
 -- a file holds at most one set
 abbrev pub HeldIsOneSet : Type 0
@@ -43,39 +48,54 @@ JoinInAnyOrder = (format : Format) (a b : VersionSet) → joined_file format a b
 abbrev pub JoinRepeated : Type 0
 JoinRepeated = (format : Format) (a : VersionSet) → joined_file format a a ≡ joined_file format a empty
 
--- three sets make the same file whichever two were joined first and written, in any formats, to a file shorter than 2^62 bytes
+-- three sets make the same file whichever two were joined first and written, in any formats, to a file shorter than
+-- 2^62 bytes
 abbrev pub JoinInAnyGrouping : Type 0
-JoinInAnyGrouping = (format left right : Format) (a b c ab bc : VersionSet) → AreVersions a → AreVersions b → AreVersions c →
+JoinInAnyGrouping =
+    (format left right : Format) (a b c ab bc : VersionSet) → AreVersions a → AreVersions b → AreVersions c →
     Holds (joined_file left a b) ab → Holds (joined_file right b c) bc →
     joined_file format ab c ≡ joined_file format a bc
 
 -- in a list that ascends strictly each version may follow those before it: the kinds don't fall
 abbrev pub EachMayFollow : Type 0
-EachMayFollow = (format : Format) (versions others : List VersionData) (v : VersionData) → IsStrictlySortedBy version_cmp (versions ++ v ∷ others) → MayFollow v (behind_all format nothing_written versions)
+EachMayFollow =
+    (format : Format) (versions others : List VersionData) (v : VersionData)
+    → IsStrictlySortedBy version_cmp (versions ++ v ∷ others) → MayFollow v (behind_all format nothing_written versions)
 
 -- a list that ascends strictly is spelled as its set
 abbrev pub ListIsSpelledAsItsSet : Type 0
-ListIsSpelledAsItsSet = (format : Format) (versions : List VersionData) → IsStrictlySortedBy version_cmp versions → spell_list format versions ≡ spell format (from_list versions)
+ListIsSpelledAsItsSet =
+    (format : Format) (versions : List VersionData) → IsStrictlySortedBy version_cmp versions
+    → spell_list format versions ≡ spell format (from_list versions)
 
 -- the file of the first versions of a list, without the mark of its end, stands at the front of the file of all
 abbrev pub FirstVersionsStandInFront : Type 0
-FirstVersionsStandInFront = (format : Format) (versions others : List VersionData) → (rest : List ℕ) × (spell_list format (versions ++ others) ≡ spelled_open format versions ++ rest)
+FirstVersionsStandInFront =
+    (format : Format) (versions others : List VersionData)
+    → (rest : List ℕ) × (spell_list format (versions ++ others) ≡ spelled_open format versions ++ rest)
 
 -- what a call makes of the versions put so far: they are put, or a front of their file was appended
-abbrev pub Puts : {A : Type 0} → Format → ℕ → List VersionData → Content → SinkState → Content → Bool → Result A Fault → Type 0
-Puts format number versions before s now failed (Ok done) = HasPut format number versions before s now
-Puts format number versions before s now failed (Err fault) = CutShort number before now failed (spelled_open format versions) fault
+abbrev pub Puts : {A : Type 0} → Format → ℕ → List VersionData → Change → SinkState → Result A Fault → Type 0
+Puts format number versions change s (Ok done) = HasPut format number versions change s
+Puts format number versions change s (Err fault) = CutShort number change (spelled_open format versions) fault
 
 -- The calls of a sink, one after the other: what they append is the file of what was put, to its end after `end` and
 -- without it before; after a refusal it is a front of the file of what was put, with the version in hand, and after a
 -- failure of the output it has as many bytes as the place of the fault says.
-pub record CallsAreSpelled {O : Type 0} (holds : O → Content) : Type 0 where
-  pub begin : (format : Format) (number : ℕ) (s : SinkState) (before now : O) (failed : Bool) (result : Result (Unit {0}) Fault) →
-      Calls (begins (new_sink format number)) s stays (holds before) (holds now) failed (begun format) result → Puts format number [] (holds before) s (holds now) failed result
-  pub put : (format : Format) (number : ℕ) (versions : List VersionData) (v : VersionData) (s t : SinkState) (before mid now : O) (failed : Bool) (result : Result (Unit {0}) Fault) →
-      HasPut format number versions (holds before) s (holds mid) → Calls s t (puts v) (holds mid) (holds now) failed (spelled_in s.format s.encoder v) result → Puts format number (versions ++ v ∷ []) (holds before) t (holds now) failed result
-  pub end : (format : Format) (number : ℕ) (versions : List VersionData) (s t : SinkState) (before mid now : O) (failed : Bool) (result : Result (Unit {0}) Fault) →
-      HasPut format number versions (holds before) s (holds mid) → Calls (ends s) t stays (holds mid) (holds now) failed (ended s.format) result → WritesFile number (holds before) (holds now) failed (spell_list format versions) result
+pub record CallsAreSpelled {O : Type 0} (output : Ghosts O) : Type 0 where
+  pub begin : (format : Format) (number : ℕ) (s : SinkState) (before now : O) (result : Result (Unit {0}) Fault) →
+      Calls (begins (new_sink format number)) s stays (change_of output before now) (begun format) result →
+      Puts format number [] (change_of output before now) s result
+  pub put : (format : Format) (number : ℕ) (versions : List VersionData) (v : VersionData) (s t : SinkState)
+      (before mid now : O) (result : Result (Unit {0}) Fault) →
+      HasPut format number versions (change_of output before mid) s →
+      Calls s t (puts v) (change_of output mid now) (spelled_in s.format s.encoder v) result →
+      Puts format number (versions ++ v ∷ []) (change_of output before now) t result
+  pub end : (format : Format) (number : ℕ) (versions : List VersionData) (s t : SinkState)
+      (before mid now : O) (result : Result (Unit {0}) Fault) →
+      HasPut format number versions (change_of output before mid) s →
+      Calls (ends s) t stays (change_of output mid now) (ended s.format) result →
+      WritesFile number (change_of output before now) (spell_list format versions) result
 
 -- what a file spells is within the ranges of versions
 abbrev pub FilesHoldVersions : Type 0
@@ -91,14 +111,19 @@ UnionsAreVersions = (a b : VersionSet) → AreVersions a → AreVersions b → A
 
 -- three files make one file, whether the first two are joined first, or the last two
 abbrev pub FilesJoinInAnyGrouping : Type 0
-FilesJoinInAnyGrouping = (format left right : Format) (first second third : List ℕ) (a b c ab bc : VersionSet) → Holds first a → Holds second b → Holds third c →
+FilesJoinInAnyGrouping =
+    (format left right : Format) (first second third : List ℕ) (a b c ab bc : VersionSet) → Holds first a
+    → Holds second b → Holds third c →
     Holds (joined_file left a b) ab → Holds (joined_file right b c) bc →
     joined_file format ab c ≡ joined_file format a bc
 
 -- bytes hold a set exactly where they have no verdict and it is the set of the versions of their units
 abbrev pub HeldWithoutVerdict : Type 0
-HeldWithoutVerdict = (bytes : List ℕ) (set : VersionSet) → Holds bytes set ↔ ((verdict bytes ≡ None) × (set ≡ held_by bytes))
+HeldWithoutVerdict =
+    (bytes : List ℕ) (set : VersionSet) → Holds bytes set ↔ ((verdict bytes ≡ None) × (set ≡ held_by bytes))
 
 -- the file of a set of versions, if it is shorter than 2^62 bytes, has no verdict, and holds the set
 abbrev pub SpellHasNoVerdict : Type 0
-SpellHasNoVerdict = (format : Format) (set : VersionSet) → AreVersions set → length (spell format set) < 2 ^ 62 → (verdict (spell format set) ≡ None) × (held_by (spell format set) ≡ set)
+SpellHasNoVerdict =
+    (format : Format) (set : VersionSet) → AreVersions set → length (spell format set) < 2 ^ 62
+    → (verdict (spell format set) ≡ None) × (held_by (spell format set) ≡ set)

@@ -1,5 +1,5 @@
-//! Laws of the definitions, over all bytes and all versions. Nothing is run to use them: each is the clause of a function
-//! without a body.
+//! Laws of the definitions, over all bytes and all versions. Nothing is run to use them: each is the clause of a
+//! function without a body.
 ghost use Rattle.osm_files.specs.Laws as law;
 ghost use Rattle.osm_files.specs.SpellLaws as spelling;
 ghost use Rattle.osm_files.specs.LoadLaws as loading;
@@ -94,7 +94,7 @@ pub fn first_versions_stand_in_front()
 
 /// What the calls of a sink append together to an output is the file of what was put, or a front of it after a refusal.
 pub fn calls_are_spelled<W: Output>(_out: &W)
-    ensures { spelling.CallsAreSpelled W.holds }
+    ensures { spelling.CallsAreSpelled W.Output }
 {}
 
 /// What a file spells is within the ranges of versions.
@@ -122,8 +122,8 @@ pub fn inputs_are_files()
     ensures { loading.InputsAreFiles }
 {}
 
-/// An input that fails is refused with the verdict of the bytes before, if a unit that stands whole in them is faulty or if they
-/// are too many; else for the failure, at their number.
+/// An input that fails is refused with the verdict of the bytes before, if a unit that stands whole in them is faulty
+/// or if they are too many; else for the failure, at their number.
 pub fn broken_inputs_are_refused()
     ensures { loading.BrokenInputsAreRefused }
 {}

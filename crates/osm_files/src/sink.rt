@@ -1,8 +1,10 @@
 //! Sinks: a file that is written version by version.
-ghost use Rattle.std.specs.Prelude.{◌≡◌, ◌≢◌, ◌+◌, ◌<◌, ◌^◌, ◌++◌, false, true, [], Ok, Err, length, IfOk, IfErr, OnOk, OnErr};
+ghost use Rattle.std.specs.Prelude.{◌≡◌, ◌≢◌, ◌+◌, ◌<◌, ◌^◌, ◌++◌, false, true, [], Ok, Err, length};
+ghost use Rattle.std.specs.Prelude.{IfOk, IfErr, OnOk, OnErr};
 ghost use Rattle.o5_codec.specs.Encoder.{nothing_written};
 ghost use Rattle.osm_files.specs.Fault.{memory_fault, too_long_fault, write_fault};
-ghost use Rattle.osm_files.specs.Output.{Appended, FailingLasts, IsGoodThroughout};
+ghost use Rattle.osm_files.specs.Output.{Appends, FailingLasts, IsGoodThroughout};
+ghost use Rattle.osm_files.specs.Change.{change_of};
 ghost use Rattle.osm_files.specs.declared.format.Format.{Format};
 ghost use Rattle.osm_files.specs.declared.format.Format.TheVariants as format;
 ghost use Rattle.osm_files.specs.Spell as spelling;
@@ -10,8 +12,9 @@ ghost use Rattle.osm_files.specs.Sink as spec;
 
 use crate::fault::Fault;
 use crate::format::Format;
-use crate::output::{Output, write_all, write_fault};
+use crate::output::Output;
 use crate::unit::{END, O5C_HEADER, O5M_HEADER};
+use crate::write::{write_all, write_fault};
 use o5_codec::Encoder;
 use osm_model::{History, Kind, Memory, Version};
 use std::alloc::Global;
@@ -130,11 +133,13 @@ impl Sink {
     pub fn begin<W: Output>(&mut self, out: &mut W) -> Result<(), Fault>
         requires { self.old.begun ≡ false }
         ensures calls { spec.Calls (spec.begins self.old) self.new spec.stays
-            (W.holds out.old) (W.holds out.new) (W.failed out.new) (spelling.begun self.old.format) result }
+            (change_of W.Output out.old out.new) (spelling.begun self.old.format) result }
         ensures memory { result ≢ Err memory_fault }
-        ensures lines { self.old.failed ≡ false → self.old.format ≡ format.Opl → (result ≡ Ok tt) × (out.new ≡ out.old) }
-        ensures good { OnOk result (self.old.format ≢ format.Opl → IsGoodThroughout (W.failed out.old) (W.failed out.new)) }
-        ensures lasts { FailingLasts (W.failed out.old) (W.failed out.new) }
+        ensures lines { self.old.failed ≡ false → self.old.format ≡ format.Opl →
+            (result ≡ Ok tt) × (out.new ≡ out.old) }
+        ensures good { OnOk result (self.old.format ≢ format.Opl →
+            IsGoodThroughout (change_of W.Output out.old out.new)) }
+        ensures lasts { FailingLasts (change_of W.Output out.old out.new) }
         ensures untouched { spec.IsBeforeWriting self.old.number result → out.new ≡ out.old }
     {
         self.begun = true;
@@ -167,9 +172,9 @@ impl Sink {
         requires open { spec.IsOpen self.old }
         requires follows { spec.Takes v.now self.old }
         ensures calls { spec.Calls self.old self.new (spec.puts v.now)
-            (W.holds out.old) (W.holds out.new) (W.failed out.new) (spelling.spelled_in self.old.format self.old.encoder v.now) result }
-        ensures good { OnOk result (IsGoodThroughout (W.failed out.old) (W.failed out.new)) }
-        ensures lasts { FailingLasts (W.failed out.old) (W.failed out.new) }
+            (change_of W.Output out.old out.new) (spelling.spelled_in self.old.format self.old.encoder v.now) result }
+        ensures good { OnOk result (IsGoodThroughout (change_of W.Output out.old out.new)) }
+        ensures lasts { FailingLasts (change_of W.Output out.old out.new) }
         ensures untouched { spec.IsBeforeWriting self.old.number result → out.new ≡ out.old }
     {
         if self.failed {
@@ -197,10 +202,10 @@ impl Sink {
     pub fn end<W: Output>(&mut self, out: &mut W) -> Result<(), Fault>
         requires { spec.IsOpen self.old }
         ensures calls { spec.Calls (spec.ends self.old) self.new spec.stays
-            (W.holds out.old) (W.holds out.new) (W.failed out.new) (spelling.ended self.old.format) result }
+            (change_of W.Output out.old out.new) (spelling.ended self.old.format) result }
         ensures memory { result ≢ Err memory_fault }
-        ensures good { OnOk result (IsGoodThroughout (W.failed out.old) (W.failed out.new)) }
-        ensures lasts { FailingLasts (W.failed out.old) (W.failed out.new) }
+        ensures good { OnOk result (IsGoodThroughout (change_of W.Output out.old out.new)) }
+        ensures lasts { FailingLasts (change_of W.Output out.old out.new) }
         ensures untouched { spec.IsBeforeWriting self.old.number result → out.new ≡ out.old }
     {
         self.ended = true;
@@ -222,11 +227,11 @@ impl Sink {
 fn send<W: Output>(out: &mut W, number: usize, written: &mut u64, bytes: &[u8]) -> Result<(), Fault>
     requires some { 0 < length bytes.now }
     requires below { written.old < 2 ^ 62 }
-    ensures sent { spec.Sends number (W.holds out.old) (W.holds out.new) (W.failed out.new) written.old bytes.now result }
+    ensures sent { spec.Sends number (change_of W.Output out.old out.new) written.old bytes.now result }
     ensures counted { OnOk result (written.new ≡ written.old + length bytes.now) }
     ensures uncounted { OnErr result (written.new ≡ written.old) }
-    ensures good { OnOk result (IsGoodThroughout (W.failed out.old) (W.failed out.new)) }
-    ensures lasts { FailingLasts (W.failed out.old) (W.failed out.new) }
+    ensures good { OnOk result (IsGoodThroughout (change_of W.Output out.old out.new)) }
+    ensures lasts { FailingLasts (change_of W.Output out.old out.new) }
     ensures memory { result ≢ Err memory_fault }
     ensures untouched { result ≡ Err (too_long_fault number) → out.new ≡ out.old }
 {
@@ -243,11 +248,11 @@ fn finish<W: Output>(
     format: Format,
 ) -> Result<(), Fault>
     requires { written.old < 2 ^ 62 }
-    ensures sent { spec.Sends number (W.holds out.old) (W.holds out.new) (W.failed out.new) written.old (spelling.ended format) result }
+    ensures sent { spec.Sends number (change_of W.Output out.old out.new) written.old (spelling.ended format) result }
     ensures counted { OnOk result (written.new ≡ written.old + length (spelling.ended format)) }
     ensures below { written.new < 2 ^ 62 }
-    ensures good { OnOk result (IsGoodThroughout (W.failed out.old) (W.failed out.new)) }
-    ensures lasts { FailingLasts (W.failed out.old) (W.failed out.new) }
+    ensures good { OnOk result (IsGoodThroughout (change_of W.Output out.old out.new)) }
+    ensures lasts { FailingLasts (change_of W.Output out.old out.new) }
     ensures memory { result ≢ Err memory_fault }
     ensures untouched { result ≡ Err (too_long_fault number) → out.new ≡ out.old }
 {
@@ -262,9 +267,9 @@ fn finish<W: Output>(
 
 /// Flushes the output, to which so many bytes were written.
 fn flush<W: Output>(out: &mut W, number: usize, written: u64) -> Result<(), Fault>
-    ensures same { Appended (W.holds out.old) (W.holds out.new) [] }
-    ensures good { OnOk result (IsGoodThroughout (W.failed out.old) (W.failed out.new)) }
-    ensures lasts { FailingLasts (W.failed out.old) (W.failed out.new) }
+    ensures same { Appends (change_of W.Output out.old out.new) [] }
+    ensures good { OnOk result (IsGoodThroughout (change_of W.Output out.old out.new)) }
+    ensures lasts { FailingLasts (change_of W.Output out.old out.new) }
     ensures failed { IfErr result (λ fault. (fault ≡ write_fault number written) × (W.failed out.new ≡ true)) }
 {
     match out.flush() {
@@ -286,9 +291,9 @@ pub fn write_history<W: Output>(
     history: &History,
     out: &mut W,
 ) -> Result<(), Fault>
-    ensures written { spec.WritesFile number
-        (W.holds out.old) (W.holds out.new) (W.failed out.new) (spelling.spell format history.now) result }
-    ensures good { OnOk result (IsGoodThroughout (W.failed out.old) (W.failed out.new)) }
+    ensures written { spec.WritesFile number (change_of W.Output out.old out.new)
+        (spelling.spell format history.now) result }
+    ensures good { OnOk result (IsGoodThroughout (change_of W.Output out.old out.new)) }
 {
     let mut sink = Sink::new(alloc, format, number)?;
     put_all(&mut sink, history, out)
@@ -297,9 +302,9 @@ pub fn write_history<W: Output>(
 /// Begins the file of a new sink, writes the versions of a history, and ends the file.
 fn put_all<W: Output>(sink: &mut Sink, history: &History, out: &mut W) -> Result<(), Fault>
     requires unused { sink.old ≡ spec.new_sink sink.old.format sink.old.number }
-    ensures written { spec.WritesFile sink.old.number
-        (W.holds out.old) (W.holds out.new) (W.failed out.new) (spelling.spell sink.old.format history.now) result }
-    ensures good { OnOk result (IsGoodThroughout (W.failed out.old) (W.failed out.new)) }
+    ensures written { spec.WritesFile sink.old.number (change_of W.Output out.old out.new)
+        (spelling.spell sink.old.format history.now) result }
+    ensures good { OnOk result (IsGoodThroughout (change_of W.Output out.old out.new)) }
 {
     sink.begin(out)?;
     'puts: for place in 0..history.len() {

@@ -1,4 +1,10 @@
 //! Sources: versions in ascending order, one after the other.
+//!
+//! Why: nearly every key group is one version. It is returned without a list and without a sort, so a source takes 7
+//! percent more time than the lines of its file, and 10 percent more than its data sets.
+//! Assumes: the next version has another key, which a comparison shows.
+//! Otherwise: `next_of_many` reads the whole group into a list, sorts it and drops repeats.
+//! Compared by: `source_gives_its_versions` and `files_in_pieces`, over groups of one version and of several.
 ghost use Rattle.std.specs.Prelude.{◌≡◌, ℕ, ◌+◌, ◌<◌, [], ◌∷◌, Bool, true, false, None, Some, Ok, Err};
 ghost use Rattle.std.specs.Prelude.{option_to_list, is_err, IsSome, IfOk, IfErr, OnErr};
 ghost use Rattle.std.specs.Vec.Iter.{into_iter_items};
@@ -26,8 +32,8 @@ use std::vec::IntoIter;
 
 /// A strictly ascending list of versions, one after the other.
 pub trait Source {
-    /// It can still give these versions, and end so. Of a source that tells what is to come there is one such; what one that
-    /// tells nothing gives is seen only as it is asked.
+    /// It can still give these versions, and end so. A source that tells what is to come can give only that. What a
+    /// source that tells nothing gives is seen only as it is asked.
     ghost can_give: { Self → Still VersionData Fault → Type 0 };
 
     /// One of these.
@@ -66,8 +72,8 @@ pub trait Source {
     {}
 }
 
-/// How many bytes are held of all sources that are read side by side, where they are more than 8: half of what a second cache
-/// has room for, since the versions that wait lie there, too.
+/// The number of unread bytes that more than 8 sources, read side by side, hold together: half of what a second cache
+/// has room for, since the versions that wait are in it, too.
 const HELD: usize = 524_288;
 
 /// A sorted file: the versions of one key after the other, each key group ascending and without repeats.
@@ -92,11 +98,13 @@ impl<R: Input> Model for FileSource<R> {
 
     ghost view = { λ s. standing s.units (option_to_list s.pending) (into_iter_items s.ready) };
 
-    ghost invariant = { λ s. IsOpenSource R.can_give (standing s.units (option_to_list s.pending) (into_iter_items s.ready)) };
+    ghost invariant = { λ s.
+        IsOpenSource R.can_give (standing s.units (option_to_list s.pending) (into_iter_items s.ready)) };
 }
 
 impl<R: Input> FileSource<R> {
-    /// A source of the versions of a sorted file of any format, which is the input of this number. It reads nothing yet.
+    /// A source of the versions of a sorted file of any format, which is the input of this number. It reads nothing
+    /// yet.
     ///
     /// # Errors
     ///
@@ -113,8 +121,8 @@ impl<R: Input> FileSource<R> {
         })
     }
 
-    /// A source as [`FileSource::new`] makes it, which is read beside others, so many in all. The more there are, the less it asks
-    /// for at a time, so that what is held of all of them stays near the processor.
+    /// A source as [`FileSource::new`] makes it, which is one of `sources` that are read side by side. The more there
+    /// are, the less it asks for at a time, so that what is held of all of them stays near the processor.
     ///
     /// # Errors
     ///
@@ -187,7 +195,8 @@ impl<R: Input> FileSource<R> {
         ensures step { FileSteps R.can_give (begun self.old (first ∷ second ∷ [])) result self.new }
         ensures failed { self.new.units.failed ≡ is_err result }
         ensures number { self.new.units.input ≡ self.old.units.input }
-        ensures fewer { IfOk result (λ given. IsSome given → left_at self.new < left_at (begun self.old (first ∷ second ∷ []))) }
+        ensures fewer { IfOk result (λ given. IsSome given →
+            left_at self.new < left_at (begun self.old (first ∷ second ∷ []))) }
     {
         let mut group = match Group::of_two(self.alloc, first, second) {
             Err(_) => return Err(self.units.refuse(0, Reason::Memory)),
@@ -205,8 +214,8 @@ impl<R: Input> FileSource<R> {
 }
 
 impl<R: Input + Drop> FileSource<R> {
-    /// A source of the versions of a sorted file, and the file's format, which its first bytes tell. These are read, and no
-    /// version is gone over.
+    /// A source of the versions of a sorted file, and the file's format, which its first bytes tell. These are read,
+    /// and no version is gone over.
     ///
     /// # Errors
     ///
@@ -264,7 +273,9 @@ impl<R: Input> Source for FileSource<R> {
     }
 }
 
-/// The version that a group begins with, where none was read before; none at the end.
+/// The version that a group begins with, if none was read before; `None` at the end.
+///
+/// A call of its own for the optimizer only: inlined, [`Reading::next`] would be twice in the loop of every merge.
 #[inline(never)]
 fn begin_next<R: Input>(units: &mut Reading<R>) -> Result<Option<Version>, Fault>
     ensures number { units.new.input ≡ units.old.input }

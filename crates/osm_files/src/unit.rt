@@ -1,5 +1,6 @@
 //! Units: the lines of OPL files and the data sets of o5 files, one at a time from the left.
-ghost use Rattle.std.specs.Prelude.{◌≡◌, ◌⊎◌, false, Option, None, Some, Ok, Err, List, ◌≤◌, length, take, position, IfOk, OnOk};
+ghost use Rattle.std.specs.Prelude.{◌≡◌, ◌⊎◌, false, Option, None, Some, Ok, Err, List, ◌≤◌, length, take, position};
+ghost use Rattle.std.specs.Prelude.{IfOk, OnOk};
 ghost use Rattle.std.specs.List.{list_any};
 ghost use Rattle.o5_codec.specs.Decoder.{new_segment};
 ghost use Rattle.opl_line.specs.Cut.{is_line_end, split_first};
@@ -51,7 +52,7 @@ pub(crate) enum Stage {
     End,
 }
 
-/// A unit of so many bytes that holds no version.
+/// A unit of `size` bytes that holds no version.
 fn passed(size: usize) -> Result<Option<ReadUnit>, Reason>
     ensures { result ≡ Ok (Some (record { size = size; version = None })) }
 {
@@ -61,8 +62,7 @@ fn passed(size: usize) -> Result<Option<ReadUnit>, Reason>
     }))
 }
 
-/// Where the line at the front of the bytes ends, if its end is there. It isn't among so many of them, which were searched
-/// before.
+/// Where the line at the front of the bytes ends, if its end is there. It isn't in the first `searched` of them.
 #[inline(always)]
 fn find_end_behind(bytes: &[u8], searched: usize) -> Option<usize>
     requires within { searched ≤ length bytes.now }
@@ -75,7 +75,7 @@ fn find_end_behind(bytes: &[u8], searched: usize) -> Option<usize>
     }
 }
 
-/// The line at the front of the bytes, if its end is there. It isn't among so many of them, which were searched before.
+/// The line at the front of the bytes, if its end is there. It isn't in the first `searched` of them.
 #[inline(always)]
 fn read_line_unit(
     lines: &mut LineReader,
@@ -211,7 +211,8 @@ fn read_sized(
 fn read_data_set(decoder: &mut Decoder, bytes: &[u8]) -> Result<Option<ReadUnit>, Reason>
     requires good { decoder.old.failed ≡ false }
     requires goes_on { ends_at bytes.now ≡ false }
-    ensures found { Finds (spec.segment_unit decoder.old.segment bytes.now) result (spec.InSegment decoder.new.segment) }
+    ensures found { Finds (spec.segment_unit decoder.old.segment bytes.now)
+        result (spec.InSegment decoder.new.segment) }
     ensures good { OnOk result (decoder.new.failed ≡ false) }
     ensures unmoved { result ≡ Ok None → decoder.new ≡ decoder.old }
 {
@@ -267,12 +268,12 @@ impl Stage {
         }
     }
 
-    /// The unit that stands whole at the front of the bytes, if there is one. The reading stands behind it then.
-    /// None stands whole in so many of the bytes, which were searched before.
+    /// The unit that is whole at the front of the bytes, if there is one. The stage is then the one after it.
+    /// No unit is whole in the first `searched` of the bytes.
     ///
     /// # Errors
     ///
-    /// Why a unit that stands there whole can't be read, or `Memory`. The reading is at its end then.
+    /// Why a unit that is whole there can't be read, or `Memory`.
     #[tactic(auto, using(crate::proofs::UnitSteps::end_first, crate::proofs::SearchLaws::no_end), unfolding(crate::specs::Units::unit_at))]
     #[inline(always)]
     pub(crate) fn read(
@@ -302,7 +303,9 @@ impl Stage {
         }
     }
 
-    /// Comes behind the end byte. A call of its own, so that room for what is let go isn't cleared before each data set.
+    /// Goes after the end byte.
+    ///
+    /// A call of its own for the optimizer only: room for what is dropped isn't cleared before each data set.
     #[inline(never)]
     fn end(&mut self)
         ensures place { stand_of self.new ≡ spec.BehindEnd }
@@ -311,7 +314,10 @@ impl Stage {
         *self = Stage::End;
     }
 
-    /// The header. The answer is taken apart here, so that no room for it is cleared where none is read.
+    /// The header.
+    ///
+    /// A function of its own for the optimizer only: it takes the result apart, so that no room for it is cleared
+    /// before each data set.
     #[inline(always)]
     fn read_start(&mut self, alloc: Global, bytes: &[u8]) -> Result<Option<ReadUnit>, Reason>
         ensures found { Finds (spec.header_unit bytes.now) result (stand_of self.new) }

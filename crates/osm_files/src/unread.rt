@@ -8,10 +8,10 @@ use crate::reason::Reason;
 use std::alloc::Global;
 use std::marker::Model;
 
-/// The most bytes that are asked of an input at a time.
+/// The most bytes that are asked for at a time.
 const MOST: usize = 65536;
 
-/// The fewest that are asked for, where as many are wanted.
+/// The fewest bytes that are asked for at a time, if the limit on a file's length leaves as many.
 const FEWEST: usize = 4096;
 
 /// The bytes that came from an input and weren't read. Contracts see their list.
@@ -48,7 +48,7 @@ impl Unread {
         }
     }
 
-    /// Asks for about so many bytes at a time from now on.
+    /// Asks for about `chunk` bytes at a time from now on: 4096 at least, and 65536 at most.
     pub(crate) fn ask_for(&mut self, chunk: usize)
         ensures { self.new ≡ self.old }
     {
@@ -89,7 +89,7 @@ impl Unread {
         self.from = 0;
     }
 
-    /// Reads more bytes, at most so many, and answers how many; 0 at the end of input.
+    /// Reads at most `most` more bytes and returns the number of bytes read; 0 at the end of input.
     ///
     /// # Errors
     ///
@@ -122,7 +122,7 @@ impl Unread {
     }
 }
 
-/// Reads at most so many bytes into the room behind so many bytes, and answers how many.
+/// Reads at most `most` bytes into `room[end..]` and returns the number of bytes read.
 fn read_behind<R: Input>(
     reader: &mut R,
     room: &mut Vec<u8>,
@@ -145,7 +145,7 @@ fn read_behind<R: Input>(
     }
 }
 
-/// Makes room for a chunk of this size behind so many bytes.
+/// Makes room for `chunk` bytes after the first `end`.
 fn make_room(room: &mut Vec<u8>, end: usize, chunk: usize) -> Result<(), Reason>
     requires within { end ≤ length room.old.items }
     requires few { chunk ≤ 65536 }

@@ -1,5 +1,6 @@
 -- The pass over the list of a history: what was chosen once so many of its versions were read.
-use Rattle.std.proofs.Common.{◌≡◌, ℕ, ◌+◌, ◌<◌, ◌≤◌, true, false, List, [], ◌∷◌, ◌++◌, length, take, get_or, refl, sym, ap, ◌∙◌, subst, Option, Some, None}
+use Rattle.std.proofs.Common.{◌≡◌, ℕ, ◌+◌, ◌<◌, ◌≤◌, true, false, List, [], ◌∷◌, ◌++◌, length, take, get_or, sym, ap, ◌∙◌, subst}
+use Rattle.std.proofs.Common.{Option, Some, None}
 use Rattle.std.proofs.lemmas.List.{take_more, take_all, append-nil, get_or_default}
 use Rattle.std.proofs.lemmas.List.Elements.{filter-append}
 use Rattle.std.specs.List.{filter}
@@ -30,15 +31,14 @@ IsHeld list None met = met ≡ []
 IsHeld list (Some place) met = HoldsAt list place met
 
 -- So many versions were read; the last of them that passes is held back, and what is decided of the others was chosen.
-pub record IsChoosing (selection : Selection) (list : List VersionData) (place : ℕ) (held : Option ℕ) (chosen : List VersionData) : Type 0 where
+pub record IsChoosing (selection : Selection) (list : List VersionData) (place : ℕ) (held : Option ℕ)
+    (chosen : List VersionData) : Type 0 where
   pub held_is : IsHeld list held (met_of selection list place)
   pub chosen_is : chosen ≡ settled (keeps selection) (met_of selection list place)
 
-pub choose_start : (selection : Selection) (list : List VersionData) → IsChoosing selection list 0 None []
-choose_start selection list = record { held_is = refl; chosen_is = refl }
-
 -- a version that doesn't pass, and one that does
-module _ (selection : Selection) (list : List VersionData) (place : ℕ) (w : VersionData) (inside : place < length list) (here : w ≡ get_or list place w) where
+module _ (selection : Selection) (list : List VersionData) (place : ℕ) (w : VersionData) (inside : place < length list)
+    (here : w ≡ get_or list place w) where
   met_more : met_of selection list (place + 1) ≡ met_of selection list place ++ only (passes selection w) w
   met_more =
       ap (filter (passes selection)) (take_more list place w inside ∙ ap (λ (v : VersionData). take place list ++ v ∷ []) (sym here))
@@ -57,22 +57,29 @@ module _ (selection : Selection) (list : List VersionData) (place : ℕ) (w : Ve
     ends = λ e. met_pass pass ∙ ap (λ v. met_of selection list place ++ v ∷ []) (here ∙ get_or_default list place w e inside);
   }
 
-  pub choose_skip : (held held2 : Option ℕ) (chosen chosen2 : List VersionData) → IsChoosing selection list place held chosen → passes selection w ≡ false →
+  pub choose_skip : (held held2 : Option ℕ) (chosen chosen2 : List VersionData) → IsChoosing selection list place held chosen
+      → passes selection w ≡ false →
       held2 ≡ held → chosen2 ≡ chosen → IsChoosing selection list (place + 1) held2 chosen2
   choose_skip held held2 chosen chosen2 i out same_held same_chosen = record {
-    held_is = subst (λ (h : Option ℕ). IsHeld list h (met_of selection list (place + 1))) (sym same_held) (subst (λ (met : List VersionData). IsHeld list held met) (sym (met_skip out)) i.held_is);
+    held_is =
+        subst (λ (h : Option ℕ). IsHeld list h (met_of selection list (place + 1))) (sym same_held)
+        (subst (λ (met : List VersionData). IsHeld list held met) (sym (met_skip out)) i.held_is);
     chosen_is = same_chosen ∙ i.chosen_is ∙ ap (settled (keeps selection)) (sym (met_skip out));
   }
 
   -- the first one that passes
-  first_passes : (chosen : List VersionData) → IsChoosing selection list place None chosen → passes selection w ≡ true → IsChoosing selection list (place + 1) (Some place) chosen
+  first_passes : (chosen : List VersionData) → IsChoosing selection list place None chosen → passes selection w ≡ true
+      → IsChoosing selection list (place + 1) (Some place) chosen
   first_passes chosen i pass = record {
     held_is = held_now pass;
-    chosen_is = i.chosen_is ∙ ap (settled (keeps selection)) i.held_is ∙ sym (ap (settled (keeps selection)) (met_pass pass ∙ ap (λ (met : List VersionData). met ++ w ∷ []) i.held_is));
+    chosen_is =
+        i.chosen_is ∙ ap (settled (keeps selection)) i.held_is
+        ∙ sym (ap (settled (keeps selection)) (met_pass pass ∙ ap (λ (met : List VersionData). met ++ w ∷ []) i.held_is));
   }
 
   -- one that passes behind the one held back
-  next_passes : (before : ℕ) (v : VersionData) (chosen : List VersionData) → IsChoosing selection list place (Some before) chosen → passes selection w ≡ true → v ≡ get_or list before v →
+  next_passes : (before : ℕ) (v : VersionData) (chosen : List VersionData) → IsChoosing selection list place (Some before) chosen
+      → passes selection w ≡ true → v ≡ get_or list before v →
       IsChoosing selection list (place + 1) (Some place) (chosen ++ only (keeps selection v (Some w)) v)
   next_passes before v chosen i pass is =
       let front = i.held_is.front in
@@ -85,38 +92,52 @@ module _ (selection : Selection) (list : List VersionData) (place : ℕ) (w : Ve
             ∙ sym (ap (settled (keeps selection)) (met_pass pass ∙ ap (λ (t : List VersionData). t ++ w ∷ []) met));
       }
 
-  pub choose_first : (held held2 : Option ℕ) (chosen chosen2 : List VersionData) → IsChoosing selection list place held chosen → passes selection w ≡ true →
+  pub choose_first : (held held2 : Option ℕ) (chosen chosen2 : List VersionData) → IsChoosing selection list place held chosen
+      → passes selection w ≡ true →
       held ≡ None → held2 ≡ Some place → chosen2 ≡ chosen → IsChoosing selection list (place + 1) held2 chosen2
   choose_first held held2 chosen chosen2 i pass none now same =
       rw (now, same) (first_passes chosen (subst (λ (h : Option ℕ). IsChoosing selection list place h chosen) none i) pass)
 
-  pub choose_next : (held held2 : Option ℕ) (before : ℕ) (v : VersionData) (chosen chosen2 : List VersionData) → IsChoosing selection list place held chosen → passes selection w ≡ true →
-      held ≡ Some before → v ≡ get_or list before v → held2 ≡ Some place → chosen2 ≡ chosen ++ only (keeps selection v (Some w)) v → IsChoosing selection list (place + 1) held2 chosen2
+  pub choose_next : (held held2 : Option ℕ) (before : ℕ) (v : VersionData) (chosen chosen2 : List VersionData)
+      → IsChoosing selection list place held chosen → passes selection w ≡ true →
+      held ≡ Some before → v ≡ get_or list before v → held2 ≡ Some place → chosen2 ≡ chosen ++ only (keeps selection v (Some w)) v
+      → IsChoosing selection list (place + 1) held2 chosen2
   choose_next held held2 before v chosen chosen2 i pass some is now more =
       rw (now, more) (next_passes before v chosen (subst (λ (h : Option ℕ). IsChoosing selection list place h chosen) some i) pass is)
 
 pub set_listed : (s : VersionSet) → from_list {R = version_cmp} (listed s) ≡ s
-set_listed s = same_set version_cmp_total version_cmp-IsAntisymmetric (from_list (listed s)) s (λ v. contains-from_list version_cmp_total (listed s) v ∙ sym (contains-listed {R = version_cmp} s v))
+set_listed s =
+    same_set version_cmp_total version_cmp-IsAntisymmetric (from_list (listed s)) s
+    (λ v. contains-from_list version_cmp_total (listed s) v ∙ sym (contains-listed {R = version_cmp} s v))
 
 -- all versions were read
 module _ (selection : Selection) (s : VersionSet) (place : ℕ) (whole : length (listed s) ≤ place) where
-  done : (chosen : List VersionData) → chosen ≡ kept (keeps selection) (met_of selection (listed s) place) → from_list {R = version_cmp} chosen ≡ selected selection s
+  done : (chosen : List VersionData) → chosen ≡ kept (keeps selection) (met_of selection (listed s) place)
+      → from_list {R = version_cmp} chosen ≡ selected selection s
   done chosen is =
-      let all : met_of selection (listed s) place ≡ filter (passes selection) (listed s) = ap (filter (passes selection)) (take_all place (listed s) whole) in
-      ap (from_list {R = version_cmp}) (is ∙ ap (kept (keeps selection)) (all ∙ sym (passing_is selection (listed s))) ∙ pass_of_set selection s)
+      let all : met_of selection (listed s) place ≡ filter (passes selection) (listed s) =
+      ap (filter (passes selection)) (take_all place (listed s) whole) in
+      ap (from_list {R = version_cmp})
+      (is ∙ ap (kept (keeps selection)) (all ∙ sym (passing_is selection (listed s))) ∙ pass_of_set selection s)
       ∙ set_listed (selected selection s)
 
   -- none passed
-  pub choose_none : (held : Option ℕ) (chosen chosen2 : List VersionData) → IsChoosing selection (listed s) place held chosen → held ≡ None → chosen2 ≡ chosen → from_list {R = version_cmp} chosen2 ≡ selected selection s
+  pub choose_none : (held : Option ℕ) (chosen chosen2 : List VersionData) → IsChoosing selection (listed s) place held chosen → held ≡ None
+      → chosen2 ≡ chosen → from_list {R = version_cmp} chosen2 ≡ selected selection s
   choose_none held chosen chosen2 i none same =
-      let j : IsChoosing selection (listed s) place None chosen = subst (λ (h : Option ℕ). IsChoosing selection (listed s) place h chosen) none i in
+      let j : IsChoosing selection (listed s) place None chosen =
+      subst (λ (h : Option ℕ). IsChoosing selection (listed s) place h chosen) none i in
       done chosen2 (same ∙ j.chosen_is ∙ ap (settled (keeps selection)) j.held_is ∙ sym (ap (kept (keeps selection)) j.held_is))
 
   -- the last one that passes is decided
-  pub choose_last : (held : Option ℕ) (last : ℕ) (v : VersionData) (chosen chosen2 : List VersionData) → IsChoosing selection (listed s) place held chosen → held ≡ Some last → v ≡ get_or (listed s) last v →
+  pub choose_last : (held : Option ℕ) (last : ℕ) (v : VersionData) (chosen chosen2 : List VersionData)
+      → IsChoosing selection (listed s) place held chosen → held ≡ Some last → v ≡ get_or (listed s) last v →
       chosen2 ≡ chosen ++ only (stays selection v None) v → from_list {R = version_cmp} chosen2 ≡ selected selection s
   choose_last held last v chosen chosen2 i some is more =
-      let j : IsChoosing selection (listed s) place (Some last) chosen = subst (λ (h : Option ℕ). IsChoosing selection (listed s) place h chosen) some i in
-      let met : met_of selection (listed s) place ≡ j.held_is.front ++ v ∷ [] = j.held_is.ends v ∙ ap (λ u. j.held_is.front ++ u ∷ []) (sym is) in
+      let j : IsChoosing selection (listed s) place (Some last) chosen =
+      subst (λ (h : Option ℕ). IsChoosing selection (listed s) place h chosen) some i in
+      let met : met_of selection (listed s) place ≡ j.held_is.front ++ v ∷ [] =
+      j.held_is.ends v ∙ ap (λ u. j.held_is.front ++ u ∷ []) (sym is) in
       done chosen2
-      (more ∙ ap (λ t. t ++ only (keeps selection v None) v) (j.chosen_is ∙ ap (settled (keeps selection)) met) ∙ sym (kept_end (keeps selection) (j.held_is.front) v) ∙ sym (ap (kept (keeps selection)) met))
+      (more ∙ ap (λ t. t ++ only (keeps selection v None) v) (j.chosen_is ∙ ap (settled (keeps selection)) met) ∙ sym
+      (kept_end (keeps selection) (j.held_is.front) v) ∙ sym (ap (kept (keeps selection)) met))

@@ -1,10 +1,11 @@
 -- What calls of a sink make of the versions put so far.
-use Rattle.std.specs.Prelude.{◌≡◌, ℕ, Bool, List, ◌++◌, length, Result}
+use Rattle.std.specs.Prelude.{◌≡◌, ℕ, List, ◌++◌, length, Result}
 use Rattle.std.specs.List.{AllByRecursion}
 use Rattle.osm_model.specs.Data.{VersionData}
 use Rattle.osm_files.specs.declared.fault.Fault.{Fault}
 use Rattle.osm_files.specs.declared.format.Format.{Format}
-use Rattle.osm_files.specs.Output.{Content}
+use Rattle.osm_files.specs.declared.output.Output.{Ghosts}
+use Rattle.osm_files.specs.Change.{change_of}
 use Rattle.osm_files.specs.Spell.{spell_list}
 use Rattle.osm_files.specs.Sink.{SinkState, Takes, HasPut, WritesFile}
 use Rattle.osm_files.specs.SpellLaws.{Puts}
@@ -15,17 +16,20 @@ abbrev pub TakesEach : List VersionData → SinkState → Type 0
 TakesEach versions sink = AllByRecursion (λ v. Takes v sink) versions
 
 -- a sink that has put some versions puts these besides
-abbrev pub PutsMore : {O : Type 0} → (O → Content) → List VersionData → SinkState → SinkState → O → O → Bool → Result (Unit {0}) Fault → Type 0
-PutsMore {O} holds more old new mid now failed result =
-    (format : Format) (number : ℕ) (put : List VersionData) (before : O) →
-    HasPut format number put (holds before) old (holds mid) → Puts format number (put ++ more) (holds before) new (holds now) failed result
+abbrev pub PutsMore : {O : Type 0} → Ghosts O → List VersionData → SinkState → SinkState → O → O
+    → Result (Unit {0}) Fault → Type 0
+PutsMore {O} output more old new mid now result =
+    (format : Format) (number : ℕ) (put : List VersionData) (before : O)
+    → HasPut format number put (change_of output before mid) old
+    → Puts format number (put ++ more) (change_of output before now) new result
 
 -- a count of the versions that were put counts these besides
 abbrev pub CountsMore : List VersionData → ℕ → ℕ → Type 0
 CountsMore more old new = (put : List VersionData) → old ≡ capped (length put) → new ≡ capped (length (put ++ more))
 
 -- the end of a file of some versions, and of these besides
-abbrev pub EndsFile : {A O : Type 0} → (O → Content) → List VersionData → SinkState → O → O → Bool → Result A Fault → Type 0
-EndsFile {O = O} holds more old mid now failed result =
-    (format : Format) (number : ℕ) (put : List VersionData) (before : O) →
-    HasPut format number put (holds before) old (holds mid) → WritesFile number (holds before) (holds now) failed (spell_list format (put ++ more)) result
+abbrev pub EndsFile : {A O : Type 0} → Ghosts O → List VersionData → SinkState → O → O → Result A Fault → Type 0
+EndsFile {O = O} output more old mid now result =
+    (format : Format) (number : ℕ) (put : List VersionData) (before : O)
+    → HasPut format number put (change_of output before mid) old
+    → WritesFile number (change_of output before now) (spell_list format (put ++ more)) result

@@ -1,6 +1,7 @@
 //! The merge.
 ghost use Rattle.std.specs.Prelude.{◌≡◌, ◌≤◌, ◌<◌, ◌-◌, true, None, length, IsSome, IfOk, IfErr, OnOk};
 ghost use Rattle.osm_files.specs.Output.{IsGoodThroughout};
+ghost use Rattle.osm_files.specs.Change.{change_of};
 ghost use Rattle.osm_files.specs.Sink.{new_sink};
 ghost use Rattle.osm_files.specs.Source.{Steps};
 ghost use Rattle.osm_merge.specs.Giving.{ForSome, ForStanding};
@@ -29,9 +30,9 @@ pub struct Counts {
 
 /// Writes the union of what the sources still give as one file, each version once.
 ///
-/// It keeps one version of each source and the one put last. A version is put before its source is asked again, so where a
-/// source fails, all that stands up to its last version was written. Of sources that don't ascend it puts only what is
-/// greater than all that it put before.
+/// It keeps one version of each source and the one put last. A version is put before its source is asked again, so
+/// where a source fails, all that stands up to its last version was written. Of sources that don't ascend it puts only
+/// what is greater than all that it put before.
 ///
 /// # Errors
 ///
@@ -45,11 +46,11 @@ pub fn merge_into<S: Source + Drop, W: Output>(
 ) -> Result<Counts, Fault>
     requires { sink.old ≡ new_sink sink.old.format sink.old.number }
     ensures merged { IfOk result (λ counts. ForSome S.can_give sources.items (λ all.
-        MergesSources all sink.old.format (W.holds out.old) (W.holds out.new) counts)) }
+        MergesSources all sink.old.format (change_of W.Output out.old out.new) counts)) }
     ensures refused { IfErr result (λ fault. ForSome S.can_give sources.items (λ all.
-        RefusesSources all sink.old.format sink.old.number (W.holds out.old) (W.holds out.new) (W.failed out.new) fault)) }
-    ensures kept { Grows (W.holds out.old) (W.holds out.new) }
-    ensures good { OnOk result (IsGoodThroughout (W.failed out.old) (W.failed out.new)) }
+        RefusesSources all sink.old.format sink.old.number (change_of W.Output out.old out.new) fault)) }
+    ensures kept { Grows (change_of W.Output out.old out.new) }
+    ensures good { OnOk result (IsGoodThroughout (change_of W.Output out.old out.new)) }
     ensures ended { OnOk result (sink.new.ended ≡ true) }
 {
     merge_selected(alloc, Selection::All, sources, sink, out, &mut Silent)
@@ -57,9 +58,9 @@ pub fn merge_into<S: Source + Drop, W: Output>(
 
 /// Writes what is selected of the union of what the sources still give as one file, each version once.
 ///
-/// It keeps one version of each source and the last one that may be selected, which is put once the version behind it is
-/// known; where all are selected, each is put as soon as it comes. `read` counts what the sources gave, selected or not.
-/// `progress` looks on, and changes nothing.
+/// It keeps one version of each source and the last one that may be selected, which is put once the version behind it
+/// is known; where all are selected, each is put as soon as it comes. `read` counts what the sources gave, selected or
+/// not. `progress` looks on, and changes nothing.
 ///
 /// # Errors
 ///
@@ -75,11 +76,11 @@ pub fn merge_selected<S: Source + Drop, W: Output, P: Progress>(
 ) -> Result<Counts, Fault>
     requires { sink.old ≡ new_sink sink.old.format sink.old.number }
     ensures merged { IfOk result (λ counts. ForSome S.can_give sources.items (λ all.
-        IsMergedAs selection all sink.old.format (W.holds out.old) (W.holds out.new) counts)) }
+        IsMergedAs selection all sink.old.format (change_of W.Output out.old out.new) counts)) }
     ensures refused { IfErr result (λ fault. ForSome S.can_give sources.items (λ all.
-        IsRefusedAs selection all sink.old.format sink.old.number (W.holds out.old) (W.holds out.new) (W.failed out.new) fault)) }
-    ensures kept { Grows (W.holds out.old) (W.holds out.new) }
-    ensures good { OnOk result (IsGoodThroughout (W.failed out.old) (W.failed out.new)) }
+        IsRefusedAs selection all sink.old.format sink.old.number (change_of W.Output out.old out.new) fault)) }
+    ensures kept { Grows (change_of W.Output out.old out.new) }
+    ensures good { OnOk result (IsGoodThroughout (change_of W.Output out.old out.new)) }
     ensures ended { OnOk result (sink.new.ended ≡ true) }
 {
     let inputs: &mut [S] = &mut sources;
@@ -108,12 +109,12 @@ fn write_union<S: Source, W: Output, P: Progress>(
     requires written { pending.old.counts.written ≡ 0 }
     requires sink { sink.old ≡ new_sink sink.old.format sink.old.number }
     ensures merged { IfOk result (λ counts. ForStanding S.can_give sources.old tournament.old.heads.items (λ all.
-        IsMergedAs pending.old.selection all sink.old.format (W.holds out.old) (W.holds out.new) counts)) }
+        IsMergedAs pending.old.selection all sink.old.format (change_of W.Output out.old out.new) counts)) }
     ensures refused { IfErr result (λ fault. ForStanding S.can_give sources.old tournament.old.heads.items (λ all.
         IsRefusedAs pending.old.selection all sink.old.format sink.old.number
-        (W.holds out.old) (W.holds out.new) (W.failed out.new) fault)) }
-    ensures kept { Grows (W.holds out.old) (W.holds out.new) }
-    ensures good { OnOk result (IsGoodThroughout (W.failed out.old) (W.failed out.new)) }
+        (change_of W.Output out.old out.new) fault)) }
+    ensures kept { Grows (change_of W.Output out.old out.new) }
+    ensures good { OnOk result (IsGoodThroughout (change_of W.Output out.old out.new)) }
     ensures ended { OnOk result (sink.new.ended ≡ true) }
 {
     sink.begin(out)?;

@@ -1,6 +1,7 @@
 //! The version met last, and which versions are written.
 ghost use Rattle.std.specs.Prelude.{◌≡◌, ◌≤◌, ◌+◌, true, false, None, IfOk, IfSome, OnOk, option_copied};
 ghost use Rattle.osm_files.specs.Output.{FailingLasts, IsGoodThroughout};
+ghost use Rattle.osm_files.specs.Change.{change_of};
 ghost use Rattle.osm_files.specs.Sink.{IsOpen};
 ghost use Rattle.osm_merge.specs.Union.{capped};
 ghost use Rattle.osm_merge.specs.Pass.{is_new, is_met, held_next, puts, put_at, put_at_end, put_with, only};
@@ -28,7 +29,12 @@ pub(crate) struct Pending {
 impl Pending {
     /// Nothing was met.
     pub(crate) fn new(selection: Selection) -> Pending
-        ensures { result ≡ record { selection = selection; held = None; spare = None; counts = record { read = 0; written = 0; compared = 0 } } }
+        ensures { result ≡ record {
+          selection = selection;
+          held = None;
+          spare = None;
+          counts = record { read = 0; written = 0; compared = 0 };
+        } }
     {
         Pending {
             selection,
@@ -42,8 +48,8 @@ impl Pending {
         }
     }
 
-    /// Meets the next version. One that passes and is greater than the pending one decides what is written, and is pending then.
-    /// Any other one is spare, and so is one that is known to repeat one taken before.
+    /// Meets the next version. One that passes and is greater than the pending one decides what is written, and is
+    /// pending then. Any other one is spare, and so is one that is known to repeat one taken before.
     #[inline(always)]
     pub(crate) fn meet<W: Output>(
         &mut self,
@@ -57,9 +63,9 @@ impl Pending {
         requires takes { is_met self.old.selection self.old.held version ≡ true
             → TakesEach (put_at self.old.selection self.old.held version) sink.old }
         requires repeated { is_repeated ≡ true → is_met self.old.selection self.old.held version ≡ false }
-        ensures puts { PutsMore W.holds (puts self.old.selection self.old.held version)
-            sink.old sink.new out.old out.new (W.failed out.new) result }
-        ensures lasts { FailingLasts (W.failed out.old) (W.failed out.new) }
+        ensures puts { PutsMore W.Output (puts self.old.selection self.old.held version)
+            sink.old sink.new out.old out.new result }
+        ensures lasts { FailingLasts (change_of W.Output out.old out.new) }
         ensures selection { self.new.selection ≡ self.old.selection }
         ensures held { OnOk result (self.new.held ≡ held_next self.old.selection self.old.held version) }
         ensures read { self.new.counts.read ≡ capped (self.old.counts.read + 1) }
@@ -90,8 +96,8 @@ impl Pending {
         is_new(&self.held, version, compared) && passes(self.selection, version.version())
     }
 
-    /// Writes what the next version decides, or the end of all, if there is none: the next version itself, where all are written
-    /// at once, or else the pending one, if it stays.
+    /// Writes what the next version decides, or the end of all, if there is none: the next version itself, where all
+    /// are written at once, or else the pending one, if it stays.
     #[inline(always)]
     fn put_decided<W: Output>(
         &mut self,
@@ -101,9 +107,9 @@ impl Pending {
     ) -> Result<(), Fault>
         requires open { IsOpen sink.old }
         requires takes { TakesEach (put_with self.old.selection self.old.held (option_copied next)) sink.old }
-        ensures puts { PutsMore W.holds (put_with self.old.selection self.old.held (option_copied next.entry))
-            sink.old sink.new out.old out.new (W.failed out.new) result }
-        ensures lasts { FailingLasts (W.failed out.old) (W.failed out.new) }
+        ensures puts { PutsMore W.Output (put_with self.old.selection self.old.held (option_copied next.entry))
+            sink.old sink.new out.old out.new result }
+        ensures lasts { FailingLasts (change_of W.Output out.old out.new) }
         ensures open { OnOk result (IsOpen sink.new) }
         ensures selection { self.new.selection ≡ self.old.selection }
         ensures held { self.new.held ≡ self.old.held }
@@ -140,9 +146,9 @@ impl Pending {
         ensures written { IfOk result (λ done. CountsMore (put_at_end self.old.selection self.old.held)
             self.old.counts.written done.written) }
         ensures compared { IfOk result (λ done. done.compared ≡ compared) }
-        ensures file { EndsFile W.holds (put_at_end self.old.selection self.old.held)
-            sink.old out.old out.new (W.failed out.new) result }
-        ensures good { OnOk result (IsGoodThroughout (W.failed out.old) (W.failed out.new)) }
+        ensures file { EndsFile W.Output (put_at_end self.old.selection self.old.held)
+            sink.old out.old out.new result }
+        ensures good { OnOk result (IsGoodThroughout (change_of W.Output out.old out.new)) }
         ensures ended { OnOk result (sink.new.ended ≡ true) }
     {
         self.put_decided(None, sink, out)?;
@@ -165,8 +171,8 @@ fn put_if<W: Output>(
 ) -> Result<(), Fault>
     requires open { IsOpen sink.old }
     requires takes { TakesEach (only stays version.now) sink.old }
-    ensures puts { PutsMore W.holds (only stays version.now) sink.old sink.new out.old out.new (W.failed out.new) result }
-    ensures lasts { FailingLasts (W.failed out.old) (W.failed out.new) }
+    ensures puts { PutsMore W.Output (only stays version.now) sink.old sink.new out.old out.new result }
+    ensures lasts { FailingLasts (change_of W.Output out.old out.new) }
     ensures open { OnOk result (IsOpen sink.new) }
     ensures read { counts.new.read ≡ counts.old.read }
     ensures written { OnOk result (CountsMore (only stays version.now) counts.old.written counts.new.written) }

@@ -1,4 +1,10 @@
 //! Versions taken into a history that is held, without a copy.
+//!
+//! Why: the offset of each version that is taken is searched for, and the versions before it move unseen. To take
+//! 10,000 versions into 1,000,000 takes 21 ms, and 57 ms if each held version is compared.
+//! Assumes: both histories ascend. It brings most if the other history is small.
+//! Otherwise: from few held versions for each one that is taken on, each is compared.
+//! Compared by: `a_history_absorbs_another` and `a_snapshot_absorbs_another_history`.
 ghost use Rattle.std.specs.Prelude.{◌≡◌, ◌+◌, ◌≤◌, ◌++◌, take, drop, MatchResult, vec_len, vec_capacity};
 ghost use Rattle.std.specs.List.Sorted.{IsStrictlySortedBy};
 ghost use Rattle.std.specs.VecDeque.{deque_len};
@@ -34,8 +40,8 @@ pub fn absorb(alloc: Global, held: &mut History, more: History) -> Result<(), Me
     take_in(alloc, OrderBy::Versions, held, more)
 }
 
-/// Takes the newest versions of another history into one that holds the newest version of each object, so that it holds the
-/// snapshot of the union. It goes once over what is held, like [`absorb`].
+/// Takes the newest versions of another history into one that holds the newest version of each object, so that it holds
+/// the snapshot of the union. It goes once over what is held, like [`absorb`].
 ///
 /// # Errors
 ///
@@ -61,8 +67,8 @@ fn take_in(alloc: Global, order: OrderBy, held: &mut History, more: History) -> 
     Ok(())
 }
 
-/// Moves the versions of two lists that ascend by this order behind those that are there, with room for all of them. Of two
-/// that tie the greater one is moved.
+/// Moves the versions of two lists that ascend by this order behind those that are there, with room for all of them. Of
+/// two that tie the greater one is moved.
 fn move_joined(order: OrderBy, room: &mut Vec<Version>, held: Vec<Version>, more: Vec<Version>)
     requires ascends { IsStrictlySortedBy (order_of order) held.items }
     requires room { vec_len room.old + (vec_len held + vec_len more) ≤ vec_capacity room.old }
@@ -79,8 +85,8 @@ fn move_joined(order: OrderBy, room: &mut Vec<Version>, held: Vec<Version>, more
     move_front(room, &mut held, rest);
 }
 
-/// The number of versions of an ascending list that are below this one. It looks so far ahead at a time, until what is left
-/// is worth halving.
+/// The number of versions of an ascending list that are below this one. It looks `stride` ahead at a time, until what
+/// is left is worth halving.
 fn count_below(order: OrderBy, held: &VecDeque<Version>, stride: usize, version: &Version) -> usize
     requires { IsStrictlySortedBy (order_of order) held.now.items }
     ensures { IsPlaceOf (order_of order) version.now held.now.items result }
@@ -123,7 +129,8 @@ fn move_front(room: &mut Vec<Version>, held: &mut VecDeque<Version>, count: usiz
     }
 }
 
-/// The version, or the first one of the list in its place, where they tie and that one isn't less. One that ties leaves the list.
+/// The version, or the first one of the list in its place, where they tie and that one isn't less. One that ties leaves
+/// the list.
 fn take_tied(order: OrderBy, held: &mut VecDeque<Version>, version: Version) -> Version
     ensures value { result ≡ greater_tied (order_of order) version held.old.items }
     ensures left { held.new.items ≡ untied (order_of order) version held.old.items }

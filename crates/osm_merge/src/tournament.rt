@@ -1,4 +1,10 @@
 //! The next version of each source, and the tournament that finds the least of them.
+//!
+//! Why: after a version of k sources was taken, about log k games are played, where a search would look at k heads. A
+//! merge of 128 files takes 1.10 of the instructions of a merge of two.
+//! Assumes: the head of one place changed since the last games.
+//! Otherwise: all games are played, as at the start (`build`).
+//! Compared by: `order_and_repetition_make_no_difference` and `comparison_bounds`.
 ghost use Rattle.std.specs.Prelude.{◌≡◌, ◌+◌, ◌-◌, ◌/◌, ◌<◌, ◌≤◌, ◌^◌, ℕ, None, Some};
 ghost use Rattle.std.specs.Prelude.{length, slice_index, slice_index_or, slice_set, IfOk, IfErr};
 ghost use Rattle.std.specs.Bool.{OnTrue};
@@ -70,7 +76,8 @@ impl Tournament {
         self.repeats.is_taken(place)
     }
 
-    /// Takes the head of this place, if it has one. The source's next version has to be put before the leader is asked for again.
+    /// Takes the head of this place, if it has one. The source's next version has to be put before the leader is asked
+    /// for again.
     #[inline(always)]
     pub(crate) fn take(&mut self, place: usize) -> Option<Ranked>
         requires { place < length self.old.heads.items }
@@ -87,14 +94,18 @@ impl Tournament {
     #[inline(always)]
     pub(crate) fn put(&mut self, place: usize, next: Option<Version>)
         requires place { place < length self.old.heads.items }
-        requires tree { IsTree (slice_set self.old.heads.items place next) self.old.nodes.items 1 ((length self.old.heads.items + place) / 2) }
-        requires tied { IsTied (slice_set self.old.heads.items place next) (after_taking self.old.repeats.tie place).tie }
+        requires tree { IsTree (slice_set self.old.heads.items place next) self.old.nodes.items 1
+            ((length self.old.heads.items + place) / 2) }
+        requires tied { IsTied (slice_set self.old.heads.items place next)
+            (after_taking self.old.repeats.tie place).tie }
         ensures heads { self.new.heads.items ≡ slice_set self.old.heads.items place next }
         ensures tree { IsTree self.new.heads.items self.new.nodes.items 1 0 }
         ensures tied { IsTied self.new.heads.items self.new.repeats.tie }
         ensures taken { self.new.repeats.taken ≡ (after_taking self.old.repeats.tie place).taken }
-        ensures told { IsToldBy (after_taking self.old.repeats.tie place).tie self.old.compared self.new.repeats.tie self.new.compared }
-        ensures most { (depth : ℕ) → length self.new.heads.items ≤ 2 ^ depth → self.new.compared ≤ self.old.compared + depth }
+        ensures told { IsToldBy (after_taking self.old.repeats.tie place).tie self.old.compared
+            self.new.repeats.tie self.new.compared }
+        ensures most { (depth : ℕ) → length self.new.heads.items ≤ 2 ^ depth →
+            self.new.compared ≤ self.old.compared + depth }
     {
         self.heads[place] = head_of(next);
         self.repeats.note_taken(place);

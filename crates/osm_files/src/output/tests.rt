@@ -1,8 +1,9 @@
 //! Outputs that take what they are given, and outputs that fail.
-use super::{Output, ToWrite, VecOut, write_all};
+use super::{Output, ToWrite, VecOut};
 use crate::devices::{Device, Full};
 use crate::fault::{Fault, LENGTH_LIMIT};
 use crate::texts::push_fault;
+use crate::write::write_all;
 use std::alloc::Global;
 
 /// Appends `ok`, or the fault of a call.

@@ -1,14 +1,131 @@
-use Rattle.std.proofs.Common.{◌∙◌, sym, ap, refl, Err}
-use Rattle.osm_files.specs.Fault.{failed_fault}
-use Rattle.osm_files.specs.Position.{telling, still_to_come}
+use Rattle.std.proofs.Common.{rules, ◌≡◌, ◌∙◌, ap, arith, length, length-take, Ok, Err, Some, false, sym, refl}
+use Rattle.std.proofs.lemmas.Result.{err_from_is_err_and}
+use Rattle.osm_files.proofs.PositionLaws.{none_in_nothing}
+use Rattle.osm_files.proofs.ReaderLaws.{unread, has_gone, gone_none, gone_read, gone_further, steps_from, unit_gives, unit_passes}
+use Rattle.osm_files.proofs.ReaderLaws.{unit_further, unit_lessens, unit_refused, fill_refused}
+use Rattle.osm_files.proofs.ReadingLaws.{held_size, none_there, some_found, none_found, none_same, none_still, failed_already}
+use Rattle.osm_files.specs.Fault.{fault_at, failed_fault}
+use Rattle.osm_files.specs.Position.{stand_at, telling, still_to_come}
 use Rattle.osm_files.specs.Source.{Step}
 use Rattle.osm_files.specs.Stream.{Placed}
-use Rattle.osm_files.proofs.ReadingLaws.{failed_already}
-use Rattle.osm_files.proofs.ReaderLaws.{unread}
 use Rattle.osm_files.proofs.reading.Reading.next.Goals as goal
 
 pub returns-then-self-clause-step : goal.returns-then-self-clause-step
 returns-then-self-clause-step g c =
     let p = c.args.self.now in
     unread g.R.Input.can_give p p (λ a b. Step {A = Placed} (still_to_come a) (Err c.failed.result) (still_to_come b)) refl
-    (λ d. failed_already (telling p d) c.failed.result (sym (ap (λ v. v.failed) c.self.view_is) ∙ c.if-self.true) (c.failed.ensures ∙ ap (λ v. failed_fault v.input) c.self.view_is))
+    (λ d. failed_already (telling p d) c.failed.result (sym (ap (λ v. v.failed) c.self.view_is) ∙ c.if-self.true)
+    (c.failed.ensures ∙ ap (λ v. failed_fault v.input) c.self.view_is))
+
+pub units-init : goal.units-init
+units-init g c =
+    record { on = has_gone g.R.Input.can_give c.args.self.now; within = omega arith; none = none_in_nothing (stand_at c.args.self.now) }
+
+pub pass-requires : goal.pass-requires
+pass-requires g c =
+    (held_size c.units.self c.read_held.new.self c.in-Ok-Some.unit
+    (some_found c.units.self c.read_held.new.self c.in-Ok-Some.unit c.in-Ok-Some.field-0 c.in-Ok-Some.field-0-is
+    c.in-Ok-Some.ensures.found)).1
+
+pub returns-in-Some-clause-step : goal.returns-in-Some-clause-step
+returns-in-Some-clause-step g c =
+    let m = c.units.self in
+    let q = c.read_held.new.self in
+    let u = c.in-Ok-Some.unit in
+    let found = some_found m q u c.in-Ok-Some.field-0 c.in-Ok-Some.field-0-is c.in-Ok-Some.ensures.found in
+    steps_from g.R.Input.can_give c.args.self.now m c.pass.new.self (Ok (Some c.in-Some.given)) c.units.invariant.on
+    (sym (ap (λ v. v.failed) c.self.view_is) ∙ c.if-self.false)
+    (unit_gives g.R.Input.can_give m q c.pass.new.self u c.read_held.ensures.bound found c.pass.ensures.gone
+    (c.units.invariant.on.failed ∙ (sym (ap (λ v. v.failed) c.self.view_is) ∙ c.if-self.false)) c.in-Some.given c.in-Some.ensures.gave)
+
+pub returns-in-Some-clause-fewer : goal.returns-in-Some-clause-fewer
+returns-in-Some-clause-fewer g c = λ _.
+    let m = c.units.self in
+    let q = c.read_held.new.self in
+    let u = c.in-Ok-Some.unit in
+    let found = some_found m q u c.in-Ok-Some.field-0 c.in-Ok-Some.field-0-is c.in-Ok-Some.ensures.found in
+    omega (
+      arith,
+      c.units.invariant.on.place,
+      unit_further g.R.Input.can_give m q c.pass.new.self u c.read_held.ensures.bound found
+          c.pass.ensures.gone,
+      c.read_held.ensures.bound,
+    )
+
+pub units-smaller-in-None : goal.units-smaller-in-None
+units-smaller-in-None g c =
+    let m = c.units.self in
+    let q = c.read_held.new.self in
+    let u = c.in-Ok-Some.unit in
+    let found = some_found m q u c.in-Ok-Some.field-0 c.in-Ok-Some.field-0-is c.in-Ok-Some.ensures.found in
+    unit_lessens g.R.Input.can_give m q c.pass.new.self u c.read_held.ensures.bound found c.pass.ensures.gone
+
+pub units-preserved-in-None : goal.units-preserved-in-None
+units-preserved-in-None g c =
+    let m = c.units.self in
+    let q = c.read_held.new.self in
+    let u = c.in-Ok-Some.unit in
+    let found = some_found m q u c.in-Ok-Some.field-0 c.in-Ok-Some.field-0-is c.in-Ok-Some.ensures.found in
+    record {
+      on =
+          gone_further g.R.Input.can_give c.args.self.now m c.pass.new.self c.units.invariant.on
+          (unit_passes g.R.Input.can_give m q c.pass.new.self u c.read_held.ensures.bound found c.pass.ensures.gone c.in-None.ensures.gave);
+      within = omega arith;
+      none = none_in_nothing (stand_at c.pass.new.self);
+    }
+
+pub returns-in-Ok-None-clause-step : goal.returns-in-Ok-None-clause-step
+returns-in-Ok-None-clause-step g c =
+    let m = c.units.self in
+    let q = c.read_held.new.self in
+    let found = none_found m q c.in-Ok-None.field-0 c.in-Ok-None.field-0-is c.in-Ok-None.ensures.found in
+    let same = none_same m q found in
+    steps_from g.R.Input.can_give c.args.self.now q c.last.new.self c.last.result
+    (gone_none g.R.Input.can_give c.args.self.now m q c.units.invariant.on found same.0 same.1 same.2 same.3)
+    (sym (ap (λ v. v.failed) c.self.view_is) ∙ c.if-self.false) c.last.ensures.step
+
+pub units-preserved : goal.units-preserved
+units-preserved g c =
+    let m = c.units.self in
+    let q = c.read_held.new.self in
+    let found = none_found m q c.in-Ok-None.field-0 c.in-Ok-None.field-0-is c.in-Ok-None.ensures.found in
+    let same = none_same m q found in
+    let read = c.in_ok-fill-in-Ok-None-2.ensures in
+    let size : c.len-searched.result ≡ length q.held = search rules in
+    record {
+      on =
+          gone_read g.R.Input.can_give c.args.self.now q c.fill.new.self
+          (gone_none g.R.Input.can_give c.args.self.now m q c.units.invariant.on found same.0 same.1 same.2 same.3) read.on
+          c.fill.ensures.number;
+      within = omega (arith, size, ap length read.kept, length-take (length q.held) c.fill.new.self.held);
+      none = rw size (none_still m q c.fill.new.self found read.on.stand read.kept);
+    }
+
+pub returns-in_err-fill-in-Ok-None-2-clause-step : goal.returns-in_err-fill-in-Ok-None-2-clause-step
+returns-in_err-fill-in-Ok-None-2-clause-step g c =
+    let m = c.units.self in
+    let q = c.read_held.new.self in
+    let found = none_found m q c.in-Ok-None.field-0 c.in-Ok-None.field-0-is c.in-Ok-None.ensures.found in
+    let same = none_same m q found in
+    let e = err_from_is_err_and c.from_residual.result c.from_residual.ensures.1 in
+    let fault = c.in_err-fill-in-Ok-None-2.field-0.0 in
+    let fine : q.failed ≡ false = same.3 ∙ c.units.invariant.on.failed ∙ (sym (ap (λ v. v.failed) c.self.view_is) ∙ c.if-self.false) in
+    let refuses =
+    fill_refused g.R.Input.can_give q c.fill.new.self fault fine c.in_err-fill-in-Ok-None-2.ensures.refused (none_there m q found)
+    (search rules) c.in_err-fill-in-Ok-None-2.ensures.stops in
+    rw (e.1, e.2) (steps_from g.R.Input.can_give c.args.self.now q c.fill.new.self (Err fault)
+    (gone_none g.R.Input.can_give c.args.self.now m q c.units.invariant.on found same.0 same.1 same.2 same.3)
+    (sym (ap (λ v. v.failed) c.self.view_is) ∙ c.if-self.false) refuses)
+
+pub returns-in-Err-clause-step : goal.returns-in-Err-clause-step
+returns-in-Err-clause-step g c =
+    let m = c.units.self in
+    let q = c.read_held.new.self in
+    let place = ap (λ v. v.place) c.refuse.view_is ∙ c.read_held.ensures.place in
+    let is = c.refuse-in-Err.ensures.fault ∙ (λ i. fault_at (c.read_held.ensures.number i) (place i) c.in-Err.reason) in
+    steps_from g.R.Input.can_give c.args.self.now m c.refuse-in-Err.new.self (Err c.refuse-in-Err.result) c.units.invariant.on
+    (sym (ap (λ v. v.failed) c.self.view_is) ∙ c.if-self.false)
+    (unit_refused g.R.Input.can_give m q c.refuse-in-Err.new.self c.in-Err.reason c.refuse-in-Err.result (g.R.Input.one m.coming)
+    (g.R.Input.possible m.coming) (c.units.invariant.on.failed ∙ (sym (ap (λ v. v.failed) c.self.view_is) ∙ c.if-self.false))
+    (ap (λ v. v.failed) c.refuse-in-Err.ensures.failed) c.read_held.ensures.bound
+    c.in-Err.ensures.found is)

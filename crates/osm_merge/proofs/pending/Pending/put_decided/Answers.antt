@@ -7,8 +7,8 @@ use Rattle.osm_merge.proofs.pending.Pending.put_decided.Goals as goal
 pub returns-in-Some-clause-puts : goal.returns-in-Some-clause-puts
 returns-in-Some-clause-puts g c =
     let next = option_copied c.args.next in
-    subst (λ (more : List VersionData). PutsMore g.W.Output.holds more c.args.sink.now c.put_if.new.sink c.args.out.now c.put_if.new.out
-    (g.W.Output.failed c.put_if.new.out) c.put_if.result)
+    subst (λ (more : List VersionData). PutsMore g.W.Output more c.args.sink.now c.put_if.new.sink c.args.out.now c.put_if.new.out
+    c.put_if.result)
     (ap option_to_list (sym (ap option_copied c.in-Some.is))
     ∙ ap (λ b. cond b (option_to_list next) (leaves c.args.self.now.selection c.args.self.now.held next)) c.if-puts_at_once.ensures)
     c.put_if.ensures.puts
@@ -17,8 +17,9 @@ pub returns-in-Some-held-clause-puts : goal.returns-in-Some-held-clause-puts
 returns-in-Some-held-clause-puts g c =
     let selection = c.args.self.now.selection in
     let next = option_copied c.args.next in
-    subst (λ (more : List VersionData). PutsMore g.W.Output.holds more c.args.sink.now c.put_if-in-Some-held.new.sink c.args.out.now c.put_if-in-Some-held.new.out
-    (g.W.Output.failed c.put_if-in-Some-held.new.out) c.put_if-in-Some-held.result)
+    subst (λ (more : List VersionData). PutsMore g.W.Output more c.args.sink.now c.put_if-in-Some-held.new.sink c.args.out.now
+    c.put_if-in-Some-held.new.out
+    c.put_if-in-Some-held.result)
     (ap (only c.keeps_before-stays.result) c.version-held.ensures
     ∙ ap (λ b. only b c.in-Some-held.held) (c.keeps_before-stays.ensures ∙ ap (λ v. keeps selection v next) c.version-held.ensures)
     ∙ ap (λ h. leaves selection h next) (sym c.in-Some-held.is)

@@ -2,7 +2,7 @@ use Rattle.std.proofs.Common.{◌≡◌, ◌≤◌, None, length, take}
 use Rattle.osm_files.specs.Position.{stand_at}
 use Rattle.osm_files.specs.Units.{unit_at}
 use Rattle.osm_files.proofs.ReaderLaws.{HasGone, left_over}
-use Rattle.osm_files.proofs.reading.Reading.next_unit.Given as goal
+use Rattle.osm_files.proofs.reading.Reading.next.Given as goal
 
 abbrev pub invariant-units : goal.invariant-units
 invariant-units g l = record {
