@@ -226,13 +226,9 @@ where
         destination: &mut Destination<R::File, O>,
     ) -> Result<Result<Counts, Fault>, Refusal<'a>> {
         self.meter.read_files(files);
-        match self.open_runs(files, takings) {
-            Ok(inputs) => match self.write_inputs(inputs, destination) {
-                Ok(counts) => Ok(Ok(counts)),
-                Err(fault) => Ok(Err(fault_of_file(takings, &fault))),
-            },
-            Err(refusal) => Err(refusal),
-        }
+        let inputs = self.open_runs(files, takings)?;
+        let outcome = self.write_inputs(inputs, destination);
+        Ok(outcome.map_err(|fault| fault_of_file(takings, &fault)))
     }
 
     /// Readers of the runs of the files. Each file is handed to its first run, and opened once more for each other run.
