@@ -12,3 +12,4 @@ mod PlanLineLaws
 mod PlanTextLaws
 mod MergesLaws
 mod SortedRunLaws
+mod SlicedFileLaws

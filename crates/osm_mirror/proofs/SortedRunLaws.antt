@@ -120,14 +120,14 @@ starts_with_reset [] rest at = refl
 starts_with_reset (b ∷ front) rest at = at
 
 module _ (file rest bytes : List ℕ) (earlier later : List VersionData) (one : IsFile file earlier) (other : IsFile rest later) where
-  after_line : SplitAfterLine file rest bytes → IsFile bytes (earlier ++ later)
+  pub after_line : SplitAfterLine file rest bytes → IsFile bytes (earlier ++ later)
   after_line c =
       let is : bytes ≡ c.front ++ c.last ∷ rest = c.whole ∙ ap (λ f. f ++ rest) c.is_file ∙ append_assoc c.front (c.last ∷ []) rest in
       let starts : start_of (c.front ++ c.last ∷ rest) ≡ InOpl = starts_as c.front rest c.last ∙ ap start_of (sym c.is_file) ∙ c.lines in
       let lines : OplFile file earlier = rw c.lines at one in
       rw (is, starts) (opl_joined c.last c.ends c.front rest earlier later (rw c.is_file at lines) (rw c.more_lines at other))
 
-  at_reset : SplitAtReset file rest bytes → IsFile bytes (earlier ++ later)
+  pub at_reset : SplitAtReset file rest bytes → IsFile bytes (earlier ++ later)
   at_reset c =
       let starts : start_of (c.front ++ reset_byte ∷ c.after) ≡ BeforeHeader =
       starts_with_reset c.front c.after (ap start_of (sym c.is_file) ∙ c.data_sets) in

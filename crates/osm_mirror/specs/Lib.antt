@@ -15,3 +15,4 @@ pub mod PlanLaws
 pub mod Merges
 pub mod FaultLine
 pub mod SortedRuns
+pub mod Slices

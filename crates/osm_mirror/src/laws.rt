@@ -2,6 +2,7 @@
 //! use them.
 ghost use Rattle.osm_mirror.specs.FleetLaws.{LatestMirrorsAgree, FullMirrorsAgree};
 ghost use Rattle.osm_mirror.specs.Merges.{MergesOfTheSameFiles};
+ghost use Rattle.osm_mirror.specs.Slices.{SlicesHoldTheFile, SlicesWriteTheRun};
 ghost use Rattle.osm_mirror.specs.SortedRuns.{SortedRunsHoldTheFile, SortedRunsWriteTheFile};
 
 /// Merges of the same files write the same bytes, in whatever order the files come, in whatever groups they are merged first, in
@@ -30,4 +31,14 @@ pub fn sorted_runs_hold_the_file()
 /// A run over a file in any order writes what it writes over the files that this one is split into.
 pub fn sorted_runs_write_the_file()
     ensures { SortedRunsWriteTheFile }
+{}
+
+/// A file that is split at objects into sorted files, each within its span, is sorted, and each of these holds its slice.
+pub fn slices_hold_the_file()
+    ensures { SlicesHoldTheFile }
+{}
+
+/// One run for each span, over the slices of what the inputs hold, writes what one run over the inputs writes.
+pub fn slices_write_the_run()
+    ensures { SlicesWriteTheRun }
 {}
