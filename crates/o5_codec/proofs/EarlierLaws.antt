@@ -15,7 +15,9 @@ use Rattle.o5_codec.specs.Table.{limit, table_of}
 use Rattle.o5_codec.specs.Body.{set_at}
 use Rattle.o5_codec.specs.Decoder.{new_segment}
 use Rattle.o5_codec.specs.Spelling.{SpellsSet}
-use Rattle.o5_codec.specs.Earlier.{times, changesets, longitudes, latitudes, references, members_of, node_ids, way_ids, relation_ids, last_from, last_spelled, bases_of, has_references, has_node_members, segment_of, inline_entries, SpellSets, sets_at}
+use Rattle.o5_codec.specs.Earlier.{times, changesets, longitudes, latitudes, references, members_of, node_ids, way_ids, relation_ids}
+use Rattle.o5_codec.specs.Earlier.{last_from, last_spelled, bases_of, has_references, has_node_members, segment_of, inline_entries}
+use Rattle.o5_codec.specs.Earlier.{SpellSets, sets_at}
 use Rattle.o5_codec.proofs.SoundStrings.{first_ok, same_value}
 use Rattle.o5_codec.proofs.AnswerSteps.{read_next}
 use Rattle.o5_codec.proofs.StepLaws.{set_found, set_only}
@@ -26,7 +28,8 @@ spelled_more : {X : Type 0} (x : X) (spelled : VersionData → List X) (objects 
     last_from (last_spelled x spelled objects) (spelled v) ≡ last_spelled x spelled (objects ++ v ∷ [])
 spelled_more x spelled objects v =
     sym (last_append x (flat_map spelled objects) (spelled v))
-    ∙ ap (last_from x) (ap (λ ys. flat_map spelled objects ++ ys) (sym (append-nil (spelled v))) ∙ sym (flat_map-append spelled objects (v ∷ [])))
+    ∙ ap (last_from x) (ap (λ ys. flat_map spelled objects ++ ys) (sym (append-nil (spelled v)))
+    ∙ sym (flat_map-append spelled objects (v ∷ [])))
 
 bases_more : (objects : List VersionData) (v : VersionData) → bases_after (bases_of objects) v ≡ bases_of (objects ++ v ∷ [])
 bases_more objects v = λ i. record {
@@ -41,14 +44,16 @@ bases_more objects v = λ i. record {
   relation_member = spelled_more (pos 0) (λ v. relation_ids (members_of v.body)) objects v i;
 }
 
-any_more : (test : VersionData → Bool) (objects : List VersionData) (v : VersionData) → list_any test objects || test v ≡ list_any test (objects ++ v ∷ [])
+any_more : (test : VersionData → Bool) (objects : List VersionData) (v : VersionData) →
+    list_any test objects || test v ≡ list_any test (objects ++ v ∷ [])
 any_more test objects v = ap (λ b. list_any test objects || b) (sym (or-false (test v))) ∙ sym (list_any-append test objects (v ∷ []))
 
 -- which lists these objects have
 abbrev Lists : ListsSeen → List VersionData → Type 0
 Lists seen objects = Told seen (list_any has_references objects) (list_any has_node_members objects)
 
-pub lists_more : (objects : List VersionData) (s : Segment) (k : Kind) (content : List ℕ) (x : VersionData × Segment) → SpellsSet k s content x → Lists s.seen objects → Lists x.1.seen (objects ++ x.0 ∷ [])
+pub lists_more : (objects : List VersionData) (s : Segment) (k : Kind) (content : List ℕ) (x : VersionData × Segment) →
+    SpellsSet k s content x → Lists s.seen objects → Lists x.1.seen (objects ++ x.0 ∷ [])
 lists_more objects s k content x spells h =
     told_as _ _ _ _ _ _ refl (any_more has_references objects x.0) (any_more has_node_members objects x.0)
     (set_seen k s content x (list_any has_references objects) (list_any has_node_members objects) spells h)
@@ -60,14 +65,16 @@ record IsTold (s : Segment) (objects : List VersionData) (entries : List Entry) 
 
 -- one more data set
 told_more : (objects : List VersionData) (entries : List Entry) (s : Segment) (k : Kind) (content : List ℕ) (x : VersionData × Segment) →
-    IsTold s objects entries → (spells : SpellsSet k s content x) → IsTold x.1 (objects ++ x.0 ∷ []) (entries ++ inline_entries k s content x spells)
+    IsTold s objects entries → (spells : SpellsSet k s content x) →
+    IsTold x.1 (objects ++ x.0 ∷ []) (entries ++ inline_entries k s content x spells)
 told_more objects entries s k content x told spells = record {
   bases_are = set_bases k s content x spells ∙ ap (λ b. bases_after b x.0) told.bases_are ∙ bases_more objects x.0;
   table_is = set_table k s content x spells entries told.table_is;
 }
 
 -- more data sets
-all_told : (objects : List VersionData) (entries : List Entry) (s : Segment) (sets : List (Kind × List ℕ)) (versions : List VersionData) (inline : List Entry) (end : Segment) →
+all_told : (objects : List VersionData) (entries : List Entry) (s : Segment) (sets : List (Kind × List ℕ)) (versions : List VersionData)
+    (inline : List Entry) (end : Segment) →
     IsTold s objects entries → Lists s.seen objects → SpellSets s sets versions inline end →
     IsTold end (objects ++ versions) (entries ++ inline) × Lists end.seen (objects ++ versions)
 all_told objects entries s [] [] inline end told lists spells =
@@ -87,17 +94,20 @@ all_told objects entries s (set ∷ sets) (v ∷ versions) inline end told lists
 new_told : IsTold new_segment [] []
 new_told = record { bases_are = refl; table_is = sym (take-nil {A = Entry} limit) }
 
-pub from_new : (sets : List (Kind × List ℕ)) (versions : List VersionData) (inline : List Entry) (end : Segment) → SpellSets new_segment sets versions inline end → end ≡ segment_of versions inline
+pub from_new : (sets : List (Kind × List ℕ)) (versions : List VersionData) (inline : List Entry) (end : Segment) →
+    SpellSets new_segment sets versions inline end → end ≡ segment_of versions inline
 from_new sets versions inline end spells =
     let told = all_told [] [] new_segment sets versions inline end new_told (refl, refl) spells in
     (λ i. record { bases = told.0.bases_are i; table = told.0.table_is i; seen = told.1.0 i })
 
-pub not_mixed : (sets : List (Kind × List ℕ)) (versions : List VersionData) (inline : List Entry) (end : Segment) → SpellSets new_segment sets versions inline end →
+pub not_mixed : (sets : List (Kind × List ℕ)) (versions : List VersionData) (inline : List Entry) (end : Segment) →
+    SpellSets new_segment sets versions inline end →
     list_any has_references versions && list_any has_node_members versions ≡ false
 not_mixed sets versions inline end spells = (all_told [] [] new_segment sets versions inline end new_told (refl, refl) spells).1.1
 
 -- ---- reading one after the other
-pub sets_found : (s : Segment) (sets : List (Kind × List ℕ)) (x : List VersionData × Segment) → sets_at s sets ≡ Ok x → (inline : List Entry) × SpellSets s sets x.0 inline x.1
+pub sets_found : (s : Segment) (sets : List (Kind × List ℕ)) (x : List VersionData × Segment) → sets_at s sets ≡ Ok x →
+    (inline : List Entry) × SpellSets s sets x.0 inline x.1
 sets_found s [] x h =
     let same : ([], s) ≡ x = same_value _ _ h in
     let P : List VersionData × Segment → Type 0 = λ y. (inline : List Entry) × SpellSets s [] y.0 inline y.1 in
@@ -111,23 +121,40 @@ sets_found s (set ∷ sets) x h =
     let spells : SpellsSet set.0 s set.1 (f.0.0, f.0.1) = set_found set.0 s set.1 f.0 f.1 in
     subst P same (inline_entries set.0 s set.1 (f.0.0, f.0.1) spells ++ later.0, (f.0.1, later.0, spells, refl, later.1))
 
-pub sets_only : (s : Segment) (sets : List (Kind × List ℕ)) (versions : List VersionData) (inline : List Entry) (end : Segment) → SpellSets s sets versions inline end → sets_at s sets ≡ Ok (versions, end)
+pub sets_only : (s : Segment) (sets : List (Kind × List ℕ)) (versions : List VersionData) (inline : List Entry) (end : Segment) →
+    SpellSets s sets versions inline end → sets_at s sets ≡ Ok (versions, end)
 sets_only s [] [] inline end spells = ap (λ z. Ok ([], z)) spells.1
 sets_only s [] (v ∷ versions) inline end spells = absurd spells
 sets_only s (set ∷ sets) [] inline end spells = absurd spells
 sets_only s (set ∷ sets) (v ∷ versions) inline end (middle, later, spells, all, more) =
-    read_next (set_at set.0 s set.1) _ _ (set_only set.0 s set.1 (v, middle) spells) ∙ read_next (sets_at middle sets) _ _ (sets_only middle sets versions later end more)
+    read_next (set_at set.0 s set.1) _ _ (set_only set.0 s set.1 (v, middle) spells)
+    ∙ read_next (sets_at middle sets) _ _ (sets_only middle sets versions later end more)
 
 -- ---- one data set behind others
-pub sets_go_on : (s : Segment) (sets : List (Kind × List ℕ)) (versions : List VersionData) (inline : List Entry) (end : Segment) (k : Kind) (content : List ℕ) (x : VersionData × Segment) →
+pub sets_go_on : (s : Segment) (sets : List (Kind × List ℕ)) (versions : List VersionData) (inline : List Entry) (end : Segment) (k : Kind)
+    (content : List ℕ) (x : VersionData × Segment) →
     SpellSets s sets versions inline end → (spells : SpellsSet k end content x) →
     SpellSets s (sets ++ (k, content) ∷ []) (versions ++ x.0 ∷ []) (inline ++ inline_entries k end content x spells) x.1
 sets_go_on s [] [] inline end k content x before spells =
-    let P : Segment → Type 0 = λ y. (last : SpellsSet k y content x) → SpellSets s ((k, content) ∷ []) (x.0 ∷ []) (inline ++ inline_entries k y content x last) x.1 in
-    subst P before.1 (λ last. (x.1, [], last, ap (λ es. es ++ inline_entries k s content x last) before.0 ∙ sym (append-nil (inline_entries k s content x last)), (refl, refl))) spells
+    let P : Segment → Type 0 = λ y. (last : SpellsSet k y content x) →
+    SpellSets s ((k, content) ∷ []) (x.0 ∷ []) (inline ++ inline_entries k y content x last) x.1 in
+    subst P before.1 (λ last. (
+      x.1,
+      [],
+      last,
+      ap (λ es. es ++ inline_entries k s content x last) before.0
+          ∙ sym (append-nil (inline_entries k s content x last)),
+      (refl, refl),
+    )) spells
 sets_go_on s [] (v ∷ versions) inline end k content x before spells = absurd before
 sets_go_on s (set ∷ sets) [] inline end k content x before spells = absurd before
 sets_go_on s (set ∷ sets) (v ∷ versions) inline end k content x (middle, later, first, all, more) spells =
     let here = inline_entries set.0 s set.1 (v, middle) first in
-    let last = inline_entries k end content x spells in
-    (middle, later ++ last, first, ap (λ es. es ++ last) all ∙ append_assoc here later last, sets_go_on middle sets versions later end k content x more spells)
+    let last = inline_entries k end content x spells in (
+      middle,
+      later ++ last,
+      first,
+      ap (λ es. es ++ last) all
+          ∙ append_assoc here later last,
+      sets_go_on middle sets versions later end k content x more spells,
+    )

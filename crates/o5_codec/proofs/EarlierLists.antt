@@ -25,67 +25,83 @@ lists_with refs nodes = if refs then References else (if nodes then NodeMembers 
 abbrev pub Told : ListsSeen → Bool → Bool → Type 0
 Told seen refs nodes = (seen ≡ lists_with refs nodes) × (refs && nodes ≡ false)
 
-pub told_as : (seen other : ListsSeen) (refs more nodes more_nodes : Bool) → other ≡ seen → refs ≡ more → nodes ≡ more_nodes → Told seen refs nodes → Told other more more_nodes
+pub told_as : (seen other : ListsSeen) (refs more nodes more_nodes : Bool) → other ≡ seen → refs ≡ more → nodes ≡ more_nodes →
+    Told seen refs nodes → Told other more more_nodes
 told_as seen other refs more nodes more_nodes same p q t = (same ∙ t.0 ∙ (λ i. lists_with (p i) (q i)), (λ i. sym p i && sym q i) ∙ t.1)
 
 some_append : {X : Type 0} (xs ys : List X) → is_some_of (xs ++ ys) ≡ is_some_of xs || is_some_of ys
 some_append [] ys = refl
 some_append (x ∷ xs) ys = refl
 
-same_emptiness : (s : Segment) (section : List ℕ) (ids : List ℤ) (end : Segment) → ItemsStand ReferenceStands s section ids end → is_some_of section ≡ is_some_of ids
+same_emptiness : (s : Segment) (section : List ℕ) (ids : List ℤ) (end : Segment) → ItemsStand ReferenceStands s section ids end →
+    is_some_of section ≡ is_some_of ids
 same_emptiness s [] [] end stands = refl
 same_emptiness s [] (id ∷ ids) end stands = absurd (let one = (reference_only s [] (id, stands.0, stands.1) stands.2).1 in omega arith)
 same_emptiness s (b ∷ section) [] end stands = (let clash = stands.0 in cc)
 same_emptiness s (b ∷ section) (id ∷ ids) end stands = refl
 
-section_seen : (section : List ℕ) (refs nodes : Bool) (seen : ListsSeen) → refs && nodes ≡ false → with_section (lists_with refs nodes) section ≡ Ok seen →
+section_seen : (section : List ℕ) (refs nodes : Bool) (seen : ListsSeen) → refs && nodes ≡ false →
+    with_section (lists_with refs nodes) section ≡ Ok seen →
     Told seen (refs || is_some_of section) (nodes || false)
-section_seen [] refs nodes seen one h = told_as _ seen refs _ nodes _ (sym (same_value _ _ h)) (sym (or-false refs)) (sym (or-false nodes)) (refl, one)
+section_seen [] refs nodes seen one h = told_as _ seen refs _ nodes _ (sym (same_value _ _ h)) (sym (or-false refs)) (sym (or-false nodes))
+    (refl, one)
 section_seen (b ∷ section) true nodes seen one h = (sym (same_value _ _ h), or-false nodes ∙ one)
 section_seen (b ∷ section) false true seen one h = cc
 section_seen (b ∷ section) false false seen one h = (sym (same_value _ _ h), refl)
 
-member_seen : (k : Kind) (id : ℤ) (refs nodes : Bool) (seen : ListsSeen) → refs && nodes ≡ false → with_member (lists_with refs nodes) k ≡ Ok seen →
+member_seen : (k : Kind) (id : ℤ) (refs nodes : Bool) (seen : ListsSeen) → refs && nodes ≡ false →
+    with_member (lists_with refs nodes) k ≡ Ok seen →
     Told seen refs (nodes || is_some_of (node_id k id))
 member_seen kind.Node id true nodes seen one h = cc
 member_seen kind.Node id false true seen one h = (sym (same_value _ _ h), refl)
 member_seen kind.Node id false false seen one h = (sym (same_value _ _ h), refl)
-member_seen kind.Way id refs nodes seen one h = told_as _ seen refs refs nodes _ (sym (same_value _ _ h)) refl (sym (or-false nodes)) (refl, one)
-member_seen kind.Relation id refs nodes seen one h = told_as _ seen refs refs nodes _ (sym (same_value _ _ h)) refl (sym (or-false nodes)) (refl, one)
+member_seen kind.Way id refs nodes seen one h = told_as _ seen refs refs nodes _ (sym (same_value _ _ h)) refl (sym (or-false nodes))
+    (refl, one)
+member_seen kind.Relation id refs nodes seen one h =
+    told_as _ seen refs refs nodes _ (sym (same_value _ _ h)) refl (sym (or-false nodes)) (refl, one)
 
-one_member : (s : Segment) (bytes : List ℕ) (x : Member × Segment × List ℕ) (refs nodes : Bool) → MemberStands s bytes x → Told s.seen refs nodes →
+one_member : (s : Segment) (bytes : List ℕ) (x : Member × Segment × List ℕ) (refs nodes : Bool) → MemberStands s bytes x →
+    Told s.seen refs nodes →
     Told x.1.seen refs (nodes || is_some_of (node_id x.0.kind x.0.id))
 one_member s bytes x refs nodes (d, e, m, seen, id, ds, es, ms, sees, ids, role, kind_is, id_is, after) h =
     told_as seen x.1.seen refs refs _ _ (ap (λ z. z.seen) after) refl (ap (λ k. nodes || is_some_of (node_id k x.0.id)) (sym kind_is))
     (member_seen m.0 x.0.id refs nodes seen h.1 (ap (λ l. with_member l m.0) (sym h.0) ∙ sees))
 
-members_seen : (s : Segment) (bytes : List ℕ) (members : List Member) (end : Segment) (refs nodes : Bool) → ItemsStand MemberStands s bytes members end → Told s.seen refs nodes →
+members_seen : (s : Segment) (bytes : List ℕ) (members : List Member) (end : Segment) (refs nodes : Bool) →
+    ItemsStand MemberStands s bytes members end → Told s.seen refs nodes →
     Told end.seen refs (nodes || is_some_of (node_ids members))
-members_seen s bytes [] end refs nodes stands h = told_as s.seen end.seen refs refs nodes _ (ap (λ z. z.seen) (sym stands.1)) refl (sym (or-false nodes)) h
+members_seen s bytes [] end refs nodes stands h = told_as s.seen end.seen refs refs nodes _ (ap (λ z. z.seen) (sym stands.1)) refl
+    (sym (or-false nodes)) h
 members_seen s bytes (m ∷ members) end refs nodes stands h =
     let first = one_member s bytes (m, stands.0, stands.1) refs nodes stands.2 h in
     told_as end.seen end.seen refs refs _ _ refl refl
-    (or_assoc nodes (is_some_of (node_id m.kind m.id)) (is_some_of (node_ids members)) ∙ ap (λ b. nodes || b) (sym (some_append (node_id m.kind m.id) (node_ids members))))
+    (or_assoc nodes (is_some_of (node_id m.kind m.id)) (is_some_of (node_ids members))
+    ∙ ap (λ b. nodes || b) (sym (some_append (node_id m.kind m.id) (node_ids members))))
     (members_seen stands.0 stands.1 members end refs (nodes || is_some_of (node_id m.kind m.id)) stands.3 first)
 
 -- by a body
 abbrev ToldBy : ListsSeen → Bool → Bool → Body → Type 0
 ToldBy seen refs nodes body = Told seen (refs || is_some_of (references body)) (nodes || is_some_of (node_ids (members_of body)))
 
-by_body : (seen other : ListsSeen) (refs nodes : Bool) (body same : Body) → other ≡ seen → body ≡ same → ToldBy seen refs nodes body → ToldBy other refs nodes same
+by_body : (seen other : ListsSeen) (refs nodes : Bool) (body same : Body) → other ≡ seen → body ≡ same → ToldBy seen refs nodes body →
+    ToldBy other refs nodes same
 by_body seen other refs nodes body same h is t =
-    told_as seen other _ _ _ _ h (ap (λ b. refs || is_some_of (references b)) is) (ap (λ b. nodes || is_some_of (node_ids (members_of b))) is) t
+    told_as seen other _ _ _ _ h (ap (λ b. refs || is_some_of (references b)) is)
+    (ap (λ b. nodes || is_some_of (node_ids (members_of b))) is) t
 
 -- a body with neither
 neither : (seen other : ListsSeen) (refs nodes : Bool) → other ≡ seen → Told seen refs nodes → Told other (refs || false) (nodes || false)
 neither seen other refs nodes same t = told_as seen other refs _ nodes _ same (sym (or-false refs)) (sym (or-false nodes)) t
 
-body_seen : (k : Kind) (s : Segment) (bytes : List ℕ) (x : Body × Segment) (refs nodes : Bool) → BodyStands k s bytes x → Told s.seen refs nodes → ToldBy x.1.seen refs nodes x.0
+body_seen : (k : Kind) (s : Segment) (bytes : List ℕ) (x : Body × Segment) (refs nodes : Bool) → BodyStands k s bytes x →
+    Told s.seen refs nodes → ToldBy x.1.seen refs nodes x.0
 body_seen k s [] x refs nodes stands h =
-    by_body s.seen x.1.seen refs nodes (Deleted k) x.0 (ap (λ z. z.1.seen) stands) (sym (ap (λ z. z.0) stands)) (neither s.seen s.seen refs nodes refl h)
+    by_body s.seen x.1.seen refs nodes (Deleted k) x.0 (ap (λ z. z.1.seen) stands) (sym (ap (λ z. z.0) stands))
+    (neither s.seen s.seen refs nodes refl h)
 body_seen kind.Node s (b ∷ bytes) x refs nodes (lon, lat, tags, lons, lats, tagged, made) h =
     let behind = tags_end lat.1 lat.2 tags x.1 tagged in
-    let same = behind.seen_is ∙ ap (λ z. z.seen) (lats.3 ∙ ap (λ (z : Segment). record z { bases = record z.bases { lat = lat.0 } }) lons.3) in
+    let same = behind.seen_is ∙ ap (λ z. z.seen) (lats.3 ∙ ap (λ (z : Segment). record z { bases = record z.bases { lat = lat.0 } }) lons.3)
+    in
     by_body s.seen x.1.seen refs nodes (Node lon.0 lat.0 tags) x.0 same (sym made) (neither s.seen s.seen refs nodes refl h)
 body_seen kind.Way s (b ∷ bytes) x refs nodes (section, seen, ids, tags, cut, list, referred, tagged, made) h =
     let behind = tags_end ids.1 section.1 tags x.1 tagged in
@@ -105,7 +121,8 @@ same_lists seen refs nodes (Node lon lat tags) t = t
 same_lists seen refs nodes (Way ids tags) t = t
 same_lists seen refs nodes (Relation members tags) t = t
 
-pub set_seen : (k : Kind) (s : Segment) (content : List ℕ) (x : VersionData × Segment) (refs nodes : Bool) → SpellsSet k s content x → Told s.seen refs nodes →
+pub set_seen : (k : Kind) (s : Segment) (content : List ℕ) (x : VersionData × Segment) (refs nodes : Bool) → SpellsSet k s content x →
+    Told s.seen refs nodes →
     Told x.1.seen (refs || has_references x.0) (nodes || has_node_members x.0)
 set_seen k s content x refs nodes spells h =
     let id = spells.id in
@@ -113,5 +130,6 @@ set_seen k s content x refs nodes spells h =
     let body = spells.body in
     let behind = meta_end id.1 id.2 meta spells.meta_stands in
     let before = told_as s.seen meta.1.seen refs refs nodes nodes (behind.seen_is ∙ ap (λ z. z.seen) spells.id_stands.3) refl refl h in
-    by_body body.1.seen x.1.seen refs nodes (normal_body body.0) x.0.body (ap (λ z. z.1.seen) spells.made) (ap (λ z. z.0.body) (sym spells.made))
+    by_body body.1.seen x.1.seen refs nodes (normal_body body.0) x.0.body (ap (λ z. z.1.seen) spells.made)
+    (ap (λ z. z.0.body) (sym spells.made))
     (same_lists body.1.seen refs nodes body.0 (body_seen k meta.1 meta.2 body refs nodes spells.body_stands before))

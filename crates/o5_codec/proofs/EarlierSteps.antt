@@ -1,5 +1,6 @@
 -- What a data set that spells a version changes in its segment: the bases by the version, the table by the inline entries.
-use Rattle.std.proofs.Common.{◌≡◌, ◌∙◌, inl, inr, ap, sym, refl, ℕ, ℤ, true, false, eqb, List, [], ◌∷◌, ◌++◌, append_assoc, is_some, unwrap_or, arith, Ok, if◌then◌else◌}
+use Rattle.std.proofs.Common.{◌≡◌, ◌∙◌, inl, inr, ap, sym, refl, ℕ, ℤ, true, false, eqb, List, [], ◌∷◌, ◌++◌, append_assoc, is_some}
+use Rattle.std.proofs.Common.{unwrap_or, arith, Ok, if◌then◌else◌}
 use Rattle.std.proofs.lemmas.List.{append-nil}
 use Rattle.std.proofs.lemmas.Bool.Decides.{nat_tests}
 use Rattle.osm_model.specs.declared.kind.Kind.{Kind}
@@ -20,8 +21,11 @@ use Rattle.o5_codec.specs.Table.{stored, table_of}
 use Rattle.o5_codec.specs.Base.{moved_id}
 use Rattle.o5_codec.specs.Segment.{time_of, meta_of}
 use Rattle.o5_codec.specs.Body.{moved_member}
-use Rattle.o5_codec.specs.Spelling.{StringsStand, AuthorBehind, AuthorStands, MetaStands, TagStands, MemberStands, ItemsStand, ReferenceStands, NodeStands, WayStands, RelationStands, BodyStands, SpellsSet}
-use Rattle.o5_codec.specs.Earlier.{last_from, changesets, longitudes, latitudes, references, members_of, node_id, way_id, relation_id, node_ids, way_ids, relation_ids, inline_strings, inline_user, inline_author, inline_tag, inline_tags, inline_member, inline_members, inline_body, inline_entries}
+use Rattle.o5_codec.specs.Spelling.{StringsStand, AuthorBehind, AuthorStands, MetaStands, TagStands, MemberStands, ItemsStand}
+use Rattle.o5_codec.specs.Spelling.{ReferenceStands, NodeStands, WayStands, RelationStands, BodyStands, SpellsSet}
+use Rattle.o5_codec.specs.Earlier.{last_from, changesets, longitudes, latitudes, references, members_of, node_id, way_id, relation_id}
+use Rattle.o5_codec.specs.Earlier.{node_ids, way_ids, relation_ids, inline_strings, inline_user, inline_author, inline_tag, inline_tags}
+use Rattle.o5_codec.specs.Earlier.{inline_member, inline_members, inline_body, inline_entries}
 use Rattle.o5_codec.proofs.SoundStrings.{first_ok, same_value}
 use Rattle.o5_codec.proofs.EntryLaws.{table_more}
 
@@ -32,11 +36,13 @@ Grows s end inline = (entries : List Entry) → s.table ≡ table_of entries →
 pub grows_not : (s end : Segment) → end.table ≡ s.table → Grows s end []
 grows_not s end same entries h = same ∙ h ∙ ap table_of (sym (append-nil entries))
 
-pub grows_then : (s middle end : Segment) (first second : List Entry) → Grows s middle first → Grows middle end second → Grows s end (first ++ second)
+pub grows_then : (s middle end : Segment) (first second : List Entry) → Grows s middle first → Grows middle end second →
+    Grows s end (first ++ second)
 grows_then s middle end first second one more entries h =
     more (entries ++ first) (one entries h) ∙ ap table_of (append_assoc entries first second)
 
-strings_table : (form : Form) (table : List Entry) (bytes : List ℕ) (x : Entry × List Entry × List ℕ) (stands : StringsStand form table bytes x) (entries : List Entry) →
+strings_table : (form : Form) (table : List Entry) (bytes : List ℕ) (x : Entry × List Entry × List ℕ)
+    (stands : StringsStand form table bytes x) (entries : List Entry) →
     table ≡ table_of entries → x.1 ≡ table_of (entries ++ inline_strings form table bytes x stands)
 strings_table form table bytes x (inl inline) entries h = inline.3 ∙ ap (stored x.0) h ∙ sym (table_more entries x.0)
 strings_table form table bytes x (inr reference) entries h = reference.3 ∙ h ∙ ap table_of (sym (append-nil entries))
@@ -46,11 +52,19 @@ abbrev pub meta_bases : Bases → Meta → Bases
 meta_bases b m = record b { time = unwrap_or m.time 0; changeset = last_from b.changeset (if is_some m.time then m.changeset ∷ [] else []) }
 
 without_time : (b : Bases) (time changeset : ℕ) → eqb time 0 ≡ true →
-    record b { time = time } ≡ record b { time = unwrap_or (time_of time) 0; changeset = last_from b.changeset (if is_some (time_of time) then changeset ∷ [] else []) }
+    record b { time = time } ≡ record b {
+      time = unwrap_or (time_of time) 0;
+      changeset =
+          last_from b.changeset (if is_some (time_of time) then changeset ∷ [] else []);
+    }
 without_time b time changeset h = let zero : time ≡ 0 = grind (arith, nat_tests) in rw (h, zero) refl
 
 with_time : (b : Bases) (time changeset : ℕ) → eqb time 0 ≡ false →
-    record b { time = time; changeset = changeset } ≡ record b { time = unwrap_or (time_of time) 0; changeset = last_from b.changeset (if is_some (time_of time) then changeset ∷ [] else []) }
+    record b { time = time; changeset = changeset } ≡ record b {
+      time = unwrap_or (time_of time) 0;
+      changeset =
+          last_from b.changeset (if is_some (time_of time) then changeset ∷ [] else []);
+    }
 with_time b time changeset h = rw h refl
 
 -- a user leaves the bases
@@ -89,7 +103,8 @@ meta_by_author : (s : Segment) (v : ℕ × List ℕ) (t : ℕ × Segment × List
 meta_by_author s v t x a timed (inl none) made =
     let same : x.1 ≡ t.1 = ap (λ z. z.1) made ∙ ap (λ z. z.1) none.1 in
     record {
-      bases_are = ap (λ z. z.bases) (same ∙ timed) ∙ without_time s.bases t.0 a.0.changeset none.0 ∙ ap (meta_bases s.bases) (sym (ap (λ z. z.0) made));
+      bases_are = ap (λ z. z.bases) (same ∙ timed) ∙ without_time s.bases t.0 a.0.changeset none.0
+          ∙ ap (meta_bases s.bases) (sym (ap (λ z. z.0) made));
       seen_is = ap (λ z. z.seen) (same ∙ timed);
       table_is = grows_not s x.1 (ap (λ z. z.table) (same ∙ timed));
     }
@@ -99,10 +114,13 @@ meta_by_author s v t x a timed (inr some) made =
     let behind = behind_end c.0 c.1 c.2 a some.1.2 in
     let last : x.1 ≡ a.1 = ap (λ z. z.1) made in
     let before : Bases = record s.bases { time = t.0 } in
-    let changed : c.1.bases ≡ record before { changeset = c.0 } = ap (λ z. z.bases) moved.3 ∙ ap (λ (z : Segment). record z.bases { changeset = c.0 }) timed in
-    let named : record before { changeset = c.0 } ≡ record before { changeset = a.0.changeset } = ap (λ (n : ℕ). record before { changeset = n }) (sym behind.changeset_is) in
+    let changed : c.1.bases ≡ record before { changeset = c.0 } = ap (λ z. z.bases) moved.3
+    ∙ ap (λ (z : Segment). record z.bases { changeset = c.0 }) timed in
+    let named : record before { changeset = c.0 } ≡ record before { changeset = a.0.changeset } =
+    ap (λ (n : ℕ). record before { changeset = n }) (sym behind.changeset_is) in
     record {
-      bases_are = ap (λ z. z.bases) last ∙ behind.bases_are ∙ changed ∙ named ∙ with_time s.bases t.0 a.0.changeset some.0 ∙ ap (meta_bases s.bases) (sym (ap (λ z. z.0) made));
+      bases_are = ap (λ z. z.bases) last ∙ behind.bases_are ∙ changed ∙ named ∙ with_time s.bases t.0 a.0.changeset some.0
+          ∙ ap (meta_bases s.bases) (sym (ap (λ z. z.0) made));
       seen_is = ap (λ z. z.seen) last ∙ behind.seen_is ∙ ap (λ z. z.seen) moved.3 ∙ ap (λ z. z.seen) timed;
       table_is = λ entries h. ap (λ z. z.table) last ∙ behind.table_is entries (ap (λ z. z.table) moved.3 ∙ ap (λ z. z.table) timed ∙ h);
     }
@@ -118,14 +136,16 @@ pub record Kept (s end : Segment) (inline : List Entry) : Type 0 where
   pub seen_is : end.seen ≡ s.seen
   pub table_is : Grows s end inline
 
-tag_end : (s : Segment) (bytes : List ℕ) (x : Tag × Segment × List ℕ) (stands : TagStands s bytes x) → Kept s x.1 (inline_tag s bytes x stands)
+tag_end : (s : Segment) (bytes : List ℕ) (x : Tag × Segment × List ℕ) (stands : TagStands s bytes x) →
+    Kept s x.1 (inline_tag s bytes x stands)
 tag_end s bytes x stands = record {
   bases_are = ap (λ z. z.bases) stands.4;
   seen_is = ap (λ z. z.seen) stands.4;
   table_is = λ entries h. ap (λ z. z.table) stands.4 ∙ strings_table Pair s.table bytes (stands.0, stands.1, x.2) stands.2 entries h;
 }
 
-pub tags_end : (s : Segment) (bytes : List ℕ) (tags : List Tag) (end : Segment) (stands : ItemsStand TagStands s bytes tags end) → Kept s end (inline_tags s bytes tags end stands)
+pub tags_end : (s : Segment) (bytes : List ℕ) (tags : List Tag) (end : Segment) (stands : ItemsStand TagStands s bytes tags end) →
+    Kept s end (inline_tags s bytes tags end stands)
 tags_end s bytes [] end stands = record {
   bases_are = ap (λ z. z.bases) (sym stands.1);
   seen_is = ap (λ z. z.seen) (sym stands.1);
@@ -146,7 +166,8 @@ pub record Referred (s end : Segment) (ids : List ℤ) : Type 0 where
   pub seen_is : end.seen ≡ s.seen
   pub table_is : end.table ≡ s.table
 
-pub references_end : (s : Segment) (bytes : List ℕ) (ids : List ℤ) (end : Segment) → ItemsStand ReferenceStands s bytes ids end → Referred s end ids
+pub references_end : (s : Segment) (bytes : List ℕ) (ids : List ℤ) (end : Segment) → ItemsStand ReferenceStands s bytes ids end →
+    Referred s end ids
 references_end s bytes [] end stands = record {
   bases_are = ap (λ z. z.bases) (sym stands.1);
   seen_is = ap (λ z. z.seen) (sym stands.1);
@@ -196,7 +217,8 @@ pub last_append : {X : Type 0} (x : X) (xs ys : List X) → last_from x (xs ++ y
 last_append x [] ys = refl
 last_append x (z ∷ xs) ys = last_append z xs ys
 
-bases_more : (b : Bases) (m : Member) (members : List Member) → member_bases (bases_with b m.kind m.id) members ≡ member_bases b (m ∷ members)
+bases_more : (b : Bases) (m : Member) (members : List Member) →
+    member_bases (bases_with b m.kind m.id) members ≡ member_bases b (m ∷ members)
 bases_more b m members = λ i. record b {
   node_member = sym (last_append b.node_member (node_id m.kind m.id) (node_ids members)) i;
   way_member = sym (last_append b.way_member (way_id m.kind m.id) (way_ids members)) i;
@@ -215,7 +237,8 @@ member_end s bytes x (d, e, m, seen, id, ds, es, ms, sees, ids, role, kind_is, i
   λ entries h. ap (λ z. z.table) after ∙ strings_table Single s.table d.1 (e.0, e.1, x.2) es entries h,
 )
 
-members_end : (s : Segment) (bytes : List ℕ) (members : List Member) (end : Segment) (stands : ItemsStand MemberStands s bytes members end) →
+members_end : (s : Segment) (bytes : List ℕ) (members : List Member) (end : Segment)
+    (stands : ItemsStand MemberStands s bytes members end) →
     Joined s end members (inline_members s bytes members end stands)
 members_end s bytes [] end stands = record {
   bases_are = ap (λ z. z.bases) (sym stands.1);
@@ -255,7 +278,8 @@ node_end : (s : Segment) (bytes : List ℕ) (x : Body × Segment) (stands : Node
     AfterBody s x (inline_tags stands.1.1 stands.1.2 stands.2 x.1 stands.5)
 node_end s bytes x (lon, lat, tags, lons, lats, tagged, made) =
     let behind = tags_end lat.1 lat.2 tags x.1 tagged in
-    let before : lat.1 ≡ record s { bases = record s.bases { lon = lon.0; lat = lat.0 } } = lats.3 ∙ ap (λ (z : Segment). record z { bases = record z.bases { lat = lat.0 } }) lons.3 in
+    let before : lat.1 ≡ record s { bases = record s.bases { lon = lon.0; lat = lat.0 } } = lats.3
+    ∙ ap (λ (z : Segment). record z { bases = record z.bases { lat = lat.0 } }) lons.3 in
     record {
       bases_are = behind.bases_are ∙ ap (λ z. z.bases) before ∙ ap (body_bases s.bases) (sym made);
       table_is = λ entries h. behind.table_is entries (ap (λ z. z.table) before ∙ h);
@@ -281,7 +305,8 @@ relation_end s bytes x (section, members, tags, cut, joined, tagged, made) =
       table_is = grows_then s members.1 x.1 _ _ before.table_is behind.table_is;
     }
 
-body_end : (k : Kind) (s : Segment) (bytes : List ℕ) (x : Body × Segment) (stands : BodyStands k s bytes x) → AfterBody s x (inline_body k s bytes x stands)
+body_end : (k : Kind) (s : Segment) (bytes : List ℕ) (x : Body × Segment) (stands : BodyStands k s bytes x) →
+    AfterBody s x (inline_body k s bytes x stands)
 body_end k s [] x stands = record {
   bases_are = ap (λ z. z.1.bases) stands ∙ ap (body_bases s.bases) (sym (ap (λ z. z.0) stands));
   table_is = grows_not s x.1 (ap (λ z. z.1.table) stands);
@@ -294,7 +319,8 @@ body_end kind.Relation s (b ∷ bytes) x stands = relation_end s (b ∷ bytes) x
 abbrev pub bases_after : Bases → VersionData → Bases
 bases_after b v = body_bases (record b { id = v.id; time = unwrap_or v.time 0; changeset = last_from b.changeset (changesets v) }) v.body
 
-pub set_bases : (k : Kind) (s : Segment) (content : List ℕ) (x : VersionData × Segment) → SpellsSet k s content x → x.1.bases ≡ bases_after s.bases x.0
+pub set_bases : (k : Kind) (s : Segment) (content : List ℕ) (x : VersionData × Segment) → SpellsSet k s content x →
+    x.1.bases ≡ bases_after s.bases x.0
 set_bases k s content x spells =
     let id = spells.id in
     let meta = spells.meta in
@@ -302,10 +328,12 @@ set_bases k s content x spells =
     let started : id.1.bases ≡ record s.bases { id = id.0 } = ap (λ z. z.bases) spells.id_stands.3 in
     let behind = meta_end id.1 id.2 meta spells.meta_stands in
     let last = body_end k meta.1 meta.2 body spells.body_stands in
-    ap (λ z. z.1.bases) spells.made ∙ last.bases_are ∙ ap (λ b. body_bases b body.0) (behind.bases_are ∙ ap (λ b. meta_bases b meta.0) started)
+    ap (λ z. z.1.bases) spells.made ∙ last.bases_are
+    ∙ ap (λ b. body_bases b body.0) (behind.bases_are ∙ ap (λ b. meta_bases b meta.0) started)
     ∙ same_bases _ body.0 ∙ ap (bases_after s.bases) (sym (ap (λ z. z.0) spells.made))
 
-pub set_table : (k : Kind) (s : Segment) (content : List ℕ) (x : VersionData × Segment) (spells : SpellsSet k s content x) → Grows s x.1 (inline_entries k s content x spells)
+pub set_table : (k : Kind) (s : Segment) (content : List ℕ) (x : VersionData × Segment) (spells : SpellsSet k s content x) →
+    Grows s x.1 (inline_entries k s content x spells)
 set_table k s content x spells entries h =
     let id = spells.id in
     let meta = spells.meta in

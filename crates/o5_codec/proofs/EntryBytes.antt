@@ -28,7 +28,8 @@ both_equal f g i xs ys form e =
     λ k. form k && (first k && second k)
 
 -- where the forms and the places are the same, the bytes decide
-pub same_bytes : (f g : Form) (i j : ℕ) (xs ys : List ℕ) → i ≡ j → same_form f g ≡ true → bytes_eq xs ys ≡ same_entry (cut f i xs) (cut g j ys)
+pub same_bytes : (f g : Form) (i j : ℕ) (xs ys : List ℕ) → i ≡ j → same_form f g ≡ true →
+    bytes_eq xs ys ≡ same_entry (cut f i xs) (cut g j ys)
 same_bytes f g i j xs ys place form =
     agree (bytes_eq xs ys) (same_entry (cut f i xs) (cut g i ys))
     (λ e. both_equal f g i xs ys form ((bytes_decides xs ys).0 e))
@@ -36,7 +37,8 @@ same_bytes f g i j xs ys place form =
     ∙ ap (λ k. same_entry (cut f i xs) (cut g k ys)) place
 
 -- entries whose bytes differ by some measure are not the same
-pub told_apart : (measure : List ℕ → ℕ) (f g : Form) (i j : ℕ) (xs ys : List ℕ) → (measure xs ≡ measure ys → ⊥) → false ≡ same_entry (cut f i xs) (cut g j ys)
+pub told_apart : (measure : List ℕ → ℕ) (f g : Form) (i j : ℕ) (xs ys : List ℕ) → (measure xs ≡ measure ys → ⊥) →
+    false ≡ same_entry (cut f i xs) (cut g j ys)
 told_apart measure f g i j xs ys differ = elim (cases_Bool (same_entry (cut f i xs) (cut g j ys))) [
   | inl same ↦ absurd (differ (ap measure (whole f g i j xs ys ((same_entry_decides (cut f i xs) (cut g j ys)).0 same))))
   | inr other ↦ sym other

@@ -10,7 +10,8 @@ pub table_more : (entries : List Entry) (e : Entry) → table_of (entries ++ e �
 table_more entries e =
     let short : List Entry = filter is_short entries in
     ap (λ es. take limit (reverse es)) (filter-append is_short entries (e ∷ [])) ∙
-    elim (is_short e) as (λ t. take limit (reverse (short ++ cond t (e ∷ []) [])) ≡ (if t then take limit (e ∷ table_of entries) else table_of entries)) [
+    elim (is_short e) as (λ t. take limit (reverse (short ++ cond t (e ∷ []) []))
+    ≡ (if t then take limit (e ∷ table_of entries) else table_of entries)) [
       | true ↦ ap (take limit) (reverse-append short (e ∷ [])) ∙ sym (cons_twice limit e (reverse short))
       | false ↦ ap (λ es. take limit (reverse es)) (append-nil short)
     ]

@@ -1,5 +1,6 @@
 -- The loops over lists that go to the end of some bytes.
-use Rattle.std.proofs.Common.{◌≡◌, ℕ, suc, ◌+◌, ◌-◌, ◌<◌, ◌≤◌, ◌⊎◌, inl, inr, List, [], ◌∷◌, ◌++◌, length, refl, ap, sym, subst, ◌∙◌, arith, append_assoc, length-append, false, true, eqb, Result, Ok, Err}
+use Rattle.std.proofs.Common.{◌≡◌, ℕ, suc, ◌+◌, ◌-◌, ◌<◌, ◌≤◌, ◌⊎◌, inl, inr, List, [], ◌∷◌, ◌++◌, length, refl, ap, sym, subst, ◌∙◌, arith}
+use Rattle.std.proofs.Common.{append_assoc, length-append, false, true, eqb, Result, Ok, Err}
 use Rattle.std.proofs.lemmas.Bool.Decides.{nat_tests}
 use Rattle.std.proofs.lemmas.List.{append-nil}
 use Rattle.o5_codec.specs.declared.reason.O5Reason.{O5Reason}
@@ -16,7 +17,8 @@ module _ {X : Type 0} where
   behind done (Err reason) = Err reason
 
   -- these items were read, and these bytes are left
-  pub record HasItems (item_at : Segment → List ℕ → Step X) (start : Segment) (bytes : List ℕ) (done : List X) (s : Segment) (rest : List ℕ) : Type 0 where
+  pub record HasItems (item_at : Segment → List ℕ → Step X) (start : Segment) (bytes : List ℕ) (done : List X) (s : Segment)
+      (rest : List ℕ) : Type 0 where
     pub room : length rest + length done ≤ length bytes
     pub left : (most : ℕ) → most + length done ≡ length bytes → items_at item_at start bytes ≡ behind done (items_up_to item_at most s rest)
 
@@ -34,7 +36,8 @@ module _ {X : Type 0} (item_at : Segment → List ℕ → Step X) where
   unfolding items_at
   items_begin s bytes = record {
     room = omega arith;
-    left = λ most e. (let same : length bytes ≡ most = omega arith in ap (λ n. items_up_to item_at n s bytes) same ∙ sym (behind_none (items_up_to item_at most s bytes)));
+    left = λ most e. (let same : length bytes ≡ most = omega arith in ap (λ n. items_up_to item_at n s bytes) same
+        ∙ sym (behind_none (items_up_to item_at most s bytes)));
   }
 
   pub items_none : (s : Segment) (bytes : List ℕ) → bytes ≡ [] → items_at item_at s bytes ≡ Ok ([], s)
@@ -48,7 +51,8 @@ module _ {X : Type 0} (item_at : Segment → List ℕ → Step X) where
       h.left (length bytes - length done) (omega (arith, h.room)) ∙ ap (λ xs. Ok (xs, s)) (append-nil done)
   items_end start bytes done s (b ∷ rest) h e = cc
 
-  pub items_more : (start : Segment) (bytes : List ℕ) (done : List X) (s : Segment) (rest : List ℕ) (x : X) (next : Segment) (after : List ℕ) →
+  pub items_more : (start : Segment) (bytes : List ℕ) (done : List X) (s : Segment) (rest : List ℕ) (x : X) (next : Segment)
+      (after : List ℕ) →
       HasItems item_at start bytes done s rest → item_at s rest ≡ Ok (x, next, after) → length after < length rest →
       HasItems item_at start bytes (done ++ x ∷ []) next after
   unfolding items_up_to
@@ -88,22 +92,26 @@ module _ {X : Type 0} (item_at : Segment → List ℕ → Step X) where
       (x.0, ap (λ (y : List X × Segment × List ℕ). Ok (x.0, y.1, y.2)) same, ap (λ (y : List X × Segment × List ℕ). y.0) same)
   one_more done (Err reason) list next after e = cc
 
-  no_more : (done : List X) (reading : Result (X × Segment × List ℕ) O5Reason) (reason : O5Reason) → and_one_more done reading ≡ Err reason → reading ≡ Err reason
+  no_more : (done : List X) (reading : Result (X × Segment × List ℕ) O5Reason) (reason : O5Reason) →
+      and_one_more done reading ≡ Err reason → reading ≡ Err reason
   no_more done (Ok x) reason e = cc
   no_more done (Err r) reason e = cc
 
-  pub items_added : (start : Segment) (bytes : List ℕ) (done : List X) (s : Segment) (rest : List ℕ) (list : List X) (next : Segment) (after : List ℕ) →
+  pub items_added : (start : Segment) (bytes : List ℕ) (done : List X) (s : Segment) (rest : List ℕ) (list : List X) (next : Segment)
+      (after : List ℕ) →
       HasItems item_at start bytes done s rest → and_one_more done (item_at s rest) ≡ Ok (list, next, after) → length after < length rest →
       HasItems item_at start bytes list next after
   items_added start bytes done s rest list next after h is short =
       let one = one_more done (item_at s rest) list next after is in
-      subst (λ (xs : List X). HasItems item_at start bytes xs next after) one.2 (items_more start bytes done s rest one.0 next after h one.1 short)
+      subst (λ (xs : List X). HasItems item_at start bytes xs next after) one.2
+      (items_more start bytes done s rest one.0 next after h one.1 short)
 
   pub items_not_added : (start : Segment) (bytes : List ℕ) (done : List X) (s : Segment) (rest : List ℕ) (reason : O5Reason) →
       HasItems item_at start bytes done s rest → (rest ≡ [] → ⊥) → (reason ≡ Memory) ⊎ (and_one_more done (item_at s rest) ≡ Err reason) →
       (reason ≡ Memory) ⊎ (items_at item_at start bytes ≡ Err reason)
   items_not_added start bytes done s rest reason h some (inl memory) = inl memory
-  items_not_added start bytes done s rest reason h some (inr is) = inr (items_refused start bytes done s rest reason h some (no_more done (item_at s rest) reason is))
+  items_not_added start bytes done s rest reason h some (inr is) =
+      inr (items_refused start bytes done s rest reason h some (no_more done (item_at s rest) reason is))
 
 -- what the test of the loop says
 pub filled_by_test : {X : Type 0} (xs : List X) → false ≡ eqb (length xs) 0 → xs ≡ [] → ⊥

@@ -1,5 +1,6 @@
 -- What is read as a number is spelled so, and what is spelled so is read.
-use Rattle.std.proofs.Common.{◌≡◌, ℕ, ℤ, pos, negsuc, zero, suc, ◌+◌, ◌-◌, ◌*◌, ◌/◌, ◌%◌, ◌<◌, ◌≤◌, ◌^◌, true, false, eqb, ltb, List, [], ◌∷◌, ◌++◌, length, refl, ap, sym, ◌∙◌, arith, Result, Ok, Err, inl, inr, subst, length-append, if◌then◌else◌}
+use Rattle.std.proofs.Common.{◌≡◌, ℕ, ℤ, pos, negsuc, zero, suc, ◌+◌, ◌-◌, ◌*◌, ◌/◌, ◌%◌, ◌<◌, ◌≤◌, ◌^◌, true, false, eqb, ltb, List, []}
+use Rattle.std.proofs.Common.{◌∷◌, ◌++◌, length, refl, ap, sym, ◌∙◌, arith, Result, Ok, Err, inl, inr, subst, length-append, if◌then◌else◌}
 use Rattle.std.proofs.lemmas.Bool.{le-ltb, lt-ltb, cases_lt}
 use Rattle.std.proofs.lemmas.Bool.Decides.{nat_tests}
 use Rattle.o5_codec.specs.declared.reason.O5Reason.{O5Reason}
@@ -33,13 +34,15 @@ groups_found (suc room) (b ∷ bytes) x h = elim (cases_lt b 128) [
       (b ∷ r.0, omega (arith, r.1), longer b x.0 l.0 r.0 high l.2 r.2, ap (λ xs. b ∷ xs) r.3))
 ]
 
-groups_only : (room : ℕ) (front rest : List ℕ) (n : ℕ) → AreGroups front n → length front ≤ room → groups_at room (front ++ rest) ≡ Ok (n, rest)
+groups_only : (room : ℕ) (front rest : List ℕ) (n : ℕ) → AreGroups front n → length front ≤ room →
+    groups_at room (front ++ rest) ≡ Ok (n, rest)
 unfolding groups_at
 groups_only room [] rest n g short = absurd g
 groups_only zero (b ∷ front) rest n g short = absurd (omega arith)
 groups_only (suc room) (b ∷ []) rest n g short = rw (lt-ltb b 128 g.0) (ap (λ k. Ok (k, rest)) (sym g.1))
 groups_only (suc room) (b ∷ c ∷ front) rest n g short =
-    rw (le-ltb b 128 g.0) (ap (λ r. with_low (b - 128) r) (groups_only room (c ∷ front) rest g.1.0 g.1.2 (omega arith)) ∙ ap (λ k. Ok (k, rest)) (let e : (b - 128) + 128 * g.1.0 ≡ n = omega (arith, g.0, g.1.1) in e))
+    rw (le-ltb b 128 g.0) (ap (λ r. with_low (b - 128) r) (groups_only room (c ∷ front) rest g.1.0 g.1.2 (omega arith))
+    ∙ ap (λ k. Ok (k, rest)) (let e : (b - 128) + 128 * g.1.0 ≡ n = omega (arith, g.0, g.1.1) in e))
 
 pub below : (n m : ℕ) → ltb n m ≡ true → n < m
 below n m h = grind (arith, nat_tests)
@@ -77,7 +80,8 @@ unsigned_signed n =
 
 signed_unsigned : (m : ℤ) → signed_of (unsigned_of m) ≡ m
 signed_unsigned (pos n) = let even : (2 * n) % 2 ≡ 0 = omega arith in let half : (2 * n) / 2 ≡ n = omega arith in rw (even, half) refl
-signed_unsigned (negsuc n) = let odd : (2 * n + 1) % 2 ≡ 1 = omega arith in let half : (2 * n + 1) / 2 ≡ n = omega arith in rw (odd, half) refl
+signed_unsigned (negsuc n) = let odd : (2 * n + 1) % 2 ≡ 1 = omega arith in let half : (2 * n + 1) / 2 ≡ n = omega arith in
+    rw (odd, half) refl
 
 pub signed_found : (bytes : List ℕ) (x : ℤ × List ℕ) → signed_at bytes ≡ Ok x → SignedStands bytes x
 unfolding signed_at
@@ -92,7 +96,8 @@ signed_found bytes x h =
 pub signed_only : (bytes : List ℕ) (x : ℤ × List ℕ) → SignedStands bytes x → signed_at bytes ≡ Ok x
 unfolding signed_at
 signed_only bytes x s =
-    ap (λ r. and_then r (λ y. Ok (signed_of y.0, y.1))) (number_only bytes (unsigned_of x.0, x.1) s) ∙ ap (λ m. Ok (m, x.1)) (signed_unsigned x.0)
+    ap (λ r. and_then r (λ y. Ok (signed_of y.0, y.1))) (number_only bytes (unsigned_of x.0, x.1) s)
+    ∙ ap (λ m. Ok (m, x.1)) (signed_unsigned x.0)
 
 pub signed_shorter : (bytes : List ℕ) (x : ℤ × List ℕ) → SignedStands bytes x → length x.1 < length bytes
 signed_shorter bytes x s = number_shorter bytes (unsigned_of x.0, x.1) s

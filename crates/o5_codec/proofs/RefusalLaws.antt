@@ -1,5 +1,6 @@
 -- A data set is refused for the reason of its first step that can't be done, and for no other.
-use Rattle.std.proofs.Common.{◌≡◌, ℕ, ℤ, zero, suc, ◌-◌, ◌^◌, ◌<◌, ◌≤◌, ◌⊎◌, inl, inr, Bool, true, false, eqb, ltb, leb, List, [], ◌∷◌, length, take, drop, refl, ap, sym, ◌∙◌, arith, Result, Ok, Err, Option, Some, None, if◌then◌else◌}
+use Rattle.std.proofs.Common.{◌≡◌, ℕ, ℤ, zero, suc, ◌-◌, ◌^◌, ◌<◌, ◌≤◌, ◌⊎◌, inl, inr, Bool, true, false, eqb, ltb, leb, List, [], ◌∷◌}
+use Rattle.std.proofs.Common.{length, take, drop, refl, ap, sym, ◌∙◌, arith, Result, Ok, Err, Option, Some, None, if◌then◌else◌}
 use Rattle.std.proofs.lemmas.Bool.{false≢true}
 use Rattle.std.proofs.lemmas.Bool.Decides.{nat_tests}
 use Rattle.osm_model.specs.declared.kind.Kind.{Kind}
@@ -18,15 +19,24 @@ use Rattle.o5_codec.specs.Number.{groups_at, with_low, within_word, number_at, s
 use Rattle.o5_codec.specs.Base.{moved_id, moved_number, moved_coordinate}
 use Rattle.o5_codec.specs.Strings.{ended_at, string_at, inline_at, spelled_at, referred, strings_of, table_after, strings_at}
 use Rattle.o5_codec.specs.Text.{text_of, tag_of, user_of}
-use Rattle.o5_codec.specs.Segment.{Step, with_bases, id_at, numbered, version_at, time_at, changeset_at, user_at, author, author_behind, author_at, meta_at}
+use Rattle.o5_codec.specs.Segment.{Step, with_bases, id_at, numbered, version_at, time_at, changeset_at, user_at, author, author_behind}
+use Rattle.o5_codec.specs.Segment.{author_at, meta_at}
 use Rattle.o5_codec.specs.Items.{items_up_to, items_at}
-use Rattle.o5_codec.specs.Body.{with_seen, tag_at, longitude_at, latitude_at, node_at, cut_at, section_at, with_section, reference_at, way_at, kind_and_role, with_member, moved_member, member_at, relation_at, body_at, set_at}
-use Rattle.o5_codec.specs.Spelling.{NumberStands, SignedStands, InlineStands, StringsStand, IdStands, TimeStands, ChangesetStands, LongitudeStands, LatitudeStands, ReferenceStands, VersionStands, MetaStands, TagStands, MemberStands, SectionStands}
-use Rattle.o5_codec.specs.Refusal.{Nothing, Then, NumberRefused, SignedRefused, InlineRefused, ReferenceMissing, StringsRefused, MovedRefused, VersionRefused, UserRefused, BehindRefused, AuthorRefused, MetaRefused, TagRefused, ReferenceRefused, MemberRefused, RefusedBehind, ItemsRefused, TagsRefused, NodeRefused, SectionRefused, WayRefused, RelationRefused, BodyRefused, SetReason}
+use Rattle.o5_codec.specs.Body.{with_seen, tag_at, longitude_at, latitude_at, node_at, cut_at, section_at, with_section, reference_at}
+use Rattle.o5_codec.specs.Body.{way_at, kind_and_role, with_member, moved_member, member_at, relation_at, body_at, set_at}
+use Rattle.o5_codec.specs.Spelling.{NumberStands, SignedStands, InlineStands, StringsStand, IdStands, TimeStands, ChangesetStands}
+use Rattle.o5_codec.specs.Spelling.{LongitudeStands, LatitudeStands, ReferenceStands, VersionStands, MetaStands, TagStands, MemberStands}
+use Rattle.o5_codec.specs.Spelling.{SectionStands}
+use Rattle.o5_codec.specs.Refusal.{Nothing, Then, NumberRefused, SignedRefused, InlineRefused, ReferenceMissing, StringsRefused}
+use Rattle.o5_codec.specs.Refusal.{MovedRefused, VersionRefused, UserRefused, BehindRefused, AuthorRefused, MetaRefused, TagRefused}
+use Rattle.o5_codec.specs.Refusal.{ReferenceRefused, MemberRefused, RefusedBehind, ItemsRefused, TagsRefused, NodeRefused, SectionRefused}
+use Rattle.o5_codec.specs.Refusal.{WayRefused, RelationRefused, BodyRefused, SetReason}
 use Rattle.o5_codec.proofs.AnswerSteps.{read_next, not_refused}
 use Rattle.o5_codec.proofs.NumberLaws.{number_found, number_only, signed_found, signed_only}
 use Rattle.o5_codec.proofs.StringLaws.{inline_found, inline_only, strings_found, strings_only}
-use Rattle.o5_codec.proofs.StepLaws.{moved_found, moved_only, version_found, version_only, meta_found, meta_only, tag_found, tag_only, reference_found, reference_only, member_found, member_only, items_found, items_only, section_found, section_only}
+use Rattle.o5_codec.proofs.StepLaws.{moved_found, moved_only, version_found, version_only, meta_found, meta_only, tag_found, tag_only}
+use Rattle.o5_codec.proofs.StepLaws.{reference_found, reference_only, member_found, member_only, items_found, items_only, section_found}
+use Rattle.o5_codec.proofs.StepLaws.{section_only}
 
 abbrev Same : Type 0 → Type 0 → Type 0
 Same P Q = (P → Q) × (Q → P)
@@ -34,18 +44,23 @@ Same P Q = (P → Q) × (Q → P)
 pub same_reason : {X : Type 0} (a b : O5Reason) → (let refused : Result X O5Reason = Err a in refused ≡ Err b) → a ≡ b
 same_reason a b h = cc
 
-then_found : {X Y : Type 0} (reading : Result X O5Reason) (next : X → Result Y O5Reason) (reason : O5Reason) (first : Type 0) (Stands later : X → Type 0) →
-    (reading ≡ Err reason → first) → ((x : X) → reading ≡ Ok x → Stands x) → ((x : X) → next x ≡ Err reason → later x) → and_then reading next ≡ Err reason → Then first Stands later
+then_found : {X Y : Type 0} (reading : Result X O5Reason) (next : X → Result Y O5Reason) (reason : O5Reason) (first : Type 0)
+    (Stands later : X → Type 0) →
+    (reading ≡ Err reason → first) → ((x : X) → reading ≡ Ok x → Stands x) → ((x : X) → next x ≡ Err reason → later x) →
+    and_then reading next ≡ Err reason → Then first Stands later
 then_found (Ok x) next reason first Stands later refused found behind h = inr (x, found x refl, behind x h)
 then_found (Err f) next reason first Stands later refused found behind h = inl (refused (ap (λ e. Err e) (same_reason f reason h)))
 
-then_only : {X Y : Type 0} (reading : Result X O5Reason) (next : X → Result Y O5Reason) (reason : O5Reason) (first : Type 0) (Stands later : X → Type 0) →
-    (first → reading ≡ Err reason) → ((x : X) → Stands x → reading ≡ Ok x) → ((x : X) → later x → next x ≡ Err reason) → Then first Stands later → and_then reading next ≡ Err reason
+then_only : {X Y : Type 0} (reading : Result X O5Reason) (next : X → Result Y O5Reason) (reason : O5Reason) (first : Type 0)
+    (Stands later : X → Type 0) →
+    (first → reading ≡ Err reason) → ((x : X) → Stands x → reading ≡ Ok x) → ((x : X) → later x → next x ≡ Err reason) →
+    Then first Stands later → and_then reading next ≡ Err reason
 then_only reading next reason first Stands later refused only behind (inl h) = ap (λ r. and_then r next) (refused h)
 then_only reading next reason first Stands later refused only behind (inr h) = read_next reading next h.0 (only h.0 h.1) ∙ behind h.0 h.2
 
 -- one step, then those behind it
-then_same : {X Y : Type 0} (reading : Result X O5Reason) (next : X → Result Y O5Reason) (reason : O5Reason) (first : Type 0) (Stands later : X → Type 0) →
+then_same : {X Y : Type 0} (reading : Result X O5Reason) (next : X → Result Y O5Reason) (reason : O5Reason) (first : Type 0)
+    (Stands later : X → Type 0) →
     Same (reading ≡ Err reason) first → ((x : X) → Same (reading ≡ Ok x) (Stands x)) → ((x : X) → Same (next x ≡ Err reason) (later x)) →
     Same (and_then reading next ≡ Err reason) (Then first Stands later)
 then_same reading next reason first Stands later refused stands behind = (
@@ -57,10 +72,14 @@ then_same reading next reason first Stands later refused stands behind = (
 last_same : {X Y : Type 0} (reading : Result X O5Reason) (value : X → Y) (reason : O5Reason) (first : Type 0) →
     Same (reading ≡ Err reason) first → Same (and_then reading (λ x. Ok (value x)) ≡ Err reason) first
 last_same (Ok x) value reason first refused = (λ h. cc, λ f. absurd (not_refused (Ok x) x reason refl (refused.1 f)))
-last_same (Err f) value reason first refused = (λ h. refused.0 (ap (λ e. Err e) (same_reason f reason h)), λ g. ap (λ e. Err e) (same_reason f reason (refused.1 g)))
+last_same (Err f) value reason first refused = (
+  λ h. refused.0 (ap (λ e. Err e) (same_reason f reason h)),
+  λ g. ap (λ e. Err e) (same_reason f reason (refused.1 g)),
+)
 
 -- a step with one reason is refused where nothing stands
-only_reason : {X : Type 0} (reading : Result X O5Reason) (only reason : O5Reason) (Stands : X → Type 0) → ((f : O5Reason) → reading ≡ Err f → f ≡ only) →
+only_reason : {X : Type 0} (reading : Result X O5Reason) (only reason : O5Reason) (Stands : X → Type 0) →
+    ((f : O5Reason) → reading ≡ Err f → f ≡ only) →
     ((x : X) → Same (reading ≡ Ok x) (Stands x)) → Same (reading ≡ Err reason) ((reason ≡ only) × Nothing Stands)
 only_reason (Ok x) only reason Stands single stands = (λ h. cc, λ h. absurd (h.1 x ((stands x).0 refl)))
 only_reason (Err f) only reason Stands single stands =
@@ -70,12 +89,14 @@ low_reason : (low : ℕ) (r : Result (ℕ × List ℕ) O5Reason) (f : O5Reason) 
 low_reason low (Ok x) f h = cc
 low_reason low (Err e) f h = ap (λ g. Err g) (same_reason e f h)
 
-within_reason : (r : Result (ℕ × List ℕ) O5Reason) (f : O5Reason) → ((g : O5Reason) → r ≡ Err g → g ≡ BadNumber) → and_then r within_word ≡ Err f → f ≡ BadNumber
+within_reason : (r : Result (ℕ × List ℕ) O5Reason) (f : O5Reason) → ((g : O5Reason) → r ≡ Err g → g ≡ BadNumber) →
+    and_then r within_word ≡ Err f → f ≡ BadNumber
 within_reason (Ok x) f single h =
     elim (ltb x.0 (2 ^ 64)) as (λ t. (if t then Ok x else Err BadNumber) ≡ Err f → f ≡ BadNumber) [ true ↦ λ e. cc | false ↦ λ e. cc ] h
 within_reason (Err e) f single h = single f (ap (λ g. Err g) (same_reason e f h))
 
-value_reason : {X Y : Type 0} {only : O5Reason} (r : Result X O5Reason) (value : X → Y) (f : O5Reason) → ((g : O5Reason) → r ≡ Err g → g ≡ only) → and_then r (λ x. Ok (value x)) ≡ Err f → f ≡ only
+value_reason : {X Y : Type 0} {only : O5Reason} (r : Result X O5Reason) (value : X → Y) (f : O5Reason) →
+    ((g : O5Reason) → r ≡ Err g → g ≡ only) → and_then r (λ x. Ok (value x)) ≡ Err f → f ≡ only
 value_reason (Ok x) value f single h = cc
 value_reason (Err e) value f single h = single f (ap (λ g. Err g) (same_reason e f h))
 
@@ -114,7 +135,8 @@ ended_reason : (bytes : List ℕ) (place : Option ℕ) (f : O5Reason) → ended_
 ended_reason bytes None f h = sym (same_reason BadText f h)
 ended_reason bytes (Some end) f h = cc
 
-next_reason : {X Y : Type 0} {only : O5Reason} (r : Result X O5Reason) (next : X → Result Y O5Reason) (f : O5Reason) → ((g : O5Reason) → r ≡ Err g → g ≡ only) →
+next_reason : {X Y : Type 0} {only : O5Reason} (r : Result X O5Reason) (next : X → Result Y O5Reason) (f : O5Reason) →
+    ((g : O5Reason) → r ≡ Err g → g ≡ only) →
     ((x : X) → next x ≡ Err f → f ≡ only) → and_then r next ≡ Err f → f ≡ only
 next_reason (Ok x) next f single behind h = behind x h
 next_reason (Err e) next f single behind h = single f (ap (λ g. Err g) (same_reason e f h))
@@ -125,12 +147,15 @@ string_reason bytes f h = ended_reason bytes _ f h
 
 inline_reason : (form : Form) (bytes : List ℕ) (f : O5Reason) → inline_at form bytes ≡ Err f → f ≡ BadText
 unfolding inline_at
-inline_reason Pair bytes f h = next_reason (string_at bytes) _ f (string_reason bytes) (λ x e. value_reason (string_at x.1) _ f (string_reason x.1) e) h
+inline_reason Pair bytes f h = next_reason (string_at bytes) _ f (string_reason bytes)
+    (λ x e. value_reason (string_at x.1) _ f (string_reason x.1) e) h
 inline_reason Single bytes f h = value_reason (string_at bytes) _ f (string_reason bytes) h
 
-inline_refused : (form : Form) (bytes : List ℕ) (reason : O5Reason) → Same (inline_at form bytes ≡ Err reason) (InlineRefused form bytes reason)
+inline_refused : (form : Form) (bytes : List ℕ) (reason : O5Reason) →
+    Same (inline_at form bytes ≡ Err reason) (InlineRefused form bytes reason)
 inline_refused form bytes reason =
-    only_reason (inline_at form bytes) BadText reason (InlineStands form bytes) (inline_reason form bytes) (λ x. (inline_found form bytes x, inline_only form bytes x))
+    only_reason (inline_at form bytes) BadText reason (InlineStands form bytes) (inline_reason form bytes)
+    (λ x. (inline_found form bytes x, inline_only form bytes x))
 
 abbrev with_table_and : List Entry → List ℕ → Entry → Result (Entry × List Entry × List ℕ) O5Reason
 with_table_and table rest e = Ok (e, table, rest)
@@ -150,7 +175,8 @@ missing table rest None reason = (λ h. (refl, sym (same_reason BadReference rea
 missing table rest (Some e) reason = (λ h. cc, λ h. (let clash = h.0 in cc))
 
 -- a value that is made between two steps
-joined : {X Y Z : Type 0} (r : Result X O5Reason) (value : X → Y) (next : Y → Result Z O5Reason) → and_then (and_then r (λ x. Ok (value x))) next ≡ and_then r (λ x. next (value x))
+joined : {X Y Z : Type 0} (r : Result X O5Reason) (value : X → Y) (next : Y → Result Z O5Reason) →
+    and_then (and_then r (λ x. Ok (value x))) next ≡ and_then r (λ x. next (value x))
 joined (Ok x) value next = refl
 joined (Err e) value next = refl
 
@@ -159,22 +185,26 @@ inline_first : (r : Result (Entry × List ℕ) O5Reason) (table : List Entry) (r
 inline_first (Ok x) table reason h = cc
 inline_first (Err e) table reason h = ap (λ f. Err f) (same_reason e reason h)
 
-inline_again : (form : Form) (table : List Entry) (bytes : List ℕ) (reason : O5Reason) {Q : Type 0} → ((true ≡ true) × InlineRefused form bytes reason) ⊎ ((true ≡ false) × Q) →
+inline_again : (form : Form) (table : List Entry) (bytes : List ℕ) (reason : O5Reason) {Q : Type 0} →
+    ((true ≡ true) × InlineRefused form bytes reason) ⊎ ((true ≡ false) × Q) →
     (InlineRefused form bytes reason → inline_at form bytes ≡ Err reason) →
     and_then (and_then (inline_at form bytes) inline_of) (resolved table) ≡ Err reason
 inline_again form table bytes reason (inl s) again = rw (again s.1) refl
 inline_again form table bytes reason (inr s) again = (let clash = s.0 in cc)
 
-reference_again : (table : List Entry) (bytes : List ℕ) (reason : O5Reason) {P Q : Type 0} → ((false ≡ true) × P) ⊎ ((false ≡ false) × ReferenceMissing table bytes reason) →
+reference_again : (table : List Entry) (bytes : List ℕ) (reason : O5Reason) {P Q : Type 0} →
+    ((false ≡ true) × P) ⊎ ((false ≡ false) × ReferenceMissing table bytes reason) →
     (ReferenceMissing table bytes reason → Q) → Q
 reference_again table bytes reason (inl s) again = absurd (false≢true s.0)
 reference_again table bytes reason (inr s) again = again s.1
 
-strings_refused : (form : Form) (table : List Entry) (bytes : List ℕ) (reason : O5Reason) → Same (strings_at form table bytes ≡ Err reason) (StringsRefused form table bytes reason)
+strings_refused : (form : Form) (table : List Entry) (bytes : List ℕ) (reason : O5Reason) →
+    Same (strings_at form table bytes ≡ Err reason) (StringsRefused form table bytes reason)
 unfolding strings_at spelled_at
 strings_refused form table [] reason = (λ h. sym (same_reason BadText reason h), λ h. ap (λ e. Err e) (sym h))
 strings_refused form table (b ∷ bytes) reason =
-    let behind : Spelled × List ℕ → Result (Entry × List Entry × List ℕ) O5Reason = λ x. and_then (strings_of table x.0) (λ e. Ok (e, table_after x.0 table, x.1)) in
+    let behind : Spelled × List ℕ → Result (Entry × List Entry × List ℕ) O5Reason =
+    λ x. and_then (strings_of table x.0) (λ e. Ok (e, table_after x.0 table, x.1)) in
     let inline : Result (Spelled × List ℕ) O5Reason = and_then (inline_at form bytes) (λ y. Ok (Inline y.0, y.1)) in
     let reference : Result (Spelled × List ℕ) O5Reason = and_then (number_at (b ∷ bytes)) (λ y. Ok (Reference y.0, y.1)) in
     elim (eqb b 0) as (λ t. Same (and_then (if t then inline else reference) behind ≡ Err reason)
@@ -183,20 +213,23 @@ strings_refused form table (b ∷ bytes) reason =
         λ h. inl (refl, r.0 (inline_first (inline_at form bytes) table reason h)),
         λ s. inline_again form table bytes reason s r.1,
       ))
-      | false ↦ (let r = then_same (number_at (b ∷ bytes)) (λ y. behind (Reference y.0, y.1)) reason (NumberRefused (b ∷ bytes) reason) (NumberStands (b ∷ bytes)) (λ x. (entry_at table x.0 ≡ None) × (reason ≡ BadReference))
+      | false ↦ (let r = then_same (number_at (b ∷ bytes)) (λ y. behind (Reference y.0, y.1)) reason (NumberRefused (b ∷ bytes) reason)
+          (NumberStands (b ∷ bytes)) (λ x. (entry_at table x.0 ≡ None) × (reason ≡ BadReference))
           (number_refused (b ∷ bytes) reason) (number_same (b ∷ bytes)) (λ x. missing table x.1 (entry_at table x.0) reason) in
           let same = joined (number_at (b ∷ bytes)) (λ y. (Reference y.0, y.1)) behind in
           (λ h. inr (refl, r.0 (sym same ∙ h)), λ s. reference_again table (b ∷ bytes) reason s (λ m. same ∙ r.1 m)))
     ]
 
-strings_same : (form : Form) (table : List Entry) (bytes : List ℕ) (x : Entry × List Entry × List ℕ) → Same (strings_at form table bytes ≡ Ok x) (StringsStand form table bytes x)
+strings_same : (form : Form) (table : List Entry) (bytes : List ℕ) (x : Entry × List Entry × List ℕ) →
+    Same (strings_at form table bytes ≡ Ok x) (StringsStand form table bytes x)
 strings_same form table bytes x = (strings_found form table bytes x, strings_only form table bytes x)
 
 -- ---- steps
 moved_refused : {X : Type 0} (moved : ℤ → Result X O5Reason) (after : X → Segment) (bytes : List ℕ) (reason : O5Reason) →
     Same (and_then (signed_at bytes) (moved_on moved after) ≡ Err reason) (MovedRefused moved bytes reason)
 moved_refused moved after bytes reason =
-    then_same (signed_at bytes) (moved_on moved after) reason (SignedRefused bytes reason) (SignedStands bytes) (λ x. moved x.0 ≡ Err reason)
+    then_same (signed_at bytes) (moved_on moved after) reason (SignedRefused bytes reason) (SignedStands bytes)
+    (λ x. moved x.0 ≡ Err reason)
     (signed_refused bytes reason) (signed_same bytes) (λ x. last_same (moved x.0) _ reason _ (λ h. h, λ h. h))
 
 version_refused : (bytes : List ℕ) (reason : O5Reason) → Same (version_at bytes ≡ Err reason) (VersionRefused bytes reason)
@@ -208,22 +241,28 @@ version_refused bytes reason =
 user_refused : (s : Segment) (bytes : List ℕ) (reason : O5Reason) → Same (user_at s bytes ≡ Err reason) (UserRefused s bytes reason)
 unfolding user_at
 user_refused s bytes reason =
-    then_same (strings_at Pair s.table bytes) _ reason (StringsRefused Pair s.table bytes reason) (StringsStand Pair s.table bytes) (λ x. user_of x.0 ≡ Err reason)
+    then_same (strings_at Pair s.table bytes) _ reason (StringsRefused Pair s.table bytes reason) (StringsStand Pair s.table bytes)
+    (λ x. user_of x.0 ≡ Err reason)
     (strings_refused Pair s.table bytes reason) (strings_same Pair s.table bytes) (λ x. last_same (user_of x.0) _ reason _ (λ h. h, λ h. h))
 
-behind_refused : (changeset : ℕ) (s : Segment) (bytes : List ℕ) (reason : O5Reason) → Same (author_behind (changeset, s, bytes) ≡ Err reason) (BehindRefused s bytes reason)
+behind_refused : (changeset : ℕ) (s : Segment) (bytes : List ℕ) (reason : O5Reason) →
+    Same (author_behind (changeset, s, bytes) ≡ Err reason) (BehindRefused s bytes reason)
 unfolding author_behind
 behind_refused changeset s [] reason = (λ h. cc, λ h. absurd h)
 behind_refused changeset s (b ∷ bytes) reason = last_same (user_at s (b ∷ bytes)) _ reason _ (user_refused s (b ∷ bytes) reason)
 
-author_refused : (time : ℕ) (s : Segment) (bytes : List ℕ) (reason : O5Reason) → Same (author_at time s bytes ≡ Err reason) (AuthorRefused time s bytes reason)
+author_refused : (time : ℕ) (s : Segment) (bytes : List ℕ) (reason : O5Reason) →
+    Same (author_at time s bytes ≡ Err reason) (AuthorRefused time s bytes reason)
 unfolding author_at changeset_at
 author_refused time s bytes reason =
-    elim (eqb time 0) as (λ t. Same ((if t then Ok (author 0 0 [], s, bytes) else and_then (changeset_at s bytes) author_behind) ≡ Err reason)
-    ((t ≡ false) × Then (MovedRefused (moved_number s.bases.changeset) bytes reason) (ChangesetStands s bytes) (λ x. BehindRefused x.1 x.2 reason))) [
+    elim (eqb time 0) as (λ t. Same ((if t then Ok (author 0 0 [], s, bytes) else and_then (changeset_at s bytes) author_behind)
+    ≡ Err reason)
+    ((t ≡ false) × Then (MovedRefused (moved_number s.bases.changeset) bytes reason) (ChangesetStands s bytes)
+    (λ x. BehindRefused x.1 x.2 reason))) [
       | true ↦ (λ h. cc, λ h. (let clash = h.0 in cc))
       | false ↦ (let after : ℕ → Segment = λ c. with_bases s (record s.bases { changeset = c }) in
-          let r = then_same (changeset_at s bytes) author_behind reason (MovedRefused (moved_number s.bases.changeset) bytes reason) (ChangesetStands s bytes) (λ x. BehindRefused x.1 x.2 reason)
+          let r = then_same (changeset_at s bytes) author_behind reason (MovedRefused (moved_number s.bases.changeset) bytes reason)
+          (ChangesetStands s bytes) (λ x. BehindRefused x.1 x.2 reason)
           (moved_refused (moved_number s.bases.changeset) after bytes reason)
           (λ x. (moved_found (moved_number s.bases.changeset) after bytes x, moved_only (moved_number s.bases.changeset) after bytes x))
           (λ x. behind_refused x.0 x.1 x.2 reason) in
@@ -233,9 +272,11 @@ author_refused time s bytes reason =
 meta_refused : (s : Segment) (bytes : List ℕ) (reason : O5Reason) → Same (meta_at s bytes ≡ Err reason) (MetaRefused s bytes reason)
 unfolding meta_at time_at
 meta_refused s bytes reason =
-    then_same (version_at bytes) _ reason (VersionRefused bytes reason) (VersionStands bytes) _ (version_refused bytes reason) (λ v. (version_found bytes v, version_only bytes v)) (λ v.
+    then_same (version_at bytes) _ reason (VersionRefused bytes reason) (VersionStands bytes) _ (version_refused bytes reason)
+    (λ v. (version_found bytes v, version_only bytes v)) (λ v.
     let after : ℕ → Segment = λ time. with_bases s (record s.bases { time = time }) in
-    then_same (time_at s v.1) _ reason (MovedRefused (moved_number s.bases.time) v.1 reason) (TimeStands s v.1) _ (moved_refused (moved_number s.bases.time) after v.1 reason)
+    then_same (time_at s v.1) _ reason (MovedRefused (moved_number s.bases.time) v.1 reason) (TimeStands s v.1) _
+    (moved_refused (moved_number s.bases.time) after v.1 reason)
     (λ t. (moved_found (moved_number s.bases.time) after v.1 t, moved_only (moved_number s.bases.time) after v.1 t)) (λ t.
     last_same (author_at t.0 t.1 t.2) _ reason _ (author_refused t.0 t.1 t.2 reason)))
 
@@ -243,58 +284,77 @@ meta_refused s bytes reason =
 tag_refused : (s : Segment) (bytes : List ℕ) (reason : O5Reason) → Same (tag_at s bytes ≡ Err reason) (TagRefused s bytes reason)
 unfolding tag_at
 tag_refused s bytes reason =
-    then_same (strings_at Pair s.table bytes) _ reason (StringsRefused Pair s.table bytes reason) (StringsStand Pair s.table bytes) (λ x. tag_of x.0 ≡ Err reason)
+    then_same (strings_at Pair s.table bytes) _ reason (StringsRefused Pair s.table bytes reason) (StringsStand Pair s.table bytes)
+    (λ x. tag_of x.0 ≡ Err reason)
     (strings_refused Pair s.table bytes reason) (strings_same Pair s.table bytes) (λ x. last_same (tag_of x.0) _ reason _ (λ h. h, λ h. h))
 
-reference_refused : (s : Segment) (bytes : List ℕ) (reason : O5Reason) → Same (reference_at s bytes ≡ Err reason) (ReferenceRefused s bytes reason)
+reference_refused : (s : Segment) (bytes : List ℕ) (reason : O5Reason) →
+    Same (reference_at s bytes ≡ Err reason) (ReferenceRefused s bytes reason)
 unfolding reference_at
-reference_refused s bytes reason = moved_refused (moved_id s.bases.reference) (λ id. with_bases s (record s.bases { reference = id })) bytes reason
+reference_refused s bytes reason = moved_refused (moved_id s.bases.reference)
+    (λ id. with_bases s (record s.bases { reference = id })) bytes reason
 
 member_refused : (s : Segment) (bytes : List ℕ) (reason : O5Reason) → Same (member_at s bytes ≡ Err reason) (MemberRefused s bytes reason)
 unfolding member_at
 member_refused s bytes reason =
-    then_same (signed_at bytes) _ reason (SignedRefused bytes reason) (SignedStands bytes) _ (signed_refused bytes reason) (signed_same bytes) (λ d.
-    then_same (strings_at Single s.table d.1) _ reason (StringsRefused Single s.table d.1 reason) (StringsStand Single s.table d.1) _ (strings_refused Single s.table d.1 reason) (strings_same Single s.table d.1) (λ x.
+    then_same (signed_at bytes) _ reason (SignedRefused bytes reason) (SignedStands bytes) _ (signed_refused bytes reason)
+    (signed_same bytes) (λ d.
+    then_same (strings_at Single s.table d.1) _ reason (StringsRefused Single s.table d.1 reason) (StringsStand Single s.table d.1) _
+    (strings_refused Single s.table d.1 reason) (strings_same Single s.table d.1) (λ x.
     then_same (kind_and_role x.0.first) _ reason _ _ _ (λ h. h, λ h. h) (λ m. (λ h. h, λ h. h)) (λ m.
     then_same (with_member s.seen m.0) _ reason _ _ _ (λ h. h, λ h. h) (λ seen. (λ h. h, λ h. h)) (λ seen.
     then_same (moved_member s.bases m.0 d.0) _ reason _ _ _ (λ h. h, λ h. h) (λ id. (λ h. h, λ h. h)) (λ id.
     last_same (text_of m.1) _ reason _ (λ h. h, λ h. h))))))
 
-module _ {X : Type 0} (item_at : Segment → List ℕ → Step X) (Stands : Segment → List ℕ → X × Segment × List ℕ → Type 0) (Refused : Segment → List ℕ → O5Reason → Type 0)
+module _ {X : Type 0} (item_at : Segment → List ℕ → Step X) (Stands : Segment → List ℕ → X × Segment × List ℕ → Type 0)
+    (Refused : Segment → List ℕ → O5Reason → Type 0)
     (found : (s : Segment) (bytes : List ℕ) (x : X × Segment × List ℕ) → item_at s bytes ≡ Ok x → Stands s bytes x)
-    (only : (s : Segment) (bytes : List ℕ) (x : X × Segment × List ℕ) → Stands s bytes x → (item_at s bytes ≡ Ok x) × (length x.2 < length bytes))
-    (refused : (s : Segment) (bytes : List ℕ) (reason : O5Reason) → Same (item_at s bytes ≡ Err reason) (Refused s bytes reason)) (reason : O5Reason) where
-  up_to_refused : (most : ℕ) (s : Segment) (bytes : List ℕ) → length bytes ≤ most → items_up_to item_at most s bytes ≡ Err reason → ItemsRefused Stands Refused s bytes reason
+    (only : (s : Segment) (bytes : List ℕ) (x : X × Segment × List ℕ) → Stands s bytes x →
+    (item_at s bytes ≡ Ok x) × (length x.2 < length bytes))
+    (refused : (s : Segment) (bytes : List ℕ) (reason : O5Reason) → Same (item_at s bytes ≡ Err reason) (Refused s bytes reason))
+    (reason : O5Reason) where
+  up_to_refused : (most : ℕ) (s : Segment) (bytes : List ℕ) → length bytes ≤ most → items_up_to item_at most s bytes ≡ Err reason →
+      ItemsRefused Stands Refused s bytes reason
   unfolding items_up_to
   up_to_refused most s [] room h = cc
   up_to_refused zero s (b ∷ bytes) room h = absurd (omega arith)
   up_to_refused (suc most) s (b ∷ bytes) room h =
-      let next : X × Segment × List ℕ → Result (List X × Segment) O5Reason = λ x. and_then (items_up_to item_at most x.1 x.2) (λ more. Ok (x.0 ∷ more.0, more.1)) in
-      elim (then_found (item_at s (b ∷ bytes)) next reason (Refused s (b ∷ bytes) reason) (λ x. item_at s (b ∷ bytes) ≡ Ok x) (λ x. next x ≡ Err reason)
+      let next : X × Segment × List ℕ → Result (List X × Segment) O5Reason =
+      λ x. and_then (items_up_to item_at most x.1 x.2) (λ more. Ok (x.0 ∷ more.0, more.1)) in
+      elim (then_found (item_at s (b ∷ bytes)) next reason (Refused s (b ∷ bytes) reason) (λ x. item_at s (b ∷ bytes) ≡ Ok x)
+      (λ x. next x ≡ Err reason)
       ((refused s (b ∷ bytes) reason).0) (λ x e. e) (λ x e. e) h) [
         | inl first ↦ ([], (first, λ e. (let clash = e in cc)))
         | inr later ↦ (let x = later.0 in
             let stands = found s (b ∷ bytes) x later.1 in
             let shorter = (only s (b ∷ bytes) x stands).1 in
-            let more = up_to_refused most x.1 x.2 (omega arith) (((last_same (items_up_to item_at most x.1 x.2) _ reason _ (λ e. e, λ e. e)).0) later.2) in
+            let more = up_to_refused most x.1 x.2 (omega arith)
+            (((last_same (items_up_to item_at most x.1 x.2) _ reason _ (λ e. e, λ e. e)).0) later.2) in
             (x.0 ∷ more.0, (x.1, x.2, stands, more.1)))
       ]
 
-  up_to_again : (xs : List X) (most : ℕ) (s : Segment) (bytes : List ℕ) → length bytes ≤ most → RefusedBehind Stands Refused reason xs s bytes → items_up_to item_at most s bytes ≡ Err reason
+  up_to_again : (xs : List X) (most : ℕ) (s : Segment) (bytes : List ℕ) → length bytes ≤ most →
+      RefusedBehind Stands Refused reason xs s bytes → items_up_to item_at most s bytes ≡ Err reason
   unfolding items_up_to
   up_to_again [] most s [] room h = absurd (h.1 refl)
   up_to_again [] zero s (b ∷ bytes) room h = absurd (omega arith)
-  up_to_again [] (suc most) s (b ∷ bytes) room h = ap (λ r. and_then r (λ x. and_then (items_up_to item_at most x.1 x.2) (λ more. Ok (x.0 ∷ more.0, more.1)))) ((refused s (b ∷ bytes) reason).1 h.0)
+  up_to_again [] (suc most) s (b ∷ bytes) room h = ap
+      (λ r. and_then r (λ x. and_then (items_up_to item_at most x.1 x.2) (λ more. Ok (x.0 ∷ more.0, more.1))))
+      ((refused s (b ∷ bytes) reason).1 h.0)
   up_to_again (x ∷ xs) most s [] room h = absurd (let one = only s [] (x, h.0, h.1) h.2 in let short = one.1 in omega arith)
   up_to_again (x ∷ xs) zero s (b ∷ bytes) room h = absurd (omega arith)
   up_to_again (x ∷ xs) (suc most) s (b ∷ bytes) room h =
       let one = only s (b ∷ bytes) (x, h.0, h.1) h.2 in
       let short = one.1 in
-      read_next (item_at s (b ∷ bytes)) _ _ one.0 ∙ ap (λ r. and_then r (λ more. Ok (x ∷ more.0, more.1))) (up_to_again xs most h.0 h.1 (omega arith) h.3)
+      read_next (item_at s (b ∷ bytes)) _ _ one.0 ∙ ap (λ r. and_then r (λ more. Ok (x ∷ more.0, more.1)))
+      (up_to_again xs most h.0 h.1 (omega arith) h.3)
 
   items_refused : (s : Segment) (bytes : List ℕ) → Same (items_at item_at s bytes ≡ Err reason) (ItemsRefused Stands Refused s bytes reason)
   unfolding items_at
-  items_refused s bytes = (up_to_refused (length bytes) s bytes (omega arith), λ h. up_to_again h.0 (length bytes) s bytes (omega arith) h.1)
+  items_refused s bytes = (
+    up_to_refused (length bytes) s bytes (omega arith),
+    λ h. up_to_again h.0 (length bytes) s bytes (omega arith) h.1,
+  )
 
 tags_refused : (s : Segment) (bytes : List ℕ) (reason : O5Reason) → Same (items_at tag_at s bytes ≡ Err reason) (TagsRefused s bytes reason)
 tags_refused s bytes reason = items_refused tag_at TagStands TagRefused tag_found tag_only tag_refused reason s bytes
@@ -305,7 +365,8 @@ cut_by t x = if t then Ok (take x.0 x.1, drop x.0 x.1) else Err BadSection
 
 cut_refused : (x : ℕ × List ℕ) (reason : O5Reason) → Same (cut_at x ≡ Err reason) ((length x.1 < x.0) × (reason ≡ BadSection))
 cut_refused x reason =
-    elim (leb x.0 (length x.1)) as (λ t. leb x.0 (length x.1) ≡ t → Same (cut_by t x ≡ Err reason) ((length x.1 < x.0) × (reason ≡ BadSection))) [
+    elim (leb x.0 (length x.1)) as (λ t. leb x.0 (length x.1) ≡ t →
+    Same (cut_by t x ≡ Err reason) ((length x.1 < x.0) × (reason ≡ BadSection))) [
       | true ↦ λ t. (λ h. cc, λ h. (let inside : x.0 ≤ length x.1 = grind (arith, nat_tests) in let past = h.0 in absurd (omega arith)))
       | false ↦ λ t. (λ h. (grind (arith, nat_tests), sym (same_reason BadSection reason h)), λ h. ap (λ e. Err e) (sym h.1))
     ] refl
@@ -313,7 +374,8 @@ cut_refused x reason =
 section_refused : (bytes : List ℕ) (reason : O5Reason) → Same (section_at bytes ≡ Err reason) (SectionRefused bytes reason)
 unfolding section_at
 section_refused bytes reason =
-    then_same (number_at bytes) cut_at reason (NumberRefused bytes reason) (NumberStands bytes) (λ x. (length x.1 < x.0) × (reason ≡ BadSection))
+    then_same (number_at bytes) cut_at reason (NumberRefused bytes reason) (NumberStands bytes)
+    (λ x. (length x.1 < x.0) × (reason ≡ BadSection))
     (number_refused bytes reason) (number_same bytes) (λ x. cut_refused x reason)
 
 section_same : (bytes : List ℕ) (x : List ℕ × List ℕ) → Same (section_at bytes ≡ Ok x) (SectionStands bytes x)
@@ -323,33 +385,47 @@ node_refused : (s : Segment) (bytes : List ℕ) (reason : O5Reason) → Same (no
 unfolding node_at longitude_at latitude_at
 node_refused s bytes reason =
     let after : ℤ → Segment = λ v. with_bases s (record s.bases { lon = v }) in
-    then_same (longitude_at s bytes) _ reason _ (LongitudeStands s bytes) _ (moved_refused (moved_coordinate s.bases.lon) after bytes reason)
+    then_same (longitude_at s bytes) _ reason _ (LongitudeStands s bytes) _
+    (moved_refused (moved_coordinate s.bases.lon) after bytes reason)
     (λ x. (moved_found (moved_coordinate s.bases.lon) after bytes x, moved_only (moved_coordinate s.bases.lon) after bytes x)) (λ lon.
     let behind : ℤ → Segment = λ v. with_bases lon.1 (record lon.1.bases { lat = v }) in
-    then_same (latitude_at lon.1 lon.2) _ reason _ (LatitudeStands lon.1 lon.2) _ (moved_refused (moved_coordinate lon.1.bases.lat) behind lon.2 reason)
-    (λ x. (moved_found (moved_coordinate lon.1.bases.lat) behind lon.2 x, moved_only (moved_coordinate lon.1.bases.lat) behind lon.2 x)) (λ lat.
+    then_same (latitude_at lon.1 lon.2) _ reason _ (LatitudeStands lon.1 lon.2) _
+    (moved_refused (moved_coordinate lon.1.bases.lat) behind lon.2 reason)
+    (λ x. (moved_found (moved_coordinate lon.1.bases.lat) behind lon.2 x, moved_only (moved_coordinate lon.1.bases.lat) behind lon.2 x))
+    (λ lat.
     last_same (items_at tag_at lat.1 lat.2) _ reason _ (tags_refused lat.1 lat.2 reason)))
 
 way_refused : (s : Segment) (bytes : List ℕ) (reason : O5Reason) → Same (way_at s bytes ≡ Err reason) (WayRefused s bytes reason)
 unfolding way_at
 way_refused s bytes reason =
-    then_same (section_at bytes) _ reason (SectionRefused bytes reason) (SectionStands bytes) _ (section_refused bytes reason) (section_same bytes) (λ section.
+    then_same (section_at bytes) _ reason (SectionRefused bytes reason) (SectionStands bytes) _ (section_refused bytes reason)
+    (section_same bytes) (λ section.
     then_same (with_section s.seen section.0) _ reason _ _ _ (λ h. h, λ h. h) (λ seen. (λ h. h, λ h. h)) (λ seen.
     then_same (items_at reference_at (with_seen s seen) section.0) _ reason _ _ _
-    (items_refused reference_at ReferenceStands ReferenceRefused reference_found reference_only reference_refused reason (with_seen s seen) section.0)
-    (λ ids. (items_found reference_at ReferenceStands reference_found (with_seen s seen) section.0 ids, items_only reference_at ReferenceStands reference_only (with_seen s seen) section.0 ids.0 ids.1)) (λ ids.
+    (items_refused reference_at ReferenceStands ReferenceRefused reference_found reference_only reference_refused reason
+    (with_seen s seen) section.0)
+    (λ ids. (
+      items_found reference_at ReferenceStands reference_found (with_seen s seen) section.0 ids,
+      items_only reference_at ReferenceStands reference_only (with_seen s seen) section.0 ids.0 ids.1,
+    )) (λ ids.
     last_same (items_at tag_at ids.1 section.1) _ reason _ (tags_refused ids.1 section.1 reason))))
 
-relation_refused : (s : Segment) (bytes : List ℕ) (reason : O5Reason) → Same (relation_at s bytes ≡ Err reason) (RelationRefused s bytes reason)
+relation_refused : (s : Segment) (bytes : List ℕ) (reason : O5Reason) →
+    Same (relation_at s bytes ≡ Err reason) (RelationRefused s bytes reason)
 unfolding relation_at
 relation_refused s bytes reason =
-    then_same (section_at bytes) _ reason (SectionRefused bytes reason) (SectionStands bytes) _ (section_refused bytes reason) (section_same bytes) (λ section.
+    then_same (section_at bytes) _ reason (SectionRefused bytes reason) (SectionStands bytes) _ (section_refused bytes reason)
+    (section_same bytes) (λ section.
     then_same (items_at member_at s section.0) _ reason _ _ _
     (items_refused member_at MemberStands MemberRefused member_found member_only member_refused reason s section.0)
-    (λ members. (items_found member_at MemberStands member_found s section.0 members, items_only member_at MemberStands member_only s section.0 members.0 members.1)) (λ members.
+    (λ members. (
+      items_found member_at MemberStands member_found s section.0 members,
+      items_only member_at MemberStands member_only s section.0 members.0 members.1,
+    )) (λ members.
     last_same (items_at tag_at members.1 section.1) _ reason _ (tags_refused members.1 section.1 reason)))
 
-body_refused : (k : Kind) (s : Segment) (bytes : List ℕ) (reason : O5Reason) → Same (body_at k s bytes ≡ Err reason) (BodyRefused k s bytes reason)
+body_refused : (k : Kind) (s : Segment) (bytes : List ℕ) (reason : O5Reason) →
+    Same (body_at k s bytes ≡ Err reason) (BodyRefused k s bytes reason)
 unfolding body_at
 body_refused k s [] reason = (λ h. cc, λ h. absurd h)
 body_refused kind.Node s (b ∷ bytes) reason = node_refused s (b ∷ bytes) reason
@@ -357,11 +433,13 @@ body_refused kind.Way s (b ∷ bytes) reason = way_refused s (b ∷ bytes) reaso
 body_refused kind.Relation s (b ∷ bytes) reason = relation_refused s (b ∷ bytes) reason
 
 -- ---- whole data sets
-pub set_refused : (k : Kind) (s : Segment) (content : List ℕ) (reason : O5Reason) → Same (set_at k s content ≡ Err reason) (SetReason k s content reason)
+pub set_refused : (k : Kind) (s : Segment) (content : List ℕ) (reason : O5Reason) →
+    Same (set_at k s content ≡ Err reason) (SetReason k s content reason)
 unfolding set_at id_at
 set_refused k s content reason =
     let after : ℤ → Segment = λ v. with_bases s (record s.bases { id = v }) in
     then_same (id_at s content) _ reason _ (IdStands s content) _ (moved_refused (moved_id s.bases.id) after content reason)
     (λ x. (moved_found (moved_id s.bases.id) after content x, moved_only (moved_id s.bases.id) after content x)) (λ id.
-    then_same (meta_at id.1 id.2) _ reason (MetaRefused id.1 id.2 reason) (MetaStands id.1 id.2) _ (meta_refused id.1 id.2 reason) (λ m. (meta_found id.1 id.2 m, meta_only id.1 id.2 m)) (λ m.
+    then_same (meta_at id.1 id.2) _ reason (MetaRefused id.1 id.2 reason) (MetaStands id.1 id.2) _ (meta_refused id.1 id.2 reason)
+    (λ m. (meta_found id.1 id.2 m, meta_only id.1 id.2 m)) (λ m.
     last_same (body_at k m.1 m.2) _ reason _ (body_refused k m.1 m.2 reason)))

@@ -1,5 +1,6 @@
 -- A content is refused for a reason of its steps: never for want of memory, an earlier refusal or the end of a file.
-use Rattle.std.proofs.Common.{◌≡◌, ℕ, ℤ, pos, negsuc, zero, suc, ◌-◌, ◌^◌, Bool, true, eqb, leb, ltb, List, [], ◌∷◌, length, take, drop, Option, Some, None, refl, Result, Ok, Err, if◌then◌else◌}
+use Rattle.std.proofs.Common.{◌≡◌, ℕ, ℤ, pos, negsuc, zero, suc, ◌-◌, ◌^◌, Bool, true, eqb, leb, ltb, List, [], ◌∷◌, length, take, drop}
+use Rattle.std.proofs.Common.{Option, Some, None, refl, Result, Ok, Err, if◌then◌else◌}
 use Rattle.std.specs.Prelude.{unsigned_abs, position}
 use lib.IntN.{◌+ℤ◌}
 use Rattle.std.specs.Int.{w32, int_wrap}
@@ -27,14 +28,16 @@ use Rattle.o5_codec.specs.Strings.{is_zero, ended_at, string_at, inline_at, spel
 use Rattle.o5_codec.specs.Text.{text_of, tag_of, whole_number, uid_of, user_of}
 use Rattle.o5_codec.specs.Segment.{Step, id_at, numbered, version_at, time_at, changeset_at, user_at, author_behind, author_at, meta_at}
 use Rattle.o5_codec.specs.Items.{items_up_to, items_at}
-use Rattle.o5_codec.specs.Body.{with_seen, tag_at, longitude_at, latitude_at, node_at, cut_at, section_at, with_section, reference_at, way_at, member_kind, kind_and_role, with_member, moved_member, member_at, relation_at, body_at, set_at}
+use Rattle.o5_codec.specs.Body.{with_seen, tag_at, longitude_at, latitude_at, node_at, cut_at, section_at, with_section, reference_at}
+use Rattle.o5_codec.specs.Body.{way_at, member_kind, kind_and_role, with_member, moved_member, member_at, relation_at, body_at, set_at}
 
 -- where it is refused, for a reason of the steps
 abbrev pub Named : {X : Type 0} → Result X O5Reason → Type 0
 Named (Ok x) = Unit {0}
 Named (Err reason) = is_step_reason reason ≡ true
 
-named_then : {X Y : Type 0} (reading : Result X O5Reason) (next : X → Result Y O5Reason) → Named reading → ((x : X) → Named (next x)) → Named (and_then reading next)
+named_then : {X Y : Type 0} (reading : Result X O5Reason) (next : X → Result Y O5Reason) → Named reading → ((x : X) → Named (next x)) →
+    Named (and_then reading next)
 named_then (Ok x) next first later = later x
 named_then (Err reason) next first later = first
 
@@ -54,11 +57,13 @@ groups_named : (room : ℕ) (bytes : List ℕ) → Named (groups_at room bytes)
 unfolding groups_at
 groups_named zero bytes = refl
 groups_named (suc room) [] = refl
-groups_named (suc room) (b ∷ bytes) = named_if (ltb b 128) (Ok (b, bytes)) (with_low (b - 128) (groups_at room bytes)) tt (low_named (b - 128) _ (groups_named room bytes))
+groups_named (suc room) (b ∷ bytes) = named_if (ltb b 128) (Ok (b, bytes)) (with_low (b - 128) (groups_at room bytes)) tt
+    (low_named (b - 128) _ (groups_named room bytes))
 
 number_named : (bytes : List ℕ) → Named (number_at bytes)
 unfolding number_at
-number_named bytes = named_then (groups_at 10 bytes) within_word (groups_named 10 bytes) (λ x. named_if (ltb x.0 (2 ^ 64)) (Ok x) (Err BadNumber) tt refl)
+number_named bytes = named_then (groups_at 10 bytes) within_word (groups_named 10 bytes)
+    (λ x. named_if (ltb x.0 (2 ^ 64)) (Ok x) (Err BadNumber) tt refl)
 
 signed_named : (bytes : List ℕ) → Named (signed_at bytes)
 unfolding signed_at
@@ -76,7 +81,8 @@ within_named (pos n) = range_named n
 within_named (negsuc n) = refl
 
 coordinate_named : (base difference : ℤ) → Named (moved_coordinate base difference)
-coordinate_named base difference = named_if (ltb (unsigned_abs difference) (2 ^ 32)) (Ok (int_wrap w32 (base +ℤ difference))) (Err OutOfRange) tt refl
+coordinate_named base difference = named_if (ltb (unsigned_abs difference) (2 ^ 32)) (Ok (int_wrap w32 (base +ℤ difference)))
+    (Err OutOfRange) tt refl
 
 text_named : (bytes : List ℕ) → Named (text_of bytes)
 unfolding text_of
@@ -117,7 +123,8 @@ spelled_named : (form : Form) (bytes : List ℕ) → Named (spelled_at form byte
 unfolding spelled_at
 spelled_named form [] = refl
 spelled_named form (b ∷ bytes) =
-    named_if (eqb b 0) (and_then (inline_at form bytes) (λ x. Ok (Inline x.0, x.1))) (and_then (number_at (b ∷ bytes)) (λ x. Ok (Reference x.0, x.1)))
+    named_if (eqb b 0) (and_then (inline_at form bytes) (λ x. Ok (Inline x.0, x.1)))
+    (and_then (number_at (b ∷ bytes)) (λ x. Ok (Reference x.0, x.1)))
     (named_last (inline_at form bytes) _ (inline_named form bytes)) (named_last (number_at (b ∷ bytes)) _ (number_named (b ∷ bytes)))
 
 referred_named : (o : Option Entry) → Named (referred o)
@@ -130,11 +137,14 @@ strings_of_named table (Reference n) = referred_named (entry_at table n)
 
 strings_named : (form : Form) (table : List Entry) (bytes : List ℕ) → Named (strings_at form table bytes)
 unfolding strings_at
-strings_named form table bytes = named_then (spelled_at form bytes) _ (spelled_named form bytes) (λ x. named_last (strings_of table x.0) _ (strings_of_named table x.0))
+strings_named form table bytes = named_then (spelled_at form bytes) _ (spelled_named form bytes)
+    (λ x. named_last (strings_of table x.0) _ (strings_of_named table x.0))
 
 -- ---- steps
-moved_named : {X : Type 0} (moved : ℤ → Result X O5Reason) (after : X → Segment) (bytes : List ℕ) → ((difference : ℤ) → Named (moved difference)) →
-    Named (and_then (signed_at bytes) (λ x. and_then (moved x.0) (λ v. let made : Result (X × Segment × List ℕ) O5Reason = Ok (v, after v, x.1) in made)))
+moved_named : {X : Type 0} (moved : ℤ → Result X O5Reason) (after : X → Segment) (bytes : List ℕ) →
+    ((difference : ℤ) → Named (moved difference)) →
+    Named (and_then (signed_at bytes) (λ x. and_then (moved x.0)
+    (λ v. let made : Result (X × Segment × List ℕ) O5Reason = Ok (v, after v, x.1) in made)))
 moved_named moved after bytes h = named_then (signed_at bytes) _ (signed_named bytes) (λ x. named_last (moved x.0) _ (h x.0))
 
 id_step_named : (s : Segment) (bytes : List ℕ) → Named (id_at s bytes)
@@ -142,7 +152,8 @@ unfolding id_at
 id_step_named s bytes = moved_named (moved_id s.bases.id) _ bytes (id_named s.bases.id)
 
 numbered_named : (x : ℕ × List ℕ) → Named (numbered x)
-numbered_named x = named_if (eqb x.0 0) (Err NoVersion) (and_then (within_range x.0) (λ n. Ok (n, x.1))) refl (named_last (within_range x.0) _ (range_named x.0))
+numbered_named x = named_if (eqb x.0 0) (Err NoVersion) (and_then (within_range x.0) (λ n. Ok (n, x.1))) refl
+    (named_last (within_range x.0) _ (range_named x.0))
 
 version_named : (bytes : List ℕ) → Named (version_at bytes)
 unfolding version_at
@@ -154,11 +165,13 @@ time_named s bytes = moved_named (moved_number s.bases.time) _ bytes (λ differe
 
 changeset_named : (s : Segment) (bytes : List ℕ) → Named (changeset_at s bytes)
 unfolding changeset_at
-changeset_named s bytes = moved_named (moved_number s.bases.changeset) _ bytes (λ difference. within_named (pos s.bases.changeset +ℤ difference))
+changeset_named s bytes = moved_named (moved_number s.bases.changeset) _ bytes
+    (λ difference. within_named (pos s.bases.changeset +ℤ difference))
 
 user_named : (s : Segment) (bytes : List ℕ) → Named (user_at s bytes)
 unfolding user_at
-user_named s bytes = named_then (strings_at Pair s.table bytes) _ (strings_named Pair s.table bytes) (λ x. named_last (user_of x.0) _ (user_of_named x.0))
+user_named s bytes = named_then (strings_at Pair s.table bytes) _ (strings_named Pair s.table bytes)
+    (λ x. named_last (user_of x.0) _ (user_of_named x.0))
 
 behind_named : (x : ℕ × Segment × List ℕ) → Named (author_behind x)
 unfolding author_behind
@@ -167,17 +180,20 @@ behind_named (changeset, s, b ∷ bytes) = named_last (user_at s (b ∷ bytes)) 
 
 author_named : (time : ℕ) (s : Segment) (bytes : List ℕ) → Named (author_at time s bytes)
 unfolding author_at
-author_named time s bytes = named_if (eqb time 0) _ (and_then (changeset_at s bytes) author_behind) tt (named_then (changeset_at s bytes) author_behind (changeset_named s bytes) behind_named)
+author_named time s bytes = named_if (eqb time 0) _ (and_then (changeset_at s bytes) author_behind) tt
+    (named_then (changeset_at s bytes) author_behind (changeset_named s bytes) behind_named)
 
 meta_named : (s : Segment) (bytes : List ℕ) → Named (meta_at s bytes)
 unfolding meta_at
 meta_named s bytes =
-    named_then (version_at bytes) _ (version_named bytes) (λ v. named_then (time_at s v.1) _ (time_named s v.1) (λ t. named_last (author_at t.0 t.1 t.2) _ (author_named t.0 t.1 t.2)))
+    named_then (version_at bytes) _ (version_named bytes)
+    (λ v. named_then (time_at s v.1) _ (time_named s v.1) (λ t. named_last (author_at t.0 t.1 t.2) _ (author_named t.0 t.1 t.2)))
 
 -- ---- items
 tag_named : (s : Segment) (bytes : List ℕ) → Named (tag_at s bytes)
 unfolding tag_at
-tag_named s bytes = named_then (strings_at Pair s.table bytes) _ (strings_named Pair s.table bytes) (λ x. named_last (tag_of x.0) _ (tag_of_named x.0))
+tag_named s bytes = named_then (strings_at Pair s.table bytes) _ (strings_named Pair s.table bytes)
+    (λ x. named_last (tag_of x.0) _ (tag_of_named x.0))
 
 reference_named : (s : Segment) (bytes : List ℕ) → Named (reference_at s bytes)
 unfolding reference_at
@@ -185,7 +201,8 @@ reference_named s bytes = moved_named (moved_id s.bases.reference) _ bytes (id_n
 
 member_kind_named : (b : ℕ) → Named (member_kind b)
 member_kind_named b =
-    named_if (eqb b 48) (Ok kind.Node) _ tt (named_if (eqb b 49) (Ok kind.Way) _ tt (named_if (eqb b 50) (Ok kind.Relation) (Err BadMemberType) tt refl))
+    named_if (eqb b 48) (Ok kind.Node) _ tt (named_if (eqb b 49) (Ok kind.Way) _ tt
+    (named_if (eqb b 50) (Ok kind.Relation) (Err BadMemberType) tt refl))
 
 kind_named : (bytes : List ℕ) → Named (kind_and_role bytes)
 kind_named [] = refl
@@ -201,7 +218,8 @@ with_member_named seen kind.Relation = tt
 moved_member_named : (bases : Bases) (k : Kind) (difference : ℤ) → Named (moved_member bases k difference)
 moved_member_named bases kind.Node difference = named_last (moved_id bases.node_member difference) _ (id_named bases.node_member difference)
 moved_member_named bases kind.Way difference = named_last (moved_id bases.way_member difference) _ (id_named bases.way_member difference)
-moved_member_named bases kind.Relation difference = named_last (moved_id bases.relation_member difference) _ (id_named bases.relation_member difference)
+moved_member_named bases kind.Relation difference =
+    named_last (moved_id bases.relation_member difference) _ (id_named bases.relation_member difference)
 
 member_named : (s : Segment) (bytes : List ℕ) → Named (member_at s bytes)
 unfolding member_at
@@ -220,7 +238,8 @@ module _ {X : Type 0} (item_at : Segment → List ℕ → Step X) (step : (s : S
   up_to_named (suc most) s [] = tt
   up_to_named zero s (b ∷ bytes) = refl
   up_to_named (suc most) s (b ∷ bytes) =
-      named_then (item_at s (b ∷ bytes)) _ (step s (b ∷ bytes)) (λ x. named_last (items_up_to item_at most x.1 x.2) _ (up_to_named most x.1 x.2))
+      named_then (item_at s (b ∷ bytes)) _ (step s (b ∷ bytes))
+      (λ x. named_last (items_up_to item_at most x.1 x.2) _ (up_to_named most x.1 x.2))
 
   items_named : (s : Segment) (bytes : List ℕ) → Named (items_at item_at s bytes)
   unfolding items_at
@@ -242,11 +261,13 @@ node_named : (s : Segment) (bytes : List ℕ) → Named (node_at s bytes)
 unfolding node_at
 node_named s bytes =
     named_then (longitude_at s bytes) _ (longitude_named s bytes) (λ lon.
-    named_then (latitude_at lon.1 lon.2) _ (latitude_named lon.1 lon.2) (λ lat. named_last (items_at tag_at lat.1 lat.2) _ (tags_named lat.1 lat.2)))
+    named_then (latitude_at lon.1 lon.2) _ (latitude_named lon.1 lon.2)
+    (λ lat. named_last (items_at tag_at lat.1 lat.2) _ (tags_named lat.1 lat.2)))
 
 section_named : (bytes : List ℕ) → Named (section_at bytes)
 unfolding section_at
-section_named bytes = named_then (number_at bytes) cut_at (number_named bytes) (λ x. named_if (leb x.0 (length x.1)) (Ok (take x.0 x.1, drop x.0 x.1)) (Err BadSection) tt refl)
+section_named bytes = named_then (number_at bytes) cut_at (number_named bytes)
+    (λ x. named_if (leb x.0 (length x.1)) (Ok (take x.0 x.1, drop x.0 x.1)) (Err BadSection) tt refl)
 
 with_section_named : (seen : ListsSeen) (section : List ℕ) → Named (with_section seen section)
 with_section_named seen [] = tt
@@ -257,14 +278,16 @@ with_section_named NodeMembers (b ∷ section) = refl
 way_named : (s : Segment) (bytes : List ℕ) → Named (way_at s bytes)
 unfolding way_at
 way_named s bytes =
-    named_then (section_at bytes) _ (section_named bytes) (λ x. named_then (with_section s.seen x.0) _ (with_section_named s.seen x.0) (λ seen.
+    named_then (section_at bytes) _ (section_named bytes)
+    (λ x. named_then (with_section s.seen x.0) _ (with_section_named s.seen x.0) (λ seen.
     named_then (items_at reference_at (with_seen s seen) x.0) _ (items_named reference_at reference_named (with_seen s seen) x.0) (λ ids.
     named_last (items_at tag_at ids.1 x.1) _ (tags_named ids.1 x.1))))
 
 relation_named : (s : Segment) (bytes : List ℕ) → Named (relation_at s bytes)
 unfolding relation_at
 relation_named s bytes =
-    named_then (section_at bytes) _ (section_named bytes) (λ x. named_then (items_at member_at s x.0) _ (items_named member_at member_named s x.0) (λ members.
+    named_then (section_at bytes) _ (section_named bytes)
+    (λ x. named_then (items_at member_at s x.0) _ (items_named member_at member_named s x.0) (λ members.
     named_last (items_at tag_at members.1 x.1) _ (tags_named members.1 x.1)))
 
 body_named : (k : Kind) (s : Segment) (bytes : List ℕ) → Named (body_at k s bytes)
@@ -277,4 +300,5 @@ body_named kind.Relation s (b ∷ bytes) = relation_named s (b ∷ bytes)
 pub set_named : (k : Kind) (s : Segment) (content : List ℕ) → Named (set_at k s content)
 unfolding set_at
 set_named k s content =
-    named_then (id_at s content) _ (id_step_named s content) (λ x. named_then (meta_at x.1 x.2) _ (meta_named x.1 x.2) (λ m. named_last (body_at k m.1 m.2) _ (body_named k m.1 m.2)))
+    named_then (id_at s content) _ (id_step_named s content)
+    (λ x. named_then (meta_at x.1 x.2) _ (meta_named x.1 x.2) (λ m. named_last (body_at k m.1 m.2) _ (body_named k m.1 m.2)))

@@ -22,7 +22,8 @@ last_group n = refl
 
 groups_least : (more n : ℕ) (bytes : List ℕ) → All (λ b. b < 256) bytes → AreGroups bytes n → length (groups_of more n) ≤ length bytes
 groups_least more n [] bound groups = absurd groups
-groups_least more n (b ∷ []) bound groups = let one = one_group more n (let e : n ≡ b = groups.1 in let low : b < 128 = groups.0 in omega arith) in omega arith
+groups_least more n (b ∷ []) bound groups = let one =
+    one_group more n (let e : n ≡ b = groups.1 in let low : b < 128 = groups.0 in omega arith) in omega arith
 groups_least zero n (b ∷ c ∷ bytes) bound groups = let one = last_group n in omega arith
 groups_least (suc more) n (b ∷ c ∷ bytes) bound groups = elim (cases_lt n 128) [
   | inl small ↦ (let one = one_group (suc more) n small in omega arith)
@@ -32,7 +33,8 @@ groups_least (suc more) n (b ∷ c ∷ bytes) bound groups = elim (cases_lt n 12
       let sum : n + 128 ≡ b + 128 * high = groups.1.1 in
       let same : high ≡ n / 128 = omega arith in
       let rest : length (groups_of more (n / 128)) ≤ length (c ∷ bytes) =
-      groups_least more (n / 128) (c ∷ bytes) (λ k d inside. bound (suc k) d (omega arith)) (subst (AreGroups (c ∷ bytes)) same groups.1.2) in
+      groups_least more (n / 128) (c ∷ bytes) (λ k d inside. bound (suc k) d (omega arith))
+      (subst (AreGroups (c ∷ bytes)) same groups.1.2) in
       let both = more_groups more n big in omega arith)
 ]
 

@@ -1,5 +1,6 @@
 -- The loop of the writer of numbers: what is written, and what is left, are the whole number.
-use Rattle.std.proofs.Common.{◌≡◌, ℕ, zero, suc, length, take, slice_set, ◌+◌, ◌-◌, ◌*◌, ◌/◌, ◌%◌, ◌<◌, ◌≤◌, ◌^◌, List, [], ◌∷◌, ◌++◌, refl, ap, sym, ◌∙◌, arith, append_assoc, subst, inl, inr}
+use Rattle.std.proofs.Common.{◌≡◌, ℕ, zero, suc, length, take, slice_set, ◌+◌, ◌-◌, ◌*◌, ◌/◌, ◌%◌, ◌<◌, ◌≤◌, ◌^◌, List, [], ◌∷◌, ◌++◌, refl}
+use Rattle.std.proofs.Common.{ap, sym, ◌∙◌, arith, append_assoc, subst, inl, inr}
 use Rattle.std.proofs.Math.Nat.{mul-le-mul_right}
 use Rattle.std.proofs.lemmas.Bool.{le-ltb, lt-ltb, cases_lt}
 use Rattle.std.proofs.lemmas.Grind.{pow_more}
@@ -25,7 +26,8 @@ write_more all written n i rest w small high = record {
   below = (let p : ℕ = 128 ^ i in
       let h : rest / 128 * 128 * p ≤ rest * p = mul-le-mul_right p (omega arith) in
       rw (pow_more 128 i) (omega (arith, w.below)));
-  left = λ more e. w.left (suc more) (omega arith) ∙ rw (le-ltb rest 128 high) (sym (append_assoc written ((rest % 128 + 128) ∷ []) (groups_of more (rest / 128))));
+  left = λ more e. w.left (suc more) (omega arith) ∙ rw (le-ltb rest 128 high)
+      (sym (append_assoc written ((rest % 128 + 128) ∷ []) (groups_of more (rest / 128))));
 }
 
 last_group : (more rest : ℕ) → rest < 128 → groups_of more rest ≡ rest ∷ []
@@ -38,7 +40,8 @@ write_last all written n i rest w small low = w.left (9 - i) (omega arith) ∙ a
 
 -- after nine groups little is left
 pub write_nine : (all written : List ℕ) (n i rest : ℕ) → Written all written n i rest → i ≡ 9 → n < 2 ^ 64 → rest < 128
-write_nine all written n i rest w nine fits = let P : ℕ → Type 0 = λ k. rest * 128 ^ k ≤ n in let b : rest * 128 ^ 9 ≤ n = subst P nine w.below in omega arith
+write_nine all written n i rest w nine fits = let P : ℕ → Type 0 = λ k. rest * 128 ^ k ≤ n in
+    let b : rest * 128 ^ 9 ≤ n = subst P nine w.below in omega arith
 
 -- before a group that isn't the last, few are written
 pub write_early : (all written : List ℕ) (n i rest : ℕ) → Written all written n i rest → i ≤ 9 → n < 2 ^ 64 → 128 ≤ rest → i < 9
@@ -53,5 +56,7 @@ unfolding shortest_number groups_of
 write_one n low = rw (lt-ltb n 128 low) refl
 
 -- one byte more behind those that are filled
-pub fill_more : (bytes written : List ℕ) (end behind byte : ℕ) → behind ≡ end + 1 → take end bytes ≡ written → end < length bytes → take behind (slice_set bytes end byte) ≡ written ++ byte ∷ []
-fill_more bytes written end behind byte next same inside = ap (λ n. take n (slice_set bytes end byte)) next ∙ take_more_set bytes end byte inside ∙ ap (λ xs. xs ++ byte ∷ []) same
+pub fill_more : (bytes written : List ℕ) (end behind byte : ℕ) → behind ≡ end + 1 → take end bytes ≡ written → end < length bytes →
+    take behind (slice_set bytes end byte) ≡ written ++ byte ∷ []
+fill_more bytes written end behind byte next same inside = ap (λ n. take n (slice_set bytes end byte)) next
+    ∙ take_more_set bytes end byte inside ∙ ap (λ xs. xs ++ byte ∷ []) same

@@ -22,11 +22,13 @@ use Rattle.osm_model.proofs.ValidLaws.{valid_version}
 use Rattle.o5_codec.specs.declared.segment.Segment.{Segment}
 use Rattle.o5_codec.specs.Segment.{id_at, meta_at}
 use Rattle.o5_codec.specs.Items.{items_at}
-use Rattle.o5_codec.specs.Body.{with_seen, tag_at, longitude_at, latitude_at, node_at, section_at, with_section, reference_at, way_at, member_at, relation_at, body_at, set_at}
+use Rattle.o5_codec.specs.Body.{with_seen, tag_at, longitude_at, latitude_at, node_at, section_at, with_section, reference_at, way_at}
+use Rattle.o5_codec.specs.Body.{member_at, relation_at, body_at, set_at}
 use Rattle.o5_codec.specs.Sound.{is_sound}
 use Rattle.o5_codec.specs.Earlier.{sets_at}
 use Rattle.o5_codec.proofs.SoundStrings.{first_ok, same_value, both_true, and_true}
-use Rattle.o5_codec.proofs.SoundSteps.{is_version, is_meta, is_tag, is_member, id_ok, meta_ok, tag_ok, reference_ok, member_ok, longitude_ok, latitude_ok, longitude_range, latitude_range, items_ok}
+use Rattle.o5_codec.proofs.SoundSteps.{is_version, is_meta, is_tag, is_member, id_ok, meta_ok, tag_ok, reference_ok, member_ok}
+use Rattle.o5_codec.proofs.SoundSteps.{longitude_ok, latitude_ok, longitude_range, latitude_range, items_ok}
 
 tags_texts : (tags : List Tag) → list_all is_tag tags ≡ true → list_all is_text (texts_of_tags tags) ≡ true
 tags_texts [] h = refl
@@ -51,17 +53,20 @@ members_roles (m ∷ members) h =
 abbrev is_body : Body → Bool
 is_body b = list_all is_id (ids_of b) && list_all is_text (texts_of b)
 
-node_ok : (s : Segment) (bytes : List ℕ) (x : Body × Segment) → is_sound s ≡ true → node_at s bytes ≡ Ok x → (is_body x.0 ≡ true) × (is_sound x.1 ≡ true)
+node_ok : (s : Segment) (bytes : List ℕ) (x : Body × Segment) → is_sound s ≡ true → node_at s bytes ≡ Ok x →
+    (is_body x.0 ≡ true) × (is_sound x.1 ≡ true)
 unfolding node_at
 node_ok s bytes x sound h =
     let lon = first_ok (longitude_at s bytes) _ x h in
     let lat = first_ok (latitude_at lon.0.1 lon.0.2) _ x lon.2 in
     let tags = first_ok (items_at tag_at lat.0.1 lat.0.2) _ x lat.2 in
     let same : (Node lon.0.0 lat.0.0 tags.0.0, tags.0.1) ≡ x = cc in
-    let all = items_ok tag_at is_tag tag_ok lat.0.1 lat.0.2 tags.0 (latitude_ok lon.0.1 lon.0.2 lat.0 (longitude_ok s bytes lon.0 sound lon.1) lat.1) tags.1 in
+    let all = items_ok tag_at is_tag tag_ok lat.0.1 lat.0.2 tags.0
+    (latitude_ok lon.0.1 lon.0.2 lat.0 (longitude_ok s bytes lon.0 sound lon.1) lat.1) tags.1 in
     (ap (λ y. is_body y.0) (sym same) ∙ and_true _ _ refl (tags_texts tags.0.0 all.0), ap (λ y. is_sound y.1) (sym same) ∙ all.1)
 
-way_ok : (s : Segment) (bytes : List ℕ) (x : Body × Segment) → is_sound s ≡ true → way_at s bytes ≡ Ok x → (is_body x.0 ≡ true) × (is_sound x.1 ≡ true)
+way_ok : (s : Segment) (bytes : List ℕ) (x : Body × Segment) → is_sound s ≡ true → way_at s bytes ≡ Ok x →
+    (is_body x.0 ≡ true) × (is_sound x.1 ≡ true)
 unfolding way_at
 way_ok s bytes x sound h =
     let c = first_ok (section_at bytes) _ x h in
@@ -73,7 +78,8 @@ way_ok s bytes x sound h =
     let all = items_ok tag_at is_tag tag_ok ids.0.1 c.0.1 tags.0 references.1 tags.1 in
     (ap (λ y. is_body y.0) (sym same) ∙ and_true _ _ references.0 (tags_texts tags.0.0 all.0), ap (λ y. is_sound y.1) (sym same) ∙ all.1)
 
-relation_ok : (s : Segment) (bytes : List ℕ) (x : Body × Segment) → is_sound s ≡ true → relation_at s bytes ≡ Ok x → (is_body x.0 ≡ true) × (is_sound x.1 ≡ true)
+relation_ok : (s : Segment) (bytes : List ℕ) (x : Body × Segment) → is_sound s ≡ true → relation_at s bytes ≡ Ok x →
+    (is_body x.0 ≡ true) × (is_sound x.1 ≡ true)
 unfolding relation_at
 relation_ok s bytes x sound h =
     let c = first_ok (section_at bytes) _ x h in
@@ -82,12 +88,15 @@ relation_ok s bytes x sound h =
     let same : (Relation m.0.0 tags.0.0, tags.0.1) ≡ x = cc in
     let members = items_ok member_at is_member member_ok s c.0.0 m.0 sound m.1 in
     let all = items_ok tag_at is_tag tag_ok m.0.1 c.0.1 tags.0 members.1 tags.1 in
-    let texts = list_all-append is_text (roles_of m.0.0) (texts_of_tags tags.0.0) ∙ and_true _ _ (members_roles m.0.0 members.0) (tags_texts tags.0.0 all.0) in
+    let texts = list_all-append is_text (roles_of m.0.0) (texts_of_tags tags.0.0)
+    ∙ and_true _ _ (members_roles m.0.0 members.0) (tags_texts tags.0.0 all.0) in
     (ap (λ y. is_body y.0) (sym same) ∙ and_true _ _ (members_ids m.0.0 members.0) texts, ap (λ y. is_sound y.1) (sym same) ∙ all.1)
 
-body_ok : (k : Kind) (s : Segment) (bytes : List ℕ) (x : Body × Segment) → is_sound s ≡ true → body_at k s bytes ≡ Ok x → (is_body x.0 ≡ true) × (is_sound x.1 ≡ true)
+body_ok : (k : Kind) (s : Segment) (bytes : List ℕ) (x : Body × Segment) → is_sound s ≡ true → body_at k s bytes ≡ Ok x →
+    (is_body x.0 ≡ true) × (is_sound x.1 ≡ true)
 unfolding body_at
-body_ok k s [] x sound h = let same : (Deleted k, s) ≡ x = cc in (ap (λ y. is_body y.0) (sym same), ap (λ y. is_sound y.1) (sym same) ∙ sound)
+body_ok k s [] x sound h = let same : (Deleted k, s) ≡ x = cc in
+    (ap (λ y. is_body y.0) (sym same), ap (λ y. is_sound y.1) (sym same) ∙ sound)
 body_ok kind.Node s (b ∷ bytes) x sound h = node_ok s (b ∷ bytes) x sound h
 body_ok kind.Way s (b ∷ bytes) x sound h = way_ok s (b ∷ bytes) x sound h
 body_ok kind.Relation s (b ∷ bytes) x sound h = relation_ok s (b ∷ bytes) x sound h
@@ -96,7 +105,8 @@ not_true : (b : Bool) → not b ≡ true → b ≡ false
 not_true true h = cc
 not_true false h = refl
 
-no_fault : (id : ℤ) (meta : Meta) (body : Body) → is_id id ≡ true → is_meta meta ≡ true → is_body body ≡ true → first_fault id meta body ≡ None
+no_fault : (id : ℤ) (meta : Meta) (body : Body) → is_id id ≡ true → is_meta meta ≡ true → is_body body ≡ true →
+    first_fault id meta body ≡ None
 no_fault id meta body i m b =
     let numbers = both_true (is_version meta.version && (is_number meta.changeset && is_number meta.uid)) _ m in
     let version = both_true (is_version meta.version) _ numbers.0 in
@@ -107,12 +117,14 @@ no_fault id meta body i m b =
     let body_parts = both_true (list_all is_id (ids_of body)) _ b in
     let above : eqb meta.version 0 ≡ false = not_true _ some.0 in
     let ids : list_all is_id (id ∷ ids_of body) ≡ true = and_true _ _ i body_parts.0 in
-    let small : list_all is_number (meta.version ∷ meta.changeset ∷ meta.uid ∷ []) ≡ true = and_true _ _ some.1 (and_true _ _ author.0 (and_true _ _ author.1 refl)) in
+    let small : list_all is_number (meta.version ∷ meta.changeset ∷ meta.uid ∷ []) ≡ true =
+    and_true _ _ some.1 (and_true _ _ author.0 (and_true _ _ author.1 refl)) in
     let texts : list_all is_text (meta.user ∷ texts_of body) ≡ true = and_true _ _ user.1 body_parts.1 in
     rw (ids, above, small, dated.0, user.0, texts) refl
 
 -- what the steps read has no fault
-pub set_faultless : (k : Kind) (s : Segment) (content : List ℕ) (x : ℤ × Segment × List ℕ) (m : Meta × Segment × List ℕ) (b : Body × Segment) → is_sound s ≡ true →
+pub set_faultless : (k : Kind) (s : Segment) (content : List ℕ) (x : ℤ × Segment × List ℕ) (m : Meta × Segment × List ℕ)
+    (b : Body × Segment) → is_sound s ≡ true →
     id_at s content ≡ Ok x → meta_at x.1 x.2 ≡ Ok m → body_at k m.1 m.2 ≡ Ok b →
     (first_fault x.0 m.0 b.0 ≡ None) × (is_sound b.1 ≡ true)
 set_faultless k s content x m b sound first second third =
@@ -164,7 +176,8 @@ body_range kind.Way s (b ∷ bytes) x h = way_range s (b ∷ bytes) x h
 body_range kind.Relation s (b ∷ bytes) x h = relation_range s (b ∷ bytes) x h
 
 -- what a data set spells is a version
-pub set_version : (k : Kind) (s : Segment) (content : List ℕ) (x : VersionData × Segment) → is_sound s ≡ true → set_at k s content ≡ Ok x → IsVersion x.0 × (is_sound x.1 ≡ true)
+pub set_version : (k : Kind) (s : Segment) (content : List ℕ) (x : VersionData × Segment) → is_sound s ≡ true → set_at k s content ≡ Ok x →
+    IsVersion x.0 × (is_sound x.1 ≡ true)
 unfolding set_at
 set_version k s content x sound h =
     let id = first_ok (id_at s content) _ x h in
@@ -175,7 +188,8 @@ set_version k s content x sound h =
     let faultless = set_faultless k s content id.0 meta.0 body.0 sound id.1 meta.1 body.1 in
     subst P same (valid_version id.0.0 meta.0.0 body.0.0 faultless.0 (body_range k meta.0.1 meta.0.2 body.0 body.1), faultless.1)
 
-pub sets_versions : (s : Segment) (sets : List (Kind × List ℕ)) (x : List VersionData × Segment) → is_sound s ≡ true → sets_at s sets ≡ Ok x → All IsVersion x.0 × (is_sound x.1 ≡ true)
+pub sets_versions : (s : Segment) (sets : List (Kind × List ℕ)) (x : List VersionData × Segment) → is_sound s ≡ true →
+    sets_at s sets ≡ Ok x → All IsVersion x.0 × (is_sound x.1 ≡ true)
 sets_versions s [] x sound h =
     let same : ([], s) ≡ x = same_value _ _ h in
     let P : List VersionData × Segment → Type 0 = λ y. All IsVersion y.0 × (is_sound y.1 ≡ true) in

@@ -1,5 +1,6 @@
 -- What the steps of a data set in a sound segment read is in its range, and the segment behind them is sound.
-use Rattle.std.proofs.Common.{◌≡◌, ℕ, ℤ, pos, negsuc, zero, suc, ◌^◌, Bool, true, false, not, eqb, ltb, ◌&&◌, List, [], ◌∷◌, length, refl, ap, sym, ◌∙◌, subst, arith, Ok, Err, Some, None, if◌then◌else◌}
+use Rattle.std.proofs.Common.{◌≡◌, ℕ, ℤ, pos, negsuc, zero, suc, ◌^◌, Bool, true, false, not, eqb, ltb, ◌&&◌, List, [], ◌∷◌, length, refl}
+use Rattle.std.proofs.Common.{ap, sym, ◌∙◌, subst, arith, Ok, Err, Some, None, if◌then◌else◌}
 use lib.IntN.{◌+ℤ◌}
 use Rattle.std.specs.Prelude.{FitsSigned, unsigned_abs}
 use Rattle.std.specs.Int.{w32, int_wrap}
@@ -25,7 +26,8 @@ use Rattle.o5_codec.specs.Number.{number_at, signed_at}
 use Rattle.o5_codec.specs.Base.{moved_id, within_range, number_within, moved_number, moved_coordinate}
 use Rattle.o5_codec.specs.Strings.{strings_at}
 use Rattle.o5_codec.specs.Text.{text_of, tag_of, whole_number, uid_of, user_of}
-use Rattle.o5_codec.specs.Segment.{Step, with_bases, with_table, id_at, numbered, version_at, time_at, changeset_at, user_at, author, author_behind, author_at, time_of, meta_of, meta_at}
+use Rattle.o5_codec.specs.Segment.{Step, with_bases, with_table, id_at, numbered, version_at, time_at, changeset_at, user_at, author}
+use Rattle.o5_codec.specs.Segment.{author_behind, author_at, time_of, meta_of, meta_at}
 use Rattle.o5_codec.specs.Items.{items_up_to, items_at}
 use Rattle.o5_codec.specs.Body.{tag_at, kind_and_role, moved_member, with_member, member_at, reference_at, longitude_at, latitude_at}
 use Rattle.o5_codec.specs.Sound.{has_no_zero, is_entry, is_sound}
@@ -36,14 +38,16 @@ pub within_ok : (n m : ℕ) → within_range n ≡ Ok m → is_number m ≡ true
 within_ok n m h = let t = tested_ok (ltb n (2 ^ 32)) n m OutOfRange h in ap is_number (sym t.1) ∙ t.0
 
 pub moved_id_ok : (base difference id : ℤ) → moved_id base difference ≡ Ok id → is_id id ≡ true
-moved_id_ok base difference id h = let t = tested_ok (is_id (base +ℤ difference)) (base +ℤ difference) id OutOfRange h in ap is_id (sym t.1) ∙ t.0
+moved_id_ok base difference id h = let t = tested_ok (is_id (base +ℤ difference)) (base +ℤ difference) id OutOfRange h in ap is_id (sym t.1)
+    ∙ t.0
 
 number_within_ok : (z : ℤ) (m : ℕ) → number_within z ≡ Ok m → is_number m ≡ true
 number_within_ok (pos n) m h = within_ok n m h
 number_within_ok (negsuc n) m h = cc
 
 -- ---- steps
-pub id_ok : (s : Segment) (bytes : List ℕ) (x : ℤ × Segment × List ℕ) → is_sound s ≡ true → id_at s bytes ≡ Ok x → (is_id x.0 ≡ true) × (is_sound x.1 ≡ true)
+pub id_ok : (s : Segment) (bytes : List ℕ) (x : ℤ × Segment × List ℕ) → is_sound s ≡ true → id_at s bytes ≡ Ok x →
+    (is_id x.0 ≡ true) × (is_sound x.1 ≡ true)
 unfolding id_at
 id_ok s bytes x sound h =
     let f = first_ok (signed_at bytes) _ x h in
@@ -51,7 +55,8 @@ id_ok s bytes x sound h =
     let same : (g.0, with_bases s (record s.bases { id = g.0 }), f.0.1) ≡ x = cc in
     (ap (λ y. is_id y.0) (sym same) ∙ moved_id_ok s.bases.id f.0.0 g.0 g.1, ap (λ y. is_sound y.1) (sym same) ∙ sound)
 
-pub reference_ok : (s : Segment) (bytes : List ℕ) (x : ℤ × Segment × List ℕ) → is_sound s ≡ true → reference_at s bytes ≡ Ok x → (is_id x.0 ≡ true) × (is_sound x.1 ≡ true)
+pub reference_ok : (s : Segment) (bytes : List ℕ) (x : ℤ × Segment × List ℕ) → is_sound s ≡ true → reference_at s bytes ≡ Ok x →
+    (is_id x.0 ≡ true) × (is_sound x.1 ≡ true)
 unfolding reference_at
 reference_ok s bytes x sound h =
     let f = first_ok (signed_at bytes) _ x h in
@@ -59,14 +64,16 @@ reference_ok s bytes x sound h =
     let same : (g.0, with_bases s (record s.bases { reference = g.0 }), f.0.1) ≡ x = cc in
     (ap (λ y. is_id y.0) (sym same) ∙ moved_id_ok s.bases.reference f.0.0 g.0 g.1, ap (λ y. is_sound y.1) (sym same) ∙ sound)
 
-pub longitude_ok : (s : Segment) (bytes : List ℕ) (x : ℤ × Segment × List ℕ) → is_sound s ≡ true → longitude_at s bytes ≡ Ok x → is_sound x.1 ≡ true
+pub longitude_ok : (s : Segment) (bytes : List ℕ) (x : ℤ × Segment × List ℕ) → is_sound s ≡ true → longitude_at s bytes ≡ Ok x →
+    is_sound x.1 ≡ true
 unfolding longitude_at
 longitude_ok s bytes x sound h =
     let f = first_ok (signed_at bytes) _ x h in
     let g = first_ok (moved_coordinate s.bases.lon f.0.0) _ x f.2 in
     let same : (g.0, with_bases s (record s.bases { lon = g.0 }), f.0.1) ≡ x = cc in ap (λ y. is_sound y.1) (sym same) ∙ sound
 
-pub latitude_ok : (s : Segment) (bytes : List ℕ) (x : ℤ × Segment × List ℕ) → is_sound s ≡ true → latitude_at s bytes ≡ Ok x → is_sound x.1 ≡ true
+pub latitude_ok : (s : Segment) (bytes : List ℕ) (x : ℤ × Segment × List ℕ) → is_sound s ≡ true → latitude_at s bytes ≡ Ok x →
+    is_sound x.1 ≡ true
 unfolding latitude_at
 latitude_ok s bytes x sound h =
     let f = first_ok (signed_at bytes) _ x h in
@@ -80,7 +87,8 @@ version_ok : (bytes : List ℕ) (x : ℕ × List ℕ) → version_at bytes ≡ O
 unfolding version_at
 version_ok bytes x h =
     let f = first_ok (number_at bytes) numbered x h in
-    elim (eqb f.0.0 0) as (λ b. eqb f.0.0 0 ≡ b → (if b then Err NoVersion else and_then (within_range f.0.0) (λ n. Ok (n, f.0.1))) ≡ Ok x → is_version x.0 ≡ true) [
+    elim (eqb f.0.0 0) as (λ b. eqb f.0.0 0 ≡ b → (if b then Err NoVersion else and_then (within_range f.0.0) (λ n. Ok (n, f.0.1))) ≡ Ok x →
+    is_version x.0 ≡ true) [
       | true ↦ λ e is. cc
       | false ↦ λ e is. (let g = first_ok (within_range f.0.0) _ x is in
           let same : (g.0, f.0.1) ≡ x = cc in
@@ -88,7 +96,8 @@ version_ok bytes x h =
           ap (λ y. is_version y.0) (sym same) ∙ and_true _ _ (ap (λ n. not (eqb n 0)) (sym t.1) ∙ ap not e) (within_ok f.0.0 g.0 g.1))
     ] refl f.2
 
-time_ok : (s : Segment) (bytes : List ℕ) (x : ℕ × Segment × List ℕ) → is_sound s ≡ true → time_at s bytes ≡ Ok x → (is_number x.0 ≡ true) × (is_sound x.1 ≡ true)
+time_ok : (s : Segment) (bytes : List ℕ) (x : ℕ × Segment × List ℕ) → is_sound s ≡ true → time_at s bytes ≡ Ok x →
+    (is_number x.0 ≡ true) × (is_sound x.1 ≡ true)
 unfolding time_at
 time_ok s bytes x sound h =
     let f = first_ok (signed_at bytes) _ x h in
@@ -96,13 +105,17 @@ time_ok s bytes x sound h =
     let same : (g.0, with_bases s (record s.bases { time = g.0 }), f.0.1) ≡ x = cc in
     (ap (λ y. is_number y.0) (sym same) ∙ number_within_ok (pos s.bases.time +ℤ f.0.0) g.0 g.1, ap (λ y. is_sound y.1) (sym same) ∙ sound)
 
-changeset_ok : (s : Segment) (bytes : List ℕ) (x : ℕ × Segment × List ℕ) → is_sound s ≡ true → changeset_at s bytes ≡ Ok x → (is_number x.0 ≡ true) × (is_sound x.1 ≡ true)
+changeset_ok : (s : Segment) (bytes : List ℕ) (x : ℕ × Segment × List ℕ) → is_sound s ≡ true → changeset_at s bytes ≡ Ok x →
+    (is_number x.0 ≡ true) × (is_sound x.1 ≡ true)
 unfolding changeset_at
 changeset_ok s bytes x sound h =
     let f = first_ok (signed_at bytes) _ x h in
     let g = first_ok (moved_number s.bases.changeset f.0.0) _ x f.2 in
-    let same : (g.0, with_bases s (record s.bases { changeset = g.0 }), f.0.1) ≡ x = cc in
-    (ap (λ y. is_number y.0) (sym same) ∙ number_within_ok (pos s.bases.changeset +ℤ f.0.0) g.0 g.1, ap (λ y. is_sound y.1) (sym same) ∙ sound)
+    let same : (g.0, with_bases s (record s.bases { changeset = g.0 }), f.0.1) ≡ x = cc in (
+      ap (λ y. is_number y.0) (sym same) ∙ number_within_ok (pos s.bases.changeset +ℤ f.0.0) g.0 g.1,
+      ap (λ y. is_sound y.1) (sym same)
+          ∙ sound,
+    )
 
 whole_ok : (x : ℕ × List ℕ) (n : ℕ) → whole_number x ≡ Ok n → is_number n ≡ true
 whole_ok (m, []) n h = within_ok m n h
@@ -130,14 +143,18 @@ user_ok s bytes x sound h =
     let g = first_ok (user_of f.0.0) _ x f.2 in
     let same : (g.0, with_table s f.0.1, f.0.2) ≡ x = cc in
     let strings = strings_ok Pair s.table bytes f.0 sound f.1 in
-    let user = user_of_ok f.0.0 g.0 strings.0 g.1 in
-    ((ap (λ y. is_number y.0.0) (sym same) ∙ user.0, ap (λ y. is_text y.0.1) (sym same) ∙ user.1), ap (λ y. is_sound y.1) (sym same) ∙ strings.1)
+    let user = user_of_ok f.0.0 g.0 strings.0 g.1 in (
+      (ap (λ y. is_number y.0.0) (sym same) ∙ user.0, ap (λ y. is_text y.0.1) (sym same) ∙ user.1),
+      ap (λ y. is_sound y.1) (sym same)
+          ∙ strings.1,
+    )
 
 -- changeset, user id and user name are in range
 abbrev is_author : Author → Bool
 is_author a = is_number a.changeset && (is_number a.uid && is_text a.user)
 
-behind_ok : (x : ℕ × Segment × List ℕ) (y : Author × Segment × List ℕ) → is_number x.0 ≡ true → is_sound x.1 ≡ true → author_behind x ≡ Ok y →
+behind_ok : (x : ℕ × Segment × List ℕ) (y : Author × Segment × List ℕ) → is_number x.0 ≡ true → is_sound x.1 ≡ true →
+    author_behind x ≡ Ok y →
     (is_author y.0 ≡ true) × (is_sound y.1 ≡ true)
 unfolding author_behind
 behind_ok (changeset, s, []) y number sound h =
@@ -152,7 +169,8 @@ behind_ok (changeset, s, b ∷ bytes) y number sound h =
 abbrev pub is_meta : Meta → Bool
 is_meta m = (is_version m.version && (is_number m.changeset && is_number m.uid)) && (is_time m.time && (is_dated m && is_text m.user))
 
-timed_ok : (version time : ℕ) (a : Author) → is_version version ≡ true → is_number time ≡ true → eqb time 0 ≡ false → is_author a ≡ true → is_meta (meta_of version time a) ≡ true
+timed_ok : (version time : ℕ) (a : Author) → is_version version ≡ true → is_number time ≡ true → eqb time 0 ≡ false → is_author a ≡ true →
+    is_meta (meta_of version time a) ≡ true
 timed_ok version time a v t some h =
     let c = both_true (is_number a.changeset) _ h in
     let u = both_true (is_number a.uid) _ c.1 in
@@ -165,7 +183,8 @@ untimed_ok version time v none =
     let when : time_of time ≡ None = rw none refl in
     rw when (and_true _ _ (and_true _ _ v refl) refl)
 
-pub meta_ok : (s : Segment) (bytes : List ℕ) (x : Meta × Segment × List ℕ) → is_sound s ≡ true → meta_at s bytes ≡ Ok x → (is_meta x.0 ≡ true) × (is_sound x.1 ≡ true)
+pub meta_ok : (s : Segment) (bytes : List ℕ) (x : Meta × Segment × List ℕ) → is_sound s ≡ true → meta_at s bytes ≡ Ok x →
+    (is_meta x.0 ≡ true) × (is_sound x.1 ≡ true)
 unfolding meta_at author_at
 meta_ok s bytes x sound h =
     let v = first_ok (version_at bytes) _ x h in
@@ -174,7 +193,8 @@ meta_ok s bytes x sound h =
     let version : is_version v.0.0 ≡ true = version_ok bytes v.0 v.1 in
     let time = time_ok s v.0.1 t.0 sound t.1 in
     let same : (meta_of v.0.0 t.0.0 a.0.0, a.0.1, a.0.2) ≡ x = cc in
-    elim (eqb t.0.0 0) as (λ b. eqb t.0.0 0 ≡ b → (if b then Ok (author 0 0 [], t.0.1, t.0.2) else and_then (changeset_at t.0.1 t.0.2) author_behind) ≡ Ok a.0 →
+    elim (eqb t.0.0 0) as (λ b. eqb t.0.0 0 ≡ b → (if b then Ok (author 0 0 [], t.0.1, t.0.2)
+    else and_then (changeset_at t.0.1 t.0.2) author_behind) ≡ Ok a.0 →
     (is_meta x.0 ≡ true) × (is_sound x.1 ≡ true)) [
       | true ↦ λ none is. (let made : (author 0 0 [], t.0.1, t.0.2) ≡ a.0 = cc in (
         ap (λ y. is_meta y.0) (sym same) ∙ ap (λ y. is_meta (meta_of v.0.0 t.0.0 y.0)) (sym made) ∙ untimed_ok v.0.0 t.0.0 version none,
@@ -182,8 +202,11 @@ meta_ok s bytes x sound h =
       ))
       | false ↦ λ some is. (let c = first_ok (changeset_at t.0.1 t.0.2) author_behind a.0 is in
           let changeset = changeset_ok t.0.1 t.0.2 c.0 time.1 c.1 in
-          let made = behind_ok c.0 a.0 changeset.0 changeset.1 c.2 in
-          (ap (λ y. is_meta y.0) (sym same) ∙ timed_ok v.0.0 t.0.0 a.0.0 version time.0 some made.0, ap (λ y. is_sound y.1) (sym same) ∙ made.1))
+          let made = behind_ok c.0 a.0 changeset.0 changeset.1 c.2 in (
+            ap (λ y. is_meta y.0) (sym same) ∙ timed_ok v.0.0 t.0.0 a.0.0 version time.0 some made.0,
+            ap (λ y. is_sound y.1) (sym same)
+                ∙ made.1,
+          ))
     ] refl a.1
 
 coordinate_range : (base difference lon : ℤ) → moved_coordinate base difference ≡ Ok lon → FitsSigned w32 lon
@@ -224,7 +247,8 @@ tag_of_ok e t sound h =
     let same : made ≡ t = cc in
     ap is_tag (sym same) ∙ and_true _ _ (text_ok e.first f.0 strings.0 f.1) (text_ok e.second g.0 strings.1 g.1)
 
-pub tag_ok : (s : Segment) (bytes : List ℕ) (x : Tag × Segment × List ℕ) → is_sound s ≡ true → tag_at s bytes ≡ Ok x → (is_tag x.0 ≡ true) × (is_sound x.1 ≡ true)
+pub tag_ok : (s : Segment) (bytes : List ℕ) (x : Tag × Segment × List ℕ) → is_sound s ≡ true → tag_at s bytes ≡ Ok x →
+    (is_tag x.0 ≡ true) × (is_sound x.1 ≡ true)
 unfolding tag_at
 tag_ok s bytes x sound h =
     let f = first_ok (strings_at Pair s.table bytes) _ x h in
@@ -246,15 +270,19 @@ role_ok (b ∷ role) x h is =
 moved_member_ok : (bases : Bases) (k : Kind) (difference : ℤ) (x : ℤ × Bases) → moved_member bases k difference ≡ Ok x → is_id x.0 ≡ true
 moved_member_ok bases kind.Node difference x h =
     let f = first_ok (moved_id bases.node_member difference) _ x h in
-    let same : (f.0, record bases { node_member = f.0 }) ≡ x = cc in ap (λ y. is_id y.0) (sym same) ∙ moved_id_ok bases.node_member difference f.0 f.1
+    let same : (f.0, record bases { node_member = f.0 }) ≡ x = cc in ap (λ y. is_id y.0) (sym same)
+    ∙ moved_id_ok bases.node_member difference f.0 f.1
 moved_member_ok bases kind.Way difference x h =
     let f = first_ok (moved_id bases.way_member difference) _ x h in
-    let same : (f.0, record bases { way_member = f.0 }) ≡ x = cc in ap (λ y. is_id y.0) (sym same) ∙ moved_id_ok bases.way_member difference f.0 f.1
+    let same : (f.0, record bases { way_member = f.0 }) ≡ x = cc in ap (λ y. is_id y.0) (sym same)
+    ∙ moved_id_ok bases.way_member difference f.0 f.1
 moved_member_ok bases kind.Relation difference x h =
     let f = first_ok (moved_id bases.relation_member difference) _ x h in
-    let same : (f.0, record bases { relation_member = f.0 }) ≡ x = cc in ap (λ y. is_id y.0) (sym same) ∙ moved_id_ok bases.relation_member difference f.0 f.1
+    let same : (f.0, record bases { relation_member = f.0 }) ≡ x = cc in ap (λ y. is_id y.0) (sym same)
+    ∙ moved_id_ok bases.relation_member difference f.0 f.1
 
-pub member_ok : (s : Segment) (bytes : List ℕ) (x : Member × Segment × List ℕ) → is_sound s ≡ true → member_at s bytes ≡ Ok x → (is_member x.0 ≡ true) × (is_sound x.1 ≡ true)
+pub member_ok : (s : Segment) (bytes : List ℕ) (x : Member × Segment × List ℕ) → is_sound s ≡ true → member_at s bytes ≡ Ok x →
+    (is_member x.0 ≡ true) × (is_sound x.1 ≡ true)
 unfolding member_at
 member_ok s bytes x sound h =
     let d = first_ok (signed_at bytes) _ x h in
@@ -268,14 +296,17 @@ member_ok s bytes x sound h =
     let same : (made, after, y.0.2) ≡ x = same_value _ _ role.2 in
     let strings = strings_ok Single s.table d.0.1 y.0 sound y.1 in
     let first = both_true (has_no_zero y.0.0.first) _ strings.0 in (
-      ap (λ z. is_member z.0) (sym same) ∙ and_true _ _ (moved_member_ok s.bases m.0.0 d.0.0 id.0 id.1) (text_ok m.0.1 role.0 (role_ok y.0.0.first m.0 first.0 m.1) role.1),
+      ap (λ z. is_member z.0) (sym same) ∙ and_true _ _ (moved_member_ok s.bases m.0.0 d.0.0 id.0 id.1)
+          (text_ok m.0.1 role.0 (role_ok y.0.0.first m.0 first.0 m.1) role.1),
       ap (λ z. is_sound z.1) (sym same) ∙ strings.1,
     )
 
 -- ---- lists
 module _ {X : Type 0} (item_at : Segment → List ℕ → Step X) (passes : X → Bool)
-    (step : (s : Segment) (bytes : List ℕ) (x : X × Segment × List ℕ) → is_sound s ≡ true → item_at s bytes ≡ Ok x → (passes x.0 ≡ true) × (is_sound x.1 ≡ true)) where
-  up_to_ok : (most : ℕ) (s : Segment) (bytes : List ℕ) (x : List X × Segment) → is_sound s ≡ true → items_up_to item_at most s bytes ≡ Ok x →
+    (step : (s : Segment) (bytes : List ℕ) (x : X × Segment × List ℕ) → is_sound s ≡ true → item_at s bytes ≡ Ok x →
+    (passes x.0 ≡ true) × (is_sound x.1 ≡ true)) where
+  up_to_ok : (most : ℕ) (s : Segment) (bytes : List ℕ) (x : List X × Segment) → is_sound s ≡ true →
+      items_up_to item_at most s bytes ≡ Ok x →
       (list_all passes x.0 ≡ true) × (is_sound x.1 ≡ true)
   unfolding items_up_to
   up_to_ok most s [] x sound h =

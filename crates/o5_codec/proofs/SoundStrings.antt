@@ -1,5 +1,6 @@
 -- Strings have no zero byte, so that texts of them have no character U+0000.
-use Rattle.std.proofs.Common.{◌≡◌, ℕ, zero, suc, ◌+◌, Bool, true, false, not, eqb, ltb, cond, ◌&&◌, List, [], ◌∷◌, length, take, drop, refl, ap, sym, ◌∙◌, arith, Result, Ok, Err, Option, Some, None, if◌then◌else◌}
+use Rattle.std.proofs.Common.{◌≡◌, ℕ, zero, suc, ◌+◌, Bool, true, false, not, eqb, ltb, cond, ◌&&◌, List, [], ◌∷◌, length, take, drop, refl}
+use Rattle.std.proofs.Common.{ap, sym, ◌∙◌, arith, Result, Ok, Err, Option, Some, None, if◌then◌else◌}
 use Rattle.std.specs.List.{list_all, list_any, prefix_len, slice_get}
 use Rattle.std.proofs.lemmas.Bool.Decides.{nat_tests}
 use Rattle.std.specs.Str.{chars, IsUtf8, is_utf8}
@@ -32,7 +33,8 @@ pub same_value : {X : Type 0} (x y : X) → (let read : value_read X = Ok x in r
 same_value x y h = cc
 
 -- a reading under a test
-pub tested_ok : {X : Type 0} (test : Bool) (x y : X) (reason : O5Reason) → (if test then Ok x else Err reason) ≡ Ok y → (test ≡ true) × (x ≡ y)
+pub tested_ok : {X : Type 0} (test : Bool) (x y : X) (reason : O5Reason) → (if test then Ok x else Err reason) ≡ Ok y →
+    (test ≡ true) × (x ≡ y)
 tested_ok true x y reason h = (refl, cc)
 tested_ok false x y reason h = cc
 
@@ -48,7 +50,8 @@ prefix_passes : {X : Type 0} (p : X → Bool) (xs : List X) → list_all p (take
 prefix_passes p [] = refl
 prefix_passes p (x ∷ xs) =
     elim (p x) as (λ b. p x ≡ b → list_all p (take (cond b (1 + prefix_len p xs) 0) (x ∷ xs)) ≡ true) [
-      | true ↦ λ e. (let one : 1 + prefix_len p xs ≡ suc (prefix_len p xs) = omega arith in rw one (and_true (p x) _ e (prefix_passes p xs)))
+      | true ↦ λ e. (let one : 1 + prefix_len p xs ≡ suc (prefix_len p xs) = omega arith in
+          rw one (and_true (p x) _ e (prefix_passes p xs)))
       | false ↦ λ e. refl
     ] refl
 
@@ -94,7 +97,8 @@ spelled_ok : (form : Form) (bytes : List ℕ) (x : Spelled × List ℕ) → spel
 unfolding spelled_at
 spelled_ok form [] x h = cc
 spelled_ok form (b ∷ bytes) x h =
-    elim (eqb b 0) as (λ t. (if t then and_then (inline_at form bytes) (λ y. Ok (Inline y.0, y.1)) else and_then (number_at (b ∷ bytes)) (λ y. Ok (Reference y.0, y.1))) ≡ Ok x → is_spelled x.0 ≡ true) [
+    elim (eqb b 0) as (λ t. (if t then and_then (inline_at form bytes) (λ y. Ok (Inline y.0, y.1))
+    else and_then (number_at (b ∷ bytes)) (λ y. Ok (Reference y.0, y.1))) ≡ Ok x → is_spelled x.0 ≡ true) [
       | true ↦ λ e. (let f = first_ok (inline_at form bytes) _ x e in
           let same : (Inline f.0.0, f.0.1) ≡ x = cc in
           ap (λ y. is_spelled y.0) (sym same) ∙ inline_ok form bytes f.0 f.1)
@@ -103,14 +107,16 @@ spelled_ok form (b ∷ bytes) x h =
           ap (λ y. is_spelled y.0) (sym same))
     ] h
 
-stored_ok : (e : Entry) (table : List Entry) → is_entry e ≡ true → list_all is_entry table ≡ true → list_all is_entry (stored e table) ≡ true
+stored_ok : (e : Entry) (table : List Entry) → is_entry e ≡ true → list_all is_entry table ≡ true →
+    list_all is_entry (stored e table) ≡ true
 stored_ok e table h g =
     elim (is_short e) as (λ t. list_all is_entry (if t then take limit (e ∷ table) else table) ≡ true) [
       | true ↦ take_passes is_entry limit (e ∷ table) (and_true _ _ h g)
       | false ↦ g
     ]
 
-table_after_ok : (x : Spelled) (table : List Entry) → is_spelled x ≡ true → list_all is_entry table ≡ true → list_all is_entry (table_after x table) ≡ true
+table_after_ok : (x : Spelled) (table : List Entry) → is_spelled x ≡ true → list_all is_entry table ≡ true →
+    list_all is_entry (table_after x table) ≡ true
 table_after_ok (Inline e) table h g = stored_ok e table h g
 table_after_ok (Reference n) table h g = g
 
@@ -122,7 +128,8 @@ entry_ok : (table : List Entry) (n : ℕ) (e : Entry) → list_all is_entry tabl
 entry_ok table zero e h is = cc
 entry_ok table (suc n) e h is = get_passes is_entry table n e h is
 
-strings_of_ok : (table : List Entry) (x : Spelled) (e : Entry) → is_spelled x ≡ true → list_all is_entry table ≡ true → strings_of table x ≡ Ok e → is_entry e ≡ true
+strings_of_ok : (table : List Entry) (x : Spelled) (e : Entry) → is_spelled x ≡ true → list_all is_entry table ≡ true →
+    strings_of table x ≡ Ok e → is_entry e ≡ true
 strings_of_ok table (Inline f) e h g is = let same : f ≡ e = cc in ap is_entry (sym same) ∙ h
 strings_of_ok table (Reference n) e h g is = entry_ok table n e g (referred_ok (entry_at table n) e is)
 
@@ -147,5 +154,6 @@ unfolding text_of
 text_ok bytes characters h is =
     let t = tested_ok (is_utf8 bytes) (chars bytes) characters _ is in
     let utf8 : IsUtf8 bytes = IsUtf8-from_is_utf8 bytes t.0 in
-    let zeros : list_any (λ b. eqb b 0) bytes ≡ has_zero (chars bytes) = ap (list_any (λ b. eqb b 0)) (sym (encodes-chars bytes utf8)) ∙ zero_bytes (chars bytes) in
+    let zeros : list_any (λ b. eqb b 0) bytes ≡ has_zero (chars bytes) = ap (list_any (λ b. eqb b 0)) (sym (encodes-chars bytes utf8))
+    ∙ zero_bytes (chars bytes) in
     ap is_text (sym t.1) ∙ and_true _ _ (scalars-chars bytes utf8) (ap not (sym zeros) ∙ sym (not_any bytes) ∙ h)

@@ -1,5 +1,6 @@
 -- What the steps of a data set read is spelled so, and what is spelled so is read.
-use Rattle.std.proofs.Common.{◌≡◌, ℕ, ℤ, zero, suc, ◌+◌, ◌<◌, ◌≤◌, inl, inr, true, false, eqb, leb, List, [], ◌∷◌, ◌++◌, length, take, drop, refl, ap, sym, ◌∙◌, arith, Result, Ok, Err, subst, length-append, if◌then◌else◌}
+use Rattle.std.proofs.Common.{◌≡◌, ℕ, ℤ, zero, suc, ◌+◌, ◌<◌, ◌≤◌, inl, inr, true, false, eqb, leb, List, [], ◌∷◌, ◌++◌, length, take, drop}
+use Rattle.std.proofs.Common.{refl, ap, sym, ◌∙◌, arith, Result, Ok, Err, subst, length-append, if◌then◌else◌}
 use Rattle.std.proofs.lemmas.List.{take-append-drop, length-take}
 use Rattle.std.proofs.lemmas.Bool.Decides.{nat_tests}
 use Rattle.std.proofs.Math.Seq.{take-append_seam, drop-append_seam}
@@ -21,10 +22,14 @@ use Rattle.o5_codec.specs.Number.{number_at, signed_at}
 use Rattle.o5_codec.specs.Base.{moved_id, within_range, moved_number, moved_coordinate}
 use Rattle.o5_codec.specs.Strings.{strings_at}
 use Rattle.o5_codec.specs.Text.{text_of, tag_of, user_of}
-use Rattle.o5_codec.specs.Segment.{Step, with_bases, with_table, id_at, numbered, version_at, time_at, changeset_at, user_at, author, author_behind, author_at, meta_at}
+use Rattle.o5_codec.specs.Segment.{Step, with_bases, with_table, id_at, numbered, version_at, time_at, changeset_at, user_at, author}
+use Rattle.o5_codec.specs.Segment.{author_behind, author_at, meta_at}
 use Rattle.o5_codec.specs.Items.{items_up_to, items_at}
-use Rattle.o5_codec.specs.Body.{with_seen, tag_at, longitude_at, latitude_at, node_at, cut_at, section_at, with_section, reference_at, way_at, kind_and_role, with_member, moved_member, member_at, relation_at, body_at, set_at}
-use Rattle.o5_codec.specs.Spelling.{NumberStands, MovedStands, ReferenceStands, VersionStands, UserStands, AuthorBehind, AuthorStands, MetaStands, TagStands, ItemsStand, NodeStands, SectionStands, WayStands, MemberStands, RelationStands, BodyStands, SpellsSet}
+use Rattle.o5_codec.specs.Body.{with_seen, tag_at, longitude_at, latitude_at, node_at, cut_at, section_at, with_section, reference_at}
+use Rattle.o5_codec.specs.Body.{way_at, kind_and_role, with_member, moved_member, member_at, relation_at, body_at, set_at}
+use Rattle.o5_codec.specs.Spelling.{NumberStands, MovedStands, ReferenceStands, VersionStands, UserStands, AuthorBehind, AuthorStands}
+use Rattle.o5_codec.specs.Spelling.{MetaStands, TagStands, ItemsStand, NodeStands, SectionStands, WayStands, MemberStands, RelationStands}
+use Rattle.o5_codec.specs.Spelling.{BodyStands, SpellsSet}
 use Rattle.o5_codec.proofs.AnswerSteps.{read_next, one_value}
 use Rattle.o5_codec.proofs.SoundStrings.{first_ok, tested_ok, same_value}
 use Rattle.o5_codec.proofs.NumberLaws.{number_found, number_only, signed_found, signed_only, signed_shorter}
@@ -45,7 +50,8 @@ module _ {X : Type 0} (moved : ℤ → Result X O5Reason) (after : X → Segment
 
   pub moved_only : (bytes : List ℕ) (x : X × Segment × List ℕ) → MovedStands moved after bytes x → moved_at bytes ≡ Ok x
   moved_only bytes x s =
-      read_next (signed_at bytes) _ _ (signed_only bytes (s.0, x.2) s.1) ∙ read_next (moved s.0) _ _ s.2 ∙ ap (λ z. Ok (x.0, z, x.2)) (sym s.3)
+      read_next (signed_at bytes) _ _ (signed_only bytes (s.0, x.2) s.1) ∙ read_next (moved s.0) _ _ s.2
+      ∙ ap (λ z. Ok (x.0, z, x.2)) (sym s.3)
 
   moved_shorter : (bytes : List ℕ) (x : X × Segment × List ℕ) → MovedStands moved after bytes x → length x.2 < length bytes
   moved_shorter bytes x s = signed_shorter bytes (s.0, x.2) s.1
@@ -83,9 +89,11 @@ user_found s bytes x h =
 user_only : (s : Segment) (bytes : List ℕ) (x : (ℕ × List ℕ) × Segment × List ℕ) → UserStands s bytes x → user_at s bytes ≡ Ok x
 unfolding user_at
 user_only s bytes x u =
-    read_next (strings_at Pair s.table bytes) _ _ (strings_only Pair s.table bytes (u.0, u.1, x.2) u.2) ∙ read_next (user_of u.0) _ _ u.3 ∙ ap (λ z. Ok (x.0, z, x.2)) (sym u.4)
+    read_next (strings_at Pair s.table bytes) _ _ (strings_only Pair s.table bytes (u.0, u.1, x.2) u.2) ∙ read_next (user_of u.0) _ _ u.3
+    ∙ ap (λ z. Ok (x.0, z, x.2)) (sym u.4)
 
-behind_found : (changeset : ℕ) (s : Segment) (bytes : List ℕ) (x : Author × Segment × List ℕ) → author_behind (changeset, s, bytes) ≡ Ok x → AuthorBehind changeset s bytes x
+behind_found : (changeset : ℕ) (s : Segment) (bytes : List ℕ) (x : Author × Segment × List ℕ) → author_behind (changeset, s, bytes) ≡ Ok x →
+    AuthorBehind changeset s bytes x
 unfolding author_behind
 behind_found changeset s [] x h = sym (same_value _ _ h)
 behind_found changeset s (b ∷ bytes) x h =
@@ -94,26 +102,38 @@ behind_found changeset s (b ∷ bytes) x h =
     let P : Author × Segment × List ℕ → Type 0 = λ y. AuthorBehind changeset s (b ∷ bytes) y in
     subst P same (f.0.0, user_found s (b ∷ bytes) f.0 f.1, refl)
 
-behind_only : (changeset : ℕ) (s : Segment) (bytes : List ℕ) (x : Author × Segment × List ℕ) → AuthorBehind changeset s bytes x → author_behind (changeset, s, bytes) ≡ Ok x
+behind_only : (changeset : ℕ) (s : Segment) (bytes : List ℕ) (x : Author × Segment × List ℕ) → AuthorBehind changeset s bytes x →
+    author_behind (changeset, s, bytes) ≡ Ok x
 unfolding author_behind
 behind_only changeset s [] x e = ap (λ y. Ok y) (sym e)
 behind_only changeset s (b ∷ bytes) x u =
     read_next (user_at s (b ∷ bytes)) _ _ (user_only s (b ∷ bytes) (u.0, x.1, x.2) u.1) ∙ ap (λ a. Ok (a, x.1, x.2)) (sym u.2)
 
-author_found : (time : ℕ) (s : Segment) (bytes : List ℕ) (x : Author × Segment × List ℕ) → author_at time s bytes ≡ Ok x → AuthorStands time s bytes x
+author_found : (time : ℕ) (s : Segment) (bytes : List ℕ) (x : Author × Segment × List ℕ) → author_at time s bytes ≡ Ok x →
+    AuthorStands time s bytes x
 unfolding author_at changeset_at
 author_found time s bytes x h =
-    elim (eqb time 0) as (λ t. eqb time 0 ≡ t → (if t then Ok (author 0 0 [], s, bytes) else and_then (changeset_at s bytes) author_behind) ≡ Ok x → AuthorStands time s bytes x) [
+    elim (eqb time 0) as (λ t. eqb time 0 ≡ t → (if t then Ok (author 0 0 [], s, bytes) else and_then (changeset_at s bytes) author_behind)
+    ≡ Ok x → AuthorStands time s bytes x) [
       | true ↦ λ t e. inl (t, sym (same_value _ _ e))
       | false ↦ λ t e. (let f = first_ok (changeset_at s bytes) author_behind x e in
-          inr (t, (f.0, moved_found (moved_number s.bases.changeset) (λ c. with_bases s (record s.bases { changeset = c })) bytes f.0 f.1, behind_found f.0.0 f.0.1 f.0.2 x f.2)))
+          inr (
+            t,
+            (
+              f.0,
+              moved_found (moved_number s.bases.changeset) (λ c. with_bases s (record s.bases { changeset = c })) bytes f.0 f.1,
+              behind_found f.0.0 f.0.1 f.0.2 x f.2,
+            ),
+          ))
     ] refl h
 
-author_only : (time : ℕ) (s : Segment) (bytes : List ℕ) (x : Author × Segment × List ℕ) → AuthorStands time s bytes x → author_at time s bytes ≡ Ok x
+author_only : (time : ℕ) (s : Segment) (bytes : List ℕ) (x : Author × Segment × List ℕ) → AuthorStands time s bytes x →
+    author_at time s bytes ≡ Ok x
 unfolding author_at changeset_at
 author_only time s bytes x (inl a) = rw a.0 (ap (λ y. Ok y) (sym a.1))
 author_only time s bytes x (inr a) =
-    rw a.0 (read_next (changeset_at s bytes) author_behind _ (moved_only (moved_number s.bases.changeset) (λ c. with_bases s (record s.bases { changeset = c })) bytes a.1.0 a.1.1)
+    rw a.0 (read_next (changeset_at s bytes) author_behind _
+    (moved_only (moved_number s.bases.changeset) (λ c. with_bases s (record s.bases { changeset = c })) bytes a.1.0 a.1.1)
     ∙ behind_only a.1.0.0 a.1.0.1 a.1.0.2 x a.1.2)
 
 pub meta_found : (s : Segment) (bytes : List ℕ) (x : Meta × Segment × List ℕ) → meta_at s bytes ≡ Ok x → MetaStands s bytes x
@@ -135,7 +155,8 @@ pub meta_only : (s : Segment) (bytes : List ℕ) (x : Meta × Segment × List �
 unfolding meta_at time_at
 meta_only s bytes x m =
     read_next (version_at bytes) _ _ (version_only bytes m.0 m.3)
-    ∙ read_next (time_at s m.0.1) _ _ (moved_only (moved_number s.bases.time) (λ time. with_bases s (record s.bases { time = time })) m.0.1 m.1 m.4)
+    ∙ read_next (time_at s m.0.1) _ _ (moved_only (moved_number s.bases.time)
+    (λ time. with_bases s (record s.bases { time = time })) m.0.1 m.1 m.4)
     ∙ read_next (author_at m.1.0 m.1.1 m.1.2) _ _ (author_only m.1.0 m.1.1 m.1.2 m.2 m.5) ∙ ap (λ y. Ok y) (sym m.6)
 
 -- ---- items
@@ -148,10 +169,12 @@ tag_found s bytes x h =
     let P : Tag × Segment × List ℕ → Type 0 = λ y. TagStands s bytes y in
     subst P same (f.0.0, f.0.1, strings_found Pair s.table bytes f.0 f.1, g.1, refl)
 
-pub tag_only : (s : Segment) (bytes : List ℕ) (x : Tag × Segment × List ℕ) → TagStands s bytes x → (tag_at s bytes ≡ Ok x) × (length x.2 < length bytes)
+pub tag_only : (s : Segment) (bytes : List ℕ) (x : Tag × Segment × List ℕ) → TagStands s bytes x →
+    (tag_at s bytes ≡ Ok x) × (length x.2 < length bytes)
 unfolding tag_at
 tag_only s bytes x u = (
-  read_next (strings_at Pair s.table bytes) _ _ (strings_only Pair s.table bytes (u.0, u.1, x.2) u.2) ∙ read_next (tag_of u.0) _ _ u.3 ∙ ap (λ z. Ok (x.0, z, x.2)) (sym u.4),
+  read_next (strings_at Pair s.table bytes) _ _ (strings_only Pair s.table bytes (u.0, u.1, x.2) u.2) ∙ read_next (tag_of u.0) _ _ u.3
+      ∙ ap (λ z. Ok (x.0, z, x.2)) (sym u.4),
   strings_shorter Pair s.table bytes (u.0, u.1, x.2) u.2,
 )
 
@@ -159,7 +182,8 @@ pub reference_found : (s : Segment) (bytes : List ℕ) (x : ℤ × Segment × Li
 unfolding reference_at
 reference_found s bytes x h = moved_found (moved_id s.bases.reference) (λ id. with_bases s (record s.bases { reference = id })) bytes x h
 
-pub reference_only : (s : Segment) (bytes : List ℕ) (x : ℤ × Segment × List ℕ) → ReferenceStands s bytes x → (reference_at s bytes ≡ Ok x) × (length x.2 < length bytes)
+pub reference_only : (s : Segment) (bytes : List ℕ) (x : ℤ × Segment × List ℕ) → ReferenceStands s bytes x →
+    (reference_at s bytes ≡ Ok x) × (length x.2 < length bytes)
 unfolding reference_at
 reference_only s bytes x r = (
   moved_only (moved_id s.bases.reference) (λ id. with_bases s (record s.bases { reference = id })) bytes x r,
@@ -179,23 +203,42 @@ member_found s bytes x h =
     let after : Segment = record { bases = id.0.1; table = y.0.1; seen = l.0 } in
     let same : (made, after, y.0.2) ≡ x = same_value _ _ role.2 in
     let P : Member × Segment × List ℕ → Type 0 = λ z. MemberStands s bytes z in
-    subst P same (d.0, (y.0.0, y.0.1), m.0, l.0, id.0, signed_found bytes d.0 d.1, strings_found Single s.table d.0.1 y.0 y.1, m.1, l.1, id.1, role.1, refl, refl, refl)
+    subst P same (
+      d.0,
+      (y.0.0, y.0.1),
+      m.0,
+      l.0,
+      id.0,
+      signed_found bytes d.0 d.1,
+      strings_found Single s.table d.0.1 y.0 y.1,
+      m.1,
+      l.1,
+      id.1,
+      role.1,
+      refl,
+      refl,
+      refl,
+    )
 
-pub member_only : (s : Segment) (bytes : List ℕ) (x : Member × Segment × List ℕ) → MemberStands s bytes x → (member_at s bytes ≡ Ok x) × (length x.2 < length bytes)
+pub member_only : (s : Segment) (bytes : List ℕ) (x : Member × Segment × List ℕ) → MemberStands s bytes x →
+    (member_at s bytes ≡ Ok x) × (length x.2 < length bytes)
 unfolding member_at
 member_only s bytes x (d, e, m, seen, id, ds, es, ms, sees, ids, role, kind_is, id_is, after) =
     let made : Member = record { kind = m.0; id = id.0; role = x.0.role } in
     let end : Segment = record { bases = id.1; table = e.1; seen = seen } in
     let member : made ≡ x.0 = (λ i. record { kind = sym kind_is i; id = sym id_is i; role = x.0.role }) in (
-      read_next (signed_at bytes) _ _ (signed_only bytes d ds) ∙ read_next (strings_at Single s.table d.1) _ _ (strings_only Single s.table d.1 (e.0, e.1, x.2) es)
-          ∙ read_next (kind_and_role e.0.first) _ _ ms ∙ read_next (with_member s.seen m.0) _ _ sees ∙ read_next (moved_member s.bases m.0 d.0) _ _ ids ∙ read_next (text_of m.1) _ _ role
+      read_next (signed_at bytes) _ _ (signed_only bytes d ds)
+          ∙ read_next (strings_at Single s.table d.1) _ _ (strings_only Single s.table d.1 (e.0, e.1, x.2) es)
+          ∙ read_next (kind_and_role e.0.first) _ _ ms ∙ read_next (with_member s.seen m.0) _ _ sees
+          ∙ read_next (moved_member s.bases m.0 d.0) _ _ ids ∙ read_next (text_of m.1) _ _ role
           ∙ ap (λ z. Ok (z, end, x.2)) member ∙ ap (λ z. Ok (x.0, z, x.2)) (sym after),
       (let a = signed_shorter bytes d ds in let b = strings_shorter Single s.table d.1 (e.0, e.1, x.2) es in omega arith),
     )
 
 module _ {X : Type 0} (item_at : Segment → List ℕ → Step X) (Stands : Segment → List ℕ → X × Segment × List ℕ → Type 0) where
   up_to_found : ((s : Segment) (bytes : List ℕ) (x : X × Segment × List ℕ) → item_at s bytes ≡ Ok x → Stands s bytes x) →
-      (most : ℕ) (s : Segment) (bytes : List ℕ) (xs : List X) (end : Segment) → items_up_to item_at most s bytes ≡ Ok (xs, end) → ItemsStand Stands s bytes xs end
+      (most : ℕ) (s : Segment) (bytes : List ℕ) (xs : List X) (end : Segment) → items_up_to item_at most s bytes ≡ Ok (xs, end) →
+      ItemsStand Stands s bytes xs end
   unfolding items_up_to
   up_to_found found most s [] xs end h =
       let same : ([], s) ≡ (xs, end) = same_value _ _ h in
@@ -218,8 +261,10 @@ module _ {X : Type 0} (item_at : Segment → List ℕ → Step X) (Stands : Segm
   none_left zero s = refl
   none_left (suc most) s = refl
 
-  up_to_only : ((s : Segment) (bytes : List ℕ) (x : X × Segment × List ℕ) → Stands s bytes x → (item_at s bytes ≡ Ok x) × (length x.2 < length bytes)) →
-      (most : ℕ) (s : Segment) (bytes : List ℕ) (xs : List X) (end : Segment) → length bytes ≤ most → ItemsStand Stands s bytes xs end → items_up_to item_at most s bytes ≡ Ok (xs, end)
+  up_to_only : ((s : Segment) (bytes : List ℕ) (x : X × Segment × List ℕ) → Stands s bytes x →
+      (item_at s bytes ≡ Ok x) × (length x.2 < length bytes)) →
+      (most : ℕ) (s : Segment) (bytes : List ℕ) (xs : List X) (end : Segment) → length bytes ≤ most → ItemsStand Stands s bytes xs end →
+      items_up_to item_at most s bytes ≡ Ok (xs, end)
   unfolding items_up_to
   up_to_only only most s bytes [] end room h = ap (λ b. items_up_to item_at most s b) h.0 ∙ none_left most s ∙ ap (λ z. Ok ([], z)) h.1
   up_to_only only most s [] (x ∷ xs) end room h = absurd (let one = only s [] (x, h.0, h.1) h.2 in omega (arith, one.1))
@@ -227,10 +272,13 @@ module _ {X : Type 0} (item_at : Segment → List ℕ → Step X) (Stands : Segm
   up_to_only only (suc most) s (b ∷ bytes) (x ∷ xs) end room h =
       let one = only s (b ∷ bytes) (x, h.0, h.1) h.2 in
       let less = one.1 in
-      read_next (item_at s (b ∷ bytes)) _ _ one.0 ∙ read_next (items_up_to item_at most h.0 h.1) _ _ (up_to_only only most h.0 h.1 xs end (omega arith) h.3)
+      read_next (item_at s (b ∷ bytes)) _ _ one.0 ∙ read_next (items_up_to item_at most h.0 h.1) _ _
+      (up_to_only only most h.0 h.1 xs end (omega arith) h.3)
 
-  pub items_only : ((s : Segment) (bytes : List ℕ) (x : X × Segment × List ℕ) → Stands s bytes x → (item_at s bytes ≡ Ok x) × (length x.2 < length bytes)) →
-      (s : Segment) (bytes : List ℕ) (xs : List X) (end : Segment) → ItemsStand Stands s bytes xs end → items_at item_at s bytes ≡ Ok (xs, end)
+  pub items_only : ((s : Segment) (bytes : List ℕ) (x : X × Segment × List ℕ) → Stands s bytes x →
+      (item_at s bytes ≡ Ok x) × (length x.2 < length bytes)) →
+      (s : Segment) (bytes : List ℕ) (xs : List X) (end : Segment) → ItemsStand Stands s bytes xs end →
+      items_at item_at s bytes ≡ Ok (xs, end)
   unfolding items_at
   items_only only s bytes xs end h = up_to_only only (length bytes) s bytes xs end (omega arith) h
 
@@ -254,7 +302,8 @@ section_found bytes x h =
 pub section_only : (bytes : List ℕ) (x : List ℕ × List ℕ) → SectionStands bytes x → section_at bytes ≡ Ok x
 unfolding section_at
 section_only bytes x s =
-    let inside : leb (length x.0) (length (x.0 ++ x.1)) ≡ true = (let lengths : length (x.0 ++ x.1) ≡ length x.0 + length x.1 = length-append x.0 x.1 in grind (arith, nat_tests)) in
+    let inside : leb (length x.0) (length (x.0 ++ x.1)) ≡ true =
+    (let lengths : length (x.0 ++ x.1) ≡ length x.0 + length x.1 = length-append x.0 x.1 in grind (arith, nat_tests)) in
     read_next (number_at bytes) cut_at _ (number_only bytes (length x.0, x.0 ++ x.1) s)
     ∙ rw (inside, take-append_seam x.0 x.1, drop-append_seam x.0 x.1) refl
 
@@ -279,9 +328,12 @@ node_found s bytes x h =
 node_only : (s : Segment) (bytes : List ℕ) (x : Body × Segment) → NodeStands s bytes x → node_at s bytes ≡ Ok x
 unfolding node_at longitude_at latitude_at
 node_only s bytes x (lon, lat, tags, lons, lats, all, made) =
-    read_next (longitude_at s bytes) _ _ (moved_only (moved_coordinate s.bases.lon) (λ v. with_bases s (record s.bases { lon = v })) bytes lon lons)
-    ∙ read_next (latitude_at lon.1 lon.2) _ _ (moved_only (moved_coordinate lon.1.bases.lat) (λ v. with_bases lon.1 (record lon.1.bases { lat = v })) lon.2 lat lats)
-    ∙ read_next (items_at tag_at lat.1 lat.2) _ _ (items_only tag_at TagStands tag_only lat.1 lat.2 tags x.1 all) ∙ ap (λ b. Ok (b, x.1)) (sym made)
+    read_next (longitude_at s bytes) _ _ (moved_only (moved_coordinate s.bases.lon)
+    (λ v. with_bases s (record s.bases { lon = v })) bytes lon lons)
+    ∙ read_next (latitude_at lon.1 lon.2) _ _ (moved_only (moved_coordinate lon.1.bases.lat)
+    (λ v. with_bases lon.1 (record lon.1.bases { lat = v })) lon.2 lat lats)
+    ∙ read_next (items_at tag_at lat.1 lat.2) _ _ (items_only tag_at TagStands tag_only lat.1 lat.2 tags x.1 all)
+    ∙ ap (λ b. Ok (b, x.1)) (sym made)
 
 way_found : (s : Segment) (bytes : List ℕ) (x : Body × Segment) → way_at s bytes ≡ Ok x → WayStands s bytes x
 unfolding way_at
@@ -308,8 +360,10 @@ way_only : (s : Segment) (bytes : List ℕ) (x : Body × Segment) → WayStands 
 unfolding way_at
 way_only s bytes x (section, seen, ids, tags, cut, sees, references, all, made) =
     read_next (section_at bytes) _ _ (section_only bytes section cut) ∙ read_next (with_section s.seen section.0) _ _ sees
-    ∙ read_next (items_at reference_at (with_seen s seen) section.0) _ _ (items_only reference_at ReferenceStands reference_only (with_seen s seen) section.0 ids.0 ids.1 references)
-    ∙ read_next (items_at tag_at ids.1 section.1) _ _ (items_only tag_at TagStands tag_only ids.1 section.1 tags x.1 all) ∙ ap (λ b. Ok (b, x.1)) (sym made)
+    ∙ read_next (items_at reference_at (with_seen s seen) section.0) _ _
+    (items_only reference_at ReferenceStands reference_only (with_seen s seen) section.0 ids.0 ids.1 references)
+    ∙ read_next (items_at tag_at ids.1 section.1) _ _ (items_only tag_at TagStands tag_only ids.1 section.1 tags x.1 all)
+    ∙ ap (λ b. Ok (b, x.1)) (sym made)
 
 relation_found : (s : Segment) (bytes : List ℕ) (x : Body × Segment) → relation_at s bytes ≡ Ok x → RelationStands s bytes x
 unfolding relation_at
@@ -334,7 +388,8 @@ unfolding relation_at
 relation_only s bytes x (section, members, tags, cut, ms, all, made) =
     read_next (section_at bytes) _ _ (section_only bytes section cut)
     ∙ read_next (items_at member_at s section.0) _ _ (items_only member_at MemberStands member_only s section.0 members.0 members.1 ms)
-    ∙ read_next (items_at tag_at members.1 section.1) _ _ (items_only tag_at TagStands tag_only members.1 section.1 tags x.1 all) ∙ ap (λ b. Ok (b, x.1)) (sym made)
+    ∙ read_next (items_at tag_at members.1 section.1) _ _ (items_only tag_at TagStands tag_only members.1 section.1 tags x.1 all)
+    ∙ ap (λ b. Ok (b, x.1)) (sym made)
 
 body_found : (k : Kind) (s : Segment) (bytes : List ℕ) (x : Body × Segment) → body_at k s bytes ≡ Ok x → BodyStands k s bytes x
 unfolding body_at
@@ -351,7 +406,8 @@ body_only kind.Way s (b ∷ bytes) x h = way_only s (b ∷ bytes) x h
 body_only kind.Relation s (b ∷ bytes) x h = relation_only s (b ∷ bytes) x h
 
 -- ---- whole data sets
-pub set_found : (k : Kind) (s : Segment) (content : List ℕ) (x : VersionData × Segment) → set_at k s content ≡ Ok x → SpellsSet k s content x
+pub set_found : (k : Kind) (s : Segment) (content : List ℕ) (x : VersionData × Segment) → set_at k s content ≡ Ok x →
+    SpellsSet k s content x
 unfolding set_at id_at
 set_found k s content x h =
     let id = first_ok (id_at s content) _ x h in
@@ -370,9 +426,11 @@ set_found k s content x h =
 pub set_only : (k : Kind) (s : Segment) (content : List ℕ) (x : VersionData × Segment) → SpellsSet k s content x → set_at k s content ≡ Ok x
 unfolding set_at id_at
 set_only k s content x h =
-    read_next (id_at s content) _ _ (moved_only (moved_id s.bases.id) (λ v. with_bases s (record s.bases { id = v })) content h.id h.id_stands)
+    read_next (id_at s content) _ _ (moved_only (moved_id s.bases.id)
+    (λ v. with_bases s (record s.bases { id = v })) content h.id h.id_stands)
     ∙ read_next (meta_at h.id.1 h.id.2) _ _ (meta_only h.id.1 h.id.2 h.meta h.meta_stands)
     ∙ read_next (body_at k h.meta.1 h.meta.2) _ _ (body_only k h.meta.1 h.meta.2 h.body h.body_stands) ∙ ap (λ y. Ok y) (sym h.made)
 
-pub one_version : (k : Kind) (s : Segment) (content : List ℕ) (x y : VersionData × Segment) → SpellsSet k s content x → SpellsSet k s content y → x ≡ y
+pub one_version : (k : Kind) (s : Segment) (content : List ℕ) (x y : VersionData × Segment) → SpellsSet k s content x →
+    SpellsSet k s content y → x ≡ y
 one_version k s content x y first second = one_value (set_at k s content) x y (set_only k s content x first) (set_only k s content y second)

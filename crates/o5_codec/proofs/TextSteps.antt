@@ -25,7 +25,8 @@ user_read e uid name id text =
     ap (λ r. and_then r (λ uid. and_then (text_of e.second) (λ name. Ok (uid, name)))) id
     ∙ ap (λ r. and_then r (λ name. Ok (uid, name))) text
 
-pub tag_read : (e : Entry) (key value : List ℕ) → text_of e.first ≡ Ok key → text_of e.second ≡ Ok value → tag_of e ≡ Ok (record { key = key; value = value })
+pub tag_read : (e : Entry) (key value : List ℕ) → text_of e.first ≡ Ok key → text_of e.second ≡ Ok value →
+    tag_of e ≡ Ok (record { key = key; value = value })
 unfolding tag_of
 tag_read e key value first second =
     ap (λ r. and_then r (λ key. and_then (text_of e.second) (λ value. Ok (record { key = key; value = value })))) first

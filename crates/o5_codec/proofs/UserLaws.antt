@@ -15,7 +15,8 @@ use Rattle.o5_codec.proofs.NumberLaws.{number_found, number_only}
 below_limit : (n : ℕ) → ltb n (2 ^ 32) ≡ true → n < 2 ^ 32
 below_limit n h = grind (arith, nat_tests)
 
-whole_found : (bytes : List ℕ) (y : ℕ × List ℕ) (n : ℕ) → number_at bytes ≡ Ok y → whole_number y ≡ Ok n → SpellsNumber bytes n × (n < 2 ^ 32)
+whole_found : (bytes : List ℕ) (y : ℕ × List ℕ) (n : ℕ) → number_at bytes ≡ Ok y → whole_number y ≡ Ok n →
+    SpellsNumber bytes n × (n < 2 ^ 32)
 whole_found bytes (m, []) n read h =
     let t = tested_ok (ltb m (2 ^ 32)) m n OutOfRange h in
     let stands = number_found bytes (m, []) read in
@@ -32,7 +33,8 @@ uid_only : (bytes : List ℕ) (n : ℕ) → SpellsUid bytes n → uid_of bytes �
 unfolding uid_of
 uid_only [] n h = ap (λ m. Ok m) (sym h)
 uid_only (b ∷ bytes) n h =
-    read_next (number_at (b ∷ bytes)) whole_number (n, []) (number_only (b ∷ bytes) (n, []) (b ∷ bytes, h.0, sym (append-nil (b ∷ bytes)))) ∙ rw (lt-ltb n (2 ^ 32) h.1) refl
+    read_next (number_at (b ∷ bytes)) whole_number (n, []) (number_only (b ∷ bytes) (n, []) (b ∷ bytes, h.0, sym (append-nil (b ∷ bytes))))
+    ∙ rw (lt-ltb n (2 ^ 32) h.1) refl
 
 pub user_found : (e : Entry) (x : ℕ × List ℕ) → user_of e ≡ Ok x → SpellsUid e.first x.0 × (text_of e.second ≡ Ok x.1)
 unfolding user_of

@@ -1,5 +1,6 @@
 -- The bodies of data sets, as they are written, are read back.
-use Rattle.std.proofs.Common.{◌≡◌, ℕ, ℤ, ◌<◌, ◌^◌, ◌-ℤ◌, Bool, true, ◌&&◌, List, [], ◌∷◌, ◌++◌, map, length, refl, ap, sym, ◌∙◌, arith, Ok, inl, inr, subst, append_assoc, length-append, FitsSigned, encode_utf8_all}
+use Rattle.std.proofs.Common.{◌≡◌, ℕ, ℤ, ◌<◌, ◌^◌, ◌-ℤ◌, Bool, true, ◌&&◌, List, [], ◌∷◌, ◌++◌, map, length, refl, ap, sym, ◌∙◌, arith, Ok}
+use Rattle.std.proofs.Common.{inl, inr, subst, append_assoc, length-append, FitsSigned, encode_utf8_all}
 use Rattle.std.specs.Int.{w32}
 use Rattle.std.specs.List.{list_all}
 use Rattle.std.proofs.lemmas.List.{append-nil}
@@ -21,14 +22,17 @@ use Rattle.o5_codec.specs.Base.{moved_id}
 use Rattle.o5_codec.specs.Spelling.{NumberStands, TagStands, MemberStands, ItemsStand, SectionStands, VisibleStands, BodyStands}
 use Rattle.o5_codec.specs.Shortest.{shortest_number}
 use Rattle.o5_codec.specs.Formed.{FormedEntry}
-use Rattle.o5_codec.specs.Writing.{WrittenSegment, Step, in_turn, longitude_written, latitude_written, reference_written, member_id_written, strings_written, member_entry, tag_written, tags_written, member_written, section_written, references_written, members_written, body_written}
+use Rattle.o5_codec.specs.Writing.{WrittenSegment, Step, in_turn, longitude_written, latitude_written, reference_written, member_id_written}
+use Rattle.o5_codec.specs.Writing.{strings_written, member_entry, tag_written, tags_written, member_written, section_written}
+use Rattle.o5_codec.specs.Writing.{references_written, members_written, body_written}
 use Rattle.o5_codec.specs.Agreement.{strings_in, segment_behind, IsContext, MayHaveSeen}
 use Rattle.o5_codec.proofs.AnswerSteps.{read_next}
 use Rattle.o5_codec.proofs.NumberLaws.{number_shorter, signed_shorter}
 use Rattle.o5_codec.proofs.SoundStrings.{both_true}
 use Rattle.o5_codec.proofs.WrittenNumbers.{number_back, id_difference, id_moved}
 use Rattle.o5_codec.proofs.WrittenStrings.{strings_back, text_back, role_back, role_spellable}
-use Rattle.o5_codec.proofs.WrittenSteps.{strings_keep, are_texts, tags_back, tags_keep, references_back, references_keep, longitude_back, longitude_keeps, latitude_back, latitude_keeps}
+use Rattle.o5_codec.proofs.WrittenSteps.{strings_keep, are_texts, tags_back, tags_keep, references_back, references_keep, longitude_back}
+use Rattle.o5_codec.proofs.WrittenSteps.{longitude_keeps, latitude_back, latitude_keeps}
 
 -- ---- members
 abbrev seen_with : Kind → ListsSeen → ListsSeen
@@ -50,9 +54,15 @@ may_go_on kind.Relation seen may = may
 pub two_bytes : (a b rest : List ℕ) → (a ++ (b ++ [])) ++ rest ≡ a ++ (b ++ rest)
 two_bytes a b rest = ap (λ x. (a ++ x) ++ rest) (append-nil b) ∙ append_assoc a b rest
 
-member_stands : (k : Kind) (id : ℤ) (role : List ℕ) (c : WrittenSegment) (seen : ListsSeen) (rest : List ℕ) → IsContext c → MayHaveSeen kind.Relation seen → is_id id ≡ true → is_text role ≡ true →
-    MemberStands (segment_behind c seen) ((member_id_written k id c).0 ++ ((strings_written (member_entry k role) (member_id_written k id c).1).0 ++ rest))
-    (record { kind = k; id = id; role = role }, segment_behind (strings_written (member_entry k role) (member_id_written k id c).1).1 (seen_with k seen), rest)
+member_stands : (k : Kind) (id : ℤ) (role : List ℕ) (c : WrittenSegment) (seen : ListsSeen) (rest : List ℕ) → IsContext c →
+    MayHaveSeen kind.Relation seen → is_id id ≡ true → is_text role ≡ true →
+    MemberStands (segment_behind c seen) ((member_id_written k id c).0
+    ++ ((strings_written (member_entry k role) (member_id_written k id c).1).0 ++ rest)) (
+      record { kind = k; id = id; role = role },
+      segment_behind (strings_written (member_entry k role) (member_id_written k id c).1).1
+          (seen_with k seen),
+      rest,
+    )
 unfolding member_id_written strings_written
 member_stands kind.Node id role c seen rest ok may h text =
     let e : FormedEntry = member_entry kind.Node role in
@@ -112,20 +122,31 @@ member_stands kind.Relation id role c seen rest ok may h text =
       refl,
     )
 
-member_back : (m : Member) (c : WrittenSegment) (seen : ListsSeen) (rest : List ℕ) → IsContext c → MayHaveSeen kind.Relation seen → is_id m.id ≡ true → is_text m.role ≡ true →
-    MemberStands (segment_behind c seen) ((member_written m c).0 ++ rest) (m, segment_behind (member_written m c).1 (seen_with m.kind seen), rest)
+member_back : (m : Member) (c : WrittenSegment) (seen : ListsSeen) (rest : List ℕ) → IsContext c → MayHaveSeen kind.Relation seen →
+    is_id m.id ≡ true → is_text m.role ≡ true →
+    MemberStands (segment_behind c seen) ((member_written m c).0 ++ rest)
+    (m, segment_behind (member_written m c).1 (seen_with m.kind seen), rest)
 unfolding member_written in_turn
 member_back m c seen rest ok may h text =
-    let end : Segment = segment_behind (strings_written (member_entry m.kind m.role) (member_id_written m.kind m.id c).1).1 (seen_with m.kind seen) in
+    let end : Segment = segment_behind (strings_written (member_entry m.kind m.role) (member_id_written m.kind m.id c).1).1
+    (seen_with m.kind seen) in
     subst (λ bytes. MemberStands (segment_behind c seen) bytes (m, end, rest))
-    (sym (two_bytes (member_id_written m.kind m.id c).0 (strings_written (member_entry m.kind m.role) (member_id_written m.kind m.id c).1).0 rest))
+    (sym (two_bytes (member_id_written m.kind m.id c).0
+    (strings_written (member_entry m.kind m.role) (member_id_written m.kind m.id c).1).0 rest))
     (member_stands m.kind m.id m.role c seen rest ok may h text)
 
 member_id_keeps : (k : Kind) (id : ℤ) (c : WrittenSegment) → IsContext c → is_id id ≡ true → IsContext (member_id_written k id c).1
 unfolding member_id_written
 member_id_keeps kind.Node id c ok h = record {
   few = ok.few;
-  ids = record { id = ok.ids.id; reference = ok.ids.reference; node_member = h; way_member = ok.ids.way_member; relation_member = ok.ids.relation_member };
+  ids = record {
+    id = ok.ids.id;
+    reference = ok.ids.reference;
+    node_member = h;
+    way_member = ok.ids.way_member;
+    relation_member =
+        ok.ids.relation_member;
+  };
   time = ok.time;
   changeset = ok.changeset;
   lon = ok.lon;
@@ -133,7 +154,14 @@ member_id_keeps kind.Node id c ok h = record {
 }
 member_id_keeps kind.Way id c ok h = record {
   few = ok.few;
-  ids = record { id = ok.ids.id; reference = ok.ids.reference; node_member = ok.ids.node_member; way_member = h; relation_member = ok.ids.relation_member };
+  ids = record {
+    id = ok.ids.id;
+    reference = ok.ids.reference;
+    node_member = ok.ids.node_member;
+    way_member = h;
+    relation_member =
+        ok.ids.relation_member;
+  };
   time = ok.time;
   changeset = ok.changeset;
   lon = ok.lon;
@@ -141,7 +169,13 @@ member_id_keeps kind.Way id c ok h = record {
 }
 member_id_keeps kind.Relation id c ok h = record {
   few = ok.few;
-  ids = record { id = ok.ids.id; reference = ok.ids.reference; node_member = ok.ids.node_member; way_member = ok.ids.way_member; relation_member = h };
+  ids = record {
+    id = ok.ids.id;
+    reference = ok.ids.reference;
+    node_member = ok.ids.node_member;
+    way_member = ok.ids.way_member;
+    relation_member = h;
+  };
   time = ok.time;
   changeset = ok.changeset;
   lon = ok.lon;
@@ -159,8 +193,10 @@ abbrev seen_with_all : List Member → ListsSeen → ListsSeen
 seen_with_all [] seen = seen
 seen_with_all (m ∷ members) seen = seen_with_all members (seen_with m.kind seen)
 
-members_back : (members : List Member) (c : WrittenSegment) (seen : ListsSeen) → IsContext c → MayHaveSeen kind.Relation seen → list_all is_member members ≡ true →
-    ItemsStand MemberStands (segment_behind c seen) (in_turn (map member_written members) c).0 members (segment_behind (in_turn (map member_written members) c).1 (seen_with_all members seen))
+members_back : (members : List Member) (c : WrittenSegment) (seen : ListsSeen) → IsContext c → MayHaveSeen kind.Relation seen →
+    list_all is_member members ≡ true →
+    ItemsStand MemberStands (segment_behind c seen) (in_turn (map member_written members) c).0 members
+    (segment_behind (in_turn (map member_written members) c).1 (seen_with_all members seen))
 unfolding in_turn
 members_back [] c seen ok may h = (refl, refl)
 members_back (m ∷ members) c seen ok may h =
@@ -172,14 +208,16 @@ members_back (m ∷ members) c seen ok may h =
       members_back members (member_written m c).1 (seen_with m.kind seen) (member_keeps m c ok own.0) (may_go_on m.kind seen may) all.1,
     )
 
-members_keep : (members : List Member) (c : WrittenSegment) → IsContext c → list_all is_member members ≡ true → IsContext (in_turn (map member_written members) c).1
+members_keep : (members : List Member) (c : WrittenSegment) → IsContext c → list_all is_member members ≡ true →
+    IsContext (in_turn (map member_written members) c).1
 unfolding in_turn
 members_keep [] c ok h = ok
 members_keep (m ∷ members) c ok h =
     let all = both_true (is_member m) (list_all is_member members) h in
     let own = both_true (is_id m.id) (is_text m.role) all.0 in members_keep members (member_written m c).1 (member_keeps m c ok own.0) all.1
 
-all_may : (members : List Member) (seen : ListsSeen) → MayHaveSeen kind.Relation seen → MayHaveSeen kind.Relation (seen_with_all members seen)
+all_may : (members : List Member) (seen : ListsSeen) → MayHaveSeen kind.Relation seen →
+    MayHaveSeen kind.Relation (seen_with_all members seen)
 all_may [] seen may = may
 all_may (m ∷ members) seen may = all_may members (seen_with m.kind seen) (may_go_on m.kind seen may)
 
@@ -199,14 +237,17 @@ pub record IsWritable (body : Body) : Type 0 where
 
 -- a body is read back, in a segment of its kind
 abbrev pub BodyBack : Kind → WrittenSegment → ListsSeen → Step → Body → Type 0
-BodyBack k c seen step body = (after : ListsSeen) × MayHaveSeen k after × BodyStands k (segment_behind c seen) (step c).0 (body, segment_behind (step c).1 after) × IsContext (step c).1
+BodyBack k c seen step body = (after : ListsSeen) × MayHaveSeen k after
+    × BodyStands k (segment_behind c seen) (step c).0 (body, segment_behind (step c).1 after) × IsContext (step c).1
 
 -- bytes stand there, so a visible body does
-visible : (k : Kind) (s : Segment) (bytes : List ℕ) (x : Body × Segment) → VisibleStands k s bytes x → 0 < length bytes → BodyStands k s bytes x
+visible : (k : Kind) (s : Segment) (bytes : List ℕ) (x : Body × Segment) → VisibleStands k s bytes x → 0 < length bytes →
+    BodyStands k s bytes x
 visible k s [] x stands some = absurd (omega arith)
 visible k s (b ∷ bytes) x stands some = stands
 
-node_back : (lon lat : ℤ) (tags : List Tag) (c : WrittenSegment) (seen : ListsSeen) → IsContext c → MayHaveSeen kind.Node seen → FitsSigned w32 lon → FitsSigned w32 lat → list_all are_texts tags ≡ true →
+node_back : (lon lat : ℤ) (tags : List Tag) (c : WrittenSegment) (seen : ListsSeen) → IsContext c → MayHaveSeen kind.Node seen →
+    FitsSigned w32 lon → FitsSigned w32 lat → list_all are_texts tags ≡ true →
     BodyBack kind.Node c seen (body_written (Node lon lat tags)) (Node lon lat tags)
 unfolding body_written in_turn tags_written
 node_back lon lat tags c seen ok may lon_fits lat_fits texts =
@@ -217,27 +258,40 @@ node_back lon lat tags c seen ok may lon_fits lat_fits texts =
     let end : List ℕ = (in_turn (map tag_written tags) c2).0 ++ [] in
     let behind : List ℕ = (latitude_written lat c1).0 ++ end in
     let first = longitude_back c seen lon behind ok lon_fits in
-    let items = subst (λ bytes. ItemsStand TagStands (segment_behind c2 seen) bytes tags (segment_behind (in_turn (map tag_written tags) c2).1 seen))
+    let items = subst (λ bytes. ItemsStand TagStands (segment_behind c2 seen) bytes tags
+    (segment_behind (in_turn (map tag_written tags) c2).1 seen))
     (sym (append-nil (in_turn (map tag_written tags) c2).0)) (tags_back tags c2 seen ok2 texts) in (
       seen,
       may,
-      visible kind.Node (segment_behind c seen) ((longitude_written lon c).0 ++ behind) (Node lon lat tags, segment_behind (in_turn (map tag_written tags) c2).1 seen)
-          ((lon, segment_behind c1 seen, behind), (lat, segment_behind c2 seen, end), tags, first, latitude_back c1 seen lat end ok1 lat_fits, items, refl)
+      visible kind.Node (segment_behind c seen) ((longitude_written lon c).0 ++ behind)
+          (Node lon lat tags, segment_behind (in_turn (map tag_written tags) c2).1 seen) (
+            (lon, segment_behind c1 seen, behind),
+            (lat, segment_behind c2 seen, end),
+            tags,
+            first,
+            latitude_back c1 seen lat end ok1 lat_fits,
+            items,
+            refl,
+          )
           (let short = signed_shorter ((longitude_written lon c).0 ++ behind) (first.0, behind) first.1 in omega arith),
       tags_keep tags c2 ok2,
     )
 
 -- a way with this section, in a segment of ways
-section_seen : (section : List ℕ) (seen : ListsSeen) → MayHaveSeen kind.Way seen → (after : ListsSeen) × (with_section seen section ≡ Ok after) × MayHaveSeen kind.Way after
+section_seen : (section : List ℕ) (seen : ListsSeen) → MayHaveSeen kind.Way seen →
+    (after : ListsSeen) × (with_section seen section ≡ Ok after) × MayHaveSeen kind.Way after
 section_seen [] seen may = (seen, refl, may)
 section_seen (b ∷ section) seen (inl e) = (References, ap (λ s. with_section s (b ∷ section)) e, inr refl)
 section_seen (b ∷ section) seen (inr e) = (References, ap (λ s. with_section s (b ∷ section)) e, inr refl)
 
-pub section_back : (section rest : List ℕ) → length section < 2 ^ 64 → SectionStands ((shortest_number (length section) ++ section) ++ rest) (section, rest)
+pub section_back : (section rest : List ℕ) → length section < 2 ^ 64 →
+    SectionStands ((shortest_number (length section) ++ section) ++ rest) (section, rest)
 section_back section rest small =
-    subst (λ bytes. NumberStands bytes (length section, section ++ rest)) (sym (append_assoc (shortest_number (length section)) section rest)) (number_back (length section) (section ++ rest) small)
+    subst (λ bytes. NumberStands bytes (length section, section ++ rest))
+    (sym (append_assoc (shortest_number (length section)) section rest)) (number_back (length section) (section ++ rest) small)
 
-way_back : (ids : List ℤ) (tags : List Tag) (c : WrittenSegment) (seen : ListsSeen) → IsContext c → MayHaveSeen kind.Way seen → list_all is_id ids ≡ true → list_all are_texts tags ≡ true →
+way_back : (ids : List ℤ) (tags : List Tag) (c : WrittenSegment) (seen : ListsSeen) → IsContext c → MayHaveSeen kind.Way seen →
+    list_all is_id ids ≡ true → list_all are_texts tags ≡ true →
     length (in_turn (map reference_written ids) c).0 < 2 ^ 64 → BodyBack kind.Way c seen (body_written (Way ids tags)) (Way ids tags)
 unfolding body_written in_turn tags_written section_written references_written
 way_back ids tags c seen ok may are_ids texts small =
@@ -247,18 +301,23 @@ way_back ids tags c seen ok may are_ids texts small =
     let end : List ℕ = (in_turn (map tag_written tags) c1).0 ++ [] in
     let sees = section_seen section seen may in
     let cut = section_back section end small in
-    let items = subst (λ bytes. ItemsStand TagStands (segment_behind c1 sees.0) bytes tags (segment_behind (in_turn (map tag_written tags) c1).1 sees.0))
+    let items = subst (λ bytes. ItemsStand TagStands (segment_behind c1 sees.0) bytes tags
+    (segment_behind (in_turn (map tag_written tags) c1).1 sees.0))
     (sym (append-nil (in_turn (map tag_written tags) c1).0)) (tags_back tags c1 sees.0 ok1 texts) in (
       sees.0,
       sees.2,
-      visible kind.Way (segment_behind c seen) ((shortest_number (length section) ++ section) ++ end) (Way ids tags, segment_behind (in_turn (map tag_written tags) c1).1 sees.0)
+      visible kind.Way (segment_behind c seen) ((shortest_number (length section) ++ section) ++ end)
+          (Way ids tags, segment_behind (in_turn (map tag_written tags) c1).1 sees.0)
           ((section, end), sees.0, (ids, segment_behind c1 sees.0), tags, cut, sees.1, references_back ids c sees.0 ok are_ids, items, refl)
-          (let short = number_shorter ((shortest_number (length section) ++ section) ++ end) (length section, section ++ end) cut in omega arith),
+          (let short = number_shorter ((shortest_number (length section) ++ section) ++ end) (length section, section ++ end) cut in
+          omega arith),
       tags_keep tags c1 ok1,
     )
 
-relation_back : (members : List Member) (tags : List Tag) (c : WrittenSegment) (seen : ListsSeen) → IsContext c → MayHaveSeen kind.Relation seen → list_all is_member members ≡ true → list_all are_texts tags ≡ true →
-    length (in_turn (map member_written members) c).0 < 2 ^ 64 → BodyBack kind.Relation c seen (body_written (Relation members tags)) (Relation members tags)
+relation_back : (members : List Member) (tags : List Tag) (c : WrittenSegment) (seen : ListsSeen) → IsContext c →
+    MayHaveSeen kind.Relation seen → list_all is_member members ≡ true → list_all are_texts tags ≡ true →
+    length (in_turn (map member_written members) c).0 < 2 ^ 64 →
+    BodyBack kind.Relation c seen (body_written (Relation members tags)) (Relation members tags)
 unfolding body_written in_turn tags_written section_written members_written
 relation_back members tags c seen ok may are_members texts small =
     let section : List ℕ = (in_turn (map member_written members) c).0 in
@@ -267,13 +326,16 @@ relation_back members tags c seen ok may are_members texts small =
     let end : List ℕ = (in_turn (map tag_written tags) c1).0 ++ [] in
     let after : ListsSeen = seen_with_all members seen in
     let cut = section_back section end small in
-    let items = subst (λ bytes. ItemsStand TagStands (segment_behind c1 after) bytes tags (segment_behind (in_turn (map tag_written tags) c1).1 after))
+    let items = subst (λ bytes. ItemsStand TagStands (segment_behind c1 after) bytes tags
+    (segment_behind (in_turn (map tag_written tags) c1).1 after))
     (sym (append-nil (in_turn (map tag_written tags) c1).0)) (tags_back tags c1 after ok1 texts) in (
       after,
       all_may members seen may,
-      visible kind.Relation (segment_behind c seen) ((shortest_number (length section) ++ section) ++ end) (Relation members tags, segment_behind (in_turn (map tag_written tags) c1).1 after)
+      visible kind.Relation (segment_behind c seen) ((shortest_number (length section) ++ section) ++ end)
+          (Relation members tags, segment_behind (in_turn (map tag_written tags) c1).1 after)
           ((section, end), (members, segment_behind c1 after), tags, cut, members_back members c seen ok may are_members, items, refl)
-          (let short = number_shorter ((shortest_number (length section) ++ section) ++ end) (length section, section ++ end) cut in omega arith),
+          (let short = number_shorter ((shortest_number (length section) ++ section) ++ end) (length section, section ++ end) cut in
+          omega arith),
       tags_keep tags c1 ok1,
     )
 
@@ -282,21 +344,28 @@ section_room : (section end : List ℕ) → length ((shortest_number (length sec
 section_room section end small =
     omega (arith, length-append (shortest_number (length section) ++ section) end, length-append (shortest_number (length section)) section)
 
-way_section : (ids : List ℤ) (tags : List Tag) (c : WrittenSegment) → length (body_written (Way ids tags) c).0 < 2 ^ 64 → length (in_turn (map reference_written ids) c).0 < 2 ^ 64
+way_section : (ids : List ℤ) (tags : List Tag) (c : WrittenSegment) → length (body_written (Way ids tags) c).0 < 2 ^ 64 →
+    length (in_turn (map reference_written ids) c).0 < 2 ^ 64
 unfolding body_written in_turn tags_written section_written references_written
-way_section ids tags c small = section_room (in_turn (map reference_written ids) c).0 ((in_turn (map tag_written tags) (in_turn (map reference_written ids) c).1).0 ++ []) small
+way_section ids tags c small = section_room (in_turn (map reference_written ids) c).0
+    ((in_turn (map tag_written tags) (in_turn (map reference_written ids) c).1).0 ++ []) small
 
-relation_section : (members : List Member) (tags : List Tag) (c : WrittenSegment) → length (body_written (Relation members tags) c).0 < 2 ^ 64 → length (in_turn (map member_written members) c).0 < 2 ^ 64
+relation_section : (members : List Member) (tags : List Tag) (c : WrittenSegment) →
+    length (body_written (Relation members tags) c).0 < 2 ^ 64 → length (in_turn (map member_written members) c).0 < 2 ^ 64
 unfolding body_written in_turn tags_written section_written members_written
-relation_section members tags c small = section_room (in_turn (map member_written members) c).0 ((in_turn (map tag_written tags) (in_turn (map member_written members) c).1).0 ++ []) small
+relation_section members tags c small = section_room (in_turn (map member_written members) c).0
+    ((in_turn (map tag_written tags) (in_turn (map member_written members) c).1).0 ++ []) small
 
-deleted_back : (k : Kind) (c : WrittenSegment) (seen : ListsSeen) → IsContext c → MayHaveSeen k seen → BodyBack k c seen (body_written (Deleted k)) (Deleted k)
+deleted_back : (k : Kind) (c : WrittenSegment) (seen : ListsSeen) → IsContext c → MayHaveSeen k seen →
+    BodyBack k c seen (body_written (Deleted k)) (Deleted k)
 unfolding body_written in_turn
 deleted_back k c seen ok may = (seen, may, refl, ok)
 
-pub body_back : (body : Body) (c : WrittenSegment) (seen : ListsSeen) → IsContext c → MayHaveSeen (kind_of body) seen → IsWritable body → length (body_written body c).0 < 2 ^ 64 →
+pub body_back : (body : Body) (c : WrittenSegment) (seen : ListsSeen) → IsContext c → MayHaveSeen (kind_of body) seen → IsWritable body →
+    length (body_written body c).0 < 2 ^ 64 →
     BodyBack (kind_of body) c seen (body_written body) body
 body_back (Deleted k) c seen ok may w small = deleted_back k c seen ok may
 body_back (Node lon lat tags) c seen ok may w small = node_back lon lat tags c seen ok may w.location.0 w.location.1 w.texts
 body_back (Way ids tags) c seen ok may w small = way_back ids tags c seen ok may w.ids w.texts (way_section ids tags c small)
-body_back (Relation members tags) c seen ok may w small = relation_back members tags c seen ok may w.roles w.texts (relation_section members tags c small)
+body_back (Relation members tags) c seen ok may w small =
+    relation_back members tags c seen ok may w.roles w.texts (relation_section members tags c small)

@@ -1,5 +1,6 @@
 -- Data sets one behind the other, as they are written, are read back.
-use Rattle.std.proofs.Common.{◌≡◌, ℕ, suc, ◌+◌, ◌<◌, ◌^◌, Bool, true, false, eqb, List, [], ◌∷◌, ◌++◌, length, refl, ap, sym, ◌∙◌, arith, rules, inl, subst, append_assoc, length-append}
+use Rattle.std.proofs.Common.{◌≡◌, ℕ, suc, ◌+◌, ◌<◌, ◌^◌, Bool, true, false, eqb, List, [], ◌∷◌, ◌++◌, length, refl, ap, sym, ◌∙◌, arith}
+use Rattle.std.proofs.Common.{rules, inl, subst, append_assoc, length-append}
 use Rattle.std.specs.List.{All}
 use Rattle.std.proofs.lemmas.Bool.Decides.{nat_tests}
 use Rattle.osm_model.specs.declared.kind.Kind.{Kind}
@@ -16,8 +17,10 @@ use Rattle.o5_codec.specs.Spelling.{SpellsSet}
 use Rattle.o5_codec.specs.Shortest.{shortest_number}
 use Rattle.o5_codec.specs.Writing.{content_written}
 use Rattle.o5_codec.specs.Agreement.{segment_behind, IsContext, MayHaveSeen}
-use Rattle.o5_codec.specs.Encoder.{Written, new_written_segment, nothing_written, type_byte, begins_segment, reset_before, context_for, data_set, context_of, spelled_set, written_after}
-use Rattle.o5_codec.specs.WritingLaws.{segment_for, segment_after, IsBehind, content_after, IsReadNext, WrittenSetsAreRead, SetsStand, spelled_sets, WrittenListsAreRead}
+use Rattle.o5_codec.specs.Encoder.{Written, new_written_segment, nothing_written, type_byte, begins_segment, reset_before, context_for}
+use Rattle.o5_codec.specs.Encoder.{data_set, context_of, spelled_set, written_after}
+use Rattle.o5_codec.specs.WritingLaws.{segment_for, segment_after, IsBehind, content_after, IsReadNext, WrittenSetsAreRead, SetsStand}
+use Rattle.o5_codec.specs.WritingLaws.{spelled_sets, WrittenListsAreRead}
 use Rattle.o5_codec.proofs.AnswerSteps.{one_value}
 use Rattle.o5_codec.proofs.StepLaws.{section_only, set_only}
 use Rattle.o5_codec.proofs.WrittenBodies.{section_back}
@@ -55,23 +58,32 @@ one_kind kind.Relation kind.Way h = cc
 one_kind kind.Relation kind.Relation h = refl
 
 -- read back relative to the context that a reset leaves, or to the one before
-next_by : (begins : Bool) (w : Written) (seen : ListsSeen) (v : VersionData) → begins_segment w.last (kind_of v.body) ≡ begins → IsBehind w seen → IsVersion v →
+next_by : (begins : Bool) (w : Written) (seen : ListsSeen) (v : VersionData) → begins_segment w.last (kind_of v.body) ≡ begins →
+    IsBehind w seen → IsVersion v →
     length (content_written v (context_for begins w.context)).0 < 2 ^ 64 →
     (after : ListsSeen) × MayHaveSeen (kind_of v.body) after ×
-    SpellsSet (kind_of v.body) (segment_for begins (segment_after w seen)) (content_written v (context_for begins w.context)).0 (v, segment_behind (content_written v (context_for begins w.context)).1 after) ×
+    SpellsSet (kind_of v.body) (segment_for begins (segment_after w seen)) (content_written v (context_for begins w.context)).0
+    (v, segment_behind (content_written v (context_for begins w.context)).1 after) ×
     IsContext (content_written v (context_for begins w.context)).1
 next_by true w seen v is h valid small =
-    let r = set_back v new_written_segment Neither valid new_is_context (none_yet (kind_of v.body)) small in (r.after, r.may, r.spells, r.context)
+    let r = set_back v new_written_segment Neither valid new_is_context (none_yet (kind_of v.body)) small in
+    (r.after, r.may, r.spells, r.context)
 next_by false w seen v is h valid small =
-    let r = set_back v w.context seen valid h.context (subst (λ k. MayHaveSeen k seen) (one_kind w.last (kind_of v.body) is) h.lists) small in (r.after, r.may, r.spells, r.context)
+    let r = set_back v w.context seen valid h.context
+    (subst (λ k. MayHaveSeen k seen) (one_kind w.last (kind_of v.body) is) h.lists) small in (r.after, r.may, r.spells, r.context)
 
 content_room : (w : Written) (v : VersionData) → length (spelled_set w v) < 2 ^ 64 → length (content_after w v) < 2 ^ 64
 unfolding spelled_set
 content_room w v small =
     let k : Kind = kind_of v.body in
-    omega (arith, length-append (reset_before (begins_segment w.last k)) (data_set k (content_after w v)), length-append (type_byte k ∷ shortest_number (length (content_after w v))) (content_after w v))
+    omega (
+      arith,
+      length-append (reset_before (begins_segment w.last k)) (data_set k (content_after w v)),
+      length-append (type_byte k ∷ shortest_number (length (content_after w v))) (content_after w v),
+    )
 
-next_back : (w : Written) (seen : ListsSeen) (v : VersionData) → IsBehind w seen → IsVersion v → length (content_after w v) < 2 ^ 64 → IsReadNext w seen v
+next_back : (w : Written) (seen : ListsSeen) (v : VersionData) → IsBehind w seen → IsVersion v → length (content_after w v) < 2 ^ 64 →
+    IsReadNext w seen v
 unfolding context_of written_after
 next_back w seen v h valid small =
     let r = next_by (begins_segment w.last (kind_of v.body)) w seen v refl h valid small in
@@ -81,10 +93,12 @@ pub sets_read : WrittenSetsAreRead
 sets_read = (begin, λ w seen v h valid small. next_back w seen v h valid (content_room w v small))
 
 -- ---- lists
-parted : (k : Kind) (reset content rest : List ℕ) → (reset ++ data_set k content) ++ rest ≡ reset ++ type_byte k ∷ ((shortest_number (length content) ++ content) ++ rest)
+parted : (k : Kind) (reset content rest : List ℕ) →
+    (reset ++ data_set k content) ++ rest ≡ reset ++ type_byte k ∷ ((shortest_number (length content) ++ content) ++ rest)
 parted k reset content rest = append_assoc reset (data_set k content) rest
 
-lists_stand : (versions : List VersionData) (w : Written) (seen : ListsSeen) → IsBehind w seen → All IsVersion versions → length (spelled_sets w versions) < 2 ^ 64 →
+lists_stand : (versions : List VersionData) (w : Written) (seen : ListsSeen) → IsBehind w seen → All IsVersion versions →
+    length (spelled_sets w versions) < 2 ^ 64 →
     SetsStand (segment_after w seen) (spelled_sets w versions) versions
 unfolding spelled_set
 lists_stand [] w seen h valid small = refl
@@ -132,7 +146,8 @@ no_reset kind.Way e = apart 0xff 0x11 refl e
 no_reset kind.Relation e = apart 0xff 0x12 refl e
 
 -- a reset, a type byte and what stands behind them are told by the bytes
-same_begin : (b c : Bool) (j k : Kind) (x y : List ℕ) → reset_before b ++ type_byte j ∷ x ≡ reset_before c ++ type_byte k ∷ y → (b ≡ c) × (j ≡ k) × (x ≡ y)
+same_begin : (b c : Bool) (j k : Kind) (x y : List ℕ) → reset_before b ++ type_byte j ∷ x ≡ reset_before c ++ type_byte k ∷ y →
+    (b ≡ c) × (j ≡ k) × (x ≡ y)
 same_begin true true j k x y e =
     let behind : type_byte j ∷ x ≡ type_byte k ∷ y = tails 0xff 0xff (type_byte j ∷ x) (type_byte k ∷ y) e in
     (refl, one_type j k (heads (type_byte j) (type_byte k) x y behind), tails (type_byte j) (type_byte k) x y behind)
@@ -144,17 +159,22 @@ never_empty : (b : Bool) (k : Kind) (x : List ℕ) → [] ≡ reset_before b ++ 
 never_empty true k x e = cc
 never_empty false k x e = cc
 
-pub one_list : (versions others : List VersionData) (s : Segment) (bytes : List ℕ) → SetsStand s bytes versions → SetsStand s bytes others → others ≡ versions
+pub one_list : (versions others : List VersionData) (s : Segment) (bytes : List ℕ) → SetsStand s bytes versions → SetsStand s bytes others →
+    others ≡ versions
 one_list [] [] s bytes h g = refl
 one_list [] (w ∷ others) s bytes h g = absurd (never_empty g.0 (kind_of w.body) g.1 (sym h ∙ g.4))
 one_list (v ∷ versions) [] s bytes h g = absurd (never_empty h.0 (kind_of v.body) h.1 (sym g ∙ h.4))
 one_list (v ∷ versions) (w ∷ others) s bytes (b, set, x, after, is, cut, spells, more) (b', set', x', after', is', cut', spells', more') =
     let start = same_begin b' b (kind_of w.body) (kind_of v.body) set' set (sym is' ∙ is) in
-    let parts : x' ≡ x = one_value (section_at set) x' x (ap section_at (sym start.2) ∙ section_only set' x' cut') (section_only set x cut) in
-    let here : set_at (kind_of w.body) (segment_for b' s) x'.0 ≡ set_at (kind_of v.body) (segment_for b s) x.0 = (λ i. set_at (start.1 i) (segment_for (start.0 i) s) (parts i).0) in
+    let parts : x' ≡ x = one_value (section_at set) x' x (ap section_at (sym start.2) ∙ section_only set' x' cut')
+    (section_only set x cut) in
+    let here : set_at (kind_of w.body) (segment_for b' s) x'.0 ≡ set_at (kind_of v.body) (segment_for b s) x.0 =
+    (λ i. set_at (start.1 i) (segment_for (start.0 i) s) (parts i).0) in
     let same : (w, after') ≡ (v, after) = one_value (set_at (kind_of v.body) (segment_for b s) x.0) (w, after') (v, after)
-    (sym here ∙ set_only (kind_of w.body) (segment_for b' s) x'.0 (w, after') spells') (set_only (kind_of v.body) (segment_for b s) x.0 (v, after) spells) in
-    let later : SetsStand after x.1 others = subst (λ bytes. SetsStand after bytes others) (ap (λ z. z.1) parts) (subst (λ t. SetsStand t x'.1 others) (ap (λ z. z.1) same) more') in
+    (sym here ∙ set_only (kind_of w.body) (segment_for b' s) x'.0 (w, after') spells')
+    (set_only (kind_of v.body) (segment_for b s) x.0 (v, after) spells) in
+    let later : SetsStand after x.1 others = subst (λ bytes. SetsStand after bytes others) (ap (λ z. z.1) parts)
+    (subst (λ t. SetsStand t x'.1 others) (ap (λ z. z.1) same) more') in
     let rest : others ≡ versions = one_list versions others after x.1 more later in
     λ i. (same i).0 ∷ rest i
 

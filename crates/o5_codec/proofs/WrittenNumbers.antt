@@ -1,5 +1,6 @@
 -- What is written as a number is read back.
-use Rattle.std.proofs.Common.{◌≡◌, ℕ, ℤ, pos, negsuc, zero, suc, ◌+◌, ◌*◌, ◌/◌, ◌%◌, ◌<◌, ◌≤◌, ◌^◌, ◌+ℤ◌, ◌-ℤ◌, true, List, ◌++◌, length, refl, ap, ◌∙◌, arith, Ok, Err, inl, inr, if◌then◌else◌, unsigned_abs, FitsSigned}
+use Rattle.std.proofs.Common.{◌≡◌, ℕ, ℤ, pos, negsuc, zero, suc, ◌+◌, ◌*◌, ◌/◌, ◌%◌, ◌<◌, ◌≤◌, ◌^◌, ◌+ℤ◌, ◌-ℤ◌, true, List, ◌++◌, length}
+use Rattle.std.proofs.Common.{refl, ap, ◌∙◌, arith, Ok, Err, inl, inr, if◌then◌else◌, unsigned_abs, FitsSigned}
 use Rattle.std.proofs.lemmas.Bool.{le-ltb, lt-ltb, cases_lt}
 use Rattle.std.proofs.lemmas.Grind.{pow_more}
 use Rattle.std.proofs.lemmas.Int.{ints, int_wrap_fits}
@@ -18,7 +19,8 @@ groups_spell zero n small = (omega arith, refl)
 groups_spell (suc more) n small = elim (cases_lt n 128) [
   | inl low ↦ rw (lt-ltb n 128 low) (low, refl)
   | inr high ↦ rw (le-ltb n 128 high) (longer (n % 128 + 128) n (n / 128) (groups_of more (n / 128)) (omega arith) (omega arith)
-      (groups_spell more (n / 128) (let p : ℕ = 128 ^ suc more in let s : suc (suc more) ≡ suc more + 1 = omega arith in let e : 128 ^ suc (suc more) ≡ p * 128 = ap (λ k. 128 ^ k) s ∙ pow_more 128 (suc more) in omega arith)))
+      (groups_spell more (n / 128) (let p : ℕ = 128 ^ suc more in let s : suc (suc more) ≡ suc more + 1 = omega arith in
+      let e : 128 ^ suc (suc more) ≡ p * 128 = ap (λ k. 128 ^ k) s ∙ pow_more 128 (suc more) in omega arith)))
 ]
 
 groups_short : (more n : ℕ) → length (groups_of more n) ≤ suc more
@@ -57,7 +59,8 @@ id_difference a b rest ha hb =
 pub id_moved : (a b : ℤ) → is_id b ≡ true → moved_id a (b -ℤ a) ≡ Ok b
 id_moved a b h = ap (λ n. if is_id n then Ok n else Err OutOfRange) (again a b) ∙ rw h refl
 
-pub number_difference : (a b : ℕ) (rest : List ℕ) → a < 2 ^ 32 → b < 2 ^ 32 → SignedStands (difference (pos a) (pos b) ++ rest) (pos b -ℤ pos a, rest)
+pub number_difference : (a b : ℕ) (rest : List ℕ) → a < 2 ^ 32 → b < 2 ^ 32 →
+    SignedStands (difference (pos a) (pos b) ++ rest) (pos b -ℤ pos a, rest)
 number_difference a b rest ha hb = signed_back (pos b -ℤ pos a) rest (small_unsigned (pos b -ℤ pos a) (omega (arith, ints)))
 
 pub number_ranged : (n : ℕ) → n < 2 ^ 32 → within_range n ≡ Ok n
@@ -66,7 +69,8 @@ number_ranged n h = rw (lt-ltb n (2 ^ 32) h) refl
 pub number_moved : (a b : ℕ) → b < 2 ^ 32 → moved_number a (pos b -ℤ pos a) ≡ Ok b
 number_moved a b h = ap number_within (again (pos a) (pos b)) ∙ number_ranged b h
 
-pub coordinate_difference : (a b : ℤ) (rest : List ℕ) → FitsSigned w32 a → FitsSigned w32 b → SignedStands (difference a b ++ rest) (b -ℤ a, rest)
+pub coordinate_difference : (a b : ℤ) (rest : List ℕ) → FitsSigned w32 a → FitsSigned w32 b →
+    SignedStands (difference a b ++ rest) (b -ℤ a, rest)
 coordinate_difference a b rest ha hb = signed_back (b -ℤ a) rest (small_unsigned (b -ℤ a) (omega (arith, ints)))
 
 pub coordinate_moved : (a b : ℤ) → FitsSigned w32 a → FitsSigned w32 b → moved_coordinate a (b -ℤ a) ≡ Ok b

@@ -1,5 +1,6 @@
 -- What is written for a version is read back as this version.
-use Rattle.std.proofs.Common.{◌≡◌, ℕ, ◌<◌, ◌^◌, true, false, eqb, ◌&&◌, List, [], ◌∷◌, ◌++◌, length, refl, ap, sym, ◌∙◌, arith, Option, Some, None, inl, inr, subst, length-append, unwrap_or}
+use Rattle.std.proofs.Common.{◌≡◌, ℕ, ◌<◌, ◌^◌, true, false, eqb, ◌&&◌, List, [], ◌∷◌, ◌++◌, length, refl, ap, sym, ◌∙◌, arith, Option}
+use Rattle.std.proofs.Common.{Some, None, inl, inr, subst, length-append, unwrap_or}
 use Rattle.std.specs.Option.{ForSome}
 use Rattle.std.specs.List.{list_all}
 use Rattle.std.specs.List.Sorted.{IsStrictlySortedBy}
@@ -27,17 +28,21 @@ use Rattle.o5_codec.specs.declared.strings.Form.TheVariants.{Pair}
 use Rattle.o5_codec.specs.Segment.{author, time_of, meta_of}
 use Rattle.o5_codec.specs.Spelling.{UserStands, AuthorBehind, AuthorStands, BodyStands, SpellsSet}
 use Rattle.o5_codec.specs.Shortest.{shortest_number}
-use Rattle.o5_codec.specs.Writing.{WrittenSegment, Step, in_turn, plain, id_written, time_written, changeset_written, strings_written, user_entry, author_steps, author_written, body_written, content_written}
+use Rattle.o5_codec.specs.Writing.{WrittenSegment, Step, in_turn, plain, id_written, time_written, changeset_written, strings_written}
+use Rattle.o5_codec.specs.Writing.{user_entry, author_steps, author_written, body_written, content_written}
 use Rattle.o5_codec.specs.Agreement.{segment_behind, IsContext, MayHaveSeen}
 use Rattle.o5_codec.proofs.SoundStrings.{both_true}
 use Rattle.o5_codec.proofs.StringLaws.{strings_shorter}
-use Rattle.o5_codec.proofs.WrittenSteps.{id_back, id_keeps, time_back, time_keeps, changeset_back, changeset_keeps, version_back, strings_keep, user_stands, are_texts}
+use Rattle.o5_codec.proofs.WrittenSteps.{id_back, id_keeps, time_back, time_keeps, changeset_back, changeset_keeps, version_back}
+use Rattle.o5_codec.proofs.WrittenSteps.{strings_keep, user_stands, are_texts}
 use Rattle.o5_codec.proofs.WrittenBodies.{IsWritable, body_back, is_member, two_bytes}
 
 -- ---- the author
-user_behind : (changeset : ℕ) (s : Segment) (bytes : List ℕ) (user : ℕ × List ℕ) (end : Segment) (rest : List ℕ) → UserStands s bytes (user, end, rest) →
+user_behind : (changeset : ℕ) (s : Segment) (bytes : List ℕ) (user : ℕ × List ℕ) (end : Segment) (rest : List ℕ) →
+    UserStands s bytes (user, end, rest) →
     AuthorBehind changeset s bytes (author changeset user.0 user.1, end, rest)
-user_behind changeset s [] user end rest stands = absurd (let short = strings_shorter Pair s.table [] (stands.0, stands.1, rest) stands.2 in omega arith)
+user_behind changeset s [] user end rest stands = absurd
+    (let short = strings_shorter Pair s.table [] (stands.0, stands.1, rest) stands.2 in omega arith)
 user_behind changeset s (b ∷ bytes) user end rest stands = (user, stands, refl)
 
 -- who made a version
@@ -46,16 +51,19 @@ author_of v = author v.changeset v.uid v.user
 
 -- the author is read back
 abbrev AuthorBack : WrittenSegment → ListsSeen → VersionData → Step → List ℕ → Type 0
-AuthorBack c seen v step rest = AuthorStands (unwrap_or v.time 0) (segment_behind c seen) ((step c).0 ++ rest) (author_of v, segment_behind (step c).1 seen, rest)
+AuthorBack c seen v step rest = AuthorStands (unwrap_or v.time 0) (segment_behind c seen) ((step c).0 ++ rest)
+    (author_of v, segment_behind (step c).1 seen, rest)
 
-no_author : (c : WrittenSegment) (seen : ListsSeen) (v : VersionData) (rest : List ℕ) → v.time ≡ None → (v.changeset ≡ 0) × (v.uid ≡ 0) × (v.user ≡ []) →
+no_author : (c : WrittenSegment) (seen : ListsSeen) (v : VersionData) (rest : List ℕ) → v.time ≡ None →
+    (v.changeset ≡ 0) × (v.uid ≡ 0) × (v.user ≡ []) →
     AuthorStands (unwrap_or v.time 0) (segment_behind c seen) rest (author_of v, segment_behind c seen, rest)
 no_author c seen v rest none nobody = inl (
   ap (λ t. eqb (unwrap_or t 0) 0) none,
   λ i. (author (nobody.0 i) (nobody.1 i) (nobody.2 i), segment_behind c seen, rest),
 )
 
-some_author : (c : WrittenSegment) (seen : ListsSeen) (v : VersionData) (t : ℕ) (rest : List ℕ) → IsContext c → v.time ≡ Some t → 0 < t → v.changeset < 2 ^ 32 → v.uid < 2 ^ 32 → is_text v.user ≡ true →
+some_author : (c : WrittenSegment) (seen : ListsSeen) (v : VersionData) (t : ℕ) (rest : List ℕ) → IsContext c → v.time ≡ Some t → 0 < t →
+    v.changeset < 2 ^ 32 → v.uid < 2 ^ 32 → is_text v.user ≡ true →
     AuthorBack c seen v (in_turn (changeset_written v.changeset ∷ strings_written (user_entry v.uid v.user) ∷ [])) rest
 unfolding in_turn
 some_author c seen v t rest ok is some changeset uid user =
@@ -69,11 +77,13 @@ some_author c seen v t rest ok is some changeset uid user =
       (
         (v.changeset, segment_behind c1 seen, user_bytes ++ rest),
         changeset_back c seen v.changeset (user_bytes ++ rest) ok changeset,
-        user_behind v.changeset (segment_behind c1 seen) (user_bytes ++ rest) (v.uid, v.user) (segment_behind c2 seen) rest (user_stands c1 seen v.uid v.user rest ok1 uid user),
+        user_behind v.changeset (segment_behind c1 seen) (user_bytes ++ rest) (v.uid, v.user) (segment_behind c2 seen) rest
+            (user_stands c1 seen v.uid v.user rest ok1 uid user),
       ),
     ))
 
-author_by : (o : Option ℕ) (c : WrittenSegment) (seen : ListsSeen) (v : VersionData) (rest : List ℕ) → v.time ≡ o → IsContext c → IsVersion v → ForSome o (λ t. (0 < t) × (t < 2 ^ 32)) →
+author_by : (o : Option ℕ) (c : WrittenSegment) (seen : ListsSeen) (v : VersionData) (rest : List ℕ) → v.time ≡ o → IsContext c →
+    IsVersion v → ForSome o (λ t. (0 < t) × (t < 2 ^ 32)) →
     AuthorBack c seen v (in_turn (author_steps o v)) rest × IsContext (in_turn (author_steps o v) c).1
 unfolding in_turn
 author_by None c seen v rest is ok valid dated = (no_author c seen v rest is (valid.author is), ok)
@@ -82,7 +92,8 @@ author_by (Some t) c seen v rest is ok valid dated = (
   strings_keep (user_entry v.uid v.user) (changeset_written v.changeset c).1 (changeset_keeps c v.changeset ok valid.changeset),
 )
 
-pub author_back : (c : WrittenSegment) (seen : ListsSeen) (v : VersionData) (rest : List ℕ) → IsContext c → IsVersion v → AuthorBack c seen v (author_written v) rest × IsContext (author_written v c).1
+pub author_back : (c : WrittenSegment) (seen : ListsSeen) (v : VersionData) (rest : List ℕ) → IsContext c → IsVersion v →
+    AuthorBack c seen v (author_written v) rest × IsContext (author_written v c).1
 unfolding author_written
 author_back c seen v rest ok valid = author_by v.time c seen v rest refl ok valid valid.time
 
@@ -119,7 +130,8 @@ version_again v valid = λ i. record {
 texts_there : (tags : List Tag) → list_all is_text (texts_of_tags tags) ≡ true → list_all are_texts tags ≡ true
 texts_there tags h = sym (list_all-texts_of_tags is_text tags) ∙ h
 
-members_there : (members : List Member) → list_all is_id (ids_of_members members) ≡ true → list_all is_text (roles_of members) ≡ true → list_all is_member members ≡ true
+members_there : (members : List Member) → list_all is_id (ids_of_members members) ≡ true → list_all is_text (roles_of members) ≡ true →
+    list_all is_member members ≡ true
 members_there [] ids roles = refl
 members_there (m ∷ members) ids roles =
     let id = both_true (is_id m.id) (list_all is_id (ids_of_members members)) ids in
@@ -131,7 +143,8 @@ writable (Deleted k) ids texts location = record { ids = refl; texts = refl; loc
 writable (Node lon lat tags) ids texts location = record { ids = refl; texts = texts_there tags texts; location = location; roles = refl }
 writable (Way refs tags) ids texts location = record { ids = ids; texts = texts_there tags texts; location = location; roles = refl }
 writable (Relation members tags) ids texts location =
-    let both = both_true (list_all is_text (roles_of members)) (list_all is_text (texts_of_tags tags)) (sym (list_all-append is_text (roles_of members) (texts_of_tags tags)) ∙ texts) in
+    let both = both_true (list_all is_text (roles_of members)) (list_all is_text (texts_of_tags tags))
+    (sym (list_all-append is_text (roles_of members) (texts_of_tags tags)) ∙ texts) in
     record { ids = ids; texts = texts_there tags both.1; location = location; roles = members_there members ids both.0 }
 
 -- ---- a whole content
@@ -142,7 +155,8 @@ pub record IsReadBack (v : VersionData) (c : WrittenSegment) (seen : ListsSeen) 
   pub spells : SpellsSet (kind_of v.body) (segment_behind c seen) (content_written v c).0 (v, segment_behind (content_written v c).1 after)
   pub context : IsContext (content_written v c).1
 
-pub set_back : (v : VersionData) (c : WrittenSegment) (seen : ListsSeen) → IsVersion v → IsContext c → MayHaveSeen (kind_of v.body) seen → length (content_written v c).0 < 2 ^ 64 → IsReadBack v c seen
+pub set_back : (v : VersionData) (c : WrittenSegment) (seen : ListsSeen) → IsVersion v → IsContext c → MayHaveSeen (kind_of v.body) seen →
+    length (content_written v c).0 < 2 ^ 64 → IsReadBack v c seen
 unfolding content_written in_turn plain
 set_back v c seen valid ok may small =
     let ids = both_true (is_id v.id) (list_all is_id (ids_of v.body)) valid.ids in
@@ -186,7 +200,8 @@ set_back v c seen valid ok may small =
           made.0,
           refl,
         );
-        body_stands = subst (λ b. BodyStands (kind_of v.body) (segment_behind c3 seen) b (v.body, segment_behind c4 body.0)) (sym (append-nil bytes)) body.2;
+        body_stands = subst (λ b. BodyStands (kind_of v.body) (segment_behind c3 seen) b (v.body, segment_behind c4 body.0))
+            (sym (append-nil bytes)) body.2;
         made = ap (λ x. (x, segment_behind c4 body.0)) (version_again v valid);
       };
       context = body.3;

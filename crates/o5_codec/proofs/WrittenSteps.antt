@@ -1,5 +1,6 @@
 -- What the steps of a data set write is read back.
-use Rattle.std.proofs.Common.{◌≡◌, ℕ, ℤ, pos, ◌<◌, ◌^◌, ◌-ℤ◌, Bool, true, false, eqb, ◌&&◌, List, [], ◌∷◌, ◌++◌, map, refl, arith, FitsSigned}
+use Rattle.std.proofs.Common.{◌≡◌, ℕ, ℤ, pos, ◌<◌, ◌^◌, ◌-ℤ◌, Bool, true, false, eqb, ◌&&◌, List, [], ◌∷◌, ◌++◌, map, refl, arith}
+use Rattle.std.proofs.Common.{FitsSigned}
 use Rattle.std.specs.Int.{w32}
 use Rattle.std.specs.List.{list_all}
 use Rattle.std.proofs.lemmas.Bool.{lt-ltb}
@@ -8,13 +9,16 @@ use Rattle.osm_model.specs.declared.tags.Tag.{Tag}
 use Rattle.osm_model.specs.Id.{is_id}
 use Rattle.osm_model.specs.Text.{is_text}
 use Rattle.o5_codec.specs.declared.segment.ListsSeen.{ListsSeen}
-use Rattle.o5_codec.specs.Spelling.{IdStands, TimeStands, ChangesetStands, LongitudeStands, LatitudeStands, ReferenceStands, VersionStands, UserStands, TagStands, ItemsStand}
+use Rattle.o5_codec.specs.Spelling.{IdStands, TimeStands, ChangesetStands, LongitudeStands, LatitudeStands, ReferenceStands, VersionStands}
+use Rattle.o5_codec.specs.Spelling.{UserStands, TagStands, ItemsStand}
 use Rattle.o5_codec.specs.Shortest.{shortest_number}
 use Rattle.o5_codec.specs.Formed.{FormedEntry}
-use Rattle.o5_codec.specs.Writing.{WrittenSegment, in_turn, id_written, time_written, changeset_written, longitude_written, latitude_written, reference_written, strings_written, user_entry, tag_entry, tag_written}
+use Rattle.o5_codec.specs.Writing.{WrittenSegment, in_turn, id_written, time_written, changeset_written, longitude_written}
+use Rattle.o5_codec.specs.Writing.{latitude_written, reference_written, strings_written, user_entry, tag_entry, tag_written}
 use Rattle.o5_codec.specs.Agreement.{strings_in, segment_behind, IsContext}
 use Rattle.o5_codec.proofs.SoundStrings.{both_true}
-use Rattle.o5_codec.proofs.WrittenNumbers.{number_back, id_difference, id_moved, number_difference, number_moved, coordinate_difference, coordinate_moved}
+use Rattle.o5_codec.proofs.WrittenNumbers.{number_back, id_difference, id_moved, number_difference, number_moved, coordinate_difference}
+use Rattle.o5_codec.proofs.WrittenNumbers.{coordinate_moved}
 use Rattle.o5_codec.proofs.WrittenStrings.{strings_back, strings_few, user_back, tag_back, user_spellable, tag_spellable}
 
 -- ---- one value
@@ -27,7 +31,14 @@ pub id_keeps : (c : WrittenSegment) (id : ℤ) → IsContext c → is_id id ≡ 
 unfolding id_written
 id_keeps c id ok h = record {
   few = ok.few;
-  ids = record { id = h; reference = ok.ids.reference; node_member = ok.ids.node_member; way_member = ok.ids.way_member; relation_member = ok.ids.relation_member };
+  ids = record {
+    id = h;
+    reference = ok.ids.reference;
+    node_member = ok.ids.node_member;
+    way_member = ok.ids.way_member;
+    relation_member =
+        ok.ids.relation_member;
+  };
   time = ok.time;
   changeset = ok.changeset;
   lon = ok.lon;
@@ -37,13 +48,24 @@ id_keeps c id ok h = record {
 pub time_back : (c : WrittenSegment) (seen : ListsSeen) (time : ℕ) (rest : List ℕ) → IsContext c → time < 2 ^ 32 →
     TimeStands (segment_behind c seen) ((time_written time c).0 ++ rest) (time, segment_behind (time_written time c).1 seen, rest)
 unfolding time_written
-time_back c seen time rest ok h = (pos time -ℤ pos c.bases.time, number_difference c.bases.time time rest ok.time h, number_moved c.bases.time time h, refl)
+time_back c seen time rest ok h = (
+  pos time -ℤ pos c.bases.time,
+  number_difference c.bases.time time rest ok.time h,
+  number_moved c.bases.time time h,
+  refl,
+)
 
 pub time_keeps : (c : WrittenSegment) (time : ℕ) → IsContext c → time < 2 ^ 32 → IsContext (time_written time c).1
 unfolding time_written
 time_keeps c time ok h = record {
   few = ok.few;
-  ids = record { id = ok.ids.id; reference = ok.ids.reference; node_member = ok.ids.node_member; way_member = ok.ids.way_member; relation_member = ok.ids.relation_member };
+  ids = record {
+    id = ok.ids.id;
+    reference = ok.ids.reference;
+    node_member = ok.ids.node_member;
+    way_member = ok.ids.way_member;
+    relation_member = ok.ids.relation_member;
+  };
   time = h;
   changeset = ok.changeset;
   lon = ok.lon;
@@ -51,16 +73,27 @@ time_keeps c time ok h = record {
 }
 
 pub changeset_back : (c : WrittenSegment) (seen : ListsSeen) (changeset : ℕ) (rest : List ℕ) → IsContext c → changeset < 2 ^ 32 →
-    ChangesetStands (segment_behind c seen) ((changeset_written changeset c).0 ++ rest) (changeset, segment_behind (changeset_written changeset c).1 seen, rest)
+    ChangesetStands (segment_behind c seen) ((changeset_written changeset c).0 ++ rest)
+    (changeset, segment_behind (changeset_written changeset c).1 seen, rest)
 unfolding changeset_written
-changeset_back c seen changeset rest ok h =
-    (pos changeset -ℤ pos c.bases.changeset, number_difference c.bases.changeset changeset rest ok.changeset h, number_moved c.bases.changeset changeset h, refl)
+changeset_back c seen changeset rest ok h = (
+  pos changeset -ℤ pos c.bases.changeset,
+  number_difference c.bases.changeset changeset rest ok.changeset h,
+  number_moved c.bases.changeset changeset h,
+  refl,
+)
 
 pub changeset_keeps : (c : WrittenSegment) (changeset : ℕ) → IsContext c → changeset < 2 ^ 32 → IsContext (changeset_written changeset c).1
 unfolding changeset_written
 changeset_keeps c changeset ok h = record {
   few = ok.few;
-  ids = record { id = ok.ids.id; reference = ok.ids.reference; node_member = ok.ids.node_member; way_member = ok.ids.way_member; relation_member = ok.ids.relation_member };
+  ids = record {
+    id = ok.ids.id;
+    reference = ok.ids.reference;
+    node_member = ok.ids.node_member;
+    way_member = ok.ids.way_member;
+    relation_member = ok.ids.relation_member;
+  };
   time = ok.time;
   changeset = h;
   lon = ok.lon;
@@ -68,15 +101,27 @@ changeset_keeps c changeset ok h = record {
 }
 
 pub longitude_back : (c : WrittenSegment) (seen : ListsSeen) (lon : ℤ) (rest : List ℕ) → IsContext c → FitsSigned w32 lon →
-    LongitudeStands (segment_behind c seen) ((longitude_written lon c).0 ++ rest) (lon, segment_behind (longitude_written lon c).1 seen, rest)
+    LongitudeStands (segment_behind c seen) ((longitude_written lon c).0 ++ rest)
+    (lon, segment_behind (longitude_written lon c).1 seen, rest)
 unfolding longitude_written
-longitude_back c seen lon rest ok h = (lon -ℤ c.bases.lon, coordinate_difference c.bases.lon lon rest ok.lon h, coordinate_moved c.bases.lon lon ok.lon h, refl)
+longitude_back c seen lon rest ok h = (
+  lon -ℤ c.bases.lon,
+  coordinate_difference c.bases.lon lon rest ok.lon h,
+  coordinate_moved c.bases.lon lon ok.lon h,
+  refl,
+)
 
 pub longitude_keeps : (c : WrittenSegment) (lon : ℤ) → IsContext c → FitsSigned w32 lon → IsContext (longitude_written lon c).1
 unfolding longitude_written
 longitude_keeps c lon ok h = record {
   few = ok.few;
-  ids = record { id = ok.ids.id; reference = ok.ids.reference; node_member = ok.ids.node_member; way_member = ok.ids.way_member; relation_member = ok.ids.relation_member };
+  ids = record {
+    id = ok.ids.id;
+    reference = ok.ids.reference;
+    node_member = ok.ids.node_member;
+    way_member = ok.ids.way_member;
+    relation_member = ok.ids.relation_member;
+  };
   time = ok.time;
   changeset = ok.changeset;
   lon = h;
@@ -86,13 +131,24 @@ longitude_keeps c lon ok h = record {
 pub latitude_back : (c : WrittenSegment) (seen : ListsSeen) (lat : ℤ) (rest : List ℕ) → IsContext c → FitsSigned w32 lat →
     LatitudeStands (segment_behind c seen) ((latitude_written lat c).0 ++ rest) (lat, segment_behind (latitude_written lat c).1 seen, rest)
 unfolding latitude_written
-latitude_back c seen lat rest ok h = (lat -ℤ c.bases.lat, coordinate_difference c.bases.lat lat rest ok.lat h, coordinate_moved c.bases.lat lat ok.lat h, refl)
+latitude_back c seen lat rest ok h = (
+  lat -ℤ c.bases.lat,
+  coordinate_difference c.bases.lat lat rest ok.lat h,
+  coordinate_moved c.bases.lat lat ok.lat h,
+  refl,
+)
 
 pub latitude_keeps : (c : WrittenSegment) (lat : ℤ) → IsContext c → FitsSigned w32 lat → IsContext (latitude_written lat c).1
 unfolding latitude_written
 latitude_keeps c lat ok h = record {
   few = ok.few;
-  ids = record { id = ok.ids.id; reference = ok.ids.reference; node_member = ok.ids.node_member; way_member = ok.ids.way_member; relation_member = ok.ids.relation_member };
+  ids = record {
+    id = ok.ids.id;
+    reference = ok.ids.reference;
+    node_member = ok.ids.node_member;
+    way_member = ok.ids.way_member;
+    relation_member = ok.ids.relation_member;
+  };
   time = ok.time;
   changeset = ok.changeset;
   lon = ok.lon;
@@ -102,13 +158,25 @@ latitude_keeps c lat ok h = record {
 reference_back : (c : WrittenSegment) (seen : ListsSeen) (id : ℤ) (rest : List ℕ) → IsContext c → is_id id ≡ true →
     ReferenceStands (segment_behind c seen) ((reference_written id c).0 ++ rest) (id, segment_behind (reference_written id c).1 seen, rest)
 unfolding reference_written
-reference_back c seen id rest ok h = (id -ℤ c.bases.reference, id_difference c.bases.reference id rest ok.ids.reference h, id_moved c.bases.reference id h, refl)
+reference_back c seen id rest ok h = (
+  id -ℤ c.bases.reference,
+  id_difference c.bases.reference id rest ok.ids.reference h,
+  id_moved c.bases.reference id h,
+  refl,
+)
 
 reference_keeps : (c : WrittenSegment) (id : ℤ) → IsContext c → is_id id ≡ true → IsContext (reference_written id c).1
 unfolding reference_written
 reference_keeps c id ok h = record {
   few = ok.few;
-  ids = record { id = ok.ids.id; reference = h; node_member = ok.ids.node_member; way_member = ok.ids.way_member; relation_member = ok.ids.relation_member };
+  ids = record {
+    id = ok.ids.id;
+    reference = h;
+    node_member = ok.ids.node_member;
+    way_member = ok.ids.way_member;
+    relation_member =
+        ok.ids.relation_member;
+  };
   time = ok.time;
   changeset = ok.changeset;
   lon = ok.lon;
@@ -125,26 +193,47 @@ version_back n rest some small = (
 -- ---- strings
 pub strings_keep : (e : FormedEntry) (c : WrittenSegment) → IsContext c → IsContext (strings_written e c).1
 unfolding strings_written
-strings_keep e c ok = record { few = strings_few e c.table ok.few; ids = ok.ids; time = ok.time; changeset = ok.changeset; lon = ok.lon; lat = ok.lat }
+strings_keep e c ok = record {
+  few = strings_few e c.table ok.few;
+  ids = ok.ids;
+  time = ok.time;
+  changeset = ok.changeset;
+  lon = ok.lon;
+  lat = ok.lat;
+}
 
-pub user_stands : (c : WrittenSegment) (seen : ListsSeen) (uid : ℕ) (user : List ℕ) (rest : List ℕ) → IsContext c → uid < 2 ^ 32 → is_text user ≡ true →
-    UserStands (segment_behind c seen) ((strings_written (user_entry uid user) c).0 ++ rest) ((uid, user), segment_behind (strings_written (user_entry uid user) c).1 seen, rest)
+pub user_stands : (c : WrittenSegment) (seen : ListsSeen) (uid : ℕ) (user : List ℕ) (rest : List ℕ) → IsContext c → uid < 2 ^ 32 →
+    is_text user ≡ true →
+    UserStands (segment_behind c seen) ((strings_written (user_entry uid user) c).0 ++ rest)
+    ((uid, user), segment_behind (strings_written (user_entry uid user) c).1 seen, rest)
 unfolding strings_written
-user_stands c seen uid user rest ok small text =
-    ((user_entry uid user).strings, strings_in (strings_written (user_entry uid user) c).1.table, strings_back (user_entry uid user) c.table rest (user_spellable uid user text) ok.few, user_back uid user small text, refl)
+user_stands c seen uid user rest ok small text = (
+  (user_entry uid user).strings,
+  strings_in (strings_written (user_entry uid user) c).1.table,
+  strings_back (user_entry uid user) c.table rest (user_spellable uid user text) ok.few,
+  user_back uid user small text,
+  refl,
+)
 
-tag_stands : (c : WrittenSegment) (seen : ListsSeen) (tag : Tag) (rest : List ℕ) → IsContext c → is_text tag.key ≡ true → is_text tag.value ≡ true →
+tag_stands : (c : WrittenSegment) (seen : ListsSeen) (tag : Tag) (rest : List ℕ) → IsContext c → is_text tag.key ≡ true →
+    is_text tag.value ≡ true →
     TagStands (segment_behind c seen) ((tag_written tag c).0 ++ rest) (tag, segment_behind (tag_written tag c).1 seen, rest)
 unfolding strings_written
-tag_stands c seen tag rest ok key value =
-    ((tag_entry tag).strings, strings_in (strings_written (tag_entry tag) c).1.table, strings_back (tag_entry tag) c.table rest (tag_spellable tag key value) ok.few, tag_back tag key value, refl)
+tag_stands c seen tag rest ok key value = (
+  (tag_entry tag).strings,
+  strings_in (strings_written (tag_entry tag) c).1.table,
+  strings_back (tag_entry tag) c.table rest (tag_spellable tag key value) ok.few,
+  tag_back tag key value,
+  refl,
+)
 
 -- ---- lists to the end of some bytes
 abbrev pub are_texts : Tag → Bool
 are_texts tag = is_text tag.key && is_text tag.value
 
 pub tags_back : (tags : List Tag) (c : WrittenSegment) (seen : ListsSeen) → IsContext c → list_all are_texts tags ≡ true →
-    ItemsStand TagStands (segment_behind c seen) (in_turn (map tag_written tags) c).0 tags (segment_behind (in_turn (map tag_written tags) c).1 seen)
+    ItemsStand TagStands (segment_behind c seen) (in_turn (map tag_written tags) c).0 tags
+    (segment_behind (in_turn (map tag_written tags) c).1 seen)
 unfolding in_turn
 tags_back [] c seen ok texts = (refl, refl)
 tags_back (tag ∷ tags) c seen ok texts =
@@ -162,7 +251,8 @@ tags_keep [] c ok = ok
 tags_keep (tag ∷ tags) c ok = tags_keep tags (tag_written tag c).1 (strings_keep (tag_entry tag) c ok)
 
 pub references_back : (ids : List ℤ) (c : WrittenSegment) (seen : ListsSeen) → IsContext c → list_all is_id ids ≡ true →
-    ItemsStand ReferenceStands (segment_behind c seen) (in_turn (map reference_written ids) c).0 ids (segment_behind (in_turn (map reference_written ids) c).1 seen)
+    ItemsStand ReferenceStands (segment_behind c seen) (in_turn (map reference_written ids) c).0 ids
+    (segment_behind (in_turn (map reference_written ids) c).1 seen)
 unfolding in_turn
 references_back [] c seen ok h = (refl, refl)
 references_back (id ∷ ids) c seen ok h =
@@ -173,7 +263,9 @@ references_back (id ∷ ids) c seen ok h =
       references_back ids (reference_written id c).1 seen (reference_keeps c id ok all.0) all.1,
     )
 
-pub references_keep : (ids : List ℤ) (c : WrittenSegment) → IsContext c → list_all is_id ids ≡ true → IsContext (in_turn (map reference_written ids) c).1
+pub references_keep : (ids : List ℤ) (c : WrittenSegment) → IsContext c → list_all is_id ids ≡ true →
+    IsContext (in_turn (map reference_written ids) c).1
 unfolding in_turn
 references_keep [] c ok h = ok
-references_keep (id ∷ ids) c ok h = let all = both_true (is_id id) (list_all is_id ids) h in references_keep ids (reference_written id c).1 (reference_keeps c id ok all.0) all.1
+references_keep (id ∷ ids) c ok h = let all = both_true (is_id id) (list_all is_id ids) h in
+    references_keep ids (reference_written id c).1 (reference_keeps c id ok all.0) all.1

@@ -1,5 +1,6 @@
 -- What is written as a pair or a single string is read back.
-use Rattle.std.proofs.Common.{◌≡◌, ℕ, zero, suc, ◌+◌, ◌/◌, ◌<◌, ◌≤◌, ◌^◌, true, not, eqb, List, [], ◌∷◌, ◌++◌, length, take, refl, ap, sym, ◌∙◌, arith, Option, Some, None, Ok, inl, inr, subst, append_assoc, encode_utf8_all}
+use Rattle.std.proofs.Common.{◌≡◌, ℕ, zero, suc, ◌+◌, ◌/◌, ◌<◌, ◌≤◌, ◌^◌, true, not, eqb, List, [], ◌∷◌, ◌++◌, length, take, refl, ap, sym}
+use Rattle.std.proofs.Common.{◌∙◌, arith, Option, Some, None, Ok, inl, inr, subst, append_assoc, encode_utf8_all}
 use Rattle.std.specs.Option.{option_map}
 use Rattle.std.specs.Str.{is_utf8}
 use Rattle.std.proofs.lemmas.Bool.{le-ltb, lt-ltb, cases_lt, cases_Bool, cond-true, cond-false}
@@ -33,7 +34,8 @@ use Rattle.o5_codec.proofs.WrittenNumbers.{number_back, number_ranged, shortest_
 
 -- a reference that is written names the strings for a reader
 named_later : (e x : FormedEntry) (table : List FormedEntry) (r : Option ℕ) (n : ℕ) →
-    ((m : ℕ) → r ≡ Some m → entry_at (strings_in table) m ≡ Some e.strings) → option_map (λ n. n + 1) r ≡ Some n → entry_at (strings_in (x ∷ table)) n ≡ Some e.strings
+    ((m : ℕ) → r ≡ Some m → entry_at (strings_in table) m ≡ Some e.strings) → option_map (λ n. n + 1) r ≡ Some n →
+    entry_at (strings_in (x ∷ table)) n ≡ Some e.strings
 named_later e x table None n h is = cc
 named_later e x table (Some zero) n h is = (let none : None ≡ Some e.strings = h zero refl in cc)
 named_later e x table (Some (suc m)) n h is =
@@ -41,25 +43,30 @@ named_later e x table (Some (suc m)) n h is =
     let same : suc m + 1 ≡ n = cc in
     subst (λ k. entry_at (strings_in (x ∷ table)) k ≡ Some e.strings) (sym two ∙ same) (h (suc m) refl)
 
-pub named : (e : FormedEntry) (table : List FormedEntry) (n : ℕ) → reference_to e table ≡ Some n → entry_at (strings_in table) n ≡ Some e.strings
+pub named : (e : FormedEntry) (table : List FormedEntry) (n : ℕ) → reference_to e table ≡ Some n →
+    entry_at (strings_in table) n ≡ Some e.strings
 named e [] n is = cc
 named e (x ∷ table) n is = elim (cases_Bool (same_entry e x)) [
   | inl same ↦ (let first : Some 1 ≡ Some n = sym (cond-true (same_entry e x) (Some 1) _ same) ∙ is in
       let one : suc zero ≡ n = cc in
-      subst (λ k. entry_at (strings_in (x ∷ table)) k ≡ Some e.strings) one (ap (λ y. Some y.strings) (sym ((same_entry_decides e x).0 same))))
+      subst (λ k. entry_at (strings_in (x ∷ table)) k ≡ Some e.strings) one
+      (ap (λ y. Some y.strings) (sym ((same_entry_decides e x).0 same))))
   | inr other ↦ named_later e x table (reference_to e table) n (named e table) (sym (cond-false (same_entry e x) (Some 1) _ other) ∙ is)
 ]
 
 -- storing drops the forms, or forms are dropped and then strings stored
 pub kept_strings : (e : FormedEntry) (table : List FormedEntry) → strings_in (kept e table) ≡ stored e.strings (strings_in table)
 kept_strings e table = elim (cases_Bool (is_short e.strings)) [
-  | inl short ↦ ap strings_in (cond-true (is_short e.strings) _ table short) ∙ sym (take-map (λ (x : FormedEntry). x.strings) limit (e ∷ table)) ∙ sym (cond-true (is_short e.strings) _ (strings_in table) short)
-  | inr long ↦ ap strings_in (cond-false (is_short e.strings) _ table long) ∙ sym (cond-false (is_short e.strings) _ (strings_in table) long)
+  | inl short ↦ ap strings_in (cond-true (is_short e.strings) _ table short)
+      ∙ sym (take-map (λ (x : FormedEntry). x.strings) limit (e ∷ table)) ∙ sym (cond-true (is_short e.strings) _ (strings_in table) short)
+  | inr long ↦ ap strings_in (cond-false (is_short e.strings) _ table long)
+      ∙ sym (cond-false (is_short e.strings) _ (strings_in table) long)
 ]
 
 pub kept_few : (e : FormedEntry) (table : List FormedEntry) → length table ≤ limit → length (kept e table) ≤ limit
 kept_few e table few = elim (cases_Bool (is_short e.strings)) [
-  | inl short ↦ subst (λ t. length t ≤ limit) (sym (cond-true (is_short e.strings) (take limit (e ∷ table)) table short)) (omega (arith, length-take limit (e ∷ table)))
+  | inl short ↦ subst (λ t. length t ≤ limit) (sym (cond-true (is_short e.strings) (take limit (e ∷ table)) table short))
+      (omega (arith, length-take limit (e ∷ table)))
   | inr long ↦ subst (λ t. length t ≤ limit) (sym (cond-false (is_short e.strings) (take limit (e ∷ table)) table long)) few
 ]
 
@@ -69,7 +76,8 @@ pub record IsSpellable (e : FormedEntry) : Type 0 where
   pub second : has_no_zero e.strings.second ≡ true
   pub single : e.form ≡ Single → e.strings.second ≡ []
 
-inline_back : (form : Form) (strings : Entry) (rest : List ℕ) → has_no_zero strings.first ≡ true → has_no_zero strings.second ≡ true → (form ≡ Single → strings.second ≡ []) →
+inline_back : (form : Form) (strings : Entry) (rest : List ℕ) → has_no_zero strings.first ≡ true → has_no_zero strings.second ≡ true →
+    (form ≡ Single → strings.second ≡ []) →
     (inline : List ℕ) × (inline_bytes form strings ++ rest ≡ 0 ∷ inline) × InlineStands form inline (strings, rest)
 inline_back Pair strings rest first second single = (
   strings.first ++ 0 ∷ (strings.second ++ 0 ∷ rest),
@@ -82,7 +90,8 @@ reference_small : (n : ℕ) (table : List FormedEntry) → Within (length table)
 unfolding limit
 reference_small n table w few = omega (arith, w.1)
 
-by_reference : (e : FormedEntry) (table : List FormedEntry) (r : Option ℕ) (rest : List ℕ) → IsSpellable e → length table ≤ limit → reference_to e table ≡ r → Within (length table) r →
+by_reference : (e : FormedEntry) (table : List FormedEntry) (r : Option ℕ) (rest : List ℕ) → IsSpellable e → length table ≤ limit →
+    reference_to e table ≡ r → Within (length table) r →
     StringsStand e.form (strings_in table) (spelled_by e r ++ rest) (e.strings, strings_in (kept_by e r table), rest)
 by_reference e table None rest ok few is w =
     let inline = inline_back e.form e.strings rest ok.first ok.second ok.single in
@@ -91,14 +100,16 @@ by_reference e table (Some n) rest ok few is w = inr (n, number_back n rest (ref
 
 -- the strings are read back, and the tables go on alike
 pub strings_back : (e : FormedEntry) (table : List FormedEntry) (rest : List ℕ) → IsSpellable e → length table ≤ limit →
-    StringsStand e.form (strings_in table) (spelled_by e (reference_to e table) ++ rest) (e.strings, strings_in (kept_by e (reference_to e table) table), rest)
+    StringsStand e.form (strings_in table) (spelled_by e (reference_to e table) ++ rest)
+    (e.strings, strings_in (kept_by e (reference_to e table) table), rest)
 strings_back e table rest ok few = by_reference e table (reference_to e table) rest ok few refl (within e table)
 
 few_by : (e : FormedEntry) (table : List FormedEntry) (r : Option ℕ) → length table ≤ limit → length (kept_by e r table) ≤ limit
 few_by e table None few = kept_few e table few
 few_by e table (Some n) few = few
 
-pub strings_few : (e : FormedEntry) (table : List FormedEntry) → length table ≤ limit → length (kept_by e (reference_to e table) table) ≤ limit
+pub strings_few : (e : FormedEntry) (table : List FormedEntry) → length table ≤ limit →
+    length (kept_by e (reference_to e table) table) ≤ limit
 strings_few e table few = few_by e table (reference_to e table) few
 
 -- ---- texts
@@ -125,13 +136,15 @@ pub uid_no_zero : (uid : ℕ) → has_no_zero (uid_string uid) ≡ true
 unfolding shortest_number
 uid_no_zero uid = elim (cases_Bool (eqb uid 0)) [
   | inl none ↦ ap has_no_zero (cond-true (eqb uid 0) [] (groups_of 9 uid) none)
-  | inr some ↦ ap has_no_zero (cond-false (eqb uid 0) [] (groups_of 9 uid) some) ∙ groups_no_zero 9 uid (let apart : uid ≡ 0 → ⊥ = grind (arith, nat_tests) in omega arith)
+  | inr some ↦ ap has_no_zero (cond-false (eqb uid 0) [] (groups_of 9 uid) some)
+      ∙ groups_no_zero 9 uid (let apart : uid ≡ 0 → ⊥ = grind (arith, nat_tests) in omega arith)
 ]
 
 uid_from : (bytes : List ℕ) (n : ℕ) → NumberStands bytes (n, []) → n < 2 ^ 32 → uid_of bytes ≡ Ok n
 unfolding uid_of
 uid_from [] n s small = absurd (let short = number_shorter [] (n, []) s in omega arith)
-uid_from (b ∷ bytes) n s small = read_next (number_at (b ∷ bytes)) whole_number _ (number_only (b ∷ bytes) (n, []) s) ∙ number_ranged n small
+uid_from (b ∷ bytes) n s small = read_next (number_at (b ∷ bytes)) whole_number _ (number_only (b ∷ bytes) (n, []) s)
+    ∙ number_ranged n small
 
 nothing_spelled : uid_of [] ≡ Ok 0
 unfolding uid_of
@@ -139,19 +152,23 @@ nothing_spelled = refl
 
 pub uid_back : (uid : ℕ) → uid < 2 ^ 32 → uid_of (uid_string uid) ≡ Ok uid
 uid_back uid small = elim (cases_Bool (eqb uid 0)) [
-  | inl none ↦ (let is : uid ≡ 0 = grind (arith, nat_tests) in ap uid_of (cond-true (eqb uid 0) [] (shortest_number uid) none) ∙ nothing_spelled ∙ ap (λ n. Ok n) (sym is))
+  | inl none ↦ (let is : uid ≡ 0 = grind (arith, nat_tests) in ap uid_of (cond-true (eqb uid 0) [] (shortest_number uid) none)
+      ∙ nothing_spelled ∙ ap (λ n. Ok n) (sym is))
   | inr some ↦ ap uid_of (cond-false (eqb uid 0) [] (shortest_number uid) some)
-      ∙ uid_from (shortest_number uid) uid (shortest_number uid, shortest_spells uid (omega arith), sym (append-nil (shortest_number uid))) small
+      ∙ uid_from (shortest_number uid) uid (shortest_number uid, shortest_spells uid (omega arith), sym (append-nil (shortest_number uid)))
+      small
 ]
 
 -- ---- entries
 pub user_back : (uid : ℕ) (user : List ℕ) → uid < 2 ^ 32 → is_text user ≡ true → user_of (user_entry uid user).strings ≡ Ok (uid, user)
 unfolding user_of
-user_back uid user small text = read_next (uid_of (uid_string uid)) _ _ (uid_back uid small) ∙ read_next (text_of (encode_utf8_all user)) _ _ (text_back user text)
+user_back uid user small text = read_next (uid_of (uid_string uid)) _ _ (uid_back uid small)
+    ∙ read_next (text_of (encode_utf8_all user)) _ _ (text_back user text)
 
 pub tag_back : (tag : Tag) → is_text tag.key ≡ true → is_text tag.value ≡ true → tag_of (tag_entry tag).strings ≡ Ok tag
 unfolding tag_of
-tag_back tag key value = read_next (text_of (encode_utf8_all tag.key)) _ _ (text_back tag.key key) ∙ read_next (text_of (encode_utf8_all tag.value)) _ _ (text_back tag.value value)
+tag_back tag key value = read_next (text_of (encode_utf8_all tag.key)) _ _ (text_back tag.key key)
+    ∙ read_next (text_of (encode_utf8_all tag.value)) _ _ (text_back tag.value value)
 
 pub role_back : (k : Kind) (role : List ℕ) → kind_and_role (member_entry k role).strings.first ≡ Ok (k, encode_utf8_all role)
 role_back kind.Node role = refl
@@ -168,7 +185,12 @@ pub user_spellable : (uid : ℕ) (user : List ℕ) → is_text user ≡ true →
 user_spellable uid user text = record { first = uid_no_zero uid; second = text_no_zero user text; single = λ e. absurd (is_apart e) }
 
 pub tag_spellable : (tag : Tag) → is_text tag.key ≡ true → is_text tag.value ≡ true → IsSpellable (tag_entry tag)
-tag_spellable tag key value = record { first = text_no_zero tag.key key; second = text_no_zero tag.value value; single = λ e. absurd (is_apart e) }
+tag_spellable tag key value = record {
+  first = text_no_zero tag.key key;
+  second = text_no_zero tag.value value;
+  single =
+      λ e. absurd (is_apart e);
+}
 
 pub role_spellable : (k : Kind) (role : List ℕ) → is_text role ≡ true → IsSpellable (member_entry k role)
 role_spellable kind.Node role text = record { first = text_no_zero role text; second = refl; single = λ e. refl }

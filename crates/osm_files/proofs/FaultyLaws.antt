@@ -1,5 +1,6 @@
 -- Bytes behind a whole faulty unit change no verdict.
-use Rattle.std.proofs.Common.{◌≡◌, ◌⊎◌, inl, inr, ℕ, zero, suc, ◌+◌, ◌-◌, ◌≤◌, ◌<◌, ◌^◌, true, false, cond, List, [], ◌∷◌, ◌++◌, length, drop, take, refl, sym, ap, ◌∙◌, arith, Option, Some, None, Ok, Err, length-drop, nat_lt, option_map}
+use Rattle.std.proofs.Common.{◌≡◌, ◌⊎◌, inl, inr, ℕ, zero, suc, ◌+◌, ◌-◌, ◌≤◌, ◌<◌, ◌^◌, true, false, cond, List, [], ◌∷◌, ◌++◌, length}
+use Rattle.std.proofs.Common.{drop, take, refl, sym, ap, ◌∙◌, arith, Option, Some, None, Ok, Err, length-drop, nat_lt, option_map}
 use Rattle.std.proofs.lemmas.List.{append-nil, drop-append-le}
 use Rattle.std.proofs.Math.Seq.{take-append-add}
 use Rattle.std.proofs.lemmas.Bool.{cases_lt}
@@ -51,10 +52,12 @@ module _ (stand : Stand) (place : ℕ) (bytes : List ℕ) (u : FileUnit) (there 
   abbrev rest : List ℕ
   rest = drop u.size bytes
 
-  here : (close : Option Verdict) → units close stand place bytes ≡ found_then place u.found (λ next. units close next (place + u.size) rest)
+  here : (close : Option Verdict) → units close stand place bytes
+      ≡ found_then place u.found (λ next. units close next (place + u.size) rest)
   here close = units_step close stand place bytes u there
 
-  further : (more : List ℕ) (close : Option Verdict) → units close stand place (bytes ++ more) ≡ found_then place u.found (λ next. units close next (place + u.size) (rest ++ more))
+  further : (more : List ℕ) (close : Option Verdict) →
+      units close stand place (bytes ++ more) ≡ found_then place u.found (λ next. units close next (place + u.size) (rest ++ more))
   further more close =
       let sized = unit_sized stand bytes u there in
       units_step close stand place (bytes ++ more) u (unit_stays stand bytes more u there)
@@ -70,38 +73,54 @@ module _ (stand : Stand) (place : ℕ) (bytes : List ℕ) (u : FileUnit) (there 
   by_found (Ok (None, next)) e on = elim (on next) [
     | inl h ↦ inl (record {
       list = h.list;
-      closes = λ close. here (Some close) ∙ ap (λ f. found_then place f (λ n. units (Some close) n (place + u.size) rest)) e ∙ h.closes close;
-      longer = λ more close. (let k = h.longer more close in (k.0, further more close ∙ ap (λ f. found_then place f (λ n. units close n (place + u.size) (rest ++ more))) e ∙ k.1));
+      closes = λ close. here (Some close) ∙ ap (λ f. found_then place f (λ n. units (Some close) n (place + u.size) rest)) e
+          ∙ h.closes close;
+      longer = λ more close. (let k = h.longer more close in
+          (k.0, further more close ∙ ap (λ f. found_then place f (λ n. units close n (place + u.size) (rest ++ more))) e ∙ k.1));
     })
     | inr h ↦ inr (record {
       list = h.list;
       fault = h.fault;
-      faulty = λ close. here (Some close) ∙ ap (λ f. found_then place f (λ n. units (Some close) n (place + u.size) rest)) e ∙ h.faulty close;
-      stays = λ more close. further more close ∙ ap (λ f. found_then place f (λ n. units close n (place + u.size) (rest ++ more))) e ∙ h.stays more close;
+      faulty = λ close. here (Some close) ∙ ap (λ f. found_then place f (λ n. units (Some close) n (place + u.size) rest)) e
+          ∙ h.faulty close;
+      stays = λ more close. further more close ∙ ap (λ f. found_then place f (λ n. units close n (place + u.size) (rest ++ more))) e
+          ∙ h.stays more close;
     })
   ]
   by_found (Ok (Some v, next)) e on = elim (on next) [
     | inl h ↦ inl (record {
       list = placed place v ∷ h.list;
-      closes = λ close. here (Some close) ∙ ap (λ f. found_then place f (λ n. units (Some close) n (place + u.size) rest)) e ∙ ap (front (placed place v)) (h.closes close);
-      longer = λ more close. (let k = h.longer more close in (k.0, further more close ∙ ap (λ f. found_then place f (λ n. units close n (place + u.size) (rest ++ more))) e ∙ ap (front (placed place v)) k.1));
+      closes = λ close. here (Some close) ∙ ap (λ f. found_then place f (λ n. units (Some close) n (place + u.size) rest)) e
+          ∙ ap (front (placed place v)) (h.closes close);
+      longer = λ more close. (let k = h.longer more close in (
+        k.0,
+        further more close ∙ ap (λ f. found_then place f (λ n. units close n (place + u.size) (rest ++ more))) e
+            ∙ ap (front (placed place v)) k.1,
+      ));
     })
     | inr h ↦ inr (record {
       list = placed place v ∷ h.list;
       fault = h.fault;
-      faulty = λ close. here (Some close) ∙ ap (λ f. found_then place f (λ n. units (Some close) n (place + u.size) rest)) e ∙ ap (front (placed place v)) (h.faulty close);
-      stays = λ more close. further more close ∙ ap (λ f. found_then place f (λ n. units close n (place + u.size) (rest ++ more))) e ∙ ap (front (placed place v)) (h.stays more close);
+      faulty = λ close. here (Some close) ∙ ap (λ f. found_then place f (λ n. units (Some close) n (place + u.size) rest)) e
+          ∙ ap (front (placed place v)) (h.faulty close);
+      stays = λ more close. further more close ∙ ap (λ f. found_then place f (λ n. units close n (place + u.size) (rest ++ more))) e
+          ∙ ap (front (placed place v)) (h.stays more close);
     })
   ]
 
-by_unit : (stand : Stand) (place : ℕ) (bytes : List ℕ) (found : Option FileUnit) → unit_at stand bytes ≡ found → ((u : FileUnit) → unit_at stand bytes ≡ Some u → (next : Stand) → Splits next (place + u.size) (drop u.size bytes)) → Splits stand place bytes
+by_unit : (stand : Stand) (place : ℕ) (bytes : List ℕ) (found : Option FileUnit) → unit_at stand bytes ≡ found →
+    ((u : FileUnit) → unit_at stand bytes ≡ Some u → (next : Stand) → Splits next (place + u.size) (drop u.size bytes)) →
+    Splits stand place bytes
 by_unit stand place bytes None e on = none_whole stand place bytes e
 by_unit stand place bytes (Some u) e on = by_found stand place bytes u e u.found refl (on u e)
 
 splits : (n : ℕ) (stand : Stand) (place : ℕ) (bytes : List ℕ) → length bytes ≤ n → Splits stand place bytes
-splits zero stand place bytes few = by_unit stand place bytes (unit_at stand bytes) refl (λ u e. let sized = unit_sized stand bytes u e in absurd (omega (arith, sized.some, sized.within, few)))
+splits zero stand place bytes few = by_unit stand place bytes (unit_at stand bytes) refl
+    (λ u e. let sized = unit_sized stand bytes u e in absurd (omega (arith, sized.some, sized.within, few)))
 splits (suc n) stand place bytes few =
-    by_unit stand place bytes (unit_at stand bytes) refl (λ u e next. let sized = unit_sized stand bytes u e in splits n next (place + u.size) (drop u.size bytes) (omega (arith, length-drop u.size bytes, sized.some, sized.within, few)))
+    by_unit stand place bytes (unit_at stand bytes) refl
+    (λ u e next. let sized = unit_sized stand bytes u e in
+    splits n next (place + u.size) (drop u.size bytes) (omega (arith, length-drop u.size bytes, sized.some, sized.within, few)))
 
 -- ---- on their order
 -- some version of these is below the one before it, or none is
@@ -114,10 +133,18 @@ orders : (before : Option VersionData) (us : List Placed) → Orders before us
 orders before [] = inr (λ close. refl)
 orders before (u ∷ us) =
     elim (is_below u.version before) as (λ t. is_below u.version before ≡ t → Orders before (u ∷ us)) [
-      | true ↦ λ e. inl (verdict_at u.place Unsorted, λ close others. ap (λ t. cond t (Some (verdict_at u.place Unsorted)) (sorted_verdict close (Some u.version) (us ++ others))) e)
+      | true ↦ λ e. inl (
+        verdict_at u.place Unsorted,
+        λ close others. ap (λ t. cond t (Some (verdict_at u.place Unsorted)) (sorted_verdict close (Some u.version) (us ++ others))) e,
+      )
       | false ↦ λ e. elim (orders (Some u.version) us) [
-        | inl h ↦ inl (h.0, λ close others. ap (λ t. cond t (Some (verdict_at u.place Unsorted)) (sorted_verdict close (Some u.version) (us ++ others))) e ∙ h.1 close others)
-        | inr h ↦ inr (λ close. ap (λ t. cond t (Some (verdict_at u.place Unsorted)) (sorted_verdict close (Some u.version) us)) e ∙ h close)
+        | inl h ↦ inl (
+          h.0,
+          λ close others. ap (λ t. cond t (Some (verdict_at u.place Unsorted))
+              (sorted_verdict close (Some u.version) (us ++ others))) e ∙ h.1 close others,
+        )
+        | inr h ↦ inr (λ close. ap (λ t. cond t (Some (verdict_at u.place Unsorted)) (sorted_verdict close (Some u.version) us)) e
+            ∙ h close)
       ]
     ] refl
 
@@ -127,7 +154,8 @@ of_units still = sorted_verdict still.refusal None still.list
 -- what the whole units of some bytes say, whatever is behind them
 abbrev Says : List ℕ → Type 0
 Says bytes =
-    ((fault : Verdict) × IsFaultyWithin bytes fault × ((more : List ℕ) (close : Option Verdict) → of_units (units close (start_of bytes) 0 (bytes ++ more)) ≡ Some fault))
+    ((fault : Verdict) × IsFaultyWithin bytes fault ×
+    ((more : List ℕ) (close : Option Verdict) → of_units (units close (start_of bytes) 0 (bytes ++ more)) ≡ Some fault))
     ⊎ ((close : Verdict) → verdict_within close bytes ≡ Some close)
 
 no_others : (us : List Placed) → us ++ [] ≡ us
@@ -145,9 +173,15 @@ says_closed bytes h (inr k) = inr (λ close. ap of_units (h.closes close) ∙ k 
 says_refused : (bytes : List ℕ) (h : Refuses (start_of bytes) 0 bytes) → Orders None h.list → Says bytes
 unfolding of_units
 says_refused bytes h (inl k) =
-    let same : sorted_verdict (Some h.fault) None h.list ≡ Some k.0 = ap (λ us. sorted_verdict (Some h.fault) None us) (sym (no_others h.list)) ∙ k.1 (Some h.fault) [] in
+    let same : sorted_verdict (Some h.fault) None h.list ≡ Some k.0 =
+    ap (λ us. sorted_verdict (Some h.fault) None us) (sym (no_others h.list)) ∙ k.1 (Some h.fault) [] in
     inl (k.0, λ close. ap of_units (h.faulty close) ∙ same, λ more close. ap of_units (h.stays more close) ∙ same)
-says_refused bytes h (inr k) = inl (h.fault, λ close. ap of_units (h.faulty close) ∙ k (Some h.fault), λ more close. ap of_units (h.stays more close) ∙ k (Some h.fault))
+says_refused bytes h (inr k) = inl (
+  h.fault,
+  λ close. ap of_units (h.faulty close)
+      ∙ k (Some h.fault),
+  λ more close. ap of_units (h.stays more close) ∙ k (Some h.fault),
+)
 
 says : (bytes : List ℕ) → Says bytes
 says bytes = elim (splits (length bytes) (start_of bytes) 0 bytes (omega arith)) [
@@ -175,7 +209,8 @@ never_none bytes close e = elim (faulty_or_closed bytes) [
 pub broken_is_refused : (input : ℕ) (bytes : List ℕ) → (sorted_source input (broken_behind bytes)).refusal ≡ None → ⊥
 broken_is_refused input bytes e =
     elim (cases_lt (length bytes) (2 ^ 62)) [
-      | inl short ↦ never_none bytes (verdict_at (length bytes) ReadFault) (none_of input (verdict_within (verdict_at (length bytes) ReadFault) bytes) (sym (broken_source_ends input bytes short) ∙ e))
+      | inl short ↦ never_none bytes (verdict_at (length bytes) ReadFault)
+          (none_of input (verdict_within (verdict_at (length bytes) ReadFault) bytes) (sym (broken_source_ends input bytes short) ∙ e))
       | inr long ↦
           let held = whole_source_is_held input bytes (ap (λ s. s.refusal) (sym (long_source_ends input bytes long)) ∙ e) in
           absurd (let short = held.short in omega (arith, short, long))
@@ -196,18 +231,25 @@ file_begins bytes more short =
     let room : 2 ^ 62 - 1 ≡ length bytes + few = omega (arith, short) in
     let front : take (2 ^ 62 - 1) all ≡ bytes ++ take few more = ap (λ n. take n all) room ∙ take-append-add bytes more few in
     elim (nat_lt (length all) (2 ^ 62)) as (λ t. nat_lt (length all) (2 ^ 62) ≡ t → Begins bytes more) [
-      | true ↦ λ e. record { close = None; others = more; same = ap (λ t. cond t (units None (start_of all) 0 all) (units (Some too_long) (start_of all) 0 (take (2 ^ 62 - 1) all))) e }
+      | true ↦ λ e. record {
+        close = None;
+        others = more;
+        same =
+            ap (λ t. cond t (units None (start_of all) 0 all) (units (Some too_long) (start_of all) 0 (take (2 ^ 62 - 1) all))) e;
+      }
       | false ↦ λ e. record {
         close = Some too_long;
         others = take few more;
-        same = ap (λ t. cond t (units None (start_of all) 0 all) (units (Some too_long) (start_of all) 0 (take (2 ^ 62 - 1) all))) e ∙ ap (units (Some too_long) (start_of all) 0) front;
+        same = ap (λ t. cond t (units None (start_of all) 0 all) (units (Some too_long) (start_of all) 0 (take (2 ^ 62 - 1) all))) e
+            ∙ ap (units (Some too_long) (start_of all) 0) front;
       }
     ] refl
 
 -- a verdict isn't what closes it for two different closings
 not_both : (fault : Verdict) → Some fault ≡ Some (verdict_at 0 ReadFault) → Some fault ≡ Some (verdict_at 1 ReadFault) → ⊥
 not_both fault e f =
-    let place : verdict_at 0 ReadFault ≡ verdict_at 1 ReadFault = (let g : Some (verdict_at 0 ReadFault) ≡ Some (verdict_at 1 ReadFault) = sym e ∙ f in cc) in
+    let place : verdict_at 0 ReadFault ≡ verdict_at 1 ReadFault =
+    (let g : Some (verdict_at 0 ReadFault) ≡ Some (verdict_at 1 ReadFault) = sym e ∙ f in cc) in
     let none : 0 ≡ 1 = ap (λ v. v.place) place in
     omega (arith, none)
 
@@ -219,21 +261,28 @@ nothing_closes : (close : Verdict) → units (Some close) InOpl 0 [] ≡ refused
 nothing_closes close = units_stop (Some close) InOpl 0 [] nothing_in_nothing
 
 module _ (fault : Verdict) where
-  sorted_stays : (bytes more : List ℕ) → length bytes < 2 ^ 62 → IsFaultyWithin bytes fault → Says bytes → start_of (bytes ++ more) ≡ start_of bytes → verdict_sorted (bytes ++ more) ≡ Some fault
+  sorted_stays : (bytes more : List ℕ) → length bytes < 2 ^ 62 → IsFaultyWithin bytes fault → Says bytes →
+      start_of (bytes ++ more) ≡ start_of bytes → verdict_sorted (bytes ++ more) ≡ Some fault
   unfolding of_units
-  sorted_stays bytes more short faulty (inr closes) same = absurd (not_both fault (sym (faulty (verdict_at 0 ReadFault)) ∙ closes (verdict_at 0 ReadFault)) (sym (faulty (verdict_at 1 ReadFault)) ∙ closes (verdict_at 1 ReadFault)))
+  sorted_stays bytes more short faulty (inr closes) same =
+      absurd (not_both fault (sym (faulty (verdict_at 0 ReadFault)) ∙ closes (verdict_at 0 ReadFault))
+      (sym (faulty (verdict_at 1 ReadFault)) ∙ closes (verdict_at 1 ReadFault)))
   sorted_stays bytes more short faulty (inl (v, within, stays)) same =
       let b = file_begins bytes more short in
-      ap of_units (b.same ∙ ap (λ s. units b.close s 0 (bytes ++ b.others)) same) ∙ stays b.others b.close ∙ sym (within too_long) ∙ faulty too_long
+      ap of_units (b.same ∙ ap (λ s. units b.close s 0 (bytes ++ b.others)) same) ∙ stays b.others b.close ∙ sym (within too_long)
+      ∙ faulty too_long
 
-  stays_whatever : (bytes more : List ℕ) → length bytes < 2 ^ 62 → ((close : Verdict) → (units (Some close) (start_of bytes) 0 bytes).refusal ≡ Some fault) → Splits (start_of bytes) 0 bytes → start_of (bytes ++ more) ≡ start_of bytes
+  stays_whatever : (bytes more : List ℕ) → length bytes < 2 ^ 62 →
+      ((close : Verdict) → (units (Some close) (start_of bytes) 0 bytes).refusal ≡ Some fault) → Splits (start_of bytes) 0 bytes →
+      start_of (bytes ++ more) ≡ start_of bytes
       → verdict (bytes ++ more) ≡ Some fault
   stays_whatever bytes more short faulty (inl h) same = absurd (not_both fault
       (sym (faulty (verdict_at 0 ReadFault)) ∙ ap (λ s. s.refusal) (h.closes (verdict_at 0 ReadFault)))
       (sym (faulty (verdict_at 1 ReadFault)) ∙ ap (λ s. s.refusal) (h.closes (verdict_at 1 ReadFault))))
   stays_whatever bytes more short faulty (inr h) same =
       let b = file_begins bytes more short in
-      ap (λ s. s.refusal) (b.same ∙ ap (λ s. units b.close s 0 (bytes ++ b.others)) same ∙ h.stays b.others b.close) ∙ sym (ap (λ s. s.refusal) (h.faulty too_long)) ∙ faulty too_long
+      ap (λ s. s.refusal) (b.same ∙ ap (λ s. units b.close s 0 (bytes ++ b.others)) same ∙ h.stays b.others b.close)
+      ∙ sym (ap (λ s. s.refusal) (h.faulty too_long)) ∙ faulty too_long
 
 pub faulty_stays : FaultyStays
 faulty_stays [] more fault short faulty =

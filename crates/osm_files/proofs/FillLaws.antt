@@ -1,5 +1,6 @@
 -- Reading on.
-use Rattle.std.proofs.Common.{◌≡◌, inr, ℕ, ◌+◌, ◌<◌, ◌^◌, false, List, [], ◌∷◌, ◌++◌, length, refl, sym, ap, ◌∙◌, subst, arith, Option, Some, None, option_map, IfSome}
+use Rattle.std.proofs.Common.{◌≡◌, inr, ℕ, ◌+◌, ◌<◌, ◌^◌, false, List, [], ◌∷◌, ◌++◌, length, refl, sym, ap, ◌∙◌, subst, arith, Option}
+use Rattle.std.proofs.Common.{Some, None, option_map, IfSome}
 use Rattle.osm_files.specs.declared.fault.Fault.{Fault}
 use Rattle.osm_files.specs.Fault.{too_long_fault}
 use Rattle.osm_files.specs.Input.{Coming, preceded_by}
@@ -30,16 +31,21 @@ unfolding length_limit
 too_long_is input = refl
 
 -- one byte too many
-more_there : (held front : List ℕ) (t : Coming) → 0 < length front → (b : ℕ) × (more : List ℕ) × ((preceded_by held (preceded_by front t)).bytes ≡ held ++ b ∷ more)
+more_there : (held front : List ℕ) (t : Coming) → 0 < length front →
+    (b : ℕ) × (more : List ℕ) × ((preceded_by held (preceded_by front t)).bytes ≡ held ++ b ∷ more)
 more_there held [] t some = absurd (omega (arith, some))
 more_there held (b ∷ front) t some = (b, front ++ t.bytes, refl)
 
-from_mapped : (p : Told) (fault : Fault) (front : List ℕ) (coming : Option Coming) → 0 < length front → p.place + length p.held + 1 ≡ 2 ^ 62 → fault ≡ too_long_fault p.input
+from_mapped : (p : Told) (fault : Fault) (front : List ℕ) (coming : Option Coming) → 0 < length front →
+    p.place + length p.held + 1 ≡ 2 ^ 62 → fault ≡ too_long_fault p.input
     → IfSome (option_map (preceded_by p.held) (option_map (preceded_by front) coming)) (λ c. Halts p c fault)
 from_mapped p fault front None some full is = tt
 from_mapped p fault front (Some t) some full is = inr (full, more_there p.held front t some, is ∙ too_long_is p.input)
 
-pub fill_full : (p : Told) (coming : Option Coming) (front : List ℕ) (fault : Fault) → p.ended ≡ false → p.coming ≡ option_map (preceded_by front) coming → 0 < length front → p.place + length p.held + 1 ≡ 2 ^ 62 → fault ≡ too_long_fault p.input → StopsFilling p fault
+pub fill_full : (p : Told) (coming : Option Coming) (front : List ℕ) (fault : Fault) → p.ended ≡ false →
+    p.coming ≡ option_map (preceded_by front) coming → 0 < length front → p.place + length p.held + 1 ≡ 2 ^ 62 →
+    fault ≡ too_long_fault p.input → StopsFilling p fault
 fill_full p coming front fault unended gave some full is =
-    inr (subst (λ (o : Option Coming). IfSome o (λ c. Halts p c fault)) (sym (ahead_open p unended ∙ ap (option_map (preceded_by p.held)) gave))
+    inr (subst (λ (o : Option Coming). IfSome o (λ c. Halts p c fault))
+    (sym (ahead_open p unended ∙ ap (option_map (preceded_by p.held)) gave))
     (from_mapped p fault front coming some full is))

@@ -1,5 +1,6 @@
 -- A set whose members are given one by one.
-use Rattle.std.proofs.Common.{◌≡◌, ℕ, ◌<◌, List, [], ◌∷◌, ◌++◌, length, option_to_list, sym, refl, ap, ◌∙◌, subst, arith, Option, Some, None, Ok, ◌↔◌}
+use Rattle.std.proofs.Common.{◌≡◌, ℕ, ◌<◌, List, [], ◌∷◌, ◌++◌, length, option_to_list, sym, refl, ap, ◌∙◌, subst, arith, Option, Some}
+use Rattle.std.proofs.Common.{None, Ok, ◌↔◌}
 use Rattle.std.specs.Prelude.{IsSome}
 use Rattle.std.specs.List.Sorted.{IsStrictlySortedBy}
 use Rattle.std.proofs.lemmas.Bool.{false≢true}
@@ -13,7 +14,8 @@ use Rattle.osm_files.specs.Groups.{set_given}
 use Rattle.osm_files.specs.Source.{Step}
 use Rattle.osm_files.proofs.RiseLaws.{strict_rest}
 
-module _ (set : VersionSet) (items rest : List VersionData) (is : from_list {R = version_cmp} items ≡ set) (rises : IsStrictlySortedBy version_cmp items) where
+module _ (set : VersionSet) (items rest : List VersionData) (is : from_list {R = version_cmp} items ≡ set)
+    (rises : IsStrictlySortedBy version_cmp items) where
   -- the members are those of the list
   members_are : listed set ≡ items
   members_are = ap listed (sym is) ∙ listed-view items rises
@@ -39,6 +41,7 @@ module _ (set : VersionSet) (items rest : List VersionData) (is : from_list {R =
       ((λ i. record { list = (members_are ∙ none) i; refusal = None }), (λ i. Some (record { list = left i; refusal = None })))
   given_step (Some v) n e same some = (set_given (from_list rest), (λ i. record { list = first_member v e i; refusal = None }), refl)
 
-  pub given_fewer : (given : Option VersionData) → items ≡ option_to_list given ++ rest → IsSome given → size (from_list {R = version_cmp} rest) < size set
+  pub given_fewer : (given : Option VersionData) → items ≡ option_to_list given ++ rest → IsSome given →
+      size (from_list {R = version_cmp} rest) < size set
   given_fewer None e some = absurd (false≢true some)
   given_fewer (Some v) e some = let n = ap length (first_member v e) in omega (arith, n)

@@ -1,5 +1,6 @@
 -- Key groups, one unit at a time.
-use Rattle.std.proofs.Common.{◌≡◌, ℕ, ◌⊎◌, inl, inr, Bool, true, false, ◌||◌, List, [], ◌∷◌, ◌++◌, length, refl, ap, sym, ◌∙◌, subst, Option, Some, None, option_to_list, is_some, IfSome, Result, Ok, Err}
+use Rattle.std.proofs.Common.{◌≡◌, ℕ, ◌⊎◌, inl, inr, Bool, true, false, ◌||◌, List, [], ◌∷◌, ◌++◌, length, refl, ap, sym, ◌∙◌, subst}
+use Rattle.std.proofs.Common.{Option, Some, None, option_to_list, is_some, IfSome, Result, Ok, Err}
 use Rattle.std.proofs.lemmas.Bool.{false≢true}
 use Rattle.std.proofs.lemmas.List.{append-nil}
 use Rattle.std.specs.declared.cmp.Ordering.{Ordering}
@@ -56,7 +57,8 @@ has v versions = list_any (eq_by_cmp version_cmp v) versions
 
 pub has_ascending : (v : VersionData) (versions : List VersionData) → has v (ascending versions) ≡ has v versions
 has_ascending v versions =
-    ap (has v) (ascending_is versions) ∙ sym (contains-listed {R = version_cmp} (from_list versions) v) ∙ contains-from_list version_cmp_total versions v
+    ap (has v) (ascending_is versions) ∙ sym (contains-listed {R = version_cmp} (from_list versions) v)
+    ∙ contains-from_list version_cmp_total versions v
 
 has_first : (v : VersionData) (versions : List VersionData) → has v (v ∷ versions) ≡ true
 has_first v versions = ap (λ o. is_eq o || has v versions) (tied_itself version_cmp_total v)
@@ -84,132 +86,172 @@ neither_joins Greater h k = absurd (false≢true (sym k))
 
 -- ---- a unit, and what it makes of the group at hand
 module _ (input : ℕ) where
-  joined : (before after : Option (Still Placed Fault)) (group : List VersionData) (u : Placed) → Step before (Ok (Some u)) after → joins group u.version ≡ true → Keeps (gathered input before group []) (gathered input after (group ++ u.version ∷ []) [])
+  joined : (before after : Option (Still Placed Fault)) (group : List VersionData) (u : Placed) → Step before (Ok (Some u)) after →
+      joins group u.version ≡ true → Keeps (gathered input before group []) (gathered input after (group ++ u.version ∷ []) [])
   joined None after group u h j = tt
   joined (Some s) after group u h j =
       let same : gathered input (Some (front u h.0)) group [] ≡ gathered input (Some h.0) (group ++ u.version ∷ []) [] = rw j refl in
       ap (λ o. gathered input o (group ++ u.version ∷ []) []) h.2 ∙ sym same ∙ ap (λ x. gathered input (Some x) group []) (sym h.1)
 
-  followed : (before after : Option (Still Placed Fault)) (group : List VersionData) (u : Placed) → Step before (Ok (Some u)) after → joins group u.version ≡ false → follows group u.version ≡ true
+  followed : (before after : Option (Still Placed Fault)) (group : List VersionData) (u : Placed) → Step before (Ok (Some u)) after →
+      joins group u.version ≡ false → follows group u.version ≡ true
       → Keeps (gathered input before group []) (gathered input after (u.version ∷ []) (ascending group))
   followed None after group u h j f = tt
   followed (Some s) after group u h j f =
-      let same : gathered input (Some (front u h.0)) group [] ≡ gathered input (Some h.0) (u.version ∷ []) (ascending group) = rw (j, f) refl in
+      let same : gathered input (Some (front u h.0)) group [] ≡ gathered input (Some h.0) (u.version ∷ []) (ascending group) =
+      rw (j, f) refl in
       ap (λ o. gathered input o (u.version ∷ []) (ascending group)) h.2 ∙ sym same ∙ ap (λ x. gathered input (Some x) group []) (sym h.1)
 
-  fell : (before after : Option (Still Placed Fault)) (group : List VersionData) (u : Placed) → Step before (Ok (Some u)) after → joins group u.version ≡ false → follows group u.version ≡ false
+  fell : (before after : Option (Still Placed Fault)) (group : List VersionData) (u : Placed) → Step before (Ok (Some u)) after →
+      joins group u.version ≡ false → follows group u.version ≡ false
       → IfSome (gathered input before group []) (λ s. s ≡ refused (fault_of input (verdict_at u.place Unsorted)))
   fell None after group u h j f = tt
   fell (Some s) after group u h j f =
-      let same : versions_then [] (groups input h.0.refusal (u ∷ h.0.list) group) ≡ refused (fault_of input (verdict_at u.place Unsorted)) = rw (j, f) refl in
+      let same : versions_then [] (groups input h.0.refusal (u ∷ h.0.list) group) ≡ refused (fault_of input (verdict_at u.place Unsorted)) =
+      rw (j, f) refl in
       ap (λ x. versions_then [] (groups input x.refusal x.list group)) h.1 ∙ same
 
-  finished : (before after : Option (Still Placed Fault)) (group : List VersionData) → Step before (Ok None) after → Keeps (gathered input before group []) (gathered input after [] (ascending group))
+  finished : (before after : Option (Still Placed Fault)) (group : List VersionData) → Step before (Ok None) after →
+      Keeps (gathered input before group []) (gathered input after [] (ascending group))
   finished None after group h = tt
   finished (Some s) after group h =
-      let same : gathered input (Some whole) group [] ≡ gathered input (Some whole) [] (ascending group) = rw (ascending_nil, append-nil (ascending group)) refl in
+      let same : gathered input (Some whole) group [] ≡ gathered input (Some whole) [] (ascending group) =
+      rw (ascending_nil, append-nil (ascending group)) refl in
       ap (λ o. gathered input o [] (ascending group)) h.1 ∙ sym same ∙ ap (λ x. gathered input (Some x) group []) (sym h.0)
 
-  broken_by : (before : Option (Still Placed Fault)) (group : List VersionData) (fault : Fault) → (fault ≡ memory_fault) ⊎ IfSome before (λ s. s ≡ refused fault) → (fault ≡ memory_fault) ⊎ IfSome (gathered input before group []) (λ s. s ≡ refused fault)
+  broken_by : (before : Option (Still Placed Fault)) (group : List VersionData) (fault : Fault) →
+      (fault ≡ memory_fault) ⊎ IfSome before (λ s. s ≡ refused fault) →
+      (fault ≡ memory_fault) ⊎ IfSome (gathered input before group []) (λ s. s ≡ refused fault)
   broken_by before group fault (inl e) = inl e
   broken_by None group fault (inr h) = inr tt
   broken_by (Some s) group fault (inr h) = inr (ap (λ x. versions_then [] (groups input x.refusal x.list group)) h)
 
   -- ---- a whole group
-  module _ (start : Option (Still Placed Fault)) (begun : List VersionData) (before after : Option (Still Placed Fault)) (first : VersionData) (others : List VersionData) (keeps : Keeps (gathered input start (first ∷ begun) []) (gathered input before (first ∷ others) [])) where
-    pub joins_group : (u : Placed) → Step before (Ok (Some u)) after → is_lt (key_cmp first u.version) ≡ false → is_gt (key_cmp first u.version) ≡ false
+  module _ (start : Option (Still Placed Fault)) (begun : List VersionData) (before after : Option (Still Placed Fault))
+      (first : VersionData) (others : List VersionData)
+      (keeps : Keeps (gathered input start (first ∷ begun) []) (gathered input before (first ∷ others) [])) where
+    pub joins_group : (u : Placed) → Step before (Ok (Some u)) after → is_lt (key_cmp first u.version) ≡ false →
+        is_gt (key_cmp first u.version) ≡ false
         → Keeps (gathered input start (first ∷ begun) []) (gathered input after (first ∷ (others ++ u.version ∷ [])) [])
     joins_group u h less greater =
-        keeps_on (gathered input start (first ∷ begun) []) (gathered input before (first ∷ others) []) (gathered input after (first ∷ (others ++ u.version ∷ [])) []) keeps
+        keeps_on (gathered input start (first ∷ begun) []) (gathered input before (first ∷ others) [])
+        (gathered input after (first ∷ (others ++ u.version ∷ [])) []) keeps
         (joined before after (first ∷ others) u h (ap is_eq (neither_joins (key_cmp first u.version) less greater)))
 
     pub ends_group : IsGroup first others → Step before (Ok None) after → Gathers input start begun after first others None
     ends_group group h = record {
-      keeps = keeps_on (gathered input start (first ∷ begun) []) (gathered input before (first ∷ others) []) (gathered input after [] (ascending (first ∷ others))) keeps (finished before after (first ∷ others) h);
+      keeps = keeps_on (gathered input start (first ∷ begun) []) (gathered input before (first ∷ others) [])
+          (gathered input after [] (ascending (first ∷ others))) keeps (finished before after (first ∷ others) h);
       group = group;
       above = tt;
       end = λ e. h.1;
     }
 
-    pub begins_next : IsGroup first others → (u : Placed) → Step before (Ok (Some u)) after → is_lt (key_cmp first u.version) ≡ true → Gathers input start begun after first others (Some u.version)
+    pub begins_next : IsGroup first others → (u : Placed) → Step before (Ok (Some u)) after → is_lt (key_cmp first u.version) ≡ true →
+        Gathers input start begun after first others (Some u.version)
     begins_next group u h less = record {
       keeps =
-          keeps_on (gathered input start (first ∷ begun) []) (gathered input before (first ∷ others) []) (gathered input after (u.version ∷ []) (ascending (first ∷ others))) keeps
+          keeps_on (gathered input start (first ∷ begun) []) (gathered input before (first ∷ others) [])
+          (gathered input after (u.version ∷ []) (ascending (first ∷ others))) keeps
           (followed before after (first ∷ others) u h (less_follows (key_cmp first u.version) less) less);
       group = group;
       above = less;
       end = λ e. absurd (let f : Some u.version ≡ None = e in cc);
     }
 
-    told : (P : Still VersionData Fault → Type 0) → IfSome (gathered input before (first ∷ others) []) P → IfSome (gathered input start (first ∷ begun) []) P
+    told : (P : Still VersionData Fault → Type 0) → IfSome (gathered input before (first ∷ others) []) P →
+        IfSome (gathered input start (first ∷ begun) []) P
     told P h = from_kept (gathered input start (first ∷ begun) []) (gathered input before (first ∷ others) []) P keeps h
 
-    told_or : (fault : Fault) → (fault ≡ memory_fault) ⊎ IfSome (gathered input before (first ∷ others) []) (λ s. s ≡ refused fault) → (fault ≡ memory_fault) ⊎ IfSome (gathered input start (first ∷ begun) []) (λ s. s ≡ refused fault)
+    told_or : (fault : Fault) → (fault ≡ memory_fault) ⊎ IfSome (gathered input before (first ∷ others) []) (λ s. s ≡ refused fault) →
+        (fault ≡ memory_fault) ⊎ IfSome (gathered input start (first ∷ begun) []) (λ s. s ≡ refused fault)
     told_or fault (inl e) = inl e
     told_or fault (inr h) = inr (told (λ s. s ≡ refused fault) h)
 
     pub refuses_read : (fault : Fault) → Step before (Err fault) after → Refuses (gathered input start (first ∷ begun) []) fault after
     refuses_read fault h = (told_or fault (broken_by before (first ∷ others) fault h.0), h.1)
 
-    pub refuses_unsorted : (u : Placed) (fault : Fault) (failed : Option (Still Placed Fault)) (number : ℕ) → Step before (Ok (Some u)) after → is_gt (key_cmp first u.version) ≡ true → fault ≡ fault_of input (verdict_at u.place Unsorted)
+    pub refuses_unsorted : (u : Placed) (fault : Fault) (failed : Option (Still Placed Fault)) (number : ℕ) →
+        Step before (Ok (Some u)) after → is_gt (key_cmp first u.version) ≡ true → fault ≡ fault_of input (verdict_at u.place Unsorted)
         → failed ≡ Some (refused (failed_fault number)) → Refuses (gathered input start (first ∷ begun) []) fault failed
     refuses_unsorted u fault failed number h greater is e =
-        let falls = greater_falls (key_cmp first u.version) greater in
-        (inr (told (λ s. s ≡ refused fault) (weaker (gathered input before (first ∷ others) []) _ _ (λ s k. k ∙ ap refused (sym is)) (fell before after (first ∷ others) u h falls.0 falls.1))), (number, e))
+        let falls = greater_falls (key_cmp first u.version) greater in (
+          inr (told (λ s. s ≡ refused fault) (weaker (gathered input before (first ∷ others) []) _ _ (λ s k. k ∙ ap refused (sym is))
+              (fell before after (first ∷ others) u h falls.0 falls.1))),
+          (number, e),
+        )
 
-group_on : (P : VersionData → Type 0) (others : List VersionData) (v : VersionData) → AllByRecursion P others → P v → AllByRecursion P (others ++ v ∷ [])
+group_on : (P : VersionData → Type 0) (others : List VersionData) (v : VersionData) → AllByRecursion P others → P v →
+    AllByRecursion P (others ++ v ∷ [])
 group_on P [] v h k = (k, tt)
 group_on P (w ∷ others) v h k = (h.0, group_on P others v h.1 k)
 
-pub group_joined : (first : VersionData) (others : List VersionData) (v : VersionData) → IsGroup first others → is_lt (key_cmp first v) ≡ false → is_gt (key_cmp first v) ≡ false → IsGroup first (others ++ v ∷ [])
-group_joined first others v h less greater = group_on (λ w. key_cmp first w ≡ Equal) others v h (neither_joins (key_cmp first v) less greater)
+pub group_joined : (first : VersionData) (others : List VersionData) (v : VersionData) → IsGroup first others →
+    is_lt (key_cmp first v) ≡ false → is_gt (key_cmp first v) ≡ false → IsGroup first (others ++ v ∷ [])
+group_joined first others v h less greater = group_on (λ w. key_cmp first w ≡ Equal) others v h
+    (neither_joins (key_cmp first v) less greater)
 
 -- ---- the first group begins, or there is none
-pub first_begins : (input : ℕ) (before after : Option (Still Placed Fault)) (u : Placed) → Step before (Ok (Some u)) after → Keeps (gathered input before [] []) (gathered input after (u.version ∷ []) [])
+pub first_begins : (input : ℕ) (before after : Option (Still Placed Fault)) (u : Placed) → Step before (Ok (Some u)) after →
+    Keeps (gathered input before [] []) (gathered input after (u.version ∷ []) [])
 first_begins input before after u h = joined input before after [] u h refl
 
 no_more : (input : ℕ) → gathered input (Some whole) [] [] ≡ Some whole
 no_more input = rw ascending_nil refl
 
-pub none_begins : (input : ℕ) (before after : Option (Still Placed Fault)) → Step before (Ok None) after → Step (gathered input before [] []) (Ok None) (gathered input after [] [])
+pub none_begins : (input : ℕ) (before after : Option (Still Placed Fault)) → Step before (Ok None) after →
+    Step (gathered input before [] []) (Ok None) (gathered input after [] [])
 none_begins input None after h = (tt, ap (λ o. gathered input o [] []) h.1 ∙ no_more input)
-none_begins input (Some s) after h =
-    ((let e : Some (versions_then [] (groups input s.refusal s.list [])) ≡ Some whole = ap (λ x. gathered input (Some x) [] []) h.0 ∙ no_more input in cc), ap (λ o. gathered input o [] []) h.1 ∙ no_more input)
+none_begins input (Some s) after h = (
+  (let e : Some (versions_then [] (groups input s.refusal s.list [])) ≡ Some whole = ap (λ x. gathered input (Some x) [] []) h.0
+      ∙ no_more input in cc),
+  ap (λ o. gathered input o [] []) h.1 ∙ no_more input,
+)
 
-pub refused_begins : (input : ℕ) (before after : Option (Still Placed Fault)) (fault : Fault) → Step {A = Placed} before (Err fault) after → Refuses (gathered input before [] []) fault after
+pub refused_begins : (input : ℕ) (before after : Option (Still Placed Fault)) (fault : Fault) → Step {A = Placed} before (Err fault) after →
+    Refuses (gathered input before [] []) fault after
 refused_begins input before after fault h = (broken_by input before [] fault h.0, h.1)
 
 -- ---- what was made ready is given one by one
-first_of : (input : ℕ) (after : Option (Still Placed Fault)) (group ready : List VersionData) (v : VersionData) (s : Still VersionData Fault) → gathered input after group (v ∷ ready) ≡ Some s
+first_of : (input : ℕ) (after : Option (Still Placed Fault)) (group ready : List VersionData) (v : VersionData)
+    (s : Still VersionData Fault) → gathered input after group (v ∷ ready) ≡ Some s
     → (t : Still VersionData Fault) × (s ≡ front v t) × (gathered input after group ready ≡ Some t)
 first_of input None group ready v s e = absurd (let f : None ≡ Some s = e in cc)
 first_of input (Some w) group ready v s e =
     let t : Still VersionData Fault = versions_then ready (groups input w.refusal w.list group) in
     (t, (let f : Some (front v t) ≡ Some s = e in cc), refl)
 
-pub gives_ready : (input : ℕ) (units : Option (Still Placed Fault)) (group ready : List VersionData) (v : VersionData) → Step (gathered input units group (v ∷ ready)) (Ok (Some v)) (gathered input units group ready)
+pub gives_ready : (input : ℕ) (units : Option (Still Placed Fault)) (group ready : List VersionData) (v : VersionData) →
+    Step (gathered input units group (v ∷ ready)) (Ok (Some v)) (gathered input units group ready)
 gives_ready input None group ready v = tt
 gives_ready input (Some w) group ready v = (versions_then ready (groups input w.refusal w.list group), refl, refl)
 
-pub gives_first : (input : ℕ) (before : Option (Still Placed Fault)) (begun : List VersionData) (after : Option (Still Placed Fault)) (first : VersionData) (others : List VersionData) (next : Option VersionData) (v : VersionData) (ready : List VersionData)
-    → Gathers input before begun after first others next → ascending (first ∷ others) ≡ v ∷ ready → Step (gathered input before (first ∷ begun) []) (Ok (Some v)) (gathered input after (option_to_list next) ready)
+pub gives_first : (input : ℕ) (before : Option (Still Placed Fault)) (begun : List VersionData) (after : Option (Still Placed Fault))
+    (first : VersionData) (others : List VersionData) (next : Option VersionData) (v : VersionData) (ready : List VersionData)
+    → Gathers input before begun after first others next → ascending (first ∷ others) ≡ v ∷ ready →
+    Step (gathered input before (first ∷ begun) []) (Ok (Some v)) (gathered input after (option_to_list next) ready)
 gives_first input before begun after first others next v ready h e =
-    weaker (gathered input before (first ∷ begun) []) _ _ (λ s k. first_of input after (option_to_list next) ready v s (ap (gathered input after (option_to_list next)) (sym e) ∙ k)) h.keeps
+    weaker (gathered input before (first ∷ begun) []) _ _
+    (λ s k. first_of input after (option_to_list next) ready v s (ap (gathered input after (option_to_list next)) (sym e) ∙ k)) h.keeps
 
 -- ---- the answer of a call, behind what was kept
-pub step_on : {A : Type 0} (start before after : Option (Still A Fault)) (r : Result (Option A) Fault) → Keeps start before → Step before r after → Step start r after
+pub step_on : {A : Type 0} (start before after : Option (Still A Fault)) (r : Result (Option A) Fault) → Keeps start before →
+    Step before r after → Step start r after
 step_on start before after (Ok (Some x)) k h = from_kept start before _ k h
 step_on start before after (Ok None) k h = (from_kept start before _ k h.0, h.1)
 step_on start before after (Err fault) k (inl e, a) = (inl e, a)
 step_on start before after (Err fault) k (inr h, a) = (inr (from_kept start before _ k h), a)
 
-pub refused_step : (input : ℕ) (before : Option (Still VersionData Fault)) (after : Option (Still Placed Fault)) (group : List VersionData) (fault : Fault) → Refuses before fault after → Step before (Err fault) (gathered input after group [])
+pub refused_step : (input : ℕ) (before : Option (Still VersionData Fault)) (after : Option (Still Placed Fault)) (group : List VersionData)
+    (fault : Fault) → Refuses before fault after → Step before (Err fault) (gathered input after group [])
 refused_step input before after group fault (h, (number, a)) = (h, (number, ap (λ o. gathered input o group []) a))
 
 -- ---- what a sort and a `dedup` make of a group
-pub sorted_group : (first : VersionData) (others sorted : List VersionData) → IsPermutation (others ++ first ∷ []) sorted → IsSorted version_cmp sorted → dedup (eq_by_cmp version_cmp) sorted ≡ ascending (first ∷ others)
+pub sorted_group : (first : VersionData) (others sorted : List VersionData) → IsPermutation (others ++ first ∷ []) sorted →
+    IsSorted version_cmp sorted → dedup (eq_by_cmp version_cmp) sorted ≡ ascending (first ∷ others)
 sorted_group first others sorted moved up =
-    listed-of_sorted version_cmp_total version_cmp-IsAntisymmetric (first ∷ others) sorted (IsPermutation-trans (first ∷ others) (others ++ first ∷ []) sorted (IsPermutation-append_comm (first ∷ []) others) moved) up
+    listed-of_sorted version_cmp_total version_cmp-IsAntisymmetric (first ∷ others) sorted
+    (IsPermutation-trans (first ∷ others) (others ++ first ∷ []) sorted (IsPermutation-append_comm (first ∷ []) others) moved) up
     ∙ sym (ascending_is (first ∷ others))
 
 pub one_in : {A : Type 0} (o : Option A) → is_some o ≡ true → length (option_to_list o) ≡ 1

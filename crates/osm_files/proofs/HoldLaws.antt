@@ -1,5 +1,6 @@
 -- What a source of a whole file gives: its refusal is the file's verdict, and without one the list is that of the set held.
-use Rattle.std.proofs.Common.{◌≡◌, ℕ, ◌+◌, ◌-◌, ◌<◌, ◌≤◌, ◌^◌, Bool, true, false, ◌||◌, cond, List, [], ◌∷◌, ◌++◌, length, take, refl, ap, sym, ◌∙◌, subst, arith, Option, Some, None, option_map, append_assoc, nat_lt}
+use Rattle.std.proofs.Common.{◌≡◌, ℕ, ◌+◌, ◌-◌, ◌<◌, ◌≤◌, ◌^◌, Bool, true, false, ◌||◌, cond, List, [], ◌∷◌, ◌++◌, length, take, refl, ap}
+use Rattle.std.proofs.Common.{sym, ◌∙◌, subst, arith, Option, Some, None, option_map, append_assoc, nat_lt}
 use Rattle.std.proofs.lemmas.Bool.{lt-ltb}
 use Rattle.std.proofs.lemmas.Bool.Decides.{nat_tests}
 use Rattle.std.proofs.lemmas.List.{append-nil}
@@ -32,8 +33,10 @@ use Rattle.osm_files.proofs.RiseLaws.{groups_rise, source_is}
 
 -- ---- the refusal
 -- a key against that of the version before it, which has the key of its group
-pub below_first : (first before v : VersionData) → key_cmp first before ≡ Equal → is_below v (Some before) ≡ is_lt (ordering_reverse (key_cmp first v))
-below_first first before v same = let o = key_cmp_total in ap is_lt (o.antisymm v before ∙ ap ordering_reverse (sym (o.congr first before v same)))
+pub below_first : (first before v : VersionData) → key_cmp first before ≡ Equal →
+    is_below v (Some before) ≡ is_lt (ordering_reverse (key_cmp first v))
+below_first first before v same = let o = key_cmp_total in
+    ap is_lt (o.antisymm v before ∙ ap ordering_reverse (sym (o.congr first before v same)))
 
 module _ (input : ℕ) where
   abbrev as_fault : Option Verdict → Option Fault
@@ -43,77 +46,100 @@ module _ (input : ℕ) where
   last_refusal None group = refl
   last_refusal (Some v) group = refl
 
-  group_refusal : (close : Option Verdict) (us : List Placed) (first : VersionData) (others : List VersionData) (before : VersionData) → key_cmp first before ≡ Equal
+  group_refusal : (close : Option Verdict) (us : List Placed) (first : VersionData) (others : List VersionData) (before : VersionData) →
+      key_cmp first before ≡ Equal
       → (groups input (as_fault close) us (first ∷ others)).refusal ≡ as_fault (sorted_verdict close (Some before) us)
   group_refusal close [] first others before same = last_refusal close (first ∷ others)
   group_refusal close (u ∷ us) first others before same =
-      elim (key_cmp first u.version) as (λ o. key_cmp first u.version ≡ o → (groups input (as_fault close) (u ∷ us) (first ∷ others)).refusal ≡ as_fault (sorted_verdict close (Some before) (u ∷ us))) [
-        | Less ↦ λ e. rw (below_first first before u.version same, e) (group_refusal close us u.version [] u.version (tied_itself key_cmp_total u.version))
+      elim (key_cmp first u.version) as (λ o. key_cmp first u.version ≡ o →
+      (groups input (as_fault close) (u ∷ us) (first ∷ others)).refusal ≡ as_fault (sorted_verdict close (Some before) (u ∷ us))) [
+        | Less ↦ λ e. rw (below_first first before u.version same, e)
+            (group_refusal close us u.version [] u.version (tied_itself key_cmp_total u.version))
         | Equal ↦ λ e. rw (below_first first before u.version same, e) (group_refusal close us first (others ++ u.version ∷ []) u.version e)
         | Greater ↦ λ e. rw (below_first first before u.version same, e) refl
       ] refl
 
-  pub groups_refusal : (close : Option Verdict) (us : List Placed) → (groups input (as_fault close) us []).refusal ≡ as_fault (sorted_verdict close None us)
+  pub groups_refusal : (close : Option Verdict) (us : List Placed) →
+      (groups input (as_fault close) us []).refusal ≡ as_fault (sorted_verdict close None us)
   groups_refusal close [] = last_refusal close []
   groups_refusal close (u ∷ us) = group_refusal close us u.version [] u.version (tied_itself key_cmp_total u.version)
 
   -- the verdict of the units that a reading of these bytes gives
-  pub source_refusal : (c : Coming) → (sorted_source input c).refusal ≡ as_fault (let us = units_from None 0 c in sorted_verdict us.refusal None us.list)
+  pub source_refusal : (c : Coming) → (sorted_source input c).refusal
+      ≡ as_fault (let us = units_from None 0 c in sorted_verdict us.refusal None us.list)
   source_refusal c = ap (λ s. s.refusal) (source_is input c) ∙ (let us = units_from None 0 c in groups_refusal us.refusal us.list)
 
-pub whole_refusal : (input : ℕ) (bytes : List ℕ) → (sorted_source input (all_of bytes)).refusal ≡ option_map (fault_of input) (verdict_sorted bytes)
+pub whole_refusal : (input : ℕ) (bytes : List ℕ) →
+    (sorted_source input (all_of bytes)).refusal ≡ option_map (fault_of input) (verdict_sorted bytes)
 whole_refusal input bytes =
-    source_refusal input (all_of bytes) ∙ ap (λ (s : Still Placed Verdict). option_map (fault_of input) (sorted_verdict s.refusal None s.list)) (whole_units bytes)
+    source_refusal input (all_of bytes) ∙ ap (λ (s : Still Placed Verdict).
+    option_map (fault_of input) (sorted_verdict s.refusal None s.list)) (whole_units bytes)
 
 -- ---- the list
 -- a list that ascends, and has the members of another
-pub members_are : (versions others : List VersionData) → IsStrictlySortedBy version_cmp versions → ((v : VersionData) → has v versions ≡ has v others) → versions ≡ listed (from_list {R = version_cmp} others)
+pub members_are : (versions others : List VersionData) → IsStrictlySortedBy version_cmp versions →
+    ((v : VersionData) → has v versions ≡ has v others) → versions ≡ listed (from_list {R = version_cmp} others)
 members_are versions others up same =
     sym (listed-from_list version_cmp_total version_cmp-IsAntisymmetric versions up)
-    ∙ ap listed (same_set version_cmp_total version_cmp-IsAntisymmetric (from_list versions) (from_list others) (λ v. contains-from_list version_cmp_total versions v ∙ same v ∙ sym (contains-from_list version_cmp_total others v)))
+    ∙ ap listed (same_set version_cmp_total version_cmp-IsAntisymmetric (from_list versions) (from_list others)
+    (λ v. contains-from_list version_cmp_total versions v ∙ same v ∙ sym (contains-from_list version_cmp_total others v)))
 
 module _ (input : ℕ) (v : VersionData) where
-  group_members : (us : List Placed) (first : VersionData) (others : List VersionData) → (groups input None us (first ∷ others)).refusal ≡ None → has v (groups input None us (first ∷ others)).list ≡ has v ((first ∷ others) ++ versions_of us)
+  group_members : (us : List Placed) (first : VersionData) (others : List VersionData) →
+      (groups input None us (first ∷ others)).refusal ≡ None →
+      has v (groups input None us (first ∷ others)).list ≡ has v ((first ∷ others) ++ versions_of us)
   group_members [] first others none = has_ascending v (first ∷ others) ∙ ap (has v) (sym (append-nil (first ∷ others)))
   group_members (u ∷ us) first others none =
-      elim (key_cmp first u.version) as (λ o. key_cmp first u.version ≡ o → (groups input None (u ∷ us) (first ∷ others)).refusal ≡ None → has v (groups input None (u ∷ us) (first ∷ others)).list ≡ has v ((first ∷ others) ++ versions_of (u ∷ us))) [
+      elim (key_cmp first u.version) as (λ o. key_cmp first u.version ≡ o → (groups input None (u ∷ us) (first ∷ others)).refusal ≡ None →
+      has v (groups input None (u ∷ us) (first ∷ others)).list ≡ has v ((first ∷ others) ++ versions_of (u ∷ us))) [
         | Less ↦ λ e. rw e (λ n.
             list_any-append (eq_by_cmp version_cmp v) (ascending (first ∷ others)) (groups input None us (u.version ∷ [])).list
             ∙ (λ i. has_ascending v (first ∷ others) i || group_members us u.version [] n i)
             ∙ sym (list_any-append (eq_by_cmp version_cmp v) (first ∷ others) (u.version ∷ versions_of us)))
-        | Equal ↦ λ e. rw e (λ n. group_members us first (others ++ u.version ∷ []) n ∙ ap (λ vs. has v (first ∷ vs)) (append_assoc others (u.version ∷ []) (versions_of us)))
+        | Equal ↦ λ e. rw e (λ n. group_members us first (others ++ u.version ∷ []) n
+            ∙ ap (λ vs. has v (first ∷ vs)) (append_assoc others (u.version ∷ []) (versions_of us)))
         | Greater ↦ λ e. rw e (λ n. absurd (let f : Some (fault_of input (verdict_at u.place Unsorted)) ≡ None = n in cc))
       ] refl none
 
-  groups_members : (us : List Placed) → (groups input None us []).refusal ≡ None → has v (groups input None us []).list ≡ has v (versions_of us)
+  groups_members : (us : List Placed) → (groups input None us []).refusal ≡ None →
+      has v (groups input None us []).list ≡ has v (versions_of us)
   groups_members [] none = has_ascending v []
   groups_members (u ∷ us) none = group_members us u.version [] none
 
-groups_listed : (input : ℕ) (close : Option Fault) (us : List Placed) → close ≡ None → (groups input close us []).refusal ≡ None → (groups input close us []).list ≡ listed (from_list {R = version_cmp} (versions_of us))
+groups_listed : (input : ℕ) (close : Option Fault) (us : List Placed) → close ≡ None → (groups input close us []).refusal ≡ None →
+    (groups input close us []).list ≡ listed (from_list {R = version_cmp} (versions_of us))
 groups_listed input (Some fault) us closed none = absurd (let f : Some fault ≡ None = closed in cc)
-groups_listed input None us closed none = members_are (groups input None us []).list (versions_of us) (groups_rise input None us) (λ v. groups_members input v us none)
+groups_listed input None us closed none = members_are (groups input None us []).list (versions_of us) (groups_rise input None us)
+    (λ v. groups_members input v us none)
 
 -- the set of the list of a set is the set
 set_listed : (s : VersionSet) → from_list {R = version_cmp} (listed s) ≡ s
-set_listed s = same_set version_cmp_total version_cmp-IsAntisymmetric (from_list (listed s)) s (λ v. contains-from_list version_cmp_total (listed s) v ∙ sym (contains-listed {R = version_cmp} s v))
+set_listed s = same_set version_cmp_total version_cmp-IsAntisymmetric (from_list (listed s)) s
+    (λ v. contains-from_list version_cmp_total (listed s) v ∙ sym (contains-listed {R = version_cmp} s v))
 
 -- the source of a file by its units
-source_whole : (input : ℕ) (bytes : List ℕ) → sorted_source input (all_of bytes) ≡ (let us = file_units bytes in groups input (option_map (fault_of input) us.refusal) us.list [])
+source_whole : (input : ℕ) (bytes : List ℕ) → sorted_source input (all_of bytes)
+    ≡ (let us = file_units bytes in groups input (option_map (fault_of input) us.refusal) us.list [])
 source_whole input bytes =
-    source_is input (all_of bytes) ∙ ap (λ (s : Still Placed Verdict). groups input (option_map (fault_of input) s.refusal) s.list []) (whole_units bytes)
+    source_is input (all_of bytes) ∙ ap (λ (s : Still Placed Verdict). groups input (option_map (fault_of input) s.refusal) s.list [])
+    (whole_units bytes)
 
-source_listed : (input : ℕ) (bytes : List ℕ) → verdict_sorted bytes ≡ None → (sorted_source input (all_of bytes)).list ≡ listed (from_list {R = version_cmp} (versions_of (file_units bytes).list))
+source_listed : (input : ℕ) (bytes : List ℕ) → verdict_sorted bytes ≡ None →
+    (sorted_source input (all_of bytes)).list ≡ listed (from_list {R = version_cmp} (versions_of (file_units bytes).list))
 source_listed input bytes none =
     let us = file_units bytes in
     let accepted = sorted_without_verdict bytes none in
-    let whole : (groups input (option_map (fault_of input) us.refusal) us.list []).refusal ≡ None = groups_refusal input us.refusal us.list ∙ ap (option_map (fault_of input)) none in
-    ap (λ s. s.list) (source_whole input bytes) ∙ groups_listed input (option_map (fault_of input) us.refusal) us.list (ap (option_map (fault_of input)) accepted.0) whole
+    let whole : (groups input (option_map (fault_of input) us.refusal) us.list []).refusal ≡ None = groups_refusal input us.refusal us.list
+    ∙ ap (option_map (fault_of input)) none in
+    ap (λ s. s.list) (source_whole input bytes) ∙ groups_listed input (option_map (fault_of input) us.refusal) us.list
+    (ap (option_map (fault_of input)) accepted.0) whole
 
 pub source_gives_held : SourceGivesHeld
 source_gives_held input bytes held h =
     let none = sorted_files_are_read bytes h.versions h.short h.file h.sorted in
     let read = files_are_read bytes h.versions h.short h.file in
-    let list : (sorted_source input (all_of bytes)).list ≡ listed held = source_listed input bytes none ∙ ap (λ vs. listed (from_list {R = version_cmp} vs)) read.1 ∙ ap listed (sym h.members) in
+    let list : (sorted_source input (all_of bytes)).list ≡ listed held = source_listed input bytes none
+    ∙ ap (λ vs. listed (from_list {R = version_cmp} vs)) read.1 ∙ ap listed (sym h.members) in
     let refusal : (sorted_source input (all_of bytes)).refusal ≡ None = whole_refusal input bytes ∙ ap (option_map (fault_of input)) none in
     (λ i. record { list = list i; refusal = refusal i })
 
@@ -122,7 +148,8 @@ no_fault input None e = refl
 no_fault input (Some v) e = absurd (let f : Some (fault_of input v) ≡ None = e in cc)
 
 -- what is read is what a sorted file holds
-sorted_file : (bytes : List ℕ) (versions : List VersionData) → verdict_sorted bytes ≡ None → versions ≡ versions_of (file_units bytes).list → HoldsSorted bytes (from_list {R = version_cmp} versions)
+sorted_file : (bytes : List ℕ) (versions : List VersionData) → verdict_sorted bytes ≡ None →
+    versions ≡ versions_of (file_units bytes).list → HoldsSorted bytes (from_list {R = version_cmp} versions)
 sorted_file bytes versions none is =
     let sorted = sorted_without_verdict bytes none in
     let accepted = accepted_without_verdict bytes sorted.0 in
@@ -138,29 +165,38 @@ pub whole_source_is_held : WholeSourceIsHeld
 whole_source_is_held input bytes whole =
     let none = no_fault input (verdict_sorted bytes) (sym (whole_refusal input bytes) ∙ whole) in
     let us = file_units bytes in
-    let same : from_list {R = version_cmp} (versions_of us.list) ≡ from_list (sorted_source input (all_of bytes)).list = sym (set_listed (from_list (versions_of us.list))) ∙ ap (λ vs. from_list {R = version_cmp} vs) (sym (source_listed input bytes none)) in
+    let same : from_list {R = version_cmp} (versions_of us.list) ≡ from_list (sorted_source input (all_of bytes)).list =
+    sym (set_listed (from_list (versions_of us.list)))
+    ∙ ap (λ vs. from_list {R = version_cmp} vs) (sym (source_listed input bytes none)) in
     subst (HoldsSorted bytes) same (sorted_file bytes (versions_of us.list) none refl)
 
 -- ---- an error behind the bytes
-broken_units : (bytes : List ℕ) → length bytes < 2 ^ 62 → units_from None 0 (broken_behind bytes) ≡ units (Some (verdict_at (length bytes) ReadFault)) (start_of bytes) 0 bytes
+broken_units : (bytes : List ℕ) → length bytes < 2 ^ 62 →
+    units_from None 0 (broken_behind bytes) ≡ units (Some (verdict_at (length bytes) ReadFault)) (start_of bytes) 0 bytes
 unfolding units_from length_limit
 broken_units bytes short =
     let long : 0 + length bytes ≡ length bytes = omega arith in
-    (λ i. units (cond (nat_lt (long i) (2 ^ 62)) (Some (verdict_at (long i) ReadFault)) (Some too_long)) (start_of bytes) 0 (cond (nat_lt (long i) (2 ^ 62)) bytes (take (2 ^ 62 - 1 - 0) bytes)))
-    ∙ ap (λ t. units (cond t (Some (verdict_at (length bytes) ReadFault)) (Some too_long)) (start_of bytes) 0 (cond t bytes (take (2 ^ 62 - 1 - 0) bytes))) (lt-ltb (length bytes) (2 ^ 62) short)
+    (λ i. units (cond (nat_lt (long i) (2 ^ 62)) (Some (verdict_at (long i) ReadFault)) (Some too_long)) (start_of bytes) 0
+    (cond (nat_lt (long i) (2 ^ 62)) bytes (take (2 ^ 62 - 1 - 0) bytes)))
+    ∙ ap (λ t. units (cond t (Some (verdict_at (length bytes) ReadFault)) (Some too_long)) (start_of bytes) 0
+    (cond t bytes (take (2 ^ 62 - 1 - 0) bytes))) (lt-ltb (length bytes) (2 ^ 62) short)
 
 pub broken_source_ends : BrokenSourceEnds
 broken_source_ends input bytes short =
-    source_refusal input (broken_behind bytes) ∙ ap (λ (s : Still Placed Verdict). option_map (fault_of input) (sorted_verdict s.refusal None s.list)) (broken_units bytes short)
+    source_refusal input (broken_behind bytes) ∙ ap (λ (s : Still Placed Verdict).
+    option_map (fault_of input) (sorted_verdict s.refusal None s.list)) (broken_units bytes short)
 
-long_units : (bytes : List ℕ) (broken : Bool) → 2 ^ 62 ≤ length bytes → units_from None 0 (record { bytes = bytes; broken = broken }) ≡ units (Some too_long) (start_of bytes) 0 (take (2 ^ 62 - 1 - 0) bytes)
+long_units : (bytes : List ℕ) (broken : Bool) → 2 ^ 62 ≤ length bytes →
+    units_from None 0 (record { bytes = bytes; broken = broken }) ≡ units (Some too_long) (start_of bytes) 0 (take (2 ^ 62 - 1 - 0) bytes)
 unfolding units_from length_limit
 long_units bytes broken many =
     let above : nat_lt (0 + length bytes) (2 ^ 62) ≡ false = grind (arith, nat_tests) in
-    ap (λ t. units (cond t (cond broken (Some (verdict_at (0 + length bytes) ReadFault)) None) (Some too_long)) (start_of bytes) 0 (cond t bytes (take (2 ^ 62 - 1 - 0) bytes))) above
+    ap (λ t. units (cond t (cond broken (Some (verdict_at (0 + length bytes) ReadFault)) None) (Some too_long)) (start_of bytes) 0
+    (cond t bytes (take (2 ^ 62 - 1 - 0) bytes))) above
 
 pub long_source_ends : LongSourceEnds
 long_source_ends input bytes many =
     source_is input (broken_behind bytes)
-    ∙ ap (λ (s : Still Placed Verdict). groups input (option_map (fault_of input) s.refusal) s.list []) (long_units bytes true many ∙ sym (long_units bytes false many))
+    ∙ ap (λ (s : Still Placed Verdict). groups input (option_map (fault_of input) s.refusal) s.list [])
+    (long_units bytes true many ∙ sym (long_units bytes false many))
     ∙ sym (source_is input (all_of bytes))

@@ -1,5 +1,7 @@
 -- How inputs are refused: by the first faulty unit that stands whole, or else by what closes their bytes.
-use Rattle.std.proofs.Common.{◌≡◌, ◌⊎◌, inl, inr, ⊎_elim, ℕ, zero, suc, ◌+◌, ◌-◌, ◌≤◌, ◌<◌, ◌==◌, ◌^◌, Bool, true, false, cond, List, [], ◌∷◌, ◌++◌, length, drop, take, refl, sym, ap, ◌∙◌, arith, Option, Some, None, option_map, IfSome, IfErr, Result, Ok, Err, length-append, length-drop, nat_lt, nat_le}
+use Rattle.std.proofs.Common.{◌≡◌, ◌⊎◌, inl, inr, ⊎_elim, ℕ, zero, suc, ◌+◌, ◌-◌, ◌≤◌, ◌<◌, ◌==◌, ◌^◌, Bool, true, false, cond, List, []}
+use Rattle.std.proofs.Common.{◌∷◌, ◌++◌, length, drop, take, refl, sym, ap, ◌∙◌, arith, Option, Some, None, option_map, IfSome, IfErr}
+use Rattle.std.proofs.Common.{Result, Ok, Err, length-append, length-drop, nat_lt, nat_le}
 use Rattle.std.proofs.lemmas.Bool.{false≢true, ltb-true, ltb-false, lt-ltb}
 use Rattle.std.proofs.lemmas.List.{drop-append-le}
 use Rattle.osm_model.specs.declared.kind.Kind.{Kind}
@@ -26,10 +28,13 @@ use Rattle.osm_files.specs.declared.reason.Reason.TheVariants.{BadHeader, Unsort
 use Rattle.osm_files.specs.Reason.{of_line, of_data_set}
 use Rattle.osm_files.specs.O5.{end_byte, reset_byte, is_lone, kind_of_type}
 use Rattle.osm_files.specs.Stream.{Verdict, verdict_at, Placed, Still, whole}
-use Rattle.osm_files.specs.Units.{Stand, InOpl, BeforeHeader, InSegment, BehindEnd, Found, FileUnit, unit, passes, line_found, line_unit, is_header, set_found, content_found, sized_unit, is_ended, length_at, unit_at, last_at, found_then, closed, unit_then, units_within, units, start_of}
+use Rattle.osm_files.specs.Units.{Stand, InOpl, BeforeHeader, InSegment, BehindEnd, Found, FileUnit, unit, passes, line_found, line_unit}
+use Rattle.osm_files.specs.Units.{is_header, set_found, content_found, sized_unit, is_ended, length_at, unit_at, last_at, found_then}
+use Rattle.osm_files.specs.Units.{closed, unit_then, units_within, units, start_of}
 use Rattle.osm_files.specs.Verdict.{length_limit, too_long, file_units, verdict, is_below, sorted_verdict, verdict_sorted}
 use Rattle.osm_files.specs.Position.{units_from, fault_of}
-use Rattle.osm_files.specs.LoadLaws.{InputsAreFiles, IsFaultyWhole, NoneFaultyWhole, broken_behind, BrokenInputsAreRefused, is_verdict_reason, ReasonsOfVerdicts}
+use Rattle.osm_files.specs.LoadLaws.{InputsAreFiles, IsFaultyWhole, NoneFaultyWhole, broken_behind, BrokenInputsAreRefused}
+use Rattle.osm_files.specs.LoadLaws.{is_verdict_reason, ReasonsOfVerdicts}
 use Rattle.osm_files.proofs.FileLaws.{short_units}
 use Rattle.osm_files.proofs.StepLaws.{unit_sized}
 use Rattle.osm_files.proofs.StayLaws.{unit_stays}
@@ -37,7 +42,10 @@ use Rattle.osm_files.proofs.PositionLaws.{from_is, known, none_in_nothing}
 use Rattle.osm_files.proofs.LoadLaws.{whole_units}
 
 pub inputs_are_files : InputsAreFiles
-inputs_are_files input bytes = (whole_units bytes, ap (λ (s : Still Placed Verdict). option_map (fault_of input) s.refusal) (whole_units bytes))
+inputs_are_files input bytes = (
+  whole_units bytes,
+  ap (λ (s : Still Placed Verdict). option_map (fault_of input) s.refusal) (whole_units bytes),
+)
 
 -- ---- the units that stand whole in bytes that are closed by a verdict
 abbrev Faulty : ℕ → Stand → ℕ → List ℕ → Verdict → Type 0
@@ -48,10 +56,12 @@ Fine n stand place bytes = (close : Verdict) → (units_within n (Some close) st
 
 -- one is faulty, whatever closes the bytes, or none is
 abbrev Tells : ℕ → Stand → ℕ → List ℕ → Type 0
-Tells n stand place bytes = ((v : Verdict) × Faulty n stand place bytes v × ((units_within n None stand place bytes).refusal ≡ Some v)) ⊎ Fine n stand place bytes
+Tells n stand place bytes = ((v : Verdict) × Faulty n stand place bytes v × ((units_within n None stand place bytes).refusal ≡ Some v))
+    ⊎ Fine n stand place bytes
 
 found_tells : (n place at : ℕ) (rest : List ℕ) (found : Found) → ((next : Stand) → Tells n next at rest)
-    → ((v : Verdict) × ((close : Verdict) → (found_then place found (λ next. units_within n (Some close) next at rest)).refusal ≡ Some v) × ((found_then place found (λ next. units_within n None next at rest)).refusal ≡ Some v))
+    → ((v : Verdict) × ((close : Verdict) → (found_then place found (λ next. units_within n (Some close) next at rest)).refusal ≡ Some v)
+    × ((found_then place found (λ next. units_within n None next at rest)).refusal ≡ Some v))
     ⊎ ((close : Verdict) → (found_then place found (λ next. units_within n (Some close) next at rest)).refusal ≡ Some close)
 found_tells n place at rest (Err reason) on = inl (verdict_at place reason, λ close. refl, refl)
 found_tells n place at rest (Ok (None, next)) on = on next
@@ -59,29 +69,35 @@ found_tells n place at rest (Ok (Some v, next)) on = on next
 
 abbrev ThenTells : ℕ → Stand → ℕ → List ℕ → Option FileUnit → Type 0
 ThenTells n stand place bytes u =
-    ((v : Verdict) × ((close : Verdict) → (unit_then (Some close) stand place bytes (units_within n (Some close)) u).refusal ≡ Some v) × ((unit_then None stand place bytes (units_within n None) u).refusal ≡ Some v))
+    ((v : Verdict) × ((close : Verdict) → (unit_then (Some close) stand place bytes (units_within n (Some close)) u).refusal ≡ Some v)
+    × ((unit_then None stand place bytes (units_within n None) u).refusal ≡ Some v))
     ⊎ ((close : Verdict) → (unit_then (Some close) stand place bytes (units_within n (Some close)) u).refusal ≡ Some close)
 
-unit_tells : (n : ℕ) (stand : Stand) (place : ℕ) (bytes : List ℕ) → ((next : Stand) (at : ℕ) (rest : List ℕ) → Tells n next at rest) → (u : Option FileUnit) → ThenTells n stand place bytes u
+unit_tells : (n : ℕ) (stand : Stand) (place : ℕ) (bytes : List ℕ) → ((next : Stand) (at : ℕ) (rest : List ℕ) → Tells n next at rest) →
+    (u : Option FileUnit) → ThenTells n stand place bytes u
 unit_tells n stand place bytes on None = inr (λ close. refl)
-unit_tells n stand place bytes on (Some u) = found_tells n place (place + u.size) (drop u.size bytes) u.found (λ next. on next (place + u.size) (drop u.size bytes))
+unit_tells n stand place bytes on (Some u) = found_tells n place (place + u.size) (drop u.size bytes) u.found
+    (λ next. on next (place + u.size) (drop u.size bytes))
 
 tells : (n : ℕ) (stand : Stand) (place : ℕ) (bytes : List ℕ) → Tells n stand place bytes
 tells zero stand place bytes = inr (λ close. refl)
 tells (suc n) stand place bytes = unit_tells n stand place bytes (tells n) (unit_at stand bytes)
 
-whole_tells : (bytes : List ℕ) → ((v : Verdict) × IsFaultyWhole bytes v × ((units None (start_of bytes) 0 bytes).refusal ≡ Some v)) ⊎ NoneFaultyWhole bytes
+whole_tells : (bytes : List ℕ) → ((v : Verdict) × IsFaultyWhole bytes v × ((units None (start_of bytes) 0 bytes).refusal ≡ Some v))
+    ⊎ NoneFaultyWhole bytes
 unfolding units
 whole_tells bytes = tells (length bytes) (start_of bytes) 0 bytes
 
 -- ---- an error behind the bytes
-broken_units : (bytes : List ℕ) → length bytes < 2 ^ 62 → units_from None 0 (broken_behind bytes) ≡ units (Some (verdict_at (length bytes) ReadFault)) (start_of bytes) 0 bytes
+broken_units : (bytes : List ℕ) → length bytes < 2 ^ 62 →
+    units_from None 0 (broken_behind bytes) ≡ units (Some (verdict_at (length bytes) ReadFault)) (start_of bytes) 0 bytes
 unfolding length_limit
 broken_units bytes short =
     let all : 0 + length bytes ≡ length bytes = omega arith in
     let below : nat_lt (0 + length bytes) (2 ^ 62) ≡ true = lt-ltb (0 + length bytes) (2 ^ 62) (omega (arith, short)) in
     from_is None 0 (broken_behind bytes)
-    ∙ (λ i. units (cond (below i) (Some (verdict_at (all i) ReadFault)) (Some too_long)) (start_of bytes) 0 (cond (below i) bytes (take (2 ^ 62 - 1 - 0) bytes)))
+    ∙ (λ i. units (cond (below i) (Some (verdict_at (all i) ReadFault)) (Some too_long)) (start_of bytes) 0
+    (cond (below i) bytes (take (2 ^ 62 - 1 - 0) bytes)))
 
 long_units : (bytes : List ℕ) → nat_lt (length bytes) length_limit ≡ false → units_from None 0 (broken_behind bytes) ≡ file_units bytes
 unfolding file_units
@@ -90,19 +106,25 @@ long_units bytes long =
     let room : length_limit - 1 - 0 ≡ length_limit - 1 = omega arith in
     let above : nat_lt (0 + length bytes) length_limit ≡ false = ap (λ n. nat_lt n length_limit) all ∙ long in
     from_is None 0 (broken_behind bytes)
-    ∙ (λ i. units (cond (above i) (Some (verdict_at (0 + length bytes) ReadFault)) (Some too_long)) (start_of bytes) 0 (cond (above i) bytes (take (room i) bytes)))
-    ∙ ap (λ t. cond t (units None (start_of bytes) 0 bytes) (units (Some too_long) (start_of bytes) 0 (take (length_limit - 1) bytes))) (sym long)
+    ∙ (λ i. units (cond (above i) (Some (verdict_at (0 + length bytes) ReadFault)) (Some too_long)) (start_of bytes) 0
+    (cond (above i) bytes (take (room i) bytes)))
+    ∙ ap (λ t. cond t (units None (start_of bytes) 0 bytes) (units (Some too_long) (start_of bytes) 0 (take (length_limit - 1) bytes)))
+    (sym long)
 
 abbrev refusal_of : Still Placed Verdict → Option Verdict
 refusal_of s = s.refusal
 
 short_refused : (bytes : List ℕ) → length bytes < 2 ^ 62
-    → ((v : Verdict) × length bytes < 2 ^ 62 × IsFaultyWhole bytes v × (verdict bytes ≡ Some v) × ((units_from None 0 (broken_behind bytes)).refusal ≡ Some v))
-    ⊎ (length bytes < 2 ^ 62 × NoneFaultyWhole bytes × ((units_from None 0 (broken_behind bytes)).refusal ≡ Some (verdict_at (length bytes) ReadFault)))
+    → ((v : Verdict) × length bytes < 2 ^ 62 × IsFaultyWhole bytes v × (verdict bytes ≡ Some v)
+    × ((units_from None 0 (broken_behind bytes)).refusal ≡ Some v))
+    ⊎ (length bytes < 2 ^ 62 × NoneFaultyWhole bytes
+    × ((units_from None 0 (broken_behind bytes)).refusal ≡ Some (verdict_at (length bytes) ReadFault)))
 short_refused bytes short =
     let close : Verdict = verdict_at (length bytes) ReadFault in
-    let same : (units_from None 0 (broken_behind bytes)).refusal ≡ (units (Some close) (start_of bytes) 0 bytes).refusal = ap refusal_of (broken_units bytes short) in
-    ⊎_elim (λ h. inl (h.0, short, h.1, ap refusal_of (short_units bytes short) ∙ h.2, same ∙ h.1 close)) (λ h. inr (short, h, same ∙ h close)) (whole_tells bytes)
+    let same : (units_from None 0 (broken_behind bytes)).refusal ≡ (units (Some close) (start_of bytes) 0 bytes).refusal =
+    ap refusal_of (broken_units bytes short) in
+    ⊎_elim (λ h. inl (h.0, short, h.1, ap refusal_of (short_units bytes short) ∙ h.2, same ∙ h.1 close))
+    (λ h. inr (short, h, same ∙ h close)) (whole_tells bytes)
 
 limit_is : length_limit ≡ 2 ^ 62
 unfolding length_limit
@@ -110,51 +132,79 @@ limit_is = refl
 
 pub broken_inputs : BrokenInputsAreRefused
 broken_inputs bytes =
-    elim (nat_lt (length bytes) length_limit) as (λ t. nat_lt (length bytes) length_limit ≡ t → (2 ^ 62 ≤ length bytes × ((units_from None 0 (broken_behind bytes)).refusal ≡ verdict bytes))
-    ⊎ ((v : Verdict) × length bytes < 2 ^ 62 × IsFaultyWhole bytes v × (verdict bytes ≡ Some v) × ((units_from None 0 (broken_behind bytes)).refusal ≡ Some v))
-    ⊎ (length bytes < 2 ^ 62 × NoneFaultyWhole bytes × ((units_from None 0 (broken_behind bytes)).refusal ≡ Some (verdict_at (length bytes) ReadFault)))) [
+    elim (nat_lt (length bytes) length_limit) as (λ t. nat_lt (length bytes) length_limit ≡ t →
+    (2 ^ 62 ≤ length bytes × ((units_from None 0 (broken_behind bytes)).refusal ≡ verdict bytes))
+    ⊎ ((v : Verdict) × length bytes < 2 ^ 62 × IsFaultyWhole bytes v × (verdict bytes ≡ Some v)
+    × ((units_from None 0 (broken_behind bytes)).refusal ≡ Some v))
+    ⊎ (length bytes < 2 ^ 62 × NoneFaultyWhole bytes
+    × ((units_from None 0 (broken_behind bytes)).refusal ≡ Some (verdict_at (length bytes) ReadFault)))) [
       | true ↦ λ is. inr (short_refused bytes (let below = ltb-true (length bytes) length_limit is in omega (arith, limit_is, below)))
-      | false ↦ λ is. inl (let above = ltb-false (length bytes) length_limit is in omega (arith, limit_is, above), ap refusal_of (long_units bytes is))
+      | false ↦ λ is. inl (
+        let above = ltb-false (length bytes) length_limit is in
+            omega (arith, limit_is, above),
+        ap refusal_of (long_units bytes is),
+      )
     ] refl
 
 -- ---- whatever follows
 -- no verdict is each one
 not_each : (v : Verdict) → ((close : Verdict) → Some close ≡ Some v) → ⊥
 not_each v each =
-    let same : suc v.place ≡ v.place = (let e : Some (verdict_at (suc v.place) ReadFault) ≡ Some v = each (verdict_at (suc v.place) ReadFault) in let f : verdict_at (suc v.place) ReadFault ≡ v = cc in ap (λ (w : Verdict). w.place) f) in
+    let same : suc v.place ≡ v.place = (let e : Some (verdict_at (suc v.place) ReadFault) ≡ Some v =
+    each (verdict_at (suc v.place) ReadFault) in let f : verdict_at (suc v.place) ReadFault ≡ v = cc in ap (λ (w : Verdict). w.place) f)
+    in
     omega (arith, same)
 
 abbrev Stays : ℕ → ℕ → Option Verdict → Verdict → Type 0
-Stays n m close v = (stand : Stand) (place : ℕ) (bytes more : List ℕ) → length (bytes ++ more) ≤ m → Faulty n stand place bytes v → (units_within m close stand place (bytes ++ more)).refusal ≡ Some v
+Stays n m close v = (stand : Stand) (place : ℕ) (bytes more : List ℕ) → length (bytes ++ more) ≤ m → Faulty n stand place bytes v →
+    (units_within m close stand place (bytes ++ more)).refusal ≡ Some v
 
-found_stays : (n m : ℕ) (close : Option Verdict) (v : Verdict) → Stays n m close v → (place at : ℕ) (rest more : List ℕ) → length (rest ++ more) ≤ m → (found : Found) → ((c : Verdict) → (found_then place found (λ next. units_within n (Some c) next at rest)).refusal ≡ Some v)
+found_stays : (n m : ℕ) (close : Option Verdict) (v : Verdict) → Stays n m close v → (place at : ℕ) (rest more : List ℕ) →
+    length (rest ++ more) ≤ m → (found : Found) → ((c : Verdict) →
+    (found_then place found (λ next. units_within n (Some c) next at rest)).refusal ≡ Some v)
     → (found_then place found (λ next. units_within m close next at (rest ++ more))).refusal ≡ Some v
 found_stays n m close v on place at rest more fits (Err reason) h = h v
 found_stays n m close v on place at rest more fits (Ok (None, next)) h = on next at rest more fits h
 found_stays n m close v on place at rest more fits (Ok (Some w, next)) h = on next at rest more fits h
 
-unit_then_stays : (n m : ℕ) (close : Option Verdict) (v : Verdict) → Stays n m close v → (stand : Stand) (place : ℕ) (bytes more : List ℕ) → length (bytes ++ more) ≤ suc m → (u : Option FileUnit) → unit_at stand bytes ≡ u
-    → ((c : Verdict) → (unit_then (Some c) stand place bytes (units_within n (Some c)) u).refusal ≡ Some v) → (unit_then close stand place (bytes ++ more) (units_within m close) (unit_at stand (bytes ++ more))).refusal ≡ Some v
+unit_then_stays : (n m : ℕ) (close : Option Verdict) (v : Verdict) → Stays n m close v → (stand : Stand) (place : ℕ) (bytes more : List ℕ) →
+    length (bytes ++ more) ≤ suc m → (u : Option FileUnit) → unit_at stand bytes ≡ u
+    → ((c : Verdict) → (unit_then (Some c) stand place bytes (units_within n (Some c)) u).refusal ≡ Some v) →
+    (unit_then close stand place (bytes ++ more) (units_within m close) (unit_at stand (bytes ++ more))).refusal ≡ Some v
 unit_then_stays n m close v on stand place bytes more fits None is h = absurd (not_each v h)
 unit_then_stays n m close v on stand place bytes more fits (Some u) is h =
     let sized = unit_sized stand bytes u is in
     let rest : drop u.size (bytes ++ more) ≡ drop u.size bytes ++ more = drop-append-le u.size bytes more sized.within in
-    let few : length (drop u.size bytes ++ more) ≤ m = omega (arith, length-append bytes more, length-append (drop u.size bytes) more, length-drop u.size bytes, sized.some, sized.within, fits) in
+    let few : length (drop u.size bytes ++ more) ≤ m =
+    omega (
+      arith,
+      length-append bytes more,
+      length-append (drop u.size bytes) more,
+      length-drop u.size bytes,
+      sized.some,
+      sized.within,
+      fits,
+    ) in
     ap (λ o. (unit_then close stand place (bytes ++ more) (units_within m close) o).refusal) (unit_stays stand bytes more u is)
     ∙ ap (λ x. (found_then place u.found (λ next. units_within m close next (place + u.size) x)).refusal) rest
     ∙ found_stays n m close v on place (place + u.size) (drop u.size bytes) more few u.found h
 
 stays : (n m : ℕ) (close : Option Verdict) (v : Verdict) → Stays n m close v
 stays zero m close v stand place bytes more fits h = absurd (not_each v h)
-stays (suc n) (suc m) close v stand place bytes more fits h = unit_then_stays n m close v (stays n m close v) stand place bytes more fits (unit_at stand bytes) refl h
-stays (suc n) zero close v stand place [] [] fits h = absurd (not_each v (λ c. ap (λ o. (unit_then (Some c) stand place [] (units_within n (Some c)) o).refusal) (sym (none_in_nothing stand)) ∙ h c))
+stays (suc n) (suc m) close v stand place bytes more fits h =
+    unit_then_stays n m close v (stays n m close v) stand place bytes more fits (unit_at stand bytes) refl h
+stays (suc n) zero close v stand place [] [] fits h =
+    absurd (not_each v (λ c. ap (λ o. (unit_then (Some c) stand place [] (units_within n (Some c)) o).refusal) (sym (none_in_nothing stand))
+    ∙ h c))
 stays (suc n) zero close v stand place [] (b ∷ more) fits h = absurd (omega (arith, fits))
 stays (suc n) zero close v stand place (b ∷ bytes) more fits h = absurd (omega (arith, fits, length-append (b ∷ bytes) more))
 
-faulty_stays : (bytes more : List ℕ) (v : Verdict) → IsFaultyWhole bytes v → (units None (start_of (bytes ++ more)) 0 (bytes ++ more)).refusal ≡ Some v
+faulty_stays : (bytes more : List ℕ) (v : Verdict) → IsFaultyWhole bytes v →
+    (units None (start_of (bytes ++ more)) 0 (bytes ++ more)).refusal ≡ Some v
 unfolding units
 faulty_stays [] more v h = absurd (not_each v h)
-faulty_stays (b ∷ bytes) more v h = stays (length (b ∷ bytes)) (length (b ∷ (bytes ++ more))) None v (start_of (b ∷ bytes)) 0 (b ∷ bytes) more (omega arith) h
+faulty_stays (b ∷ bytes) more v h = stays (length (b ∷ bytes)) (length (b ∷ (bytes ++ more))) None v (start_of (b ∷ bytes)) 0
+    (b ∷ bytes) more (omega arith) h
 
 -- ---- the reasons of verdicts
 of_line_fine : (reason : OplReason) → (reason ≡ opl.Memory → ⊥) → is_verdict_reason (of_line reason) ≡ true
@@ -200,7 +250,8 @@ StepReason r = IfErr r (λ reason. is_step_reason reason ≡ true)
 
 line_read_fine : (line : List ℕ) (read : Result (Option VersionData) OplReason) → reading_line line ≡ read → FineFound (line_found read)
 line_read_fine line (Ok read) is = tt
-line_read_fine line (Err reason) is = of_line_fine reason (λ memory. memory_is_no_reason line (told_is_reason line opl.Memory (is ∙ ap (λ r. Err r) memory)))
+line_read_fine line (Err reason) is = of_line_fine reason
+    (λ memory. memory_is_no_reason line (told_is_reason line opl.Memory (is ∙ ap (λ r. Err r) memory)))
 
 line_found_fine : (line : List ℕ) → FineFound (line_found (reading_line line))
 line_found_fine line = line_read_fine line (reading_line line) refl
@@ -209,11 +260,13 @@ line_unit_fine : (s : List ℕ × Option (List ℕ)) → FineUnit (line_unit s)
 line_unit_fine (line, None) = tt
 line_unit_fine (line, Some behind) = line_found_fine line
 
-set_step : (k : Kind) (s : Segment) (content : List ℕ) (read : Result (VersionData × Segment) O5Reason) → set_at k s content ≡ read → StepReason read
+set_step : (k : Kind) (s : Segment) (content : List ℕ) (read : Result (VersionData × Segment) O5Reason) → set_at k s content ≡ read →
+    StepReason read
 set_step k s content (Ok read) is = tt
 set_step k s content (Err reason) is = (only_reason k s content reason ((set_refused k s content reason).0 is)).of_a_step
 
-then_fails : {X Y : Type 0} (read : Result X O5Reason) (next : X → Result Y O5Reason) (reason : O5Reason) → read ≡ Err reason → and_then read next ≡ Err reason
+then_fails : {X Y : Type 0} (read : Result X O5Reason) (next : X → Result Y O5Reason) (reason : O5Reason) → read ≡ Err reason →
+    and_then read next ≡ Err reason
 then_fails read next reason is = ap (λ r. and_then r next) is
 
 -- a number that can't be read refuses a data set that begins with it
@@ -244,16 +297,20 @@ content_fine : (s : Segment) (k : Option Kind) (content : List ℕ) → FineFoun
 content_fine s None content = tt
 content_fine s (Some k) content = set_found_fine (set_at k s content) (set_step k s content (set_at k s content) refl)
 
-sized_fine : (s : Segment) (b : ℕ) (bytes : List ℕ) (x : Option (Result (ℕ × List ℕ) O5Reason)) → IfSome x StepReason → FineUnit (sized_unit s b bytes x)
+sized_fine : (s : Segment) (b : ℕ) (bytes : List ℕ) (x : Option (Result (ℕ × List ℕ) O5Reason)) → IfSome x StepReason →
+    FineUnit (sized_unit s b bytes x)
 sized_fine s b bytes None h = tt
 sized_fine s b bytes (Some (Err reason)) h = of_data_set_fine reason h
 sized_fine s b bytes (Some (Ok (size, behind))) h =
-    elim (nat_le size (length behind)) as (λ t. FineUnit (cond t (Some (unit (1 + (length bytes - length behind) + size) (content_found s (kind_of_type b) (take size behind)))) None)) [
+    elim (nat_le size (length behind)) as (λ t. FineUnit
+    (cond t (Some (unit (1 + (length bytes - length behind) + size) (content_found s (kind_of_type b) (take size behind)))) None)) [
       | true ↦ content_fine s (kind_of_type b) (take size behind)
       | false ↦ tt
     ]
 
-by_type : (s : Segment) (end reset lone : Bool) (sized : Option FileUnit) → FineUnit sized → FineUnit (cond end (Some (unit 1 (passes BehindEnd))) (cond reset (Some (unit 1 (passes (InSegment new_segment)))) (cond lone (Some (unit 1 (passes (InSegment s)))) sized)))
+by_type : (s : Segment) (end reset lone : Bool) (sized : Option FileUnit) → FineUnit sized →
+    FineUnit (cond end (Some (unit 1 (passes BehindEnd)))
+    (cond reset (Some (unit 1 (passes (InSegment new_segment)))) (cond lone (Some (unit 1 (passes (InSegment s)))) sized)))
 by_type s true reset lone sized h = tt
 by_type s false true lone sized h = tt
 by_type s false false true sized h = tt
@@ -264,7 +321,8 @@ unfolding unit_at
 unit_fine InOpl bytes = line_unit_fine (split_first is_line_end bytes)
 unit_fine BeforeHeader bytes = header_fine (nat_lt (length bytes) 7) (is_header (take 7 bytes))
 unit_fine (InSegment s) [] = tt
-unit_fine (InSegment s) (b ∷ bytes) = by_type s (b == end_byte) (b == reset_byte) (is_lone b) (sized_unit s b bytes (length_at bytes)) (sized_fine s b bytes (length_at bytes) (length_step bytes))
+unit_fine (InSegment s) (b ∷ bytes) = by_type s (b == end_byte) (b == reset_byte) (is_lone b) (sized_unit s b bytes (length_at bytes))
+    (sized_fine s b bytes (length_at bytes) (length_step bytes))
 unit_fine BehindEnd [] = tt
 unit_fine BehindEnd (b ∷ bytes) = refl
 
@@ -279,29 +337,37 @@ last_fine BehindEnd bytes = tt
 abbrev FineRefusal : Option Verdict → Type 0
 FineRefusal r = IfSome r (λ v. is_verdict_reason v.reason ≡ true)
 
-found_fine : (place : ℕ) (found : Found) (more : Stand → Still Placed Verdict) → FineFound found → ((next : Stand) → FineRefusal (more next).refusal) → FineRefusal (found_then place found more).refusal
+found_fine : (place : ℕ) (found : Found) (more : Stand → Still Placed Verdict) → FineFound found →
+    ((next : Stand) → FineRefusal (more next).refusal) → FineRefusal (found_then place found more).refusal
 found_fine place (Err reason) more h on = h
 found_fine place (Ok (None, next)) more h on = on next
 found_fine place (Ok (Some v, next)) more h on = on next
 
-closed_fine : (close : Option Verdict) → FineRefusal close → (stand : Stand) (place : ℕ) (bytes : List ℕ) → FineRefusal (closed close place (last_at stand bytes)).refusal
+closed_fine : (close : Option Verdict) → FineRefusal close → (stand : Stand) (place : ℕ) (bytes : List ℕ) →
+    FineRefusal (closed close place (last_at stand bytes)).refusal
 closed_fine None h stand place bytes = found_fine place (last_at stand bytes) (λ next. whole) (last_fine stand bytes) (λ next. tt)
 closed_fine (Some end) h stand place bytes = h
 
-then_fine : (n : ℕ) (close : Option Verdict) → FineRefusal close → ((stand : Stand) (place : ℕ) (bytes : List ℕ) → FineRefusal (units_within n close stand place bytes).refusal) → (stand : Stand) (place : ℕ) (bytes : List ℕ) (u : Option FileUnit) → FineUnit u
+then_fine : (n : ℕ) (close : Option Verdict) → FineRefusal close →
+    ((stand : Stand) (place : ℕ) (bytes : List ℕ) → FineRefusal (units_within n close stand place bytes).refusal) →
+    (stand : Stand) (place : ℕ) (bytes : List ℕ) (u : Option FileUnit) → FineUnit u
     → FineRefusal (unit_then close stand place bytes (units_within n close) u).refusal
 then_fine n close h on stand place bytes None fine = closed_fine close h stand place bytes
-then_fine n close h on stand place bytes (Some u) fine = found_fine place u.found _ fine (λ next. on next (place + u.size) (drop u.size bytes))
+then_fine n close h on stand place bytes (Some u) fine =
+    found_fine place u.found _ fine (λ next. on next (place + u.size) (drop u.size bytes))
 
-units_fine : (n : ℕ) (close : Option Verdict) → FineRefusal close → (stand : Stand) (place : ℕ) (bytes : List ℕ) → FineRefusal (units_within n close stand place bytes).refusal
+units_fine : (n : ℕ) (close : Option Verdict) → FineRefusal close → (stand : Stand) (place : ℕ) (bytes : List ℕ) →
+    FineRefusal (units_within n close stand place bytes).refusal
 units_fine zero close h stand place bytes = closed_fine close h stand place bytes
-units_fine (suc n) close h stand place bytes = then_fine n close h (units_fine n close h) stand place bytes (unit_at stand bytes) (unit_fine stand bytes)
+units_fine (suc n) close h stand place bytes = then_fine n close h (units_fine n close h) stand place bytes (unit_at stand bytes)
+    (unit_fine stand bytes)
 
 verdict_fine : (bytes : List ℕ) → FineRefusal (verdict bytes)
 unfolding file_units units
 verdict_fine bytes =
     let front : List ℕ = take (length_limit - 1) bytes in
-    elim (nat_lt (length bytes) length_limit) as (λ t. FineRefusal (cond t (units None (start_of bytes) 0 bytes) (units (Some too_long) (start_of bytes) 0 front)).refusal) [
+    elim (nat_lt (length bytes) length_limit) as (λ t.
+    FineRefusal (cond t (units None (start_of bytes) 0 bytes) (units (Some too_long) (start_of bytes) 0 front)).refusal) [
       | true ↦ units_fine (length bytes) None tt (start_of bytes) 0 bytes
       | false ↦ units_fine (length front) (Some too_long) refl (start_of bytes) 0 front
     ]
@@ -309,11 +375,13 @@ verdict_fine bytes =
 abbrev FineOrder : Option Verdict → Type 0
 FineOrder r = IfSome r (λ v. (v.reason ≡ Unsorted) ⊎ (is_verdict_reason v.reason ≡ true))
 
-order_fine : (close : Option Verdict) → FineRefusal close → (before : Option VersionData) (units : List Placed) → FineOrder (sorted_verdict close before units)
+order_fine : (close : Option Verdict) → FineRefusal close → (before : Option VersionData) (units : List Placed) →
+    FineOrder (sorted_verdict close before units)
 order_fine None h before [] = tt
 order_fine (Some end) h before [] = inr h
 order_fine close h before (unit ∷ units) =
-    elim (is_below unit.version before) as (λ t. FineOrder (cond t (Some (verdict_at unit.place Unsorted)) (sorted_verdict close (Some unit.version) units))) [
+    elim (is_below unit.version before) as (λ t. FineOrder
+    (cond t (Some (verdict_at unit.place Unsorted)) (sorted_verdict close (Some unit.version) units))) [
       | true ↦ inl refl
       | false ↦ order_fine close h (Some unit.version) units
     ]

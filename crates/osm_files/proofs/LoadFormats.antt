@@ -27,7 +27,8 @@ list_tells : (format : Format) (versions : List VersionData) → format_of (spel
 list_tells Opl [] = refl
 list_tells Opl (v ∷ versions) =
     let rest : List ℕ = spelled_versions Opl (behind Opl nothing_written v) versions in
-    ap format_of (append_assoc (line_with_end v) rest [] ∙ append_assoc (line v) (10 ∷ []) (rest ++ [])) ∙ line_tells v ((10 ∷ []) ++ (rest ++ []))
+    ap format_of (append_assoc (line_with_end v) rest [] ∙ append_assoc (line v) (10 ∷ []) (rest ++ []))
+    ∙ line_tells v ((10 ∷ []) ++ (rest ++ []))
 list_tells O5m versions = refl
 list_tells O5c versions = refl
 

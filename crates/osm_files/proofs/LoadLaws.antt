@@ -1,5 +1,7 @@
 -- A whole file, loaded version by version.
-use Rattle.std.proofs.Common.{◌≡◌, ◌⊎◌, inl, inr, ⊎_elim, ◌↔◌, ℕ, ◌+◌, ◌-◌, ◌≤◌, ◌<◌, ◌==◌, ◌||◌, ◌&&◌, ◌^◌, Bool, true, false, not, cond, IsTrue, List, [], ◌∷◌, ◌++◌, length, take, get_or, refl, sym, ap, ◌∙◌, subst, arith, Option, Some, None, option_map, IfSome, Ok, Err, append_assoc, length-append, nat_lt, nat_le}
+use Rattle.std.proofs.Common.{◌≡◌, ◌⊎◌, inl, inr, ⊎_elim, ◌↔◌, ℕ, ◌+◌, ◌-◌, ◌≤◌, ◌<◌, ◌==◌, ◌||◌, ◌&&◌, ◌^◌, Bool, true, false, not, cond}
+use Rattle.std.proofs.Common.{IsTrue, List, [], ◌∷◌, ◌++◌, length, take, get_or, refl, sym, ap, ◌∙◌, subst, arith, Option, Some, None}
+use Rattle.std.proofs.Common.{option_map, IfSome, Ok, Err, append_assoc, length-append, nat_lt, nat_le}
 use Rattle.std.specs.List.Sorted.{IsSorted}
 use Rattle.std.specs.Ordering.{is_lt}
 use Rattle.std.proofs.lemmas.Bool.{false≢true, leb-false, lt-ltb}
@@ -23,7 +25,8 @@ use Rattle.osm_files.specs.O5.{reset_byte}
 use Rattle.osm_files.specs.Units.{InOpl, unit_at, units, start_of}
 use Rattle.osm_files.specs.Verdict.{length_limit, too_long, file_units, versions_of, verdict, is_below, is_below_last}
 use Rattle.osm_files.specs.Held.{IsFile, Holds, HoldsSorted}
-use Rattle.osm_files.specs.Position.{Told, at_start, ahead, units_from, named, to_come, still_to_come, ReadsOn, GoesOn, stand_at, stand_in, fault_of, StopsFilling}
+use Rattle.osm_files.specs.Position.{Told, at_start, ahead, units_from, named, to_come, still_to_come, ReadsOn, GoesOn, stand_at, stand_in}
+use Rattle.osm_files.specs.Position.{fault_of, StopsFilling}
 use Rattle.osm_files.specs.Load.{format_of, tells_format, IsRead, Loads, StopsLoading}
 use Rattle.osm_files.proofs.UnitLaws.{some_is_not_none}
 use Rattle.osm_files.proofs.FileLaws.{one_list, accepted_without_verdict, units_closed}
@@ -43,46 +46,66 @@ untold_unit b held first short =
 untold : (held : List ℕ) → tells_format held ≡ false → (unit_at (start_of held) held ≡ None) × (length held < 7)
 untold [] tells = (none_in_nothing InOpl, omega arith)
 untold (b ∷ held) tells =
-    elim (b == reset_byte) as (λ t. b == reset_byte ≡ t → not t || nat_le 7 (length (b ∷ held)) ≡ false → (unit_at (start_of (b ∷ held)) (b ∷ held) ≡ None) × (length (b ∷ held) < 7)) [
-      | true ↦ λ first long. (let short : length (b ∷ held) < 7 = leb-false 7 (length (b ∷ held)) long in (untold_unit b held first short, short))
+    elim (b == reset_byte) as (λ t. b == reset_byte ≡ t → not t || nat_le 7 (length (b ∷ held)) ≡ false →
+    (unit_at (start_of (b ∷ held)) (b ∷ held) ≡ None) × (length (b ∷ held) < 7)) [
+      | true ↦ λ first long. (let short : length (b ∷ held) < 7 = leb-false 7 (length (b ∷ held)) long in
+          (untold_unit b held first short, short))
       | false ↦ λ other long. absurd (false≢true (sym long))
     ] refl tells
 
 -- where no more can be read of a file whose format isn't told
-pub format_refused : (p m q : Told) → ReadsOn p m → p.place ≡ 0 → p.stand ≡ None → p.failed ≡ false → tells_format m.held ≡ false → (fault : Fault) → StopsFilling m fault → q.failed ≡ true → Step {A = Placed} (still_to_come p) (Err fault) (still_to_come q)
+pub format_refused : (p m q : Told) → ReadsOn p m → p.place ≡ 0 → p.stand ≡ None → p.failed ≡ false → tells_format m.held ≡ false →
+    (fault : Fault) → StopsFilling m fault → q.failed ≡ true → Step {A = Placed} (still_to_come p) (Err fault) (still_to_come q)
 format_refused p m q on first unseen fine tells fault stops failed =
     let k = untold m.held tells in
     let nothing : unit_at (stand_at m) m.held ≡ None = ap (λ s. unit_at (stand_in s m.held) m.held) (on.stand ∙ unseen) ∙ k.0 in
     let bound : m.place + length m.held < 2 ^ 62 = omega (arith, on.place, first, k.1) in
-    step_on (still_to_come p) (still_to_come m) (still_to_come q) (Err fault) (keeps_still p m (reads_go_on p m on) fine) (refusal_step m q fault (on.failed ∙ fine) failed (stopped m nothing bound fault stops))
+    step_on (still_to_come p) (still_to_come m) (still_to_come q) (Err fault) (keeps_still p m (reads_go_on p m on) fine)
+    (refusal_step m q fault (on.failed ∙ fine) failed (stopped m nothing bound fault stops))
 
 -- ---- the versions
 -- the versions so far of what was to come, and what is still to come
 abbrev pub LoadsOn : Option (Still Placed Fault) → List VersionData → Option (Still Placed Fault) → Type 0
-LoadsOn all versions now = IfSome all (λ s. (t : Still Placed Fault) × (now ≡ Some t) × (versions_of s.list ≡ versions ++ versions_of t.list) × (s.refusal ≡ t.refusal))
+LoadsOn all versions now = IfSome all (λ s. (t : Still Placed Fault) × (now ≡ Some t)
+    × (versions_of s.list ≡ versions ++ versions_of t.list) × (s.refusal ≡ t.refusal))
 
-module _ (all : Option (Still Placed Fault)) (versions : List VersionData) (now after : Option (Still Placed Fault)) (on : LoadsOn all versions now) where
+module _ (all : Option (Still Placed Fault)) (versions : List VersionData) (now after : Option (Still Placed Fault))
+    (on : LoadsOn all versions now) where
   pub load_step : (u : Placed) → Step now (Ok (Some u)) after → LoadsOn all (versions ++ u.version ∷ []) after
   load_step u step = weaker all _ _ (λ s h. (
-      let k = known now _ h.0 h.1 step in
-      (k.0, k.2, h.2 ∙ ap (λ (x : Still Placed Fault). versions ++ versions_of x.list) k.1 ∙ sym (append_assoc versions (u.version ∷ []) (versions_of (k.0).list)), h.3 ∙ ap (λ (x : Still Placed Fault). x.refusal) k.1))) on
+      let k = known now _ h.0 h.1 step in (
+        k.0,
+        k.2,
+        h.2 ∙ ap (λ (x : Still Placed Fault). versions ++ versions_of x.list) k.1
+            ∙ sym (append_assoc versions (u.version ∷ []) (versions_of (k.0).list)),
+        h.3 ∙ ap (λ (x : Still Placed Fault). x.refusal) k.1,
+      )))
+      on
 
   pub load_ends : Step {A = Placed} now (Ok None) after → IfSome all (λ s. (s.refusal ≡ None) × (versions_of s.list ≡ versions))
   load_ends step = weaker all _ _ (λ s h. (
-      let k = known now _ h.0 h.1 step.0 in
-      (h.3 ∙ ap (λ (x : Still Placed Fault). x.refusal) k, h.2 ∙ ap (λ (x : Still Placed Fault). versions ++ versions_of x.list) k ∙ append-nil versions))) on
+      let k = known now _ h.0 h.1 step.0 in (
+        h.3 ∙ ap (λ (x : Still Placed Fault). x.refusal) k,
+        h.2 ∙ ap (λ (x : Still Placed Fault). versions ++ versions_of x.list) k
+            ∙ append-nil versions,
+      ))) on
 
-  pub load_stops : (fault : Fault) → Step {A = Placed} now (Err fault) after → (fault ≡ memory_fault) ⊎ IfSome all (λ s. s.refusal ≡ Some fault)
-  load_stops fault step = ⊎_elim (λ e. inl e) (λ k. inr (weaker all _ _ (λ s h. h.3 ∙ ap (λ (x : Still Placed Fault). x.refusal) (known now _ h.0 h.1 k)) on)) step.0
+  pub load_stops : (fault : Fault) → Step {A = Placed} now (Err fault) after →
+      (fault ≡ memory_fault) ⊎ IfSome all (λ s. s.refusal ≡ Some fault)
+  load_stops fault step = ⊎_elim (λ e. inl e) (λ k.
+      inr (weaker all _ _ (λ s h. h.3 ∙ ap (λ (x : Still Placed Fault). x.refusal) (known now _ h.0 h.1 k)) on)) step.0
 
 -- of which none was gone over yet
 pub loads_begin : (p q : Told) → GoesOn p q → p.failed ≡ false → LoadsOn (still_to_come p) [] (still_to_come q)
 loads_begin p q on fine =
-    subst (λ (o : Option (Still Placed Fault)). LoadsOn o [] (still_to_come q)) (sym (come_still p fine)) (weaker (to_come p) _ _ (λ s e. (s, come_still q (on.failed ∙ fine) ∙ e, refl, refl)) on.keeps)
+    subst (λ (o : Option (Still Placed Fault)). LoadsOn o [] (still_to_come q)) (sym (come_still p fine))
+    (weaker (to_come p) _ _ (λ s e. (s, come_still q (on.failed ∙ fine) ∙ e, refl, refl)) on.keeps)
 
 -- of which none was read yet
-pub stops_at_once : (now after : Option (Still Placed Fault)) (fault : Fault) → Step {A = Placed} now (Err fault) after → (fault ≡ memory_fault) ⊎ IfSome now (λ s. s.refusal ≡ Some fault)
-stops_at_once now after fault step = ⊎_elim (λ e. inl e) (λ k. inr (weaker now _ _ (λ s e. ap (λ (x : Still Placed Fault). x.refusal) e) k)) step.0
+pub stops_at_once : (now after : Option (Still Placed Fault)) (fault : Fault) → Step {A = Placed} now (Err fault) after →
+    (fault ≡ memory_fault) ⊎ IfSome now (λ s. s.refusal ≡ Some fault)
+stops_at_once now after fault step = ⊎_elim (λ e. inl e)
+    (λ k. inr (weaker now _ _ (λ s e. ap (λ (x : Still Placed Fault). x.refusal) e) k)) step.0
 
 -- ---- whether they are sorted
 module _ (versions : List VersionData) (v : VersionData) where
@@ -92,9 +115,11 @@ module _ (versions : List VersionData) (v : VersionData) where
   front_sorted : IsSorted key_cmp (versions ++ v ∷ []) → IsSorted key_cmp versions
   front_sorted sorted = λ k d from within.
       subst (λ (x : VersionData). is_lt (key_cmp x (get_or versions k d)) ≡ false) (front_at (k + 1) d within)
-      (subst (λ (x : VersionData). is_lt (key_cmp (get_or (versions ++ v ∷ []) (k + 1) d) x) ≡ false) (front_at k d (omega (arith, within))) (sorted k d from (omega (arith, within, length-append versions (v ∷ [])))))
+      (subst (λ (x : VersionData). is_lt (key_cmp (get_or (versions ++ v ∷ []) (k + 1) d) x) ≡ false) (front_at k d (omega (arith, within)))
+      (sorted k d from (omega (arith, within, length-append versions (v ∷ [])))))
 
-  below_last : (d : VersionData) → 0 < length versions → is_below_last v versions ≡ is_lt (key_cmp v (get_or versions (length versions - 1) d))
+  below_last : (d : VersionData) → 0 < length versions →
+      is_below_last v versions ≡ is_lt (key_cmp v (get_or versions (length versions - 1) d))
   below_last d some = ap (is_below v) (slice_get-get_or versions (length versions - 1) d (omega (arith, some)))
 
   none_below : (xs : List VersionData) → length xs ≡ 0 → is_below_last v xs ≡ false
@@ -108,18 +133,27 @@ module _ (versions : List VersionData) (v : VersionData) where
             let some : 0 < length versions = grind (arith, nat_tests) in
             let n : ℕ = length versions - 1 in
             let behind_it : n + 1 ≡ length versions = omega (arith, some) in
-            let last : get_or (versions ++ v ∷ []) (n + 1) v ≡ v = ap (λ m. get_or (versions ++ v ∷ []) m v) behind_it ∙ get_or-append_seam versions v [] v in
-            below_last v some ∙ (λ i. is_lt (key_cmp (sym last i) (sym (front_at n v (omega (arith, some))) i))) ∙ sorted n v (omega arith) (omega (arith, some, length-append versions (v ∷ []))))
+            let last : get_or (versions ++ v ∷ []) (n + 1) v ≡ v = ap (λ m. get_or (versions ++ v ∷ []) m v) behind_it
+            ∙ get_or-append_seam versions v [] v in
+            below_last v some ∙ (λ i. is_lt (key_cmp (sym last i) (sym (front_at n v (omega (arith, some))) i)))
+            ∙ sorted n v (omega arith) (omega (arith, some, length-append versions (v ∷ []))))
         | false ↦ λ is. none_below versions (let none : length versions ≤ 0 = grind (arith, nat_tests) in omega (arith, none))
       ] refl
 
-  rises_on : (sorted : Bool) → IsTrue sorted ↔ IsSorted key_cmp versions → (below : Bool) → is_below_last v versions ≡ below → IsTrue (sorted && not below) ↔ IsSorted key_cmp (versions ++ v ∷ [])
-  rises_on true is false e = (λ t. IsSortedBy-push (λ x y. is_lt (key_cmp x y)) versions v (is.0 refl) (λ d some. sym (below_last d some) ∙ e), λ s. refl)
+  rises_on : (sorted : Bool) → IsTrue sorted ↔ IsSorted key_cmp versions → (below : Bool) → is_below_last v versions ≡ below →
+      IsTrue (sorted && not below) ↔ IsSorted key_cmp (versions ++ v ∷ [])
+  rises_on true is false e = (
+    λ t. IsSortedBy-push (λ x y. is_lt (key_cmp x y)) versions v (is.0 refl)
+        (λ d some. sym (below_last d some) ∙ e),
+    λ s. refl,
+  )
   rises_on true is true e = (λ t. absurd (false≢true t), λ s. sym (last_rises s) ∙ e)
   rises_on false is below e = (λ t. absurd (false≢true t), λ s. absurd (false≢true (is.1 (front_sorted s))))
 
-  pub sorted_on : (sorted after : Bool) → IsTrue sorted ↔ IsSorted key_cmp versions → after ≡ (sorted && not (is_below_last v versions)) → IsTrue after ↔ IsSorted key_cmp (versions ++ v ∷ [])
-  sorted_on sorted after is e = subst (λ (b : Bool). IsTrue b ↔ IsSorted key_cmp (versions ++ v ∷ [])) (sym e) (rises_on sorted is (is_below_last v versions) refl)
+  pub sorted_on : (sorted after : Bool) → IsTrue sorted ↔ IsSorted key_cmp versions → after ≡ (sorted && not (is_below_last v versions)) →
+      IsTrue after ↔ IsSorted key_cmp (versions ++ v ∷ [])
+  sorted_on sorted after is e = subst (λ (b : Bool). IsTrue b ↔ IsSorted key_cmp (versions ++ v ∷ [])) (sym e)
+      (rises_on sorted is (is_below_last v versions) refl)
 
 -- ---- inputs
 -- a file that ends is its units
@@ -129,8 +163,11 @@ whole_units bytes =
     let all : 0 + length bytes ≡ length bytes = omega arith in
     let room : length_limit - 1 - 0 ≡ length_limit - 1 = omega arith in
     from_is None 0 (all_of bytes)
-    ∙ (λ i. units (cond (nat_lt (all i) length_limit) None (Some too_long)) (start_of bytes) 0 (cond (nat_lt (all i) length_limit) bytes (take (room i) bytes)))
-    ∙ (elim (nat_lt (length bytes) length_limit) as (λ t. units (cond t None (Some too_long)) (start_of bytes) 0 (cond t bytes (take (length_limit - 1) bytes)) ≡ cond t (units None (start_of bytes) 0 bytes) (units (Some too_long) (start_of bytes) 0 (take (length_limit - 1) bytes))) [
+    ∙ (λ i. units (cond (nat_lt (all i) length_limit) None (Some too_long)) (start_of bytes) 0
+    (cond (nat_lt (all i) length_limit) bytes (take (room i) bytes)))
+    ∙ (elim (nat_lt (length bytes) length_limit) as (λ t.
+    units (cond t None (Some too_long)) (start_of bytes) 0 (cond t bytes (take (length_limit - 1) bytes))
+    ≡ cond t (units None (start_of bytes) 0 bytes) (units (Some too_long) (start_of bytes) 0 (take (length_limit - 1) bytes))) [
       | true ↦ refl
       | false ↦ refl
     ])
@@ -146,7 +183,8 @@ unbroken c none =
       | true ↦ units_closed at_all (start_of c.bytes) 0 bytes
       | false ↦ units_closed too_long (start_of c.bytes) 0 bytes
     ] in
-    elim c.broken as (λ t. (units (cond below (cond t (Some at_all) None) (Some too_long)) (start_of c.bytes) 0 bytes).refusal ≡ None → t ≡ false) [
+    elim c.broken as (λ t. (units (cond below (cond t (Some at_all) None) (Some too_long)) (start_of c.bytes) 0 bytes).refusal ≡ None →
+    t ≡ false) [
       | true ↦ λ e. absurd (closes below e)
       | false ↦ λ e. refl
     ] (ap (λ s. s.refusal) (sym (from_is None 0 c)) ∙ none)
@@ -156,7 +194,8 @@ unnamed input None e = refl
 unnamed input (Some v) e = absurd (some_is_not_none (fault_of input v) e)
 
 -- the units of an input that are its versions, with no refusal
-module _ (input : ℕ) (c : Coming) (versions : List VersionData) (none : (named input (units_from None 0 c)).refusal ≡ None) (all : versions_of (named input (units_from None 0 c)).list ≡ versions) where
+module _ (input : ℕ) (c : Coming) (versions : List VersionData) (none : (named input (units_from None 0 c)).refusal ≡ None)
+    (all : versions_of (named input (units_from None 0 c)).list ≡ versions) where
   ends : c.broken ≡ false
   ends = unbroken c (unnamed input (units_from None 0 c).refusal none)
 
@@ -173,15 +212,32 @@ module _ (input : ℕ) (c : Coming) (versions : List VersionData) (none : (named
   is_file = subst (IsFile c.bytes) file_versions (accepted_without_verdict c.bytes no_verdict).1
 
   pub gives_file : (c.broken ≡ false) × Holds c.bytes (from_list {R = version_cmp} versions)
-  gives_file = (ends, record { short = (accepted_without_verdict c.bytes no_verdict).0; versions = versions; file = is_file; members = refl })
+  gives_file = (
+    ends,
+    record {
+      short = (accepted_without_verdict c.bytes no_verdict).0;
+      versions = versions;
+      file = is_file;
+      members =
+          refl;
+    },
+  )
 
   loads_sorted : IsSorted key_cmp versions → HoldsSorted c.bytes (from_list {R = version_cmp} versions)
-  loads_sorted sorted = record { short = (accepted_without_verdict c.bytes no_verdict).0; versions = versions; file = is_file; sorted = sorted; members = refl }
+  loads_sorted sorted = record {
+    short = (accepted_without_verdict c.bytes no_verdict).0;
+    versions = versions;
+    file = is_file;
+    sorted =
+        sorted;
+    members = refl;
+  }
 
   sorted_loads : HoldsSorted c.bytes (from_list {R = version_cmp} versions) → IsSorted key_cmp versions
   sorted_loads holds = subst (IsSorted key_cmp) (one_list c.bytes holds.versions versions holds.file is_file) holds.sorted
 
-  loads_all : (format : Format) (sorted : Bool) → format ≡ format_of c.bytes → IsTrue sorted ↔ IsSorted key_cmp versions → Loads c (record { history = from_list {R = version_cmp} versions; format = format; sorted = sorted })
+  loads_all : (format : Format) (sorted : Bool) → format ≡ format_of c.bytes → IsTrue sorted ↔ IsSorted key_cmp versions →
+      Loads c (record { history = from_list {R = version_cmp} versions; format = format; sorted = sorted })
   loads_all format sorted tells is = record {
     unbroken = ends;
     holds = record { short = (accepted_without_verdict c.bytes no_verdict).0; versions = versions; file = is_file; members = refl };
@@ -194,13 +250,18 @@ abbrev pub fresh : ℕ → Option Coming → Told
 fresh = at_start
 
 module _ (input : ℕ) where
-  pub is_read : (c : Coming) (format : Format) (versions : List VersionData) (sorted : Bool) → IfSome (ahead (fresh input (Some c))) (λ c. format ≡ format_of c.bytes) → IsTrue sorted ↔ IsSorted key_cmp versions
-      → IfSome (still_to_come (fresh input (Some c))) (λ s. (s.refusal ≡ None) × (versions_of s.list ≡ versions)) → IsRead input c versions format sorted
+  pub is_read : (c : Coming) (format : Format) (versions : List VersionData) (sorted : Bool) →
+      IfSome (ahead (fresh input (Some c))) (λ c. format ≡ format_of c.bytes) → IsTrue sorted ↔ IsSorted key_cmp versions
+      → IfSome (still_to_come (fresh input (Some c))) (λ s. (s.refusal ≡ None) × (versions_of s.list ≡ versions)) →
+      IsRead input c versions format sorted
   is_read c format versions sorted tells is all = record { unrefused = all.0; all = all.1; tells = tells; rises = is }
 
-  pub loads : (c : Coming) (format : Format) (versions : List VersionData) (sorted : Bool) (loaded : Loaded) → IsRead input c versions format sorted
+  pub loads : (c : Coming) (format : Format) (versions : List VersionData) (sorted : Bool) (loaded : Loaded) →
+      IsRead input c versions format sorted
       → loaded ≡ record { history = from_list {R = version_cmp} versions; format = format; sorted = sorted } → Loads c loaded
-  loads c format versions sorted loaded read gathered = subst (Loads c) (sym gathered) (loads_all input c versions read.unrefused read.all format sorted read.tells read.rises)
+  loads c format versions sorted loaded read gathered =
+      subst (Loads c) (sym gathered) (loads_all input c versions read.unrefused read.all format sorted read.tells read.rises)
 
-  pub stops : (c : Coming) (fault : Fault) → (fault ≡ memory_fault) ⊎ IfSome (still_to_come (fresh input (Some c))) (λ s. s.refusal ≡ Some fault) → StopsLoading input c fault
+  pub stops : (c : Coming) (fault : Fault) → (fault ≡ memory_fault)
+      ⊎ IfSome (still_to_come (fresh input (Some c))) (λ s. s.refusal ≡ Some fault) → StopsLoading input c fault
   stops c fault h = h

@@ -1,5 +1,7 @@
 -- The data sets of o5 files as units.
-use Rattle.std.proofs.Common.{◌≡◌, ◌⊎◌, inl, inr, ℕ, zero, suc, ◌+◌, ◌-◌, ◌≤◌, ◌<◌, Bool, true, false, cond, List, [], ◌∷◌, ◌++◌, length, drop, take, refl, sym, ap, ◌∙◌, subst, arith, Option, Some, None, Result, Ok, Err, length-append, length-drop, append_assoc, ◌||◌, ◌==◌, nat_lt, nat_le, take-append-drop, length-take}
+use Rattle.std.proofs.Common.{◌≡◌, ◌⊎◌, inl, inr, ℕ, zero, suc, ◌+◌, ◌-◌, ◌≤◌, ◌<◌, Bool, true, false, cond, List, [], ◌∷◌, ◌++◌, length}
+use Rattle.std.proofs.Common.{drop, take, refl, sym, ap, ◌∙◌, subst, arith, Option, Some, None, Result, Ok, Err, length-append, length-drop}
+use Rattle.std.proofs.Common.{append_assoc, ◌||◌, ◌==◌, nat_lt, nat_le, take-append-drop, length-take}
 use Rattle.std.specs.List.{flat_map, list_any}
 use Rattle.std.proofs.lemmas.Bool.{false≢true, lt-ltb, eqb-true, leb-true, leb-false}
 use Rattle.osm_model.specs.Data.{VersionData}
@@ -14,10 +16,12 @@ use Rattle.o5_codec.specs.Body.{set_at}
 use Rattle.o5_codec.proofs.NumberLaws.{number_found, number_only}
 use Rattle.o5_codec.proofs.StepLaws.{set_found, set_only}
 use Rattle.osm_files.specs.Stream.{Verdict, Placed, placed, Still, refused, front}
-use Rattle.osm_files.specs.O5.{end_byte, reset_byte, type_byte, kind_of_type, is_lone, IsOtherType, Part, Reset, Lone, Skipped, Object, part_bytes, PartsSpell}
+use Rattle.osm_files.specs.O5.{end_byte, reset_byte, type_byte, kind_of_type, is_lone, IsOtherType, Part, Reset, Lone, Skipped, Object}
+use Rattle.osm_files.specs.O5.{part_bytes, PartsSpell}
 use Rattle.o5_codec.specs.declared.reason.O5Reason.TheVariants as o5
 use Rattle.osm_files.specs.declared.reason.Reason.TheVariants.{NoEnd, O5}
-use Rattle.osm_files.specs.Units.{InSegment, BehindEnd, FileUnit, unit, passes, closed, unit_then, unit_at, last_at, units_within, segment_unit, behind_unit, sized_unit, content_found, set_found as found_of, is_last, is_ended, length_at}
+use Rattle.osm_files.specs.Units.{InSegment, BehindEnd, FileUnit, unit, passes, closed, unit_then, unit_at, last_at, units_within}
+use Rattle.osm_files.specs.Units.{segment_unit, behind_unit, sized_unit, content_found, set_found as found_of, is_last, is_ended, length_at}
 use Rattle.osm_files.specs.Verdict.{versions_of}
 use Rattle.std.proofs.lemmas.Bool.Decides.{nat_tests}
 use Rattle.osm_files.proofs.UnitLaws.{ReadsAs, some_is_not_none}
@@ -46,19 +50,23 @@ abbrev pub SkippedFirst : Segment → ℕ → List ℕ → List VersionData → 
 SkippedFirst s b bytes versions = IsOtherType b × ((content rest : List ℕ) × Sized bytes content rest × PartsFile s rest versions)
 
 abbrev pub Behind : Kind → Segment → List ℕ → List ℕ → List VersionData → Type 0
-Behind k s content rest versions = (v : VersionData) × (next : Segment) × (others : List VersionData) × (versions ≡ v ∷ others) × SpellsSet k s content (v, next) × PartsFile next rest others
+Behind k s content rest versions = (v : VersionData) × (next : Segment) × (others : List VersionData) × (versions ≡ v ∷ others)
+    × SpellsSet k s content (v, next) × PartsFile next rest others
 
 abbrev pub ObjectFirst : Segment → ℕ → List ℕ → List VersionData → Type 0
-ObjectFirst s b bytes versions = (k : Kind) × (b ≡ type_byte k) × ((content rest : List ℕ) × Sized bytes content rest × Behind k s content rest versions)
+ObjectFirst s b bytes versions = (k : Kind) × (b ≡ type_byte k)
+    × ((content rest : List ℕ) × Sized bytes content rest × Behind k s content rest versions)
 
 abbrev pub FirstPart : Segment → ℕ → List ℕ → List VersionData → Type 0
-FirstPart s b bytes versions = EndFirst b bytes versions ⊎ ResetFirst b bytes versions ⊎ LoneFirst s b bytes versions ⊎ SkippedFirst s b bytes versions ⊎ ObjectFirst s b bytes versions
+FirstPart s b bytes versions = EndFirst b bytes versions ⊎ ResetFirst b bytes versions ⊎ LoneFirst s b bytes versions
+    ⊎ SkippedFirst s b bytes versions ⊎ ObjectFirst s b bytes versions
 
 lone_is_no_end : (b : ℕ) → is_lone b ≡ true → ((b == end_byte) ≡ false) × ((b == reset_byte) ≡ false)
 lone_is_no_end b e = (grind (arith, nat_tests, e), grind (arith, nat_tests, e))
 
 -- the first part of what is parts and the end byte
-pub first_part : (s : Segment) (b : ℕ) (bytes : List ℕ) (parts : List Part) (versions : List VersionData) → b ∷ bytes ≡ flat_map part_bytes parts ++ end_byte ∷ [] → PartsSpell s parts versions → FirstPart s b bytes versions
+pub first_part : (s : Segment) (b : ℕ) (bytes : List ℕ) (parts : List Part) (versions : List VersionData) →
+    b ∷ bytes ≡ flat_map part_bytes parts ++ end_byte ∷ [] → PartsSpell s parts versions → FirstPart s b bytes versions
 first_part s b bytes [] versions e spelled = inl (rw (let f : b ≡ end_byte = cc in f) refl, (let f : bytes ≡ [] = cc in f), sym spelled)
 first_part s b bytes (Reset ∷ parts) versions e spelled =
     let f : b ≡ reset_byte = cc in
@@ -73,16 +81,31 @@ first_part s b bytes (Lone c ∷ parts) versions e spelled =
 first_part s b bytes (Skipped c size content ∷ parts) versions e spelled =
     let f : c ≡ b = cc in
     let tail : List ℕ = flat_map part_bytes parts ++ end_byte ∷ [] in
-    let h : b ∷ bytes ≡ c ∷ size ++ (content ++ tail) = e ∙ ap (λ x. c ∷ x) (append_assoc (size ++ content) (flat_map part_bytes parts) (end_byte ∷ []) ∙ append_assoc size content tail) in
+    let h : b ∷ bytes ≡ c ∷ size ++ (content ++ tail) = e
+    ∙ ap (λ x. c ∷ x) (append_assoc (size ++ content) (flat_map part_bytes parts) (end_byte ∷ []) ∙ append_assoc size content tail) in
     let g : bytes ≡ size ++ (content ++ tail) = cc in
-    inr (inr (inr (inl (subst IsOtherType f spelled.0, (content, tail, record { size = size; spelled = spelled.1; split = g }, (parts, refl, spelled.2))))))
+    inr (inr (inr (inl (
+      subst IsOtherType f spelled.0,
+      (content, tail, record { size = size; spelled = spelled.1; split = g }, (parts, refl, spelled.2)),
+    ))))
 first_part s b bytes (Object k size content ∷ parts) versions e spelled =
     let f : b ≡ type_byte k = cc in
     let tail : List ℕ = flat_map part_bytes parts ++ end_byte ∷ [] in
-    let h : b ∷ bytes ≡ type_byte k ∷ size ++ (content ++ tail) = e ∙ ap (λ x. type_byte k ∷ x) (append_assoc (size ++ content) (flat_map part_bytes parts) (end_byte ∷ []) ∙ append_assoc size content tail) in
+    let h : b ∷ bytes ≡ type_byte k ∷ size ++ (content ++ tail) = e
+    ∙ ap (λ x. type_byte k ∷ x) (append_assoc (size ++ content) (flat_map part_bytes parts) (end_byte ∷ [])
+    ∙ append_assoc size content tail) in
     let g : bytes ≡ size ++ (content ++ tail) = cc in
     let m = spelled.1 in
-    inr (inr (inr (inr (k, f, (content, tail, record { size = size; spelled = spelled.0; split = g }, (m.0, m.1, m.2, m.3, m.4, (parts, refl, m.5)))))))
+    inr (inr (inr (inr (
+      k,
+      f,
+      (
+        content,
+        tail,
+        record { size = size; spelled = spelled.0; split = g },
+        (m.0, m.1, m.2, m.3, m.4, (parts, refl, m.5)),
+      ),
+    ))))
 
 or_true : (x : Bool) → x || true ≡ true
 or_true true = refl
@@ -91,14 +114,18 @@ or_true false = refl
 groups_ended : (size rest : List ℕ) (n : ℕ) → AreGroups size n → list_any is_last (size ++ rest) ≡ true
 groups_ended [] rest n groups = absurd groups
 groups_ended (b ∷ []) rest n groups = rw (lt-ltb b 128 groups.0) refl
-groups_ended (b ∷ c ∷ size) rest n groups = ap (λ t. nat_lt b 128 || t) (groups_ended (c ∷ size) rest groups.1.0 groups.1.2) ∙ or_true (nat_lt b 128)
+groups_ended (b ∷ c ∷ size) rest n groups = ap (λ t. nat_lt b 128 || t) (groups_ended (c ∷ size) rest groups.1.0 groups.1.2)
+    ∙ or_true (nat_lt b 128)
 
 -- the size of a data set is read where it is spelled
 pub length_read : (bytes content rest : List ℕ) → Sized bytes content rest → length_at bytes ≡ Some (Ok (length content, content ++ rest))
 length_read bytes content rest h =
     let behind : List ℕ = content ++ rest in
-    let ended : is_ended (h.size ++ behind) ≡ true = ap (λ t. nat_lt 10 (length (h.size ++ behind)) || t) (groups_ended h.size behind (length content) h.spelled.groups) ∙ or_true (nat_lt 10 (length (h.size ++ behind))) in
-    let number : number_at (h.size ++ behind) ≡ Ok (length content, behind) = number_only (h.size ++ behind) (length content, behind) (h.size, h.spelled, refl) in
+    let ended : is_ended (h.size ++ behind) ≡ true =
+    ap (λ t. nat_lt 10 (length (h.size ++ behind)) || t) (groups_ended h.size behind (length content) h.spelled.groups)
+    ∙ or_true (nat_lt 10 (length (h.size ++ behind))) in
+    let number : number_at (h.size ++ behind) ≡ Ok (length content, behind) =
+    number_only (h.size ++ behind) (length content, behind) (h.size, h.spelled, refl) in
     ap length_at h.split ∙ rw (ended, number) refl
 
 by_ended : (ended : Bool) (number x : Result (ℕ × List ℕ) O5Reason) → cond ended (Some number) None ≡ Some x → number ≡ x
@@ -116,10 +143,12 @@ pub record LengthFound (b : ℕ) (bytes : List ℕ) (n : ℕ) (behind : List ℕ
   pub split : bytes ≡ size ++ behind
   pub rest : drop (1 + (length bytes - length behind) + n) (b ∷ bytes) ≡ drop n behind
 
-pub length_found : (b : ℕ) (bytes : List ℕ) (n : ℕ) (behind : List ℕ) → length_at bytes ≡ Some (Ok (n, behind)) → LengthFound b bytes n behind
+pub length_found : (b : ℕ) (bytes : List ℕ) (n : ℕ) (behind : List ℕ) → length_at bytes ≡ Some (Ok (n, behind)) →
+    LengthFound b bytes n behind
 length_found b bytes n behind e =
     let found = number_found bytes (n, behind) (by_ended (is_ended bytes) (number_at bytes) (Ok (n, behind)) e) in
-    let far : 1 + (length bytes - length behind) + n ≡ suc (length found.0 + n) = omega (arith, ap length found.2, length-append found.0 behind) in
+    let far : 1 + (length bytes - length behind) + n ≡ suc (length found.0 + n) =
+    omega (arith, ap length found.2, length-append found.0 behind) in
     record {
       size = found.0;
       spelled = found.1;
@@ -128,7 +157,8 @@ length_found b bytes n behind e =
     }
 
 -- the content is what the size says
-pub content_sized : (bytes : List ℕ) (n : ℕ) (behind : List ℕ) (b : ℕ) → n ≤ length behind → LengthFound b bytes n behind → Sized bytes (take n behind) (drop n behind)
+pub content_sized : (bytes : List ℕ) (n : ℕ) (behind : List ℕ) (b : ℕ) → n ≤ length behind → LengthFound b bytes n behind →
+    Sized bytes (take n behind) (drop n behind)
 content_sized bytes n behind b fits found =
     let long : length (take n behind) ≡ n = omega (arith, length-take n behind, fits) in
     record {
@@ -164,7 +194,8 @@ same_length n m behind other e =
     let f : here ≡ there = cc in
     (ap (λ x. x.0) f, ap (λ x. x.1) f)
 
-pub same_size : (bytes : List ℕ) (n : ℕ) (behind content rest : List ℕ) → length_at bytes ≡ Some (Ok (n, behind)) → Sized bytes content rest → SameSize n behind content rest
+pub same_size : (bytes : List ℕ) (n : ℕ) (behind content rest : List ℕ) → length_at bytes ≡ Some (Ok (n, behind)) →
+    Sized bytes content rest → SameSize n behind content rest
 same_size bytes n behind content rest e sized =
     let both = same_length n (length content) behind (content ++ rest) (sym e ∙ length_read bytes content rest sized) in
     let m : n ≡ length content = both.0 in
@@ -176,27 +207,43 @@ same_size bytes n behind content rest e sized =
     }
 
 -- a part in front
-with_part : (s : Segment) (bytes : List ℕ) (p : Part) (rest : List ℕ) (versions : List VersionData) (parts : List Part) → rest ≡ flat_map part_bytes parts ++ end_byte ∷ [] → bytes ≡ part_bytes p ++ rest → bytes ≡ flat_map part_bytes (p ∷ parts) ++ end_byte ∷ []
-with_part s bytes p rest versions parts e split = split ∙ ap (λ x. part_bytes p ++ x) e ∙ sym (append_assoc (part_bytes p) (flat_map part_bytes parts) (end_byte ∷ []))
+with_part : (s : Segment) (bytes : List ℕ) (p : Part) (rest : List ℕ) (versions : List VersionData) (parts : List Part) →
+    rest ≡ flat_map part_bytes parts ++ end_byte ∷ [] → bytes ≡ part_bytes p ++ rest →
+    bytes ≡ flat_map part_bytes (p ∷ parts) ++ end_byte ∷ []
+with_part s bytes p rest versions parts e split = split ∙ ap (λ x. part_bytes p ++ x) e
+    ∙ sym (append_assoc (part_bytes p) (flat_map part_bytes parts) (end_byte ∷ []))
 
-skipped_in_front : (s : Segment) (b : ℕ) (bytes content rest : List ℕ) (versions : List VersionData) → IsOtherType b → Sized bytes content rest → PartsFile s rest versions → PartsFile s (b ∷ bytes) versions
-skipped_in_front s b bytes content rest versions other sized h =
-    (Skipped b sized.size content ∷ h.0, with_part s (b ∷ bytes) (Skipped b sized.size content) rest versions h.0 h.1 (ap (λ x. b ∷ x) (sized.split ∙ sym (append_assoc sized.size content rest))), (other, sized.spelled, h.2))
+skipped_in_front : (s : Segment) (b : ℕ) (bytes content rest : List ℕ) (versions : List VersionData) → IsOtherType b →
+    Sized bytes content rest → PartsFile s rest versions → PartsFile s (b ∷ bytes) versions
+skipped_in_front s b bytes content rest versions other sized h = (
+  Skipped b sized.size content ∷ h.0,
+  with_part s (b ∷ bytes) (Skipped b sized.size content) rest versions h.0 h.1
+      (ap (λ x. b ∷ x) (sized.split ∙ sym (append_assoc sized.size content rest))),
+  (other, sized.spelled, h.2),
+)
 
-object_in_front : (s : Segment) (k : Kind) (b : ℕ) (bytes content rest : List ℕ) (versions : List VersionData) → b ≡ type_byte k → Sized bytes content rest → Behind k s content rest versions → PartsFile s (b ∷ bytes) versions
+object_in_front : (s : Segment) (k : Kind) (b : ℕ) (bytes content rest : List ℕ) (versions : List VersionData) → b ≡ type_byte k →
+    Sized bytes content rest → Behind k s content rest versions → PartsFile s (b ∷ bytes) versions
 object_in_front s k b bytes content rest versions is sized h =
     let parts = h.5.0 in
-    let split : b ∷ bytes ≡ type_byte k ∷ (sized.size ++ content) ++ rest = (λ i. is i ∷ (sized.split ∙ sym (append_assoc sized.size content rest)) i) in
-    (Object k sized.size content ∷ parts, with_part s (b ∷ bytes) (Object k sized.size content) rest versions parts h.5.1 split, (sized.spelled, (h.0, h.1, h.2, h.3, h.4, h.5.2)))
+    let split : b ∷ bytes ≡ type_byte k ∷ (sized.size ++ content) ++ rest =
+    (λ i. is i ∷ (sized.split ∙ sym (append_assoc sized.size content rest)) i) in (
+      Object k sized.size content ∷ parts,
+      with_part s (b ∷ bytes) (Object k sized.size content) rest versions parts h.5.1 split,
+      (sized.spelled, (h.0, h.1, h.2, h.3, h.4, h.5.2)),
+    )
 
 -- what is read as one thing is read as another that is the same
-pub through : (still : Still Placed Verdict) (S T : List VersionData → Type 0) → ((versions : List VersionData) → T versions → S versions) → ((versions : List VersionData) → S versions → T versions) → ReadsAs still S → ReadsAs still T
+pub through : (still : Still Placed Verdict) (S T : List VersionData → Type 0) → ((versions : List VersionData) → T versions → S versions) →
+    ((versions : List VersionData) → S versions → T versions) → ReadsAs still S → ReadsAs still T
 through still S T f g h = record { read = λ versions t. h.read versions (f versions t); back = λ none. g _ (h.back none) }
 
-pub nothing_reads : (verdict : Verdict) (S : List VersionData → Type 0) → ((versions : List VersionData) → S versions → ⊥) → ReadsAs (refused verdict) S
+pub nothing_reads : (verdict : Verdict) (S : List VersionData → Type 0) → ((versions : List VersionData) → S versions → ⊥) →
+    ReadsAs (refused verdict) S
 nothing_reads verdict S never = record { read = λ versions s. absurd (never versions s); back = λ none. absurd (some_is_not_none _ none) }
 
-version_reads : (place : ℕ) (v : VersionData) (still : Still Placed Verdict) (S : List VersionData → Type 0) → ReadsAs still S → ReadsAs (front (placed place v) still) (λ versions. (others : List VersionData) × (versions ≡ v ∷ others) × S others)
+version_reads : (place : ℕ) (v : VersionData) (still : Still Placed Verdict) (S : List VersionData → Type 0) → ReadsAs still S →
+    ReadsAs (front (placed place v) still) (λ versions. (others : List VersionData) × (versions ≡ v ∷ others) × S others)
 version_reads place v still S h = record {
   read = λ versions t. (let r = h.read t.0 t.2 in (r.0, ap (λ x. v ∷ x) r.1 ∙ sym t.1));
   back = λ none. (versions_of still.list, refl, h.back none);
@@ -232,14 +279,16 @@ module _ (s : Segment) (b : ℕ) (bytes : List ℕ) (versions : List VersionData
   reset_only (inr (inr (inr (inl h)))) n e = absurd (clash _ e h.0.1)
   reset_only (inr (inr (inr (inr h)))) n e = absurd (clash _ e (type_at h.0 b h.1).1)
 
-  lone_only : FirstPart s b bytes versions → (b == end_byte) ≡ false → (b == reset_byte) ≡ false → is_lone b ≡ true → PartsFile s bytes versions
+  lone_only : FirstPart s b bytes versions → (b == end_byte) ≡ false → (b == reset_byte) ≡ false → is_lone b ≡ true →
+      PartsFile s bytes versions
   lone_only (inl h) n m e = absurd (clash _ h.0 n)
   lone_only (inr (inl h)) n m e = absurd (clash _ h.1 m)
   lone_only (inr (inr (inl h))) n m e = h.3
   lone_only (inr (inr (inr (inl h)))) n m e = absurd (clash _ e h.0.2)
   lone_only (inr (inr (inr (inr h)))) n m e = absurd (clash _ e (type_at h.0 b h.1).2)
 
-  sized_only : FirstPart s b bytes versions → (b == end_byte) ≡ false → (b == reset_byte) ≡ false → is_lone b ≡ false → SkippedFirst s b bytes versions ⊎ ObjectFirst s b bytes versions
+  sized_only : FirstPart s b bytes versions → (b == end_byte) ≡ false → (b == reset_byte) ≡ false → is_lone b ≡ false →
+      SkippedFirst s b bytes versions ⊎ ObjectFirst s b bytes versions
   sized_only (inl h) n m e = absurd (clash _ h.0 n)
   sized_only (inr (inl h)) n m e = absurd (clash _ h.1 m)
   sized_only (inr (inr (inl h))) n m e = absurd (clash _ h.2 e)
@@ -254,14 +303,16 @@ module _ (s : Segment) (b : ℕ) (bytes : List ℕ) (versions : List VersionData
   skipped_only (inl h) e = h
   skipped_only (inr h) e = absurd (some_is_not_none h.0 (sym (type_at h.0 b h.1).3 ∙ e))
 
-  object_only : (k : Kind) → SkippedFirst s b bytes versions ⊎ ObjectFirst s b bytes versions → kind_of_type b ≡ Some k → (content rest : List ℕ) × Sized bytes content rest × Behind k s content rest versions
+  object_only : (k : Kind) → SkippedFirst s b bytes versions ⊎ ObjectFirst s b bytes versions → kind_of_type b ≡ Some k →
+      (content rest : List ℕ) × Sized bytes content rest × Behind k s content rest versions
   object_only k (inl h) e = absurd (some_is_not_none k (sym e ∙ h.0.3))
   object_only k (inr h) e =
       let both : Some h.0 ≡ Some k = sym (type_at h.0 b h.1).3 ∙ e in
       let same : h.0 ≡ k = cc in
       (h.2.0, h.2.1, h.2.2, subst (λ (j : Kind). Behind j s h.2.0 h.2.1 versions) same h.2.3)
 
-same_read : (v w : VersionData) (s t : Segment) → (let x : Result (VersionData × Segment) O5Reason = Ok (v, s) in x) ≡ (let y : Result (VersionData × Segment) O5Reason = Ok (w, t) in y) → (v ≡ w) × (s ≡ t)
+same_read : (v w : VersionData) (s t : Segment) → (let x : Result (VersionData × Segment) O5Reason = Ok (v, s) in x)
+    ≡ (let y : Result (VersionData × Segment) O5Reason = Ok (w, t) in y) → (v ≡ w) × (s ≡ t)
 same_read v w s t e =
     let here : VersionData × Segment = (v, s) in
     let there : VersionData × Segment = (w, t) in
@@ -270,19 +321,22 @@ same_read v w s t e =
 
 byte_of : (k : Kind) (b : ℕ) → kind_of_type b ≡ Some k → b ≡ type_byte k
 byte_of k b e =
-    elim (b == 16) as (λ t. (b == 16) ≡ t → cond t (Some kind.Node) (cond (b == 17) (Some kind.Way) (cond (b == 18) (Some kind.Relation) None)) ≡ Some k → b ≡ type_byte k) [
+    elim (b == 16) as (λ t. (b == 16) ≡ t → cond t (Some kind.Node)
+    (cond (b == 17) (Some kind.Way) (cond (b == 18) (Some kind.Relation) None)) ≡ Some k → b ≡ type_byte k) [
       | true ↦ λ is f. let g : kind.Node ≡ k = cc in eqb-true b 16 is ∙ ap type_byte g
-      | false ↦ λ is. elim (b == 17) as (λ t. (b == 17) ≡ t → cond t (Some kind.Way) (cond (b == 18) (Some kind.Relation) None) ≡ Some k → b ≡ type_byte k) [
-        | true ↦ λ is f. let g : kind.Way ≡ k = cc in eqb-true b 17 is ∙ ap type_byte g
-        | false ↦ λ is. elim (b == 18) as (λ t. (b == 18) ≡ t → cond t (Some kind.Relation) None ≡ Some k → b ≡ type_byte k) [
-          | true ↦ λ is f. let g : kind.Relation ≡ k = cc in eqb-true b 18 is ∙ ap type_byte g
-          | false ↦ λ is f. absurd (some_is_not_none k (sym f))
-        ] refl
-      ] refl
+      | false ↦ λ is. elim (b == 17) as (λ t. (b == 17) ≡ t → cond t (Some kind.Way) (cond (b == 18) (Some kind.Relation) None) ≡ Some k →
+          b ≡ type_byte k) [
+            | true ↦ λ is f. let g : kind.Way ≡ k = cc in eqb-true b 17 is ∙ ap type_byte g
+            | false ↦ λ is. elim (b == 18) as (λ t. (b == 18) ≡ t → cond t (Some kind.Relation) None ≡ Some k → b ≡ type_byte k) [
+              | true ↦ λ is f. let g : kind.Relation ≡ k = cc in eqb-true b 18 is ∙ ap type_byte g
+              | false ↦ λ is f. absurd (some_is_not_none k (sym f))
+            ] refl
+          ] refl
     ] refl e
 
 abbrev pub ReadsParts : ℕ → Type 0
-ReadsParts n = (s : Segment) (bytes : List ℕ) (place : ℕ) → length bytes ≤ n → ReadsAs (units_within n None (InSegment s) place bytes) (PartsFile s bytes)
+ReadsParts n = (s : Segment) (bytes : List ℕ) (place : ℕ) → length bytes ≤ n →
+    ReadsAs (units_within n None (InSegment s) place bytes) (PartsFile s bytes)
 
 last_in_set : (s : Segment) (b : ℕ) (bytes : List ℕ) → last_at (InSegment s) (b ∷ bytes) ≡ Err (O5 o5.Truncated)
 unfolding last_at
@@ -315,7 +369,8 @@ none_behind (suc n) place = rw (unit_behind [], last_behind []) (record { read =
 end_reads : (n place : ℕ) (bytes : List ℕ) → length bytes ≤ n → ReadsAs (units_within n None BehindEnd place bytes) (Nothing bytes)
 end_reads n place [] fits = none_behind n place
 end_reads zero place (b ∷ bytes) fits = absurd (omega (arith, fits))
-end_reads (suc n) place (b ∷ bytes) fits = rw (unit_behind (b ∷ bytes)) (nothing_reads _ (Nothing (b ∷ bytes)) (λ versions h. let e : b ∷ bytes ≡ [] = h.0 in cc))
+end_reads (suc n) place (b ∷ bytes) fits = rw (unit_behind (b ∷ bytes))
+    (nothing_reads _ (Nothing (b ∷ bytes)) (λ versions h. let e : b ∷ bytes ≡ [] = h.0 in cc))
 
 no_parts : (s : Segment) (versions : List VersionData) → PartsFile s [] versions → ⊥
 no_parts s versions h =
@@ -355,16 +410,19 @@ module _ (n : ℕ) (on : ReadsParts n) (s : Segment) (b : ℕ) (bytes : List ℕ
       (λ versions h. (Lone b ∷ h.0, with_part s (b ∷ bytes) (Lone b) bytes versions h.0 h.1 refl, (is, h.2)))
       (on s bytes (place + 1) fits)
 
-  sized_of : (b == end_byte) ≡ false → (b == reset_byte) ≡ false → is_lone b ≡ false → (versions : List VersionData) → T versions → SkippedFirst s b bytes versions ⊎ ObjectFirst s b bytes versions
+  sized_of : (b == end_byte) ≡ false → (b == reset_byte) ≡ false → is_lone b ≡ false → (versions : List VersionData) → T versions →
+      SkippedFirst s b bytes versions ⊎ ObjectFirst s b bytes versions
   sized_of not_end not_reset not_lone versions h = sized_only s b bytes versions (first_of versions h) not_end not_reset not_lone
 
   -- a size that can't be read yet, or at all
-  no_size : (b == end_byte) ≡ false → (b == reset_byte) ≡ false → is_lone b ≡ false → (x : Length) → length_at bytes ≡ x → ((n : ℕ) (behind : List ℕ) → x ≡ some_length n behind → ⊥) → (versions : List VersionData) → T versions → ⊥
+  no_size : (b == end_byte) ≡ false → (b == reset_byte) ≡ false → is_lone b ≡ false → (x : Length) → length_at bytes ≡ x →
+      ((n : ℕ) (behind : List ℕ) → x ≡ some_length n behind → ⊥) → (versions : List VersionData) → T versions → ⊥
   no_size not_end not_reset not_lone x e never versions h =
       let k = sized_by s b bytes versions (sized_of not_end not_reset not_lone versions h) in
       never (length k.0) (k.0 ++ k.1) (sym e ∙ length_read bytes k.0 k.1 k.2)
 
-  module _ (m : ℕ) (behind : List ℕ) (is_size : length_at bytes ≡ some_length m behind) (not_end : (b == end_byte) ≡ false) (not_reset : (b == reset_byte) ≡ false) (not_lone : is_lone b ≡ false) where
+  module _ (m : ℕ) (behind : List ℕ) (is_size : length_at bytes ≡ some_length m behind) (not_end : (b == end_byte) ≡ false)
+      (not_reset : (b == reset_byte) ≡ false) (not_lone : is_lone b ≡ false) where
     abbrev size : ℕ
     size = 1 + (length bytes - length behind) + m
 
@@ -380,7 +438,8 @@ module _ (n : ℕ) (on : ReadsParts n) (s : Segment) (b : ℕ) (bytes : List ℕ
     few : length rest ≤ n
     few = omega (arith, fits, length-drop m behind, ap length found.split, length-append found.size behind)
 
-    rest_reads : (next : Segment) → ReadsAs (units_within n None (InSegment next) (place + size) (drop size (b ∷ bytes))) (PartsFile next rest)
+    rest_reads : (next : Segment) → ReadsAs (units_within n None (InSegment next) (place + size) (drop size (b ∷ bytes)))
+        (PartsFile next rest)
     rest_reads next =
         let P : List ℕ → Type 0 = λ x. ReadsAs (units_within n None (InSegment next) (place + size) x) (PartsFile next rest) in
         subst P (sym found.rest) (on next rest (place + size) few)
@@ -410,13 +469,15 @@ module _ (n : ℕ) (on : ReadsParts n) (s : Segment) (b : ℕ) (bytes : List ℕ
         let Q : List ℕ → Type 0 = λ x. Behind k s o.0 x versions in
         subst P (sym same.content_is) (subst Q (sym same.rest_is) o.3)
 
-    object_step : m ≤ length behind → (k : Kind) → kind_of_type b ≡ Some k → b ≡ type_byte k → (answer : Result (VersionData × Segment) O5Reason) → set_at k s content ≡ answer → Step (Some (unit size (found_of answer)))
+    object_step : m ≤ length behind → (k : Kind) → kind_of_type b ≡ Some k → b ≡ type_byte k →
+        (answer : Result (VersionData × Segment) O5Reason) → set_at k s content ≡ answer → Step (Some (unit size (found_of answer)))
     object_step within k is is_byte (Err reason) e =
         nothing_reads _ T (λ versions h. (
         let o = object_of k is versions h in
         let f : Ok (o.0, o.1) ≡ Err reason = sym (set_only k s content (o.0, o.1) o.4) ∙ e in cc))
     object_step within k is is_byte (Ok (v, next)) e =
-        through (front (placed place v) (units_within n None (InSegment next) (place + size) (drop size (b ∷ bytes)))) (λ versions. (others : List VersionData) × (versions ≡ v ∷ others) × PartsFile next rest others) T
+        through (front (placed place v) (units_within n None (InSegment next) (place + size) (drop size (b ∷ bytes))))
+        (λ versions. (others : List VersionData) × (versions ≡ v ∷ others) × PartsFile next rest others) T
         (λ versions h. (
         let o = object_of k is versions h in
         let here : Result (VersionData × Segment) O5Reason = Ok (o.0, o.1) in
@@ -424,7 +485,8 @@ module _ (n : ℕ) (on : ReadsParts n) (s : Segment) (b : ℕ) (bytes : List ℕ
         let f : here ≡ there = sym (set_only k s content (o.0, o.1) o.4) ∙ e in
         let g = same_read o.0 v o.1 next f in
         (o.2, o.3 ∙ ap (λ x. x ∷ o.2) g.0, subst (λ (t : Segment). PartsFile t rest o.2) g.1 o.5)))
-        (λ versions h. object_in_front s k b bytes content rest versions is_byte (content_sized bytes m behind b within found) (v, next, h.0, h.1, set_found k s content (v, next) e, h.2))
+        (λ versions h. object_in_front s k b bytes content rest versions is_byte (content_sized bytes m behind b within found)
+        (v, next, h.0, h.1, set_found k s content (v, next) e, h.2))
         (version_reads place v _ (PartsFile next rest) (rest_reads next))
 
     content_step : m ≤ length behind → (x : Option Kind) → kind_of_type b ≡ x → Step (Some (unit size (content_found s x content)))
@@ -433,12 +495,14 @@ module _ (n : ℕ) (on : ReadsParts n) (s : Segment) (b : ℕ) (bytes : List ℕ
 
     fitting_step : Step (cond (nat_le m (length behind)) (Some (unit size (content_found s (kind_of_type b) content))) None)
     fitting_step =
-        elim (nat_le m (length behind)) as (λ t. nat_le m (length behind) ≡ t → Step (cond t (Some (unit size (content_found s (kind_of_type b) content))) None)) [
+        elim (nat_le m (length behind)) as (λ t. nat_le m (length behind) ≡ t →
+        Step (cond t (Some (unit size (content_found s (kind_of_type b) content))) None)) [
           | true ↦ λ is. content_step (leb-true m (length behind) is) (kind_of_type b) refl
           | false ↦ λ is. rw (last_in_set s b bytes) (nothing_reads _ T (too_short (leb-false m (length behind) is)))
         ] refl
 
-  length_step : (b == end_byte) ≡ false → (b == reset_byte) ≡ false → is_lone b ≡ false → (x : Length) → length_at bytes ≡ x → Step (sized_unit s b bytes x)
+  length_step : (b == end_byte) ≡ false → (b == reset_byte) ≡ false → is_lone b ≡ false → (x : Length) → length_at bytes ≡ x →
+      Step (sized_unit s b bytes x)
   length_step not_end not_reset not_lone None e =
       rw (last_in_set s b bytes) (nothing_reads _ T (no_size not_end not_reset not_lone None e (λ m behind f. cc)))
   length_step not_end not_reset not_lone (Some (Err reason)) e =
@@ -447,15 +511,21 @@ module _ (n : ℕ) (on : ReadsParts n) (s : Segment) (b : ℕ) (bytes : List ℕ
 
   pub first_step : Step (segment_unit s (b ∷ bytes))
   first_step =
-      elim (b == end_byte) as (λ t. (b == end_byte) ≡ t → Step (cond t (Some (unit 1 (passes BehindEnd))) (cond (b == reset_byte) (Some (unit 1 (passes (InSegment new_segment)))) (cond (is_lone b) (Some (unit 1 (passes (InSegment s)))) (sized_unit s b bytes (length_at bytes)))))) [
+      elim (b == end_byte) as (λ t. (b == end_byte) ≡ t →
+      Step (cond t (Some (unit 1 (passes BehindEnd)))
+      (cond (b == reset_byte) (Some (unit 1 (passes (InSegment new_segment))))
+      (cond (is_lone b) (Some (unit 1 (passes (InSegment s)))) (sized_unit s b bytes (length_at bytes)))))) [
         | true ↦ λ is. end_step is
-        | false ↦ λ not_end. elim (b == reset_byte) as (λ t. (b == reset_byte) ≡ t → Step (cond t (Some (unit 1 (passes (InSegment new_segment)))) (cond (is_lone b) (Some (unit 1 (passes (InSegment s)))) (sized_unit s b bytes (length_at bytes))))) [
-          | true ↦ λ is. reset_step not_end is
-          | false ↦ λ not_reset. elim (is_lone b) as (λ t. is_lone b ≡ t → Step (cond t (Some (unit 1 (passes (InSegment s)))) (sized_unit s b bytes (length_at bytes)))) [
-            | true ↦ λ is. lone_step not_end not_reset is
-            | false ↦ λ not_lone. length_step not_end not_reset not_lone (length_at bytes) refl
-          ] refl
-        ] refl
+        | false ↦ λ not_end. elim (b == reset_byte) as (λ t. (b == reset_byte) ≡ t →
+            Step (cond t (Some (unit 1 (passes (InSegment new_segment))))
+            (cond (is_lone b) (Some (unit 1 (passes (InSegment s)))) (sized_unit s b bytes (length_at bytes))))) [
+              | true ↦ λ is. reset_step not_end is
+              | false ↦ λ not_reset. elim (is_lone b) as (λ t. is_lone b ≡ t →
+                  Step (cond t (Some (unit 1 (passes (InSegment s)))) (sized_unit s b bytes (length_at bytes)))) [
+                    | true ↦ λ is. lone_step not_end not_reset is
+                    | false ↦ λ not_lone. length_step not_end not_reset not_lone (length_at bytes) refl
+                  ] refl
+            ] refl
       ] refl
 
 none_in_segment : (s : Segment) (place : ℕ) → ReadsAs (closed None place (last_at (InSegment s) [])) (PartsFile s [])
@@ -465,4 +535,5 @@ pub reads_parts : (n : ℕ) → ReadsParts n
 reads_parts zero s [] place fits = none_in_segment s place
 reads_parts zero s (b ∷ bytes) place fits = absurd (omega (arith, fits))
 reads_parts (suc n) s [] place fits = rw (unit_in_segment s []) (none_in_segment s place)
-reads_parts (suc n) s (b ∷ bytes) place fits = rw (unit_in_segment s (b ∷ bytes)) (first_step n (reads_parts n) s b bytes place (omega (arith, fits)))
+reads_parts (suc n) s (b ∷ bytes) place fits = rw (unit_in_segment s (b ∷ bytes))
+    (first_step n (reads_parts n) s b bytes place (omega (arith, fits)))

@@ -1,5 +1,6 @@
 -- The places of units: each unit begins after the one before it, and what refuses them comes after them all.
-use Rattle.std.proofs.Common.{◌≡◌, ℕ, zero, suc, ◌+◌, ◌-◌, ◌≤◌, true, false, cond, List, [], ◌∷◌, length, take, drop, refl, sym, subst, arith, Option, Some, None, IfSome, Ok, Err, length-drop, length-take, nat_lt}
+use Rattle.std.proofs.Common.{◌≡◌, ℕ, zero, suc, ◌+◌, ◌-◌, ◌≤◌, true, false, cond, List, [], ◌∷◌, length, take, drop, refl, sym, subst}
+use Rattle.std.proofs.Common.{arith, Option, Some, None, IfSome, Ok, Err, length-drop, length-take, nat_lt}
 use Rattle.osm_files.specs.declared.reason.Reason.TheVariants.{ReadFault}
 use Rattle.osm_files.specs.Input.{Coming}
 use Rattle.osm_files.specs.Position.{closing, stand_in, units_from, window}

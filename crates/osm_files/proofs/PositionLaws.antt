@@ -1,5 +1,7 @@
 -- One unit further.
-use Rattle.std.proofs.Common.{◌≡◌, ◌⊎◌, inl, inr, ℕ, zero, suc, ◌+◌, ◌-◌, ◌≤◌, ◌<◌, ◌^◌, Bool, true, false, cond, List, [], ◌∷◌, ◌++◌, length, drop, take, refl, sym, ap, ◌∙◌, subst, arith, Option, Some, None, option_map, IfSome, Ok, Err, length-append, length-drop, nat_lt}
+use Rattle.std.proofs.Common.{◌≡◌, ◌⊎◌, inl, inr, ℕ, zero, suc, ◌+◌, ◌-◌, ◌≤◌, ◌<◌, ◌^◌, Bool, true, false, cond, List, [], ◌∷◌, ◌++◌}
+use Rattle.std.proofs.Common.{length, drop, take, refl, sym, ap, ◌∙◌, subst, arith, Option, Some, None, option_map, IfSome, Ok, Err}
+use Rattle.std.proofs.Common.{length-append, length-drop, nat_lt}
 use Rattle.std.proofs.lemmas.List.{append-nil, drop-append-le}
 use Rattle.std.proofs.lemmas.Bool.{lt-ltb}
 use Rattle.std.proofs.lemmas.Bool.Decides.{nat_tests}
@@ -13,7 +15,8 @@ use Rattle.osm_files.specs.Input.{Coming, whole as all_of, preceded_by}
 use Rattle.osm_files.specs.Stream.{verdict_at, Placed, placed, Still, whole, refused, front}
 use Rattle.osm_files.specs.Units.{Stand, FileUnit, unit_at, last_at, found_then, units}
 use Rattle.osm_files.specs.Verdict.{length_limit, too_long}
-use Rattle.osm_files.specs.Position.{Told, ahead, stand_in, closing, window, units_from, fault_of, named, to_come, Keeps, ReadsOn, GoesOn, stand_at, Halts, StopsFilling}
+use Rattle.osm_files.specs.Position.{Told, ahead, stand_in, closing, window, units_from, fault_of, named, to_come, Keeps, ReadsOn, GoesOn}
+use Rattle.osm_files.specs.Position.{stand_at, Halts, StopsFilling}
 use Rattle.osm_files.proofs.FillLaws.{weaker, mapped, kept, keeps_on}
 use Rattle.osm_files.proofs.StepLaws.{IsSized, unit_sized, found_same, units_step, units_stop}
 use Rattle.osm_files.proofs.StayLaws.{unit_stays}
@@ -22,7 +25,8 @@ limit_is : length_limit ≡ 2 ^ 62
 unfolding length_limit
 limit_is = refl
 
-pub from_is : (stand : Option Stand) (place : ℕ) (c : Coming) → units_from stand place c ≡ units (closing place c) (stand_in stand c.bytes) place (window place c)
+pub from_is : (stand : Option Stand) (place : ℕ) (c : Coming) →
+    units_from stand place c ≡ units (closing place c) (stand_in stand c.bytes) place (window place c)
 unfolding units_from
 from_is stand place c = refl
 
@@ -46,7 +50,9 @@ reads_go_on p q on = record {
   input = on.input;
   place = omega (arith, on.place);
   failed = on.failed;
-  keeps = mapped (ahead p) _ (λ s. to_come q ≡ Some s) (weaker (ahead p) _ _ (λ c e. ap (option_map (λ x. named q.input (units_from q.stand q.place x))) e ∙ (λ i. Some (named (on.input i) (units_from (on.stand i) (on.place i) c)))) on.ahead);
+  keeps = mapped (ahead p) _ (λ s. to_come q ≡ Some s)
+      (weaker (ahead p) _ _ (λ c e. ap (option_map (λ x. named q.input (units_from q.stand q.place x))) e
+      ∙ (λ i. Some (named (on.input i) (units_from (on.stand i) (on.place i) c)))) on.ahead);
 }
 
 -- what stands behind the bytes held
@@ -56,9 +62,11 @@ pub record Behind (p : Told) (c : Coming) : Type 0 where
   pub here : c ≡ record { bytes = p.held ++ more; broken = broken }
   pub there : (h : List ℕ) → ahead (record p { held = h }) ≡ Some (record { bytes = h ++ more; broken = broken })
 
-behind_by : (p : Told) (ended : Bool) (coming : Option Coming) (c : Coming) → p.ended ≡ ended → p.coming ≡ coming → ahead p ≡ Some c → Behind p c
+behind_by : (p : Told) (ended : Bool) (coming : Option Coming) (c : Coming) → p.ended ≡ ended → p.coming ≡ coming → ahead p ≡ Some c →
+    Behind p c
 behind_by p true coming c e f at =
-    let ends : (h : List ℕ) → ahead (record p { held = h }) ≡ Some (all_of h) = λ h. ap (λ b. cond b (Some (all_of h)) (option_map (preceded_by h) p.coming)) e in
+    let ends : (h : List ℕ) → ahead (record p { held = h }) ≡ Some (all_of h) =
+    λ h. ap (λ b. cond b (Some (all_of h)) (option_map (preceded_by h) p.coming)) e in
     let same : c ≡ all_of p.held = (let g : Some c ≡ Some (all_of p.held) = sym at ∙ ends p.held in cc) in
     record {
       more = [];
@@ -67,7 +75,8 @@ behind_by p true coming c e f at =
       there = λ h. ends h ∙ ap (λ (x : List ℕ). Some (all_of x)) (sym (append-nil h));
     }
 behind_by p false None c e f at =
-    absurd (let g : None ≡ Some c = sym (ap (λ b. cond b (Some (all_of p.held)) (option_map (preceded_by p.held) p.coming)) e ∙ ap (option_map (preceded_by p.held)) f) ∙ at in cc)
+    absurd (let g : None ≡ Some c = sym (ap (λ b. cond b (Some (all_of p.held)) (option_map (preceded_by p.held) p.coming)) e
+    ∙ ap (option_map (preceded_by p.held)) f) ∙ at in cc)
 behind_by p false (Some d) c e f at =
     let goes : (h : List ℕ) → ahead (record p { held = h }) ≡ Some (preceded_by h d) =
     λ h. ap (λ b. cond b (Some (all_of h)) (option_map (preceded_by h) p.coming)) e ∙ ap (option_map (preceded_by h)) f in
@@ -91,13 +100,19 @@ same_stand None (b ∷ held) more some = refl
 abbrev pub Counts : ℕ → List ℕ → Coming → Type 0
 Counts place held c = (more : List ℕ) × (window place c ≡ held ++ more)
 
-counted : (place : ℕ) (held rest : List ℕ) (broken : Bool) → place + length held < 2 ^ 62 → Counts place held (record { bytes = held ++ rest; broken = broken })
+counted : (place : ℕ) (held rest : List ℕ) (broken : Bool) → place + length held < 2 ^ 62 →
+    Counts place held (record { bytes = held ++ rest; broken = broken })
 counted place held rest broken bound =
-    elim (nat_lt (place + length (held ++ rest)) length_limit) as (λ t. nat_lt (place + length (held ++ rest)) length_limit ≡ t → (more : List ℕ) × (cond t (held ++ rest) (take (length_limit - 1 - place) (held ++ rest)) ≡ held ++ more)) [
+    elim (nat_lt (place + length (held ++ rest)) length_limit) as
+    (λ t. nat_lt (place + length (held ++ rest)) length_limit ≡ t →
+    (more : List ℕ) × (cond t (held ++ rest) (take (length_limit - 1 - place) (held ++ rest)) ≡ held ++ more)) [
       | true ↦ λ is. (rest, refl)
       | false ↦ λ is. (
-          let room : length_limit - 1 - place ≡ length held + (length_limit - 1 - place - length held) = omega (arith, limit_is, bound) in
-          (take (length_limit - 1 - place - length held) rest, ap (λ n. take n (held ++ rest)) room ∙ take-append-add held rest (length_limit - 1 - place - length held)))
+          let room : length_limit - 1 - place ≡ length held + (length_limit - 1 - place - length held) = omega (arith, limit_is, bound) in (
+            take (length_limit - 1 - place - length held) rest,
+            ap (λ n. take n (held ++ rest)) room
+                ∙ take-append-add held rest (length_limit - 1 - place - length held),
+          ))
     ] refl
 
 by_room : (m : ℕ) → [] ≡ take {A = ℕ} m []
@@ -128,12 +143,17 @@ module _ (place n : ℕ) (held rest : List ℕ) (broken : Bool) (fits : n ≤ le
 
   same_window : drop n (window place here) ≡ window (place + n) there
   same_window =
-      elim (nat_lt (place + length (held ++ rest)) length_limit) as (λ t. nat_lt (place + length (held ++ rest)) length_limit ≡ t → drop n (cond t (held ++ rest) (take (length_limit - 1 - place) (held ++ rest))) ≡ window (place + n) there) [
-        | true ↦ λ is. drop_in ∙ sym (ap (λ b. cond b (drop n held ++ rest) (take (length_limit - 1 - (place + n)) (drop n held ++ rest))) (ap (λ m. nat_lt m length_limit) same_length ∙ is))
+      elim (nat_lt (place + length (held ++ rest)) length_limit) as
+      (λ t. nat_lt (place + length (held ++ rest)) length_limit ≡ t →
+      drop n (cond t (held ++ rest) (take (length_limit - 1 - place) (held ++ rest))) ≡ window (place + n) there) [
+        | true ↦ λ is. drop_in ∙ sym (ap (λ b. cond b (drop n held ++ rest) (take (length_limit - 1 - (place + n)) (drop n held ++ rest)))
+            (ap (λ m. nat_lt m length_limit) same_length ∙ is))
         | false ↦ λ is. (
             let room : length_limit - 1 - place ≡ n + (length_limit - 1 - (place + n)) = omega (arith, limit_is, bound, fits) in
-            ap (λ m. drop n (take m (held ++ rest))) room ∙ drop-take-add n (length_limit - 1 - (place + n)) (held ++ rest) ∙ ap (take (length_limit - 1 - (place + n))) drop_in
-            ∙ sym (ap (λ b. cond b (drop n held ++ rest) (take (length_limit - 1 - (place + n)) (drop n held ++ rest))) (ap (λ m. nat_lt m length_limit) same_length ∙ is)))
+            ap (λ m. drop n (take m (held ++ rest))) room ∙ drop-take-add n (length_limit - 1 - (place + n)) (held ++ rest)
+            ∙ ap (take (length_limit - 1 - (place + n))) drop_in
+            ∙ sym (ap (λ b. cond b (drop n held ++ rest) (take (length_limit - 1 - (place + n)) (drop n held ++ rest)))
+            (ap (λ m. nat_lt m length_limit) same_length ∙ is)))
       ] refl
 
 pub with_each : {A : Type 0} (o : Option A) (P : A → Type 0) → ((x : A) → o ≡ Some x → P x) → IfSome o P
@@ -157,13 +177,20 @@ module _ (m : Told) (u : FileUnit) (is_found : unit_at (stand_at m) m.held ≡ S
   unit_first rest broken =
       let c : Coming = record { bytes = m.held ++ rest; broken = broken } in
       let counts = counted m.place m.held rest broken bound in
-      let stands : unit_at (stand_at m) (window m.place c) ≡ Some u = ap (unit_at (stand_at m)) counts.1 ∙ unit_stays (stand_at m) m.held counts.0 u is_found in
+      let stands : unit_at (stand_at m) (window m.place c) ≡ Some u = ap (unit_at (stand_at m)) counts.1
+      ∙ unit_stays (stand_at m) m.held counts.0 u is_found in
       from_is m.stand m.place c
-      ∙ ap (λ s. units (closing m.place c) s m.place (window m.place c)) (same_stand m.stand m.held rest (omega (arith, sized.some, sized.within)))
+      ∙ ap (λ s. units (closing m.place c) s m.place (window m.place c))
+      (same_stand m.stand m.held rest (omega (arith, sized.some, sized.within)))
       ∙ units_step (closing m.place c) (stand_at m) m.place (window m.place c) u stands
-      ∙ found_same m.place u.found _ _ (λ next. (λ i. units (sym (same_closing m.place u.size m.held rest broken sized.within bound) i) next (m.place + u.size) (same_window m.place u.size m.held rest broken sized.within bound i)) ∙ sym (from_is (Some next) (m.place + u.size) (behind_it rest broken)))
+      ∙ found_same m.place u.found _ _ (λ next. (λ i.
+      units (sym (same_closing m.place u.size m.held rest broken sized.within bound) i) next (m.place + u.size)
+      (same_window m.place u.size m.held rest broken sized.within bound i))
+      ∙ sym (from_is (Some next) (m.place + u.size) (behind_it rest broken)))
 
-  unit_known : (c : Coming) → ahead m ≡ Some c → (d : Coming) × (units_from m.stand m.place c ≡ found_then m.place u.found (λ next. units_from (Some next) (m.place + u.size) d)) × ((next : Stand) → ahead (gone_over m u.size next) ≡ Some d)
+  unit_known : (c : Coming) → ahead m ≡ Some c → (d : Coming)
+      × (units_from m.stand m.place c ≡ found_then m.place u.found (λ next. units_from (Some next) (m.place + u.size) d))
+      × ((next : Stand) → ahead (gone_over m u.size next) ≡ Some d)
   unit_known c e =
       let b = behind m c e in
       (behind_it b.more b.broken, ap (units_from m.stand m.place) b.here ∙ unit_first b.more b.broken, λ next. b.there (drop u.size m.held))
@@ -172,17 +199,25 @@ module _ (m : Told) (u : FileUnit) (is_found : unit_at (stand_at m) m.held ≡ S
   gone_passed next is =
       mapped (ahead m) _ (λ s. to_come (gone_over m u.size next) ≡ Some s) (with_each (ahead m) _ (λ c e. (
       let k = unit_known c e in
-      let same : units_from m.stand m.place c ≡ units_from (Some next) (m.place + u.size) k.0 = k.1 ∙ ap (λ f. found_then m.place f (λ n. units_from (Some n) (m.place + u.size) k.0)) is in
-      ap (option_map (λ x. named m.input (units_from (Some next) (m.place + u.size) x))) (k.2 next) ∙ ap (λ s. Some (named m.input s)) (sym same))))
+      let same : units_from m.stand m.place c ≡ units_from (Some next) (m.place + u.size) k.0 = k.1
+      ∙ ap (λ f. found_then m.place f (λ n. units_from (Some n) (m.place + u.size) k.0)) is in
+      ap (option_map (λ x. named m.input (units_from (Some next) (m.place + u.size) x))) (k.2 next)
+      ∙ ap (λ s. Some (named m.input s)) (sym same))))
 
-  pub gone_gave : (v : VersionData) (next : Stand) → u.found ≡ Ok (Some v, next) → IfSome (to_come m) (λ s. (t : Still Placed Fault) × (s ≡ front (placed m.place v) t) × (to_come (gone_over m u.size next) ≡ Some t))
+  pub gone_gave : (v : VersionData) (next : Stand) → u.found ≡ Ok (Some v, next) →
+      IfSome (to_come m) (λ s. (t : Still Placed Fault) × (s ≡ front (placed m.place v) t) × (to_come (gone_over m u.size next) ≡ Some t))
   gone_gave v next is =
       mapped (ahead m) _ _ (with_each (ahead m) _ (λ c e. (
       let k = unit_known c e in
-      let same : units_from m.stand m.place c ≡ front (placed m.place v) (units_from (Some next) (m.place + u.size) k.0) = k.1 ∙ ap (λ f. found_then m.place f (λ n. units_from (Some n) (m.place + u.size) k.0)) is in
-      (named m.input (units_from (Some next) (m.place + u.size) k.0), ap (named m.input) same, ap (option_map (λ x. named m.input (units_from (Some next) (m.place + u.size) x))) (k.2 next)))))
+      let same : units_from m.stand m.place c ≡ front (placed m.place v) (units_from (Some next) (m.place + u.size) k.0) = k.1
+      ∙ ap (λ f. found_then m.place f (λ n. units_from (Some n) (m.place + u.size) k.0)) is in (
+        named m.input (units_from (Some next) (m.place + u.size) k.0),
+        ap (named m.input) same,
+        ap (option_map (λ x. named m.input (units_from (Some next) (m.place + u.size) x))) (k.2 next),
+      ))))
 
-  pub gone_refused : (reason : Reason) → u.found ≡ Err reason → IfSome (to_come m) (λ s. s ≡ refused (fault_of m.input (verdict_at m.place reason)))
+  pub gone_refused : (reason : Reason) → u.found ≡ Err reason →
+      IfSome (to_come m) (λ s. s ≡ refused (fault_of m.input (verdict_at m.place reason)))
   gone_refused reason is =
       mapped (ahead m) _ _ (with_each (ahead m) _ (λ c e. (
       let k = unit_known c e in
@@ -203,30 +238,37 @@ pub ended_ahead : (m : Told) → m.ended ≡ true → ahead m ≡ Some (all_of m
 ended_ahead m ended = ap (λ b. cond b (Some (all_of m.held)) (option_map (preceded_by m.held) m.coming)) ended
 
 -- a stand that is told by more bytes than are held
-nothing_by : (stand : Option Stand) (held bytes : List ℕ) (b : ℕ) (more : List ℕ) → unit_at (stand_in stand held) held ≡ None → bytes ≡ held ++ b ∷ more → unit_at (stand_in stand bytes) held ≡ None
+nothing_by : (stand : Option Stand) (held bytes : List ℕ) (b : ℕ) (more : List ℕ) → unit_at (stand_in stand held) held ≡ None →
+    bytes ≡ held ++ b ∷ more → unit_at (stand_in stand bytes) held ≡ None
 nothing_by stand [] bytes b more none e = none_in_nothing (stand_in stand bytes)
-nothing_by stand (a ∷ held) bytes b more none e = ap (λ x. unit_at (stand_in stand x) (a ∷ held)) e ∙ ap (λ s. unit_at s (a ∷ held)) (same_stand stand (a ∷ held) (b ∷ more) (omega arith)) ∙ none
+nothing_by stand (a ∷ held) bytes b more none e = ap (λ x. unit_at (stand_in stand x) (a ∷ held)) e
+    ∙ ap (λ s. unit_at s (a ∷ held)) (same_stand stand (a ∷ held) (b ∷ more) (omega arith)) ∙ none
 
 -- where no unit stands whole in the bytes held, and no more can be read
 module _ (m : Told) (nothing : unit_at (stand_at m) m.held ≡ None) (bound : m.place + length m.held < 2 ^ 62) where
   pub halted : (c : Coming) (fault : Fault) → Halts m c fault → named m.input (units_from m.stand m.place c) ≡ refused fault
   halted c fault (inl h) =
       let below : nat_lt (m.place + length m.held) length_limit ≡ true = lt-ltb _ _ (rw limit_is bound) in
-      let same : units_from m.stand m.place (record { bytes = m.held; broken = true }) ≡ refused (verdict_at (m.place + length m.held) ReadFault) =
+      let same : units_from m.stand m.place (record { bytes = m.held; broken = true })
+      ≡ refused (verdict_at (m.place + length m.held) ReadFault) =
       from_is m.stand m.place (record { bytes = m.held; broken = true })
-      ∙ ap (λ t. units (cond t (Some (verdict_at (m.place + length m.held) ReadFault)) (Some too_long)) (stand_at m) m.place (cond t m.held (take (length_limit - 1 - m.place) m.held))) below
+      ∙ ap (λ t. units (cond t (Some (verdict_at (m.place + length m.held) ReadFault)) (Some too_long)) (stand_at m) m.place
+      (cond t m.held (take (length_limit - 1 - m.place) m.held))) below
       ∙ units_stop (Some (verdict_at (m.place + length m.held) ReadFault)) (stand_at m) m.place m.held nothing in
       ap (λ x. named m.input (units_from m.stand m.place x)) h.0 ∙ ap (named m.input) same ∙ ap refused (sym h.1)
   halted c fault (inr h) =
       let b : ℕ = h.1.0 in
       let more : List ℕ = h.1.1 in
       let long : length c.bytes ≡ length m.held + suc (length more) = ap length h.1.2 ∙ length-append m.held (b ∷ more) in
-      let above : nat_lt (m.place + length c.bytes) length_limit ≡ false = not_below (m.place + length c.bytes) length_limit (omega (arith, limit_is, h.0, long)) in
+      let above : nat_lt (m.place + length c.bytes) length_limit ≡ false =
+      not_below (m.place + length c.bytes) length_limit (omega (arith, limit_is, h.0, long)) in
       let room : length_limit - 1 - m.place ≡ length m.held + 0 = omega (arith, limit_is, h.0) in
-      let front : take (length_limit - 1 - m.place) c.bytes ≡ m.held = (λ i. take (room i) (h.1.2 i)) ∙ take-append-add m.held (b ∷ more) 0 ∙ append-nil m.held in
+      let front : take (length_limit - 1 - m.place) c.bytes ≡ m.held = (λ i. take (room i) (h.1.2 i)) ∙ take-append-add m.held (b ∷ more) 0
+      ∙ append-nil m.held in
       let same : units_from m.stand m.place c ≡ refused too_long =
       from_is m.stand m.place c
-      ∙ ap (λ t. units (cond t (cond c.broken (Some (verdict_at (m.place + length c.bytes) ReadFault)) None) (Some too_long)) (stand_in m.stand c.bytes) m.place (cond t c.bytes (take (length_limit - 1 - m.place) c.bytes))) above
+      ∙ ap (λ t. units (cond t (cond c.broken (Some (verdict_at (m.place + length c.bytes) ReadFault)) None) (Some too_long))
+      (stand_in m.stand c.bytes) m.place (cond t c.bytes (take (length_limit - 1 - m.place) c.bytes))) above
       ∙ ap (units (Some too_long) (stand_in m.stand c.bytes) m.place) front
       ∙ units_stop (Some too_long) (stand_in m.stand c.bytes) m.place m.held (nothing_by m.stand m.held c.bytes b more nothing h.1.2) in
       ap (named m.input) same ∙ ap refused (sym h.2)

@@ -1,5 +1,6 @@
 -- What a file spells is within the ranges of versions.
-use Rattle.std.proofs.Common.{◌≡◌, ℕ, ℤ, zero, suc, ◌≤◌, true, false, cond, List, [], ◌∷◌, ◌++◌, filter, fold, append_assoc, refl, sym, subst, arith, Option, Some, None, Ok, unwrap_or, FitsSigned, w32}
+use Rattle.std.proofs.Common.{◌≡◌, ℕ, ℤ, zero, suc, ◌≤◌, true, false, cond, List, [], ◌∷◌, ◌++◌, filter, fold, append_assoc, refl, sym}
+use Rattle.std.proofs.Common.{subst, arith, Option, Some, None, Ok, unwrap_or, FitsSigned, w32}
 use Rattle.std.specs.List.{All, AllByRecursion}
 use Rattle.std.proofs.lemmas.List.{append-nil}
 use Rattle.std.proofs.lemmas.List.Sums.{fold-append}
@@ -70,7 +71,8 @@ parts_fit k (field ∷ fields) [] s = tt
 parts_fit k (field ∷ fields) (p ∷ parts) s = (part_fits k field p s.0, parts_fit k fields parts s.1)
 
 abbrev AreFit : List Part → Type 0
-AreFit parts = OptionFits (unwrap_or (fold with_part nothing_said parts).longitude None) × OptionFits (unwrap_or (fold with_part nothing_said parts).latitude None)
+AreFit parts = OptionFits (unwrap_or (fold with_part nothing_said parts).longitude None)
+    × OptionFits (unwrap_or (fold with_part nothing_said parts).latitude None)
 
 with_fits : (front : List Part) (p : Part) → AreFit front → PartFits p → AreFit (front ++ p ∷ [])
 with_fits front (part.Longitude x) h w = rw (fold-append with_part nothing_said front (part.Longitude x ∷ [])) (w, h.1)
@@ -79,17 +81,20 @@ with_fits front p h w = rw (fold-append with_part nothing_said front (p ∷ []))
 
 said_fits : (front parts : List Part) → AreFit front → AllByRecursion PartFits parts → AreFit (front ++ parts)
 said_fits front [] h ws = subst AreFit (sym (append-nil front)) h
-said_fits front (p ∷ parts) h ws = subst AreFit (append_assoc front (p ∷ []) parts) (said_fits (front ++ p ∷ []) parts (with_fits front p h ws.0) ws.1)
+said_fits front (p ∷ parts) h ws = subst AreFit (append_assoc front (p ∷ []) parts)
+    (said_fits (front ++ p ∷ []) parts (with_fits front p h ws.0) ws.1)
 
 abbrev BodyFits : Body → Type 0
 BodyFits b = IsInRange (normal_body b)
 
-location_fits : (lon lat : Option ℤ) (tags : List Tag) (b : Body) → OptionFits lon → OptionFits lat → reading_location lon lat tags ≡ Ok b → BodyFits b
+location_fits : (lon lat : Option ℤ) (tags : List Tag) (b : Body) → OptionFits lon → OptionFits lat → reading_location lon lat tags ≡ Ok b →
+    BodyFits b
 location_fits None lat tags b f g e = cc
 location_fits (Some lon) None tags b f g e = cc
 location_fits (Some lon) (Some lat) tags b f g e = let same : Node lon lat tags ≡ b = cc in subst BodyFits same (f, g)
 
-visible_fits : (k : Kind) (parts : List Part) (b : Body) → AreFit parts → reading_visible k (fold with_part nothing_said parts) ≡ Ok b → BodyFits b
+visible_fits : (k : Kind) (parts : List Part) (b : Body) → AreFit parts → reading_visible k (fold with_part nothing_said parts) ≡ Ok b →
+    BodyFits b
 visible_fits kind.Node parts b h e =
     let fields = fold with_part nothing_said parts in
     location_fits (unwrap_or fields.longitude None) (unwrap_or fields.latitude None) (unwrap_or fields.tags []) b h.0 h.1 e
@@ -100,7 +105,8 @@ visible_fits kind.Relation parts b h e =
     let fields = fold with_part nothing_said parts in
     let same : Relation (unwrap_or fields.members []) (unwrap_or fields.tags []) ≡ b = cc in subst BodyFits same tt
 
-body_fits : (k : Kind) (parts : List Part) (b : Body) → AreFit parts → reading_body k (fold with_part nothing_said parts) ≡ Ok b → BodyFits b
+body_fits : (k : Kind) (parts : List Part) (b : Body) → AreFit parts → reading_body k (fold with_part nothing_said parts) ≡ Ok b →
+    BodyFits b
 body_fits k parts b h =
     let fields = fold with_part nothing_said parts in
     elim (unwrap_or fields.deleted false) as (λ t. cond t (Ok (Deleted k)) (reading_visible k fields) ≡ Ok b → BodyFits b) [
@@ -108,8 +114,10 @@ body_fits k parts b h =
       | false ↦ λ e. visible_fits k parts b h e
     ]
 
-made_is_version : (id : ℤ) (meta : Meta) (b : Body) (v : VersionData) (f : Option ValueFault) → first_fault id meta b ≡ f → BodyFits b → unless_faulty f (version_of id meta b) ≡ Ok v → IsVersion v
-made_is_version id meta b v None none fits e = let same : version_of id meta b ≡ v = cc in subst (λ (w : VersionData). IsVersion w) same (valid_version id meta b none fits)
+made_is_version : (id : ℤ) (meta : Meta) (b : Body) (v : VersionData) (f : Option ValueFault) → first_fault id meta b ≡ f → BodyFits b →
+    unless_faulty f (version_of id meta b) ≡ Ok v → IsVersion v
+made_is_version id meta b v None none fits e = let same : version_of id meta b ≡ v = cc in
+    subst (λ (w : VersionData). IsVersion w) same (valid_version id meta b none fits)
 made_is_version id meta b v (Some f) some fits e = cc
 
 -- what a line spells is a version
@@ -124,17 +132,20 @@ lines_are_versions : (lines : List (List ℕ)) (versions : List VersionData) →
 lines_are_versions [] [] h = λ k d below. absurd (omega arith)
 lines_are_versions [] (v ∷ versions) h = absurd h
 lines_are_versions (line ∷ lines) [] h = λ k d below. absurd (omega arith)
-lines_are_versions (line ∷ lines) (v ∷ versions) h = All-cons IsVersion v versions (line_is_version line v h.0) (lines_are_versions lines versions h.1)
+lines_are_versions (line ∷ lines) (v ∷ versions) h =
+    All-cons IsVersion v versions (line_is_version line v h.0) (lines_are_versions lines versions h.1)
 
 -- ---- data sets
-parts_are_versions : (parts : List FilePart) (s : Segment) (versions : List VersionData) → is_sound s ≡ true → PartsSpell s parts versions → All IsVersion versions
+parts_are_versions : (parts : List FilePart) (s : Segment) (versions : List VersionData) → is_sound s ≡ true → PartsSpell s parts versions →
+    All IsVersion versions
 parts_are_versions [] s versions sound h = subst (λ (vs : List VersionData). All IsVersion vs) (sym h) (λ k d below. absurd (omega arith))
 parts_are_versions (Reset ∷ parts) s versions sound h = parts_are_versions parts new_segment versions refl h
 parts_are_versions (Lone b ∷ parts) s versions sound h = parts_are_versions parts s versions sound h.1
 parts_are_versions (Skipped b size content ∷ parts) s versions sound h = parts_are_versions parts s versions sound h.2
 parts_are_versions (Object k size content ∷ parts) s versions sound (spelled, (v, next, others, is, set, more)) =
     let one = set_version k s content (v, next) sound (set_only k s content (v, next) set) in
-    subst (λ (vs : List VersionData). All IsVersion vs) (sym is) (All-cons IsVersion v others one.0 (parts_are_versions parts next others one.1 more))
+    subst (λ (vs : List VersionData). All IsVersion vs) (sym is)
+    (All-cons IsVersion v others one.0 (parts_are_versions parts next others one.1 more))
 
 -- ---- files
 file_of_versions : (stand : Stand) (bytes : List ℕ) (versions : List VersionData) → IsFileOf stand bytes versions → All IsVersion versions

@@ -257,7 +257,8 @@ over_passes m q input place failed h = record { input = input; place = place; fa
 
 -- the reading was refused, now and ever after
 pub refusal_step : (m q : Told) (fault : Fault) → m.failed ≡ false → q.failed ≡ true
-    → (fault ≡ memory_fault) ⊎ IfSome (to_come m) (λ s. s ≡ refused fault) → Step {A = Placed} (still_to_come m) (Err fault) (still_to_come q)
+    → (fault ≡ memory_fault) ⊎ IfSome (to_come m) (λ s. s ≡ refused fault) →
+    Step {A = Placed} (still_to_come m) (Err fault) (still_to_come q)
 refusal_step m q fault fine failed h =
     subst (λ (o : Option (Still Placed Fault)). Step {A = Placed} o (Err fault) (still_to_come q)) (sym (come_still m fine))
     (h, (q.input, come_failed q failed))

@@ -1,5 +1,6 @@
 -- What a refused source gives: the key groups before the last one that began before the fault.
-use Rattle.std.proofs.Common.{◌≡◌, ℕ, ◌+◌, ◌-◌, ◌≤◌, Bool, true, false, ◌||◌, ◌&&◌, cond, List, [], ◌∷◌, ◌++◌, length, filter, slice_get, refl, ap, sym, ◌∙◌, arith, Option, Some, None, option_map, append-nil, append_assoc, nat_lt}
+use Rattle.std.proofs.Common.{◌≡◌, ℕ, ◌+◌, ◌-◌, ◌≤◌, Bool, true, false, ◌||◌, ◌&&◌, cond, List, [], ◌∷◌, ◌++◌, length, filter, slice_get}
+use Rattle.std.proofs.Common.{refl, ap, sym, ◌∙◌, arith, Option, Some, None, option_map, append-nil, append_assoc, nat_lt}
 use Rattle.std.proofs.lemmas.Bool.{false≢true, and_right, le-ltb, lt-ltb}
 use Rattle.std.proofs.lemmas.List.Folds.{list_any-append}
 use Rattle.std.proofs.lemmas.Map.Views.{any-filter_same}
@@ -17,7 +18,8 @@ use Rattle.osm_files.specs.declared.reason.Reason.TheVariants.{Unsorted}
 use Rattle.osm_files.specs.Groups.{IsGroup, ascending, given_at, groups, last_group, opened_file, sorted_source, versions_then}
 use Rattle.osm_files.specs.Input.{Coming}
 use Rattle.osm_files.specs.Position.{fault_of, telling, units_from}
-use Rattle.osm_files.specs.SourceLaws.{FaultyInputGivesTheGroupsBefore, RefusedSourceGivesTheGroupsBefore, groups_before, groups_before_last, input_verdict}
+use Rattle.osm_files.specs.SourceLaws.{FaultyInputGivesTheGroupsBefore, RefusedSourceGivesTheGroupsBefore, groups_before}
+use Rattle.osm_files.specs.SourceLaws.{groups_before_last, input_verdict}
 use Rattle.osm_files.specs.Stream.{Placed, Still, Verdict, refused, verdict_at}
 use Rattle.osm_files.specs.Verdict.{is_below, is_below_last, sorted_verdict, versions_of}
 use Rattle.osm_files.proofs.GroupLaws.{ascending_is, group_joined, has, has_ascending}

@@ -1,5 +1,6 @@
 -- What groups give ascends, whatever was known before.
-use Rattle.std.proofs.Common.{◌≡◌, ◌⊎◌, ⊎_elim, inl, inr, ℕ, Bool, true, false, cond, ◌||◌, List, [], ◌∷◌, ◌++◌, refl, ap, sym, ◌∙◌, subst, Option, Some, None, option_map, option_to_list, IfSome, Result, Ok, Err}
+use Rattle.std.proofs.Common.{◌≡◌, ◌⊎◌, ⊎_elim, inl, inr, ℕ, Bool, true, false, cond, ◌||◌, List, [], ◌∷◌, ◌++◌, refl, ap, sym, ◌∙◌, subst}
+use Rattle.std.proofs.Common.{Option, Some, None, option_map, option_to_list, IfSome, Result, Ok, Err}
 use Rattle.std.proofs.lemmas.Bool.{false≢true}
 use Rattle.std.proofs.lemmas.List.{append-nil}
 use Rattle.std.specs.declared.cmp.Ordering.{Ordering}
@@ -15,7 +16,9 @@ use Rattle.osm_model.proofs.SetLaws.{strict-listed, listed-from_list}
 use Rattle.osm_model.proofs.VersionLaws.{version_cmp-IsAntisymmetric, less_by_key}
 use Rattle.osm_files.specs.declared.fault.Fault.{Fault}
 use Rattle.osm_files.specs.Fault.{memory_fault, failed_fault}
-use Rattle.osm_files.specs.Groups.{ascending, last_group, groups, sorted_source, gathered, IsGroup, Gathers, StillSet, as_set, still_given, FileStand, FileCanGive, FileSteps, FileAscends, gathered_at, given_at, IsKnown, known_or_whole, one_given}
+use Rattle.osm_files.specs.Groups.{ascending, last_group, groups, sorted_source, gathered, IsGroup, Gathers, StillSet, as_set, still_given}
+use Rattle.osm_files.specs.Groups.{FileStand, FileCanGive, FileSteps, FileAscends, gathered_at, given_at, IsKnown, known_or_whole}
+use Rattle.osm_files.specs.Groups.{one_given}
 use Rattle.osm_files.specs.Input.{Coming}
 use Rattle.osm_files.specs.Position.{Told, named, units_from, to_come, still_to_come, GoesOn}
 use Rattle.osm_files.specs.Source.{Ascends, Step, Steps}
@@ -35,11 +38,13 @@ pub less_from : (first v w : VersionData) → key_cmp first w ≡ Less → key_c
 less_from first v w less same = let o = key_cmp_total in sym (o.congr first v w same) ∙ less
 
 -- ---- lists
-all_weaker : (P Q : VersionData → Type 0) (versions : List VersionData) → ((v : VersionData) → P v → Q v) → AllByRecursion P versions → AllByRecursion Q versions
+all_weaker : (P Q : VersionData → Type 0) (versions : List VersionData) → ((v : VersionData) → P v → Q v) → AllByRecursion P versions →
+    AllByRecursion Q versions
 all_weaker P Q [] f h = tt
 all_weaker P Q (v ∷ versions) f h = (f v h.0, all_weaker P Q versions f h.1)
 
-all_append : (P : VersionData → Type 0) (versions others : List VersionData) → AllByRecursion P versions → AllByRecursion P others → AllByRecursion P (versions ++ others)
+all_append : (P : VersionData → Type 0) (versions others : List VersionData) → AllByRecursion P versions → AllByRecursion P others →
+    AllByRecursion P (versions ++ others)
 all_append P [] others h k = k
 all_append P (v ∷ versions) others h k = (h.0, all_append P versions others h.1 k)
 
@@ -55,12 +60,16 @@ tied_is Less h = absurd (false≢true h)
 tied_is Equal h = refl
 tied_is Greater h = absurd (false≢true h)
 
-all_members : (P : VersionData → Type 0) (versions : List VersionData) → ((v : VersionData) → has v versions ≡ true → P v) → AllByRecursion P versions
+all_members : (P : VersionData → Type 0) (versions : List VersionData) → ((v : VersionData) → has v versions ≡ true → P v) →
+    AllByRecursion P versions
 all_members P [] f = tt
-all_members P (v ∷ versions) f =
-    (f v (or_left _ _ (ap is_eq (tied_itself version_cmp_total v))), all_members P versions (λ w h. f w (or_right (eq_by_cmp version_cmp w v) _ h)))
+all_members P (v ∷ versions) f = (
+  f v (or_left _ _ (ap is_eq (tied_itself version_cmp_total v))),
+  all_members P versions (λ w h. f w (or_right (eq_by_cmp version_cmp w v) _ h)),
+)
 
-pub member : (P : VersionData → Type 0) (versions : List VersionData) → AllByRecursion P versions → (w : VersionData) → has w versions ≡ true → P w
+pub member : (P : VersionData → Type 0) (versions : List VersionData) → AllByRecursion P versions → (w : VersionData) →
+    has w versions ≡ true → P w
 member P [] h w e = absurd (false≢true e)
 member P (v ∷ versions) h w e =
     elim (eq_by_cmp version_cmp w v) as (λ t. eq_by_cmp version_cmp w v ≡ t → t || has w versions ≡ true → P w) [
@@ -73,19 +82,22 @@ all_ascending : (P : VersionData → Type 0) (versions : List VersionData) → A
 all_ascending P versions h = all_members P (ascending versions) (λ v e. member P versions h v (sym (has_ascending v versions) ∙ e))
 
 ascending_rises : (versions : List VersionData) → IsStrictlySortedBy version_cmp (ascending versions)
-ascending_rises versions = subst (IsStrictlySortedBy version_cmp) (sym (ascending_is versions)) (strict-listed (from_list {R = version_cmp} versions))
+ascending_rises versions = subst (IsStrictlySortedBy version_cmp) (sym (ascending_is versions))
+    (strict-listed (from_list {R = version_cmp} versions))
 
 nothing_rises : IsStrictlySortedBy version_cmp []
 unfolding IsStrictlySortedBy
 nothing_rises = tt
 
-strict_append : (versions others : List VersionData) → IsStrictlySortedBy version_cmp versions → IsStrictlySortedBy version_cmp others → AllByRecursion (λ v. AllByRecursion (λ w. version_cmp v w ≡ Less) others) versions
+strict_append : (versions others : List VersionData) → IsStrictlySortedBy version_cmp versions → IsStrictlySortedBy version_cmp others →
+    AllByRecursion (λ v. AllByRecursion (λ w. version_cmp v w ≡ Less) others) versions
     → IsStrictlySortedBy version_cmp (versions ++ others)
 unfolding IsStrictlySortedBy
 strict_append [] others h k below = k
 strict_append (v ∷ versions) others h k below = (all_append _ versions others h.0 below.0, strict_append versions others h.1 k below.1)
 
-pub strict_rest : (v : VersionData) (versions : List VersionData) → IsStrictlySortedBy version_cmp (v ∷ versions) → IsStrictlySortedBy version_cmp versions
+pub strict_rest : (v : VersionData) (versions : List VersionData) → IsStrictlySortedBy version_cmp (v ∷ versions) →
+    IsStrictlySortedBy version_cmp versions
 unfolding IsStrictlySortedBy
 strict_rest v versions h = h.1
 
@@ -99,38 +111,50 @@ record Rises (first : VersionData) (versions : List VersionData) : Type 0 where
   strict : IsStrictlySortedBy version_cmp versions
   above : (v : VersionData) → key_cmp v first ≡ Less → Above v versions
 
-group_above : (first v : VersionData) (others : List VersionData) → key_cmp v first ≡ Less → IsGroup first others → Above v (ascending (first ∷ others))
-group_above first v others less group = all_ascending (λ w. key_cmp v w ≡ Less) (first ∷ others) (less, all_weaker _ _ others (λ w same. less_on v first w less same) group)
+group_above : (first v : VersionData) (others : List VersionData) → key_cmp v first ≡ Less → IsGroup first others →
+    Above v (ascending (first ∷ others))
+group_above first v others less group = all_ascending (λ w. key_cmp v w ≡ Less) (first ∷ others)
+    (less, all_weaker _ _ others (λ w same. less_on v first w less same) group)
 
-of_group : (first : VersionData) (others : List VersionData) → IsGroup first others → AllByRecursion (λ v. key_cmp first v ≡ Equal) (ascending (first ∷ others))
+of_group : (first : VersionData) (others : List VersionData) → IsGroup first others →
+    AllByRecursion (λ v. key_cmp first v ≡ Equal) (ascending (first ∷ others))
 of_group first others group = all_ascending (λ v. key_cmp first v ≡ Equal) (first ∷ others) (tied_itself key_cmp_total first, group)
 
 -- a group, and what is above it
-group_then : (first next : VersionData) (others versions : List VersionData) → IsGroup first others → key_cmp first next ≡ Less → Rises next versions → Rises first (ascending (first ∷ others) ++ versions)
+group_then : (first next : VersionData) (others versions : List VersionData) → IsGroup first others → key_cmp first next ≡ Less →
+    Rises next versions → Rises first (ascending (first ∷ others) ++ versions)
 group_then first next others versions group less rest = record {
   strict =
       strict_append (ascending (first ∷ others)) versions (ascending_rises (first ∷ others)) rest.strict
-      (all_weaker _ _ (ascending (first ∷ others)) (λ v same. all_weaker _ _ versions (λ w e. less_by_key v w e) (rest.above v (less_from first v next less same))) (of_group first others group));
+      (all_weaker _ _ (ascending (first ∷ others)) (λ v same.
+      all_weaker _ _ versions (λ w e. less_by_key v w e) (rest.above v (less_from first v next less same)))
+      (of_group first others group));
   above =
-      λ v e. all_append (λ w. key_cmp v w ≡ Less) (ascending (first ∷ others)) versions (group_above first v others e group) (rest.above v (key_cmp_total.trans v first next e less));
+      λ v e. all_append (λ w. key_cmp v w ≡ Less) (ascending (first ∷ others)) versions (group_above first v others e group)
+      (rest.above v (key_cmp_total.trans v first next e less));
 }
 
-last_rises : (close : Option Fault) (first : VersionData) (others : List VersionData) → IsGroup first others → Rises first (last_group close (first ∷ others)).list
+last_rises : (close : Option Fault) (first : VersionData) (others : List VersionData) → IsGroup first others →
+    Rises first (last_group close (first ∷ others)).list
 last_rises None first others group = record { strict = ascending_rises (first ∷ others); above = λ v e. group_above first v others e group }
 last_rises (Some fault) first others group = record { strict = nothing_rises; above = λ v e. tt }
 
-group_on : (first : VersionData) (others : List VersionData) (v : VersionData) → IsGroup first others → key_cmp first v ≡ Equal → IsGroup first (others ++ v ∷ [])
+group_on : (first : VersionData) (others : List VersionData) (v : VersionData) → IsGroup first others → key_cmp first v ≡ Equal →
+    IsGroup first (others ++ v ∷ [])
 group_on first others v group same = all_append (λ w. key_cmp first w ≡ Equal) others (v ∷ []) group (same, tt)
 
 module _ (input : ℕ) (close : Option Fault) where
   abbrev Gives : List Placed → VersionData → List VersionData → Ordering → Type 0
   Gives us first others o = (u : Placed) → key_cmp first u.version ≡ o → Rises first (groups input close (u ∷ us) (first ∷ others)).list
 
-  rises : (us : List Placed) (first : VersionData) (others : List VersionData) → IsGroup first others → Rises first (groups input close us (first ∷ others)).list
+  rises : (us : List Placed) (first : VersionData) (others : List VersionData) → IsGroup first others →
+      Rises first (groups input close us (first ∷ others)).list
   rises [] first others group = last_rises close first others group
   rises (u ∷ us) first others group =
-      elim (key_cmp first u.version) as (λ o. key_cmp first u.version ≡ o → Rises first (groups input close (u ∷ us) (first ∷ others)).list) [
-        | Less ↦ λ e. rw e (group_then first u.version others (groups input close us (u.version ∷ [])).list group e (rises us u.version [] tt))
+      elim (key_cmp first u.version) as (λ o. key_cmp first u.version ≡ o →
+      Rises first (groups input close (u ∷ us) (first ∷ others)).list) [
+        | Less ↦ λ e. rw e (group_then first u.version others (groups input close us (u.version ∷ [])).list group e
+            (rises us u.version [] tt))
         | Equal ↦ λ e. rw e (rises us first (others ++ u.version ∷ []) (group_on first others u.version group e))
         | Greater ↦ λ e. rw e (record { strict = nothing_rises; above = λ v less. tt })
       ] refl
@@ -145,9 +169,11 @@ groups_rise input close (u ∷ us) = (rises input close us u.version [] tt).stri
 
 -- ---- what a source gives
 module _ (input : ℕ) (first : VersionData) (others : List VersionData) (group : IsGroup first others) where
-  next_rises : (after : Option (Still Placed Fault)) (v : VersionData) → key_cmp first v ≡ Less → IfSome (gathered input after (v ∷ []) (ascending (first ∷ others))) Ascends
+  next_rises : (after : Option (Still Placed Fault)) (v : VersionData) → key_cmp first v ≡ Less →
+      IfSome (gathered input after (v ∷ []) (ascending (first ∷ others))) Ascends
   next_rises None v less = tt
-  next_rises (Some s) v less = (group_then first v others (groups input s.refusal s.list (v ∷ [])).list group less (rises input s.refusal s.list v [] tt)).strict
+  next_rises (Some s) v less = (group_then first v others (groups input s.refusal s.list (v ∷ [])).list group less
+      (rises input s.refusal s.list v [] tt)).strict
 
   end_given : IsStrictlySortedBy version_cmp (ascending (first ∷ others) ++ ascending [])
   end_given = rw (ascending_nil, append-nil (ascending (first ∷ others))) (ascending_rises (first ∷ others))
@@ -158,19 +184,23 @@ less_is Equal h = absurd (false≢true h)
 less_is Greater h = absurd (false≢true h)
 
 -- groups rise behind a group of one key, also where nothing was known before
-pub gathers_rise : (input : ℕ) (before : Option (Still Placed Fault)) (begun : List VersionData) (after : Option (Still Placed Fault)) (first : VersionData) (others : List VersionData) (next : Option VersionData) → Gathers input before begun after first others next
+pub gathers_rise : (input : ℕ) (before : Option (Still Placed Fault)) (begun : List VersionData) (after : Option (Still Placed Fault))
+    (first : VersionData) (others : List VersionData) (next : Option VersionData) → Gathers input before begun after first others next
     → IfSome (gathered input after (option_to_list next) (ascending (first ∷ others))) Ascends
 gathers_rise input before begun after first others None h =
     let P : Option (Still Placed Fault) → Type 0 = λ o. IfSome (gathered input o [] (ascending (first ∷ others))) Ascends in
     subst P (sym (h.end refl)) (end_given input first others h.group)
-gathers_rise input before begun after first others (Some v) h = next_rises input first others h.group after v (less_is (key_cmp first v) h.above)
+gathers_rise input before begun after first others (Some v) h =
+    next_rises input first others h.group after v (less_is (key_cmp first v) h.above)
 
-pub ready_rises : (input : ℕ) (units : Option (Still Placed Fault)) (group ready : List VersionData) (v : VersionData) → IfSome (gathered input units group (v ∷ ready)) Ascends → IfSome (gathered input units group ready) Ascends
+pub ready_rises : (input : ℕ) (units : Option (Still Placed Fault)) (group ready : List VersionData) (v : VersionData) →
+    IfSome (gathered input units group (v ∷ ready)) Ascends → IfSome (gathered input units group ready) Ascends
 ready_rises input None group ready v h = tt
 ready_rises input (Some s) group ready v h = strict_rest v (ready ++ (groups input s.refusal s.list group).list) h
 
 -- where nothing is ready, and one version at most was read of the next group
-pub pending_rises : (input : ℕ) (units : Option (Still Placed Fault)) (pending : Option VersionData) → IfSome (gathered input units (option_to_list pending) []) Ascends
+pub pending_rises : (input : ℕ) (units : Option (Still Placed Fault)) (pending : Option VersionData) →
+    IfSome (gathered input units (option_to_list pending) []) Ascends
 pending_rises input None pending = tt
 pending_rises input (Some s) None = groups_rise input s.refusal s.list
 pending_rises input (Some s) (Some v) = (rises input s.refusal s.list v [] tt).strict
@@ -179,7 +209,9 @@ whole_rises : (known : Option (Still VersionData Fault)) → known ≡ Some whol
 whole_rises known e = let P : Option (Still VersionData Fault) → Type 0 = λ o. IfSome o Ascends in subst P (sym e) nothing_rises
 
 -- behind the first of what is ready
-pub rest_rises : (input : ℕ) (units : Option (Still Placed Fault)) (group : List VersionData) (given : Option VersionData) (ready : List VersionData) → IfSome (gathered input units group (option_to_list given ++ ready)) Ascends → IfSome (gathered input units group ready) Ascends
+pub rest_rises : (input : ℕ) (units : Option (Still Placed Fault)) (group : List VersionData) (given : Option VersionData)
+    (ready : List VersionData) → IfSome (gathered input units group (option_to_list given ++ ready)) Ascends →
+    IfSome (gathered input units group ready) Ascends
 rest_rises input units group None ready h = h
 rest_rises input units group (Some v) ready h = ready_rises input units group ready v h
 
@@ -187,10 +219,12 @@ rest_rises input units group (Some v) ready h = ready_rises input units group re
 pub told_as_set : (known : Option (Still VersionData Fault)) → IfSome known Ascends → still_given (option_map as_set known) ≡ known
 told_as_set None h = refl
 told_as_set (Some s) h =
-    ap (λ vs. let t : Still VersionData Fault = record { list = vs; refusal = s.refusal } in Some t) (listed-from_list version_cmp_total version_cmp-IsAntisymmetric s.list h)
+    ap (λ vs. let t : Still VersionData Fault = record { list = vs; refusal = s.refusal } in Some t)
+    (listed-from_list version_cmp_total version_cmp-IsAntisymmetric s.list h)
 
 -- ---- at the begin of an input
-pub source_is : (input : ℕ) (c : Coming) → sorted_source input c ≡ (let units = named input (units_from None 0 c) in groups input units.refusal units.list [])
+pub source_is : (input : ℕ) (c : Coming) → sorted_source input c
+    ≡ (let units = named input (units_from None 0 c) in groups input units.refusal units.list [])
 unfolding sorted_source
 source_is input c = refl
 
@@ -202,7 +236,8 @@ source_rises input c =
 abbrev pub beginning : ℕ → Option Coming → Told
 beginning input coming = record { input = input; place = 0; held = []; coming = coming; stand = None; ended = false; failed = false }
 
-begins_so : (input : ℕ) (coming : Option Coming) → gathered input (still_to_come (beginning input coming)) [] [] ≡ option_map (sorted_source input) coming
+begins_so : (input : ℕ) (coming : Option Coming) →
+    gathered input (still_to_come (beginning input coming)) [] [] ≡ option_map (sorted_source input) coming
 begins_so input None = refl
 begins_so input (Some c) = ap Some (sym (source_is input c))
 
@@ -210,67 +245,87 @@ begins_rising : (input : ℕ) (coming : Option Coming) → IfSome (option_map (s
 begins_rising input None = tt
 begins_rising input (Some c) = source_rises input c
 
-module _ (p : Told) (ready : List VersionData) (input : ℕ) (coming : Option Coming) (begins : p ≡ beginning input coming) (nothing : ready ≡ []) where
+module _ (p : Told) (ready : List VersionData) (input : ℕ) (coming : Option Coming) (begins : p ≡ beginning input coming)
+    (nothing : ready ≡ []) where
   pub source_begins : gathered p.input (still_to_come p) [] ready ≡ option_map (sorted_source input) coming
   source_begins = (λ i. gathered (begins i).input (still_to_come (begins i)) [] (nothing i)) ∙ begins_so input coming
 
   pub source_begins_rising : IfSome (gathered p.input (still_to_come p) [] ready) Ascends
   source_begins_rising = subst (λ (o : Option (Still VersionData Fault)). IfSome o Ascends) (sym source_begins) (begins_rising input coming)
 
-  pub source_begins_told : still_given (option_map as_set (gathered p.input (still_to_come p) [] ready)) ≡ option_map (sorted_source input) coming
+  pub source_begins_told : still_given (option_map as_set (gathered p.input (still_to_come p) [] ready))
+      ≡ option_map (sorted_source input) coming
   source_begins_told = told_as_set (gathered p.input (still_to_come p) [] ready) source_begins_rising ∙ source_begins
 
 -- a reading that read on before it gave anything
-opens_so : (input : ℕ) (coming : Option Coming) (q : Told) → GoesOn (beginning input coming) q → IfSome coming (λ c. gathered q.input (still_to_come q) [] [] ≡ Some (sorted_source input c))
+opens_so : (input : ℕ) (coming : Option Coming) (q : Told) → GoesOn (beginning input coming) q →
+    IfSome coming (λ c. gathered q.input (still_to_come q) [] [] ≡ Some (sorted_source input c))
 opens_so input None q on = tt
 opens_so input (Some c) q on =
     let fine : still_to_come q ≡ to_come q = ap (λ b. cond b (Some (refused (failed_fault q.input))) (to_come q)) on.failed in
     (λ i. gathered (on.input i) ((fine ∙ on.keeps) i) [] []) ∙ ap Some (sym (source_is input c))
 
-pub source_opens_told : (p q : Told) (ready : List VersionData) (input : ℕ) (coming : Option Coming) → p ≡ beginning input coming → GoesOn p q → ready ≡ [] → IfSome coming (λ c. still_given (option_map as_set (gathered q.input (still_to_come q) [] ready)) ≡ Some (sorted_source input c))
+pub source_opens_told : (p q : Told) (ready : List VersionData) (input : ℕ) (coming : Option Coming) → p ≡ beginning input coming →
+    GoesOn p q → ready ≡ [] → IfSome coming (λ c. still_given (option_map as_set (gathered q.input (still_to_come q) [] ready))
+    ≡ Some (sorted_source input c))
 source_opens_told p q ready input coming begins on nothing =
-    let rises : IfSome (gathered q.input (still_to_come q) [] ready) Ascends = subst (λ (xs : List VersionData). IfSome (gathered q.input (still_to_come q) [] xs) Ascends) (sym nothing) (pending_rises q.input (still_to_come q) None) in
-    weaker coming _ _ (λ c e. told_as_set (gathered q.input (still_to_come q) [] ready) rises ∙ (λ i. gathered q.input (still_to_come q) [] (nothing i)) ∙ e)
+    let rises : IfSome (gathered q.input (still_to_come q) [] ready) Ascends =
+    subst (λ (xs : List VersionData). IfSome (gathered q.input (still_to_come q) [] xs) Ascends) (sym nothing)
+    (pending_rises q.input (still_to_come q) None) in
+    weaker coming _ _ (λ c e. told_as_set (gathered q.input (still_to_come q) [] ready) rises
+    ∙ (λ i. gathered q.input (still_to_come q) [] (nothing i)) ∙ e)
     (opens_so input coming q (subst (λ (x : Told). GoesOn x q) begins on))
 
-pub opens_refused : (input : ℕ) (coming : Option Coming) (fault : Fault) (after : Option (Still Placed Fault)) → Step {A = Placed} (still_to_come (beginning input coming)) (Err fault) after
+pub opens_refused : (input : ℕ) (coming : Option Coming) (fault : Fault) (after : Option (Still Placed Fault)) →
+    Step {A = Placed} (still_to_come (beginning input coming)) (Err fault) after
     → (fault ≡ memory_fault) ⊎ IfSome coming (λ c. (sorted_source input c).refusal ≡ Some fault)
 opens_refused input None fault after step = ⊎_elim (λ e. inl e) (λ k. inr tt) step.0
 opens_refused input (Some c) fault after step =
-    ⊎_elim (λ e. inl e) (λ k. inr (ap (λ (s : Still VersionData Fault). s.refusal) (source_is input c) ∙ ap (λ (s : Still Placed Fault). (groups input s.refusal s.list []).refusal) k)) step.0
+    ⊎_elim (λ e. inl e) (λ k. inr (ap (λ (s : Still VersionData Fault). s.refusal) (source_is input c)
+    ∙ ap (λ (s : Still Placed Fault). (groups input s.refusal s.list []).refusal) k)) step.0
 
 -- a call, told of sets
-pub step_told : (value : Option StillSet) (before after : Option (Still VersionData Fault)) (r : Result (Option VersionData) Fault) → option_map as_set before ≡ value → IfSome before Ascends → IfSome after Ascends → Step before r after
+pub step_told : (value : Option StillSet) (before after : Option (Still VersionData Fault)) (r : Result (Option VersionData) Fault) →
+    option_map as_set before ≡ value → IfSome before Ascends → IfSome after Ascends → Step before r after
     → Step (still_given value) r (still_given (option_map as_set after))
 step_told value before after r is up on h =
     let first : before ≡ still_given value = sym (told_as_set before up) ∙ ap still_given is in
-    subst (λ (o : Option (Still VersionData Fault)). Step o r (still_given (option_map as_set after))) first (subst (λ (o : Option (Still VersionData Fault)). Step before r o) (sym (told_as_set after on)) h)
+    subst (λ (o : Option (Still VersionData Fault)). Step o r (still_given (option_map as_set after))) first
+    (subst (λ (o : Option (Still VersionData Fault)). Step before r o) (sym (told_as_set after on)) h)
 
 -- what was known is known
-known_by : (o : Option (Still VersionData Fault)) (still : Still VersionData Fault) → still_given (option_map as_set o) ≡ Some still → IsKnown o
+known_by : (o : Option (Still VersionData Fault)) (still : Still VersionData Fault) → still_given (option_map as_set o) ≡ Some still →
+    IsKnown o
 known_by None still e = absurd (let f : None ≡ Some still = e in cc)
 known_by (Some s) still e = tt
 
 -- where a step leads to ascends, where it was known what was to come
-step_rises : (before after : Option (Still VersionData Fault)) (r : Result (Option VersionData) Fault) → IsKnown before → IfSome before Ascends → Step before r after → IfSome after Ascends
+step_rises : (before after : Option (Still VersionData Fault)) (r : Result (Option VersionData) Fault) → IsKnown before →
+    IfSome before Ascends → Step before r after → IfSome after Ascends
 step_rises None after r known up h = absurd known
 step_rises (Some s) after (Ok (Some v)) known up h =
     let P : Option (Still VersionData Fault) → Type 0 = λ o. IfSome o Ascends in
     let rising : Ascends (front v h.0) = subst Ascends h.1 up in
     subst P (sym h.2) (strict_rest v (h.0).list rising)
 step_rises (Some s) after (Ok None) known up h = whole_rises after h.1
-step_rises (Some s) after (Err fault) known up h = let P : Option (Still VersionData Fault) → Type 0 = λ o. IfSome o Ascends in subst P (sym h.1.1) nothing_rises
+step_rises (Some s) after (Err fault) known up h = let P : Option (Still VersionData Fault) → Type 0 = λ o. IfSome o Ascends in
+    subst P (sym h.1.1) nothing_rises
 
 -- a call of a source, of what its reader can give
-pub file_step : {R : Type 0} (can : R → Coming → Type 0) (s t : FileStand R) (r : Result (Option VersionData) Fault) → FileAscends can s → t.units.input ≡ s.units.input → FileSteps can s r t
+pub file_step : {R : Type 0} (can : R → Coming → Type 0) (s t : FileStand R) (r : Result (Option VersionData) Fault) → FileAscends can s →
+    t.units.input ≡ s.units.input → FileSteps can s r t
     → Steps (FileCanGive can) s r t
 file_step can s t r up same steps later h =
     let x = steps h.0 h.1 in
-    let after : still_given (option_map as_set (gathered_at s.units.input t h.0)) ≡ Some later = (λ i. still_given (option_map as_set (gathered_at (sym same i) t h.0))) ∙ h.2 in
+    let after : still_given (option_map as_set (gathered_at s.units.input t h.0)) ≡ Some later =
+    (λ i. still_given (option_map as_set (gathered_at (sym same i) t h.0))) ∙ h.2 in
     let from = gathered_at s.units.input s x.0 in
-    let rises = step_rises from (gathered_at s.units.input t h.0) r (known_by from (known_or_whole (given_at s x.0)) (one_given s x.0)) (up x.0 x.1) x.2 in
-    let told = step_told (option_map as_set (gathered_at s.units.input s x.0)) (gathered_at s.units.input s x.0) (gathered_at s.units.input t h.0) r refl (up x.0 x.1) rises x.2 in (
+    let rises = step_rises from (gathered_at s.units.input t h.0) r (known_by from (known_or_whole (given_at s x.0)) (one_given s x.0))
+    (up x.0 x.1) x.2 in
+    let told = step_told (option_map as_set (gathered_at s.units.input s x.0)) (gathered_at s.units.input s x.0)
+    (gathered_at s.units.input t h.0) r refl (up x.0 x.1) rises x.2 in (
       known_or_whole (given_at s x.0),
       (x.0, x.1, one_given s x.0),
-      subst (λ (o : Option (Still VersionData Fault)). Step o r (Some later)) (one_given s x.0) (subst (λ (o : Option (Still VersionData Fault)). Step (given_at s x.0) r o) after told),
+      subst (λ (o : Option (Still VersionData Fault)). Step o r (Some later)) (one_given s x.0)
+          (subst (λ (o : Option (Still VersionData Fault)). Step (given_at s x.0) r o) after told),
     )

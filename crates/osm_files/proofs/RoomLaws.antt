@@ -6,22 +6,28 @@ use Rattle.std.proofs.Math.Seq.{take-append-add}
 module _ (from end : ℕ) (room : List ℕ) (ordered : from ≤ end) where
   -- they stand behind those before the first place
   pub held_behind : take (end - from) (drop from room) ≡ drop from (take end room)
-  held_behind = sym (ap (λ n. drop from (take n room)) (let sum : end ≡ from + (end - from) = omega (arith, ordered) in sum) ∙ drop-take from (end - from) room)
+  held_behind = sym (ap (λ n. drop from (take n room)) (let sum : end ≡ from + (end - from) = omega (arith, ordered) in sum)
+      ∙ drop-take from (end - from) room)
 
   -- some more were read
-  pub held_skipped : (count : ℕ) → from + count ≤ end → take (end - (from + count)) (drop (from + count) room) ≡ drop count (take (end - from) (drop from room))
+  pub held_skipped : (count : ℕ) → from + count ≤ end →
+      take (end - (from + count)) (drop (from + count) room) ≡ drop count (take (end - from) (drop from room))
   held_skipped count within =
       let size : end - from ≡ count + (end - (from + count)) = omega (arith, within) in
-      ap (λ xs. take (end - (from + count)) xs) (sym (drop-drop count from room)) ∙ sym (ap (λ n. drop count (take n (drop from room))) size ∙ drop-take count (end - (from + count)) (drop from room))
+      ap (λ xs. take (end - (from + count)) xs) (sym (drop-drop count from room))
+      ∙ sym (ap (λ n. drop count (take n (drop from room))) size ∙ drop-take count (end - (from + count)) (drop from room))
 
   -- another room has the same bytes up to the end, and others behind it
-  pub held_kept : (other : List ℕ) → take end other ≡ take end room → take (end - from) (drop from other) ≡ take (end - from) (drop from room)
+  pub held_kept : (other : List ℕ) → take end other ≡ take end room →
+      take (end - from) (drop from other) ≡ take (end - from) (drop from room)
   held_kept other same =
-      sym (ap (λ n. drop from (take n other)) (let sum : end ≡ from + (end - from) = omega (arith, ordered) in sum) ∙ drop-take from (end - from) other)
+      sym (ap (λ n. drop from (take n other)) (let sum : end ≡ from + (end - from) = omega (arith, ordered) in sum)
+      ∙ drop-take from (end - from) other)
       ∙ ap (drop from) same ∙ sym held_behind
 
 -- so many more bytes came
-pub held_grown : (from end : ℕ) (room : List ℕ) → from ≤ end → (count : ℕ) (other front : List ℕ) → end ≤ length room → take (end + count) other ≡ take end room ++ front →
+pub held_grown : (from end : ℕ) (room : List ℕ) → from ≤ end → (count : ℕ) (other front : List ℕ) → end ≤ length room →
+    take (end + count) other ≡ take end room ++ front →
     take (end + count - from) (drop from other) ≡ take (end - from) (drop from room) ++ front
 held_grown from end room ordered count other front within came =
     held_behind from (end + count) other (omega (arith, ordered)) ∙ ap (drop from) came
@@ -29,12 +35,15 @@ held_grown from end room ordered count other front within came =
     ∙ ap (λ xs. xs ++ front) (sym (held_behind from end room ordered))
 
 -- so many bytes were read behind others
-pub came_behind : (end count : ℕ) (room came behind : List ℕ) → end ≤ length room → count ≤ length came → take (end + count) (take end room ++ (came ++ behind)) ≡ take end room ++ take count came
+pub came_behind : (end count : ℕ) (room came behind : List ℕ) → end ≤ length room → count ≤ length came →
+    take (end + count) (take end room ++ (came ++ behind)) ≡ take end room ++ take count came
 came_behind end count room came behind within some =
-    ap (λ n. take (n + count) (take end room ++ (came ++ behind))) (sym (length-take-le end room within)) ∙ take-append-add (take end room) (came ++ behind) count
+    ap (λ n. take (n + count) (take end room ++ (came ++ behind))) (sym (length-take-le end room within))
+    ∙ take-append-add (take end room) (came ++ behind) count
     ∙ ap (λ xs. take end room ++ xs) (take-append-le count came behind some)
 
 -- the front of a vector whose first bytes were written
-pub written_front : (n size : ℕ) (written rest : List ℕ) → n ≤ size → n ≤ length written → take n (take size (written ++ rest)) ≡ take n written
+pub written_front : (n size : ℕ) (written rest : List ℕ) → n ≤ size → n ≤ length written →
+    take n (take size (written ++ rest)) ≡ take n written
 written_front n size written rest small within =
     take-take n size (written ++ rest) small ∙ take-append-le n written rest within

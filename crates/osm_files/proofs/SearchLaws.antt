@@ -1,5 +1,6 @@
 -- A search that goes on behind the bytes that were searched before.
-use Rattle.std.proofs.Common.{◌≡◌, ℕ, zero, suc, ◌+◌, ◌-◌, ◌<◌, ◌≤◌, Bool, true, false, not, cond, List, [], ◌∷◌, length, take, drop, refl, sym, ap, ◌∙◌, arith, length-drop, length-take, Some, None, position, ltb}
+use Rattle.std.proofs.Common.{◌≡◌, ℕ, zero, suc, ◌+◌, ◌-◌, ◌<◌, ◌≤◌, Bool, true, false, not, cond, List, [], ◌∷◌, length, take, drop, refl}
+use Rattle.std.proofs.Common.{sym, ap, ◌∙◌, arith, length-drop, length-take, Some, None, position, ltb}
 use Rattle.std.proofs.lemmas.Bool.{ltb-true, ltb-false, lt-ltb, le-ltb}
 use Rattle.std.proofs.lemmas.List.{take_rest}
 use Rattle.std.specs.List.{position_or_len}
@@ -25,11 +26,13 @@ module _ (p : ℕ → Bool) where
       ] refl found
 
   -- where none of the first passes, the others are counted behind them
-  counted : (xs : List ℕ) (n : ℕ) → n ≤ length xs → n ≤ position_or_len p (take n xs) → position_or_len p xs ≡ n + position_or_len p (drop n xs)
+  counted : (xs : List ℕ) (n : ℕ) → n ≤ length xs → n ≤ position_or_len p (take n xs) →
+      position_or_len p xs ≡ n + position_or_len p (drop n xs)
   counted xs zero within none = omega arith
   counted [] (suc n) within none = absurd (omega (arith, within))
   counted (x ∷ xs) (suc n) within none =
-      elim (p x) as (λ t. suc n ≤ cond (not t) (1 + position_or_len p (take n xs)) 0 → cond (not t) (1 + position_or_len p xs) 0 ≡ suc n + position_or_len p (drop n xs)) [
+      elim (p x) as (λ t. suc n ≤ cond (not t) (1 + position_or_len p (take n xs)) 0 →
+      cond (not t) (1 + position_or_len p xs) 0 ≡ suc n + position_or_len p (drop n xs)) [
         | true ↦ λ few. absurd (omega (arith, few))
         | false ↦ λ few. (let on = counted xs n (omega (arith, within)) (omega (arith, few)) in omega (arith, on))
       ] none
@@ -61,5 +64,6 @@ pub no_end : (bytes : List ℕ) → line_unit (split_first is_line_end bytes) �
 no_end bytes none =
     elim (position is_line_end bytes) as (λ o. position is_line_end bytes ≡ o → o ≡ None) [
       | None ↦ λ e. refl
-      | Some n ↦ λ e. (let there : line_unit (split_first is_line_end bytes) ≡ Some _ = ap line_unit (split_at is_line_end bytes n e).split in cc)
+      | Some n ↦ λ e. (let there : line_unit (split_first is_line_end bytes) ≡ Some _ =
+          ap line_unit (split_at is_line_end bytes n e).split in cc)
     ] refl

@@ -1,5 +1,6 @@
 -- The file of a set is read as the set.
-use Rattle.std.proofs.Common.{◌≡◌, ℕ, suc, ◌+◌, ◌<◌, ◌^◌, Bool, true, false, not, cond, ◌||◌, ◌==◌, ◌⊎◌, List, [], ◌∷◌, ◌++◌, length, take, filter, get_or, refl, sym, ap, subst, ◌∙◌, arith, append_assoc, length-append, inl, inr, Some, None, is_some}
+use Rattle.std.proofs.Common.{◌≡◌, ℕ, suc, ◌+◌, ◌<◌, ◌^◌, Bool, true, false, not, cond, ◌||◌, ◌==◌, ◌⊎◌, List, [], ◌∷◌, ◌++◌, length, take}
+use Rattle.std.proofs.Common.{filter, get_or, refl, sym, ap, subst, ◌∙◌, arith, append_assoc, length-append, inl, inr, Some, None, is_some}
 use Rattle.std.proofs.lemmas.List.{append-nil}
 use Rattle.std.proofs.Math.Seq.{take-append_seam, get_or-append_seam}
 use Rattle.std.specs.List.{All, Any, flat_map, list_all, list_any}
@@ -40,13 +41,16 @@ use Rattle.osm_files.specs.Held.{IsFile, IsFileOf, Holds}
 use Rattle.osm_files.specs.Spell.{behind, behind_all, ended, spelled_versions, spell_list, spell}
 use Rattle.osm_files.specs.Sink.{MayFollow}
 use Rattle.osm_files.specs.Verdict.{file_units, versions_of, held_by, verdict}
-use Rattle.osm_files.specs.SpellLaws.{AreVersions, SpellHoldsItsSet, HeldWithoutVerdict, SpellHasNoVerdict, HeldIsOneSet, SpelledIsHeld, joined_file, JoinInAnyOrder, JoinRepeated, JoinInAnyGrouping, FilesJoinInAnyGrouping, HeldAreVersions, UnionsAreVersions, EachMayFollow, ListIsSpelledAsItsSet, FirstVersionsStandInFront}
+use Rattle.osm_files.specs.SpellLaws.{AreVersions, SpellHoldsItsSet, HeldWithoutVerdict, SpellHasNoVerdict, HeldIsOneSet, SpelledIsHeld}
+use Rattle.osm_files.specs.SpellLaws.{joined_file, JoinInAnyOrder, JoinRepeated, JoinInAnyGrouping, FilesJoinInAnyGrouping, HeldAreVersions}
+use Rattle.osm_files.specs.SpellLaws.{UnionsAreVersions, EachMayFollow, ListIsSpelledAsItsSet, FirstVersionsStandInFront}
 use Rattle.osm_files.proofs.FileLaws.{one_list, files_are_read, accepted_without_verdict}
 use Rattle.osm_files.proofs.RangeLaws.{files_hold_versions}
 use Rattle.osm_files.proofs.SpellSteps.{first_so, then_greater, may_follow, list_split}
 
 -- ---- lines
-cut_line : (front rest : List ℕ) → list_all (λ b. not (is_line_end b)) front ≡ true → cut is_line_end (front ++ 10 ∷ rest) ≡ front ∷ cut is_line_end rest
+cut_line : (front rest : List ℕ) → list_all (λ b. not (is_line_end b)) front ≡ true →
+    cut is_line_end (front ++ 10 ∷ rest) ≡ front ∷ cut is_line_end rest
 cut_line front rest none =
     let split : split_first is_line_end (front ++ 10 ∷ rest) ≡ (front, Some rest) = split_front is_line_end front rest 10 none refl in
     cut_split is_line_end (front ++ 10 ∷ rest) ∙ ap (λ s. s.0 ∷ pieces_of is_line_end s.1) split
@@ -56,11 +60,14 @@ lines_file w [] valid = tt
 lines_file w (v ∷ versions) valid =
     let rest : List ℕ = spelled_versions Opl (behind Opl w v) versions in
     let alone = line_stands_in_one v in
-    let pieces : cut is_line_end ((line v ++ 10 ∷ []) ++ rest) ≡ line v ∷ cut is_line_end rest = ap (cut is_line_end) (append_assoc (line v) (10 ∷ []) rest) ∙ cut_line (line v) rest alone.0 in
+    let pieces : cut is_line_end ((line v ++ 10 ∷ []) ++ rest) ≡ line v ∷ cut is_line_end rest =
+    ap (cut is_line_end) (append_assoc (line v) (10 ∷ []) rest) ∙ cut_line (line v) rest alone.0 in
     let kept : filter is_read (line v ∷ cut is_line_end rest) ≡ line v ∷ filter is_read (cut is_line_end rest) = rw alone.1 refl in
     let P : List (List ℕ) → Type 0 = λ ls. Pairwise Spells ls (v ∷ versions) in
-    subst P (sym (ap (filter is_read) pieces ∙ kept))
-    ((line_spells_its_version v (valid 0 v (omega arith))).spelled, lines_file (behind Opl w v) versions (λ k d inside. valid (suc k) d (omega (arith, inside))))
+    subst P (sym (ap (filter is_read) pieces ∙ kept)) (
+      (line_spells_its_version v (valid 0 v (omega arith))).spelled,
+      lines_file (behind Opl w v) versions (λ k d inside. valid (suc k) d (omega (arith, inside))),
+    )
 
 -- ---- data sets
 same_type : (k : kind_type.Kind) → set_type k ≡ type_byte k
@@ -71,7 +78,8 @@ same_type kind.Relation = refl
 abbrev PartsOf : Segment → List ℕ → List VersionData → Type 0
 PartsOf s bytes versions = (parts : List Part) × (bytes ≡ flat_map part_bytes parts) × PartsSpell s parts versions
 
-with_reset : (begins : Bool) (s : Segment) (bytes : List ℕ) (versions : List VersionData) → PartsOf (segment_for begins s) bytes versions → PartsOf s (reset_before begins ++ bytes) versions
+with_reset : (begins : Bool) (s : Segment) (bytes : List ℕ) (versions : List VersionData) → PartsOf (segment_for begins s) bytes versions →
+    PartsOf s (reset_before begins ++ bytes) versions
 with_reset true s bytes versions h = (Reset ∷ h.0, ap (λ x. 255 ∷ x) h.1, h.2)
 with_reset false s bytes versions h = h
 
@@ -82,8 +90,10 @@ parts_of (v ∷ versions) s bytes (begins, set, x, after, is, section, spells, m
     let k = kind_of v.body in
     let size : List ℕ = section.0 in
     let whole : set_type k ∷ set ≡ flat_map part_bytes (Object k size x.0 ∷ later.0) =
-    (λ i. same_type k i ∷ section.2 i) ∙ ap (λ y. type_byte k ∷ (size ++ (x.0 ++ y))) later.1 ∙ ap (λ y. type_byte k ∷ y) (sym (append_assoc size x.0 (flat_map part_bytes later.0))) in
-    let here : PartsOf (segment_for begins s) (set_type k ∷ set) (v ∷ versions) = (Object k size x.0 ∷ later.0, whole, (section.1, (v, after, versions, refl, spells, later.2))) in
+    (λ i. same_type k i ∷ section.2 i) ∙ ap (λ y. type_byte k ∷ (size ++ (x.0 ++ y))) later.1
+    ∙ ap (λ y. type_byte k ∷ y) (sym (append_assoc size x.0 (flat_map part_bytes later.0))) in
+    let here : PartsOf (segment_for begins s) (set_type k ∷ set) (v ∷ versions) =
+    (Object k size x.0 ∷ later.0, whole, (section.1, (v, after, versions, refl, spells, later.2))) in
     subst (λ (y : List ℕ). PartsOf s y (v ∷ versions)) (sym is) (with_reset begins s (set_type k ∷ set) (v ∷ versions) here)
 
 same_sets : (w : Written) (versions : List VersionData) → spelled_versions O5m w versions ≡ spelled_sets w versions
@@ -95,7 +105,8 @@ same_in_both w [] = refl
 same_in_both w (v ∷ versions) = ap (λ x. spelled_set w v ++ x) (same_in_both (written_after w v) versions)
 
 -- ---- whole files
-sets_file : (header : List ℕ) (versions : List VersionData) → (header ≡ o5m_header) ⊎ (header ≡ o5c_header) → All IsVersion versions → length (spelled_sets nothing_written versions) < 2 ^ 64
+sets_file : (header : List ℕ) (versions : List VersionData) → (header ≡ o5m_header) ⊎ (header ≡ o5c_header) → All IsVersion versions →
+    length (spelled_sets nothing_written versions) < 2 ^ 64
     → O5File ((header ++ spelled_sets nothing_written versions) ++ end_byte ∷ []) versions
 sets_file header versions begins valid small =
     let h = parts_of versions new_segment (spelled_sets nothing_written versions) (lists_read versions valid small).0 in
@@ -120,19 +131,25 @@ lines_start w (v ∷ versions) = ap (λ t. cond t BeforeHeader InOpl) (letter_is
 small_sets : (header sets : List ℕ) → length ((header ++ sets) ++ end_byte ∷ []) < 2 ^ 62 → length sets < 2 ^ 64
 small_sets header sets short = omega (arith, short, length-append (header ++ sets) (end_byte ∷ []), length-append header sets)
 
-spelled_file : (f : Format) (versions : List VersionData) → All IsVersion versions → length (spell_list f versions) < 2 ^ 62 → IsFile (spell_list f versions) versions
+spelled_file : (f : Format) (versions : List VersionData) → All IsVersion versions → length (spell_list f versions) < 2 ^ 62 →
+    IsFile (spell_list f versions) versions
 spelled_file Opl versions valid short =
     let lines : List ℕ = spelled_versions Opl nothing_written versions in
-    let file : IsFile lines versions = subst (λ (stand : Stand). IsFileOf stand lines versions) (sym (lines_start nothing_written versions)) (lines_file nothing_written versions valid) in
+    let file : IsFile lines versions = subst (λ (stand : Stand). IsFileOf stand lines versions) (sym (lines_start nothing_written versions))
+    (lines_file nothing_written versions valid) in
     subst (λ (bytes : List ℕ). IsFile bytes versions) (sym (append-nil lines)) file
 spelled_file O5m versions valid short =
     let same = same_sets nothing_written versions in
-    let small = subst (λ (sets : List ℕ). length sets < 2 ^ 64) same (small_sets o5m_header (spelled_versions O5m nothing_written versions) short) in
-    subst (λ (sets : List ℕ). O5File ((o5m_header ++ sets) ++ end_byte ∷ []) versions) (sym same) (sets_file o5m_header versions (inl refl) valid small)
+    let small = subst (λ (sets : List ℕ). length sets < 2 ^ 64) same
+    (small_sets o5m_header (spelled_versions O5m nothing_written versions) short) in
+    subst (λ (sets : List ℕ). O5File ((o5m_header ++ sets) ++ end_byte ∷ []) versions) (sym same)
+    (sets_file o5m_header versions (inl refl) valid small)
 spelled_file O5c versions valid short =
     let same = same_in_both nothing_written versions ∙ same_sets nothing_written versions in
-    let small = subst (λ (sets : List ℕ). length sets < 2 ^ 64) same (small_sets o5c_header (spelled_versions O5c nothing_written versions) short) in
-    subst (λ (sets : List ℕ). O5File ((o5c_header ++ sets) ++ end_byte ∷ []) versions) (sym same) (sets_file o5c_header versions (inr refl) valid small)
+    let small = subst (λ (sets : List ℕ). length sets < 2 ^ 64) same
+    (small_sets o5c_header (spelled_versions O5c nothing_written versions) short) in
+    subst (λ (sets : List ℕ). O5File ((o5c_header ++ sets) ++ end_byte ∷ []) versions) (sym same)
+    (sets_file o5c_header versions (inr refl) valid small)
 
 -- ---- the order of the members
 key_not_below : (v w : VersionData) → version_cmp v w ≡ Less → is_lt (key_cmp w v) ≡ false
@@ -144,10 +161,12 @@ key_not_below v w less =
     ] refl
 
 keys_rise : (xs : List VersionData) → IsStrictlySortedBy version_cmp xs → IsSorted key_cmp xs
-keys_rise xs h = λ k d low high. key_not_below (get_or xs k d) (get_or xs (k + 1) d) (Less-from_sorted version_cmp xs k (k + 1) d h (omega arith) high)
+keys_rise xs h = λ k d low high. key_not_below (get_or xs k d) (get_or xs (k + 1) d)
+    (Less-from_sorted version_cmp xs k (k + 1) d h (omega arith) high)
 
 pub listed_members : (s : VersionSet) → s ≡ from_list (listed s)
-listed_members s = same_set version_cmp_total version_cmp-IsAntisymmetric s (from_list (listed s)) (λ q. contains-listed s q ∙ sym (contains-from_list version_cmp_total (listed s) q))
+listed_members s = same_set version_cmp_total version_cmp-IsAntisymmetric s (from_list (listed s))
+    (λ q. contains-listed s q ∙ sym (contains-from_list version_cmp_total (listed s) q))
 
 pub spell_holds : SpellHoldsItsSet
 spell_holds f s valid short = record {
@@ -159,7 +178,8 @@ spell_holds f s valid short = record {
 }
 
 pub held_is_one_set : HeldIsOneSet
-held_is_one_set bytes one other h g = h.members ∙ ap (λ xs. from_list {R = version_cmp} xs) (one_list bytes h.versions g.versions h.file g.file) ∙ sym g.members
+held_is_one_set bytes one other h g = h.members ∙ ap (λ xs. from_list {R = version_cmp} xs)
+    (one_list bytes h.versions g.versions h.file g.file) ∙ sym g.members
 
 -- ---- joins
 or_turned : (a b : Bool) → (a || b) ≡ (b || a)
@@ -186,18 +206,22 @@ equal_sets : (s t : VersionSet) → ((q : VersionData) → contains s q ≡ cont
 equal_sets s t h = same_set version_cmp_total version_cmp-IsAntisymmetric s t h
 
 pub join_in_any_order : JoinInAnyOrder
-join_in_any_order f a b = ap (spell f) (equal_sets (union a b) (union b a) (λ q. in_both a b q ∙ or_turned (holds_one a q) (holds_one b q) ∙ sym (in_both b a q)))
+join_in_any_order f a b = ap (spell f) (equal_sets (union a b) (union b a)
+    (λ q. in_both a b q ∙ or_turned (holds_one a q) (holds_one b q) ∙ sym (in_both b a q)))
 
 none_in_empty : (q : VersionData) → holds_one empty q ≡ false
 none_in_empty q = ap is_some (get-empty version_cmp q)
 
 pub join_repeated : JoinRepeated
-join_repeated f a = ap (spell f) (equal_sets (union a a) (union a empty) (λ q. in_both a a q ∙ or_repeated (holds_one a q) ∙ ap (λ (b : Bool). holds_one a q || b) (sym (none_in_empty q)) ∙ sym (in_both a empty q)))
+join_repeated f a = ap (spell f) (equal_sets (union a a) (union a empty)
+    (λ q. in_both a a q ∙ or_repeated (holds_one a q) ∙ ap (λ (b : Bool). holds_one a q || b) (sym (none_in_empty q))
+    ∙ sym (in_both a empty q)))
 
 grouped : (a b c : VersionSet) → union (union a b) c ≡ union a (union b c)
 grouped a b c =
     equal_sets (union (union a b) c) (union a (union b c)) (λ q.
-    in_both (union a b) c q ∙ ap (λ (x : Bool). x || holds_one c q) (in_both a b q) ∙ or_grouped (holds_one a q) (holds_one b q) (holds_one c q)
+    in_both (union a b) c q ∙ ap (λ (x : Bool). x || holds_one c q) (in_both a b q)
+    ∙ or_grouped (holds_one a q) (holds_one b q) (holds_one c q)
     ∙ ap (λ (x : Bool). holds_one a q || x) (sym (in_both b c q)) ∙ sym (in_both a (union b c) q))
 
 member_of_list : (xs : List VersionData) (q : VersionData) → All IsVersion xs → list_any (eq_by_cmp version_cmp q) xs ≡ true → IsVersion q
@@ -224,7 +248,8 @@ either false b h = inr h
 
 pub unions_are_versions : UnionsAreVersions
 unions_are_versions a b valid others =
-    are_versions (union a b) (λ x h. elim (either (holds_one a x) (holds_one b x) (sym (in_both a b x) ∙ h)) [ inl left ↦ member_is a x valid left | inr right ↦ member_is b x others right ])
+    are_versions (union a b) (λ x h. elim (either (holds_one a x) (holds_one b x)
+    (sym (in_both a b x) ∙ h)) [ inl left ↦ member_is a x valid left | inr right ↦ member_is b x others right ])
 
 -- and so are those of a part
 pub are_fewer : (a b : VersionSet) → AreVersions a → ((q : VersionData) → contains b q ≡ true → contains a q ≡ true) → AreVersions b
@@ -258,17 +283,22 @@ each_may_follow f versions others v sorted =
     let at : get_or xs (length versions) v ≡ v = get_or-append_seam versions v others v in
     let front : take (length versions) xs ≡ versions = take-append_seam versions (v ∷ others) in
     let P : VersionData → List VersionData → Type 0 = λ x ys. MayFollow x (behind_all f nothing_written ys) in
-    subst (λ (ys : List VersionData). P v ys) front (subst (λ (x : VersionData). P x (take (length versions) xs)) at (may_follow f xs (length versions) v sorted within))
+    subst (λ (ys : List VersionData). P v ys) front (subst (λ (x : VersionData). P x (take (length versions) xs)) at
+    (may_follow f xs (length versions) v sorted within))
 
 pub list_spelled : ListIsSpelledAsItsSet
 list_spelled f versions sorted = ap (spell_list f) (sym (listed-view versions sorted))
 
 pub first_in_front : FirstVersionsStandInFront
-first_in_front f versions others = (spelled_versions f (behind_all f nothing_written versions) others ++ ended f, list_split f versions others)
+first_in_front f versions others = (
+  spelled_versions f (behind_all f nothing_written versions) others ++ ended f,
+  list_split f versions others,
+)
 
 pub files_join : FilesJoinInAnyGrouping
 files_join f g h first second third a b c ab bc one two three =
-    join_in_any_grouping f g h a b c ab bc (held_are_versions first a one) (held_are_versions second b two) (held_are_versions third c three)
+    join_in_any_grouping f g h a b c ab bc (held_are_versions first a one) (held_are_versions second b two)
+    (held_are_versions third c three)
 
 -- ---- files without a verdict
 holds_reading : (bytes : List ℕ) (s : VersionSet) → Holds bytes s → (verdict bytes ≡ None) × (s ≡ held_by bytes)
@@ -287,5 +317,6 @@ held_without_verdict bytes s = (holds_reading bytes s, reading_holds bytes s)
 pub spell_has_no_verdict : SpellHasNoVerdict
 spell_has_no_verdict f s valid short =
     let own = spell_holds f s valid short in
-    let read = holds_reading (spell f s) s (record { short = own.short; versions = own.versions; file = own.file; members = own.members }) in
+    let read = holds_reading (spell f s) s (record { short = own.short; versions = own.versions; file = own.file; members = own.members })
+    in
     (read.0, sym read.1)

@@ -1,5 +1,7 @@
 -- Files that are split into files in sequence, and into runs.
-use Rattle.std.proofs.Common.{◌≡◌, inl, inr, ℕ, zero, suc, ◌+◌, ◌-◌, ◌^◌, ◌<◌, ◌&&◌, ◌||◌, Bool, true, false, not, cond, List, [], ◌∷◌, ◌++◌, length, map, take, drop, slice_get, refl, sym, ap, ◌∙◌, subst, arith, Option, Some, None, is_some, append-nil, append_assoc, nat_lt}
+use Rattle.std.proofs.Common.{◌≡◌, inl, inr, ℕ, zero, suc, ◌+◌, ◌-◌, ◌^◌, ◌<◌, ◌&&◌, ◌||◌, Bool, true, false, not, cond, List, [], ◌∷◌}
+use Rattle.std.proofs.Common.{◌++◌, length, map, take, drop, slice_get, refl, sym, ap, ◌∙◌, subst, arith, Option, Some, None, is_some}
+use Rattle.std.proofs.Common.{append-nil, append_assoc, nat_lt}
 use Rattle.std.proofs.lemmas.Bool.{false≢true, true≢false, and_parts, ltb-true, eqb-true, not-true}
 use Rattle.std.proofs.lemmas.List.{drop-drop, map-append, take_all}
 use Rattle.opl_line.specs.Cut.{is_line_end}
@@ -7,7 +9,9 @@ use Rattle.osm_files.specs.declared.sorted_run.BytesAtSplit.{BytesAtSplit}
 use Rattle.osm_files.specs.declared.sorted_run.SortedRun.{SortedRun}
 use Rattle.osm_files.specs.O5.{o5m_header, end_byte, reset_byte}
 use Rattle.osm_files.specs.Units.{InOpl, BeforeHeader, start_of}
-use Rattle.osm_files.specs.SortedRun.{SplitAfterLine, SplitAtReset, IsSplit, IsSplitInto, IsSplitIntoRuns, HasBytes, bytes_before, bytes_after, run_bytes, is_reset, ends_line, is_o5_run, is_within, splits_o5, splits_opl, can_split, front_run, rest_run}
+use Rattle.osm_files.specs.SortedRun.{SplitAfterLine, SplitAtReset, IsSplit, IsSplitInto, IsSplitIntoRuns, HasBytes, bytes_before}
+use Rattle.osm_files.specs.SortedRun.{bytes_after, run_bytes, is_reset, ends_line, is_o5_run, is_within, splits_o5, splits_opl, can_split}
+use Rattle.osm_files.specs.SortedRun.{front_run, rest_run}
 
 -- ---- lists
 slice_get-drop : (n : ℕ) (xs : List ℕ) (i : ℕ) → slice_get (drop n xs) i ≡ slice_get xs (n + i)

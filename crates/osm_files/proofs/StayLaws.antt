@@ -1,5 +1,7 @@
 -- A unit that stands whole stays the same, whatever follows it.
-use Rattle.std.proofs.Common.{◌≡◌, ◌⊎◌, inl, inr, ⊎_elim, ℕ, zero, suc, ◌+◌, ◌-◌, ◌≤◌, ◌<◌, ◌==◌, ◌||◌, ◌^◌, Bool, true, false, cond, List, [], ◌∷◌, ◌++◌, length, take, refl, sym, ap, ◌∙◌, arith, Option, Some, None, Result, Ok, Err, length-append, nat_lt, nat_le}
+use Rattle.std.proofs.Common.{◌≡◌, ◌⊎◌, inl, inr, ⊎_elim, ℕ, zero, suc, ◌+◌, ◌-◌, ◌≤◌, ◌<◌, ◌==◌, ◌||◌, ◌^◌, Bool, true, false, cond, List}
+use Rattle.std.proofs.Common.{[], ◌∷◌, ◌++◌, length, take, refl, sym, ap, ◌∙◌, arith, Option, Some, None, Result, Ok, Err, length-append}
+use Rattle.std.proofs.Common.{nat_lt, nat_le}
 use Rattle.std.specs.List.{list_any}
 use Rattle.std.proofs.lemmas.Bool.{false≢true, ltb-true, ltb-false, leb-true, lt-ltb}
 use Rattle.std.proofs.lemmas.Bool.Decides.{nat_tests}
@@ -13,7 +15,8 @@ use Rattle.o5_codec.specs.Number.{groups_at, number_at, with_low, within_word}
 use Rattle.o5_codec.specs.Decoder.{new_segment}
 use Rattle.osm_files.specs.declared.reason.Reason.TheVariants.{BadHeader}
 use Rattle.osm_files.specs.O5.{end_byte, reset_byte, is_lone, kind_of_type}
-use Rattle.osm_files.specs.Units.{Stand, InOpl, BeforeHeader, InSegment, BehindEnd, FileUnit, unit, passes, line_unit, header_unit, is_header, content_found, is_last, is_ended, length_at, sized_unit, segment_unit, behind_unit, unit_at}
+use Rattle.osm_files.specs.Units.{Stand, InOpl, BeforeHeader, InSegment, BehindEnd, FileUnit, unit, passes, line_unit, header_unit}
+use Rattle.osm_files.specs.Units.{is_header, content_found, is_last, is_ended, length_at, sized_unit, segment_unit, behind_unit, unit_at}
 use Rattle.osm_files.proofs.UnitLaws.{some_is_not_none}
 use Rattle.osm_files.proofs.PartLaws.{length_found}
 
@@ -22,13 +25,17 @@ Split = List ℕ × Option (List ℕ)
 
 module _ (p : ℕ → Bool) where
   -- the second part of a split decides
-  longer_split : (b : ℕ) (s t : Split) (more behind : List ℕ) → ((behind : List ℕ) → s.1 ≡ Some behind → t ≡ (s.0, Some (behind ++ more))) → (lengthened b s).1 ≡ Some behind → lengthened b t ≡ ((lengthened b s).0, Some (behind ++ more))
+  longer_split : (b : ℕ) (s t : Split) (more behind : List ℕ) → ((behind : List ℕ) → s.1 ≡ Some behind → t ≡ (s.0, Some (behind ++ more))) →
+      (lengthened b s).1 ≡ Some behind → lengthened b t ≡ ((lengthened b s).0, Some (behind ++ more))
   longer_split b s t more behind on e = ap (lengthened b) (on behind e)
 
-  split_more : (bytes more behind : List ℕ) → (split_first p bytes).1 ≡ Some behind → split_first p (bytes ++ more) ≡ ((split_first p bytes).0, Some (behind ++ more))
+  split_more : (bytes more behind : List ℕ) → (split_first p bytes).1 ≡ Some behind →
+      split_first p (bytes ++ more) ≡ ((split_first p bytes).0, Some (behind ++ more))
   split_more [] more behind e = absurd (some_is_not_none behind (sym e))
   split_more (b ∷ bytes) more behind f =
-      elim (p b) as (λ t. (cond t ([], Some bytes) (lengthened b (split_first p bytes))).1 ≡ Some behind → cond t ([], Some (bytes ++ more)) (lengthened b (split_first p (bytes ++ more))) ≡ ((cond t ([], Some bytes) (lengthened b (split_first p bytes))).0, Some (behind ++ more))) [
+      elim (p b) as (λ t. (cond t ([], Some bytes) (lengthened b (split_first p bytes))).1 ≡ Some behind →
+      cond t ([], Some (bytes ++ more)) (lengthened b (split_first p (bytes ++ more)))
+      ≡ ((cond t ([], Some bytes) (lengthened b (split_first p bytes))).0, Some (behind ++ more))) [
         | true ↦ λ e. let same : bytes ≡ behind = cc in ap (λ x. ([], Some (x ++ more))) same
         | false ↦ λ e. longer_split b (split_first p bytes) (split_first p (bytes ++ more)) more behind (split_more bytes more) e
       ] f
@@ -36,20 +43,25 @@ module _ (p : ℕ → Bool) where
 abbrev Stays : (List ℕ → Option FileUnit) → List ℕ → List ℕ → Type 0
 Stays unit_of bytes more = (u : FileUnit) → unit_of bytes ≡ Some u → unit_of (bytes ++ more) ≡ Some u
 
-by_split : (s t : Split) (more : List ℕ) (u : FileUnit) → ((behind : List ℕ) → s.1 ≡ Some behind → t ≡ (s.0, Some (behind ++ more))) → line_unit s ≡ Some u → line_unit t ≡ Some u
+by_split : (s t : Split) (more : List ℕ) (u : FileUnit) → ((behind : List ℕ) → s.1 ≡ Some behind → t ≡ (s.0, Some (behind ++ more))) →
+    line_unit s ≡ Some u → line_unit t ≡ Some u
 by_split (line, None) t more u on e = absurd (some_is_not_none u (sym e))
 by_split (line, Some behind) t more u on e = ap line_unit (on behind refl) ∙ e
 
 line_stays : (bytes more : List ℕ) → Stays (λ x. line_unit (split_first is_line_end x)) bytes more
-line_stays bytes more u = by_split (split_first is_line_end bytes) (split_first is_line_end (bytes ++ more)) more u (split_more is_line_end bytes more)
+line_stays bytes more u = by_split (split_first is_line_end bytes) (split_first is_line_end (bytes ++ more)) more u
+    (split_more is_line_end bytes more)
 
 header_stays : (bytes more : List ℕ) → Stays header_unit bytes more
 header_stays bytes more u =
-    elim (nat_lt (length bytes) 7) as (λ t. nat_lt (length bytes) 7 ≡ t → cond t None (Some (unit 7 (cond (is_header (take 7 bytes)) (passes (InSegment new_segment)) (Err BadHeader)))) ≡ Some u → header_unit (bytes ++ more) ≡ Some u) [
+    elim (nat_lt (length bytes) 7) as (λ t. nat_lt (length bytes) 7 ≡ t →
+    cond t None (Some (unit 7 (cond (is_header (take 7 bytes)) (passes (InSegment new_segment)) (Err BadHeader)))) ≡ Some u →
+    header_unit (bytes ++ more) ≡ Some u) [
       | true ↦ λ is e. absurd (some_is_not_none u (sym e))
       | false ↦ λ is e. (
           let long : 7 ≤ length bytes = ltb-false (length bytes) 7 is in
-          let longer : nat_lt (length (bytes ++ more)) 7 ≡ false = (let n : 7 ≤ length (bytes ++ more) = omega (arith, long, length-append bytes more) in grind (arith, nat_tests)) in
+          let longer : nat_lt (length (bytes ++ more)) 7 ≡ false =
+          (let n : 7 ≤ length (bytes ++ more) = omega (arith, long, length-append bytes more) in grind (arith, nat_tests)) in
           let same : take 7 (bytes ++ more) ≡ take 7 bytes = take-append-le 7 bytes more long in
           rw (longer, same) e)
     ] refl
@@ -75,19 +87,23 @@ word_more more (Ok x) =
     ]
 
 -- a number that is ended, or has too many bytes, is read alike whatever follows
-behind_first : (b : ℕ) (bytes : List ℕ) (room : ℕ) → nat_lt b 128 ≡ false → (suc room < length (b ∷ bytes)) ⊎ (list_any is_last (b ∷ bytes) ≡ true) → (room < length bytes) ⊎ (list_any is_last bytes ≡ true)
+behind_first : (b : ℕ) (bytes : List ℕ) (room : ℕ) → nat_lt b 128 ≡ false →
+    (suc room < length (b ∷ bytes)) ⊎ (list_any is_last (b ∷ bytes) ≡ true) → (room < length bytes) ⊎ (list_any is_last bytes ≡ true)
 behind_first b bytes room is (inl h) = inl (omega (arith, h))
 behind_first b bytes room is (inr h) = inr (ap (λ t. t || list_any is_last bytes) (sym is) ∙ h)
 
-groups_stay : (room : ℕ) (bytes more : List ℕ) → (room < length bytes) ⊎ (list_any is_last bytes ≡ true) → groups_at room (bytes ++ more) ≡ and_more more (groups_at room bytes)
+groups_stay : (room : ℕ) (bytes more : List ℕ) → (room < length bytes) ⊎ (list_any is_last bytes ≡ true) →
+    groups_at room (bytes ++ more) ≡ and_more more (groups_at room bytes)
 unfolding groups_at
 groups_stay zero bytes more h = refl
 groups_stay (suc room) [] more (inl h) = absurd (omega (arith, h))
 groups_stay (suc room) [] more (inr h) = absurd (false≢true h)
 groups_stay (suc room) (b ∷ bytes) more h =
-    elim (nat_lt b 128) as (λ t. nat_lt b 128 ≡ t → cond t (Ok (b, bytes ++ more)) (with_low (b - 128) (groups_at room (bytes ++ more))) ≡ and_more more (cond t (Ok (b, bytes)) (with_low (b - 128) (groups_at room bytes)))) [
+    elim (nat_lt b 128) as (λ t. nat_lt b 128 ≡ t → cond t (Ok (b, bytes ++ more)) (with_low (b - 128) (groups_at room (bytes ++ more)))
+    ≡ and_more more (cond t (Ok (b, bytes)) (with_low (b - 128) (groups_at room bytes)))) [
       | true ↦ λ is. refl
-      | false ↦ λ is. ap (with_low (b - 128)) (groups_stay room bytes more (behind_first b bytes room is h)) ∙ low_more (b - 128) more (groups_at room bytes)
+      | false ↦ λ is. ap (with_low (b - 128)) (groups_stay room bytes more (behind_first b bytes room is h))
+          ∙ low_more (b - 128) more (groups_at room bytes)
     ] refl
 
 or_true : (x : Bool) → x || true ≡ true
@@ -96,7 +112,8 @@ or_true false = refl
 
 ended_how : (bytes : List ℕ) → is_ended bytes ≡ true → (10 < length bytes) ⊎ (list_any is_last bytes ≡ true)
 ended_how bytes =
-    elim (nat_lt 10 (length bytes)) as (λ t. nat_lt 10 (length bytes) ≡ t → t || list_any is_last bytes ≡ true → (10 < length bytes) ⊎ (list_any is_last bytes ≡ true)) [
+    elim (nat_lt 10 (length bytes)) as (λ t. nat_lt 10 (length bytes) ≡ t → t || list_any is_last bytes ≡ true →
+    (10 < length bytes) ⊎ (list_any is_last bytes ≡ true)) [
       | true ↦ λ is e. inl (ltb-true 10 (length bytes) is)
       | false ↦ λ is e. inr e
     ] refl
@@ -116,7 +133,8 @@ number_stays bytes more ended =
 
 ends_more : (bytes more : List ℕ) → is_ended bytes ≡ true → is_ended (bytes ++ more) ≡ true
 ends_more bytes more ended = ⊎_elim
-    (λ long. (let longer : nat_lt 10 (length (bytes ++ more)) ≡ true = lt-ltb 10 _ (omega (arith, long, length-append bytes more)) in rw longer refl))
+    (λ long. (let longer : nat_lt 10 (length (bytes ++ more)) ≡ true = lt-ltb 10 _ (omega (arith, long, length-append bytes more)) in
+    rw longer refl))
     (λ some. ap (λ t. nat_lt 10 (length (bytes ++ more)) || t) (any_more bytes more some) ∙ or_true (nat_lt 10 (length (bytes ++ more))))
     (ended_how bytes ended)
 
@@ -127,21 +145,28 @@ length_stays : (bytes more : List ℕ) → is_ended bytes ≡ true → length_at
 length_stays bytes more ended = rw (ends_more bytes more ended, number_stays bytes more ended) refl
 
 -- the bytes of a data set
-sized_more : (s : Segment) (b : ℕ) (bytes more : List ℕ) (u : FileUnit) (x : Number) → length_at bytes ≡ Some x → sized_unit s b bytes (Some x) ≡ Some u → sized_unit s b (bytes ++ more) (Some (and_more more x)) ≡ Some u
+sized_more : (s : Segment) (b : ℕ) (bytes more : List ℕ) (u : FileUnit) (x : Number) → length_at bytes ≡ Some x →
+    sized_unit s b bytes (Some x) ≡ Some u → sized_unit s b (bytes ++ more) (Some (and_more more x)) ≡ Some u
 sized_more s b bytes more u (Err reason) at e = e
 sized_more s b bytes more u (Ok (size, behind)) at f =
     let found = length_found b bytes size behind at in
-    elim (nat_le size (length behind)) as (λ t. nat_le size (length behind) ≡ t → cond t (Some (unit (1 + (length bytes - length behind) + size) (content_found s (kind_of_type b) (take size behind)))) None ≡ Some u → sized_unit s b (bytes ++ more) (Some (Ok (size, behind ++ more))) ≡ Some u) [
+    elim (nat_le size (length behind)) as (λ t. nat_le size (length behind) ≡ t →
+    cond t (Some (unit (1 + (length bytes - length behind) + size) (content_found s (kind_of_type b) (take size behind)))) None
+    ≡ Some u → sized_unit s b (bytes ++ more) (Some (Ok (size, behind ++ more))) ≡ Some u) [
       | true ↦ λ is e. (
           let within : size ≤ length behind = leb-true size (length behind) is in
-          let fits : nat_le size (length (behind ++ more)) ≡ true = (let n : size ≤ length (behind ++ more) = omega (arith, within, length-append behind more) in grind (arith, nat_tests)) in
+          let fits : nat_le size (length (behind ++ more)) ≡ true =
+          (let n : size ≤ length (behind ++ more) = omega (arith, within, length-append behind more) in grind (arith, nat_tests)) in
           let same : take size (behind ++ more) ≡ take size behind = take-append-le size behind more within in
-          let far : length (bytes ++ more) - length (behind ++ more) ≡ length bytes - length behind = omega (arith, length-append bytes more, length-append behind more) in
+          let far : length (bytes ++ more) - length (behind ++ more) ≡ length bytes - length behind =
+          omega (arith, length-append bytes more, length-append behind more) in
           rw (fits, same, far) e)
       | false ↦ λ is e. absurd (some_is_not_none u (sym e))
     ] refl f
 
-set_by : (s : Segment) (b : ℕ) (bytes more : List ℕ) (u : FileUnit) (ended : Bool) → is_ended bytes ≡ ended → sized_unit s b bytes (cond ended (Some (number_at bytes)) None) ≡ Some u → sized_unit s b (bytes ++ more) (length_at (bytes ++ more)) ≡ Some u
+set_by : (s : Segment) (b : ℕ) (bytes more : List ℕ) (u : FileUnit) (ended : Bool) → is_ended bytes ≡ ended →
+    sized_unit s b bytes (cond ended (Some (number_at bytes)) None) ≡ Some u →
+    sized_unit s b (bytes ++ more) (length_at (bytes ++ more)) ≡ Some u
 set_by s b bytes more u true ended e = rw (length_stays bytes more ended) (sized_more s b bytes more u (number_at bytes) (rw ended refl) e)
 set_by s b bytes more u false ended e = absurd (some_is_not_none u (sym e))
 
@@ -149,16 +174,24 @@ segment_stays : (s : Segment) (bytes more : List ℕ) → Stays (segment_unit s)
 segment_stays s [] more u e = absurd (some_is_not_none u (sym e))
 segment_stays s (b ∷ bytes) more u e =
     let set = set_by s b bytes more u (is_ended bytes) refl in
-    elim (b == end_byte) as (λ t. cond t (Some (unit 1 (passes BehindEnd))) (cond (b == reset_byte) (Some (unit 1 (passes (InSegment new_segment)))) (cond (is_lone b) (Some (unit 1 (passes (InSegment s)))) (sized_unit s b bytes (length_at bytes)))) ≡ Some u
-    → cond t (Some (unit 1 (passes BehindEnd))) (cond (b == reset_byte) (Some (unit 1 (passes (InSegment new_segment)))) (cond (is_lone b) (Some (unit 1 (passes (InSegment s)))) (sized_unit s b (bytes ++ more) (length_at (bytes ++ more))))) ≡ Some u) [
+    elim (b == end_byte) as (λ t. cond t (Some (unit 1 (passes BehindEnd)))
+    (cond (b == reset_byte) (Some (unit 1 (passes (InSegment new_segment))))
+    (cond (is_lone b) (Some (unit 1 (passes (InSegment s)))) (sized_unit s b bytes (length_at bytes)))) ≡ Some u
+    → cond t (Some (unit 1 (passes BehindEnd))) (cond (b == reset_byte) (Some (unit 1 (passes (InSegment new_segment))))
+    (cond (is_lone b) (Some (unit 1 (passes (InSegment s)))) (sized_unit s b (bytes ++ more) (length_at (bytes ++ more))))) ≡ Some u) [
       | true ↦ λ f. f
-      | false ↦ elim (b == reset_byte) as (λ t. cond t (Some (unit 1 (passes (InSegment new_segment)))) (cond (is_lone b) (Some (unit 1 (passes (InSegment s)))) (sized_unit s b bytes (length_at bytes))) ≡ Some u
-          → cond t (Some (unit 1 (passes (InSegment new_segment)))) (cond (is_lone b) (Some (unit 1 (passes (InSegment s)))) (sized_unit s b (bytes ++ more) (length_at (bytes ++ more)))) ≡ Some u) [
+      | false ↦ elim (b == reset_byte) as (λ t. cond t (Some (unit 1 (passes (InSegment new_segment))))
+          (cond (is_lone b) (Some (unit 1 (passes (InSegment s)))) (sized_unit s b bytes (length_at bytes))) ≡ Some u
+          → cond t (Some (unit 1 (passes (InSegment new_segment))))
+          (cond (is_lone b) (Some (unit 1 (passes (InSegment s)))) (sized_unit s b (bytes ++ more) (length_at (bytes ++ more))))
+          ≡ Some u) [
             | true ↦ λ f. f
-            | false ↦ elim (is_lone b) as (λ t. cond t (Some (unit 1 (passes (InSegment s)))) (sized_unit s b bytes (length_at bytes)) ≡ Some u → cond t (Some (unit 1 (passes (InSegment s)))) (sized_unit s b (bytes ++ more) (length_at (bytes ++ more))) ≡ Some u) [
-              | true ↦ λ f. f
-              | false ↦ set
-            ]
+            | false ↦ elim (is_lone b) as (λ t. cond t (Some (unit 1 (passes (InSegment s)))) (sized_unit s b bytes (length_at bytes))
+                ≡ Some u → cond t (Some (unit 1 (passes (InSegment s)))) (sized_unit s b (bytes ++ more) (length_at (bytes ++ more)))
+                ≡ Some u) [
+                  | true ↦ λ f. f
+                  | false ↦ set
+                ]
           ]
     ] e
 

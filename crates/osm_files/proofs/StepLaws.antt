@@ -1,5 +1,6 @@
 -- Units one at a time: the unit at the front, and those behind it.
-use Rattle.std.proofs.Common.{◌≡◌, ℕ, zero, suc, ◌+◌, ◌-◌, ◌≤◌, ◌==◌, true, false, cond, List, [], ◌∷◌, length, drop, take, refl, sym, ap, ◌∙◌, subst, arith, Option, Some, None, Result, Ok, Err, length-drop, length-append, nat_lt, nat_le}
+use Rattle.std.proofs.Common.{◌≡◌, ℕ, zero, suc, ◌+◌, ◌-◌, ◌≤◌, ◌==◌, true, false, cond, List, [], ◌∷◌, length, drop, take, refl, sym, ap}
+use Rattle.std.proofs.Common.{◌∙◌, subst, arith, Option, Some, None, Result, Ok, Err, length-drop, length-append, nat_lt, nat_le}
 use Rattle.std.proofs.lemmas.Bool.{ltb-false, leb-true}
 use Rattle.opl_line.specs.Cut.{is_line_end, split_first}
 use Rattle.opl_line.specs.Reading.{reading_line}
@@ -9,7 +10,9 @@ use Rattle.o5_codec.specs.Decoder.{new_segment}
 use Rattle.osm_files.specs.declared.reason.Reason.TheVariants.{BadHeader}
 use Rattle.osm_files.specs.Stream.{Verdict, Placed, Still}
 use Rattle.osm_files.specs.O5.{end_byte, reset_byte, is_lone, kind_of_type}
-use Rattle.osm_files.specs.Units.{Stand, InOpl, BeforeHeader, InSegment, BehindEnd, Found, FileUnit, unit, passes, line_unit, line_found, header_unit, is_header, content_found, length_at, sized_unit, segment_unit, behind_unit, unit_at, last_at, found_then, closed, unit_then, units_within, units}
+use Rattle.osm_files.specs.Units.{Stand, InOpl, BeforeHeader, InSegment, BehindEnd, Found, FileUnit, unit, passes, line_unit, line_found}
+use Rattle.osm_files.specs.Units.{header_unit, is_header, content_found, length_at, sized_unit, segment_unit, behind_unit, unit_at, last_at}
+use Rattle.osm_files.specs.Units.{found_then, closed, unit_then, units_within, units}
 use Rattle.osm_files.proofs.UnitLaws.{splits, SplitsAs, some_is_not_none}
 use Rattle.osm_files.proofs.PartLaws.{length_found}
 
@@ -32,21 +35,26 @@ some_sized bytes size found some within = λ u e.
 line_sized : (bytes : List ℕ) (s : List ℕ × Option (List ℕ)) → SplitsAs bytes s → Sizes bytes (line_unit s)
 line_sized bytes (line, None) h = none_sized bytes
 line_sized bytes (line, Some behind) h =
-    some_sized bytes (length line + 1) (line_found (reading_line line)) (omega arith) (omega (arith, ap length h.1, length-append line (h.0 ∷ behind)))
+    some_sized bytes (length line + 1) (line_found (reading_line line)) (omega arith)
+    (omega (arith, ap length h.1, length-append line (h.0 ∷ behind)))
 
 header_sized : (bytes : List ℕ) → Sizes bytes (header_unit bytes)
 header_sized bytes =
-    elim (nat_lt (length bytes) 7) as (λ t. nat_lt (length bytes) 7 ≡ t → Sizes bytes (cond t None (Some (unit 7 (cond (is_header (take 7 bytes)) (passes (InSegment new_segment)) (Err BadHeader)))))) [
+    elim (nat_lt (length bytes) 7) as (λ t. nat_lt (length bytes) 7 ≡ t →
+    Sizes bytes (cond t None (Some (unit 7 (cond (is_header (take 7 bytes)) (passes (InSegment new_segment)) (Err BadHeader)))))) [
       | true ↦ λ is. none_sized bytes
       | false ↦ λ is. some_sized bytes 7 _ (omega arith) (ltb-false (length bytes) 7 is)
     ] refl
 
-set_sized : (s : Segment) (b : ℕ) (bytes : List ℕ) (x : Option (Result (ℕ × List ℕ) O5Reason)) → length_at bytes ≡ x → Sizes (b ∷ bytes) (sized_unit s b bytes x)
+set_sized : (s : Segment) (b : ℕ) (bytes : List ℕ) (x : Option (Result (ℕ × List ℕ) O5Reason)) → length_at bytes ≡ x →
+    Sizes (b ∷ bytes) (sized_unit s b bytes x)
 set_sized s b bytes None e = none_sized (b ∷ bytes)
 set_sized s b bytes (Some (Err reason)) e = some_sized (b ∷ bytes) 1 _ (omega arith) (omega arith)
 set_sized s b bytes (Some (Ok (size, behind))) e =
     let found = length_found b bytes size behind e in
-    elim (nat_le size (length behind)) as (λ t. nat_le size (length behind) ≡ t → Sizes (b ∷ bytes) (cond t (Some (unit (1 + (length bytes - length behind) + size) (content_found s (kind_of_type b) (take size behind)))) None)) [
+    elim (nat_le size (length behind)) as (λ t. nat_le size (length behind) ≡ t →
+    Sizes (b ∷ bytes) (cond t (Some (unit (1 + (length bytes - length behind) + size)
+    (content_found s (kind_of_type b) (take size behind)))) None)) [
       | true ↦ λ is. some_sized (b ∷ bytes) (1 + (length bytes - length behind) + size) _ (omega arith)
           (let fits = leb-true size (length behind) is in omega (arith, fits, ap length found.split, length-append found.size behind))
       | false ↦ λ is. none_sized (b ∷ bytes)
@@ -55,15 +63,20 @@ set_sized s b bytes (Some (Ok (size, behind))) e =
 segment_sized : (s : Segment) (bytes : List ℕ) → Sizes bytes (segment_unit s bytes)
 segment_sized s [] = none_sized []
 segment_sized s (b ∷ bytes) =
-    elim (b == end_byte) as (λ t. Sizes (b ∷ bytes) (cond t (Some (unit 1 (passes BehindEnd))) (cond (b == reset_byte) (Some (unit 1 (passes (InSegment new_segment)))) (cond (is_lone b) (Some (unit 1 (passes (InSegment s)))) (sized_unit s b bytes (length_at bytes)))))) [
+    elim (b == end_byte) as (λ t. Sizes (b ∷ bytes) (cond t (Some (unit 1 (passes BehindEnd)))
+    (cond (b == reset_byte) (Some (unit 1 (passes (InSegment new_segment))))
+    (cond (is_lone b) (Some (unit 1 (passes (InSegment s)))) (sized_unit s b bytes (length_at bytes)))))) [
       | true ↦ some_sized (b ∷ bytes) 1 _ (omega arith) (omega arith)
-      | false ↦ elim (b == reset_byte) as (λ t. Sizes (b ∷ bytes) (cond t (Some (unit 1 (passes (InSegment new_segment)))) (cond (is_lone b) (Some (unit 1 (passes (InSegment s)))) (sized_unit s b bytes (length_at bytes))))) [
-        | true ↦ some_sized (b ∷ bytes) 1 _ (omega arith) (omega arith)
-        | false ↦ elim (is_lone b) as (λ t. Sizes (b ∷ bytes) (cond t (Some (unit 1 (passes (InSegment s)))) (sized_unit s b bytes (length_at bytes)))) [
-          | true ↦ some_sized (b ∷ bytes) 1 _ (omega arith) (omega arith)
-          | false ↦ set_sized s b bytes (length_at bytes) refl
-        ]
-      ]
+      | false ↦ elim (b == reset_byte) as (λ t. Sizes (b ∷ bytes)
+          (cond t (Some (unit 1 (passes (InSegment new_segment))))
+          (cond (is_lone b) (Some (unit 1 (passes (InSegment s)))) (sized_unit s b bytes (length_at bytes))))) [
+            | true ↦ some_sized (b ∷ bytes) 1 _ (omega arith) (omega arith)
+            | false ↦ elim (is_lone b) as (λ t. Sizes (b ∷ bytes)
+                (cond t (Some (unit 1 (passes (InSegment s)))) (sized_unit s b bytes (length_at bytes)))) [
+                  | true ↦ some_sized (b ∷ bytes) 1 _ (omega arith) (omega arith)
+                  | false ↦ set_sized s b bytes (length_at bytes) refl
+                ]
+          ]
     ]
 
 behind_sized : (bytes : List ℕ) → Sizes bytes (behind_unit bytes)
@@ -77,17 +90,21 @@ unit_sized BeforeHeader bytes = header_sized bytes
 unit_sized (InSegment s) bytes = segment_sized s bytes
 unit_sized BehindEnd bytes = behind_sized bytes
 
-pub found_same : (place : ℕ) (found : Found) (more others : Stand → Still Placed Verdict) → ((next : Stand) → more next ≡ others next) → found_then place found more ≡ found_then place found others
+pub found_same : (place : ℕ) (found : Found) (more others : Stand → Still Placed Verdict) → ((next : Stand) → more next ≡ others next) →
+    found_then place found more ≡ found_then place found others
 found_same place (Err reason) more others same = refl
 found_same place (Ok (None, next)) more others same = same next
-found_same place (Ok (Some v, next)) more others same = ap (λ s. record { list = record { place = place; version = v } ∷ s.list; refusal = s.refusal }) (same next)
+found_same place (Ok (Some v, next)) more others same =
+    ap (λ s. record { list = record { place = place; version = v } ∷ s.list; refusal = s.refusal }) (same next)
 
 module _ (close : Option Verdict) where
   abbrev Same : ℕ → ℕ → Type 0
-  Same n m = (stand : Stand) (place : ℕ) (bytes : List ℕ) → length bytes ≤ n → length bytes ≤ m → units_within n close stand place bytes ≡ units_within m close stand place bytes
+  Same n m = (stand : Stand) (place : ℕ) (bytes : List ℕ) → length bytes ≤ n → length bytes ≤ m →
+      units_within n close stand place bytes ≡ units_within m close stand place bytes
 
   -- so many units are enough
-  then_same : (n m : ℕ) → Same n m → (stand : Stand) (place : ℕ) (bytes : List ℕ) → length bytes ≤ suc n → length bytes ≤ suc m → (found : Option FileUnit) → unit_at stand bytes ≡ found
+  then_same : (n m : ℕ) → Same n m → (stand : Stand) (place : ℕ) (bytes : List ℕ) → length bytes ≤ suc n → length bytes ≤ suc m →
+      (found : Option FileUnit) → unit_at stand bytes ≡ found
       → unit_then close stand place bytes (units_within n close) found ≡ unit_then close stand place bytes (units_within m close) found
   then_same n m on stand place bytes few less None e = refl
   then_same n m on stand place bytes few less (Some u) e =
@@ -96,7 +113,8 @@ module _ (close : Option Verdict) where
       let shorter : length (drop u.size bytes) ≤ m = omega (arith, length-drop u.size bytes, sized.some, sized.within, less) in
       found_same place u.found _ _ (λ next. on next (place + u.size) (drop u.size bytes) short shorter)
 
-  nothing_there : (stand : Stand) (place : ℕ) (m : ℕ) (found : Option FileUnit) → unit_at stand [] ≡ found → unit_then close stand place [] (units_within m close) found ≡ closed close place (last_at stand [])
+  nothing_there : (stand : Stand) (place : ℕ) (m : ℕ) (found : Option FileUnit) → unit_at stand [] ≡ found →
+      unit_then close stand place [] (units_within m close) found ≡ closed close place (last_at stand [])
   nothing_there stand place m None e = refl
   nothing_there stand place m (Some u) e = let sized = unit_sized stand [] u e in absurd (omega (arith, sized.some, sized.within))
 
@@ -106,20 +124,24 @@ module _ (close : Option Verdict) where
   within_same zero (suc m) stand place (b ∷ bytes) few less = absurd (omega (arith, few))
   within_same (suc n) zero stand place [] few less = nothing_there stand place n (unit_at stand []) refl
   within_same (suc n) zero stand place (b ∷ bytes) few less = absurd (omega (arith, less))
-  within_same (suc n) (suc m) stand place bytes few less = then_same n m (within_same n m) stand place bytes few less (unit_at stand bytes) refl
+  within_same (suc n) (suc m) stand place bytes few less =
+      then_same n m (within_same n m) stand place bytes few less (unit_at stand bytes) refl
 
   -- the unit at the front, and those behind it
-  pub units_step : (stand : Stand) (place : ℕ) (bytes : List ℕ) (u : FileUnit) → unit_at stand bytes ≡ Some u → units close stand place bytes ≡ found_then place u.found (λ next. units close next (place + u.size) (drop u.size bytes))
+  pub units_step : (stand : Stand) (place : ℕ) (bytes : List ℕ) (u : FileUnit) → unit_at stand bytes ≡ Some u →
+      units close stand place bytes ≡ found_then place u.found (λ next. units close next (place + u.size) (drop u.size bytes))
   unfolding units
   units_step stand place bytes u e =
       let sized = unit_sized stand bytes u e in
       let n : ℕ = length bytes in
       within_same n (suc n) stand place bytes (omega arith) (omega arith)
       ∙ ap (unit_then close stand place bytes (units_within n close)) e
-      ∙ found_same place u.found _ _ (λ next. within_same n (length (drop u.size bytes)) next (place + u.size) (drop u.size bytes) (omega (arith, length-drop u.size bytes)) (omega arith))
+      ∙ found_same place u.found _ _ (λ next. within_same n (length (drop u.size bytes)) next (place + u.size) (drop u.size bytes)
+      (omega (arith, length-drop u.size bytes)) (omega arith))
 
   -- where no unit stands whole
-  pub units_stop : (stand : Stand) (place : ℕ) (bytes : List ℕ) → unit_at stand bytes ≡ None → units close stand place bytes ≡ closed close place (last_at stand bytes)
+  pub units_stop : (stand : Stand) (place : ℕ) (bytes : List ℕ) → unit_at stand bytes ≡ None →
+      units close stand place bytes ≡ closed close place (last_at stand bytes)
   unfolding units
   units_stop stand place bytes e =
       let n : ℕ = length bytes in

@@ -1,5 +1,6 @@
 -- What units read as, and the units of lines.
-use Rattle.std.proofs.Common.{◌≡◌, ℕ, zero, suc, ◌+◌, ◌≤◌, Bool, true, false, not, cond, List, [], ◌∷◌, ◌++◌, length, drop, filter, refl, sym, ap, ◌∙◌, subst, arith, Option, Some, None, Result, Ok, Err, length-append}
+use Rattle.std.proofs.Common.{◌≡◌, ℕ, zero, suc, ◌+◌, ◌≤◌, Bool, true, false, not, cond, List, [], ◌∷◌, ◌++◌, length, drop, filter, refl}
+use Rattle.std.proofs.Common.{sym, ap, ◌∙◌, subst, arith, Option, Some, None, Result, Ok, Err, length-append}
 use Rattle.osm_model.specs.Data.{VersionData}
 use Rattle.osm_model.specs.Pairwise.{Pairwise}
 use Rattle.opl_line.specs.Cut.{cut, is_line_end, lengthened, pieces_of, split_first}
@@ -25,7 +26,8 @@ abbrev pub LineFile : List (List ℕ) → List VersionData → Type 0
 LineFile pieces = Pairwise Spells (filter is_read pieces)
 
 -- a line that isn't skipped, and others
-spelled_line : (line : List ℕ) (pieces : List (List ℕ)) (versions : List VersionData) → is_skipped line ≡ false → LineFile (line ∷ pieces) versions
+spelled_line : (line : List ℕ) (pieces : List (List ℕ)) (versions : List VersionData) → is_skipped line ≡ false →
+    LineFile (line ∷ pieces) versions
     → (v : VersionData) × (others : List VersionData) × (versions ≡ v ∷ others) × Spells line v × LineFile pieces others
 spelled_line line pieces [] kept h =
     let P : Bool → Type 0 = λ b. Pairwise Spells (cond (not b) (line ∷ filter is_read pieces) (filter is_read pieces)) [] in
@@ -35,20 +37,24 @@ spelled_line line pieces (v ∷ others) kept h =
     let k = subst P kept h in
     (v, others, refl, k.0, k.1)
 
-kept_by : (skipped : Bool) (other : Result (Option VersionData) OplReason) (reason : OplReason) → cond skipped (Ok None) other ≡ Err reason → skipped ≡ false
+kept_by : (skipped : Bool) (other : Result (Option VersionData) OplReason) (reason : OplReason) →
+    cond skipped (Ok None) other ≡ Err reason → skipped ≡ false
 kept_by true other reason e = absurd (let f : Ok None ≡ Err reason = e in cc)
 kept_by false other reason e = refl
 
-kept_some : (skipped : Bool) (other : Result (Option VersionData) OplReason) (v : VersionData) → cond skipped (Ok None) other ≡ Ok (Some v) → skipped ≡ false
+kept_some : (skipped : Bool) (other : Result (Option VersionData) OplReason) (v : VersionData) →
+    cond skipped (Ok None) other ≡ Ok (Some v) → skipped ≡ false
 kept_some true other v e = absurd (let f : None ≡ Some v = cc in cc)
 kept_some false other v e = refl
 
-refused_line : (line : List ℕ) (pieces : List (List ℕ)) (reason : OplReason) (versions : List VersionData) → reading_line line ≡ Err reason → LineFile (line ∷ pieces) versions → ⊥
+refused_line : (line : List ℕ) (pieces : List (List ℕ)) (reason : OplReason) (versions : List VersionData) →
+    reading_line line ≡ Err reason → LineFile (line ∷ pieces) versions → ⊥
 refused_line line pieces reason versions e all =
     let k = spelled_line line pieces versions (kept_by (is_skipped line) _ reason e) all in
     refused_spells_nothing line reason k.0 e k.3
 
-pub line_then : (line : List ℕ) (pieces : List (List ℕ)) (place : ℕ) (more : Stand → Still Placed Verdict) → ReadsAs (more InOpl) (LineFile pieces) → (answer : Result (Option VersionData) OplReason) → reading_line line ≡ answer
+pub line_then : (line : List ℕ) (pieces : List (List ℕ)) (place : ℕ) (more : Stand → Still Placed Verdict) →
+    ReadsAs (more InOpl) (LineFile pieces) → (answer : Result (Option VersionData) OplReason) → reading_line line ≡ answer
     → ReadsAs (found_then place (line_found answer) more) (LineFile (line ∷ pieces))
 line_then line pieces place more h (Ok None) e =
     let skipped : is_skipped line ≡ true = answer_spelled line (Ok None) e in
@@ -93,7 +99,8 @@ splits p (b ∷ bytes) =
 -- behind a piece and its end
 pub drop_behind : (front : List ℕ) (b : ℕ) (behind : List ℕ) → drop (length front + 1) (front ++ b ∷ behind) ≡ behind
 drop_behind [] b behind = refl
-drop_behind (a ∷ front) b behind = let e : length (a ∷ front) + 1 ≡ suc (length front + 1) = omega arith in rw e (drop_behind front b behind)
+drop_behind (a ∷ front) b behind = let e : length (a ∷ front) + 1 ≡ suc (length front + 1) = omega arith in
+    rw e (drop_behind front b behind)
 
 abbrev pub Reads : ℕ → Type 0
 Reads n = (bytes : List ℕ) (place : ℕ) → length bytes ≤ n → ReadsAs (units_within n None InOpl place bytes) (OplFile bytes)
@@ -118,11 +125,13 @@ last_line : (place : ℕ) (bytes : List ℕ) → ReadsAs (closed None place (las
 last_line place bytes = rw (last_in_opl bytes) (line_then bytes [] place (λ next. whole) nothing_more (reading_line bytes) refl)
 
 -- the first line, and what is behind its end
-first_line : (n : ℕ) → Reads n → (bytes : List ℕ) (place : ℕ) → length bytes ≤ suc n → (s : List ℕ × Option (List ℕ)) → SplitsAs bytes s → cut is_line_end bytes ≡ s.0 ∷ pieces_of is_line_end s.1
+first_line : (n : ℕ) → Reads n → (bytes : List ℕ) (place : ℕ) → length bytes ≤ suc n → (s : List ℕ × Option (List ℕ)) → SplitsAs bytes s →
+    cut is_line_end bytes ≡ s.0 ∷ pieces_of is_line_end s.1
     → ReadsAs (unit_then None InOpl place bytes (units_within n None) (line_unit s)) (OplFile bytes)
 first_line n on bytes place fits (line, None) split pieces =
     let P : List (List ℕ) → Type 0 = λ ls. ReadsAs (closed None place (last_at InOpl bytes)) (LineFile ls) in
-    subst P (sym pieces ∙ refl) (subst (λ (l : List ℕ). ReadsAs (closed None place (last_at InOpl bytes)) (LineFile (l ∷ []))) (sym split) (last_line place bytes))
+    subst P (sym pieces ∙ refl) (subst (λ (l : List ℕ). ReadsAs (closed None place (last_at InOpl bytes)) (LineFile (l ∷ []))) (sym split)
+    (last_line place bytes))
 first_line n on bytes place fits (line, Some behind) split pieces =
     let size : ℕ = length line + 1 in
     let rest : drop size bytes ≡ behind = ap (drop size) split.1 ∙ drop_behind line split.0 behind in
@@ -136,4 +145,5 @@ pub opl_reads : (n : ℕ) → Reads n
 opl_reads zero [] place fits = last_line place []
 opl_reads zero (b ∷ bytes) place fits = absurd (omega (arith, fits))
 opl_reads (suc n) bytes place fits =
-    rw (unit_in_opl bytes) (first_line n (opl_reads n) bytes place fits (split_first is_line_end bytes) (splits is_line_end bytes) (cut_split is_line_end bytes))
+    rw (unit_in_opl bytes) (first_line n (opl_reads n) bytes place fits (split_first is_line_end bytes) (splits is_line_end bytes)
+    (cut_split is_line_end bytes))

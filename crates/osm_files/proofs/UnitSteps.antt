@@ -1,5 +1,6 @@
 -- What the code finds at the front of some bytes is the unit there.
-use Rattle.std.proofs.Common.{◌≡◌, ◌⊎◌, inl, inr, ℕ, ◌+◌, ◌≤◌, true, false, List, [], ◌∷◌, length, take, refl, sym, ap, ◌∙◌, arith, Option, Some, None, Ok, Err, position, length-take, nat_lt, nat_le, ◌-◌, slice_get}
+use Rattle.std.proofs.Common.{◌≡◌, ◌⊎◌, inl, inr, ℕ, ◌+◌, ◌≤◌, true, false, List, [], ◌∷◌, length, take, refl, sym, ap, ◌∙◌, arith, Option}
+use Rattle.std.proofs.Common.{Some, None, Ok, Err, position, length-take, nat_lt, nat_le, ◌-◌, slice_get}
 use Rattle.std.proofs.lemmas.Bool.{false≢true}
 use Rattle.std.proofs.lemmas.Bool.Decides.{nat_tests}
 use Rattle.osm_model.specs.Data.{VersionData}
@@ -16,7 +17,8 @@ use Rattle.o5_codec.specs.Number.{number_at}
 use Rattle.osm_files.specs.Reason.{of_line, of_data_set}
 use Rattle.osm_files.specs.O5.{kind_of_type}
 use Rattle.osm_files.specs.Reading.{Finds, ends_at}
-use Rattle.osm_files.specs.Units.{Stand, BehindEnd, behind_unit, segment_unit, InOpl, is_ended, length_at, sized_unit, content_found, unit, line_unit, line_found, header_unit, is_header, passes}
+use Rattle.osm_files.specs.Units.{Stand, BehindEnd, behind_unit, segment_unit, InOpl, is_ended, length_at, sized_unit, content_found, unit}
+use Rattle.osm_files.specs.Units.{line_unit, line_found, header_unit, is_header, passes}
 
 pub no_line : (bytes : List ℕ) → position is_line_end bytes ≡ None → line_unit (split_first is_line_end bytes) ≡ None
 no_line bytes none = ap line_unit (split_nowhere is_line_end bytes none)
@@ -31,12 +33,18 @@ module _ (bytes : List ℕ) (n : ℕ) (found : position is_line_end bytes ≡ So
       let long : length text ≡ n = omega (arith, length-take n bytes, s.within) in
       ap line_unit s.split ∙ ap (λ k. Some (unit (k + 1) (line_found (reading_line text)))) long
 
-  pub line_read : (read : Option VersionData) → reading_line text ≡ Ok read → line_unit (split_first is_line_end bytes) ≡ Some (unit (n + 1) (Ok (read, InOpl)))
+  pub line_read : (read : Option VersionData) → reading_line text ≡ Ok read →
+      line_unit (split_first is_line_end bytes) ≡ Some (unit (n + 1) (Ok (read, InOpl)))
   line_read read e = line_there ∙ ap (λ r. Some (unit (n + 1) (line_found r))) e
 
-  pub line_refused : (inner : OplReason) (reason : Reason) → reason ≡ of_line inner → (inner ≡ opl.Memory) ⊎ (reading_line text ≡ Err inner) → Finds (line_unit (split_first is_line_end bytes)) (Err reason) InOpl
+  pub line_refused : (inner : OplReason) (reason : Reason) → reason ≡ of_line inner →
+      (inner ≡ opl.Memory) ⊎ (reading_line text ≡ Err inner) → Finds (line_unit (split_first is_line_end bytes)) (Err reason) InOpl
   line_refused inner reason is (inl e) = inl (is ∙ ap of_line e)
-  line_refused inner reason is (inr e) = inr (n + 1, line_there ∙ ap (λ r. Some (unit (n + 1) (line_found r))) e ∙ ap (λ r. Some (unit (n + 1) (Err r))) (sym is))
+  line_refused inner reason is (inr e) = inr (
+    n + 1,
+    line_there ∙ ap (λ r. Some (unit (n + 1) (line_found r))) e
+        ∙ ap (λ r. Some (unit (n + 1) (Err r))) (sym is),
+  )
 
 pub bad_header : (bytes : List ℕ) → 7 ≤ length bytes → is_header (take 7 bytes) ≡ false → header_unit bytes ≡ Some (unit 7 (Err BadHeader))
 bad_header bytes long no_header =
@@ -44,10 +52,12 @@ bad_header bytes long no_header =
     rw (is_long, no_header) refl
 
 module _ (s : Segment) (b : ℕ) (bytes : List ℕ) (next : Stand) (ended : is_ended bytes ≡ true) where
-  pub size_refused : (inner : O5Reason) (reason : Reason) → number_at bytes ≡ Err inner → reason ≡ of_data_set inner → Finds (sized_unit s b bytes (length_at bytes)) (Err reason) next
+  pub size_refused : (inner : O5Reason) (reason : Reason) → number_at bytes ≡ Err inner → reason ≡ of_data_set inner →
+      Finds (sized_unit s b bytes (length_at bytes)) (Err reason) next
   size_refused inner reason e is = inr (1, rw (ended, e, is) refl)
 
-  pub content_refused : (size : ℕ) (behind : List ℕ) (reason : Reason) → number_at bytes ≡ Ok (size, behind) → size ≤ length behind → (reason ≡ Memory) ⊎ (content_found s (kind_of_type b) (take size behind) ≡ Err reason)
+  pub content_refused : (size : ℕ) (behind : List ℕ) (reason : Reason) → number_at bytes ≡ Ok (size, behind) → size ≤ length behind →
+      (reason ≡ Memory) ⊎ (content_found s (kind_of_type b) (take size behind) ≡ Err reason)
       → Finds (sized_unit s b bytes (length_at bytes)) (Err reason) next
   content_refused size behind reason e within (inl is) = inl is
   content_refused size behind reason e within (inr is) =

@@ -1,6 +1,7 @@
 -- The ascending list that the units of a sorted file give, key group by key group: an own rule of this project.
 use Rattle.std.proofs.Common.{subst, sym}
-use Rattle.std.specs.Prelude.{◌≡◌, refl, ◌⊎◌, ℕ, ◌+◌, Bool, length, true, false, List, [], ◌∷◌, ◌++◌, Option, Some, None, option_map, option_to_list, IfSome, Result, Ok, Err, if◌then◌else◌}
+use Rattle.std.specs.Prelude.{◌≡◌, refl, ◌⊎◌, ℕ, ◌+◌, Bool, length, true, false, List, [], ◌∷◌, ◌++◌, Option, Some}
+use Rattle.std.specs.Prelude.{None, option_map, option_to_list, IfSome, Result, Ok, Err, if◌then◌else◌}
 use Rattle.std.specs.Ordering.{is_eq, is_lt}
 use Rattle.std.specs.List.{AllByRecursion}
 use Rattle.std.specs.declared.cmp.Ordering.TheVariants.{Equal}
@@ -14,7 +15,8 @@ use Rattle.osm_files.specs.declared.group.Group.{Group}
 use Rattle.osm_files.specs.declared.reason.Reason.TheVariants.{Unsorted}
 use Rattle.osm_files.specs.Fault.{memory_fault, failed_fault}
 use Rattle.osm_files.specs.Input.{Coming, whole as all_of, preceded_by, Explained}
-use Rattle.osm_files.specs.Position.{Position, telling, Between, to_come, still_to_come, units_from, units_left, named, fault_of, Keeps}
+use Rattle.osm_files.specs.Position.{Position, telling, Between, to_come, still_to_come, units_from, units_left, named}
+use Rattle.osm_files.specs.Position.{fault_of, Keeps}
 use Rattle.osm_files.specs.Source.{Ascends, Step}
 use Rattle.osm_files.specs.Stream.{verdict_at, Placed, Still, whole, refused}
 
@@ -56,14 +58,24 @@ unfoldable pub sorted_source : ℕ → Coming → Still VersionData Fault
 sorted_source input c = let units = named input (units_from None 0 c) in groups input units.refusal units.list []
 
 -- what is made ready, and what the units give behind the group at hand, where they are known
-abbrev pub gathered : ℕ → Option (Still Placed Fault) → List VersionData → List VersionData → Option (Still VersionData Fault)
+abbrev pub gathered : ℕ → Option (Still Placed Fault) → List VersionData → List VersionData →
+    Option (Still VersionData Fault)
 gathered input units group ready = option_map (λ s. versions_then ready (groups input s.refusal s.list group)) units
 
 -- a reading of which nothing was read
 abbrev pub fresh_reading : {R : Type 0} → ℕ → R → Position R
-fresh_reading input reader = record { input = input; place = 0; held = []; coming = reader; stand = None; ended = false; failed = false }
+fresh_reading input reader = record {
+  input = input;
+  place = 0;
+  held = [];
+  coming = reader;
+  stand = None;
+  ended = false;
+  failed = false;
+}
 
--- A source of a sorted file between two calls: where its reading stands, the versions that were read of the next group, and what
+-- A source of a sorted file between two calls: where its reading stands, the versions that were read of the next group,
+-- and what
 -- is left of the group that is given.
 pub record FileStand (R : Type 0) : Type 0 where
   pub units : Position R
@@ -86,9 +98,11 @@ abbrev pub gathered_at : {R : Type 0} → ℕ → FileStand R → Coming → Opt
 gathered_at input s c = gathered input (still_to_come (telling s.units c)) s.group s.ready
 
 -- one call, of what its reader can give: a step from what was to come to what is to come
-abbrev pub FileSteps : {R : Type 0} → (R → Coming → Type 0) → FileStand R → Result (Option VersionData) Fault → FileStand R → Type 0
+abbrev pub FileSteps : {R : Type 0} → (R → Coming → Type 0) → FileStand R → Result (Option VersionData) Fault →
+    FileStand R → Type 0
 FileSteps can s result t =
-    Explained (can s.units.coming) (can t.units.coming) (λ earlier later. Step (gathered_at s.units.input s earlier) result (gathered_at s.units.input t later))
+    Explained (can s.units.coming) (can t.units.coming)
+    (λ earlier later. Step (gathered_at s.units.input s earlier) result (gathered_at s.units.input t later))
 
 -- whatever its reader can give, what it still gives ascends
 abbrev pub FileAscends : {R : Type 0} → (R → Coming → Type 0) → FileStand R → Type 0
@@ -128,10 +142,13 @@ given_at s c = still_given (option_map as_set (gathered_at s.units.input s c))
 abbrev pub FileCanGive : {R : Type 0} → (R → Coming → Type 0) → FileStand R → Still VersionData Fault → Type 0
 FileCanGive can s still = (c : Coming) × can s.units.coming c × (given_at s c ≡ Some still)
 
-known_ascends : (known : Option StillSet) (still : Still VersionData Fault) → still_given known ≡ Some still → Ascends still
-known_ascends known still e = let P : Option (Still VersionData Fault) → Type 0 = λ o. IfSome o Ascends in subst P e (given_ascends known)
+known_ascends : (known : Option StillSet) (still : Still VersionData Fault) → still_given known ≡ Some still →
+    Ascends still
+known_ascends known still e = let P : Option (Still VersionData Fault) → Type 0 = λ o. IfSome o Ascends in
+    subst P e (given_ascends known)
 
-pub file_ascends : {R : Type 0} (can : R → Coming → Type 0) (s : FileStand R) (still : Still VersionData Fault) → FileCanGive can s still → Ascends still
+pub file_ascends : {R : Type 0} (can : R → Coming → Type 0) (s : FileStand R) (still : Still VersionData Fault) →
+    FileCanGive can s still → Ascends still
 file_ascends can s still h = known_ascends (option_map as_set (gathered_at s.units.input s h.0)) still h.2
 
 -- what is to come is known, once it is known what the reader gives
@@ -143,13 +160,16 @@ still_known : {R : Type 0} (p : Position R) (c : Coming) → IsKnown (still_to_c
 still_known p c =
     elim p.failed as (λ t. IsKnown (if t then Some (refused (failed_fault p.input)) else to_come (telling p c))) [
       | true ↦ tt
-      | false ↦ (elim p.ended as (λ t. IsKnown (option_map (λ x. named p.input (units_from p.stand p.place x)) (if t then Some (all_of p.held) else Some (preceded_by p.held c)))) [
-        | true ↦ tt
-        | false ↦ tt
-      ])
+      | false ↦ (elim p.ended as (λ t. IsKnown
+          (option_map (λ x. named p.input (units_from p.stand p.place x))
+          (if t then Some (all_of p.held) else Some (preceded_by p.held c)))) [
+            | true ↦ tt
+            | false ↦ tt
+          ])
     ]
 
-given_known : (input : ℕ) (units : Option (Still Placed Fault)) (group ready : List VersionData) → IsKnown units → IsKnown (still_given (option_map as_set (gathered input units group ready)))
+given_known : (input : ℕ) (units : Option (Still Placed Fault)) (group ready : List VersionData) → IsKnown units →
+    IsKnown (still_given (option_map as_set (gathered input units group ready)))
 given_known input None group ready h = h
 given_known input (Some s) group ready h = tt
 
@@ -162,7 +182,8 @@ known_is None h = absurd h
 known_is (Some still) h = refl
 
 pub one_given : {R : Type 0} (s : FileStand R) (c : Coming) → given_at s c ≡ Some (known_or_whole (given_at s c))
-one_given s c = known_is (given_at s c) (given_known s.units.input (still_to_come (telling s.units c)) s.group s.ready (still_known s.units c))
+one_given s c = known_is (given_at s c) (given_known s.units.input (still_to_come (telling s.units c)) s.group s.ready
+    (still_known s.units c))
 
 -- a set is given whole, its members one by one, ascending
 abbrev pub set_given : VersionSet → Still VersionData Fault
@@ -171,7 +192,8 @@ set_given versions = record { list = listed versions; refusal = None }
 pub set_ascends : (versions : VersionSet) → Ascends (set_given versions)
 set_ascends versions = strict-listed versions
 
-pub given_set_ascends : (versions : VersionSet) (still : Still VersionData Fault) → still ≡ set_given versions → Ascends still
+pub given_set_ascends : (versions : VersionSet) (still : Still VersionData Fault) → still ≡ set_given versions →
+    Ascends still
 given_set_ascends versions still is = subst Ascends (sym is) (set_ascends versions)
 
 -- each version has the key of the first
@@ -182,10 +204,14 @@ IsGroup first others = AllByRecursion (λ v. key_cmp first v ≡ Equal) others
 abbrev pub list_of : Group → List VersionData
 list_of group = group.first ∷ group.others.items
 
--- The rest of a group was read, of which some versions had begun it, and the version behind it, which has a key above, or
+-- The rest of a group was read, of which some versions had begun it, and the version behind it, which has a key above,
+-- or
 -- there is none.
-pub record Gathers (input : ℕ) (before : Option (Still Placed Fault)) (begun : List VersionData) (after : Option (Still Placed Fault)) (first : VersionData) (others : List VersionData) (next : Option VersionData) : Type 0 where
-  pub keeps : Keeps (gathered input before (first ∷ begun) []) (gathered input after (option_to_list next) (ascending (first ∷ others)))
+pub record Gathers (input : ℕ) (before : Option (Still Placed Fault)) (begun : List VersionData)
+    (after : Option (Still Placed Fault)) (first : VersionData) (others : List VersionData)
+    (next : Option VersionData) : Type 0 where
+  pub keeps : Keeps (gathered input before (first ∷ begun) [])
+      (gathered input after (option_to_list next) (ascending (first ∷ others)))
   pub group : IsGroup first others
   pub above : IfSome next (λ v. follows (first ∷ others) v ≡ true)
   pub end : (next ≡ None) → after ≡ Some whole
@@ -193,12 +219,17 @@ pub record Gathers (input : ℕ) (before : Option (Still Placed Fault)) (begun :
 -- a refusal, after which every call is refused
 abbrev pub Refuses : Option (Still VersionData Fault) → Fault → Option (Still Placed Fault) → Type 0
 Refuses before fault after =
-    ((fault ≡ memory_fault) ⊎ IfSome before (λ s. s ≡ refused fault)) × ((input : ℕ) × (after ≡ Some (refused (failed_fault input))))
+    ((fault ≡ memory_fault) ⊎ IfSome before (λ s. s ≡ refused fault))
+    × ((input : ℕ) × (after ≡ Some (refused (failed_fault input))))
 
 -- the version that a group begins with: the one that was pending, or the next one; none at the end; or a refusal
-abbrev pub Begins : ℕ → Option (Still Placed Fault) → List VersionData → Result (Option VersionData) Fault → Option (Still Placed Fault) → Type 0
-Begins input before pending (Ok (Some first)) after = Keeps (gathered input before pending []) (gathered input after (first ∷ []) [])
-Begins input before pending (Ok None) after = Step (gathered input before pending []) (let r : Result (Option VersionData) Fault = Ok None in r) (gathered input after [] [])
+abbrev pub Begins : ℕ → Option (Still Placed Fault) → List VersionData → Result (Option VersionData) Fault →
+    Option (Still Placed Fault) → Type 0
+Begins input before pending (Ok (Some first)) after =
+    Keeps (gathered input before pending []) (gathered input after (first ∷ []) [])
+Begins input before pending (Ok None) after =
+    Step (gathered input before pending []) (let r : Result (Option VersionData) Fault = Ok None in r)
+    (gathered input after [] [])
 Begins input before pending (Err fault) after = Refuses (gathered input before pending []) fault after
 
 -- these relations, of what the reader can give
@@ -207,7 +238,10 @@ module _ {R : Type 0} (can : R → Coming → Type 0) (p : Position R) where
   BeginsOn pending result q = Between can p q (λ a b. Begins p.input (still_to_come a) pending result (still_to_come b))
 
   abbrev pub GathersOn : Group → Position R → Group → Option VersionData → Type 0
-  GathersOn begun q group next = Between can p q (λ a b. Gathers p.input (still_to_come a) begun.others.items (still_to_come b) begun.first group.others.items next)
+  GathersOn begun q group next = Between can p q
+      (λ a b. Gathers p.input (still_to_come a) begun.others.items
+      (still_to_come b) begun.first group.others.items next)
 
   abbrev pub RefusesOn : List VersionData → Fault → Position R → Type 0
-  RefusesOn group fault q = Between can p q (λ a b. Refuses (gathered p.input (still_to_come a) group []) fault (still_to_come b))
+  RefusesOn group fault q = Between can p q (λ a b.
+      Refuses (gathered p.input (still_to_come a) group []) fault (still_to_come b))

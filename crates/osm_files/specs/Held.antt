@@ -20,14 +20,16 @@ IsFileOf BehindEnd = λ bytes versions. ⊥
 abbrev pub IsFile : List ℕ → List VersionData → Type 0
 IsFile bytes versions = IsFileOf (start_of bytes) bytes versions
 
--- The file is accepted and holds this set: it has fewer than 2^62 bytes and spells a list of versions, of which the set has the members.
+-- The file is accepted and holds this set: it has fewer than 2^62 bytes and spells a list of versions, of which the set
+-- has the members.
 pub record Holds (bytes : List ℕ) (held : VersionSet) : Type 0 where
   pub short : length bytes < 2 ^ 62
   pub versions : List VersionData
   pub file : IsFile bytes versions
   pub members : held ≡ from_list {R = version_cmp} versions
 
--- The file is accepted and sorted, and holds this set: besides, none of its versions has a key below that of the one before it.
+-- The file is accepted and sorted, and holds this set: besides, none of its versions has a key below that of the one
+-- before it.
 pub record HoldsSorted (bytes : List ℕ) (held : VersionSet) : Type 0 where
   pub short : length bytes < 2 ^ 62
   pub versions : List VersionData

@@ -1,4 +1,5 @@
--- What an input can still give. That a read of nothing into a buffer that isn't empty means the end of input is the rule
+-- What an input can still give. That a read of nothing into a buffer that isn't empty means the end of input is the
+-- rule
 -- of Rust's `std::io::Read`; the rest is an own rule of this project.
 use Rattle.std.proofs.Common.{sym, refl, append-nil}
 use Rattle.std.specs.Prelude.{◌≡◌, ℕ, Bool, true, false, List, [], ◌++◌, length, Option, Some, None}
@@ -22,7 +23,8 @@ preceded_by front coming = record { bytes = front ++ coming.bytes; broken = comi
 
 -- Whatever can come after a call is explained by something that could come before it: the step holds between the two.
 abbrev pub Explained : {A B : Type 0} → (A → Type 0) → (B → Type 0) → (A → B → Type 0) → Type 0
-Explained {A = A} {B = B} before after step = (later : B) → after later → (earlier : A) × before earlier × step earlier later
+Explained {A = A} {B = B} before after step = (later : B) → after later →
+    (earlier : A) × before earlier × step earlier later
 
 -- an input gave these bytes: whatever it can give now, it could give these bytes before, and then that
 abbrev pub Gave : {R : Type 0} → (R → Coming → Type 0) → R → R → List ℕ → Type 0
@@ -30,9 +32,11 @@ Gave can before after front = Explained (can before) (can after) (λ earlier lat
 
 -- behind these bytes stand so many more that the input gave
 abbrev pub GaveMore : {R : Type 0} → (R → Coming → Type 0) → R → R → List ℕ → List ℕ → ℕ → Type 0
-GaveMore can before after held more count = (front : List ℕ) × Gave can before after front × (more ≡ held ++ front) × (length front ≡ count)
+GaveMore can before after held more count = (front : List ℕ) × Gave can before after front × (more ≡ held ++ front)
+    × (length front ≡ count)
 
--- A reader of std with these bytes left can give them all and end, or give a front of them and fail. Where it isn't known what
+-- A reader of std with these bytes left can give them all and end, or give a front of them and fail. Where it isn't
+-- known what
 -- is left, it can give anything.
 abbrev pub CanGive : Option (List ℕ) → Coming → Type 0
 CanGive None c = Unit {0}

@@ -10,24 +10,30 @@ use Rattle.osm_files.specs.Verdict.{file_units, versions_of, verdict, verdict_so
 
 -- a file spells at most one list of versions
 abbrev pub OneList : Type 0
-OneList = (bytes : List ℕ) (versions others : List VersionData) → IsFile bytes versions → IsFile bytes others → versions ≡ others
+OneList = (bytes : List ℕ) (versions others : List VersionData) → IsFile bytes versions → IsFile bytes others →
+    versions ≡ others
 
 -- bytes that are a file have no verdict, and their units are its versions
 abbrev pub FilesAreRead : Type 0
-FilesAreRead = (bytes : List ℕ) (versions : List VersionData) → length bytes < 2 ^ 62 → IsFile bytes versions → (verdict bytes ≡ None) × (versions_of (file_units bytes).list ≡ versions)
+FilesAreRead = (bytes : List ℕ) (versions : List VersionData) → length bytes < 2 ^ 62 → IsFile bytes versions →
+    (verdict bytes ≡ None) × (versions_of (file_units bytes).list ≡ versions)
 
 -- bytes without a verdict are a file, shorter than 2^62 bytes, that spells its units
 abbrev pub AcceptedWithoutVerdict : Type 0
-AcceptedWithoutVerdict = (bytes : List ℕ) → verdict bytes ≡ None → (length bytes < 2 ^ 62) × IsFile bytes (versions_of (file_units bytes).list)
+AcceptedWithoutVerdict = (bytes : List ℕ) → verdict bytes ≡ None →
+    (length bytes < 2 ^ 62) × IsFile bytes (versions_of (file_units bytes).list)
 
 -- a sorted file has no verdict on its order
 abbrev pub SortedFilesAreRead : Type 0
-SortedFilesAreRead = (bytes : List ℕ) (versions : List VersionData) → length bytes < 2 ^ 62 → IsFile bytes versions → IsSorted key_cmp versions → verdict_sorted bytes ≡ None
+SortedFilesAreRead = (bytes : List ℕ) (versions : List VersionData) → length bytes < 2 ^ 62 → IsFile bytes versions →
+    IsSorted key_cmp versions → verdict_sorted bytes ≡ None
 
 -- bytes without a verdict on their order have none at all, and the versions of their units are sorted
 abbrev pub SortedWithoutVerdict : Type 0
-SortedWithoutVerdict = (bytes : List ℕ) → verdict_sorted bytes ≡ None → (verdict bytes ≡ None) × IsSorted key_cmp (versions_of (file_units bytes).list)
+SortedWithoutVerdict = (bytes : List ℕ) → verdict_sorted bytes ≡ None →
+    (verdict bytes ≡ None) × IsSorted key_cmp (versions_of (file_units bytes).list)
 
 -- a verdict on the order of some bytes that isn't Unsorted is their verdict
 abbrev pub VerdictBesideOrder : Type 0
-VerdictBesideOrder = (bytes : List ℕ) (v : Verdict) → verdict_sorted bytes ≡ Some v → (v.reason ≡ Unsorted → ⊥) → verdict bytes ≡ Some v
+VerdictBesideOrder = (bytes : List ℕ) (v : Verdict) → verdict_sorted bytes ≡ Some v → (v.reason ≡ Unsorted → ⊥) →
+    verdict bytes ≡ Some v

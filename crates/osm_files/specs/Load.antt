@@ -1,5 +1,6 @@
 -- What a whole file is loaded as.
-use Rattle.std.specs.Prelude.{◌≡◌, ◌↔◌, ◌⊎◌, ℕ, ◌==◌, ◌||◌, not, nat_le, Bool, false, IsTrue, List, [], ◌∷◌, length, take, bytes_eq, Some, None, IfSome, if◌then◌else◌}
+use Rattle.std.specs.Prelude.{◌≡◌, ◌↔◌, ◌⊎◌, ℕ, ◌==◌, ◌||◌, not, nat_le, Bool, false, IsTrue, List, [], ◌∷◌, length}
+use Rattle.std.specs.Prelude.{take, bytes_eq, Some, None, IfSome, if◌then◌else◌}
 use Rattle.std.specs.List.Sorted.{IsSorted}
 use Rattle.osm_model.specs.Data.{VersionData}
 use Rattle.osm_model.specs.Order.{key_cmp}
@@ -33,25 +34,30 @@ tells_format (b ∷ bytes) = not (b == reset_byte) || nat_le 7 (length (b ∷ by
 abbrev pub TellsFormat : Format → Told → Told → Type 0
 TellsFormat format before after = GoesOn before after × IfSome (ahead before) (λ c. format ≡ format_of c.bytes)
 
--- the bytes are a file and no error follows them; what was loaded is what the file holds, its format and whether it is sorted
+-- the bytes are a file and no error follows them; what was loaded is what the file holds, its format and whether it is
+-- sorted
 pub record Loads (c : Coming) (loaded : Loaded) : Type 0 where
   pub unbroken : c.broken ≡ false
   pub holds : Holds c.bytes loaded.history
   pub format : loaded.format ≡ format_of c.bytes
   pub sorted : IsTrue loaded.sorted ↔ HoldsSorted c.bytes loaded.history
 
--- an input was read to its end: none of its units is refused, these are its versions, in this order, this is its format, and this
+-- an input was read to its end: none of its units is refused, these are its versions, in this order, this is its
+-- format, and this
 -- is whether it is sorted
-pub record IsRead (input : ℕ) (c : Coming) (versions : List VersionData) (format : Format) (sorted : Bool) : Type 0 where
+pub record IsRead (input : ℕ) (c : Coming) (versions : List VersionData) (format : Format)
+    (sorted : Bool) : Type 0 where
   pub unrefused : (named input (units_from None 0 c)).refusal ≡ None
   pub all : versions_of (named input (units_from None 0 c)).list ≡ versions
   pub tells : format ≡ format_of c.bytes
   pub rises : IsTrue sorted ↔ IsSorted key_cmp versions
 
--- A source of this input's file was opened, and its format told: whatever it can give, the reader could give a file of this
+-- A source of this input's file was opened, and its format told: whatever it can give, the reader could give a file of
+-- this
 -- format, of which it gives what a sorted file's source does.
 abbrev pub Opens : {R : Type 0} → (R → Coming → Type 0) → ℕ → R → Format → FileStand R → Type 0
-Opens can input reader format s = Explained (can reader) (FileCanGive can s) (λ c still. (format ≡ format_of c.bytes) × (still ≡ sorted_source input c))
+Opens can input reader format s = Explained (can reader) (FileCanGive can s)
+    (λ c still. (format ≡ format_of c.bytes) × (still ≡ sorted_source input c))
 
 -- why the source of this input's file isn't opened: for want of memory, or as the source of the file is refused
 abbrev pub StopsOpening : ℕ → Coming → Fault → Type 0

@@ -1,5 +1,7 @@
--- o5m and o5c files: a header, data sets and the mark of the end (the OSM wiki's page on o5m; that both are read alike is an own rule).
-use Rattle.std.specs.Prelude.{◌≡◌, ◌⊎◌, ℕ, Bool, true, false, ◌==◌, ◌&&◌, nat_le, List, [], ◌∷◌, ◌++◌, length, Option, Some, None, if◌then◌else◌}
+-- o5m and o5c files: a header, data sets and the mark of the end (the OSM wiki's page on o5m; that both are read alike
+-- is an own rule).
+use Rattle.std.specs.Prelude.{◌≡◌, ◌⊎◌, ℕ, Bool, true, false, ◌==◌, ◌&&◌, nat_le, List, [], ◌∷◌, ◌++◌, length, Option}
+use Rattle.std.specs.Prelude.{Some, None, if◌then◌else◌}
 use Rattle.std.specs.List.{flat_map}
 use Rattle.osm_model.specs.declared.kind.Kind.{Kind}
 use Rattle.osm_model.specs.declared.kind.Kind.TheVariants as kind
@@ -31,7 +33,8 @@ type_byte kind.Relation = 18
 
 -- the kind of object of a type byte
 abbrev pub kind_of_type : ℕ → Option Kind
-kind_of_type b = if b == 16 then Some kind.Node else (if b == 17 then Some kind.Way else (if b == 18 then Some kind.Relation else None))
+kind_of_type b = if b == 16 then Some kind.Node
+    else (if b == 17 then Some kind.Way else (if b == 18 then Some kind.Relation else None))
 
 -- a byte that stands alone, and is skipped
 abbrev pub is_lone : ℕ → Bool
@@ -60,10 +63,12 @@ abbrev pub PartsSpell : Segment → List Part → List VersionData → Type 0
 PartsSpell s [] versions = versions ≡ []
 PartsSpell s (Reset ∷ parts) versions = PartsSpell new_segment parts versions
 PartsSpell s (Lone b ∷ parts) versions = (is_lone b ≡ true) × PartsSpell s parts versions
-PartsSpell s (Skipped b size content ∷ parts) versions = IsOtherType b × SpellsNumber size (length content) × PartsSpell s parts versions
+PartsSpell s (Skipped b size content ∷ parts) versions = IsOtherType b × SpellsNumber size (length content)
+    × PartsSpell s parts versions
 PartsSpell s (Object k size content ∷ parts) versions =
     SpellsNumber size (length content)
-    × ((v : VersionData) × (next : Segment) × (others : List VersionData) × (versions ≡ v ∷ others) × SpellsSet k s content (v, next) × PartsSpell next parts others)
+    × ((v : VersionData) × (next : Segment) × (others : List VersionData) × (versions ≡ v ∷ others)
+    × SpellsSet k s content (v, next) × PartsSpell next parts others)
 
 -- the bytes are a header, parts that spell these versions, and the mark of the end
 pub record O5File (bytes : List ℕ) (versions : List VersionData) : Type 0 where

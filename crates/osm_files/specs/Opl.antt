@@ -1,4 +1,5 @@
--- OPL files: lines and what they hold (Osmium OPL file format manual; that comments and empty lines are skipped is an own rule).
+-- OPL files: lines and what they hold (Osmium OPL file format manual; that comments and empty lines are skipped is an
+-- own rule).
 use Rattle.std.specs.Prelude.{ℕ, Bool, not, List, filter}
 use Rattle.osm_model.specs.Data.{VersionData}
 use Rattle.osm_model.specs.Pairwise.{Pairwise}

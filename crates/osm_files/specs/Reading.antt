@@ -9,7 +9,8 @@ use Rattle.osm_files.specs.declared.reason.Reason.TheVariants.{Memory}
 use Rattle.osm_files.specs.declared.unit.ReadUnit.{ReadUnit}
 use Rattle.osm_files.specs.declared.unit.Stage.{Stage}
 use Rattle.osm_files.specs.declared.unit.Stage.TheVariants.{Lines, Header, DataSets, End}
-use Rattle.osm_files.specs.Units.{Stand, InOpl, BeforeHeader, InSegment, BehindEnd, Found, FileUnit, unit, content_found}
+use Rattle.osm_files.specs.Units.{Stand, InOpl, BeforeHeader, InSegment, BehindEnd, Found, FileUnit, unit}
+use Rattle.osm_files.specs.Units.{content_found}
 use Rattle.osm_files.specs.O5.{end_byte}
 
 -- where a reading stands, by what it keeps
@@ -37,9 +38,11 @@ abbrev pub ends_at : List ℕ → Bool
 ends_at [] = false
 ends_at (b ∷ bytes) = b == end_byte
 
--- the answer is what the content is found to be, and the decoder is good and stands there behind it; or it is for want of memory
+-- the answer is what the content is found to be, and the decoder is good and stands there behind it; or it is for want
+-- of memory
 abbrev pub FindsContent : Segment → Option Kind → List ℕ → State → Result (Option VersionData) Reason → Type 0
-FindsContent s k content after (Ok version) = (content_found s k content ≡ Ok (version, InSegment after.segment)) × (after.failed ≡ false)
+FindsContent s k content after (Ok version) = (content_found s k content ≡ Ok (version, InSegment after.segment))
+    × (after.failed ≡ false)
 FindsContent s k content after (Err reason) = (reason ≡ Memory) ⊎ (content_found s k content ≡ Err reason)
 
 -- what is found, without where the reading stands behind it

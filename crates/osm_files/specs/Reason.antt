@@ -7,7 +7,8 @@ use Rattle.o5_codec.specs.declared.reason.O5Reason.{O5Reason}
 use Rattle.o5_codec.specs.declared.reason.O5Reason.TheVariants as o5
 use Rattle.o5_codec.specs.Reason.{o5_reason_name}
 use Rattle.osm_files.specs.declared.reason.Reason.{Reason}
-use Rattle.osm_files.specs.declared.reason.Reason.TheVariants.{Opl, O5, BadHeader, Unsorted, NoEnd, AfterEnd, TooLong, ReadFault, WriteFault, Memory, Failed}
+use Rattle.osm_files.specs.declared.reason.Reason.TheVariants.{Opl, O5, BadHeader, Unsorted, NoEnd, AfterEnd, TooLong}
+use Rattle.osm_files.specs.declared.reason.Reason.TheVariants.{ReadFault, WriteFault, Memory, Failed}
 
 -- the name of a reason; a line's or a data set's reason has the inner one's
 abbrev pub reason_name : Reason → List ℕ

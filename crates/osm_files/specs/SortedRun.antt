@@ -1,5 +1,6 @@
 -- A file that is several files in sequence, and its parts that are files: an own rule of this project.
-use Rattle.std.specs.Prelude.{◌≡◌, ◌⊎◌, ℕ, ◌+◌, ◌-◌, ◌==◌, ◌&&◌, ◌||◌, not, nat_lt, Bool, true, false, List, [], ◌∷◌, ◌++◌, map, take, drop, slice_get, Option, Some, None, is_some, if◌then◌else◌}
+use Rattle.std.specs.Prelude.{◌≡◌, ◌⊎◌, ℕ, ◌+◌, ◌-◌, ◌==◌, ◌&&◌, ◌||◌, not, nat_lt, Bool, true, false, List, [], ◌∷◌}
+use Rattle.std.specs.Prelude.{◌++◌, map, take, drop, slice_get, Option, Some, None, is_some, if◌then◌else◌}
 use Rattle.opl_line.specs.Cut.{is_line_end}
 use Rattle.osm_files.specs.declared.sorted_run.BytesAtSplit.{BytesAtSplit}
 use Rattle.osm_files.specs.declared.sorted_run.SortedRun.{SortedRun}
@@ -16,7 +17,8 @@ pub record SplitAfterLine (file rest bytes : List ℕ) : Type 0 where
   pub more_lines : start_of rest ≡ InOpl
   pub whole : bytes ≡ file ++ rest
 
--- Data sets up to a reset, which the end byte replaces in the file. The rest has a header before the data sets after it.
+-- Data sets up to a reset, which the end byte replaces in the file. The rest has a header before the data sets after
+-- it.
 pub record SplitAtReset (file rest bytes : List ℕ) : Type 0 where
   pub front : List ℕ
   pub header : List ℕ

@@ -1,5 +1,6 @@
 -- What the source of a file means, in the words of sets and verdicts.
-use Rattle.std.specs.Prelude.{◌≡◌, ◌⊎◌, ◌↔◌, ℕ, ◌<◌, ◌≤◌, ◌^◌, nat_lt, List, ◌++◌, length, filter, Option, Some, None, option_map}
+use Rattle.std.specs.Prelude.{◌≡◌, ◌⊎◌, ◌↔◌, ℕ, ◌<◌, ◌≤◌, ◌^◌, nat_lt, List, ◌++◌, length, filter, Option, Some, None}
+use Rattle.std.specs.Prelude.{option_map}
 use Rattle.osm_model.specs.Data.{VersionData}
 use Rattle.osm_model.specs.Order.{version_cmp}
 use Rattle.osm_model.specs.Sets.{listed, from_list}
@@ -22,46 +23,59 @@ SourcesAscend = (input : ℕ) (c : Coming) → Ascends (sorted_source input c)
 
 -- the refusal of the source of a file is its verdict on its order, if it has one
 abbrev pub SourceEndsAsVerdict : Type 0
-SourceEndsAsVerdict = (input : ℕ) (bytes : List ℕ) → (sorted_source input (all_of bytes)).refusal ≡ option_map (fault_of input) (verdict_sorted bytes)
+SourceEndsAsVerdict = (input : ℕ) (bytes : List ℕ) →
+    (sorted_source input (all_of bytes)).refusal ≡ option_map (fault_of input) (verdict_sorted bytes)
 
 -- the source of a sorted file gives the set that the file holds, whole
 abbrev pub SourceGivesHeld : Type 0
-SourceGivesHeld = (input : ℕ) (bytes : List ℕ) (held : VersionSet) → HoldsSorted bytes held → sorted_source input (all_of bytes) ≡ record { list = listed held; refusal = None }
+SourceGivesHeld = (input : ℕ) (bytes : List ℕ) (held : VersionSet) → HoldsSorted bytes held →
+    sorted_source input (all_of bytes) ≡ record { list = listed held; refusal = None }
 
 -- where the source of some bytes is whole, they are a sorted file, and hold what it gives
 abbrev pub WholeSourceIsHeld : Type 0
-WholeSourceIsHeld = (input : ℕ) (bytes : List ℕ) → (sorted_source input (all_of bytes)).refusal ≡ None → HoldsSorted bytes (from_list {R = version_cmp} (sorted_source input (all_of bytes)).list)
+WholeSourceIsHeld = (input : ℕ) (bytes : List ℕ) → (sorted_source input (all_of bytes)).refusal ≡ None →
+    HoldsSorted bytes (from_list {R = version_cmp} (sorted_source input (all_of bytes)).list)
 
--- The verdict of the units that stand whole in these bytes, on their order too, where this verdict stands in place of the
+-- The verdict of the units that stand whole in these bytes, on their order too, where this verdict stands in place of
+-- the
 -- file's end; it is no other, where none of these units is faulty.
 abbrev pub verdict_within : Verdict → List ℕ → Option Verdict
-verdict_within close bytes = let us = units (Some close) (start_of bytes) 0 bytes in sorted_verdict us.refusal None us.list
+verdict_within close bytes = let us = units (Some close) (start_of bytes) 0 bytes in
+    sorted_verdict us.refusal None us.list
 
 -- a unit that stands whole in these bytes is faulty, so: whatever closes them, this is the verdict
 abbrev pub IsFaultyWithin : List ℕ → Verdict → Type 0
 IsFaultyWithin bytes fault = (close : Verdict) → verdict_within close bytes ≡ Some fault
 
--- where an error follows the bytes, their source ends with the verdict of the units that stand whole in them, and else, as
+-- where an error follows the bytes, their source ends with the verdict of the units that stand whole in them, and else,
+-- as
 -- none of these is faulty, with the error behind the last byte
 abbrev pub BrokenSourceEnds : Type 0
 BrokenSourceEnds =
-    (input : ℕ) (bytes : List ℕ) → length bytes < 2 ^ 62 → (sorted_source input (broken_behind bytes)).refusal ≡ option_map (fault_of input) (verdict_within (verdict_at (length bytes) ReadFault) bytes)
+    (input : ℕ) (bytes : List ℕ) → length bytes < 2 ^ 62 →
+    (sorted_source input (broken_behind bytes)).refusal
+    ≡ option_map (fault_of input) (verdict_within (verdict_at (length bytes) ReadFault) bytes)
 
 -- of too many bytes nothing is said but by those below the limit, whatever follows them
 abbrev pub LongSourceEnds : Type 0
-LongSourceEnds = (input : ℕ) (bytes : List ℕ) → 2 ^ 62 ≤ length bytes → sorted_source input (broken_behind bytes) ≡ sorted_source input (all_of bytes)
+LongSourceEnds = (input : ℕ) (bytes : List ℕ) → 2 ^ 62 ≤ length bytes →
+    sorted_source input (broken_behind bytes) ≡ sorted_source input (all_of bytes)
 
--- the units that stand whole in some bytes are faulty whatever closes them, or never: then the verdict is what closes them
+-- the units that stand whole in some bytes are faulty whatever closes them, or never: then the verdict is what closes
+-- them
 abbrev pub FaultyOrClosed : Type 0
-FaultyOrClosed = (bytes : List ℕ) → ((fault : Verdict) × IsFaultyWithin bytes fault) ⊎ ((close : Verdict) → verdict_within close bytes ≡ Some close)
+FaultyOrClosed = (bytes : List ℕ) → ((fault : Verdict) × IsFaultyWithin bytes fault)
+    ⊎ ((close : Verdict) → verdict_within close bytes ≡ Some close)
 
 -- bytes behind a whole faulty unit don't change the verdict on the order
 abbrev pub FaultyStays : Type 0
-FaultyStays = (bytes more : List ℕ) (fault : Verdict) → length bytes < 2 ^ 62 → IsFaultyWithin bytes fault → verdict_sorted (bytes ++ more) ≡ Some fault
+FaultyStays = (bytes more : List ℕ) (fault : Verdict) → length bytes < 2 ^ 62 → IsFaultyWithin bytes fault →
+    verdict_sorted (bytes ++ more) ≡ Some fault
 
 -- nor the verdict without regard to the order, behind a whole unit that can't be read
 abbrev pub MalformedStays : Type 0
-MalformedStays = (bytes more : List ℕ) (fault : Verdict) → length bytes < 2 ^ 62 → IsFaultyWhole bytes fault → verdict (bytes ++ more) ≡ Some fault
+MalformedStays = (bytes more : List ℕ) (fault : Verdict) → length bytes < 2 ^ 62 → IsFaultyWhole bytes fault →
+    verdict (bytes ++ more) ≡ Some fault
 
 -- The verdict on order of what an input gives: its first faulty unit, or what comes instead of its end.
 abbrev pub input_verdict : Coming → Option Verdict

@@ -1,5 +1,6 @@
 -- The units of a file, lines or data sets, one after the other from the left, up to the first that is faulty.
-use Rattle.std.specs.Prelude.{ℕ, zero, suc, ◌+◌, ◌-◌, ◌==◌, ◌||◌, nat_le, nat_lt, bytes_eq, Bool, List, [], ◌∷◌, length, take, drop, Option, Some, None, Result, Ok, Err, if◌then◌else◌}
+use Rattle.std.specs.Prelude.{ℕ, zero, suc, ◌+◌, ◌-◌, ◌==◌, ◌||◌, nat_le, nat_lt, bytes_eq, Bool, List, [], ◌∷◌, length}
+use Rattle.std.specs.Prelude.{take, drop, Option, Some, None, Result, Ok, Err, if◌then◌else◌}
 use Rattle.std.specs.List.{list_any}
 use Rattle.osm_model.specs.declared.kind.Kind.{Kind}
 use Rattle.osm_model.specs.Data.{VersionData}
@@ -84,7 +85,8 @@ abbrev pub sized_unit : Segment → ℕ → List ℕ → Option (Result (ℕ × 
 sized_unit s b bytes None = None
 sized_unit s b bytes (Some (Err reason)) = Some (unit 1 (Err (of_data_set reason)))
 sized_unit s b bytes (Some (Ok (size, behind))) =
-    if nat_le size (length behind) then Some (unit (1 + (length bytes - length behind) + size) (content_found s (kind_of_type b) (take size behind)))
+    if nat_le size (length behind) then Some (unit (1 + (length bytes - length behind) + size)
+    (content_found s (kind_of_type b) (take size behind)))
     else None
 
 -- the end byte, a reset, a lone byte or a data set
@@ -129,15 +131,19 @@ abbrev pub closed : Option Verdict → ℕ → Found → Still Placed Verdict
 closed None place last = found_then place last (λ next. whole)
 closed (Some verdict) place last = refused verdict
 
-abbrev pub unit_then : Option Verdict → Stand → ℕ → List ℕ → (Stand → ℕ → List ℕ → Still Placed Verdict) → Option FileUnit → Still Placed Verdict
+abbrev pub unit_then : Option Verdict → Stand → ℕ → List ℕ → (Stand → ℕ → List ℕ → Still Placed Verdict) →
+    Option FileUnit → Still Placed Verdict
 unit_then close stand place bytes more None = closed close place (last_at stand bytes)
-unit_then close stand place bytes more (Some u) = found_then place u.found (λ next. more next (place + u.size) (drop u.size bytes))
+unit_then close stand place bytes more (Some u) =
+    found_then place u.found (λ next. more next (place + u.size) (drop u.size bytes))
 
--- The units of these bytes, of which each has at least one, where a reading stands at this place of a file. The bytes are
+-- The units of these bytes, of which each has at least one, where a reading stands at this place of a file. The bytes
+-- are
 -- the file's last ones, or they are closed by a verdict, and then only the units count that stand whole.
 abbrev pub units_within : ℕ → Option Verdict → Stand → ℕ → List ℕ → Still Placed Verdict
 units_within zero close stand place bytes = closed close place (last_at stand bytes)
-units_within (suc most) close stand place bytes = unit_then close stand place bytes (units_within most close) (unit_at stand bytes)
+units_within (suc most) close stand place bytes =
+    unit_then close stand place bytes (units_within most close) (unit_at stand bytes)
 
 unfoldable pub units : Option Verdict → Stand → ℕ → List ℕ → Still Placed Verdict
 units close stand place bytes = units_within (length bytes) close stand place bytes

@@ -1,5 +1,6 @@
 -- The first faulty unit of any bytes.
-use Rattle.std.specs.Prelude.{ℕ, ◌-◌, ◌^◌, nat_lt, Bool, false, List, [], ◌∷◌, length, take, map, slice_get, Option, Some, None, if◌then◌else◌}
+use Rattle.std.specs.Prelude.{ℕ, ◌-◌, ◌^◌, nat_lt, Bool, false, List, [], ◌∷◌, length, take, map, slice_get, Option}
+use Rattle.std.specs.Prelude.{Some, None, if◌then◌else◌}
 use Rattle.std.specs.Ordering.{is_lt}
 use Rattle.osm_model.specs.Data.{VersionData}
 use Rattle.osm_model.specs.Order.{version_cmp, key_cmp}
@@ -42,7 +43,8 @@ is_below v (Some before) = is_lt (key_cmp v before)
 abbrev pub is_below_last : VersionData → List VersionData → Bool
 is_below_last v versions = is_below v (slice_get versions (length versions - 1))
 
--- the first faulty unit, where a unit is faulty too that can be read, but whose version has a key below that of the one before it
+-- the first faulty unit, where a unit is faulty too that can be read, but whose version has a key below that of the one
+-- before it
 abbrev pub sorted_verdict : Option Verdict → Option VersionData → List Placed → Option Verdict
 sorted_verdict close before [] = close
 sorted_verdict close before (unit ∷ units) =

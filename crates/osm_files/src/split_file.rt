@@ -42,7 +42,8 @@ impl SplitFile {
         self.rest
     }
 
-    /// Splits the rest before the byte at this offset of the file, and returns the run that was split off. It returns none
+    /// Splits the rest before the byte at this offset of the file, and returns the run that was split off. It returns
+    /// none
     /// if the rest can't be split there (`SortedRun::split`).
     ///
     /// A file that has the bytes of all calls is split into the runs. If each run is a sorted file, a merge of the runs

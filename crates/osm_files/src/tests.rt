@@ -102,7 +102,8 @@ const LINES: [Row; 6] = [
     ),
 ];
 
-/// An empty file, two ways without references, skipped data sets, a deletion that ends after the changeset, and an old order.
+/// An empty file, two ways without references, skipped data sets, a deletion that ends after the changeset, and an old
+/// order.
 const DATA_SETS: [Row; 6] = [
     (b"\xff\xe0\x04o5m2\xfe", "o5m sorted\n"),
     (b"\xff\xe0\x04o5c2\xfe", "o5c sorted\n"),
@@ -225,7 +226,8 @@ fn cut_file(rt: HostRuntime) {
     }
 }
 
-/// What a file gives of a node with a tag of the key k and `letters` letters, whose data set has this length, and of a node
+/// What a file gives of a node with a tag of the key k and `letters` letters, whose data set has this length, and of a
+/// node
 /// with the same tag by reference.
 fn long_tag_text(alloc: Global, length: &[u8], letters: usize) -> String {
     let mut file = Vec::new(alloc);
@@ -239,7 +241,8 @@ fn long_tag_text(alloc: Global, length: &[u8], letters: usize) -> String {
     text_in_pieces(alloc, &file)
 }
 
-/// Appends the file of a node with the tags `1` to `15001` and empty values, and of a node with a tag by this reference.
+/// Appends the file of a node with the tags `1` to `15001` and empty values, and of a node with a tag by this
+/// reference.
 fn push_many_tags(alloc: Global, file: &mut Vec<u8>, reference: &[u8]) {
     let mut tags = String::new(alloc);
     for key in 1..15_002u32 {

@@ -41,7 +41,8 @@ pub(crate) fn push_loaded(alloc: Global, text: &mut String, outcome: Result<Load
     }
 }
 
-/// Appends what a source returns next: a version, which is given back to it, `end` or a fault. Returns whether it was a version.
+/// Appends what a source returns next: a version, which is given back to it, `end` or a fault. Returns whether it was a
+/// version.
 pub(crate) fn push_next<S: Source>(alloc: Global, text: &mut String, source: &mut S) -> bool {
     match source.next() {
         Ok(Some(version)) => {

@@ -23,7 +23,8 @@ module _ {S C : Type 0} (can : S → C → Type 0) where
   give_one one h (s ∷ sources) = (h s, give_one one h sources)
 
   -- one of them took a step, so what all can give later is explained by what all could give before
-  pub give_back : (step : C → C → Type 0) (sources : List S) (i : ℕ) (new d : S) (e : C) (later : List C) → i < length sources → Explained (can (get_or sources i d)) (can new) step → AllGive can (set sources i new) later
+  pub give_back : (step : C → C → Type 0) (sources : List S) (i : ℕ) (new d : S) (e : C) (later : List C) → i < length sources →
+      Explained (can (get_or sources i d)) (can new) step → AllGive can (set sources i new) later
       → (before : C) × AllGive can sources (set later i before) × step before (get_or later i e)
   give_back step [] i new d e later low x g = absurd (omega arith)
   give_back step (s ∷ sources) zero new d e [] low x g = absurd g

@@ -1,5 +1,7 @@
 -- One turn of the merge: the least head is taken, and met where it is new and passes.
-use Rattle.std.proofs.Common.{◌≡◌, ◌≢◌, ◌⊎◌, ◌&&◌, ℕ, zero, suc, ◌+◌, ◌<◌, Bool, true, false, ◌||◌, cond, List, [], ◌∷◌, ◌++◌, length, refl, sym, ap, ◌∙◌, subst, arith, Option, Some, None, append_assoc, inl, inr, length-append, get_or-set_other, get_or-set_same}
+use Rattle.std.proofs.Common.{◌≡◌, ◌≢◌, ◌⊎◌, ◌&&◌, ℕ, zero, suc, ◌+◌, ◌<◌, Bool, true, false, ◌||◌, cond, List, [], ◌∷◌, ◌++◌, length, refl}
+use Rattle.std.proofs.Common.{sym, ap, ◌∙◌, subst, arith, Option, Some, None, append_assoc, inl, inr, length-append, get_or-set_other}
+use Rattle.std.proofs.Common.{get_or-set_same}
 use Rattle.std.proofs.Math.ListN.{set, length-set}
 use Rattle.std.specs.Ordering.{eq_by_cmp, is_gt}
 use Rattle.std.specs.Cmp.{upto, tied_itself}
@@ -31,16 +33,19 @@ or_swap false b c = refl
 abbrev pub without_head : List VersionsToCome → ℕ → List VersionsToCome
 without_head states w = set states w (behind_head (coming_at states w))
 
-any_taken : (p : VersionData → Bool) (states : List VersionsToCome) (w : ℕ) (v : VersionData) (vs : List VersionData) → (coming_at states w).list ≡ v ∷ vs → list_any p (versions_of states) ≡ (p v || list_any p (versions_of (without_head states w)))
+any_taken : (p : VersionData → Bool) (states : List VersionsToCome) (w : ℕ) (v : VersionData) (vs : List VersionData) →
+    (coming_at states w).list ≡ v ∷ vs → list_any p (versions_of states) ≡ (p v || list_any p (versions_of (without_head states w)))
 any_taken p [] w v vs e = absurd cc
-any_taken p (c ∷ cs) zero v vs e = ap (λ t. list_any p (t ++ versions_of cs)) e ∙ sym (ap (λ t. p v || list_any p (rest t ++ versions_of cs)) e)
+any_taken p (c ∷ cs) zero v vs e = ap (λ t. list_any p (t ++ versions_of cs)) e
+    ∙ sym (ap (λ t. p v || list_any p (rest t ++ versions_of cs)) e)
 any_taken p (c ∷ cs) (suc w) v vs e =
     list_any-append p c.list (versions_of cs)
     ∙ ap (λ t. list_any p c.list || t) (any_taken p cs w v vs e)
     ∙ or_swap (list_any p c.list) (p v) (list_any p (versions_of (without_head cs w)))
     ∙ sym (ap (λ t. p v || t) (list_any-append p c.list (versions_of (without_head cs w))))
 
-length_taken : (states : List VersionsToCome) (w : ℕ) (v : VersionData) (vs : List VersionData) → (coming_at states w).list ≡ v ∷ vs → length (versions_of states) ≡ length (versions_of (without_head states w)) + 1
+length_taken : (states : List VersionsToCome) (w : ℕ) (v : VersionData) (vs : List VersionData) → (coming_at states w).list ≡ v ∷ vs →
+    length (versions_of states) ≡ length (versions_of (without_head states w)) + 1
 length_taken [] w v vs e = absurd cc
 length_taken (c ∷ cs) zero v vs e =
     let a : length (c.list ++ versions_of cs) ≡ length (v ∷ vs ++ versions_of cs) = ap (λ t. length (t ++ versions_of cs)) e in
@@ -57,7 +62,8 @@ split_first v [] h = absurd cc
 split_first v (w ∷ vs) h = let e : w ≡ v = cc in ap (λ t. t ∷ vs) e
 
 -- ---- what was met, with one more
-floor_of : (v : VersionData) (vs : List VersionData) → IsHeadUpTo (Some v) (first vs) → IsStrictlySortedBy version_cmp vs → Floor (Some v) vs
+floor_of : (v : VersionData) (vs : List VersionData) → IsHeadUpTo (Some v) (first vs) → IsStrictlySortedBy version_cmp vs →
+    Floor (Some v) vs
 floor_of v [] h k = tt
 floor_of v (w ∷ vs) h k = floor_first version_cmp_total v w vs h k
 
@@ -70,11 +76,13 @@ old_is_last : (last : Option VersionData) (v : VersionData) → Floor last (v �
 old_is_last None v f h = absurd (false≢true (sym h))
 old_is_last (Some l) v f h = ap Some (same_unless_greater l v f.0 h)
 
-pub ascends_with : (last : Option VersionData) (v : VersionData) (put : List VersionData) → Ends last put → is_new last v ≡ true → IsStrictlySortedBy version_cmp put → IsStrictlySortedBy version_cmp (put ++ v ∷ [])
+pub ascends_with : (last : Option VersionData) (v : VersionData) (put : List VersionData) → Ends last put → is_new last v ≡ true →
+    IsStrictlySortedBy version_cmp put → IsStrictlySortedBy version_cmp (put ++ v ∷ [])
 ascends_with None v put e is h = subst (λ t. IsStrictlySortedBy version_cmp (t ++ v ∷ [])) (sym e) (one_ascends version_cmp v)
 ascends_with (Some l) v put e is h =
     subst (λ t. IsStrictlySortedBy version_cmp (t ++ v ∷ [])) (sym e.1)
-    (ascends_on version_cmp_total (e.0) l (v ∷ []) (subst (IsStrictlySortedBy version_cmp) e.1 h) (one_ascends version_cmp v) (is_less (version_cmp l v) is, tt))
+    (ascends_on version_cmp_total (e.0) l (v ∷ []) (subst (IsStrictlySortedBy version_cmp) e.1 h) (one_ascends version_cmp v)
+    (is_less (version_cmp l v) is, tt))
 
 pub both_so : (a b : Bool) → (a && b) ≡ true → (a ≡ true) × (b ≡ true)
 both_so true true h = (refl, refl)
@@ -86,10 +94,12 @@ not_both true b h = inr h
 not_both false b h = inl refl
 
 -- a version that is met is greater than the one held back
-pub met_is_new : (selection : Selection) (held : Option VersionData) (v : VersionData) → is_met selection held v ≡ true → is_new held v ≡ true
+pub met_is_new : (selection : Selection) (held : Option VersionData) (v : VersionData) → is_met selection held v ≡ true →
+    is_new held v ≡ true
 met_is_new selection held v is = (both_so (is_new held v) (passes selection v) is).0
 
-pub ascends_next : (selection : Selection) (held : Option VersionData) (v : VersionData) (met : List VersionData) → Ends held met → IsStrictlySortedBy version_cmp met → IsStrictlySortedBy version_cmp (met_next selection held v met)
+pub ascends_next : (selection : Selection) (held : Option VersionData) (v : VersionData) (met : List VersionData) → Ends held met →
+    IsStrictlySortedBy version_cmp met → IsStrictlySortedBy version_cmp (met_next selection held v met)
 ascends_next selection held v met e h =
     elim (is_met selection held v) as (λ b. is_met selection held v ≡ b → IsStrictlySortedBy version_cmp (cond b (met ++ v ∷ []) met)) [
       | true ↦ λ is. ascends_with held v met e (met_is_new selection held v is) h
@@ -97,7 +107,8 @@ ascends_next selection held v met e h =
     ] refl
 
 -- whatever the sources give, the one held back is the last of what was met
-pub ends_next : (selection : Selection) (held : Option VersionData) (v : VersionData) (met : List VersionData) → Ends held met → Ends (held_next selection held v) (met_next selection held v met)
+pub ends_next : (selection : Selection) (held : Option VersionData) (v : VersionData) (met : List VersionData) → Ends held met →
+    Ends (held_next selection held v) (met_next selection held v met)
 ends_next selection held v met e =
     elim (is_met selection held v) as (λ b. Ends (cond b (Some v) held) (cond b (met ++ v ∷ []) met)) [
       | true ↦ (met, refl)
@@ -113,14 +124,16 @@ under_it : (held : Option VersionData) (v : VersionData) → Floor held (v ∷ [
 under_it None v f = tt
 under_it (Some h) v f = f.0
 
-under_next : (selection : Selection) (held : Option VersionData) (v : VersionData) → Floor held (v ∷ []) → IsUnder (held_next selection held v) (Some v)
+under_next : (selection : Selection) (held : Option VersionData) (v : VersionData) → Floor held (v ∷ []) →
+    IsUnder (held_next selection held v) (Some v)
 under_next selection held v f =
     elim (is_met selection held v) as (λ b. IsUnder (cond b (Some v) held) (Some v)) [
       | true ↦ ap is_gt (tied_itself version_cmp_total v)
       | false ↦ under_it held v f
     ]
 
-reached_next : (selection : Selection) (held : Option VersionData) (v : VersionData) → Floor held (v ∷ []) → passes selection v ≡ true → held_next selection held v ≡ Some v
+reached_next : (selection : Selection) (held : Option VersionData) (v : VersionData) → Floor held (v ∷ []) → passes selection v ≡ true →
+    held_next selection held v ≡ Some v
 reached_next selection held v f pass =
     elim (is_met selection held v) as (λ b. is_met selection held v ≡ b → cond b (Some v) held ≡ Some v) [
       | true ↦ λ is. refl
@@ -159,11 +172,16 @@ among_end q v (w ∷ ws) h = ap (λ t. eq_by_cmp version_cmp q w || t) (among_en
 pub among_ends : (q v : VersionData) (put : List VersionData) → Ends (Some v) put → eq_by_cmp version_cmp q v ≡ true → among q put ≡ true
 among_ends q v put e h = ap (among q) e.1 ∙ among_end q v (e.0) h
 
-same_next : (selection : Selection) (held : Option VersionData) (v : VersionData) (met : List VersionData) (q : VersionData) (more : Bool) → Ends held met → Floor held (v ∷ []) → (among q met || ((eq_by_cmp version_cmp q v || more) && passes selection q)) ≡ (among q (met_next selection held v met) || (more && passes selection q))
+same_next : (selection : Selection) (held : Option VersionData) (v : VersionData) (met : List VersionData) (q : VersionData) (more : Bool) →
+    Ends held met → Floor held (v ∷ []) → (among q met || ((eq_by_cmp version_cmp q v || more) && passes selection q))
+    ≡ (among q (met_next selection held v met) || (more && passes selection q))
 same_next selection held v met q more e f =
-    elim (is_met selection held v) as (λ b. is_met selection held v ≡ b → (among q met || ((eq_by_cmp version_cmp q v || more) && passes selection q)) ≡ (among q (cond b (met ++ v ∷ []) met) || (more && passes selection q))) [
+    elim (is_met selection held v) as (λ b. is_met selection held v ≡ b →
+    (among q met || ((eq_by_cmp version_cmp q v || more) && passes selection q))
+    ≡ (among q (cond b (met ++ v ∷ []) met) || (more && passes selection q))) [
       | true ↦ λ is.
-          join_new (among q met) (eq_by_cmp version_cmp q v) more (passes selection q) (λ tied. ap (passes selection) (equal_versions q v tied) ∙ (both_so (is_new held v) (passes selection v) is).1)
+          join_new (among q met) (eq_by_cmp version_cmp q v) more (passes selection q)
+          (λ tied. ap (passes selection) (equal_versions q v tied) ∙ (both_so (is_new held v) (passes selection v) is).1)
           ∙ ap (λ t. t || (more && passes selection q)) (sym (list_any-append (eq_by_cmp version_cmp q) met (v ∷ [])))
       | false ↦ λ is.
           join_old (among q met) (eq_by_cmp version_cmp q v) more (passes selection q)
@@ -174,7 +192,8 @@ same_next selection held v met q more e f =
     ] refl
 
 -- ---- the turn
-pub merge_more : (selection : Selection) (all states : List VersionsToCome) (met : List VersionData) (held top : Option VersionData) (taken w : ℕ) (v : VersionData)
+pub merge_more : (selection : Selection) (all states : List VersionsToCome) (met : List VersionData) (held top : Option VersionData)
+    (taken w : ℕ) (v : VersionData)
     → IsMerging selection all states met held top taken → w < length states → head (coming_at states w) ≡ Some v
     → ((i : ℕ) → IsHeadUpTo (Some v) (head (coming_at states i)))
     → IsMerging selection all (without_head states w) (met_next selection held v met) (held_next selection held v) (Some v) (taken + 1)
@@ -183,13 +202,15 @@ merge_more selection all states met held top taken w v m less is least =
     let e : here.list ≡ v ∷ rest here.list = split_first v here.list is in
     let f : Floor held (v ∷ []) = under_floor held top v m.under (floor_one top v (rest here.list) (subst (Floor top) e (m.floor w))) in
     let same_place : coming_at (without_head states w) w ≡ behind_head here = get_or-set_same states w (behind_head here) whole less in
-    let other : (i : ℕ) → i ≢ w → coming_at (without_head states w) i ≡ coming_at states i = λ i n. get_or-set_other states w i (behind_head here) whole n in
+    let other : (i : ℕ) → i ≢ w → coming_at (without_head states w) i ≡ coming_at states i =
+    λ i n. get_or-set_other states w i (behind_head here) whole n in
     record {
       size = length-set states w (behind_head here) ∙ m.size;
       ascends = ascends_next selection held v met m.ends m.ascends;
       queues = λ i. elim (cases_eq i w) [
         | inl at_w ↦ subst (λ j. IsStrictlySortedBy version_cmp (coming_at (without_head states w) j).list) (sym at_w)
-            (subst (λ s. IsStrictlySortedBy version_cmp s.list) (sym same_place) (rest_ascends version_cmp v (rest here.list) (subst (IsStrictlySortedBy version_cmp) e (m.queues w))))
+            (subst (λ s. IsStrictlySortedBy version_cmp s.list) (sym same_place)
+            (rest_ascends version_cmp v (rest here.list) (subst (IsStrictlySortedBy version_cmp) e (m.queues w))))
         | inr n ↦ subst (λ s. IsStrictlySortedBy version_cmp s.list) (sym (other i n)) (m.queues i)
       ];
       came = λ i. elim (cases_eq i w) [
@@ -203,7 +224,8 @@ merge_more selection all states met held top taken w v m less is least =
         | inr n ↦ ((m.came i).0, (m.came i).1 ∙ sym (ap (λ s. (m.came i).0 ++ s.list) (other i n)))
       ];
       refusals = λ i. elim (cases_eq i w) [
-        | inl at_w ↦ m.refusals i ∙ ap (λ j. (coming_at states j).refusal) at_w ∙ sym (ap (λ s. s.refusal) same_place) ∙ sym (ap (λ j. (coming_at (without_head states w) j).refusal) at_w)
+        | inl at_w ↦ m.refusals i ∙ ap (λ j. (coming_at states j).refusal) at_w ∙ sym (ap (λ s. s.refusal) same_place)
+            ∙ sym (ap (λ j. (coming_at (without_head states w) j).refusal) at_w)
         | inr n ↦ m.refusals i ∙ sym (ap (λ s. s.refusal) (other i n))
       ];
       same = λ q. m.same q
@@ -215,7 +237,8 @@ merge_more selection all states met held top taken w v m less is least =
       floor = λ i.
           elim (cases_eq i w) [
             | inl at_w ↦ subst (λ j. Floor (Some v) (coming_at (without_head states w) j).list) (sym at_w)
-                (subst (λ s. Floor (Some v) s.list) (sym same_place) (floor_rest version_cmp_total v (rest here.list) (subst (IsStrictlySortedBy version_cmp) e (m.queues w))))
+                (subst (λ s. Floor (Some v) s.list) (sym same_place)
+                (floor_rest version_cmp_total v (rest here.list) (subst (IsStrictlySortedBy version_cmp) e (m.queues w))))
             | inr n ↦ subst (λ s. Floor (Some v) s.list) (sym (other i n)) (floor_of v (coming_at states i).list (least i) (m.queues i))
           ];
       count = omega (arith, m.count, length_taken states w v (rest here.list) e);

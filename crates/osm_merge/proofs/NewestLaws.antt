@@ -1,5 +1,6 @@
 -- What stays of the list of a history where the newest version of each object is moved to the front in place.
-use Rattle.std.proofs.Common.{◌≡◌, ℕ, zero, suc, ◌+◌, ◌<◌, ◌≤◌, Bool, true, false, List, [], ◌∷◌, ◌++◌, length, take, drop, get_or, set, refl, sym, ap, ◌∙◌, subst, arith, append_assoc, length-drop}
+use Rattle.std.proofs.Common.{◌≡◌, ℕ, zero, suc, ◌+◌, ◌<◌, ◌≤◌, Bool, true, false, List, [], ◌∷◌, ◌++◌, length, take, drop, get_or, set}
+use Rattle.std.proofs.Common.{refl, sym, ap, ◌∙◌, subst, arith, append_assoc, length-drop}
 use Rattle.std.specs.Prelude.{slice_get}
 use Rattle.std.specs.List.{SwappedAt}
 use Rattle.std.specs.List.Sorted.{IsStrictlySortedBy}
@@ -40,7 +41,8 @@ first_left [] (suc n) = refl
 first_left (x ∷ xs) zero = refl
 first_left (x ∷ xs) (suc n) = first_left xs n
 
-module _ (list items : List VersionData) (place count : ℕ) (h : IsSettling list items place count) (inside : place < length items) (d : VersionData) (stays : Bool) (is : stays ≡ keeps Newest (get_or items place d) (slice_get items (place + 1))) where
+module _ (list items : List VersionData) (place count : ℕ) (h : IsSettling list items place count) (inside : place < length items)
+    (d : VersionData) (stays : Bool) (is : stays ≡ keeps Newest (get_or items place d) (slice_get items (place + 1))) where
   abbrev v : VersionData
   v = get_or items place d
 
@@ -58,20 +60,25 @@ module _ (list items : List VersionData) (place count : ℕ) (h : IsSettling lis
       ap newest_of (sym from_here)
       ∙ (λ i. only (stays_is i) v ++ newest_of (rest_next i))
 
-  pub settling_skips : (items2 : List VersionData) (count2 : ℕ) → stays ≡ false → items2 ≡ items → count2 ≡ count → IsSettling list items2 (place + 1) count2
+  pub settling_skips : (items2 : List VersionData) (count2 : ℕ) → stays ≡ false → items2 ≡ items → count2 ≡ count →
+      IsSettling list items2 (place + 1) count2
   settling_skips items2 count2 out same fixed = rw (same, fixed) (record {
     same_length = h.same_length;
     behind = omega (arith, h.behind);
     rest = rest_next;
-    chosen = ap (λ (t : List VersionData). take count items ++ t) (sym (newest_here ∙ ap (λ (b : Bool). only b v ++ newest_of (drop (place + 1) list)) out)) ∙ h.chosen;
+    chosen = ap (λ (t : List VersionData). take count items ++ t)
+        (sym (newest_here ∙ ap (λ (b : Bool). only b v ++ newest_of (drop (place + 1) list)) out)) ∙ h.chosen;
   })
 
-  pub settling_moves : (items2 items3 : List VersionData) (count2 : ℕ) → stays ≡ true → SwappedAt items items2 count place → items3 ≡ items2 → count2 ≡ count + 1 → IsSettling list items3 (place + 1) count2
+  pub settling_moves : (items2 items3 : List VersionData) (count2 : ℕ) → stays ≡ true → SwappedAt items items2 count place →
+      items3 ≡ items2 → count2 ≡ count + 1 → IsSettling list items3 (place + 1) count2
   settling_moves items2 items3 count2 stayed swapped same more =
       let sets = swapped.3 d in
       let long : length items2 ≡ length items = ap length sets ∙ length-set _ place _ ∙ length-set items count _ in
-      let front : take count items2 ≡ take count items = ap (take count) sets ∙ take-set-le count _ place _ h.behind ∙ take-set-le count items count _ (omega arith) in
-      let back : drop (place + 1) items2 ≡ drop (place + 1) items = ap (drop (place + 1)) sets ∙ drop-set-lt (place + 1) _ place _ (omega arith) ∙ drop-set-lt (place + 1) items count _ (omega (arith, h.behind)) in
+      let front : take count items2 ≡ take count items = ap (take count) sets ∙ take-set-le count _ place _ h.behind
+      ∙ take-set-le count items count _ (omega arith) in
+      let back : drop (place + 1) items2 ≡ drop (place + 1) items = ap (drop (place + 1)) sets
+      ∙ drop-set-lt (place + 1) _ place _ (omega arith) ∙ drop-set-lt (place + 1) items count _ (omega (arith, h.behind)) in
       let taken : take (count + 1) items2 ≡ take count items ++ v ∷ [] =
       take_more items2 count d (omega (arith, long, inside, h.behind)) ∙ (λ i. front i ++ swapped.0 d i ∷ []) in
       rw (same, more) (record {
@@ -81,17 +88,21 @@ module _ (list items : List VersionData) (place count : ℕ) (h : IsSettling lis
         chosen =
             ap (λ (t : List VersionData). t ++ newest_of (drop (place + 1) list)) taken
             ∙ append_assoc (take count items) (v ∷ []) (newest_of (drop (place + 1) list))
-            ∙ ap (λ (t : List VersionData). take count items ++ t) (sym (newest_here ∙ ap (λ (b : Bool). only b v ++ newest_of (drop (place + 1) list)) stayed))
+            ∙ ap (λ (t : List VersionData). take count items ++ t)
+            (sym (newest_here ∙ ap (λ (b : Bool). only b v ++ newest_of (drop (place + 1) list)) stayed))
             ∙ h.chosen;
       })
 
-pub settled_list : (set : VersionSet) (items : List VersionData) (place count : ℕ) → IsSettling (listed set) items place count → length (listed set) ≤ place → take count items ≡ listed (snapshot set)
+pub settled_list : (set : VersionSet) (items : List VersionData) (place count : ℕ) → IsSettling (listed set) items place count →
+    length (listed set) ≤ place → take count items ≡ listed (snapshot set)
 settled_list set items place count h end =
     let none : drop place (listed set) ≡ [] = nil_from_length _ (omega (arith, end, length-drop place (listed set))) in
-    sym (append-nil (take count items)) ∙ ap (λ (t : List VersionData). take count items ++ newest_of t) (sym none) ∙ h.chosen ∙ pass_of_set Newest set
+    sym (append-nil (take count items)) ∙ ap (λ (t : List VersionData). take count items ++ newest_of t) (sym none) ∙ h.chosen
+    ∙ pass_of_set Newest set
 
 pub settled_ascends : (set : VersionSet) (items : List VersionData) → items ≡ listed (snapshot set) → IsStrictlySortedBy version_cmp items
 settled_ascends set items is = subst (IsStrictlySortedBy version_cmp) (sym is) (strict-listed (snapshot set))
 
-pub settled_set : (set : VersionSet) (items : List VersionData) → items ≡ listed (snapshot set) → from_list {R = version_cmp} items ≡ snapshot set
+pub settled_set : (set : VersionSet) (items : List VersionData) → items ≡ listed (snapshot set) →
+    from_list {R = version_cmp} items ≡ snapshot set
 settled_set set items is = ap (from_list {R = version_cmp}) is ∙ set_listed (snapshot set)

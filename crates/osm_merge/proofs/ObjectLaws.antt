@@ -26,7 +26,10 @@ no_more Equal s e h k = refl
 no_more Greater s e h k = absurd (false≢true (sym h))
 
 -- what stands between two versions of an object is one too
-pub objects_together : (u v w : VersionData) → version_cmp u v ≡ Less → version_cmp v w ≡ Less → same_object u w ≡ true → same_object u v ≡ true
+pub objects_together : (u v w : VersionData) → version_cmp u v ≡ Less → version_cmp v w ≡ Less → same_object u w ≡ true →
+    same_object u v ≡ true
 objects_together u v w uv vw uw =
-    let back : is_gt (object_cmp w u) ≡ false = ap is_gt (object_cmp_total.antisymm w u) ∙ ap (λ r. is_gt (ordering_reverse r)) ((Equal-is (object_cmp u w)).0 uw) in
-    no_more (object_cmp u v) (object_cmp v u) (object_cmp_total.antisymm u v) (object_rises u v uv) (upto object_cmp_total v w u (object_rises v w vw) back)
+    let back : is_gt (object_cmp w u) ≡ false = ap is_gt (object_cmp_total.antisymm w u)
+    ∙ ap (λ r. is_gt (ordering_reverse r)) ((Equal-is (object_cmp u w)).0 uw) in
+    no_more (object_cmp u v) (object_cmp v u) (object_cmp_total.antisymm u v) (object_rises u v uv)
+    (upto object_cmp_total v w u (object_rises v w vw) back)

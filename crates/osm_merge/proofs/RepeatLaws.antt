@@ -1,5 +1,6 @@
 -- What is known of equal heads, from turn to turn.
-use Rattle.std.proofs.Common.{◌≡◌, ℕ, ◌==◌, true, false, cond, ◌&&◌, List, get_or, refl, sym, ap, ◌∙◌, subst, Option, Some, None, get_or-set_other}
+use Rattle.std.proofs.Common.{◌≡◌, ℕ, ◌==◌, true, false, cond, ◌&&◌, List, get_or, refl, sym, ap, ◌∙◌, subst, Option, Some, None}
+use Rattle.std.proofs.Common.{get_or-set_other}
 use Rattle.std.proofs.Math.ListN.{set}
 use Rattle.std.specs.Ordering.{is_lt}
 use Rattle.std.specs.Cmp.{tied_itself}
@@ -13,7 +14,8 @@ use Rattle.osm_merge.specs.Pass.{passes, is_met, held_next}
 use Rattle.osm_merge.specs.Repeats.{opposite, taken_with, after_taking, IsTied, IsPast, IsPastAt, IsKnown, one_if, told_by}
 
 -- a version is not met behind itself
-pub past_itself : (selection : Selection) (held : Option VersionData) (v : VersionData) → is_met selection (held_next selection held v) v ≡ false
+pub past_itself : (selection : Selection) (held : Option VersionData) (v : VersionData) →
+    is_met selection (held_next selection held v) v ≡ false
 past_itself selection held v =
     elim (is_met selection held v) as (λ b. is_met selection held v ≡ b → is_met selection (cond b (Some v) held) v ≡ false) [
       | true ↦ λ h. ap (λ r. is_lt r && passes selection v) (tied_itself version_cmp_total v)
@@ -21,11 +23,13 @@ past_itself selection held v =
     ] refl
 
 -- nothing is known at first
-pub nothing_known : (selection : Selection) (heads : List (Option VersionData)) → IsKnown selection None heads (record { tie = None; taken = None })
+pub nothing_known : (selection : Selection) (heads : List (Option VersionData)) →
+    IsKnown selection None heads (record { tie = None; taken = None })
 nothing_known selection heads = record { tied = tt; past = tt }
 
 -- a head that is known not to be met
-pub known_past : {selection : Selection} {held : Option VersionData} {heads : List (Option VersionData)} {repeats : Repeats} (place : ℕ) (v : VersionData) → IsKnown selection held heads repeats → repeats.taken ≡ Some place → get_or heads place None ≡ Some v
+pub known_past : {selection : Selection} {held : Option VersionData} {heads : List (Option VersionData)} {repeats : Repeats} (place : ℕ)
+    (v : VersionData) → IsKnown selection held heads repeats → repeats.taken ≡ Some place → get_or heads place None ≡ Some v
     → is_met selection held v ≡ false
 known_past {selection} {held} {heads} place v known is at =
     subst (IsPast selection held) at (subst (IsPastAt selection held heads) is known.past)
@@ -40,7 +44,8 @@ told_after None place = refl
 told_after (Some tie) place = told_with tie (opposite tie place)
 
 -- a head elsewhere that is equal to one that was taken is not met any more
-module _ (selection : Selection) (held : Option VersionData) (heads : List (Option VersionData)) (w : ℕ) (v : VersionData) (given : Option VersionData) (at_w : get_or heads w None ≡ Some v) where
+module _ (selection : Selection) (held : Option VersionData) (heads : List (Option VersionData)) (w : ℕ) (v : VersionData)
+    (given : Option VersionData) (at_w : get_or heads w None ≡ Some v) where
   abbrev heads2 : List (Option VersionData)
   heads2 = set heads w given
 
@@ -51,13 +56,16 @@ module _ (selection : Selection) (held : Option VersionData) (heads : List (Opti
   stays_at : (place : ℕ) → (place == w) ≡ false → get_or heads2 place None ≡ get_or heads place None
   stays_at place h = get_or-set_other heads w place given None (eqb-false place w h)
 
-  past_at : (place : ℕ) → (place == w) ≡ false → get_or heads place None ≡ get_or heads w None → IsPastAt selection (held_next selection held v) heads2 (Some place)
-  past_at place h same = subst (IsPast selection (held_next selection held v)) (sym (stays_at place h ∙ same ∙ at_w)) (past_itself selection held v)
+  past_at : (place : ℕ) → (place == w) ≡ false → get_or heads place None ≡ get_or heads w None →
+      IsPastAt selection (held_next selection held v) heads2 (Some place)
+  past_at place h same = subst (IsPast selection (held_next selection held v)) (sym (stays_at place h ∙ same ∙ at_w))
+      (past_itself selection held v)
 
   pub known_after : (tie : Option Tie) → IsTied heads tie → IsKnownNow (after_taking tie w)
   known_after None tied = (tt, tt)
   known_after (Some tie) tied =
-      elim (tie.one == w) as (λ b. (tie.one == w) ≡ b → IsKnownNow (taken_with (cond b (cond (tie.other == w) None (Some tie.other)) (cond (tie.other == w) (Some tie.one) None)) tie)) [
+      elim (tie.one == w) as (λ b. (tie.one == w) ≡ b →
+      IsKnownNow (taken_with (cond b (cond (tie.other == w) None (Some tie.other)) (cond (tie.other == w) (Some tie.one) None)) tie)) [
         | true ↦ λ h.
             let one_is : tie.one ≡ w = eqb-true tie.one w h in
             elim (tie.other == w) as (λ b. (tie.other == w) ≡ b → IsKnownNow (taken_with (cond b None (Some tie.other)) tie)) [

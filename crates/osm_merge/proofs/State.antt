@@ -29,13 +29,15 @@ IsUnder (Some held) (Some top) = is_gt (version_cmp held top) ≡ false
 
 -- Of what the sources gave at first, so many versions were taken, the greatest one last; those that pass were met, each once,
 -- and the last of them is held back; `states` is still to come, the heads included.
-pub record IsMerging (selection : Selection) (all states : List VersionsToCome) (met : List VersionData) (held top : Option VersionData) (taken : ℕ) : Type 0 where
+pub record IsMerging (selection : Selection) (all states : List VersionsToCome) (met : List VersionData) (held top : Option VersionData)
+    (taken : ℕ) : Type 0 where
   pub size : length states ≡ length all
   pub ascends : IsStrictlySortedBy version_cmp met
   pub queues : (i : ℕ) → IsStrictlySortedBy version_cmp (coming_at states i).list
   pub came : (i : ℕ) → (gone : List VersionData) × ((coming_at all i).list ≡ gone ++ (coming_at states i).list)
   pub refusals : (i : ℕ) → (coming_at all i).refusal ≡ (coming_at states i).refusal
-  pub same : (q : VersionData) → (among q (versions_of all) && passes selection q) ≡ (among q met || (among q (versions_of states) && passes selection q))
+  pub same : (q : VersionData) → (among q (versions_of all) && passes selection q)
+      ≡ (among q met || (among q (versions_of states) && passes selection q))
   pub ends : Ends held met
   pub floor : (i : ℕ) → Floor top (coming_at states i).list
   pub under : IsUnder held top

@@ -54,17 +54,21 @@ apart_equal : (v w : VersionData) (ws : List VersionData) → object_cmp v w ≡
 apart_equal v w [] e h = tt
 apart_equal v w (z ∷ zs) e h = (object_cmp_total.congr v w z e ∙ h.0, apart_equal v w zs e h.1)
 
-all_from : (P : VersionData → Type 0) (R : VersionData → VersionData → Ordering) (x : VersionData) (rest : List VersionData → List VersionData) →
-    ((zs : List VersionData) → AllByRecursion P zs → AllByRecursion P (rest zs)) → P x → (ys : List VersionData) → AllByRecursion P ys → AllByRecursion P (merged_from R x rest ys)
+all_from : (P : VersionData → Type 0) (R : VersionData → VersionData → Ordering) (x : VersionData)
+    (rest : List VersionData → List VersionData) →
+    ((zs : List VersionData) → AllByRecursion P zs → AllByRecursion P (rest zs)) → P x → (ys : List VersionData) → AllByRecursion P ys →
+    AllByRecursion P (merged_from R x rest ys)
 all_from P R x rest k h [] g = (h, k [] tt)
 all_from P R x rest k h (y ∷ ys) g =
-    elim (R x y) as (λ r. AllByRecursion P (elim r as (λ _. List VersionData) [ Less ↦ x ∷ rest (y ∷ ys) | Equal ↦ x ∷ rest ys | Greater ↦ y ∷ merged_from R x rest ys ])) [
+    elim (R x y) as (λ r. AllByRecursion P (elim r as
+    (λ _. List VersionData) [ Less ↦ x ∷ rest (y ∷ ys) | Equal ↦ x ∷ rest ys | Greater ↦ y ∷ merged_from R x rest ys ])) [
       | Less ↦ (h, k (y ∷ ys) g)
       | Equal ↦ (h, k ys g.1)
       | Greater ↦ (g.0, all_from P R x rest k h ys g.1)
     ]
 
-all_merged : (P : VersionData → Type 0) (R : VersionData → VersionData → Ordering) (xs ys : List VersionData) → AllByRecursion P xs → AllByRecursion P ys → AllByRecursion P (merged R xs ys)
+all_merged : (P : VersionData → Type 0) (R : VersionData → VersionData → Ordering) (xs ys : List VersionData) → AllByRecursion P xs →
+    AllByRecursion P ys → AllByRecursion P (merged R xs ys)
 all_merged P R [] ys h g = g
 all_merged P R (x ∷ xs) ys h g = all_from P R x (merged R xs) (λ zs. all_merged P R xs zs h.1) h.0 ys g
 
@@ -95,9 +99,12 @@ newest_tied x y xs ys h g e =
     let back : object_cmp y x ≡ Equal = tied_back object_cmp_total x y e in
     let x_ys : Apart x ys = apart_equal x y ys e g in
     let y_xs : Apart y xs = apart_equal y x xs back h in
-    let x_keeps : newest_of (x ∷ merged version_cmp xs ys) ≡ x ∷ newest_of (merged version_cmp xs ys) = newest_keeps x (merged version_cmp xs ys) (all_merged _ version_cmp xs ys h x_ys) in
-    let y_keeps : newest_of (y ∷ merged version_cmp xs ys) ≡ y ∷ newest_of (merged version_cmp xs ys) = newest_keeps y (merged version_cmp xs ys) (all_merged _ version_cmp xs ys y_xs g) in
-    elim (version_cmp x y) as (λ r. version_cmp x y ≡ r → newest_of (merged version_cmp (x ∷ xs) (y ∷ ys)) ≡ cond (is_lt r) y x ∷ newest_of (merged version_cmp xs ys)) [
+    let x_keeps : newest_of (x ∷ merged version_cmp xs ys) ≡ x ∷ newest_of (merged version_cmp xs ys) =
+    newest_keeps x (merged version_cmp xs ys) (all_merged _ version_cmp xs ys h x_ys) in
+    let y_keeps : newest_of (y ∷ merged version_cmp xs ys) ≡ y ∷ newest_of (merged version_cmp xs ys) =
+    newest_keeps y (merged version_cmp xs ys) (all_merged _ version_cmp xs ys y_xs g) in
+    elim (version_cmp x y) as (λ r. version_cmp x y ≡ r →
+    newest_of (merged version_cmp (x ∷ xs) (y ∷ ys)) ≡ cond (is_lt r) y x ∷ newest_of (merged version_cmp xs ys)) [
       | Less ↦ λ f.
           ap newest_of (merged-less version_cmp x y xs ys f ∙ ap (λ t. x ∷ t) (front_right y xs ys y_xs))
           ∙ newest_drops x y (merged version_cmp xs ys) e ∙ y_keeps
@@ -116,18 +123,25 @@ newest_from x xs h k [] g =
     ∙ sym (newest_keeps x (merged version_cmp xs []) (all_merged _ version_cmp xs [] h tt))
 newest_from x xs h k (y ∷ ys) g =
     elim (object_cmp x y) as (λ r. object_cmp x y ≡ r →
-    (elim r as (λ _. List VersionData) [ Less ↦ x ∷ joined object_cmp xs (y ∷ ys) | Equal ↦ greater x y ∷ joined object_cmp xs ys | Greater ↦ y ∷ joined object_cmp (x ∷ xs) ys ])
+    (elim r as (λ _. List VersionData) [
+      | Less ↦ x ∷ joined object_cmp xs (y ∷ ys)
+      | Equal ↦ greater x y
+          ∷ joined object_cmp xs ys
+      | Greater ↦ y ∷ joined object_cmp (x ∷ xs) ys
+    ])
     ≡ newest_of (merged version_cmp (x ∷ xs) (y ∷ ys))) [
       | Less ↦ λ e.
           let x_ys : Apart x (y ∷ ys) = (e, apart_less x y ys e g.0) in
           ap (λ t. x ∷ t) (k (y ∷ ys) g)
-          ∙ sym (ap newest_of (front_left x xs (y ∷ ys) x_ys) ∙ newest_keeps x (merged version_cmp xs (y ∷ ys)) (all_merged _ version_cmp xs (y ∷ ys) h x_ys))
+          ∙ sym (ap newest_of (front_left x xs (y ∷ ys) x_ys)
+          ∙ newest_keeps x (merged version_cmp xs (y ∷ ys)) (all_merged _ version_cmp xs (y ∷ ys) h x_ys))
       | Equal ↦ λ e. ap (λ t. greater x y ∷ t) (k ys g.1) ∙ sym (newest_tied x y xs ys h g.0 e)
       | Greater ↦ λ e.
           let less : object_cmp y x ≡ Less = turned_back object_cmp_total x y e in
           let y_xs : Apart y (x ∷ xs) = (less, apart_less y x xs less h) in
           ap (λ t. y ∷ t) (newest_from x xs h k ys g.1)
-          ∙ sym (ap newest_of (front_right y (x ∷ xs) ys y_xs) ∙ newest_keeps y (merged version_cmp (x ∷ xs) ys) (all_merged _ version_cmp (x ∷ xs) ys y_xs g.0))
+          ∙ sym (ap newest_of (front_right y (x ∷ xs) ys y_xs)
+          ∙ newest_keeps y (merged version_cmp (x ∷ xs) ys) (all_merged _ version_cmp (x ∷ xs) ys y_xs g.0))
     ] refl
 
 newest_same : (xs : List VersionData) → IsStrictlySortedBy object_cmp xs → newest_of xs ≡ xs
@@ -136,7 +150,8 @@ newest_same [] h = refl
 newest_same (x ∷ xs) h = newest_keeps x xs h.0 ∙ ap (λ t. x ∷ t) (newest_same xs h.1)
 
 -- joined by their objects, two lists with one version of each object give the newest versions of their merge
-joined_objects : (xs ys : List VersionData) → IsStrictlySortedBy object_cmp xs → IsStrictlySortedBy object_cmp ys → joined object_cmp xs ys ≡ newest_of (merged version_cmp xs ys)
+joined_objects : (xs ys : List VersionData) → IsStrictlySortedBy object_cmp xs → IsStrictlySortedBy object_cmp ys →
+    joined object_cmp xs ys ≡ newest_of (merged version_cmp xs ys)
 unfolding IsStrictlySortedBy
 joined_objects [] ys h g = sym (newest_same ys g)
 joined_objects (x ∷ xs) ys h g = newest_from x xs h.0 (λ zs. joined_objects xs zs h.1) ys g
@@ -145,7 +160,11 @@ joined_objects (x ∷ xs) ys h g = newest_from x xs h.0 (λ zs. joined_objects x
 all_kept : (P : VersionData → Type 0) (xs : List VersionData) → AllByRecursion P xs → AllByRecursion P (newest_of xs)
 all_kept P [] h = tt
 all_kept P (x ∷ xs) h =
-    elim (keeps Newest x (first xs)) as (λ b. AllByRecursion P (only b x ++ newest_of xs)) [ true ↦ (h.0, all_kept P xs h.1) | false ↦ all_kept P xs h.1 ]
+    elim (keeps Newest x (first xs)) as (λ b. AllByRecursion P (only b x ++ newest_of xs)) [
+      | true ↦
+          (h.0, all_kept P xs h.1)
+      | false ↦ all_kept P xs h.1
+    ]
 
 up_to_less : (x y z : VersionData) → object_cmp x y ≡ Less → is_gt (object_cmp y z) ≡ false → object_cmp x z ≡ Less
 up_to_less x y z less up =
@@ -158,17 +177,20 @@ up_to_less x y z less up =
       | Greater ↦ λ e f. absurd (false≢true (sym f))
     ] refl up
 
-behind_less : (x y : VersionData) (zs : List VersionData) → object_cmp x y ≡ Less → AllByRecursion (λ z. version_cmp y z ≡ Less) zs → Apart x zs
+behind_less : (x y : VersionData) (zs : List VersionData) → object_cmp x y ≡ Less → AllByRecursion (λ z. version_cmp y z ≡ Less) zs →
+    Apart x zs
 behind_less x y [] less h = tt
 behind_less x y (z ∷ zs) less h = (up_to_less x y z less (object_rises y z h.0), behind_less x y zs less h.1)
 
 -- a version that stays is of another object than the next one
-other_object : (r : Ordering) (w : VersionData) → is_gt r ≡ false → is_none (option_map moment (cond (is_eq r) (Some w) None)) ≡ true → r ≡ Less
+other_object : (r : Ordering) (w : VersionData) → is_gt r ≡ false → is_none (option_map moment (cond (is_eq r) (Some w) None)) ≡ true →
+    r ≡ Less
 other_object Less w h k = refl
 other_object Equal w h k = absurd (false≢true k)
 other_object Greater w h k = absurd (false≢true (sym h))
 
-kept_apart : (x : VersionData) (xs : List VersionData) → IsStrictlySortedBy version_cmp (x ∷ xs) → keeps Newest x (first xs) ≡ true → Apart x xs
+kept_apart : (x : VersionData) (xs : List VersionData) → IsStrictlySortedBy version_cmp (x ∷ xs) → keeps Newest x (first xs) ≡ true →
+    Apart x xs
 unfolding IsStrictlySortedBy
 kept_apart x [] h k = tt
 kept_apart x (y ∷ ys) h k =
@@ -195,18 +217,23 @@ kept_ascends s is = subst (λ (t : VersionSet). IsStrictlySortedBy object_cmp (l
 listed_union : (s t : VersionSet) → listed (union s t) ≡ merged version_cmp (listed s) (listed t)
 listed_union s t =
     ap listed (sym (from_list-merged version_cmp_total version_cmp-IsAntisymmetric (listed s) (listed t)))
-    ∙ listed-from_list version_cmp_total version_cmp-IsAntisymmetric _ (sorted_merged version_cmp_total (listed s) (listed t) (strict-listed s) (strict-listed t))
+    ∙ listed-from_list version_cmp_total version_cmp-IsAntisymmetric _
+    (sorted_merged version_cmp_total (listed s) (listed t) (strict-listed s) (strict-listed t))
 
-joined_listed : (order : OrderBy) (s t : VersionSet) → IsStrictlySortedBy (order_of order) (listed s) → IsStrictlySortedBy (order_of order) (listed t) →
+joined_listed : (order : OrderBy) (s t : VersionSet) → IsStrictlySortedBy (order_of order) (listed s) →
+    IsStrictlySortedBy (order_of order) (listed t) →
     joined (order_of order) (listed s) (listed t) ≡ listed (taken order s t)
 joined_listed Versions s t h g = joined_versions (listed s) (listed t) ∙ sym (listed_union s t)
-joined_listed Objects s t h g = joined_objects (listed s) (listed t) h g ∙ ap newest_of (sym (listed_union s t)) ∙ pass_of_set Newest (union s t)
+joined_listed Objects s t h g = joined_objects (listed s) (listed t) h g ∙ ap newest_of (sym (listed_union s t))
+    ∙ pass_of_set Newest (union s t)
 
-pub joined_ascends : (order : OrderBy) (s t : VersionSet) → IsStrictlySortedBy (order_of order) (listed s) → IsStrictlySortedBy (order_of order) (listed t) →
+pub joined_ascends : (order : OrderBy) (s t : VersionSet) → IsStrictlySortedBy (order_of order) (listed s) →
+    IsStrictlySortedBy (order_of order) (listed t) →
     IsStrictlySortedBy version_cmp (joined (order_of order) (listed s) (listed t))
 joined_ascends order s t h g = subst (IsStrictlySortedBy version_cmp) (sym (joined_listed order s t h g)) (strict-listed (taken order s t))
 
-pub joined_set : (order : OrderBy) (s t : VersionSet) → IsStrictlySortedBy (order_of order) (listed s) → IsStrictlySortedBy (order_of order) (listed t) →
+pub joined_set : (order : OrderBy) (s t : VersionSet) → IsStrictlySortedBy (order_of order) (listed s) →
+    IsStrictlySortedBy (order_of order) (listed t) →
     from_list {R = version_cmp} (joined (order_of order) (listed s) (listed t)) ≡ taken order s t
 joined_set order s t h g = ap (from_list {R = version_cmp}) (joined_listed order s t h g) ∙ set_listed (taken order s t)
 

@@ -1,5 +1,6 @@
 -- Two lists that ascend by an order, joined: what stands before a version moves as a whole, and by versions it is their merge.
-use Rattle.std.proofs.Common.{◌≡◌, ℕ, zero, suc, ◌+◌, ◌<◌, ◌≤◌, true, false, List, [], ◌∷◌, ◌++◌, length, take, drop, get_or, refl, sym, ap, ◌∙◌, arith, cond, inl, inr, append_assoc, length-append, length-drop, ◌-◌}
+use Rattle.std.proofs.Common.{◌≡◌, ℕ, zero, suc, ◌+◌, ◌<◌, ◌≤◌, true, false, List, [], ◌∷◌, ◌++◌, length, take, drop, get_or, refl, sym, ap}
+use Rattle.std.proofs.Common.{◌∙◌, arith, cond, inl, inr, append_assoc, length-append, length-drop, ◌-◌}
 use Rattle.std.proofs.lemmas.Bool.{false≢true, cases_lt}
 use Rattle.std.proofs.lemmas.List.{take-append-drop, get_or_default, take_more, drop_more, take_all, length-take-le, nil_from_length}
 use Rattle.std.proofs.lemmas.Map.Keys.{Less-from_sorted}
@@ -26,7 +27,10 @@ front_all : {K : Type 0} (P : K → Type 0) (xs : List K) (n : ℕ) → n ≤ le
 front_all P [] zero h all = tt
 front_all P [] (suc n) h all = tt
 front_all P (x ∷ xs) zero h all = tt
-front_all P (x ∷ xs) (suc n) h all = (all 0 x (omega arith) (omega arith), front_all P xs n (omega arith) (λ k d low below. all (suc k) d (omega arith) (omega arith)))
+front_all P (x ∷ xs) (suc n) h all = (
+  all 0 x (omega arith) (omega arith),
+  front_all P xs n (omega arith) (λ k d low below. all (suc k) d (omega arith) (omega arith)),
+)
 
 module _ (R : VersionData → VersionData → Ordering) where
   pub joined-nil : (xs : List VersionData) → joined R xs [] ≡ xs
@@ -35,14 +39,20 @@ module _ (R : VersionData → VersionData → Ordering) where
 
   joined-less : (x y : VersionData) (xs ys : List VersionData) → R x y ≡ Less → joined R (x ∷ xs) (y ∷ ys) ≡ x ∷ joined R xs (y ∷ ys)
   joined-less x y xs ys e =
-      ap (λ r. elim r as (λ _. List VersionData) [ Less ↦ x ∷ joined R xs (y ∷ ys) | Equal ↦ greater x y ∷ joined R xs ys | Greater ↦ y ∷ joined R (x ∷ xs) ys ]) e
+      ap (λ r. elim r as (λ _. List VersionData) [
+        | Less ↦ x ∷ joined R xs (y ∷ ys)
+        | Equal ↦ greater x y ∷ joined R xs ys
+        | Greater ↦ y
+            ∷ joined R (x ∷ xs) ys
+      ]) e
 
   -- the first one isn't below this one
   abbrev NoneBelow : VersionData → List VersionData → Type 0
   NoneBelow y [] = Unit {0}
   NoneBelow y (z ∷ zs) = is_lt (R z y) ≡ false
 
-  first_not_below : (y : VersionData) (xs : List VersionData) (n : ℕ) → AllWithin (λ x. is_lt (R x y) ≡ false) xs n (length xs) → NoneBelow y (drop n xs)
+  first_not_below : (y : VersionData) (xs : List VersionData) (n : ℕ) → AllWithin (λ x. is_lt (R x y) ≡ false) xs n (length xs) →
+      NoneBelow y (drop n xs)
   first_not_below y [] zero all = tt
   first_not_below y [] (suc n) all = tt
   first_not_below y (x ∷ xs) zero all = all 0 x (omega arith) (omega arith)
@@ -55,11 +65,17 @@ module _ (R : VersionData → VersionData → Ordering) where
   joined-run (x ∷ xs) zs y ys h = joined-less x y (xs ++ zs) ys h.0 ∙ ap (λ t. x ∷ t) (joined-run xs zs y ys h.1)
 
   -- then it comes, or the one that ties with it
-  joined-put : (zs : List VersionData) (y : VersionData) (ys : List VersionData) → NoneBelow y zs → joined R zs (y ∷ ys) ≡ greater_tied R y zs ∷ joined R (untied R y zs) ys
+  joined-put : (zs : List VersionData) (y : VersionData) (ys : List VersionData) → NoneBelow y zs →
+      joined R zs (y ∷ ys) ≡ greater_tied R y zs ∷ joined R (untied R y zs) ys
   joined-put [] y ys h = refl
   joined-put (z ∷ zs) y ys h =
       elim (R z y) as (λ r. is_lt r ≡ false →
-      (elim r as (λ _. List VersionData) [ Less ↦ z ∷ joined R zs (y ∷ ys) | Equal ↦ greater z y ∷ joined R zs ys | Greater ↦ y ∷ joined R (z ∷ zs) ys ])
+      (elim r as (λ _. List VersionData) [
+        | Less ↦ z ∷ joined R zs (y ∷ ys)
+        | Equal ↦ greater z y ∷ joined R zs ys
+        | Greater ↦ y
+            ∷ joined R (z ∷ zs) ys
+      ])
       ≡ cond (is_eq r) (greater z y) y ∷ joined R (cond (is_eq r) zs (z ∷ zs)) ys) [
         | Less ↦ λ e. absurd (false≢true (sym e))
         | Equal ↦ λ e. refl
@@ -86,12 +102,14 @@ module _ (R : VersionData → VersionData → Ordering) where
   untied_ascends y (x ∷ xs) h = elim (is_eq (R x y)) as (λ b. IsStrictlySortedBy R (cond b xs (x ∷ xs))) [ true ↦ h.1 | false ↦ h ]
 
   -- what is left ascends
-  pub left_ascends : (y : VersionData) (n : ℕ) (xs : List VersionData) → IsStrictlySortedBy R xs → IsStrictlySortedBy R (untied R y (drop n xs))
+  pub left_ascends : (y : VersionData) (n : ℕ) (xs : List VersionData) → IsStrictlySortedBy R xs →
+      IsStrictlySortedBy R (untied R y (drop n xs))
   left_ascends y n xs h = untied_ascends y (drop n xs) (drop_ascends n xs h)
 
   pub untied_shorter : (y : VersionData) (xs : List VersionData) → length (untied R y xs) ≤ length xs
   untied_shorter y [] = omega arith
-  untied_shorter y (x ∷ xs) = elim (is_eq (R x y)) as (λ b. length (cond b xs (x ∷ xs)) ≤ length (x ∷ xs)) [ true ↦ omega arith | false ↦ omega arith ]
+  untied_shorter y (x ∷ xs) = elim (is_eq (R x y)) as
+      (λ b. length (cond b xs (x ∷ xs)) ≤ length (x ∷ xs)) [ true ↦ omega arith | false ↦ omega arith ]
 
 -- What is below `low` is below the version, and nothing from `high` on is.
 pub record IsHalving (R : VersionData → VersionData → Ordering) (v : VersionData) (xs : List VersionData) (low high : ℕ) : Type 0 where
@@ -99,22 +117,26 @@ pub record IsHalving (R : VersionData → VersionData → Ordering) (v : Version
   pub below : AllWithin (λ x. R x v ≡ Less) xs 0 low
   pub others : AllWithin (λ x. is_lt (R x v) ≡ false) xs high (length xs)
 
-module _ {R : VersionData → VersionData → Ordering} (o : IsTotalOrder R) (v : VersionData) (xs : List VersionData) (up : IsStrictlySortedBy R xs) where
-  up_to_below : (k middle : ℕ) (d : VersionData) → k ≤ middle → middle < length xs → R (get_or xs middle d) v ≡ Less → R (get_or xs k d) v ≡ Less
+module _ {R : VersionData → VersionData → Ordering} (o : IsTotalOrder R) (v : VersionData) (xs : List VersionData)
+    (up : IsStrictlySortedBy R xs) where
+  up_to_below : (k middle : ℕ) (d : VersionData) → k ≤ middle → middle < length xs → R (get_or xs middle d) v ≡ Less →
+      R (get_or xs k d) v ≡ Less
   up_to_below k middle d to inside less =
       elim (cases_lt k middle) [
         | inl before ↦ o.trans _ _ v (Less-from_sorted R xs k middle d up before inside) less
         | inr from ↦ let same : k ≡ middle = omega arith in ap (λ (i : ℕ). R (get_or xs i d) v) same ∙ less
       ]
 
-  from_not_below : (k middle : ℕ) (d : VersionData) → middle ≤ k → k < length xs → is_lt (R (get_or xs middle d) v) ≡ false → is_lt (R (get_or xs k d) v) ≡ false
+  from_not_below : (k middle : ℕ) (d : VersionData) → middle ≤ k → k < length xs → is_lt (R (get_or xs middle d) v) ≡ false →
+      is_lt (R (get_or xs k d) v) ≡ false
   from_not_below k middle d from inside none =
       elim (is_lt (R (get_or xs k d) v)) as (λ b. is_lt (R (get_or xs k d) v) ≡ b → b ≡ false) [
         | true ↦ λ e. absurd (false≢true (sym none ∙ ap is_lt (up_to_below middle k d from inside (is_less _ e))))
         | false ↦ λ _. refl
       ] refl
 
-  module _ (low high middle low2 high2 : ℕ) (d : VersionData) (h : IsHalving R v xs low high) (from : low ≤ middle) (to : middle < high) where
+  module _ (low high middle low2 high2 : ℕ) (d : VersionData) (h : IsHalving R v xs low high) (from : low ≤ middle)
+      (to : middle < high) where
     at : (d2 : VersionData) → get_or xs middle d2 ≡ get_or xs middle d
     at d2 = get_or_default xs middle d2 d (omega (arith, h.inside.1, to))
 
@@ -122,7 +144,8 @@ module _ {R : VersionData → VersionData → Ordering} (o : IsTotalOrder R) (v 
     pub halving_up : is_lt (R (get_or xs middle d) v) ≡ true → low2 ≡ middle + 1 → high2 ≡ high → IsHalving R v xs low2 high2
     halving_up less moved same = rw (moved, same) (record {
       inside = (omega arith, h.inside.1);
-      below = λ k d2 _ before. up_to_below k middle d2 (omega arith) (omega (arith, h.inside.1, to)) (ap (λ (x : VersionData). R x v) (at d2) ∙ is_less _ less);
+      below = λ k d2 _ before. up_to_below k middle d2 (omega arith) (omega (arith, h.inside.1, to))
+          (ap (λ (x : VersionData). R x v) (at d2) ∙ is_less _ less);
       others = h.others;
     })
 
@@ -136,7 +159,8 @@ module _ {R : VersionData → VersionData → Ordering} (o : IsTotalOrder R) (v 
 
 -- ---- moving
 -- the first one of what is left goes behind what was moved
-module _ (done all left left2 moved moved2 : List VersionData) (n : ℕ) (v : VersionData) (moved_is : moved ≡ done ++ take n all) (left_is : left ≡ drop n all) (next : left ≡ v ∷ left2) where
+module _ (done all left left2 moved moved2 : List VersionData) (n : ℕ) (v : VersionData) (moved_is : moved ≡ done ++ take n all)
+    (left_is : left ≡ drop n all) (next : left ≡ v ∷ left2) where
   inside : n < length all
   inside = omega (arith, length-drop n all, ap length left_is, ap length next)
 
@@ -148,7 +172,8 @@ module _ (done all left left2 moved moved2 : List VersionData) (n : ℕ) (v : Ve
       more
       ∙ ap (λ t. t ++ v ∷ []) moved_is
       ∙ append_assoc done (take n all) (v ∷ [])
-      ∙ ap (λ t. done ++ t) (ap (λ (x : VersionData). take n all ++ x ∷ []) (sym (ap (λ t. get_or t 0 v) split)) ∙ sym (take_more all n v inside))
+      ∙ ap (λ t. done ++ t) (ap (λ (x : VersionData). take n all ++ x ∷ []) (sym (ap (λ t. get_or t 0 v) split))
+      ∙ sym (take_more all n v inside))
 
   pub one_left : left2 ≡ drop (n + 1) all
   one_left = sym (ap (drop 1) split)
@@ -163,7 +188,8 @@ module _ (R : VersionData → VersionData → Ordering) (whole moved held more :
   -- one version was taken
   pub taking_step : (v : VersionData) (more2 moved2 moved3 held2 held3 : List VersionData) (n space2 : ℕ) →
       IsTaking R whole moved held more space → more ≡ v ∷ more2 → IsPlaceOf R v held n →
-      moved2 ≡ moved ++ take n held → held2 ≡ drop n held → held3 ≡ untied R v held2 → moved3 ≡ moved2 ++ greater_tied R v held2 ∷ [] → space2 ≡ space →
+      moved2 ≡ moved ++ take n held → held2 ≡ drop n held → held3 ≡ untied R v held2 → moved3 ≡ moved2 ++ greater_tied R v held2 ∷ [] →
+      space2 ≡ space →
       IsTaking R whole moved3 held3 more2 space2
   taking_step v more2 moved2 moved3 held2 held3 n space2 h next place front behind rest put same =
       let w = greater_tied R v (drop n held) in
@@ -179,24 +205,39 @@ module _ (R : VersionData → VersionData → Ordering) (whole moved held more :
             ∙ h.makes;
         room =
             let long : length moved3 ≡ length moved + n + 1 =
-            ap length all ∙ length-append (moved ++ take n held) (w ∷ []) ∙ ap (λ (k : ℕ). k + 1) (length-append moved (take n held) ∙ ap (λ (k : ℕ). length moved + k) (length-take-le n held place.0)) in
+            ap length all ∙ length-append (moved ++ take n held) (w ∷ [])
+            ∙ ap (λ (k : ℕ). k + 1) (length-append moved (take n held)
+            ∙ ap (λ (k : ℕ). length moved + k) (length-take-le n held place.0)) in
             let short : length held3 ≤ length held - n = rw (left, ← length-drop n held) (untied_shorter R v (drop n held)) in
             omega (arith, h.room, long, short, ap length next, same, place.0);
       }
 
   -- nothing more is taken, and what is held moves
-  pub taking_ends : (moved2 : List VersionData) (n : ℕ) → IsTaking R whole moved held more space → length more ≡ 0 → n ≡ length held → moved2 ≡ moved ++ take n held → moved2 ≡ whole
+  pub taking_ends : (moved2 : List VersionData) (n : ℕ) → IsTaking R whole moved held more space → length more ≡ 0 → n ≡ length held →
+      moved2 ≡ moved ++ take n held → moved2 ≡ whole
   taking_ends moved2 n h none every front =
-      front ∙ ap (λ t. moved ++ t) (take_all n held (omega (arith, every)) ∙ sym (joined-nil R held) ∙ ap (joined R held) (sym (nil_from_length more none))) ∙ h.makes
+      front ∙ ap (λ t. moved ++ t) (take_all n held (omega (arith, every)) ∙ sym (joined-nil R held)
+      ∙ ap (joined R held) (sym (nil_from_length more none))) ∙ h.makes
 
 -- ---- by versions
-same_from : (x : VersionData) (rest rest2 : List VersionData → List VersionData) → ((zs : List VersionData) → rest zs ≡ rest2 zs) → (ys : List VersionData) →
+same_from : (x : VersionData) (rest rest2 : List VersionData → List VersionData) → ((zs : List VersionData) → rest zs ≡ rest2 zs) →
+    (ys : List VersionData) →
     joined_from version_cmp x rest ys ≡ merged_from version_cmp x rest2 ys
 same_from x rest rest2 k [] = ap (λ t. x ∷ t) (k [])
 same_from x rest rest2 k (y ∷ ys) =
     elim (version_cmp x y) as (λ r. version_cmp x y ≡ r →
-    (elim r as (λ _. List VersionData) [ Less ↦ x ∷ rest (y ∷ ys) | Equal ↦ greater x y ∷ rest ys | Greater ↦ y ∷ joined_from version_cmp x rest ys ])
-    ≡ (elim r as (λ _. List VersionData) [ Less ↦ x ∷ rest2 (y ∷ ys) | Equal ↦ x ∷ rest2 ys | Greater ↦ y ∷ merged_from version_cmp x rest2 ys ])) [
+    (elim r as (λ _. List VersionData) [
+      | Less ↦ x ∷ rest (y ∷ ys)
+      | Equal ↦ greater x y ∷ rest ys
+      | Greater ↦ y
+          ∷ joined_from version_cmp x rest ys
+    ])
+    ≡ (elim r as (λ _. List VersionData) [
+      | Less ↦ x ∷ rest2 (y ∷ ys)
+      | Equal ↦ x ∷ rest2 ys
+      | Greater ↦ y
+          ∷ merged_from version_cmp x rest2 ys
+    ])) [
       | Less ↦ λ e. ap (λ t. x ∷ t) (k (y ∷ ys))
       | Equal ↦ λ e. (λ i. cond (is_lt (e i)) y x ∷ k ys i)
       | Greater ↦ λ e. ap (λ t. y ∷ t) (same_from x rest rest2 k ys)

@@ -27,7 +27,8 @@ in_union_all (s ∷ sets) v = contains-union version_cmp_total s (union_all sets
 equal : (s t : VersionSet) → ((v : VersionData) → contains s v ≡ contains t v) → s ≡ t
 equal = same_set version_cmp_total version_cmp-IsAntisymmetric
 
-has_more : (sets others : List VersionSet) (v : VersionData) → ((s : VersionSet) → Contains sets s → Contains others s) → some_has sets v ≡ true → some_has others v ≡ true
+has_more : (sets others : List VersionSet) (v : VersionData) → ((s : VersionSet) → Contains sets s → Contains others s) →
+    some_has sets v ≡ true → some_has others v ≡ true
 has_more sets others v more e =
     let a : Any (λ s. contains s v ≡ true) sets = Any-from_list_any (λ s. contains s v) sets e in
     let there : Contains others (a.1) = more (a.1) (a.0, a.2, a.3) in
@@ -41,15 +42,18 @@ union_of_the_same sets others same =
 
 in_groups : (groups : List (List VersionSet)) (v : VersionData) → some_has (map union_all groups) v ≡ some_has (flat_map (λ g. g) groups) v
 in_groups [] v = refl
-in_groups (g ∷ groups) v = (λ i. in_union_all g v i || in_groups groups v i) ∙ sym (list_any-append (λ s. contains s v) g (flat_map (λ g. g) groups))
+in_groups (g ∷ groups) v = (λ i. in_union_all g v i || in_groups groups v i)
+    ∙ sym (list_any-append (λ s. contains s v) g (flat_map (λ g. g) groups))
 
 pub union_of_groups : UnionOfGroups
 union_of_groups groups =
     equal _ _ (λ v. in_union_all (map union_all groups) v ∙ in_groups groups v ∙ sym (in_union_all (flat_map (λ g. g) groups) v))
 
 pub union_with_empty : UnionWithEmpty
-union_with_empty s = equal _ _ (λ v. contains-union version_cmp_total empty s v ∙ ap (λ b. b || contains s v) (contains-from_list version_cmp_total [] v))
+union_with_empty s = equal _ _ (λ v. contains-union version_cmp_total empty s v
+    ∙ ap (λ b. b || contains s v) (contains-from_list version_cmp_total [] v))
 
 pub union_stays_in_range : UnionStaysInRange
 union_stays_in_range [] h = are_versions empty (λ v e. absurd (false≢true (sym (contains-from_list version_cmp_total [] v) ∙ e)))
-union_stays_in_range (s ∷ sets) h = unions_are_versions s (union_all sets) (All-head AreVersions s sets h) (union_stays_in_range sets (All-tail AreVersions s sets h))
+union_stays_in_range (s ∷ sets) h = unions_are_versions s (union_all sets) (All-head AreVersions s sets h)
+    (union_stays_in_range sets (All-tail AreVersions s sets h))

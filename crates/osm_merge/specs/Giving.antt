@@ -15,5 +15,7 @@ abbrev pub ForSome : {S C : Type 0} → (S → C → Type 0) → List S → (Lis
 ForSome {C = C} can sources P = (all : List C) × AllGive can sources all × P all
 
 -- this holds of all that stood with these heads before something that the sources can give
-abbrev pub ForStanding : {S : Type 0} → (S → VersionsToCome → Type 0) → List S → List (Option VersionData) → (List VersionsToCome → Type 0) → Type 0
-ForStanding can sources heads P = ForSome can sources (λ behind. (all : List VersionsToCome) → AllAscend all → AllStand all heads (map Some behind) → P all)
+abbrev pub ForStanding : {S : Type 0} → (S → VersionsToCome → Type 0) → List S → List (Option VersionData) →
+    (List VersionsToCome → Type 0) → Type 0
+ForStanding can sources heads P = ForSome can sources
+    (λ behind. (all : List VersionsToCome) → AllAscend all → AllStand all heads (map Some behind) → P all)

@@ -25,15 +25,18 @@ StateOfUnion = (s t : VersionSet) (time : ℕ) → at (union s t) time ≡ snaps
 
 -- and so for any number of histories
 abbrev pub StateOfUnions : Type 0
-StateOfUnions = (sets : List VersionSet) (time : ℕ) → at (union_all sets) time ≡ snapshot (union_all (map (λ s. at s time) sets))
+StateOfUnions = (sets : List VersionSet) (time : ℕ) →
+    at (union_all sets) time ≡ snapshot (union_all (map (λ s. at s time) sets))
 
 -- the union of some sets changes neither with their order nor with how often each is among them
 abbrev pub UnionOfTheSame : Type 0
-UnionOfTheSame = (sets others : List VersionSet) → ((s : VersionSet) → Contains sets s ↔ Contains others s) → union_all sets ≡ union_all others
+UnionOfTheSame = (sets others : List VersionSet) → ((s : VersionSet) → Contains sets s ↔ Contains others s) →
+    union_all sets ≡ union_all others
 
 -- nor with how they are grouped
 abbrev pub UnionOfGroups : Type 0
-UnionOfGroups = (groups : List (List VersionSet)) → union_all (map union_all groups) ≡ union_all (flat_map (λ group. group) groups)
+UnionOfGroups = (groups : List (List VersionSet)) →
+    union_all (map union_all groups) ≡ union_all (flat_map (λ group. group) groups)
 
 -- the empty set adds nothing
 abbrev pub UnionWithEmpty : Type 0

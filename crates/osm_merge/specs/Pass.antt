@@ -1,11 +1,13 @@
 -- The pass: which versions of an ascending list are put, each decided once the one behind it is known.
-use Rattle.std.specs.Prelude.{ℕ, Bool, true, false, ◌&&◌, List, [], ◌∷◌, ◌++◌, if◌then◌else◌, nat_lt, Option, Some, None, is_none, option_map, option_to_list}
+use Rattle.std.specs.Prelude.{ℕ, Bool, true, false, ◌&&◌, List, [], ◌∷◌, ◌++◌, if◌then◌else◌, nat_lt, Option, Some}
+use Rattle.std.specs.Prelude.{None, is_none, option_map, option_to_list}
 use Rattle.std.specs.Ordering.{is_eq, is_lt}
 use Rattle.std.specs.List.{filter}
 use Rattle.osm_model.specs.Data.{VersionData}
 use Rattle.osm_model.specs.Order.{object_cmp, version_cmp}
 use Rattle.osm_merge.specs.declared.selection.Selection.{Selection}
-use Rattle.osm_merge.specs.declared.selection.Selection.TheVariants.{All, Visible, Newest, NewestVisible, State, StateVisible, Between}
+use Rattle.osm_merge.specs.declared.selection.Selection.TheVariants.{All, Visible, Newest, NewestVisible, State}
+use Rattle.osm_merge.specs.declared.selection.Selection.TheVariants.{StateVisible, Between}
 use Rattle.osm_merge.specs.Members.{first}
 use Rattle.osm_merge.specs.Selected.{moment, is_visible, is_by, lasts}
 

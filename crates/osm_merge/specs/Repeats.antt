@@ -1,4 +1,5 @@
--- What is known of equal heads, so that none is compared again with an equal version that was taken (own definitions of this project).
+-- What is known of equal heads, so that none is compared again with an equal version that was taken (own definitions of
+-- this project).
 use Rattle.std.specs.Prelude.{◌≡◌, ℕ, ◌+◌, ◌==◌, ◌≤◌, false, List, slice_index_or, Option, Some, None, if◌then◌else◌}
 use Rattle.osm_model.specs.Data.{VersionData}
 use Rattle.osm_merge.specs.declared.repeats.Tie.{Tie}
@@ -38,7 +39,8 @@ IsPastAt selection held heads None = Unit {0}
 IsPastAt selection held heads (Some place) = IsPast selection held (slice_index_or heads place None)
 
 -- what is known is so
-pub record IsKnown (selection : Selection) (held : Option VersionData) (heads : List (Option VersionData)) (repeats : Repeats) : Type 0 where
+pub record IsKnown (selection : Selection) (held : Option VersionData) (heads : List (Option VersionData))
+    (repeats : Repeats) : Type 0 where
   pub tied : IsTied heads repeats.tie
   pub past : IsPastAt selection held heads repeats.taken
 

@@ -29,7 +29,8 @@ greater v w = if is_lt (version_cmp v w) then w else v
 module _ (R : VersionData → VersionData → Ordering) where
   -- so many versions of a list are below this one, and none of the others is
   abbrev pub IsPlaceOf : VersionData → List VersionData → ℕ → Type 0
-  IsPlaceOf v xs count = (count ≤ length xs) × IsPartitionPoint (λ x. R x v ≡ Less) (λ x. is_lt (R x v) ≡ false) xs count
+  IsPlaceOf v xs count = (count ≤ length xs)
+      × IsPartitionPoint (λ x. R x v ≡ Less) (λ x. is_lt (R x v) ≡ false) xs count
 
   -- the first one of a list ties with this one
   abbrev pub is_tied : VersionData → List VersionData → Bool
@@ -49,7 +50,12 @@ module _ (R : VersionData → VersionData → Ordering) where
   abbrev pub joined_from : VersionData → (List VersionData → List VersionData) → List VersionData → List VersionData
   joined_from x rest [] = x ∷ rest []
   joined_from x rest (y ∷ ys) =
-      elim (R x y) as (λ _. List VersionData) [ Less ↦ x ∷ rest (y ∷ ys) | Equal ↦ greater x y ∷ rest ys | Greater ↦ y ∷ joined_from x rest ys ]
+      elim (R x y) as (λ _. List VersionData) [
+        | Less ↦ x ∷ rest (y ∷ ys)
+        | Equal ↦ greater x y ∷ rest ys
+        | Greater ↦ y
+            ∷ joined_from x rest ys
+      ]
 
   -- two ascending lists in one: always the lesser of the two first members, and of two that tie the greater version
   abbrev pub joined : List VersionData → List VersionData → List VersionData

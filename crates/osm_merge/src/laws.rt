@@ -1,5 +1,7 @@
-//! Laws of unions, snapshots and states, each the contract of a function with an empty body. Nothing is run to use them.
-ghost use Rattle.osm_merge.specs.Laws.{SnapshotOfUnion, SnapshotOfUnions, SnapshotOfSnapshot, StateOfUnion, StateOfUnions};
+//! Laws of unions, snapshots and states, each the contract of a function with an empty body. Nothing is run to use
+//! them.
+ghost use Rattle.osm_merge.specs.Laws.{SnapshotOfUnion, SnapshotOfUnions, SnapshotOfSnapshot, StateOfUnion};
+ghost use Rattle.osm_merge.specs.Laws.{StateOfUnions};
 ghost use Rattle.osm_merge.specs.SliceLaws.{LinesOfSlices, SelectedOfSlice, SliceOfUnions, SlicesWriteTheWhole};
 ghost use Rattle.osm_merge.specs.SliceLaws.{SetsWithinAreSlices};
 ghost use Rattle.osm_merge.specs.Laws.{UnionOfTheSame, UnionOfGroups, UnionWithEmpty, UnionStaysInRange};

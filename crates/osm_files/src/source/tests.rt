@@ -26,7 +26,8 @@ fn beside_text(alloc: Global, file: &[u8]) -> String {
     text
 }
 
-/// A group is sorted and has no repeats; a fault comes instead of its group; lists of versions that were given back are used again.
+/// A group is sorted and has no repeats; a fault comes instead of its group; lists of versions that were given back are
+/// used again.
 const GIVEN: [(&[u8], &str); 7] = [
     (
         b"n1 v1 x2 y1\nn1 v1 x1 y1\nn1 v1 x2 y1\nn2 v1 x1 y1",

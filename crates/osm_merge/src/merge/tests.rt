@@ -215,8 +215,10 @@ const N7: &[u8] = b"n7 v1 dV c0 t i0 u T x1 y1\n";
 
 const N8: &[u8] = b"n8 v1 dV c0 t i0 u T x1 y1\n";
 
-/// Sources, and the least and the most comparisons of their merge. Of two sources with the same three versions five games are
-/// played, and three versions are compared with the one put last, as the first has none before it, and two of the others are
+/// Sources, and the least and the most comparisons of their merge. Of two sources with the same three versions five
+/// games are
+/// played, and three versions are compared with the one put last, as the first has none before it, and two of the
+/// others are
 /// known to repeat one.
 const COMPARISONS: &[(&[&[&[u8]]], u64, u64)] = &[
     (&[], 0, 0),
@@ -250,7 +252,8 @@ const CUT: Fault = Fault {
     reason: Reason::NoEnd,
 };
 
-/// Whether the call over sources of these lines, of which the second is cut, returns the fault after it wrote those lines.
+/// Whether the call over sources of these lines, of which the second is cut, returns the fault after it wrote those
+/// lines.
 fn is_cut(
     alloc: Global,
     call: Call,

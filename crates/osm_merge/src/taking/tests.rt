@@ -15,7 +15,8 @@ fn nodes(alloc: Global, count: u32, apart: u32, number: u32) -> History {
     history_of(alloc, text.as_bytes())
 }
 
-/// What is taken into these 300 versions: nothing, older and newer versions, the same ones, all objects and some, others behind.
+/// What is taken into these 300 versions: nothing, older and newer versions, the same ones, all objects and some,
+/// others behind.
 const TAKEN: &[(u32, u32, u32)] = &[
     (0, 1, 1),
     (5, 50, 1),

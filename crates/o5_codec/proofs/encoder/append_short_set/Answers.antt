@@ -8,4 +8,5 @@ returns-clause-bytes c =
     let content = drop 2 c.args.set.now in
     let size : c.len.result - 2 ≡ length content = ap (λ n. n - 2) c.len.ensures ∙ sym (length-drop 2 c.args.set.now) in
     rw (write_one (length content) (omega (arith, sym size, c.len.ensures, c.requires.short)), ← size)
-    (subst (λ set. OnOk c.append_to.result (c.append_to.new.out.items ≡ c.args.out.now.items ++ set)) (rw (c.type_byte.ensures) at c.if-not-set_front.ensures.set) c.append_to.ensures.appended)
+    (subst (λ set. OnOk c.append_to.result (c.append_to.new.out.items ≡ c.args.out.now.items ++ set))
+    (rw (c.type_byte.ensures) at c.if-not-set_front.ensures.set) c.append_to.ensures.appended)

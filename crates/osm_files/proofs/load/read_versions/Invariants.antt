@@ -10,7 +10,8 @@ use Rattle.osm_files.proofs.load.read_versions.Given as goal
 abbrev pub invariant-units : goal.invariant-units
 invariant-units g l = record {
   loads : Explained (g.R.Input.can_give l.fn.reading.coming) (g.R.Input.can_give l.reading.coming) (λ c later.
-      LoadsOn (still_to_come (fresh l.fn.reading.input (Some c))) l.versions.items (still_to_come (telling l.reading later)) × IfSome (ahead (fresh l.fn.reading.input (Some c))) (λ x. l.format ≡ format_of x.bytes));
+      LoadsOn (still_to_come (fresh l.fn.reading.input (Some c))) l.versions.items (still_to_come (telling l.reading later))
+      × IfSome (ahead (fresh l.fn.reading.input (Some c))) (λ x. l.format ≡ format_of x.bytes));
   sorted : IsTrue l.sorted ↔ IsSorted key_cmp l.versions.items;
 }
 

@@ -10,18 +10,23 @@ use Rattle.osm_files.proofs.source.begin_next.Goals as goal
 pub returns-in-Err-clause-begins : goal.returns-in-Err-clause-begins
 returns-in-Err-clause-begins g c =
     let input = c.args.units.now.input in
-    weaker_step g.R.Input.can_give c.args.units.now c.next.new.self (λ p q. Step {A = Placed} (still_to_come p) (Err c.in-Err.fault) (still_to_come q)) (λ p q. Begins input (still_to_come p) [] (Err c.in-Err.fault) (still_to_come q))
+    weaker_step g.R.Input.can_give c.args.units.now c.next.new.self
+    (λ p q. Step {A = Placed} (still_to_come p) (Err c.in-Err.fault) (still_to_come q))
+    (λ p q. Begins input (still_to_come p) [] (Err c.in-Err.fault) (still_to_come q))
     (λ a b h. refused_begins input (still_to_come a) (still_to_come b) c.in-Err.fault h) c.in-Err.ensures.step
 
 pub returns-in-Ok-None-clause-begins : goal.returns-in-Ok-None-clause-begins
 returns-in-Ok-None-clause-begins g c =
     let input = c.args.units.now.input in
-    weaker_step g.R.Input.can_give c.args.units.now c.next.new.self (λ p q. Step {A = Placed} (still_to_come p) (Ok None) (still_to_come q)) (λ p q. Begins input (still_to_come p) [] (Ok None) (still_to_come q))
+    weaker_step g.R.Input.can_give c.args.units.now c.next.new.self (λ p q. Step {A = Placed} (still_to_come p) (Ok None) (still_to_come q))
+    (λ p q. Begins input (still_to_come p) [] (Ok None) (still_to_come q))
     (λ a b h. none_begins input (still_to_come a) (still_to_come b) h) (rw c.in-Ok-None.field-0-is at c.in-Ok-None.ensures.step)
 
 pub returns-in-Ok-Some-clause-begins : goal.returns-in-Ok-Some-clause-begins
 returns-in-Ok-Some-clause-begins g c =
     let input = c.args.units.now.input in
     let u = c.in-Ok-Some.unit in
-    weaker_step g.R.Input.can_give c.args.units.now c.next.new.self (λ p q. Step {A = Placed} (still_to_come p) (Ok (Some u)) (still_to_come q)) (λ p q. Begins input (still_to_come p) [] (Ok (Some u.version)) (still_to_come q))
+    weaker_step g.R.Input.can_give c.args.units.now c.next.new.self
+    (λ p q. Step {A = Placed} (still_to_come p) (Ok (Some u)) (still_to_come q))
+    (λ p q. Begins input (still_to_come p) [] (Ok (Some u.version)) (still_to_come q))
     (λ a b h. first_begins input (still_to_come a) (still_to_come b) u h) (rw c.in-Ok-Some.field-0-is at c.in-Ok-Some.ensures.step)

@@ -14,10 +14,18 @@ returns-in-Ok-clause-gave g c =
     let within : end ≤ length room = omega (arith, c.requires.within, ap length same) in
     let few : count ≤ length came = omega (arith, c.in-Ok.ensures.within, c.read.auto.buffer) in
     let written = take end room ++ (came ++ behind) in
-    let fits : end + count ≤ c.args.room.now.len = omega (arith, c.in-Ok.ensures.within, length-take (end + c.args.most - end) (drop end room), c.requires.within, ap length same, c.deref_mut.ensures.len) in
+    let fits : end + count ≤ c.args.room.now.len = omega (
+      arith,
+      c.in-Ok.ensures.within,
+      length-take (end + c.args.most - end) (drop end room),
+      c.requires.within,
+      ap length same,
+      c.deref_mut.ensures.len,
+    ) in
     let long : end + count ≤ length written = omega (arith, few, length-take-le end room within) in (
       take count came,
       c.in-Ok.ensures.bytes,
-      written_front (end + count) c.args.room.now.len written (drop (length written) c.args.room.now.items) fits long ∙ came_behind end count room came behind within few ∙ ap (λ xs. take end xs ++ take count came) same,
+      written_front (end + count) c.args.room.now.len written (drop (length written) c.args.room.now.items) fits long
+          ∙ came_behind end count room came behind within few ∙ ap (λ xs. take end xs ++ take count came) same,
       length-take-le count came few,
     )

@@ -4,7 +4,8 @@ use Rattle.osm_model.specs.Sets.{listed, from_list}
 use Rattle.osm_merge.specs.Selected.{selected}
 use Rattle.osm_merge.specs.Pass.{only}
 use Rattle.osm_merge.proofs.Choosing.{choose_skip, choose_first, choose_next, choose_none, choose_last}
-use Rattle.osm_merge.proofs.chosen.choose.Goals.{then-passes+in-Some+in_ok-copy_if, then-passes+in_default, else-passes, in-Some-held+in_ok-copy_if-2, in_default-held}
+use Rattle.osm_merge.proofs.chosen.choose.Goals.{then-passes+in-Some+in_ok-copy_if, then-passes+in_default, else-passes}
+use Rattle.osm_merge.proofs.chosen.choose.Goals.{in-Some-held+in_ok-copy_if-2, in_default-held}
 use Rattle.osm_merge.proofs.chosen.choose.Goals as goal
 
 pub loop-place-preserved : goal.loop-place-preserved
@@ -15,14 +16,18 @@ loop-place-preserved c =
     let inside : c.loop-place.place < length list = search rules in
     elim c.if-passes.branch [
       | then-passes+in-Some+in_ok-copy_if b ↦
-          choose_next s list c.loop-place.place w inside c.get-version.ensures c.loop-place.held c.if-passes.held b.in-Some.before b.get-before.result.now c.loop-place.chosen.items c.if-passes.chosen.items
+          choose_next s list c.loop-place.place w inside c.get-version.ensures c.loop-place.held c.if-passes.held b.in-Some.before
+          b.get-before.result.now c.loop-place.chosen.items c.if-passes.chosen.items
           c.loop-place.invariant (sym b.if-passes.ensures) b.in-Some.is b.get-before.ensures b.held-is
-          (ap (λ v. v.items) b.chosen-is ∙ b.in_ok-copy_if.ensures ∙ ap (λ stays. c.loop-place.chosen.items ++ only stays b.get-before.result.now) b.keeps.ensures)
+          (ap (λ v. v.items) b.chosen-is ∙ b.in_ok-copy_if.ensures
+          ∙ ap (λ stays. c.loop-place.chosen.items ++ only stays b.get-before.result.now) b.keeps.ensures)
       | then-passes+in_default b ↦
-          choose_first s list c.loop-place.place w inside c.get-version.ensures c.loop-place.held c.if-passes.held c.loop-place.chosen.items c.if-passes.chosen.items
+          choose_first s list c.loop-place.place w inside c.get-version.ensures c.loop-place.held c.if-passes.held c.loop-place.chosen.items
+          c.if-passes.chosen.items
           c.loop-place.invariant (sym b.if-passes.ensures) b.in_default.is b.held-is (ap (λ v. v.items) b.chosen-is)
       | else-passes b ↦
-          choose_skip s list c.loop-place.place w inside c.get-version.ensures c.loop-place.held c.if-passes.held c.loop-place.chosen.items c.if-passes.chosen.items
+          choose_skip s list c.loop-place.place w inside c.get-version.ensures c.loop-place.held c.if-passes.held c.loop-place.chosen.items
+          c.if-passes.chosen.items
           c.loop-place.invariant (sym b.if-passes.ensures) b.held-is (ap (λ v. v.items) b.chosen-is)
     ]
 
@@ -34,9 +39,11 @@ returns c =
     let chosen : from_list c.match-held-2.chosen.items ≡ selected s set =
     elim c.match-held-2.branch [
       | in-Some-held+in_ok-copy_if-2 b ↦
-          choose_last s set c.loop-place.place whole c.loop-place.held b.in-Some-held.last b.get-last.result.now c.loop-place.chosen.items c.match-held-2.chosen.items
+          choose_last s set c.loop-place.place whole c.loop-place.held b.in-Some-held.last b.get-last.result.now c.loop-place.chosen.items
+          c.match-held-2.chosen.items
           c.loop-place.invariant b.in-Some-held.is b.get-last.ensures
-          (ap (λ v. v.items) b.chosen-is ∙ b.in_ok-copy_if-2.ensures ∙ ap (λ stays. c.loop-place.chosen.items ++ only stays b.get-last.result.now) b.stays.ensures)
+          (ap (λ v. v.items) b.chosen-is ∙ b.in_ok-copy_if-2.ensures
+          ∙ ap (λ stays. c.loop-place.chosen.items ++ only stays b.get-last.result.now) b.stays.ensures)
       | in_default-held b ↦
           choose_none s set c.loop-place.place whole c.loop-place.held c.loop-place.chosen.items c.match-held-2.chosen.items
           c.loop-place.invariant b.in_default-held.is (ap (λ v. v.items) b.chosen-is)

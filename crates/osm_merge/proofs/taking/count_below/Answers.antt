@@ -17,18 +17,26 @@ index-requires c =
 
 pub halves-preserved-then-is_lt : goal.halves-preserved-then-is_lt
 halves-preserved-then-is_lt c =
-    let less : is_lt (order_of c.args.order c.index.result.now c.args.version.now) ≡ true = ap is_lt (sym c.compare.ensures) ∙ sym c.is_lt.ensures ∙ c.if-is_lt.true in
-    halving_up (order_total c.args.order) c.args.version.now c.args.held.now.items c.requires c.halves.low c.halves.high (c.halves.low + c.min.result) _ _ c.index.result.now
+    let less : is_lt (order_of c.args.order c.index.result.now c.args.version.now) ≡ true = ap is_lt (sym c.compare.ensures)
+    ∙ sym c.is_lt.ensures ∙ c.if-is_lt.true in
+    halving_up (order_total c.args.order) c.args.version.now c.args.held.now.items c.requires c.halves.low c.halves.high
+    (c.halves.low + c.min.result) _ _ c.index.result.now
     c.halves.invariant (omega arith) (omega (arith, c.min.ensures, c.halves-test.true)) (rw (← c.index.ensures) less) refl refl
 
 pub halves-preserved : goal.halves-preserved
 halves-preserved c =
-    let none : is_lt (order_of c.args.order c.index.result.now c.args.version.now) ≡ false = ap is_lt (sym c.compare.ensures) ∙ sym c.is_lt.ensures ∙ c.if-is_lt.false in
-    halving_down (order_total c.args.order) c.args.version.now c.args.held.now.items c.requires c.halves.low c.halves.high (c.halves.low + c.min.result) _ _ c.index.result.now
+    let none : is_lt (order_of c.args.order c.index.result.now c.args.version.now) ≡ false = ap is_lt (sym c.compare.ensures)
+    ∙ sym c.is_lt.ensures ∙ c.if-is_lt.false in
+    halving_down (order_total c.args.order) c.args.version.now c.args.held.now.items c.requires c.halves.low c.halves.high
+    (c.halves.low + c.min.result) _ _ c.index.result.now
     c.halves.invariant (omega arith) (omega (arith, c.min.ensures, c.halves-test.true)) (rw (← c.index.ensures) none) refl refl
 
 pub returns : goal.returns
 returns c = (
   omega (arith, c.halves.invariant.inside.0, c.halves.invariant.inside.1),
-  (c.halves.invariant.below, λ k d from less. c.halves.invariant.others k d (omega (arith, from, c.halves.invariant.inside.0, c.halves-test.false)) less),
+  (
+    c.halves.invariant.below,
+    λ k d from less. c.halves.invariant.others k d
+        (omega (arith, from, c.halves.invariant.inside.0, c.halves-test.false)) less,
+  ),
 )

@@ -13,7 +13,17 @@ push_reserved-requires c =
     let long = length-append c.args.room.now.items (take c.moves.counter held) in
     let taken : length (take c.moves.counter held) ≡ c.moves.counter =
     length-take-le c.moves.counter held (omega (arith, c.moves-test.true, c.requires.enough, c.args.held.now.ok.0)) in
-    omega (arith, c.moves.room.ok.0, c.args.room.now.ok.0, ap length c.moves.invariant.0, long, taken, c.moves.invariant.2, c.moves-test.true, c.requires.room)
+    omega (
+      arith,
+      c.moves.room.ok.0,
+      c.args.room.now.ok.0,
+      ap length c.moves.invariant.0,
+      long,
+      taken,
+      c.moves.invariant.2,
+      c.moves-test.true,
+      c.requires.room,
+    )
 
 pub moves-preserved : goal.moves-preserved
 moves-preserved c =
@@ -21,14 +31,25 @@ moves-preserved c =
     let n = c.moves.counter in
     elim c.match-pop_front.branch [
       | in-Some w ↦ (
-        one_moved c.args.room.now.items held c.moves.held.items c.pop_front.new.self.items c.moves.room.items c.match-pop_front.room.items n w.in-Some.version
+        one_moved c.args.room.now.items held c.moves.held.items c.pop_front.new.self.items c.moves.room.items c.match-pop_front.room.items n
+            w.in-Some.version
             c.moves.invariant.0 c.moves.invariant.1 w.in-Some.ensures.items (ap (λ v. v.items) w.room-is ∙ w.push_reserved.ensures.items),
-        one_left c.args.room.now.items held c.moves.held.items c.pop_front.new.self.items c.moves.room.items c.match-pop_front.room.items n w.in-Some.version
+        one_left c.args.room.now.items held c.moves.held.items c.pop_front.new.self.items c.moves.room.items c.match-pop_front.room.items n
+            w.in-Some.version
             c.moves.invariant.0 c.moves.invariant.1 w.in-Some.ensures.items,
         ap (λ v. vec_capacity v) w.room-is ∙ w.push_reserved.ensures.capacity ∙ c.moves.invariant.2,
       )
       | in_default w ↦
-          absurd (omega (arith, w.in_default.ensures.cases.0, c.moves.held.ok.0, ap length c.moves.invariant.1, length-drop n held, c.moves-test.true, c.requires.enough, c.args.held.now.ok.0))
+          absurd (omega (
+            arith,
+            w.in_default.ensures.cases.0,
+            c.moves.held.ok.0,
+            ap length c.moves.invariant.1,
+            length-drop n held,
+            c.moves-test.true,
+            c.requires.enough,
+            c.args.held.now.ok.0,
+          ))
     ]
 
 pub returns-clause-moved : goal.returns-clause-moved

@@ -10,14 +10,17 @@ pub from_ascending-requires : goal.from_ascending-requires
 from_ascending-requires c =
     let all : c.move_joined.new.room.items ≡ joined (order_of c.args.order) (listed c.args.held.now) (listed c.args.more) =
     c.move_joined.ensures
-    ∙ (λ i. c.in_ok-room.ensures.items i ++ joined (order_of c.args.order) ((c.into_versions-all.ensures ∙ ap listed c.replace.ensures.value) i) (c.into_versions.ensures i)) in
-    subst (IsStrictlySortedBy version_cmp) (sym all) (joined_ascends c.args.order c.args.held.now c.args.more c.requires.held_ascends c.requires.more_ascends)
+    ∙ (λ i. c.in_ok-room.ensures.items i ++ joined (order_of c.args.order)
+    ((c.into_versions-all.ensures ∙ ap listed c.replace.ensures.value) i) (c.into_versions.ensures i)) in
+    subst (IsStrictlySortedBy version_cmp) (sym all)
+    (joined_ascends c.args.order c.args.held.now c.args.more c.requires.held_ascends c.requires.more_ascends)
 
 pub returns : goal.returns
 returns c =
     let all : c.move_joined.new.room.items ≡ joined (order_of c.args.order) (listed c.args.held.now) (listed c.args.more) =
     c.move_joined.ensures
-    ∙ (λ i. c.in_ok-room.ensures.items i ++ joined (order_of c.args.order) ((c.into_versions-all.ensures ∙ ap listed c.replace.ensures.value) i) (c.into_versions.ensures i)) in
+    ∙ (λ i. c.in_ok-room.ensures.items i ++ joined (order_of c.args.order)
+    ((c.into_versions-all.ensures ∙ ap listed c.replace.ensures.value) i) (c.into_versions.ensures i)) in
     c.from_ascending.ensures
     ∙ ap (from_list {R = version_cmp}) all
     ∙ joined_set c.args.order c.args.held.now c.args.more c.requires.held_ascends c.requires.more_ascends

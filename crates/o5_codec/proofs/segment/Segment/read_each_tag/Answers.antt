@@ -10,7 +10,8 @@ loop-rest-init c = rw c.take_tags-tags.ensures (items_begin tag_at c.args.self.n
 pub returns-in_err-rest : goal.returns-in_err-rest
 returns-in_err-rest c =
     let p = err_from_is_err_and c.from_residual.result c.from_residual.ensures.1 in
-    rw (p.1, p.2) (items_not_added tag_at _ _ _ _ _ _ c.loop-rest.invariant (filled_by_test _ c.loop-rest-test.ensures) c.in_err-rest.ensures.value)
+    rw (p.1, p.2) (items_not_added tag_at _ _ _ _ _ _ c.loop-rest.invariant
+    (filled_by_test _ c.loop-rest-test.ensures) c.in_err-rest.ensures.value)
 
 pub loop-rest-preserved : goal.loop-rest-preserved
 loop-rest-preserved c =
@@ -18,4 +19,5 @@ loop-rest-preserved c =
 
 pub returns : goal.returns
 returns c =
-    items_end tag_at _ _ _ _ _ c.loop-rest.invariant (empty_by_test _ c.loop-rest-test.ensures) ∙ ap (λ items. Ok (items, c.loop-rest.self)) (sym c.from_vec.ensures)
+    items_end tag_at _ _ _ _ _ c.loop-rest.invariant (empty_by_test _ c.loop-rest-test.ensures)
+    ∙ ap (λ items. Ok (items, c.loop-rest.self)) (sym c.from_vec.ensures)

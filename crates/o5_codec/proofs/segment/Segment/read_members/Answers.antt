@@ -10,12 +10,15 @@ loop-rest-init c = rw c.take_members-members.ensures (items_begin member_at c.ar
 pub returns-in_err-member : goal.returns-in_err-member
 returns-in_err-member c =
     let p = err_from_is_err_and c.from_residual.result c.from_residual.ensures.1 in
-    rw (p.1, p.2) (items_wanting member_at _ _ _ _ _ _ c.loop-rest.invariant (filled_by_test _ c.loop-rest-test.ensures) c.in_err-member.ensures.value)
+    rw (p.1, p.2) (items_wanting member_at _ _ _ _ _ _ c.loop-rest.invariant
+    (filled_by_test _ c.loop-rest-test.ensures) c.in_err-member.ensures.value)
 
 pub loop-rest-preserved : goal.loop-rest-preserved
 loop-rest-preserved c =
-    rw c.in_ok-push.ensures.items (items_more member_at _ _ _ _ _ _ _ _ c.loop-rest.invariant c.in_ok-member.ensures.value c.in_ok-member.ensures.shorter)
+    rw c.in_ok-push.ensures.items (items_more member_at _ _ _ _ _ _ _ _ c.loop-rest.invariant c.in_ok-member.ensures.value
+    c.in_ok-member.ensures.shorter)
 
 pub returns : goal.returns
 returns c =
-    items_end member_at _ _ _ _ _ c.loop-rest.invariant (empty_by_test _ c.loop-rest-test.ensures) ∙ ap (λ items. Ok (items, c.loop-rest.self)) (sym c.from_vec.ensures)
+    items_end member_at _ _ _ _ _ c.loop-rest.invariant (empty_by_test _ c.loop-rest-test.ensures)
+    ∙ ap (λ items. Ok (items, c.loop-rest.self)) (sym c.from_vec.ensures)

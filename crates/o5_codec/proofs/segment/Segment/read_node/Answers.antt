@@ -6,4 +6,11 @@ use Rattle.o5_codec.proofs.segment.Segment.read_node.Goals as goal
 pub returns-then-is_empty : goal.returns-then-is_empty
 unfolding node_at
 returns-then-is_empty c =
-    rw (c.in_ok-lon.ensures, c.in_ok-lat.ensures, items_none tag_at c.read_latitude.new.self c.in_ok-lat.rest.now (empty_by_test _ c.if-is_empty.ensures), c.replace.ensures, c.no_tags-tags.ensures) (search rules)
+    rw (
+      c.in_ok-lon.ensures,
+      c.in_ok-lat.ensures,
+      items_none tag_at c.read_latitude.new.self c.in_ok-lat.rest.now
+          (empty_by_test _ c.if-is_empty.ensures),
+      c.replace.ensures,
+      c.no_tags-tags.ensures,
+    ) (search rules)

@@ -6,8 +6,10 @@ pub of_sound_parts-requires : goal.of_sound_parts-requires
 of_sound_parts-requires c =
     let same : to_z w64 (of_z w64 c.in_ok-id.id) ≡ c.in_ok-id.id = search rules in
     rw (c.deref_mut-3.ensures.value, c.deref_mut-2.ensures.value, same)
-    (set_faultless c.args.kind c.args.self.now c.args.content.now _ _ _ c.requires c.in_ok-id.ensures c.in_ok-rest.ensures c.in_ok-read_body.ensures).0
+    (set_faultless c.args.kind c.args.self.now c.args.content.now _ _ _ c.requires c.in_ok-id.ensures c.in_ok-rest.ensures
+    c.in_ok-read_body.ensures).0
 
 pub returns-clause-sound : goal.returns-clause-sound
 returns-clause-sound c =
-    (set_faultless c.args.kind c.args.self.now c.args.content.now _ _ _ c.requires c.in_ok-id.ensures c.in_ok-rest.ensures c.in_ok-read_body.ensures).1
+    (set_faultless c.args.kind c.args.self.now c.args.content.now _ _ _ c.requires c.in_ok-id.ensures c.in_ok-rest.ensures
+    c.in_ok-read_body.ensures).1

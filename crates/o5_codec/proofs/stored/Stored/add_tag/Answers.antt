@@ -8,8 +8,11 @@ use Rattle.o5_codec.proofs.stored.Stored.add_tag.Goals as goal
 
 pub returns-in_ok-push-in-Text-Text : goal.returns-in_ok-push-in-Text-Text
 returns-in_ok-push-in-Text-Text c =
-    let key : text_of c.args.self.now.first ≡ Ok c.in-Text-Text.key = rw (← c.self.view_is) (text_meant _ _ c.in-Text-Text.is-0 c.self.invariant.first) in
-    let value : text_of c.args.self.now.second ≡ Ok c.in-Text-Text.value = rw (← c.self.view_is) (text_meant _ _ c.in-Text-Text.is-1 c.self.invariant.second) in
+    let key : text_of c.args.self.now.first ≡ Ok c.in-Text-Text.key =
+    rw (← c.self.view_is) (text_meant _ _ c.in-Text-Text.is-0 c.self.invariant.first) in
+    let value : text_of c.args.self.now.second ≡ Ok c.in-Text-Text.value =
+    rw (← c.self.view_is) (text_meant _ _ c.in-Text-Text.is-1 c.self.invariant.second) in
     let tag : Tag = record { key = c.in_ok-key-in-Text-Text.key; value = c.in_ok-value-in-Text-Text.value } in
-    let read : tag_of c.args.self.now ≡ Ok tag = tag_read _ _ _ (rw c.in_ok-key-in-Text-Text.ensures key) (rw c.in_ok-value-in-Text-Text.ensures value) in
+    let read : tag_of c.args.self.now ≡ Ok tag = tag_read _ _ _ (rw c.in_ok-key-in-Text-Text.ensures key)
+    (rw c.in_ok-value-in-Text-Text.ensures value) in
     ap (and_added c.args.tags.now.items) read ∙ ap Ok (sym c.in_ok-push-in-Text-Text.ensures.items)

@@ -6,6 +6,8 @@ use Rattle.o5_codec.proofs.stored.Stored.put_user.Goals as goal
 
 pub returns-in_ok-copy_to-in-Uid-Text : goal.returns-in_ok-copy_to-in-Uid-Text
 returns-in_ok-copy_to-in-Uid-Text c =
-    let id : uid_of c.args.self.now.first ≡ Ok c.in-Uid-Text.uid = rw (← c.self.view_is) (uid_meant _ _ _ c.in-Uid-Text.is-0 c.self.invariant.first) in
-    let name : text_of c.args.self.now.second ≡ Ok c.in-Uid-Text.name = rw (← c.self.view_is) (text_meant _ _ c.in-Uid-Text.is-1 c.self.invariant.second) in
+    let id : uid_of c.args.self.now.first ≡ Ok c.in-Uid-Text.uid =
+    rw (← c.self.view_is) (uid_meant _ _ _ c.in-Uid-Text.is-0 c.self.invariant.first) in
+    let name : text_of c.args.self.now.second ≡ Ok c.in-Uid-Text.name =
+    rw (← c.self.view_is) (text_meant _ _ c.in-Uid-Text.is-1 c.self.invariant.second) in
     rw c.from-meta.ensures (ap (and_user c.args.meta.now) (user_read c.args.self.now _ _ id (rw c.in_ok-copy_to-in-Uid-Text.ensures name)))

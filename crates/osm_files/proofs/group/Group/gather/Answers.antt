@@ -17,7 +17,9 @@ pub units-init : goal.units-init
 units-init g c = record {
   number = refl;
   keeps = (let from = gathered c.args.units.now.input in let group = c.args.self.now.first ∷ c.args.self.now.others.items in
-      unread g.R.Input.can_give c.args.units.now c.args.units.now (λ p q. Keeps (from (still_to_come p) group []) (from (still_to_come q) group [])) refl (λ d. kept (from (still_to_come (telling c.args.units.now d)) group [])));
+      unread g.R.Input.can_give c.args.units.now c.args.units.now
+      (λ p q. Keeps (from (still_to_come p) group []) (from (still_to_come q) group [])) refl
+      (λ d. kept (from (still_to_come (telling c.args.units.now d)) group [])));
   first = refl;
   group = c.requires.group;
   left = omega arith;
@@ -28,42 +30,73 @@ returns-in_err-unit-clause-refuses g c =
     let p = err_from_is_err_and c.from_residual.result c.from_residual.ensures.1 in
     rw (p.1, p.2) (λ later k.
     let y = c.in_err-unit.ensures.step later k in
-    let x = c.units.invariant.keeps y.0 y.1 in
-    (x.0, x.1, refuses_read c.args.units.now.input (still_to_come (telling c.args.units.now x.0)) c.args.self.now.others.items (still_to_come (telling c.units.units y.0)) (still_to_come (telling c.next.new.self later)) c.args.self.now.first c.units.self.others.items x.2 c.in_err-unit.field-0.0 y.2))
+    let x = c.units.invariant.keeps y.0 y.1 in (
+      x.0,
+      x.1,
+      refuses_read c.args.units.now.input (still_to_come (telling c.args.units.now x.0)) c.args.self.now.others.items
+          (still_to_come (telling c.units.units y.0)) (still_to_come (telling c.next.new.self later)) c.args.self.now.first
+          c.units.self.others.items x.2 c.in_err-unit.field-0.0 y.2,
+    ))
 
 pub returns-in_default-clause-gathers : goal.returns-in_default-clause-gathers
 returns-in_default-clause-gathers g c = λ later k.
     let y = (rw c.in_default.is at c.in_ok-unit.ensures.step) later k in
-    let x = c.units.invariant.keeps y.0 y.1 in
-    (x.0, x.1, ends_group c.args.units.now.input (still_to_come (telling c.args.units.now x.0)) c.args.self.now.others.items (still_to_come (telling c.units.units y.0)) (still_to_come (telling c.next.new.self later)) c.args.self.now.first c.units.self.others.items x.2 c.units.invariant.group y.2)
+    let x = c.units.invariant.keeps y.0 y.1 in (
+      x.0,
+      x.1,
+      ends_group c.args.units.now.input (still_to_come (telling c.args.units.now x.0)) c.args.self.now.others.items
+          (still_to_come (telling c.units.units y.0)) (still_to_come (telling c.next.new.self later)) c.args.self.now.first
+          c.units.self.others.items x.2 c.units.invariant.group y.2,
+    )
 
 pub returns-then-is_lt-clause-gathers : goal.returns-then-is_lt-clause-gathers
 returns-then-is_lt-clause-gathers g c = λ later k.
     let u = c.in-Some.unit in
-    let less : is_lt (key_cmp c.args.self.now.first u.version) ≡ true = ap (λ v. is_lt (key_cmp v u.version)) (sym c.units.invariant.first) ∙ ap is_lt (sym c.key_cmp-order.ensures) ∙ sym c.is_lt.ensures ∙ c.if-is_lt.true in
+    let less : is_lt (key_cmp c.args.self.now.first u.version) ≡ true = ap (λ v. is_lt (key_cmp v u.version)) (sym c.units.invariant.first)
+    ∙ ap is_lt (sym c.key_cmp-order.ensures) ∙ sym c.is_lt.ensures ∙ c.if-is_lt.true in
     let y = (rw c.in-Some.is at c.in_ok-unit.ensures.step) later k in
-    let x = c.units.invariant.keeps y.0 y.1 in
-    (x.0, x.1, begins_next c.args.units.now.input (still_to_come (telling c.args.units.now x.0)) c.args.self.now.others.items (still_to_come (telling c.units.units y.0)) (still_to_come (telling c.next.new.self later)) c.args.self.now.first c.units.self.others.items x.2 c.units.invariant.group u y.2 less)
+    let x = c.units.invariant.keeps y.0 y.1 in (
+      x.0,
+      x.1,
+      begins_next c.args.units.now.input (still_to_come (telling c.args.units.now x.0)) c.args.self.now.others.items
+          (still_to_come (telling c.units.units y.0)) (still_to_come (telling c.next.new.self later)) c.args.self.now.first
+          c.units.self.others.items x.2 c.units.invariant.group u y.2 less,
+    )
 
 pub returns-then-is_gt-clause-refuses : goal.returns-then-is_gt-clause-refuses
 returns-then-is_gt-clause-refuses g c = λ later k.
     let u = c.in-Some.unit in
     let failed = c.refuse.ensures.failed in
-    let greater : is_gt (key_cmp c.args.self.now.first u.version) ≡ true = ap (λ v. is_gt (key_cmp v u.version)) (sym c.units.invariant.first) ∙ ap is_gt (sym c.key_cmp-order.ensures) ∙ sym c.is_gt.ensures ∙ c.if-is_gt.true in
+    let greater : is_gt (key_cmp c.args.self.now.first u.version) ≡ true =
+    ap (λ v. is_gt (key_cmp v u.version)) (sym c.units.invariant.first) ∙ ap is_gt (sym c.key_cmp-order.ensures) ∙ sym c.is_gt.ensures
+    ∙ c.if-is_gt.true in
     let y = (rw c.in-Some.is at c.in_ok-unit.ensures.step) later (subst (λ r. g.R.Input.can_give r later) (ap (λ v. v.coming) failed) k) in
     let x = c.units.invariant.keeps y.0 y.1 in (
       x.0,
       x.1,
-      refuses_unsorted c.args.units.now.input (still_to_come (telling c.args.units.now x.0)) c.args.self.now.others.items (still_to_come (telling c.units.units y.0)) (still_to_come (telling c.next.new.self later)) c.args.self.now.first c.units.self.others.items x.2 u
-          c.refuse.result (still_to_come (telling c.refuse.new.self later)) c.next.new.self.input y.2 greater (c.refuse.ensures.fault ∙ ap (λ n. fault_at n u.place Unsorted) (c.next.ensures.number ∙ c.units.invariant.number))
+      refuses_unsorted c.args.units.now.input (still_to_come (telling c.args.units.now x.0)) c.args.self.now.others.items
+          (still_to_come (telling c.units.units y.0)) (still_to_come (telling c.next.new.self later)) c.args.self.now.first
+          c.units.self.others.items x.2 u
+          c.refuse.result (still_to_come (telling c.refuse.new.self later)) c.next.new.self.input y.2 greater
+          (c.refuse.ensures.fault ∙ ap (λ n. fault_at n u.place Unsorted) (c.next.ensures.number ∙ c.units.invariant.number))
           (ap (λ (v : Position _). still_to_come (telling v later)) failed),
     )
 
 pub returns-in-Err-clause-refuses : goal.returns-in-Err-clause-refuses
 returns-in-Err-clause-refuses g c = λ later k.
-    let y = (rw c.in-Some.is at c.in_ok-unit.ensures.step) later (subst (λ r. g.R.Input.can_give r later) (ap (λ v. v.coming) c.refuse-in-Err.ensures.failed) k) in
-    let x = c.units.invariant.keeps y.0 y.1 in
-    (x.0, x.1, (inl c.refuse-in-Err.ensures.fault, (c.next.new.self.input, ap (λ (v : Position _). still_to_come (telling v later)) c.refuse-in-Err.ensures.failed)))
+    let y = (rw c.in-Some.is at c.in_ok-unit.ensures.step) later
+    (subst (λ r. g.R.Input.can_give r later) (ap (λ v. v.coming) c.refuse-in-Err.ensures.failed) k) in
+    let x = c.units.invariant.keeps y.0 y.1 in (
+      x.0,
+      x.1,
+      (
+        inl c.refuse-in-Err.ensures.fault,
+        (
+          c.next.new.self.input,
+          ap (λ (v : Position _). still_to_come (telling v later)) c.refuse-in-Err.ensures.failed,
+        ),
+      ),
+    )
 
 pub units-preserved : goal.units-preserved
 units-preserved g c =
@@ -72,14 +105,20 @@ units-preserved g c =
     let u = c.in-Some.unit in
     let first = c.args.self.now.first in
     let others = c.args.self.now.others.items in
-    let not_above : is_lt (key_cmp first u.version) ≡ false = ap (λ v. is_lt (key_cmp v u.version)) (sym c.units.invariant.first) ∙ ap is_lt (sym c.key_cmp-order.ensures) ∙ sym c.is_lt.ensures ∙ c.if-is_lt.false in
-    let not_below : is_gt (key_cmp first u.version) ≡ false = ap (λ v. is_gt (key_cmp v u.version)) (sym c.units.invariant.first) ∙ ap is_gt (sym c.key_cmp-order.ensures) ∙ sym c.is_gt.ensures ∙ c.if-is_gt.false in
+    let not_above : is_lt (key_cmp first u.version) ≡ false = ap (λ v. is_lt (key_cmp v u.version)) (sym c.units.invariant.first)
+    ∙ ap is_lt (sym c.key_cmp-order.ensures) ∙ sym c.is_lt.ensures ∙ c.if-is_lt.false in
+    let not_below : is_gt (key_cmp first u.version) ≡ false = ap (λ v. is_gt (key_cmp v u.version)) (sym c.units.invariant.first)
+    ∙ ap is_gt (sym c.key_cmp-order.ensures) ∙ sym c.is_gt.ensures ∙ c.if-is_gt.false in
     let from = gathered input in
     rw c.in_default-push.ensures.items (record {
       number = c.next.ensures.number ∙ c.units.invariant.number;
       first = c.units.invariant.first;
-      keeps = then_on g.R.Input.can_give c.args.units.now c.units.units c.next.new.self (λ p q. Keeps (from (still_to_come p) (first ∷ others) []) (from (still_to_come q) (first ∷ c.units.self.others.items) [])) (λ p q. Step {A = Placed} (still_to_come p) (Ok (Some u)) (still_to_come q)) _
-          (λ a b d k h. joins_group input (still_to_come a) others (still_to_come b) (still_to_come d) first c.units.self.others.items k u h not_above not_below) c.units.invariant.keeps (rw c.in-Some.is at c.in_ok-unit.ensures.step);
+      keeps = then_on g.R.Input.can_give c.args.units.now c.units.units c.next.new.self
+          (λ p q. Keeps (from (still_to_come p) (first ∷ others) []) (from (still_to_come q) (first ∷ c.units.self.others.items) []))
+          (λ p q. Step {A = Placed} (still_to_come p) (Ok (Some u)) (still_to_come q)) _
+          (λ a b d k h. joins_group input (still_to_come a) others (still_to_come b)
+          (still_to_come d) first c.units.self.others.items k u h not_above not_below) c.units.invariant.keeps
+          (rw c.in-Some.is at c.in_ok-unit.ensures.step);
       group = group_joined first c.units.self.others.items u.version c.units.invariant.group not_above not_below;
       left = omega (arith, c.units.invariant.left, less, length-append c.units.self.others.items (u.version ∷ []));
     })

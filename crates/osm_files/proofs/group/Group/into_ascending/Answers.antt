@@ -8,4 +8,6 @@ pub returns-clause-given : goal.returns-clause-given
 returns-clause-given c =
     c.into_iter.ensures.rest
     ∙ dedup_is _ _ _ c.dedup.ensures.filtered
-    ∙ sorted_group c.args.self.first c.args.self.others.items c.sort_unstable.new.self.items (subst (λ xs. IsPermutation xs c.sort_unstable.new.self.items) c.in_ok-push.ensures.items c.sort_unstable.ensures.permutation) c.sort_unstable.ensures.sorted
+    ∙ sorted_group c.args.self.first c.args.self.others.items c.sort_unstable.new.self.items
+    (subst (λ xs. IsPermutation xs c.sort_unstable.new.self.items) c.in_ok-push.ensures.items c.sort_unstable.ensures.permutation)
+    c.sort_unstable.ensures.sorted

@@ -19,4 +19,5 @@ returns-in_err-fill-clause-refused g c =
     let m = c.reads.self in
     let held = c.as_slice-held.ensures ∙ ap (λ v. v.held) c.self.view_is in
     let untold : tells_format m.held ≡ false = ap tells_format (sym held) ∙ sym c.tells_format.ensures ∙ c.if-tells_format.false in
-    rw (e.1, e.2) (format_stops g.R.Input.can_give c.args.self.now m c.fill.new.self c.reads.invariant.on c.requires.at_first c.requires.unseen c.requires.good untold c.in_err-fill.field-0.0 c.in_err-fill.ensures.stops c.in_err-fill.ensures.refused)
+    rw (e.1, e.2) (format_stops g.R.Input.can_give c.args.self.now m c.fill.new.self c.reads.invariant.on c.requires.at_first
+    c.requires.unseen c.requires.good untold c.in_err-fill.field-0.0 c.in_err-fill.ensures.stops c.in_err-fill.ensures.refused)

@@ -4,10 +4,12 @@ use Rattle.osm_files.proofs.SourceSteps.{open_source, begins_held}
 use Rattle.osm_files.proofs.source.FileSource.begin.Goals as goal
 
 pub invariant_of-self : goal.invariant_of-self
-invariant_of-self g c = open_source g.R.Input.can_give c.self.inside.units c.take.new.self _ (ap (λ v. v.ready) c.self.view_is ∙ c.requires.nothing)
+invariant_of-self g c = open_source g.R.Input.can_give c.self.inside.units c.take.new.self _
+    (ap (λ v. v.ready) c.self.view_is ∙ c.requires.nothing)
 
 pub invariant_of-self-in-None : goal.invariant_of-self-in-None
-invariant_of-self-in-None g c = open_source g.R.Input.can_give c.begin_next.new.units c.take.new.self _ (ap (λ v. v.ready) c.self.view_is ∙ c.requires.nothing)
+invariant_of-self-in-None g c = open_source g.R.Input.can_give c.begin_next.new.units c.take.new.self _
+    (ap (λ v. v.ready) c.self.view_is ∙ c.requires.nothing)
 
 pub returns-in-Some-clause-begins : goal.returns-in-Some-clause-begins
 returns-in-Some-clause-begins g c =

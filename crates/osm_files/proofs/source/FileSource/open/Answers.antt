@@ -15,7 +15,9 @@ invariant_of-result g c = open_source g.R.Input.can_give c.format.new.self None 
 pub returns-in-Ok-clause-opened : goal.returns-in-Ok-clause-opened
 returns-in-Ok-clause-opened g c = λ later h.
     let y = c.in-Ok.ensures.tells h.0 h.1 in
-    let told = source_opens_told (telling c.new-units.result y.0) (telling c.format.new.self h.0) (into_iter_items c.into_iter-ready.result) c.args.input (Some y.0) (ap (λ v. telling v y.0) c.new-units.ensures) y.2.0 (c.into_iter-ready.ensures.rest ∙ c.new.ensures.items) in
+    let told = source_opens_told (telling c.new-units.result y.0) (telling c.format.new.self h.0)
+    (into_iter_items c.into_iter-ready.result) c.args.input (Some y.0) (ap (λ v. telling v y.0) c.new-units.ensures) y.2.0
+    (c.into_iter-ready.ensures.rest ∙ c.new.ensures.items) in
     let same : Some later ≡ Some (sorted_source c.args.input y.0) = sym h.2 ∙ told in (
       y.0,
       subst (λ (v : Position _). g.R.Input.can_give v.coming y.0) c.new-units.ensures y.1,
@@ -29,5 +31,6 @@ returns-in-Err-clause-refused g c =
       y.0,
       subst (λ (v : Position _). g.R.Input.can_give v.coming y.0) c.new-units.ensures y.1,
       opens_refused c.args.input (Some y.0) c.in-Err.fault (still_to_come (telling c.format.new.self later))
-          (subst (λ (p : Told). Step {A = Placed} (still_to_come p) (Err c.in-Err.fault) (still_to_come (telling c.format.new.self later))) (ap (λ v. telling v y.0) c.new-units.ensures) y.2),
+          (subst (λ (p : Told). Step {A = Placed} (still_to_come p) (Err c.in-Err.fault) (still_to_come (telling c.format.new.self later)))
+          (ap (λ v. telling v y.0) c.new-units.ensures) y.2),
     )

@@ -12,8 +12,10 @@ pub invariant_of-self : goal.invariant_of-self
 invariant_of-self g c = (
   λ d k.
       let s = c.self.inside in
-      ready_rises s.units.input (still_to_come (telling s.units d)) (option_to_list s.pending) (into_iter_items c.next.new.self) c.in-Some.version
-      (subst (λ (xs : List VersionData). IfSome (gathered s.units.input (still_to_come (telling s.units d)) (option_to_list s.pending) xs) Ascends) c.in-Some.ensures.items (c.self.invariant.0 d k)),
+      ready_rises s.units.input (still_to_come (telling s.units d)) (option_to_list s.pending)
+      (into_iter_items c.next.new.self) c.in-Some.version
+      (subst (λ (xs : List VersionData). IfSome (gathered s.units.input (still_to_come (telling s.units d)) (option_to_list s.pending) xs)
+      Ascends) c.in-Some.ensures.items (c.self.invariant.0 d k)),
   λ failed. let none = sym c.in-Some.ensures.items ∙ c.self.invariant.1 failed in absurd cc,
 )
 
@@ -27,8 +29,11 @@ returns-in-Some-clause-step g c =
     (λ d k. (
       d,
       k,
-      subst (λ (xs : List VersionData). Step (gathered s.units.input (still_to_come (telling s.units d)) (option_to_list s.pending) xs) (Ok (Some c.in-Some.version)) (gathered s.units.input (still_to_come (telling s.units d)) (option_to_list s.pending) (into_iter_items c.next.new.self))) (sym c.in-Some.ensures.items)
-          (gives_ready s.units.input (still_to_come (telling s.units d)) (option_to_list s.pending) (into_iter_items c.next.new.self) c.in-Some.version),
+      subst (λ (xs : List VersionData). Step (gathered s.units.input (still_to_come (telling s.units d)) (option_to_list s.pending) xs)
+          (Ok (Some c.in-Some.version)) (gathered s.units.input (still_to_come (telling s.units d)) (option_to_list s.pending)
+          (into_iter_items c.next.new.self))) (sym c.in-Some.ensures.items)
+          (gives_ready s.units.input (still_to_come (telling s.units d)) (option_to_list s.pending)
+          (into_iter_items c.next.new.self) c.in-Some.version),
     )))
 
 pub returns-in-None-clause-step : goal.returns-in-None-clause-step
@@ -38,4 +43,5 @@ returns-in-None-clause-step g c =
     let next = c.next_group.new.self in
     subst (λ (x : FileStand _). Steps (FileCanGive g.R.Input.can_give) x c.next_group.result next) c.self.view_is
     (file_step g.R.Input.can_give here next c.next_group.result c.self.invariant.0 c.next_group.ensures.number
-    (subst (λ (xs : List VersionData). FileSteps g.R.Input.can_give (standing s.units (option_to_list s.pending) xs) c.next_group.result next) (sym c.in-None.ensures.items) c.next_group.ensures.step))
+    (subst (λ (xs : List VersionData). FileSteps g.R.Input.can_give
+    (standing s.units (option_to_list s.pending) xs) c.next_group.result next) (sym c.in-None.ensures.items) c.next_group.ensures.step))

@@ -21,7 +21,8 @@ returns-then-two-lt128 c =
     let inside : end < length bytes = search rules in
     let inside_one : end + 1 < length one = search rules in
     let w1 = write_more _ _ _ _ _ (write_begin (filled c.args.self.now) n) (omega arith) (omega (arith, c.if-number-lt128.false)) in
-    fill_more one _ (end + 1) (end + 2) (n / 128) (omega arith) (fill_more bytes _ end (end + 1) (n % 128 + 128) refl refl inside) inside_one
+    fill_more one _ (end + 1) (end + 2) (n / 128) (omega arith)
+    (fill_more bytes _ end (end + 1) (n % 128 + 128) refl refl inside) inside_one
     ∙ sym (write_last _ _ _ _ _ w1 (omega arith) c.if-two-lt128.true)
 
 pub returns-then-three-lt128 : goal.returns-then-three-lt128
@@ -36,7 +37,9 @@ returns-then-three-lt128 c =
     let inside_two : end + 2 < length two = search rules in
     let w1 = write_more _ _ _ _ _ (write_begin (filled c.args.self.now) n) (omega arith) (omega (arith, c.if-number-lt128.false)) in
     let w2 = write_more _ _ _ _ _ w1 (omega arith) (omega (arith, c.if-two-lt128.false)) in
-    fill_more two _ (end + 2) (end + 3) (n / 128 / 128) (omega arith) (fill_more one _ (end + 1) (end + 2) (n / 128 % 128 + 128) (omega arith) (fill_more bytes _ end (end + 1) (n % 128 + 128) refl refl inside) inside_one) inside_two
+    fill_more two _ (end + 2) (end + 3) (n / 128 / 128) (omega arith)
+    (fill_more one _ (end + 1) (end + 2) (n / 128 % 128 + 128) (omega arith)
+    (fill_more bytes _ end (end + 1) (n % 128 + 128) refl refl inside) inside_one) inside_two
     ∙ sym (write_last _ _ _ _ _ w2 (omega arith) c.if-three-lt128.true)
 
 pub returns : goal.returns
@@ -55,5 +58,7 @@ returns c =
     let w2 = write_more _ _ _ _ _ w1 (omega arith) (omega (arith, c.if-two-lt128.false)) in
     let w3 = write_more _ _ _ _ _ w2 (omega arith) (omega (arith, c.if-three-lt128.false)) in
     fill_more three _ (end + 3) (end + 4) (n / 128 / 128 / 128) (omega arith)
-    (fill_more two _ (end + 2) (end + 3) (n / 128 / 128 % 128 + 128) (omega arith) (fill_more one _ (end + 1) (end + 2) (n / 128 % 128 + 128) (omega arith) (fill_more bytes _ end (end + 1) (n % 128 + 128) refl refl inside) inside_one) inside_two) inside_three
+    (fill_more two _ (end + 2) (end + 3) (n / 128 / 128 % 128 + 128) (omega arith)
+    (fill_more one _ (end + 1) (end + 2) (n / 128 % 128 + 128) (omega arith)
+    (fill_more bytes _ end (end + 1) (n % 128 + 128) refl refl inside) inside_one) inside_two) inside_three
     ∙ sym (write_last _ _ _ _ _ w3 (omega arith) (omega (arith, c.if-number.false)))

@@ -8,6 +8,15 @@ returns-clause-appended c =
     let front = c.self.inside.front.items in
     let block = filled c.self.inside.block in
     let gone = c.min-gone.result in
-    rw (c.in_ok-extend_from_slice-2.ensures.items, c.in_ok-extend_from_slice.ensures.items, c.split_at.ensures.back, c.split_at-2.ensures.back, c.as_slice-front.ensures.value, c.as_slice.ensures, ← c.self.view_is)
+    rw (
+      c.in_ok-extend_from_slice-2.ensures.items,
+      c.in_ok-extend_from_slice.ensures.items,
+      c.split_at.ensures.back,
+      c.split_at-2.ensures.back,
+      c.as_slice-front.ensures.value,
+      c.as_slice.ensures,
+      ← c.self.view_is,
+    )
     (append_assoc c.args.out.now.items (drop gone front) (drop (2 - gone) block)
-    ∙ ap (λ bytes. c.args.out.now.items ++ bytes) (drop_both front block gone (c.min-gone.ensures ∙ ap (λ bytes. min (length bytes) 2) c.as_slice-front.ensures.value)))
+    ∙ ap (λ bytes. c.args.out.now.items ++ bytes) (drop_both front block gone
+    (c.min-gone.ensures ∙ ap (λ bytes. min (length bytes) 2) c.as_slice-front.ensures.value)))

@@ -8,7 +8,8 @@ use Rattle.o5_codec.proofs.write.entry.EntryPartialEq.eq.Goals.{then-self-other-
 
 pub returns-then-self-other : goal.returns-then-self-other
 returns-then-self-other c =
-    told_apart digest c.self.inside.form c.other.inside.form c.self.inside.split c.other.inside.split c.self.inside.bytes.items c.other.inside.bytes.items
+    told_apart digest c.self.inside.form c.other.inside.form c.self.inside.split c.other.inside.split c.self.inside.bytes.items
+    c.other.inside.bytes.items
     (λ same. c.if-self-other.true (c.self.invariant.digested ∙ same ∙ sym c.other.invariant.digested))
     ∙ (λ k. same_entry (c.self.view_is k) (c.other.view_is k))
 
@@ -17,7 +18,8 @@ returns-then-same c =
     elim c.if-self-other-2.branch [
       | then-self-other-2 w ↦
           c.eq.ensures ∙ rw (c.as_slice.ensures, c.as_slice-then-same.ensures)
-          (same_bytes c.self.inside.form c.other.inside.form _ _ _ _ w.if-self-other-2.true (sym w.is_same-same.ensures ∙ sym w.same-is ∙ c.if-same.true))
+          (same_bytes c.self.inside.form c.other.inside.form _ _ _ _ w.if-self-other-2.true
+          (sym w.is_same-same.ensures ∙ sym w.same-is ∙ c.if-same.true))
           ∙ (λ k. same_entry (c.self.view_is k) (c.other.view_is k))
       | else-self-other-2 w ↦ absurd (w.if-self-other-2.false ((Decides-eqb _ _).0 (sym w.same-is ∙ c.if-same.true)))
     ]

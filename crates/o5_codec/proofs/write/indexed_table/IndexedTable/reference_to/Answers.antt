@@ -21,5 +21,6 @@ pub returns : goal.returns
 returns c =
     let at = found_in _ _ _ _ _ _ _ c.self.invariant.indexed c.in_ok-number.ensures.value in
     let below : c.in_ok-number.field-0.now < 2 ^ 64 = number_below _ _ _ _ at.0 in
-    let same : c.self.inside.next + (18446744073709551615 - c.in_ok-number.field-0.now) + 1 ≡ c.self.inside.next + 2 ^ 64 - c.in_ok-number.field-0.now = omega arith in
+    let same : c.self.inside.next + (18446744073709551615 - c.in_ok-number.field-0.now) + 1
+    ≡ c.self.inside.next + 2 ^ 64 - c.in_ok-number.field-0.now = omega arith in
     ap (λ n. Some n) same ∙ sym (found_high _ _ _ _ _ at.0 at.1 c.if-number-self.false) ∙ ap (reference_to c.args.entry.now) c.self.view_is

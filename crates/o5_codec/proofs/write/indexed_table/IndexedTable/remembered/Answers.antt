@@ -7,6 +7,7 @@ use Rattle.o5_codec.proofs.write.indexed_table.IndexedTable.remembered.Goals as 
 
 pub returns : goal.returns
 returns c =
-    let at : slice_get (reverse c.self.inside.ring.items) _ ≡ Some c.in_ok-entry.entry.now = sym (c.in_ok-entry.ensures ∙ from_back c.self.inside.ring.items _) in
+    let at : slice_get (reverse c.self.inside.ring.items) _ ≡ Some c.in_ok-entry.entry.now =
+    sym (c.in_ok-entry.ensures ∙ from_back c.self.inside.ring.items _) in
     ap (reference_to c.in_ok-entry.entry.now) (sym c.self.view_is)
     ∙ standing (reverse c.self.inside.ring.items) _ c.in_ok-entry.entry.now c.self.invariant.indexed.distinct at
