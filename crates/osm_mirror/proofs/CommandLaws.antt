@@ -1,5 +1,5 @@
 -- What the commands write that read all of their inputs first, from the run over inputs of any order.
-use Rattle.std.proofs.Common.{◌≡◌, inl, inr, ℕ, Bool, List, [], ◌∷◌, map, refl, sym, subst, Result, Ok, Err, IfOk, IfErr}
+use Rattle.std.proofs.Common.{◌≡◌, inl, inr, ℕ, List, [], ◌∷◌, map, refl, sym, subst, Result, Ok, Err, IfOk, IfErr}
 use Rattle.std.specs.List.{All}
 use Rattle.std.proofs.lemmas.List.{length-map}
 use Rattle.osm_model.specs.VersionSet.{VersionSet}
@@ -7,7 +7,8 @@ use Rattle.osm_model.specs.Pairwise.{Pairwise}
 use Rattle.osm_files.specs.declared.fault.Fault.{Fault}
 use Rattle.osm_files.specs.declared.format.Format.{Format}
 use Rattle.osm_files.specs.Input.{Coming, GivesOne}
-use Rattle.osm_files.specs.Output.{Content}
+use Rattle.osm_files.specs.declared.output.Output.{Ghosts}
+use Rattle.osm_files.specs.Change.{change_of}
 use Rattle.osm_files.specs.Spell.{spell}
 use Rattle.osm_files.specs.Sink.{CutShort}
 use Rattle.osm_merge.specs.declared.merge.Counts.{Counts}
@@ -27,7 +28,8 @@ use Rattle.osm_mirror.proofs.RunLaws.{cut_is}
 
 -- ---- inputs of any order
 -- what files of any order give is what their readers give
-pub any_give : {R : Type 0} (can : R → Coming → Type 0) (readers : List R) (all : List (Order × Coming)) → AllGive (FileGives can) (map in_any_order readers) all → (given : List Coming) × AllGive can readers given × (all ≡ map any given)
+pub any_give : {R : Type 0} (can : R → Coming → Type 0) (readers : List R) (all : List (Order × Coming))
+    → AllGive (FileGives can) (map in_any_order readers) all → (given : List Coming) × AllGive can readers given × (all ≡ map any given)
 any_give can [] [] g = ([], tt, refl)
 any_give can [] (c ∷ all) g = absurd g
 any_give can (r ∷ readers) [] g = absurd g
@@ -56,8 +58,10 @@ sets (c ∷ all) h =
     (one.0 ∷ others.0, (one.1, others.1))
 
 -- ---- what the run answers
-module _ {O : Type 0} (holds : O → Content) (selection : Selection) (format : Format) (before after : O) (all : List Coming) where
-  written_is : (counts : Counts) → IsRun selection (map any all) format (holds before) (holds after) counts → IsWritten (selected selection) all format (holds before) (holds after) (record { read = counts.read; written = counts.written; compared = 0 })
+module _ {O : Type 0} (output : Ghosts O) (selection : Selection) (format : Format) (before after : O) (all : List Coming) where
+  written_is : (counts : Counts) → IsRun selection (map any all) format (change_of output before after) counts
+      → IsWritten (selected selection) all format (change_of output before after)
+      (record { read = counts.read; written = counts.written; compared = 0 })
   written_is counts r = record {
     held = r.held;
     files = are_files all r.held r.files;
@@ -67,50 +71,65 @@ module _ {O : Type 0} (holds : O → Content) (selection : Selection) (format : 
     compared_count = refl;
   }
 
-  not_written_is : (failed : Bool) (fault : Fault) → IsRunRefused holds selection (map any all) format before after failed fault → IsNotWritten holds (selected selection) all format before after failed fault
-  not_written_is failed fault (inl memory) = inl memory
-  not_written_is failed fault (inr (inl (unread, same))) = inr (inl (unread, same))
-  not_written_is failed fault (inr (inr (read, r))) =
+  not_written_is : (fault : Fault) → IsRunRefused output selection (map any all) format before after fault
+      → IsNotWritten output (selected selection) all format before after fault
+  not_written_is fault (inl memory) = inl memory
+  not_written_is fault (inr (inl (unread, same))) = inr (inl (unread, same))
+  not_written_is fault (inr (inr (read, r))) =
       let held = sets all read in
       inr (inr (
         held.0,
         held.1,
-        subst (λ (n : ℕ). CutShort n (holds before) (holds after) failed (spell format (selected selection (union_of held.0))) fault) (length-map all any)
-            (cut_is holds selection format before after failed (map any all) fault (inr (inr (read, r))) held.0 (as_any all held.0 held.1)),
+        subst (λ (n : ℕ). CutShort n (change_of output before after) (spell format (selected selection (union_of held.0))) fault)
+            (length-map all any)
+            (cut_is output selection format before after (map any all) fault (inr (inr (read, r))) held.0 (as_any all held.0 held.1)),
       ))
 
-module _ {R : Type 0} (can : R → Coming → Type 0) {O : Type 0} (holds : O → Content) (selection : Selection) (format : Format) (before after : O) (readers : List R) (files : List (InputFile R)) (are : files ≡ map in_any_order readers) where
-  of_readers : (P : List (Order × Coming) → Type 0) → ForSome (FileGives can) files P → (given : List Coming) × AllGive can readers given × P (map any given)
+module _ {R : Type 0} (can : R → Coming → Type 0) {O : Type 0} (output : Ghosts O) (selection : Selection) (format : Format)
+    (before after : O) (readers : List R) (files : List (InputFile R)) (are : files ≡ map in_any_order readers) where
+  of_readers : (P : List (Order × Coming) → Type 0) → ForSome (FileGives can) files P
+      → (given : List Coming) × AllGive can readers given × P (map any given)
   of_readers P h =
       let q = any_give can readers h.0 (subst (λ (fs : List (InputFile R)). AllGive (FileGives can) fs h.0) are h.1) in
       (q.0, q.1, subst P q.2 h.2)
 
-  pub held_written : (counts : Counts) → ForSome (FileGives can) files (λ all. IsRun selection all format (holds before) (holds after) counts)
-      → ForSome can readers (λ all. IsWritten (selected selection) all format (holds before) (holds after) (record { read = counts.read; written = counts.written; compared = 0 }))
+  pub held_written : (counts : Counts)
+      → ForSome (FileGives can) files (λ all. IsRun selection all format (change_of output before after) counts)
+      → ForSome can readers (λ all. IsWritten (selected selection) all format (change_of output before after)
+      (record { read = counts.read; written = counts.written; compared = 0 }))
   held_written counts h =
-      let q = of_readers (λ all. IsRun selection all format (holds before) (holds after) counts) h in
-      (q.0, q.1, written_is holds selection format before after q.0 counts q.2)
+      let q = of_readers (λ all. IsRun selection all format (change_of output before after) counts) h in
+      (q.0, q.1, written_is output selection format before after q.0 counts q.2)
 
-  pub held_refused : (failed : Bool) (fault : Fault) → ForSome (FileGives can) files (λ all. RefusesRun holds selection all format before after failed fault) → ForSome can readers (λ all. IsNotWritten holds (selected selection) all format before after failed fault)
-  held_refused failed fault h =
-      let q = of_readers (λ all. RefusesRun holds selection all format before after failed fault) h in
-      (q.0, q.1, not_written_is holds selection format before after q.0 failed fault q.2.why)
+  pub held_refused : (fault : Fault) → ForSome (FileGives can) files (λ all. RefusesRun output selection all format before after fault)
+      → ForSome can readers (λ all. IsNotWritten output (selected selection) all format before after fault)
+  held_refused fault h =
+      let q = of_readers (λ all. RefusesRun output selection all format before after fault) h in
+      (q.0, q.1, not_written_is output selection format before after q.0 fault q.2.why)
 
 -- nothing was done for want of memory
-pub not_begun : {R : Type 0} (can : R → Coming → Type 0) (one : R → Coming) → ((r : R) → can r (one r)) → {O : Type 0} (holds : O → Content) (choice : VersionSet → VersionSet) (format : Format) (before : O) (failed : Bool) (readers : List R) (fault : Fault) → fault ≡ memory_fault
-    → ForSome can readers (λ all. IsNotWritten holds choice all format before before failed fault)
-not_begun can one possible holds choice format before failed readers fault memory = (map one readers, give_one can one possible readers, inl (memory, refl))
+pub not_begun : {R : Type 0} (can : R → Coming → Type 0) (one : R → Coming) → ((r : R) → can r (one r))
+    → {O : Type 0} (output : Ghosts O) (choice : VersionSet → VersionSet) (format : Format) (before : O) (readers : List R) (fault : Fault)
+    → fault ≡ memory_fault
+    → ForSome can readers (λ all. IsNotWritten output choice all format before before fault)
+not_begun can one possible output choice format before readers fault memory =
+    (map one readers, give_one can one possible readers, inl (memory, refl))
 
 -- what is said of a list of one input
-one_of : {R : Type 0} (can : R → Coming → Type 0) (input : R) (P : List Coming → Type 0) (all : List Coming) → AllGive can (input ∷ []) all → P all → GivesOne (can input) (λ c. P (c ∷ []))
+one_of : {R : Type 0} (can : R → Coming → Type 0) (input : R) (P : List Coming → Type 0) (all : List Coming) → AllGive can (input ∷ []) all
+    → P all → GivesOne (can input) (λ c. P (c ∷ []))
 one_of can input P [] g h = absurd g
 one_of can input P (c ∷ []) g h = (c, g.0, h)
 one_of can input P (c ∷ d ∷ all) g h = absurd g.1
 
-pub one_written : {R : Type 0} (can : R → Coming → Type 0) (items : List R) (input : R) → items ≡ input ∷ [] → (P : List Coming → Counts → Type 0) (result : Result Counts Fault) → IfOk result (λ counts. ForSome can items (λ all. P all counts)) → IfOk result (λ counts. GivesOne (can input) (λ c. P (c ∷ []) counts))
+pub one_written : {R : Type 0} (can : R → Coming → Type 0) (items : List R) (input : R) → items ≡ input ∷ []
+    → (P : List Coming → Counts → Type 0) (result : Result Counts Fault) → IfOk result (λ counts. ForSome can items (λ all. P all counts))
+    → IfOk result (λ counts. GivesOne (can input) (λ c. P (c ∷ []) counts))
 one_written can items input is P (Ok counts) h = one_of can input (λ all. P all counts) h.0 (subst (λ xs. AllGive can xs h.0) is h.1) h.2
 one_written can items input is P (Err fault) h = tt
 
-pub one_refused : {R : Type 0} (can : R → Coming → Type 0) (items : List R) (input : R) → items ≡ input ∷ [] → (P : List Coming → Fault → Type 0) (result : Result Counts Fault) → IfErr result (λ fault. ForSome can items (λ all. P all fault)) → IfErr result (λ fault. GivesOne (can input) (λ c. P (c ∷ []) fault))
+pub one_refused : {R : Type 0} (can : R → Coming → Type 0) (items : List R) (input : R) → items ≡ input ∷ []
+    → (P : List Coming → Fault → Type 0) (result : Result Counts Fault) → IfErr result (λ fault. ForSome can items (λ all. P all fault))
+    → IfErr result (λ fault. GivesOne (can input) (λ c. P (c ∷ []) fault))
 one_refused can items input is P (Ok counts) h = tt
 one_refused can items input is P (Err fault) h = one_of can input (λ all. P all fault) h.0 (subst (λ xs. AllGive can xs h.0) is h.1) h.2

@@ -1,7 +1,9 @@
 -- What mirrors hold of what reached them, one event after the other.
-use Rattle.std.proofs.Common.{◌≡◌, ◌≢◌, ℕ, suc, ◌+◌, ◌<◌, ◌≤◌, Bool, true, false, not, ◌&&◌, ◌||◌, nat_eq, List, [], ◌∷◌, ◌++◌, map, length, get_or, set, take, refl, sym, ap, ◌∙◌, subst, arith, inl, inr, is_some, All, Result, Ok, Err, IfOk, OnErr}
+use Rattle.std.proofs.Common.{◌≡◌, ◌≢◌, ℕ, suc, ◌+◌, ◌<◌, ◌≤◌, Bool, true, false, not, ◌&&◌, ◌||◌, nat_eq, List, [], ◌∷◌, ◌++◌, map, length}
+use Rattle.std.proofs.Common.{get_or, set, take, refl, sym, ap, ◌∙◌, subst, arith, inl, inr, is_some, All, Result, Ok, Err, IfOk, OnErr}
 use Rattle.std.proofs.lemmas.Bool.{false≢true, cases_Bool, cases_lt, cond-true, cond-false, eqb-true, eqb-false, eq-eqb}
-use Rattle.std.proofs.lemmas.List.{get_or-set_same, get_or-set_other, length-set, get_or_default, length-map, get_or-map, get_or-take, set-get_or, length-take-le, take_more, take_all}
+use Rattle.std.proofs.lemmas.List.{get_or-set_same, get_or-set_other, length-set, get_or_default, length-map, get_or-map, get_or-take}
+use Rattle.std.proofs.lemmas.List.{length-take-le, take_more, take_all}
 use Rattle.std.proofs.Math.Seq.{map-set_same}
 use Rattle.std.specs.Cmp.{first_so, second_so}
 use Rattle.std.specs.FinMap.{get-empty}
@@ -24,7 +26,8 @@ use Rattle.osm_mirror.specs.declared.event.Reply.{Reply}
 use Rattle.osm_mirror.specs.declared.event.Reply.TheVariants.{Taken, Refused}
 use Rattle.osm_mirror.specs.declared.keep.Taken.{Taken as Taken_of}
 use Rattle.osm_mirror.specs.Mirror.{MirrorData, kept, fresh, took, IsKept, TakesFile}
-use Rattle.osm_mirror.specs.Fleet.{at, AreKept, IsWithin, behind, IsAnswer, behind_all, AreAnswers, Source, Track, is_full, begun, retracked, reached, reached_all, set_of, united, IsPart, HoldsOf, Converges}
+use Rattle.osm_mirror.specs.Fleet.{at, AreKept, IsWithin, behind, IsAnswer, behind_all, AreAnswers, Source, Track, is_full, begun}
+use Rattle.osm_mirror.specs.Fleet.{retracked, reached, reached_all, set_of, united, IsPart, HoldsOf, Converges}
 
 -- ---- sets
 pub in_union : (s t : VersionSet) (v : VersionData) → contains (union s t) v ≡ (contains s v || contains t v)
@@ -52,7 +55,8 @@ turned_union s t = equal_sets _ _ (λ v. in_union s t v ∙ or_turned (contains 
 grouped_union : (s t u : VersionSet) → union (union s t) u ≡ union s (union t u)
 grouped_union s t u =
     equal_sets _ _ (λ v.
-    in_union (union s t) u v ∙ ap (λ (b : Bool). b || contains u v) (in_union s t v) ∙ or_grouped (contains s v) (contains t v) (contains u v)
+    in_union (union s t) u v ∙ ap (λ (b : Bool). b || contains u v) (in_union s t v)
+    ∙ or_grouped (contains s v) (contains t v) (contains u v)
     ∙ ap (λ (b : Bool). contains s v || b) (sym (in_union t u v)) ∙ sym (in_union s (union t u) v))
 
 none_and : (s : VersionSet) → union empty s ≡ s
@@ -72,7 +76,8 @@ part_union : (s t u w : VersionSet) → IsPart s u → IsPart t w → IsPart (un
 part_union s t u w f g v e = in_union w u v ∙ or_parts _ _ _ _ (f v) (g v) (sym (in_union s t v) ∙ e)
 
 pub snapshot_part : (s : VersionSet) → IsPart (snapshot s) s
-snapshot_part s v e = first_so _ _ (sym (contains-retain version_cmp_total version_cmp-IsAntisymmetric s (λ w. not (list_any (beats w) (listed s))) v) ∙ e)
+snapshot_part s v e =
+    first_so _ _ (sym (contains-retain version_cmp_total version_cmp-IsAntisymmetric s (λ w. not (list_any (beats w) (listed s))) v) ∙ e)
 
 equal_part : (s t : VersionSet) → s ≡ t → IsPart s t
 equal_part s t e v h = ap (λ u. contains u v) (sym e) ∙ h
@@ -86,11 +91,14 @@ full_latest e = cc
 
 -- A mirror holds what it is to hold of u, and takes a set that is a part of w with the same snapshot; the whole where it came
 -- from a mirror that is purely full.
-module _ (u w held more : VersionSet) (p q : Bool) (part : IsPart more w) (newest : snapshot more ≡ snapshot w) (whole : q ≡ true → more ≡ w) where
+module _ (u w held more : VersionSet) (p q : Bool) (part : IsPart more w) (newest : snapshot more ≡ snapshot w)
+    (whole : q ≡ true → more ≡ w) where
   newest_of_both : snapshot held ≡ snapshot u → snapshot (union held more) ≡ snapshot (union w u)
-  newest_of_both h = snapshot_of_union held more ∙ (λ i. snapshot (union (h i) (newest i))) ∙ sym (snapshot_of_union u w) ∙ ap snapshot (turned_union u w)
+  newest_of_both h =
+      snapshot_of_union held more ∙ (λ i. snapshot (union (h i) (newest i))) ∙ sym (snapshot_of_union u w) ∙ ap snapshot (turned_union u w)
 
-  pub took_holds : (keep : Keep) → HoldsOf u p (record { keep = keep; held = held }) → HoldsOf (union w u) (q && p) (took (record { keep = keep; held = held }) more)
+  pub took_holds : (keep : Keep) → HoldsOf u p (record { keep = keep; held = held })
+      → HoldsOf (union w u) (q && p) (took (record { keep = keep; held = held }) more)
   took_holds Full h = record {
     holds_no_more = part_union held more u w h.holds_no_more part;
     same_snapshot = newest_of_both h.same_snapshot;
@@ -105,7 +113,8 @@ module _ (u w held more : VersionSet) (p q : Bool) (part : IsPart more w) (newes
   }
 
 -- a new mirror that took what the old one held
-restarted_holds : (keep : Keep) (held u : VersionSet) (p : Bool) → HoldsOf u p (record { keep = keep; held = held }) → HoldsOf u p (took (fresh keep) held)
+restarted_holds : (keep : Keep) (held u : VersionSet) (p : Bool) → HoldsOf u p (record { keep = keep; held = held })
+    → HoldsOf u p (took (fresh keep) held)
 restarted_holds Full held u p h = subst (λ (s : VersionSet). HoldsOf u p (record { keep = Full; held = s })) (sym (none_and held)) h
 restarted_holds Latest held u p h =
     let is : snapshot (union empty held) ≡ snapshot held = ap snapshot (none_and held) in
@@ -117,7 +126,8 @@ restarted_holds Latest held u p h =
     }
 
 -- when a run begins
-begun_holds : (keep : Keep) (held : VersionSet) → IsKept (record { keep = keep; held = held }) → HoldsOf (union held empty) (is_full keep) (record { keep = keep; held = held })
+begun_holds : (keep : Keep) (held : VersionSet) → IsKept (record { keep = keep; held = held })
+    → HoldsOf (union held empty) (is_full keep) (record { keep = keep; held = held })
 begun_holds Full held h = record {
   holds_no_more = equal_part _ _ (sym (and_none held));
   same_snapshot = ap snapshot (sym (and_none held));
@@ -139,7 +149,8 @@ kept_is Latest s = λ _. sym (snapshot_of_snapshot s)
 pub took_kept : (m : MirrorData) (s : VersionSet) → IsKept (took m s)
 took_kept m s = kept_is m.keep (union m.held s)
 
-none_of_none : (v : VersionData) (b : Bool) → contains {R = version_cmp} (snapshot empty) v ≡ b → contains {R = version_cmp} (snapshot empty) v ≡ contains {R = version_cmp} empty v
+none_of_none : (v : VersionData) (b : Bool) → contains {R = version_cmp} (snapshot empty) v ≡ b
+    → contains {R = version_cmp} (snapshot empty) v ≡ contains {R = version_cmp} empty v
 none_of_none v true e = absurd (false≢true (sym (in_none v) ∙ snapshot_part empty v e))
 none_of_none v false e = e ∙ sym (in_none v)
 
@@ -149,28 +160,28 @@ none_newest = equal_sets _ _ (λ v. none_of_none v (contains {R = version_cmp} (
 pub fresh_kept : (keep : Keep) → IsKept (fresh keep)
 fresh_kept keep = λ _. sym none_newest
 
-pub set_kept : (mirrors : List MirrorData) (to : ℕ) (x : MirrorData) → AreKept mirrors → to < length mirrors → IsKept x → AreKept (set mirrors to x)
+pub set_kept : (mirrors : List MirrorData) (to : ℕ) (x : MirrorData) → AreKept mirrors → to < length mirrors → IsKept x
+    → AreKept (set mirrors to x)
 set_kept mirrors to x h within is = λ m below. elim (cases_Bool (nat_eq m to)) [
-  | inl same ↦ subst (λ (k : ℕ). IsKept (at (set mirrors to x) k)) (sym (eqb-true m to same)) (subst IsKept (sym (get_or-set_same mirrors to x (fresh Full) within)) is)
+  | inl same ↦ subst (λ (k : ℕ). IsKept (at (set mirrors to x) k)) (sym (eqb-true m to same))
+      (subst IsKept (sym (get_or-set_same mirrors to x (fresh Full) within)) is)
   | inr other ↦ (let apart : m ≢ to = eqb-false m to other in
       subst IsKept (sym (get_or-set_other mirrors to m x (fresh Full) apart)) (h m (omega (arith, below, length-set mirrors to x))))
 ]
 
 -- new mirrors
 pub all_fresh : (kinds : List Keep) → AreKept (map fresh kinds)
-all_fresh kinds m below = subst IsKept (sym (get_or-map fresh kinds m Full (fresh Full) (omega (arith, below, length-map kinds fresh)))) (fresh_kept (get_or kinds m Full))
+all_fresh kinds m below =
+    subst IsKept (sym (get_or-map fresh kinds m Full (fresh Full) (omega (arith, below, length-map kinds fresh))))
+    (fresh_kept (get_or kinds m Full))
 
 -- one mirror was handed a file: it took it, or is as it was
-pub handed_kept : (mirrors : List MirrorData) (m : ℕ) (x y : MirrorData) (bytes : List ℕ) (r : Result Taken_of Fault) → AreKept mirrors → m < length mirrors → x ≡ get_or mirrors m x → IfOk r (TakesFile bytes x y) → OnErr r (y ≡ x) → AreKept (set mirrors m y)
-handed_kept mirrors m x y bytes (Ok taken) h within at_m ok err = set_kept mirrors m y h within (subst IsKept (sym ok.holds) (took_kept x (held_by bytes)))
-handed_kept mirrors m x y bytes (Err fault) h within at_m ok err = set_kept mirrors m y h within (subst IsKept (sym (err ∙ at_m ∙ get_or_default mirrors m x (fresh Full) within)) (h m within))
-
--- the mirrors are the same where one is put back as it was
-pub put_back : (mirrors : List MirrorData) (m : ℕ) (x y : MirrorData) → m < length mirrors → x ≡ get_or mirrors m x → y ≡ x → set mirrors m y ≡ mirrors
-put_back mirrors m x y within at_m same = ap (set mirrors m) (same ∙ at_m) ∙ set-get_or mirrors m x
-
-pub put_taken : (mirrors : List MirrorData) (m : ℕ) (x y : MirrorData) (s : VersionSet) → m < length mirrors → x ≡ get_or mirrors m x → y ≡ took x s → set mirrors m y ≡ set mirrors m (took (at mirrors m) s)
-put_taken mirrors m x y s within at_m is = ap (set mirrors m) (is ∙ ap (λ z. took z s) (at_m ∙ get_or_default mirrors m x (fresh Full) within))
+pub handed_kept : (mirrors : List MirrorData) (m : ℕ) (x y : MirrorData) (bytes : List ℕ) (r : Result Taken_of Fault) → AreKept mirrors
+    → m < length mirrors → x ≡ get_or mirrors m x → IfOk r (TakesFile bytes x y) → OnErr r (y ≡ x) → AreKept (set mirrors m y)
+handed_kept mirrors m x y bytes (Ok taken) h within at_m ok err =
+    set_kept mirrors m y h within (subst IsKept (sym ok.holds) (took_kept x (held_by bytes)))
+handed_kept mirrors m x y bytes (Err fault) h within at_m ok err =
+    set_kept mirrors m y h within (subst IsKept (sym (err ∙ at_m ∙ get_or_default mirrors m x (fresh Full) within)) (h m within))
 
 pub here : (mirrors : List MirrorData) (m : ℕ) (x : MirrorData) → m < length mirrors → x ≡ get_or mirrors m x → x ≡ at mirrors m
 here mirrors m x within at_m = at_m ∙ get_or_default mirrors m x (fresh Full) within
@@ -181,39 +192,51 @@ pub record Each (openings : List MirrorData) (t : ℕ → Track) (mirrors : List
 
 united_both : (openings : List MirrorData) (r s : List Source) → united openings (r ++ s) ≡ union (united openings r) (united openings s)
 united_both openings [] s = sym (none_and (united openings s))
-united_both openings (x ∷ r) s = ap (union (set_of openings x)) (united_both openings r s) ∙ sym (grouped_union (set_of openings x) (united openings r) (united openings s))
+united_both openings (x ∷ r) s =
+    ap (union (set_of openings x)) (united_both openings r s)
+    ∙ sym (grouped_union (set_of openings x) (united openings r) (united openings s))
 
 -- one mirror changes, and at most its track
-changed_each : (openings mirrors : List MirrorData) (t t2 : ℕ → Track) (to : ℕ) (x : MirrorData) → Each openings t mirrors → to < length mirrors → HoldsOf (united openings (t2 to).reach) (t2 to).pure x → ((k : ℕ) → nat_eq k to ≡ false → t2 k ≡ t k) → Each openings t2 (set mirrors to x)
+changed_each : (openings mirrors : List MirrorData) (t t2 : ℕ → Track) (to : ℕ) (x : MirrorData) → Each openings t mirrors
+    → to < length mirrors → HoldsOf (united openings (t2 to).reach) (t2 to).pure x → ((k : ℕ) → nat_eq k to ≡ false → t2 k ≡ t k)
+    → Each openings t2 (set mirrors to x)
 changed_each openings mirrors t t2 to x h within new others = record {
   each = λ m below. elim (cases_Bool (nat_eq m to)) [
     | inl is ↦ subst (λ (k : ℕ). HoldsOf (united openings (t2 k).reach) (t2 k).pure (at (set mirrors to x) k)) (sym (eqb-true m to is))
-        (subst (λ (y : MirrorData). HoldsOf (united openings (t2 to).reach) (t2 to).pure y) (sym (get_or-set_same mirrors to x (fresh Full) within)) new)
+        (subst (λ (y : MirrorData). HoldsOf (united openings (t2 to).reach) (t2 to).pure y)
+        (sym (get_or-set_same mirrors to x (fresh Full) within)) new)
     | inr not ↦ (let apart : m ≢ to = eqb-false m to not in
-        subst (λ (y : MirrorData). HoldsOf (united openings (t2 m).reach) (t2 m).pure y) (sym (get_or-set_other mirrors to m x (fresh Full) apart))
-        (subst (λ (y : Track). HoldsOf (united openings y.reach) y.pure (at mirrors m)) (sym (others m not)) (h.each m (omega (arith, below, length-set mirrors to x)))))
+        subst (λ (y : MirrorData). HoldsOf (united openings (t2 m).reach) (t2 m).pure y)
+        (sym (get_or-set_other mirrors to m x (fresh Full) apart))
+        (subst (λ (y : Track). HoldsOf (united openings y.reach) y.pure (at mirrors m)) (sym (others m not))
+        (h.each m (omega (arith, below, length-set mirrors to x)))))
   ];
 }
 
 retracked_here : (t : ℕ → Track) (m : ℕ) (x : Track) → retracked t m x m ≡ x
 retracked_here t m x = cond-true (nat_eq m m) x (t m) (eq-eqb m m refl)
 
-retracked_each : (openings mirrors : List MirrorData) (t : ℕ → Track) (to : ℕ) (x : MirrorData) (track : Track) → Each openings t mirrors → to < length mirrors → HoldsOf (united openings track.reach) track.pure x → Each openings (retracked t to track) (set mirrors to x)
+retracked_each : (openings mirrors : List MirrorData) (t : ℕ → Track) (to : ℕ) (x : MirrorData) (track : Track) → Each openings t mirrors
+    → to < length mirrors → HoldsOf (united openings track.reach) track.pure x → Each openings (retracked t to track) (set mirrors to x)
 retracked_each openings mirrors t to x track h within new =
     changed_each openings mirrors t (retracked t to track) to x h within
     (subst (λ (y : Track). HoldsOf (united openings y.reach) y.pure x) (sym (retracked_here t to track)) new)
     (λ k other. cond-false (nat_eq k to) track (t k) other)
 
 -- ---- one event
-behind_each : (openings mirrors : List MirrorData) (t : ℕ → Track) (e : Event) (r : Reply) → IsWithin (length mirrors) e → Each openings t mirrors → Each openings (reached t e r) (behind mirrors e r)
+behind_each : (openings mirrors : List MirrorData) (t : ℕ → Track) (e : Event) (r : Reply) → IsWithin (length mirrors) e
+    → Each openings t mirrors → Each openings (reached t e r) (behind mirrors e r)
 behind_each openings mirrors t (Take m file) Taken within h =
     retracked_each openings mirrors t m _ _ h within
-    (took_holds (united openings (t m).reach) (held_by file.now) (at mirrors m).held (held_by file.now) (t m).pure true (λ v e. e) refl (λ _. refl) (at mirrors m).keep (h.each m within))
+    (took_holds (united openings (t m).reach) (held_by file.now) (at mirrors m).held (held_by file.now) (t m).pure true (λ v e. e) refl
+    (λ _. refl) (at mirrors m).keep (h.each m within))
 behind_each openings mirrors t (Pass from to format) Taken within h =
     let sent = h.each from within.0 in
     retracked_each openings mirrors t to _ _ h within.1
-    (subst (λ (u : VersionSet). HoldsOf u ((t from).pure && (t to).pure) (took (at mirrors to) (at mirrors from).held)) (sym (united_both openings (t from).reach (t to).reach))
-    (took_holds (united openings (t to).reach) (united openings (t from).reach) (at mirrors to).held (at mirrors from).held (t to).pure (t from).pure sent.holds_no_more sent.same_snapshot (λ e. (sent.full_exact e).1) (at mirrors to).keep (h.each to within.1)))
+    (subst (λ (u : VersionSet). HoldsOf u ((t from).pure && (t to).pure) (took (at mirrors to) (at mirrors from).held))
+    (sym (united_both openings (t from).reach (t to).reach))
+    (took_holds (united openings (t to).reach) (united openings (t from).reach) (at mirrors to).held (at mirrors from).held (t to).pure
+    (t from).pure sent.holds_no_more sent.same_snapshot (λ e. (sent.full_exact e).1) (at mirrors to).keep (h.each to within.1)))
 behind_each openings mirrors t (Restart m format) Taken within h =
     changed_each openings mirrors t t m _ h within
     (restarted_holds (at mirrors m).keep (at mirrors m).held (united openings (t m).reach) (t m).pure (h.each m within)) (λ k _. refl)
@@ -224,10 +247,12 @@ behind_each openings mirrors t (Restart m format) (Refused fault) within h = h
 abbrev kinds_of : List MirrorData → List Keep
 kinds_of mirrors = map (λ m. m.keep) mirrors
 
-pub set_kinds : (mirrors : List MirrorData) (m : ℕ) (x : MirrorData) → m < length mirrors → x.keep ≡ (at mirrors m).keep → kinds_of (set mirrors m x) ≡ kinds_of mirrors
+pub set_kinds : (mirrors : List MirrorData) (m : ℕ) (x : MirrorData) → m < length mirrors → x.keep ≡ (at mirrors m).keep
+    → kinds_of (set mirrors m x) ≡ kinds_of mirrors
 set_kinds mirrors m x within same = map-set_same (λ y. y.keep) mirrors m x (fresh Full) same
 
-behind_kinds : (mirrors : List MirrorData) (e : Event) (r : Reply) → IsWithin (length mirrors) e → kinds_of (behind mirrors e r) ≡ kinds_of mirrors
+behind_kinds : (mirrors : List MirrorData) (e : Event) (r : Reply) → IsWithin (length mirrors) e
+    → kinds_of (behind mirrors e r) ≡ kinds_of mirrors
 behind_kinds mirrors (Take m file) Taken within = set_kinds mirrors m _ within refl
 behind_kinds mirrors (Pass from to format) Taken within = set_kinds mirrors to _ within.1 refl
 behind_kinds mirrors (Restart m format) Taken within = set_kinds mirrors m _ within refl
@@ -253,7 +278,8 @@ rest_within count e es h = λ k d inside. h (suc k) d (omega (arith, inside))
 same_within : (count count2 : ℕ) (es : List Event) → count2 ≡ count → All (IsWithin count) es → All (IsWithin count2) es
 same_within count count2 es e h = subst (λ (n : ℕ). All (IsWithin n) es) (sym e) h
 
-all_each : (openings mirrors : List MirrorData) (t : ℕ → Track) (es : List Event) (rs : List Reply) → All (IsWithin (length mirrors)) es → Each openings t mirrors → Each openings (reached_all t es rs) (behind_all mirrors es rs)
+all_each : (openings mirrors : List MirrorData) (t : ℕ → Track) (es : List Event) (rs : List Reply) → All (IsWithin (length mirrors)) es
+    → Each openings t mirrors → Each openings (reached_all t es rs) (behind_all mirrors es rs)
 all_each openings mirrors t [] [] within h = h
 all_each openings mirrors t [] (r ∷ rs) within h = h
 all_each openings mirrors t (e ∷ es) [] within h = h
@@ -262,19 +288,23 @@ all_each openings mirrors t (e ∷ es) (r ∷ rs) within h =
     (same_within (length mirrors) (length (behind mirrors e r)) es (behind_number mirrors e r) (rest_within (length mirrors) e es within))
     (behind_each openings mirrors t e r (first_within (length mirrors) e es within) h)
 
-all_kinds : (mirrors : List MirrorData) (es : List Event) (rs : List Reply) → All (IsWithin (length mirrors)) es → kinds_of (behind_all mirrors es rs) ≡ kinds_of mirrors
+all_kinds : (mirrors : List MirrorData) (es : List Event) (rs : List Reply) → All (IsWithin (length mirrors)) es
+    → kinds_of (behind_all mirrors es rs) ≡ kinds_of mirrors
 all_kinds mirrors [] [] within = refl
 all_kinds mirrors [] (r ∷ rs) within = refl
 all_kinds mirrors (e ∷ es) [] within = refl
 all_kinds mirrors (e ∷ es) (r ∷ rs) within =
-    all_kinds (behind mirrors e r) es rs (same_within (length mirrors) (length (behind mirrors e r)) es (behind_number mirrors e r) (rest_within (length mirrors) e es within))
+    all_kinds (behind mirrors e r) es rs
+    (same_within (length mirrors) (length (behind mirrors e r)) es (behind_number mirrors e r) (rest_within (length mirrors) e es within))
     ∙ behind_kinds mirrors e r (first_within (length mirrors) e es within)
 
 begun_each : (mirrors : List MirrorData) → AreKept mirrors → Each mirrors (begun mirrors) mirrors
 begun_each mirrors h = record { each = λ m below. begun_holds (at mirrors m).keep (at mirrors m).held (h m below) }
 
 -- mirrors that hold what the events made of them converge
-pub converges : (old : List MirrorData) (events : List Event) (replies : List Reply) (new : List MirrorData) → AreKept old → All (IsWithin (length old)) events → AreAnswers old events replies → new ≡ behind_all old events replies → Converges old events replies new
+pub converges : (old : List MirrorData) (events : List Event) (replies : List Reply) (new : List MirrorData) → AreKept old
+    → All (IsWithin (length old)) events → AreAnswers old events replies → new ≡ behind_all old events replies
+    → Converges old events replies new
 converges old events replies new h within answers is =
     subst (Converges old events replies) (sym is)
     (record {
@@ -285,13 +315,15 @@ converges old events replies new h within answers is =
     })
 
 -- ---- one more event
-behind_more : (mirrors : List MirrorData) (es : List Event) (rs : List Reply) (e : Event) (r : Reply) → AreAnswers mirrors es rs → behind_all mirrors (es ++ e ∷ []) (rs ++ r ∷ []) ≡ behind (behind_all mirrors es rs) e r
+behind_more : (mirrors : List MirrorData) (es : List Event) (rs : List Reply) (e : Event) (r : Reply) → AreAnswers mirrors es rs
+    → behind_all mirrors (es ++ e ∷ []) (rs ++ r ∷ []) ≡ behind (behind_all mirrors es rs) e r
 behind_more mirrors [] [] e r h = refl
 behind_more mirrors [] (x ∷ rs) e r h = absurd h
 behind_more mirrors (x ∷ es) [] e r h = absurd h
 behind_more mirrors (x ∷ es) (y ∷ rs) e r h = behind_more (behind mirrors x y) es rs e r h.1
 
-answers_more : (mirrors : List MirrorData) (es : List Event) (rs : List Reply) (e : Event) (r : Reply) → AreAnswers mirrors es rs → IsAnswer (behind_all mirrors es rs) e r → AreAnswers mirrors (es ++ e ∷ []) (rs ++ r ∷ [])
+answers_more : (mirrors : List MirrorData) (es : List Event) (rs : List Reply) (e : Event) (r : Reply) → AreAnswers mirrors es rs
+    → IsAnswer (behind_all mirrors es rs) e r → AreAnswers mirrors (es ++ e ∷ []) (rs ++ r ∷ [])
 answers_more mirrors [] [] e r h a = (a, tt)
 answers_more mirrors [] (y ∷ rs) e r h a = absurd h
 answers_more mirrors (x ∷ es) [] e r h a = absurd h
@@ -304,46 +336,51 @@ all_number mirrors (e ∷ es) [] = refl
 all_number mirrors (e ∷ es) (r ∷ rs) = all_number (behind mirrors e r) es rs ∙ behind_number mirrors e r
 
 -- ---- whether events may be run
-pub within_more : (count : ℕ) (es : List Event) (i : ℕ) (d : Event) → All (IsWithin count) (take i es) → i < length es → IsWithin count (get_or es i d) → All (IsWithin count) (take (i + 1) es)
+pub within_more : (count : ℕ) (es : List Event) (i : ℕ) (d : Event) → All (IsWithin count) (take i es) → i < length es
+    → IsWithin count (get_or es i d) → All (IsWithin count) (take (i + 1) es)
 within_more count es i d all below here = λ k e inside.
     let low : k < i + 1 = omega (arith, inside, length-take-le (i + 1) es (omega (arith, below))) in
     subst (IsWithin count) (sym (get_or-take (i + 1) es k e low)) (elim (cases_lt k i) [
-      | inl less ↦ subst (IsWithin count) (get_or-take i es k e less) (all k e (omega (arith, less, length-take-le i es (omega (arith, below)))))
+      | inl less ↦ subst (IsWithin count) (get_or-take i es k e less)
+          (all k e (omega (arith, less, length-take-le i es (omega (arith, below)))))
       | inr more ↦ (let same : k ≡ i = omega (arith, low, more) in
           subst (λ (n : ℕ). IsWithin count (get_or es n e)) (sym same) (subst (IsWithin count) (get_or_default es i d e below) here))
     ])
 
 -- ---- the loop of a run
 -- so many events happened, each with its reply, and there is room for all replies
-pub record IsRunning (old : List MirrorData) (events : List Event) (i : ℕ) (replies : List Reply) (count space : ℕ) (mid : List MirrorData) : Type 0 where
+pub record IsRunning (old : List MirrorData) (events : List Event) (i : ℕ) (replies : List Reply) (count space : ℕ)
+    (mid : List MirrorData) : Type 0 where
   pub answers : AreAnswers old (take i events) replies
   pub mirrors : mid ≡ behind_all old (take i events) replies
   pub filled : count ≡ i
   pub enough : length events ≤ space
 
-pub run_begins : (old : List MirrorData) (events : List Event) (replies : List Reply) (count space : ℕ) → replies ≡ [] → count ≡ 0 → space ≡ length events → IsRunning old events 0 replies count space old
-run_begins old events replies count space none zeros exact =
-    subst (λ (rs : List Reply). IsRunning old events 0 rs count space old) (sym none)
-    (record { answers = tt; mirrors = refl; filled = zeros; enough = omega (arith, exact) })
-
-module _ (old mid : List MirrorData) (events : List Event) (i : ℕ) (replies : List Reply) (count space : ℕ) (h : IsRunning old events i replies count space mid) where
+module _ (old mid : List MirrorData) (events : List Event) (i : ℕ) (replies : List Reply) (count space : ℕ)
+    (h : IsRunning old events i replies count space mid) where
   pub event_within : (d : Event) → i < length events → All (IsWithin (length old)) events → IsWithin (length mid) (get_or events i d)
   event_within d below all =
       subst (λ (n : ℕ). IsWithin n (get_or events i d)) (sym (ap length h.mirrors ∙ all_number old (take i events) replies)) (all i d below)
 
-  pub run_goes_on : (new : List MirrorData) (d : Event) (r : Reply) (replies2 : List Reply) (count2 space2 : ℕ) → i < length events → IsAnswer mid (get_or events i d) r → new ≡ behind mid (get_or events i d) r →
+  pub run_goes_on : (new : List MirrorData) (d : Event) (r : Reply) (replies2 : List Reply) (count2 space2 : ℕ) → i < length events
+      → IsAnswer mid (get_or events i d) r → new ≡ behind mid (get_or events i d) r →
       replies2 ≡ replies ++ r ∷ [] → count2 ≡ count + 1 → space2 ≡ space → IsRunning old events (i + 1) replies2 count2 space2 new
   run_goes_on new d r replies2 count2 space2 below answer is more longer same =
-      let now : IsAnswer (behind_all old (take i events) replies) (get_or events i d) r = subst (λ (ms : List MirrorData). IsAnswer ms (get_or events i d) r) h.mirrors answer in
+      let now : IsAnswer (behind_all old (take i events) replies) (get_or events i d) r =
+      subst (λ (ms : List MirrorData). IsAnswer ms (get_or events i d) r) h.mirrors answer in
       let P : List Event → List Reply → Type 0 = λ es rs. AreAnswers old es rs × (new ≡ behind_all old es rs) in
       let next : P (take i events ++ get_or events i d ∷ []) (replies ++ r ∷ []) = (
         answers_more old (take i events) replies (get_or events i d) r h.answers now,
-        is ∙ ap (λ ms. behind ms (get_or events i d) r) h.mirrors ∙ sym (behind_more old (take i events) replies (get_or events i d) r h.answers),
+        is ∙ ap (λ ms. behind ms (get_or events i d) r) h.mirrors
+            ∙ sym (behind_more old (take i events) replies (get_or events i d) r h.answers),
       ) in
-      let both : P (take (i + 1) events) replies2 = subst (λ (es : List Event). P es replies2) (sym (take_more events i d below)) (subst (λ (rs : List Reply). P (take i events ++ get_or events i d ∷ []) rs) (sym more) next) in
+      let both : P (take (i + 1) events) replies2 =
+      subst (λ (es : List Event). P es replies2) (sym (take_more events i d below))
+      (subst (λ (rs : List Reply). P (take i events ++ get_or events i d ∷ []) rs) (sym more) next) in
       record { answers = both.0; mirrors = both.1; filled = omega (arith, h.filled, longer); enough = omega (arith, h.enough, same) }
 
   pub run_ends : AreKept old → All (IsWithin (length old)) events → length events ≤ i → Converges old events replies mid
   run_ends kept within end =
       let all : take i events ≡ events = take_all i events end in
-      converges old events replies mid kept within (subst (λ (es : List Event). AreAnswers old es replies) all h.answers) (h.mirrors ∙ ap (λ es. behind_all old es replies) all)
+      converges old events replies mid kept within (subst (λ (es : List Event). AreAnswers old es replies) all h.answers)
+      (h.mirrors ∙ ap (λ es. behind_all old es replies) all)

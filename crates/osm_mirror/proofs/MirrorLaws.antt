@@ -1,5 +1,6 @@
 -- What mirrors hold stays within the ranges of versions, and what they write is accepted.
-use Rattle.std.proofs.Common.{◌≡◌, ◌⊎◌, ℕ, ◌<◌, ◌≤◌, ◌^◌, Bool, true, List, [], length, Option, Some, None, option_map, Result, Ok, Err, MatchResult, refl, sym, ap, ◌∙◌, subst, arith, inl, inr}
+use Rattle.std.proofs.Common.{◌≡◌, ◌⊎◌, ℕ, ◌<◌, ◌≤◌, ◌^◌, Bool, true, List, [], length, Option, Some, None, option_map, Result, Ok, Err}
+use Rattle.std.proofs.Common.{MatchResult, refl, sym, ap, ◌∙◌, subst, arith, inl, inr}
 use Rattle.std.specs.List.Sorted.{IsStrictlySortedBy}
 use Rattle.osm_model.specs.Order.{version_cmp, version_cmp_total}
 use Rattle.osm_model.specs.VersionSet.{VersionSet}
@@ -14,9 +15,8 @@ use Rattle.osm_files.specs.Fault.{memory_fault, too_long_fault, write_fault}
 use Rattle.osm_files.specs.Held.{Holds, HoldsSorted}
 use Rattle.osm_files.specs.Input.{Coming, GivesOne, whole}
 use Rattle.osm_files.specs.Load.{Loads, StopsLoading}
-use Rattle.osm_files.specs.Output.{Content, Appended}
+use Rattle.osm_files.specs.Output.{Appended}
 use Rattle.osm_files.specs.Position.{fault_of}
-use Rattle.osm_files.specs.Sink.{CutShort}
 use Rattle.osm_files.specs.Spell.{spell}
 use Rattle.osm_files.specs.SpellLaws.{AreVersions}
 use Rattle.osm_files.specs.Stream.{Verdict}
@@ -62,15 +62,18 @@ kept_valid Full set h = h
 kept_valid Latest set h = are_fewer set (snapshot set) h (snapshot_part set)
 
 pub took_sound : (m : MirrorData) (set : VersionSet) → IsSound m → AreVersions set → IsSound (took m set)
-took_sound m set h valid = record { is_kept = took_kept m set; versions = kept_valid m.keep (union m.held set) (unions_are_versions m.held set h.versions valid) }
+took_sound m set h valid =
+    record { is_kept = took_kept m set; versions = kept_valid m.keep (union m.held set) (unions_are_versions m.held set h.versions valid) }
 
 pub fresh_sound : (keep : Keep) → IsSound (fresh keep)
 fresh_sound keep = record { is_kept = fresh_kept keep; versions = none_valid }
 
 -- a mirror that took a set, or was refused memory
-pub absorbed : {E : Type 0} (m : MirrorData) (set all now : VersionSet) (result : Result (Unit {0}) E) → IsSound m → AreVersions set → all ≡ kept m.keep (union m.held set) →
+pub absorbed : {E : Type 0} (m : MirrorData) (set all now : VersionSet) (result : Result (Unit {0}) E) → IsSound m → AreVersions set
+    → all ≡ kept m.keep (union m.held set) →
     MatchResult result (λ _. now ≡ all) (λ _. now ≡ m.held) → IsSound (record { keep = m.keep; held = now })
-absorbed m set all now (Ok u) h valid both is = subst (λ (held : VersionSet). IsSound (record { keep = m.keep; held = held })) (sym (is ∙ both)) (took_sound m set h valid)
+absorbed m set all now (Ok u) h valid both is =
+    subst (λ (held : VersionSet). IsSound (record { keep = m.keep; held = held })) (sym (is ∙ both)) (took_sound m set h valid)
 absorbed m set all now (Err e) h valid both is = subst (λ (held : VersionSet). IsSound (record { keep = m.keep; held = held })) (sym is) h
 
 -- ---- what a mirror takes
@@ -79,7 +82,8 @@ pub of_slice : (bytes : List ℕ) (P : Coming → Type 0) → GivesOne (λ c. c 
 of_slice bytes P h = subst P h.1 h.2
 
 -- a file that is loaded is accepted, and what was loaded is what it holds
-pub loaded_holds : (bytes : List ℕ) (loaded : Loaded) → Loads (whole bytes) loaded → Holds bytes (held_by bytes) × (loaded.history ≡ held_by bytes)
+pub loaded_holds : (bytes : List ℕ) (loaded : Loaded) → Loads (whole bytes) loaded
+    → Holds bytes (held_by bytes) × (loaded.history ≡ held_by bytes)
 loaded_holds bytes loaded h =
     let same = ((held_without_verdict bytes loaded.history).0 h.holds).1 in
     (subst (Holds bytes) same h.holds, same)
@@ -87,7 +91,8 @@ loaded_holds bytes loaded h =
 pub loaded_valid : (bytes : List ℕ) (loaded : Loaded) → Loads (whole bytes) loaded → AreVersions loaded.history
 loaded_valid bytes loaded h = held_are_versions bytes loaded.history h.holds
 
-pub takes_file : (bytes given : List ℕ) (old new : MirrorData) (loaded : Loaded) (count : ℕ) → given ≡ bytes → Loads (whole given) loaded → new ≡ took old loaded.history → count ≡ size loaded.history → count < 2 ^ 64
+pub takes_file : (bytes given : List ℕ) (old new : MirrorData) (loaded : Loaded) (count : ℕ) → given ≡ bytes → Loads (whole given) loaded
+    → new ≡ took old loaded.history → count ≡ size loaded.history → count < 2 ^ 64
     → TakesFile bytes old new (record { versions = count })
 takes_file bytes given old new loaded count same h is counted below =
     let held = loaded_holds bytes loaded (subst (λ (b : List ℕ). Loads (whole b) loaded) same h) in
@@ -95,7 +100,8 @@ takes_file bytes given old new loaded count same h is counted below =
     record { accepted = held.0; holds = is ∙ ap (took old) held.1; told = within_limit count (size (held_by bytes)) whole_count below }
 
 -- one that isn't is refused with its verdict
-some_fault : (input : ℕ) (v : Option Verdict) (fault : Fault) → option_map (fault_of input) v ≡ Some fault → (w : Verdict) × (v ≡ Some w) × (fault ≡ fault_of input w)
+some_fault : (input : ℕ) (v : Option Verdict) (fault : Fault) → option_map (fault_of input) v ≡ Some fault
+    → (w : Verdict) × (v ≡ Some w) × (fault ≡ fault_of input w)
 some_fault input None fault e = absurd cc
 some_fault input (Some w) fault e = (w, refl, sym (some_same e))
 
@@ -108,47 +114,62 @@ pub written_is_held : (bytes : List ℕ) (set : VersionSet) → HoldsSorted byte
 written_is_held bytes set h =
     sym ((held_without_verdict bytes set).0 (record { short = h.short; versions = h.versions; file = h.file; members = h.members })).1
 
-pub written_not_taken : (bytes : List ℕ) (format : Format) (set : VersionSet) (fault : Fault) → HoldsSorted bytes set → WhyNotTaken bytes fault → WhyNotSpelled format set fault
+pub written_not_taken : (bytes : List ℕ) (format : Format) (set : VersionSet) (fault : Fault) → HoldsSorted bytes set
+    → WhyNotTaken bytes fault → WhyNotSpelled format set fault
 written_not_taken bytes format set fault h (inl memory) = inl memory
 written_not_taken bytes format set fault h (inr refused) =
-    let none = ((held_without_verdict bytes set).0 (record { short = h.short; versions = h.versions; file = h.file; members = h.members })).0 in
+    let none =
+    ((held_without_verdict bytes set).0 (record { short = h.short; versions = h.versions; file = h.file; members = h.members })).0 in
     absurd (none_some (sym none ∙ refused.1))
 
 -- a mirror that is handed it refuses it for memory alone, or takes just what the writer holds
-pub written_answer : {A : Type 0} (bytes given : List ℕ) (format : Format) (set : VersionSet) (r : Result A Fault) → given ≡ bytes → HoldsSorted bytes set → bytes ≡ spell format set
-    → MatchResult r (λ _. Holds given (held_by given)) (WhyNotTaken given) → MatchResult r (λ _. IsShort format set) (WhyNotSpelled format set)
+pub written_answer : {A : Type 0} (bytes given : List ℕ) (format : Format) (set : VersionSet) (r : Result A Fault) → given ≡ bytes
+    → HoldsSorted bytes set → bytes ≡ spell format set
+    → MatchResult r (λ _. Holds given (held_by given)) (WhyNotTaken given)
+    → MatchResult r (λ _. IsShort format set) (WhyNotSpelled format set)
 written_answer bytes given format set (Ok done) same h spelled answer = subst (λ (b : List ℕ). length b < 2 ^ 62) spelled h.short
-written_answer bytes given format set (Err fault) same h spelled answer = written_not_taken bytes format set fault h (subst (λ (b : List ℕ). WhyNotTaken b fault) same answer)
+written_answer bytes given format set (Err fault) same h spelled answer =
+    written_not_taken bytes format set fault h (subst (λ (b : List ℕ). WhyNotTaken b fault) same answer)
 
 pub given_set : (bytes given : List ℕ) (set : VersionSet) → given ≡ bytes → HoldsSorted bytes set → held_by given ≡ set
 given_set bytes given set same h = ap held_by same ∙ written_is_held bytes set h
 
-pub written_behind : {A : Type 0} (bytes given : List ℕ) (set : VersionSet) (r : Result A Fault) (old new : List MirrorData) (to : ℕ) → given ≡ bytes → HoldsSorted bytes set
-    → MatchResult r (λ _. new ≡ slice_set old to (took (at old to) (held_by given))) (λ _. new ≡ old) → MatchResult r (λ _. new ≡ slice_set old to (took (at old to) set)) (λ _. new ≡ old)
-written_behind bytes given set (Ok done) old new to same h is = is ∙ ap (λ (s : VersionSet). slice_set old to (took (at old to) s)) (given_set bytes given set same h)
+pub written_behind : {A : Type 0} (bytes given : List ℕ) (set : VersionSet) (r : Result A Fault) (old new : List MirrorData) (to : ℕ)
+    → given ≡ bytes → HoldsSorted bytes set
+    → MatchResult r (λ _. new ≡ slice_set old to (took (at old to) (held_by given))) (λ _. new ≡ old)
+    → MatchResult r (λ _. new ≡ slice_set old to (took (at old to) set)) (λ _. new ≡ old)
+written_behind bytes given set (Ok done) old new to same h is =
+    is ∙ ap (λ (s : VersionSet). slice_set old to (took (at old to) s)) (given_set bytes given set same h)
 written_behind bytes given set (Err fault) old new to same h is = is
 
-pub given_not_taken : (bytes given : List ℕ) (format : Format) (set : VersionSet) (fault : Fault) → given ≡ bytes → HoldsSorted bytes set → WhyNotTaken given fault → WhyNotSpelled format set fault
-given_not_taken bytes given format set fault same h why = written_not_taken bytes format set fault h (subst (λ (b : List ℕ). WhyNotTaken b fault) same why)
+pub given_not_taken : (bytes given : List ℕ) (format : Format) (set : VersionSet) (fault : Fault) → given ≡ bytes → HoldsSorted bytes set
+    → WhyNotTaken given fault → WhyNotSpelled format set fault
+given_not_taken bytes given format set fault same h why =
+    written_not_taken bytes format set fault h (subst (λ (b : List ℕ). WhyNotTaken b fault) same why)
 
-pub restarted : (bytes given : List ℕ) (x blank new : MirrorData) → given ≡ bytes → HoldsSorted bytes x.held → blank ≡ fresh x.keep → new ≡ took blank (held_by given) → new ≡ took (fresh x.keep) x.held
+pub restarted : (bytes given : List ℕ) (x blank new : MirrorData) → given ≡ bytes → HoldsSorted bytes x.held → blank ≡ fresh x.keep
+    → new ≡ took blank (held_by given) → new ≡ took (fresh x.keep) x.held
 restarted bytes given x blank new same h is took_it = took_it ∙ (λ i. took (is i) (given_set bytes given x.held same h i))
 
 -- ---- what a mirror writes
-pub spelling_holds : (format : Format) (set : VersionSet) (bytes : List ℕ) → AreVersions set → bytes ≡ spell format set → length (spell format set) < 2 ^ 62 → HoldsSorted bytes set
+pub spelling_holds : (format : Format) (set : VersionSet) (bytes : List ℕ) → AreVersions set → bytes ≡ spell format set
+    → length (spell format set) < 2 ^ 62 → HoldsSorted bytes set
 spelling_holds format set bytes valid is short = subst (λ (b : List ℕ). HoldsSorted b set) (sym is) (spell_holds format set valid short)
 
 -- what was appended to nothing
-pub appended_alone : (old new bytes file : List ℕ) → Appended (λ held. old ≡ held) (λ held. new ≡ held) bytes → old ≡ [] → file ≡ new → file ≡ bytes
+pub appended_alone : (old new bytes file : List ℕ) → Appended (λ held. old ≡ held) (λ held. new ≡ held) bytes → old ≡ [] → file ≡ new
+    → file ≡ bytes
 appended_alone old new bytes file h none is = is ∙ h [] none
 
 -- why the file of a set isn't written to memory, in the words of a mirror
-unwritten_cases : (format : Format) (set : VersionSet) (count : ℕ) (failed : Bool) (fault told : Fault) → (fault.reason ≡ TooLong → told ≡ fault) → ((fault.reason ≡ TooLong → ⊥) → told ≡ memory_fault)
-    → (fault ≡ memory_fault) ⊎ ((fault ≡ write_fault 1 count) × (failed ≡ true)) ⊎ ((fault ≡ too_long_fault 1) × (2 ^ 62 ≤ length (spell format set))) → WhyNotSpelled format set told
-unwritten_cases format set count failed fault told long other (inl memory) = inl (other (λ e. is_memory (sym (ap (λ (f : Fault). f.reason) memory) ∙ e)))
-unwritten_cases format set count failed fault told long other (inr (inl broken)) = inl (other (λ e. is_write (sym (ap (λ (f : Fault). f.reason) (broken.0)) ∙ e)))
-unwritten_cases format set count failed fault told long other (inr (inr big)) = inr (long (ap (λ (f : Fault). f.reason) (big.0)) ∙ big.0, big.1)
-
-pub unwritten_why : (before after : Content) (failed : Bool) (format : Format) (set : VersionSet) (fault told : Fault) → CutShort 1 before after failed (spell format set) fault
-    → (fault.reason ≡ TooLong → told ≡ fault) → ((fault.reason ≡ TooLong → ⊥) → told ≡ memory_fault) → WhyNotSpelled format set told
-unwritten_why before after failed format set fault told cut long other = unwritten_cases format set cut.count failed fault told long other cut.why
+unwritten_cases : (format : Format) (set : VersionSet) (count : ℕ) (failed : Bool) (fault told : Fault)
+    → (fault.reason ≡ TooLong → told ≡ fault) → ((fault.reason ≡ TooLong → ⊥) → told ≡ memory_fault)
+    → (fault ≡ memory_fault) ⊎ ((fault ≡ write_fault 1 count) × (failed ≡ true))
+    ⊎ ((fault ≡ too_long_fault 1) × (2 ^ 62 ≤ length (spell format set)))
+    → WhyNotSpelled format set told
+unwritten_cases format set count failed fault told long other (inl memory) =
+    inl (other (λ e. is_memory (sym (ap (λ (f : Fault). f.reason) memory) ∙ e)))
+unwritten_cases format set count failed fault told long other (inr (inl broken)) =
+    inl (other (λ e. is_write (sym (ap (λ (f : Fault). f.reason) (broken.0)) ∙ e)))
+unwritten_cases format set count failed fault told long other (inr (inr big)) =
+    inr (long (ap (λ (f : Fault). f.reason) (big.0)) ∙ big.0, big.1)

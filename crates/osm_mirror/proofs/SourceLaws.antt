@@ -1,5 +1,6 @@
 -- The sources of files give what the files hold.
-use Rattle.std.proofs.Common.{◌≡◌, inl, inr, ⊎_elim, ℕ, zero, suc, ◌+◌, ◌<◌, List, [], ◌∷◌, ◌++◌, length, map, take, drop, get_or, refl, sym, ap, ◌∙◌, subst, arith, Option, Some, None, option_map, sum_by}
+use Rattle.std.proofs.Common.{◌≡◌, inl, inr, ⊎_elim, ℕ, zero, suc, ◌+◌, ◌<◌, List, [], ◌∷◌, ◌++◌, length, map, take, drop, get_or, refl}
+use Rattle.std.proofs.Common.{sym, ap, ◌∙◌, subst, arith, Option, Some, None, option_map, sum_by}
 use Rattle.std.specs.List.{All}
 use Rattle.std.specs.List.Sorted.{IsStrictlySortedBy}
 use Rattle.std.proofs.lemmas.List.{take-append-drop}
@@ -20,7 +21,6 @@ use Rattle.osm_files.specs.Groups.{FileStand, FileCanGive, opened_file, set_give
 use Rattle.osm_files.specs.Load.{Loads, StopsLoading}
 use Rattle.osm_files.specs.Position.{units_from, fault_of}
 use Rattle.osm_files.specs.Source.{Ascends}
-use Rattle.osm_files.specs.Stream.{refused}
 use Rattle.osm_files.specs.Verdict.{file_units, versions_of}
 use Rattle.osm_files.proofs.FileLaws.{files_are_read}
 use Rattle.osm_files.proofs.LoadLaws.{whole_units, gives_file}
@@ -35,7 +35,8 @@ use Rattle.osm_mirror.specs.declared.input.InputFile.{InputFile}
 use Rattle.osm_mirror.specs.declared.source.RunSource.{RunSource}
 use Rattle.osm_mirror.specs.declared.source.RunSource.TheVariants.{Streamed, Held}
 use Rattle.osm_mirror.specs.Still.{SourceCanGive, source_one, source_possible}
-use Rattle.osm_mirror.specs.Given.{GivesFile, GivesAs, refusal, read_whole, held_source, source_of, sources, FileGives, FileGivesOne, in_order, one_of_file, IsRead, IsOpened, AreOpened, IsUnread, IsUnopened}
+use Rattle.osm_mirror.specs.Given.{GivesFile, GivesAs, refusal, read_whole, held_source, source_of, sources, FileGives, FileGivesOne}
+use Rattle.osm_mirror.specs.Given.{in_order, one_of_file, IsRead, IsOpened, AreOpened, IsUnread, IsUnopened}
 use Rattle.osm_mirror.proofs.MergeLaws.{source_sorted, gives, one_gives, All-first, All-others, AreWhole}
 
 -- the set of what a source gives
@@ -53,7 +54,9 @@ module _ (number : ℕ) (c : Coming) (held : VersionSet) (h : GivesFile c held) 
 
   -- no unit of it is refused
   pub file_refusal : refusal number c ≡ None
-  file_refusal = (λ i. option_map (fault_of number) (all_units i).refusal) ∙ ap (option_map (fault_of number)) (files_are_read c.bytes h.file.versions h.file.short h.file.file).0
+  file_refusal =
+      (λ i. option_map (fault_of number) (all_units i).refusal)
+      ∙ ap (option_map (fault_of number)) (files_are_read c.bytes h.file.versions h.file.short h.file.file).0
 
   file_list : versions_of (units_from None 0 c).list ≡ h.file.versions
   file_list = (λ i. versions_of (all_units i).list) ∙ (files_are_read c.bytes h.file.versions h.file.short h.file.file).1
@@ -72,13 +75,11 @@ file_gives number c e =
     let versions : List VersionData = versions_of (units_from None 0 c).list in
     let none : refusal number c ≡ None = unrefused (refusal number c) versions (ap (λ s. s.refusal) (sym (held_is number c)) ∙ e) in
     let given = gives_file number c versions none refl in
-    let list : (held_source number c).list ≡ listed (from_list {R = version_cmp} versions) = ap (λ s. s.list) (held_is number c ∙ ap (λ r. read_whole r versions) none) in
-    let same : from_list {R = version_cmp} versions ≡ members (held_source number c) = listed_members (from_list versions) ∙ ap (λ vs. from_list {R = version_cmp} vs) (sym list) in
+    let list : (held_source number c).list ≡ listed (from_list {R = version_cmp} versions) =
+    ap (λ s. s.list) (held_is number c ∙ ap (λ r. read_whole r versions) none) in
+    let same : from_list {R = version_cmp} versions ≡ members (held_source number c) =
+    listed_members (from_list versions) ∙ ap (λ vs. from_list {R = version_cmp} vs) (sym list) in
     subst (GivesFile c) same (record { unbroken = given.0; file = given.1 })
-
--- one that can't be read gives nothing
-unread_gives : (number : ℕ) (c : Coming) (fault : Fault) → refusal number c ≡ Some fault → held_source number c ≡ refused fault
-unread_gives number c fault e = held_is number c ∙ ap (λ r. read_whole r (versions_of (units_from None 0 c).list)) e
 
 read_rises : (r : Option Fault) (versions : List VersionData) → Ascends (read_whole r versions)
 unfolding IsStrictlySortedBy
@@ -90,21 +91,29 @@ as_given : (number : ℕ) (input : Order × Coming) (held : VersionSet) → Give
 as_given number (Sorted, c) held h = source_sorted number c held h.unbroken h.file
 as_given number (Any, c) held h = file_read number c held h
 
-gives_as : (number : ℕ) (input : Order × Coming) → (source_of number input).refusal ≡ None → GivesAs input (members (source_of number input))
+gives_as : (number : ℕ) (input : Order × Coming) → (source_of number input).refusal ≡ None
+    → GivesAs input (members (source_of number input))
 gives_as number (Sorted, c) e = gives number c e
 gives_as number (Any, c) e = file_gives number c e
 
 rises : (number : ℕ) (input : Order × Coming) → Ascends (source_of number input)
 rises number (Sorted, c) = source_rises number c
-rises number (Any, c) = subst (λ (s : source.VersionsToCome). Ascends s) (sym (held_is number c)) (read_rises (refusal number c) (versions_of (units_from None 0 c).list))
+rises number (Any, c) =
+    subst (λ (s : source.VersionsToCome). Ascends s) (sym (held_is number c))
+    (read_rises (refusal number c) (versions_of (units_from None 0 c).list))
 
 -- ---- all inputs
-pub all_give : (number : ℕ) (inputs : List (Order × Coming)) → AreWhole (sources number inputs) → Pairwise GivesAs inputs (map members (sources number inputs))
+pub all_give : (number : ℕ) (inputs : List (Order × Coming)) → AreWhole (sources number inputs)
+    → Pairwise GivesAs inputs (map members (sources number inputs))
 all_give number [] h = tt
-all_give number (input ∷ inputs) h =
-    (gives_as number input (All-first (λ s. s.refusal ≡ None) (source_of number input) (sources (number + 1) inputs) h), all_give (number + 1) inputs (All-others (λ s. s.refusal ≡ None) (source_of number input) (sources (number + 1) inputs) h))
+all_give number (input ∷ inputs) h = (
+  gives_as number input (All-first (λ s. s.refusal ≡ None) (source_of number input) (sources (number + 1) inputs) h),
+  all_give
+      (number + 1) inputs (All-others (λ s. s.refusal ≡ None) (source_of number input) (sources (number + 1) inputs) h),
+)
 
-each_size : (number : ℕ) (inputs : List (Order × Coming)) → sum_by (λ s. length s.list) (sources number inputs) ≡ sum_by size (map members (sources number inputs))
+each_size : (number : ℕ) (inputs : List (Order × Coming))
+    → sum_by (λ s. length s.list) (sources number inputs) ≡ sum_by size (map members (sources number inputs))
 each_size number [] = refl
 each_size number (input ∷ inputs) =
     let s : source.VersionsToCome = source_of number input in
@@ -112,7 +121,8 @@ each_size number (input ∷ inputs) =
     ∙ (λ i. length (sym (listed-view s.list (rises number input)) i) + each_size (number + 1) inputs i)
     ∙ sym (sum_by-cons size (members s) (map members (sources (number + 1) inputs)))
 
-pub sizes : (number : ℕ) (inputs : List (Order × Coming)) → length (union.versions_of (sources number inputs)) ≡ sum_by size (map members (sources number inputs))
+pub sizes : (number : ℕ) (inputs : List (Order × Coming))
+    → length (union.versions_of (sources number inputs)) ≡ sum_by size (map members (sources number inputs))
 sizes number inputs = length-flat_map (λ s. s.list) (sources number inputs) ∙ each_size number inputs
 
 pub so_many : (number : ℕ) (inputs : List (Order × Coming)) → length (sources number inputs) ≡ length inputs
@@ -120,14 +130,18 @@ so_many number [] = refl
 so_many number (input ∷ inputs) = ap suc (so_many (number + 1) inputs)
 
 -- the sources of files of the order that is asked for
-pub as_all_given : (number : ℕ) (inputs : List (Order × Coming)) (held : List VersionSet) → Pairwise GivesAs inputs held → (map members (sources number inputs) ≡ held) × AreWhole (sources number inputs)
+pub as_all_given : (number : ℕ) (inputs : List (Order × Coming)) (held : List VersionSet) → Pairwise GivesAs inputs held
+    → (map members (sources number inputs) ≡ held) × AreWhole (sources number inputs)
 as_all_given number [] [] h = (refl, All-nil (λ s. s.refusal ≡ None))
 as_all_given number [] (s ∷ held) h = absurd h
 as_all_given number (input ∷ inputs) [] h = absurd h
 as_all_given number (input ∷ inputs) (s ∷ held) h =
     let is = as_given number input s h.0 in
-    let others = as_all_given (number + 1) inputs held h.1 in
-    ((λ i. (ap members is ∙ sym (listed_members s)) i ∷ others.0 i), All-cons (λ t. t.refusal ≡ None) (source_of number input) (sources (number + 1) inputs) (ap (λ x. x.refusal) is) others.1)
+    let others = as_all_given (number + 1) inputs held h.1 in (
+      (λ i. (ap members is ∙ sym (listed_members s)) i ∷ others.0 i),
+      All-cons (λ t. t.refusal ≡ None) (source_of number input)
+          (sources (number + 1) inputs) (ap (λ x. x.refusal) is) others.1,
+    )
 
 -- ---- lists
 map_itself : {A : Type 0} (xs : List A) → map (λ x. x) xs ≡ xs
@@ -140,54 +154,69 @@ drop_at (x ∷ xs) zero d low = refl
 drop_at (x ∷ xs) (suc k) d low = let e : suc k + 1 ≡ suc (k + 1) = omega arith in rw e (drop_at xs k d (omega (arith, low)))
 
 -- ---- inputs that can't be read
-pub not_unread : (number : ℕ) (inputs : List (Order × Coming)) (held : List VersionSet) (fault : Fault) → Pairwise GivesAs inputs held → IsUnread number inputs fault → ⊥
+pub not_unread : (number : ℕ) (inputs : List (Order × Coming)) (held : List VersionSet) (fault : Fault) → Pairwise GivesAs inputs held
+    → IsUnread number inputs fault → ⊥
 not_unread number [] held fault h unread = unread
 not_unread number (input ∷ inputs) [] fault h unread = absurd h
 not_unread number ((Sorted, c) ∷ inputs) (s ∷ held) fault h unread = not_unread (number + 1) inputs held fault h.1 unread
 not_unread number ((Any, c) ∷ inputs) (s ∷ held) fault h (inl e) = let f : None ≡ Some fault = sym (file_refusal number c s h.0) ∙ e in cc
 not_unread number ((Any, c) ∷ inputs) (s ∷ held) fault h (inr others) = not_unread (number + 1) inputs held fault h.1 others
 
-unread_first : (number : ℕ) (input : Order × Coming) (rest : List (Order × Coming)) (fault : Fault) → IsUnopened number (input ∷ []) fault → IsUnopened number (input ∷ rest) fault
+unread_first : (number : ℕ) (input : Order × Coming) (rest : List (Order × Coming)) (fault : Fault) → IsUnopened number (input ∷ []) fault
+    → IsUnopened number (input ∷ rest) fault
 unread_first number input rest fault (inl e) = inl e
 unread_first number (Sorted, c) rest fault (inr h) = absurd h
 unread_first number (Any, c) rest fault (inr (inl h)) = inr (inl h)
 unread_first number (Any, c) rest fault (inr (inr h)) = absurd h
 
-unread_more : (number : ℕ) (input : Order × Coming) (rest : List (Order × Coming)) (fault : Fault) → IsUnopened (number + 1) rest fault → IsUnopened number (input ∷ rest) fault
+unread_more : (number : ℕ) (input : Order × Coming) (rest : List (Order × Coming)) (fault : Fault) → IsUnopened (number + 1) rest fault
+    → IsUnopened number (input ∷ rest) fault
 unread_more number input rest fault (inl e) = inl e
 unread_more number (Sorted, c) rest fault (inr h) = inr h
 unread_more number (Any, c) rest fault (inr h) = inr (inr h)
 
 -- ---- sources that were opened
-pub stream_opens : {R : Type 0} (can : R → Coming → Type 0) (number : ℕ) (reader : R) (s : FileStand R) → s ≡ opened_file number reader → IsOpened can number (in_order Sorted reader) (Streamed s)
+pub stream_opens : {R : Type 0} (can : R → Coming → Type 0) (number : ℕ) (reader : R) (s : FileStand R) → s ≡ opened_file number reader
+    → IsOpened can number (in_order Sorted reader) (Streamed s)
 stream_opens can number reader s is still h =
     let q = one_gives can number reader still (subst (λ (x : FileStand _). FileCanGive can x still) is h) in
     ((Sorted, q.0), (refl, q.1), (q.2, tt))
 
-pub load_opens : {R : Type 0} (can : R → Coming → Type 0) (number : ℕ) (reader : R) (loaded : Loaded) (set : VersionSet) → set ≡ loaded.history → GivesOne (can reader) (λ c. Loads c loaded) → IsOpened can number (in_order Any reader) (Held set)
+pub load_opens : {R : Type 0} (can : R → Coming → Type 0) (number : ℕ) (reader : R) (loaded : Loaded) (set : VersionSet)
+    → set ≡ loaded.history → GivesOne (can reader) (λ c. Loads c loaded) → IsOpened can number (in_order Any reader) (Held set)
 load_opens can number reader loaded set is h still e =
     let file : GivesFile h.0 loaded.history = record { unbroken = h.2.unbroken; file = h.2.holds } in
     ((Any, h.0), (refl, h.1), (e ∙ ap set_given is ∙ sym (file_read number h.0 loaded.history file), (loaded.history, file)))
 
-pub load_stops : {R : Type 0} (can : R → Coming → Type 0) (number : ℕ) (reader : R) (fault : Fault) → GivesOne (can reader) (λ c. StopsLoading number c fault) → FileGivesOne can (in_order Any reader) (λ input. IsUnopened number (input ∷ []) fault)
+pub load_stops : {R : Type 0} (can : R → Coming → Type 0) (number : ℕ) (reader : R) (fault : Fault)
+    → GivesOne (can reader) (λ c. StopsLoading number c fault)
+    → FileGivesOne can (in_order Any reader) (λ input. IsUnopened number (input ∷ []) fault)
 load_stops can number reader fault h = ((Any, h.0), (refl, h.1), ⊎_elim (λ e. inl e) (λ e. inr (inl e)) h.2)
 
 module _ {R : Type 0} (can : R → Coming → Type 0) where
-  pub opened_more : (number : ℕ) (files : List (InputFile R)) (opened : List (RunSource R)) (file : InputFile R) (s : RunSource R) → AreOpened can number files opened → IsOpened can (number + length files) file s → AreOpened can number (files ++ file ∷ []) (opened ++ s ∷ [])
-  opened_more number [] [] file s all one = (subst (λ (n : ℕ). IsOpened can n file s) (let e : number + 0 ≡ number = omega arith in e) one, tt)
+  pub opened_more : (number : ℕ) (files : List (InputFile R)) (opened : List (RunSource R)) (file : InputFile R) (s : RunSource R)
+      → AreOpened can number files opened → IsOpened can (number + length files) file s
+      → AreOpened can number (files ++ file ∷ []) (opened ++ s ∷ [])
+  opened_more number [] [] file s all one =
+      (subst (λ (n : ℕ). IsOpened can n file s) (let e : number + 0 ≡ number = omega arith in e) one, tt)
   opened_more number [] (t ∷ opened) file s all one = absurd all
   opened_more number (f ∷ files) [] file s all one = absurd all
-  opened_more number (f ∷ files) (t ∷ opened) file s all one =
-      (all.0, opened_more (number + 1) files opened file s all.1 (subst (λ (n : ℕ). IsOpened can n file s) (let e : number + suc (length files) ≡ (number + 1) + length files = omega arith in e) one))
+  opened_more number (f ∷ files) (t ∷ opened) file s all one = (
+    all.0,
+    opened_more (number + 1) files opened file s all.1
+        (subst (λ (n : ℕ). IsOpened can n file s) (let e : number + suc (length files) ≡ (number + 1) + length files = omega arith in e) one),
+  )
 
-  pub opened_many : (number : ℕ) (files : List (InputFile R)) (opened : List (RunSource R)) → AreOpened can number files opened → length opened ≡ length files
+  pub opened_many : (number : ℕ) (files : List (InputFile R)) (opened : List (RunSource R)) → AreOpened can number files opened
+      → length opened ≡ length files
   opened_many number [] [] all = refl
   opened_many number [] (s ∷ opened) all = absurd all
   opened_many number (f ∷ files) [] all = absurd all
   opened_many number (f ∷ files) (s ∷ opened) all = ap suc (opened_many (number + 1) files opened all.1)
 
   -- what the sources give is what the sources of what the files gave give
-  pub opened_give : (number : ℕ) (files : List (InputFile R)) (opened : List (RunSource R)) (stills : List source.VersionsToCome) → AreOpened can number files opened → AllGive (SourceCanGive can) opened stills
+  pub opened_give : (number : ℕ) (files : List (InputFile R)) (opened : List (RunSource R)) (stills : List source.VersionsToCome)
+      → AreOpened can number files opened → AllGive (SourceCanGive can) opened stills
       → (all : List (Order × Coming)) × AllGive (FileGives can) files all × (stills ≡ sources number all) × All IsRead all
   opened_give number [] [] [] all g = ([], tt, refl, All-nil IsRead)
   opened_give number [] [] (s ∷ stills) all g = absurd g
@@ -205,7 +234,9 @@ module _ {R : Type 0} (can : R → Coming → Type 0) where
     give_files (f ∷ files) = ((refl, possible f.reader), give_files files)
 
     -- behind files that were opened stands one that can't be
-    pub stops_behind : (number : ℕ) (files : List (InputFile R)) (opened : List (RunSource R)) (file : InputFile R) (rest : List (InputFile R)) (fault : Fault) → AreOpened can number files opened → FileGivesOne can file (λ input. IsUnopened (number + length files) (input ∷ []) fault)
+    pub stops_behind : (number : ℕ) (files : List (InputFile R)) (opened : List (RunSource R)) (file : InputFile R)
+        (rest : List (InputFile R)) (fault : Fault)
+        → AreOpened can number files opened → FileGivesOne can file (λ input. IsUnopened (number + length files) (input ∷ []) fault)
         → ForSome (FileGives can) (files ++ file ∷ rest) (λ all. IsUnopened number all fault)
     stops_behind number [] [] file rest fault all h =
         let why = subst (λ (n : ℕ). IsUnopened n (h.0 ∷ []) fault) (let e : number + 0 ≡ number = omega arith in e) h.2 in
@@ -214,29 +245,42 @@ module _ {R : Type 0} (can : R → Coming → Type 0) where
     stops_behind number (f ∷ files) [] file rest fault all h = absurd all
     stops_behind number (f ∷ files) (t ∷ opened) file rest fault all h =
         let first = all.0 (source_one one t) (source_possible one can possible t) in
-        let others = stops_behind (number + 1) files opened file rest fault all.1 (h.0, h.1, subst (λ (n : ℕ). IsUnopened n (h.0 ∷ []) fault) (let e : number + suc (length files) ≡ (number + 1) + length files = omega arith in e) h.2) in
+        let others =
+        stops_behind (number + 1) files opened file rest fault all.1 (
+          h.0,
+          h.1,
+          subst (λ (n : ℕ). IsUnopened n (h.0 ∷ []) fault)
+              (let e : number + suc (length files) ≡ (number + 1) + length files = omega arith in e) h.2,
+        ) in
         (first.0 ∷ others.0, (first.1, others.1), unread_more number first.0 others.0 fault others.2)
 
     -- one of the files, behind those that were opened
-    pub stop_unread : (ys xs : List (InputFile R)) (y : InputFile R) (items : List (RunSource R)) (n : ℕ) (fault : Fault) → AreOpened can 0 ys items → n ≡ length items → map (λ f. f) ys ≡ take (length ys) xs → (length ys < length xs) × (y ≡ get_or xs (length ys) y)
+    pub stop_unread : (ys xs : List (InputFile R)) (y : InputFile R) (items : List (RunSource R)) (n : ℕ) (fault : Fault)
+        → AreOpened can 0 ys items → n ≡ length items → map (λ f. f) ys ≡ take (length ys) xs
+        → (length ys < length xs) × (y ≡ get_or xs (length ys) y)
         → FileGivesOne can y (λ input. IsUnopened n (input ∷ []) fault) → ForSome (FileGives can) xs (λ all. IsUnopened 0 all fault)
     stop_unread ys xs y items n fault all count so_far turn h =
         let place : n ≡ 0 + length ys = omega (arith, count, opened_many 0 ys items all) in
         let k : ℕ = length ys in
         let front : take k xs ++ y ∷ drop (k + 1) xs ≡ xs =
-        ap (λ t. take k xs ++ t) (ap (λ f. f ∷ drop (k + 1) xs) turn.1) ∙ ap (λ t. take k xs ++ t) (drop_at xs k y turn.0) ∙ take-append-drop k xs in
+        ap (λ t. take k xs ++ t) (ap (λ f. f ∷ drop (k + 1) xs) turn.1) ∙ ap (λ t. take k xs ++ t) (drop_at xs k y turn.0)
+        ∙ take-append-drop k xs in
         let is : ys ++ y ∷ drop (k + 1) xs ≡ xs = ap (λ t. t ++ y ∷ drop (k + 1) xs) (sym (map_itself ys) ∙ so_far) ∙ front in
         subst (λ (fs : List (InputFile R)). ForSome (FileGives can) fs (λ all. IsUnopened 0 all fault)) is
         (stops_behind 0 ys items y (drop (k + 1) xs) fault all (h.0, h.1, subst (λ (m : ℕ). IsUnopened m (h.0 ∷ []) fault) place h.2))
 
     -- memory was refused behind files that were opened
-    pub no_memory : (files : List (InputFile R)) (fault : Fault) → fault ≡ memory_fault → ForSome (FileGives can) files (λ all. IsUnopened 0 all fault)
+    pub no_memory : (files : List (InputFile R)) (fault : Fault) → fault ≡ memory_fault
+        → ForSome (FileGives can) files (λ all. IsUnopened 0 all fault)
     no_memory files fault memory = (map (one_of_file one) files, give_files files, inl memory)
 
-  pub push_opened : (ys : List (InputFile R)) (y : InputFile R) (items after : List (RunSource R)) (x : RunSource R) (n : ℕ) → AreOpened can 0 ys items → after ≡ items ++ x ∷ [] → n ≡ length items → IsOpened can n y x → AreOpened can 0 (ys ++ y ∷ []) after
+  pub push_opened : (ys : List (InputFile R)) (y : InputFile R) (items after : List (RunSource R)) (x : RunSource R) (n : ℕ)
+      → AreOpened can 0 ys items → after ≡ items ++ x ∷ [] → n ≡ length items → IsOpened can n y x → AreOpened can 0 (ys ++ y ∷ []) after
   push_opened ys y items after x n all pushed count one =
       let place : n ≡ 0 + length ys = omega (arith, count, opened_many 0 ys items all) in
-      subst (λ (l : List (RunSource R)). AreOpened can 0 (ys ++ y ∷ []) l) (sym pushed) (opened_more 0 ys items y x all (subst (λ (k : ℕ). IsOpened can k y x) place one))
+      subst (λ (l : List (RunSource R)). AreOpened can 0 (ys ++ y ∷ []) l) (sym pushed)
+      (opened_more 0 ys items y x all (subst (λ (k : ℕ). IsOpened can k y x) place one))
 
-  pub opened_all : (ys xs : List (InputFile R)) (items : List (RunSource R)) → AreOpened can 0 ys items → map (λ y. y) ys ≡ xs → AreOpened can 0 xs items
+  pub opened_all : (ys xs : List (InputFile R)) (items : List (RunSource R)) → AreOpened can 0 ys items → map (λ y. y) ys ≡ xs
+      → AreOpened can 0 xs items
   opened_all ys xs items all is = subst (λ (l : List (InputFile R)). AreOpened can 0 l items) (sym (map_itself ys) ∙ is) all

@@ -7,7 +7,9 @@ use Rattle.osm_files.specs.declared.fault.Fault.{Fault}
 use Rattle.osm_files.specs.declared.format.Format.{Format}
 use Rattle.osm_files.specs.Fault.{memory_fault}
 use Rattle.osm_files.specs.Input.{Coming}
-use Rattle.osm_files.specs.Output.{Content, Appended}
+use Rattle.osm_files.specs.declared.output.Output.{Ghosts}
+use Rattle.osm_files.specs.Output.{Change, Appends}
+use Rattle.osm_files.specs.Change.{change_of}
 use Rattle.osm_files.specs.Spell.{spell}
 use Rattle.osm_files.specs.Sink.{CutShort}
 use Rattle.osm_merge.specs.declared.merge.Counts.{Counts}
@@ -19,12 +21,13 @@ use Rattle.osm_mirror.specs.declared.input.Order.TheVariants.{Any}
 use Rattle.osm_mirror.specs.Merge.{union_of}
 use Rattle.osm_mirror.specs.Given.{GivesFile, IsUnread}
 
--- A command over these inputs, to an output that held and holds this: each input gave a file, and the one spelling of
--- what was chosen of the union of the sets that they hold was appended.
-pub record IsWritten (choice : VersionSet → VersionSet) (inputs : List Coming) (format : Format) (before after : Content) (counts : Counts) : Type 0 where
+-- A command over these inputs, with this change of the output: each input gave a file, and the one spelling of what was
+-- chosen of the union of the sets that they hold was appended.
+pub record IsWritten (choice : VersionSet → VersionSet) (inputs : List Coming) (format : Format) (change : Change)
+    (counts : Counts) : Type 0 where
   pub held : List VersionSet
   pub files : Pairwise GivesFile inputs held
-  pub written : Appended before after (spell format (choice (union_of held)))
+  pub written : Appends change (spell format (choice (union_of held)))
   pub read_count : counts.read ≡ capped (sum_by size held)
   pub written_count : counts.written ≡ capped (size (choice (union_of held)))
   pub compared_count : counts.compared ≡ 0
@@ -37,16 +40,21 @@ in_any_order reader = record { reader = reader; order = Any }
 abbrev pub any : Coming → Order × Coming
 any c = (Any, c)
 
--- Why a command was refused: memory was refused before anything was written; or an input can't be read, and nothing was written;
--- or all inputs are files, and a front of the one spelling of what was chosen of the union of the sets that they hold was
+-- Why a command was refused: memory was refused before anything was written; or an input can't be read, and nothing was
+-- written;
+-- or all inputs are files, and a front of the one spelling of what was chosen of the union of the sets that they hold
+-- was
 -- appended: as many bytes as the place says, where the output failed.
-abbrev pub IsNotWritten : {O : Type 0} → (O → Content) → (VersionSet → VersionSet) → List Coming → Format → O → O → Bool → Fault → Type 0
-IsNotWritten holds choice inputs format before after failed fault =
+abbrev pub IsNotWritten : {O : Type 0} → Ghosts O → (VersionSet → VersionSet) → List Coming → Format → O → O → Fault
+    → Type 0
+IsNotWritten output choice inputs format before after fault =
     ((fault ≡ memory_fault) × (after ≡ before))
     ⊎ (IsUnread 0 (map any inputs) fault × (after ≡ before))
-    ⊎ ((held : List VersionSet) × Pairwise GivesFile inputs held × CutShort (length inputs) (holds before) (holds after) failed (spell format (choice (union_of held))) fault)
+    ⊎ ((held : List VersionSet) × Pairwise GivesFile inputs held
+    × CutShort (length inputs) (change_of output before after) (spell format (choice (union_of held))) fault)
 
--- what is left once changes are applied: with history all versions, else the newest one of each object, if it isn't a deletion
+-- what is left once changes are applied: with history all versions, else the newest one of each object, if it isn't a
+-- deletion
 abbrev pub applied : Bool → VersionSet → VersionSet
 applied true set = set
 applied false set = visible (snapshot set)

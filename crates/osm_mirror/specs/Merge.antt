@@ -1,12 +1,12 @@
 -- What a merge of files writes, and why it is refused: an own rule of this project.
-use Rattle.std.specs.Prelude.{◌≡◌, ℕ, ◌+◌, Bool, false, List, [], ◌∷◌, length, fold, sum_by}
+use Rattle.std.specs.Prelude.{◌≡◌, ℕ, ◌+◌, false, List, [], ◌∷◌, length, fold, sum_by}
 use Rattle.osm_model.specs.VersionSet.{VersionSet}
 use Rattle.osm_model.specs.Sets.{size, empty, union}
 use Rattle.osm_model.specs.Pairwise.{Pairwise}
 use Rattle.osm_files.specs.declared.fault.Fault.{Fault}
 use Rattle.osm_files.specs.declared.format.Format.{Format}
 use Rattle.osm_files.specs.Input.{Coming}
-use Rattle.osm_files.specs.Output.{Content, Appended}
+use Rattle.osm_files.specs.Output.{Change, Appends}
 use Rattle.osm_files.specs.Held.{HoldsSorted}
 use Rattle.osm_files.specs.Spell.{spell}
 use Rattle.osm_files.specs.Sink.{CutShort}
@@ -25,12 +25,12 @@ pub record GivesSorted (input : Coming) (held : VersionSet) : Type 0 where
 abbrev pub union_of : List VersionSet → VersionSet
 union_of = fold union empty
 
--- A merge of these inputs, in this format, to an output that held and holds this: each input gave a sorted file,
--- and the one spelling of the union of the sets that they hold was appended.
-pub record IsMerged (inputs : List Coming) (format : Format) (before after : Content) (counts : Counts) : Type 0 where
+-- A merge of these inputs, in this format, with this change of the output: each input gave a sorted file, and the one
+-- spelling of the union of the sets that they hold was appended.
+pub record IsMerged (inputs : List Coming) (format : Format) (change : Change) (counts : Counts) : Type 0 where
   pub held : List VersionSet
   pub sorted_files : Pairwise GivesSorted inputs held
-  pub written : Appended before after (spell format (union_of held))
+  pub written : Appends change (spell format (union_of held))
   pub read_count : counts.read ≡ capped (sum_by size held)
   pub written_count : counts.written ≡ capped (size (union_of held))
   pub compared_count : merged.IsBounded (length inputs) (sum_by size held) counts.compared
@@ -45,18 +45,20 @@ abbrev pub opened : {R : Type 0} → ℕ → List R → List (FileStand R)
 opened number [] = []
 opened number (reader ∷ inputs) = opened_file number reader ∷ opened (number + 1) inputs
 
--- Why a merge was refused: memory was refused, the output failed, or the file would be too long, with a front of the file
+-- Why a merge was refused: memory was refused, the output failed, or the file would be too long, with a front of the
+-- file
 -- appended; or it is the refusal of an input, and what stands before it was written.
-abbrev pub IsRefused : List Coming → Format → Content → Content → Bool → Fault → Type 0
-IsRefused inputs format before after failed fault = merged.RefusesSources (sources 0 inputs) format (length inputs) before after failed fault
+abbrev pub IsRefused : List Coming → Format → Change → Fault → Type 0
+IsRefused inputs format change fault = merged.RefusesSources (sources 0 inputs) format (length inputs) change fault
 
 -- Of sorted files no input is refused, and a front of the one spelling of the union of the sets that they hold was
 -- appended: as many bytes as the place says, where the output failed.
-abbrev pub IsCutShort : List Coming → Format → Content → Content → Bool → Fault → Type 0
-IsCutShort inputs format before after failed fault =
-    (held : List VersionSet) → Pairwise GivesSorted inputs held → CutShort (length inputs) before after failed (spell format (union_of held)) fault
+abbrev pub IsCutShort : List Coming → Format → Change → Fault → Type 0
+IsCutShort inputs format change fault =
+    (held : List VersionSet) → Pairwise GivesSorted inputs held
+    → CutShort (length inputs) change (spell format (union_of held)) fault
 
 -- why a merge was refused, and what was written then
-pub record Refuses (inputs : List Coming) (format : Format) (before after : Content) (failed : Bool) (fault : Fault) : Type 0 where
-  pub why : IsRefused inputs format before after failed fault
-  pub cut : IsCutShort inputs format before after failed fault
+pub record Refuses (inputs : List Coming) (format : Format) (change : Change) (fault : Fault) : Type 0 where
+  pub why : IsRefused inputs format change fault
+  pub cut : IsCutShort inputs format change fault

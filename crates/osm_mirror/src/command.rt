@@ -3,6 +3,7 @@ ghost use Rattle.std.specs.Prelude.{◌≡◌, [], ◌∷◌, map, IfOk, IfErr, 
 ghost use Rattle.osm_files.specs.Fault.{memory_fault};
 ghost use Rattle.osm_files.specs.Input.{GivesOne};
 ghost use Rattle.osm_files.specs.Output.{IsGoodThroughout};
+ghost use Rattle.osm_files.specs.Change.{change_of};
 ghost use Rattle.osm_merge.specs.Giving.{ForSome};
 ghost use Rattle.osm_merge.specs.Selected.{selected, visible, at, between};
 ghost use Rattle.osm_merge.specs.Merged.{Grows};
@@ -14,17 +15,17 @@ use osm_files::{Fault, Format, Input, Output};
 use osm_merge::{Counts, Selection, Silent};
 use std::alloc::Global;
 
-/// Sorts and merges files whose versions stand in any order: appends the one file of this format that holds the versions of all
-/// inputs, each once.
+/// Sorts and merges files whose versions stand in any order: appends the one file of this format that holds the
+/// versions of all inputs, each once.
 ///
 /// `read` is the sum of the numbers of versions that the inputs hold, `written` counts those written, `compared` is 0.
 ///
 /// # Errors
 ///
-/// The inputs are numbered from 0, and the output has the number of the inputs. An input that can't be read is named with the
-/// reason and its place, where several are, one of them, and nothing was written then. WriteFault where the output failed,
-/// TooLong where a file has 2^62 bytes or more, Memory where a growth was refused. What was written then is a front of the
-/// file.
+/// The inputs are numbered from 0, and the output has the number of the inputs. An input that can't be read is named
+/// with the reason and its place, where several are, one of them, and nothing was written then. WriteFault where the
+/// output failed, TooLong where a file has 2^62 bytes or more, Memory where a growth was refused. What was written then
+/// is a front of the file.
 pub fn run_sort<R: Input + Drop, W: Output>(
     alloc: Global,
     inputs: Vec<R>,
@@ -32,26 +33,26 @@ pub fn run_sort<R: Input + Drop, W: Output>(
     out: &mut W,
 ) -> Result<Counts, Fault>
     ensures written { IfOk result (λ counts. ForSome R.can_give inputs.items (λ all.
-        IsWritten (λ set. set) all format (W.holds out.old) (W.holds out.new) counts)) }
+        IsWritten (λ set. set) all format (change_of W.Output out.old out.new) counts)) }
     ensures refused { IfErr result (λ fault. ForSome R.can_give inputs.items (λ all.
-        IsNotWritten W.holds (λ set. set) all format out.old out.new (W.failed out.new) fault)) }
-    ensures kept { Grows (W.holds out.old) (W.holds out.new) }
-    ensures good { OnOk result (IsGoodThroughout (W.failed out.old) (W.failed out.new)) }
+        IsNotWritten W.Output (λ set. set) all format out.old out.new fault)) }
+    ensures kept { Grows (change_of W.Output out.old out.new) }
+    ensures good { OnOk result (IsGoodThroughout (change_of W.Output out.old out.new)) }
 {
     run_held(alloc, Selection::All, inputs, format, out)
 }
 
-/// Applies changes: appends the one file of this format that holds, of the versions of all inputs, the newest one of each object,
-/// if it isn't a deletion; with history, all versions. Which input has which versions makes no difference.
+/// Applies changes: appends the one file of this format that holds, of the versions of all inputs, the newest one of
+/// each object, if it isn't a deletion; with history, all versions. Which input has which versions makes no difference.
 ///
 /// `read` is the sum of the numbers of versions that the inputs hold, `written` counts those written, `compared` is 0.
 ///
 /// # Errors
 ///
-/// The inputs are numbered from 0, and the output has the number of the inputs. An input that can't be read is named with the
-/// reason and its place, where several are, one of them, and nothing was written then. WriteFault where the output failed,
-/// TooLong where a file has 2^62 bytes or more, Memory where a growth was refused. What was written then is a front of the
-/// file.
+/// The inputs are numbered from 0, and the output has the number of the inputs. An input that can't be read is named
+/// with the reason and its place, where several are, one of them, and nothing was written then. WriteFault where the
+/// output failed, TooLong where a file has 2^62 bytes or more, Memory where a growth was refused. What was written then
+/// is a front of the file.
 pub fn run_apply<R: Input + Drop, W: Output>(
     alloc: Global,
     inputs: Vec<R>,
@@ -60,11 +61,11 @@ pub fn run_apply<R: Input + Drop, W: Output>(
     out: &mut W,
 ) -> Result<Counts, Fault>
     ensures written { IfOk result (λ counts. ForSome R.can_give inputs.items (λ all.
-        IsWritten (applied with_history) all format (W.holds out.old) (W.holds out.new) counts)) }
+        IsWritten (applied with_history) all format (change_of W.Output out.old out.new) counts)) }
     ensures refused { IfErr result (λ fault. ForSome R.can_give inputs.items (λ all.
-        IsNotWritten W.holds (applied with_history) all format out.old out.new (W.failed out.new) fault)) }
-    ensures kept { Grows (W.holds out.old) (W.holds out.new) }
-    ensures good { OnOk result (IsGoodThroughout (W.failed out.old) (W.failed out.new)) }
+        IsNotWritten W.Output (applied with_history) all format out.old out.new fault)) }
+    ensures kept { Grows (change_of W.Output out.old out.new) }
+    ensures good { OnOk result (IsGoodThroughout (change_of W.Output out.old out.new)) }
 {
     if with_history {
         run_held(alloc, Selection::All, inputs, format, out)
@@ -73,16 +74,16 @@ pub fn run_apply<R: Input + Drop, W: Output>(
     }
 }
 
-/// The map at a moment: appends the one file of this format that holds, of the versions up to the moment, the newest one of each
-/// object, if it isn't a deletion.
+/// The map at a moment: appends the one file of this format that holds, of the versions up to the moment, the newest
+/// one of each object, if it isn't a deletion.
 ///
 /// `read` is the number of versions that the input holds, `written` counts those written, `compared` is 0.
 ///
 /// # Errors
 ///
-/// The input has the number 0 and the output 1. The input's reason and its place where it can't be read, and nothing was written
-/// then. WriteFault where the output failed, TooLong where a file has 2^62 bytes or more, Memory where a growth was refused.
-/// What was written then is a front of the file.
+/// The input has the number 0 and the output 1. The input's reason and its place where it can't be read, and nothing
+/// was written then. WriteFault where the output failed, TooLong where a file has 2^62 bytes or more, Memory where a
+/// growth was refused. What was written then is a front of the file.
 pub fn run_time_filter<R: Input + Drop, W: Output>(
     alloc: Global,
     input: R,
@@ -91,25 +92,25 @@ pub fn run_time_filter<R: Input + Drop, W: Output>(
     out: &mut W,
 ) -> Result<Counts, Fault>
     ensures written { IfOk result (λ counts. GivesOne (R.can_give input) (λ c.
-        IsWritten (λ set. visible (at set time)) (c ∷ []) format (W.holds out.old) (W.holds out.new) counts)) }
+        IsWritten (λ set. visible (at set time)) (c ∷ []) format (change_of W.Output out.old out.new) counts)) }
     ensures refused { IfErr result (λ fault. GivesOne (R.can_give input) (λ c.
-        IsNotWritten W.holds (λ set. visible (at set time)) (c ∷ []) format out.old out.new (W.failed out.new) fault)) }
-    ensures kept { Grows (W.holds out.old) (W.holds out.new) }
-    ensures good { OnOk result (IsGoodThroughout (W.failed out.old) (W.failed out.new)) }
+        IsNotWritten W.Output (λ set. visible (at set time)) (c ∷ []) format out.old out.new fault)) }
+    ensures kept { Grows (change_of W.Output out.old out.new) }
+    ensures good { OnOk result (IsGoodThroughout (change_of W.Output out.old out.new)) }
 {
     run_one(alloc, Selection::StateVisible(time), input, format, out)
 }
 
-/// The history of a period: appends the one file of this format that holds the versions, deletions too, that came before `to` and
-/// stood at `from` or later.
+/// The history of a period: appends the one file of this format that holds the versions, deletions too, that came
+/// before `to` and stood at `from` or later.
 ///
 /// `read` is the number of versions that the input holds, `written` counts those written, `compared` is 0.
 ///
 /// # Errors
 ///
-/// The input has the number 0 and the output 1. The input's reason and its place where it can't be read, and nothing was written
-/// then. WriteFault where the output failed, TooLong where a file has 2^62 bytes or more, Memory where a growth was refused.
-/// What was written then is a front of the file.
+/// The input has the number 0 and the output 1. The input's reason and its place where it can't be read, and nothing
+/// was written then. WriteFault where the output failed, TooLong where a file has 2^62 bytes or more, Memory where a
+/// growth was refused. What was written then is a front of the file.
 pub fn run_period_filter<R: Input + Drop, W: Output>(
     alloc: Global,
     input: R,
@@ -119,11 +120,11 @@ pub fn run_period_filter<R: Input + Drop, W: Output>(
     out: &mut W,
 ) -> Result<Counts, Fault>
     ensures written { IfOk result (λ counts. GivesOne (R.can_give input) (λ c.
-        IsWritten (λ set. between set from to) (c ∷ []) format (W.holds out.old) (W.holds out.new) counts)) }
+        IsWritten (λ set. between set from to) (c ∷ []) format (change_of W.Output out.old out.new) counts)) }
     ensures refused { IfErr result (λ fault. GivesOne (R.can_give input) (λ c.
-        IsNotWritten W.holds (λ set. between set from to) (c ∷ []) format out.old out.new (W.failed out.new) fault)) }
-    ensures kept { Grows (W.holds out.old) (W.holds out.new) }
-    ensures good { OnOk result (IsGoodThroughout (W.failed out.old) (W.failed out.new)) }
+        IsNotWritten W.Output (λ set. between set from to) (c ∷ []) format out.old out.new fault)) }
+    ensures kept { Grows (change_of W.Output out.old out.new) }
+    ensures good { OnOk result (IsGoodThroughout (change_of W.Output out.old out.new)) }
 {
     run_one(alloc, Selection::Between { from, to }, input, format, out)
 }
@@ -137,11 +138,11 @@ fn run_one<R: Input + Drop, W: Output>(
     out: &mut W,
 ) -> Result<Counts, Fault>
     ensures written { IfOk result (λ counts. GivesOne (R.can_give input) (λ c.
-        IsWritten (selected selection) (c ∷ []) format (W.holds out.old) (W.holds out.new) counts)) }
+        IsWritten (selected selection) (c ∷ []) format (change_of W.Output out.old out.new) counts)) }
     ensures refused { IfErr result (λ fault. GivesOne (R.can_give input) (λ c.
-        IsNotWritten W.holds (selected selection) (c ∷ []) format out.old out.new (W.failed out.new) fault)) }
-    ensures kept { Grows (W.holds out.old) (W.holds out.new) }
-    ensures good { OnOk result (IsGoodThroughout (W.failed out.old) (W.failed out.new)) }
+        IsNotWritten W.Output (selected selection) (c ∷ []) format out.old out.new fault)) }
+    ensures kept { Grows (change_of W.Output out.old out.new) }
+    ensures good { OnOk result (IsGoodThroughout (change_of W.Output out.old out.new)) }
 {
     let mut inputs = Vec::new(alloc);
     inputs.push(input)?;
@@ -157,11 +158,11 @@ fn run_held<R: Input + Drop, W: Output>(
     out: &mut W,
 ) -> Result<Counts, Fault>
     ensures written { IfOk result (λ counts. ForSome R.can_give inputs.items (λ all.
-        IsWritten (selected selection) all format (W.holds out.old) (W.holds out.new) counts)) }
+        IsWritten (selected selection) all format (change_of W.Output out.old out.new) counts)) }
     ensures refused { IfErr result (λ fault. ForSome R.can_give inputs.items (λ all.
-        IsNotWritten W.holds (selected selection) all format out.old out.new (W.failed out.new) fault)) }
-    ensures kept { Grows (W.holds out.old) (W.holds out.new) }
-    ensures good { OnOk result (IsGoodThroughout (W.failed out.old) (W.failed out.new)) }
+        IsNotWritten W.Output (selected selection) all format out.old out.new fault)) }
+    ensures kept { Grows (change_of W.Output out.old out.new) }
+    ensures good { OnOk result (IsGoodThroughout (change_of W.Output out.old out.new)) }
 {
     let files = of_any_order(alloc, inputs)?;
     let counts = run_selected(alloc, selection, files, format, out, &mut Silent)?;

@@ -1,7 +1,9 @@
 //! The merge of files.
-ghost use Rattle.std.specs.Prelude.{◌≡◌, IfOk, IfErr, OnOk};
+ghost use Rattle.std.specs.Prelude.{◌≡◌, [], ◌∷◌, ◌++◌, length, IfOk, IfErr, OnOk};
 ghost use Rattle.osm_files.specs.Fault.{memory_fault};
+ghost use Rattle.osm_files.specs.Groups.{opened_file};
 ghost use Rattle.osm_files.specs.Output.{IsGoodThroughout};
+ghost use Rattle.osm_files.specs.Change.{change_of};
 ghost use Rattle.osm_merge.specs.Giving.{ForSome};
 ghost use Rattle.osm_merge.specs.Merged.{Grows};
 ghost use Rattle.osm_mirror.specs.Merge.{IsMerged, Refuses, opened};
@@ -29,11 +31,11 @@ pub fn run_merge<R: Input + Drop, W: Output>(
     out: &mut W,
 ) -> Result<Counts, Fault>
     ensures merged { IfOk result (λ counts. ForSome R.can_give inputs.items (λ all.
-        IsMerged all format (W.holds out.old) (W.holds out.new) counts)) }
+        IsMerged all format (change_of W.Output out.old out.new) counts)) }
     ensures refused { IfErr result (λ fault. ForSome R.can_give inputs.items (λ all.
-        Refuses all format (W.holds out.old) (W.holds out.new) (W.failed out.new) fault)) }
-    ensures kept { Grows (W.holds out.old) (W.holds out.new) }
-    ensures good { OnOk result (IsGoodThroughout (W.failed out.old) (W.failed out.new)) }
+        Refuses all format (change_of W.Output out.old out.new) fault)) }
+    ensures kept { Grows (change_of W.Output out.old out.new) }
+    ensures good { OnOk result (IsGoodThroughout (change_of W.Output out.old out.new)) }
 {
     let output = inputs.len();
     let sources = open_sources(alloc, inputs)?;
@@ -49,9 +51,23 @@ fn open_sources<R: Input + Drop>(alloc: Global, inputs: Vec<R>) -> Result<Vec<Fi
     let count = inputs.len();
     let mut sources = Vec::new(alloc);
     for reader in inputs {
-        sources.push(FileSource::beside(alloc, sources.len(), reader, count)?)?;
+        push_source(alloc, count, reader, &mut sources)?;
     }
     Ok(sources)
+}
+
+/// Appends the source of one of `count` readers, with the next number.
+fn push_source<R: Input + Drop>(
+    alloc: Global,
+    count: usize,
+    reader: R,
+    sources: &mut Vec<FileSource<R>>,
+) -> Result<(), Fault>
+    ensures pushed { OnOk result (sources.new.items ≡ sources.old.items
+        ++ opened_file (length sources.old.items) reader ∷ []) }
+    ensures memory { IfErr result (λ fault. fault ≡ memory_fault) }
+{
+    Ok(sources.push(FileSource::beside(alloc, sources.len(), reader, count)?)?)
 }
 
 #[cfg(test)]

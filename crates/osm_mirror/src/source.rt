@@ -1,5 +1,5 @@
 //! What files give: streams of those that are sorted, and histories of the others.
-ghost use Rattle.std.specs.Prelude.{◌≡◌, [], ◌∷◌, IfOk, IfErr};
+ghost use Rattle.std.specs.Prelude.{◌≡◌, [], ◌∷◌, ◌++◌, length, IfOk, IfErr, OnOk};
 ghost use Rattle.osm_files.specs.Fault.{memory_fault};
 ghost use Rattle.osm_merge.specs.Giving.{ForSome};
 ghost use Rattle.osm_mirror.specs.Given.{FileGives, FileGivesOne, in_order, IsOpened, AreOpened, IsUnopened};
@@ -67,12 +67,27 @@ pub fn open_inputs<R: Input + Drop>(
     let count = inputs.len();
     let mut sources = Vec::new(alloc);
     'files: for file in inputs {
-        sources.push(open_input(alloc, sources.len(), count, file)?)?;
+        push_input(alloc, count, file, &mut sources)?;
     }
     Ok(sources)
 }
 
-/// The file as a source, which is the input of this number, of so many.
+/// Appends the source of one of `count` files, with the next number.
+fn push_input<R: Input + Drop>(
+    alloc: Global,
+    count: usize,
+    file: InputFile<R>,
+    sources: &mut Vec<RunSource<R>>,
+) -> Result<(), Fault>
+    ensures pushed { OnOk result ((source : _) × (sources.new.items ≡ sources.old.items ++ source ∷ [])
+        × IsOpened R.can_give (length sources.old.items) file source) }
+    ensures refused { IfErr result (λ fault. FileGivesOne R.can_give file (λ input.
+        IsUnopened (length sources.old.items) (input ∷ []) fault)) }
+{
+    Ok(sources.push(open_input(alloc, sources.len(), count, file)?)?)
+}
+
+/// The file as the source of the input `number`, which is one of `count`.
 fn open_input<R: Input + Drop>(
     alloc: Global,
     number: usize,
@@ -88,7 +103,7 @@ fn open_input<R: Input + Drop>(
     }
 }
 
-/// A sorted file as a source, one of so many. Nothing is read yet.
+/// A sorted file as a source, which is one of `count`. Nothing is read yet.
 fn stream<R: Input + Drop>(
     alloc: Global,
     number: usize,

@@ -1,8 +1,10 @@
-//! The runs over inputs that tell beforehand what they give. Each is the run itself, and its contract what follows then.
+//! The runs over inputs that tell beforehand what they give. Each is the run itself, and its contract what follows
+//! then.
 ghost use Rattle.std.specs.Prelude.{List, IfOk, IfErr, OnOk, OnErr};
 ghost use Rattle.std.specs.List.{All};
 ghost use Rattle.osm_files.specs.Input.{Coming};
 ghost use Rattle.osm_files.specs.Output.{IsGoodThroughout};
+ghost use Rattle.osm_files.specs.Change.{change_of};
 ghost use Rattle.osm_merge.specs.Merged.{WritesSet, HasBegun, HasBegunIn};
 ghost use Rattle.osm_merge.specs.Selected.{selected};
 ghost use Rattle.osm_merge.specs.Union.{union_given};
@@ -18,7 +20,8 @@ use osm_files::{Fault, Format, Input, Output};
 use osm_merge::{Counts, Progress, Selection};
 use std::alloc::Global;
 
-/// Inputs that tell what they give can give nothing else. So what a run says of something that they can give, it says of that.
+/// Inputs that tell what they give can give nothing else. So what a run says of something that they can give, it says
+/// of that.
 pub fn told_is_given<R: Input>(inputs: &[R])
     ensures { ToldIsGiven R.can_give inputs.now }
 {}
@@ -36,15 +39,15 @@ pub fn run_told<R: Input + Drop, W: Output>(
 ) -> Result<Counts, Fault>
     // Where all inputs tell what they give.
     ensures merged { IfOk result (λ counts. (all : List Coming) → AllTell R.can_give inputs.items all
-        → merge.IsMerged all format (W.holds out.old) (W.holds out.new) counts) }
+        → merge.IsMerged all format (change_of W.Output out.old out.new) counts) }
     ensures refused { IfErr result (λ fault. (all : List Coming) → AllTell R.can_give inputs.items all
-        → merge.Refuses all format (W.holds out.old) (W.holds out.new) (W.failed out.new) fault) }
+        → merge.Refuses all format (change_of W.Output out.old out.new) fault) }
     ensures begun { OnErr result ((all : List Coming) → AllTell R.can_give inputs.items all
-        → HasBegun (merge.sources 0 all) format (W.holds out.old) (W.holds out.new)) }
+        → HasBegun (merge.sources 0 all) format (change_of W.Output out.old out.new)) }
     // Whichever tell it.
     ensures sorted { OnOk result (All (IsFileIfTold R.can_give merge.GivesSorted) inputs.items) }
-    ensures file { IfOk result (WritesSet format (W.holds out.old) (W.holds out.new)) }
-    ensures good { OnOk result (IsGoodThroughout (W.failed out.old) (W.failed out.new)) }
+    ensures file { IfOk result (WritesSet format (change_of W.Output out.old out.new)) }
+    ensures good { OnOk result (IsGoodThroughout (change_of W.Output out.old out.new)) }
 {
     run_merge(alloc, inputs, format, out)
 }
@@ -63,16 +66,18 @@ pub fn run_selected_told<R: Input + Drop, W: Output, P: Progress>(
     progress: &mut P,
 ) -> Result<Counts, Fault>
     // Where all inputs tell what they give.
-    ensures written { IfOk result (λ counts. (all : List (Order × Coming)) → AllTell (FileGives R.can_give) inputs.items all
-        → IsRun selection all format (W.holds out.old) (W.holds out.new) counts) }
-    ensures refused { IfErr result (λ fault. (all : List (Order × Coming)) → AllTell (FileGives R.can_give) inputs.items all
-        → RefusesRun W.holds selection all format out.old out.new (W.failed out.new) fault) }
+    ensures written { IfOk result (λ counts.
+        (all : List (Order × Coming)) → AllTell (FileGives R.can_give) inputs.items all
+        → IsRun selection all format (change_of W.Output out.old out.new) counts) }
+    ensures refused { IfErr result (λ fault.
+        (all : List (Order × Coming)) → AllTell (FileGives R.can_give) inputs.items all
+        → RefusesRun W.Output selection all format out.old out.new fault) }
     ensures begun { OnErr result ((all : List (Order × Coming)) → AllTell (FileGives R.can_give) inputs.items all
-        → HasBegunIn (selected selection (union_given (sources 0 all))) format (W.holds out.old) (W.holds out.new)) }
+        → HasBegunIn (selected selection (union_given (sources 0 all))) format (change_of W.Output out.old out.new)) }
     // Whichever tell it.
     ensures accepted { OnOk result (All (IsFileIfTold (FileGives R.can_give) GivesAs) inputs.items) }
-    ensures file { IfOk result (WritesSet format (W.holds out.old) (W.holds out.new)) }
-    ensures good { OnOk result (IsGoodThroughout (W.failed out.old) (W.failed out.new)) }
+    ensures file { IfOk result (WritesSet format (change_of W.Output out.old out.new)) }
+    ensures good { OnOk result (IsGoodThroughout (change_of W.Output out.old out.new)) }
 {
     run_selected(alloc, selection, inputs, format, out, progress)
 }

@@ -5,16 +5,19 @@ use Rattle.osm_mirror.proofs.command.run_held.Goals as goal
 
 pub returns-clause-written : goal.returns-clause-written
 returns-clause-written g c =
-    held_written g.R.Input.can_give g.W.Output.holds c.args.selection c.args.format c.args.out.now c.run_selected.new.out c.args.inputs.items c.in_ok-files.files.items c.in_ok-files.ensures.files c.in_ok-counts.counts c.in_ok-counts.ensures.written
+    held_written g.R.Input.can_give g.W.Output c.args.selection c.args.format c.args.out.now c.run_selected.new.out c.args.inputs.items
+    c.in_ok-files.files.items c.in_ok-files.ensures.files c.in_ok-counts.counts c.in_ok-counts.ensures.written
 
 pub returns-in_err-counts-clause-refused : goal.returns-in_err-counts-clause-refused
 returns-in_err-counts-clause-refused g c =
     let p = err_from_is_err_and c.from_residual-in_err-counts.result c.from_residual-in_err-counts.ensures.1 in
     rw (p.1, p.2)
-    (held_refused g.R.Input.can_give g.W.Output.holds c.args.selection c.args.format c.args.out.now c.run_selected.new.out c.args.inputs.items c.in_ok-files.files.items c.in_ok-files.ensures.files (g.W.Output.failed c.run_selected.new.out) c.in_err-counts.field-0.0 c.in_err-counts.ensures.refused)
+    (held_refused g.R.Input.can_give g.W.Output c.args.selection c.args.format c.args.out.now c.run_selected.new.out c.args.inputs.items
+    c.in_ok-files.files.items c.in_ok-files.ensures.files c.in_err-counts.field-0.0 c.in_err-counts.ensures.refused)
 
 pub returns-in_err-files-clause-refused : goal.returns-in_err-files-clause-refused
 returns-in_err-files-clause-refused g c =
     let p = err_from_is_err_and c.from_residual.result c.from_residual.ensures.1 in
     rw (p.1, p.2)
-    (not_begun g.R.Input.can_give g.R.Input.one g.R.Input.possible g.W.Output.holds (selected c.args.selection) c.args.format c.args.out.now (g.W.Output.failed c.args.out.now) c.args.inputs.items _ c.in_err-files.ensures.memory)
+    (not_begun g.R.Input.can_give g.R.Input.one g.R.Input.possible g.W.Output (selected c.args.selection) c.args.format c.args.out.now
+    c.args.inputs.items _ c.in_err-files.ensures.memory)

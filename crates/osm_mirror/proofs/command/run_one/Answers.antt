@@ -1,5 +1,6 @@
 use Rattle.std.proofs.Common.{rules, ◌≡◌, [], ◌∷◌, inl, refl}
 use Rattle.std.proofs.lemmas.Result.{err_from_is_err_and}
+use Rattle.osm_files.specs.Change.{change_of}
 use Rattle.osm_merge.specs.Selected.{selected}
 use Rattle.osm_mirror.specs.Command.{IsWritten, IsNotWritten}
 use Rattle.osm_mirror.proofs.CommandLaws.{one_written, one_refused}
@@ -9,14 +10,14 @@ pub returns-clause-written : goal.returns-clause-written
 returns-clause-written g c =
     let one : c.push.new.self.items ≡ c.args.input ∷ [] = search rules in
     one_written g.R.Input.can_give c.push.new.self.items c.args.input one
-    (λ all counts. IsWritten (selected c.args.selection) all c.args.format (g.W.Output.holds c.args.out.now) (g.W.Output.holds c.run_held.new.out) counts)
+    (λ all counts. IsWritten (selected c.args.selection) all c.args.format (change_of g.W.Output c.args.out.now c.run_held.new.out) counts)
     c.run_held.result c.run_held.ensures.written
 
 pub returns-clause-refused : goal.returns-clause-refused
 returns-clause-refused g c =
     let one : c.push.new.self.items ≡ c.args.input ∷ [] = search rules in
     one_refused g.R.Input.can_give c.push.new.self.items c.args.input one
-    (λ all fault. IsNotWritten g.W.Output.holds (selected c.args.selection) all c.args.format c.args.out.now c.run_held.new.out (g.W.Output.failed c.run_held.new.out) fault)
+    (λ all fault. IsNotWritten g.W.Output (selected c.args.selection) all c.args.format c.args.out.now c.run_held.new.out fault)
     c.run_held.result c.run_held.ensures.refused
 
 pub returns-in_err-push-clause-refused : goal.returns-in_err-push-clause-refused
