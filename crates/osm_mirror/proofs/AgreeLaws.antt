@@ -22,11 +22,13 @@ module _ (o : List MirrorData) (none : AreEmpty o) (v : VersionData) where
   holds_it s = contains (set_of o s) v
 
   -- a source that holds it is a file, since the openings are empty
-  among_others : (r s : List Source) → ((bytes : List ℕ) → Contains r (File bytes) → Contains s (File bytes)) → (x : Source) → Contains r x → holds_it x ≡ true → Contains s x
+  among_others : (r s : List Source) → ((bytes : List ℕ) → Contains r (File bytes) → Contains s (File bytes)) → (x : Source) →
+      Contains r x → holds_it x ≡ true → Contains s x
   among_others r s f (Opening m) inside e = absurd (false≢true (sym (ap (λ t. contains t v) (none m) ∙ in_none v) ∙ e))
   among_others r s f (File bytes) inside e = f bytes inside
 
-  any_other : (r s : List Source) → ((bytes : List ℕ) → Contains r (File bytes) → Contains s (File bytes)) → list_any holds_it r ≡ true → list_any holds_it s ≡ true
+  any_other : (r s : List Source) → ((bytes : List ℕ) → Contains r (File bytes) → Contains s (File bytes)) → list_any holds_it r ≡ true →
+      list_any holds_it s ≡ true
   any_other r s f e =
       let a : Any (λ x. holds_it x ≡ true) r = Any-from_list_any holds_it r e in
       let there : Contains s (a.1) = among_others r s f (a.1) (a.0, a.2, a.3) a.4 in

@@ -1,5 +1,6 @@
 -- How much a source gives, counted one version after the other.
-use Rattle.std.proofs.Common.{◌≡◌, ◌⊎◌, inl, inr, ⊎_elim, ℕ, suc, ◌+◌, ◌∷◌, length, true, refl, sym, ap, ◌∙◌, subst, arith, Option, Some, None, IfSome, Ok, Err}
+use Rattle.std.proofs.Common.{◌≡◌, ◌⊎◌, inl, inr, ⊎_elim, ℕ, suc, ◌+◌, ◌∷◌, length, true, refl, sym, ap, ◌∙◌, subst, arith, Option, Some}
+use Rattle.std.proofs.Common.{None, IfSome, Ok, Err}
 use Rattle.osm_model.specs.Data.{VersionData}
 use Rattle.osm_model.specs.Order.{version_cmp}
 use Rattle.osm_model.specs.VersionSet.{VersionSet}
@@ -42,9 +43,24 @@ Counting all now last sizes = IfSome all (λ s. (t : source.VersionsToCome) × (
 
 pub count_none : (all : Option source.VersionsToCome) → Counting all all None (record { versions = 0; objects = 0 })
 count_none None = tt
-count_none (Some s) = (s, refl, record { refusal = refl; given = 0; begun = 0; versions = omega arith; objects = omega arith; others = omega arith; other_objects = omega arith })
+count_none (Some s) = (
+  s,
+  refl,
+  record {
+    refusal = refl;
+    given = 0;
+    begun = 0;
+    versions = omega arith;
+    objects = omega arith;
+    others =
+        omega arith;
+    other_objects = omega arith;
+  },
+)
 
-one_more : (s t u : source.VersionsToCome) (last : Option VersionData) (v : VersionData) (sizes after : Sizes) → Counted s t last sizes → t ≡ record { list = v ∷ u.list; refusal = u.refusal } → after.versions ≡ capped (sizes.versions + 1) → after.objects ≡ capped (sizes.objects + begins last v) → Counted s u (Some v) after
+one_more : (s t u : source.VersionsToCome) (last : Option VersionData) (v : VersionData) (sizes after : Sizes) → Counted s t last sizes →
+    t ≡ record { list = v ∷ u.list; refusal = u.refusal } → after.versions ≡ capped (sizes.versions + 1) →
+    after.objects ≡ capped (sizes.objects + begins last v) → Counted s u (Some v) after
 one_more s t u last v sizes after h is versions objects =
     let list : length t.list ≡ suc (length u.list) = ap (λ x. length x.list) is in
     let begun : begun_behind last t.list ≡ begins last v + begun_behind (Some v) u.list = ap (λ x. begun_behind last x.list) is in
@@ -60,14 +76,17 @@ one_more s t u last v sizes after h is versions objects =
       other_objects = omega (arith, begun, objects_before);
     }
 
-pub count_more : (all now after : Option source.VersionsToCome) (last : Option VersionData) (v : VersionData) (sizes more : Sizes) → Counting all now last sizes → Step now (Ok (Some v)) after → more.versions ≡ capped (sizes.versions + 1) → more.objects ≡ capped (sizes.objects + begins last v)
+pub count_more : (all now after : Option source.VersionsToCome) (last : Option VersionData) (v : VersionData) (sizes more : Sizes) →
+    Counting all now last sizes → Step now (Ok (Some v)) after → more.versions ≡ capped (sizes.versions + 1) →
+    more.objects ≡ capped (sizes.objects + begins last v)
     → Counting all after (Some v) more
 count_more None now after last v sizes more h step versions objects = tt
 count_more (Some s) now after last v sizes more h step versions objects =
     let k = subst (λ (n : Option source.VersionsToCome). Step n (Ok (Some v)) after) h.1 step in
     (k.0, k.2, one_more s h.0 k.0 last v sizes more h.2 k.1 versions objects)
 
-pub count_ends : (all now after : Option source.VersionsToCome) (last : Option VersionData) (sizes : Sizes) → Counting all now last sizes → Step {A = VersionData} now (Ok None) after → IfSome all (λ s. IsCounted s sizes)
+pub count_ends : (all now after : Option source.VersionsToCome) (last : Option VersionData) (sizes : Sizes) → Counting all now last sizes →
+    Step {A = VersionData} now (Ok None) after → IfSome all (λ s. IsCounted s sizes)
 count_ends None now after last sizes h step = tt
 count_ends (Some s) now after last sizes h step =
     let k = subst (λ (n : Option source.VersionsToCome). Step {A = VersionData} n (Ok None) after) h.1 step in
@@ -82,14 +101,19 @@ count_ends (Some s) now after last sizes h step =
       objects = d.objects ∙ ap capped all_begun;
     }
 
-pub count_stops : (all now after : Option source.VersionsToCome) (last : Option VersionData) (sizes : Sizes) (fault : Fault) → Counting all now last sizes → Step {A = VersionData} now (Err fault) after → (fault ≡ memory_fault) ⊎ IfSome all (λ s. s.refusal ≡ Some fault)
+pub count_stops : (all now after : Option source.VersionsToCome) (last : Option VersionData) (sizes : Sizes) (fault : Fault) →
+    Counting all now last sizes → Step {A = VersionData} now (Err fault) after →
+    (fault ≡ memory_fault) ⊎ IfSome all (λ s. s.refusal ≡ Some fault)
 count_stops None now after last sizes fault h step = inr tt
 count_stops (Some s) now after last sizes fault h step =
     let k = subst (λ (n : Option source.VersionsToCome). Step {A = VersionData} n (Err fault) after) h.1 step in
     ⊎_elim (λ e. inl e) (λ e. inr (sym h.2.refusal ∙ ap (λ x. x.refusal) e)) k.0
 
 -- ---- what is reported
-pub report_is : (c : Coming) (loaded : Loaded) (set : VersionSet) (sizes : Sizes) (report : CheckReport) → Loads c loaded → set ≡ loaded.history → IsCounted (set_given set) sizes → report ≡ record { format = loaded.format; versions = sizes.versions; objects = sizes.objects; sorted = loaded.sorted } → Reports c report
+pub report_is : (c : Coming) (loaded : Loaded) (set : VersionSet) (sizes : Sizes) (report : CheckReport) → Loads c loaded →
+    set ≡ loaded.history → IsCounted (set_given set) sizes →
+    report ≡ record { format = loaded.format; versions = sizes.versions; objects = sizes.objects; sorted = loaded.sorted } →
+    Reports c report
 report_is c loaded set sizes report h is n e =
     subst (Reports c) (sym e) (record {
       held = loaded.history;
@@ -100,14 +124,20 @@ report_is c loaded set sizes report h is n e =
       sorted = h.sorted;
     })
 
-pub sorted_report_is : (c : Coming) (format : Format) (sizes : Sizes) → format ≡ format_of c.bytes → IsCounted (sorted_source 0 c) sizes → Reports c (record { format = format; versions = sizes.versions; objects = sizes.objects; sorted = true })
+pub sorted_report_is : (c : Coming) (format : Format) (sizes : Sizes) → format ≡ format_of c.bytes → IsCounted (sorted_source 0 c) sizes →
+    Reports c (record { format = format; versions = sizes.versions; objects = sizes.objects; sorted = true })
 sorted_report_is c format sizes f n =
-    let list : listed (from_list {R = version_cmp} (sorted_source 0 c).list) ≡ (sorted_source 0 c).list = listed-view (sorted_source 0 c).list (source_rises 0 c) in
+    let list : listed (from_list {R = version_cmp} (sorted_source 0 c).list) ≡ (sorted_source 0 c).list =
+    listed-view (sorted_source 0 c).list (source_rises 0 c) in
     let set : VersionSet = from_list {R = version_cmp} (sorted_source 0 c).list in
     let given : GivesSorted c set = gives 0 c n.whole in
     record {
       held = set;
-      file = record { unbroken = given.unbroken; file = record { short = given.file.short; versions = given.file.versions; file = given.file.file; members = given.file.members } };
+      file = record {
+        unbroken = given.unbroken;
+        file =
+            record { short = given.file.short; versions = given.file.versions; file = given.file.file; members = given.file.members };
+      };
       format = f;
       versions = n.versions ∙ ap (λ l. capped (length l)) (sym list);
       objects = n.objects ∙ ap (λ l. capped (begun_behind None l)) (sym list) ∙ ap capped (objects_begun set);
@@ -115,6 +145,7 @@ sorted_report_is c format sizes f n =
     }
 
 -- a whole set isn't refused
-pub set_refused : (set : VersionSet) (still : source.VersionsToCome) (fault : Fault) → still ≡ set_given set → (fault ≡ memory_fault) ⊎ (still.refusal ≡ Some fault) → fault ≡ memory_fault
+pub set_refused : (set : VersionSet) (still : source.VersionsToCome) (fault : Fault) → still ≡ set_given set →
+    (fault ≡ memory_fault) ⊎ (still.refusal ≡ Some fault) → fault ≡ memory_fault
 set_refused set still fault is (inl e) = e
 set_refused set still fault is (inr e) = absurd (let f : None ≡ Some fault = ap (λ x. x.refusal) (sym is) ∙ e in cc)

@@ -1,5 +1,6 @@
 -- The objects of an ascending list: the versions of one object stand together, and the last of them is its newest.
-use Rattle.std.proofs.Common.{◌≡◌, suc, ◌+◌, Bool, true, false, not, ◌&&◌, ◌||◌, cond, List, [], ◌∷◌, length, refl, sym, ap, ◌∙◌, arith, Some, None}
+use Rattle.std.proofs.Common.{◌≡◌, suc, ◌+◌, Bool, true, false, not, ◌&&◌, ◌||◌, cond, List, [], ◌∷◌, length, refl, sym, ap, ◌∙◌, arith}
+use Rattle.std.proofs.Common.{Some, None}
 use Rattle.std.proofs.lemmas.Bool.{false≢true}
 use Rattle.std.specs.declared.cmp.Ordering.{Ordering}
 use Rattle.std.specs.declared.cmp.Ordering.TheVariants.{Less, Equal, Greater}
@@ -37,8 +38,10 @@ no_more Greater s e h k = absurd (false≢true (sym h))
 -- what stands between two versions of an object is one too
 together : (u v w : VersionData) → version_cmp u v ≡ Less → version_cmp v w ≡ Less → same_object u w ≡ true → same_object u v ≡ true
 together u v w uv vw uw =
-    let back : is_gt (object_cmp w u) ≡ false = ap is_gt (object_cmp_total.antisymm w u) ∙ ap (λ r. is_gt (ordering_reverse r)) ((Equal-is (object_cmp u w)).0 uw) in
-    no_more (object_cmp u v) (object_cmp v u) (object_cmp_total.antisymm u v) (object_rises u v uv) (upto object_cmp_total v w u (object_rises v w vw) back)
+    let back : is_gt (object_cmp w u) ≡ false = ap is_gt (object_cmp_total.antisymm w u)
+    ∙ ap (λ r. is_gt (ordering_reverse r)) ((Equal-is (object_cmp u w)).0 uw) in
+    no_more (object_cmp u v) (object_cmp v u) (object_cmp_total.antisymm u v) (object_rises u v uv)
+    (upto object_cmp_total v w u (object_rises v w vw) back)
 
 and_true : (a : Bool) → (a && true) ≡ a
 and_true true = refl
@@ -54,14 +57,16 @@ not_itself : (v : VersionData) → beats v v ≡ false
 not_itself v = ap (λ b. same_object v v && b) (ap is_lt (tied_itself version_cmp_total v)) ∙ and_false (same_object v v)
 
 not_below : (v w : VersionData) → version_cmp w v ≡ Less → beats v w ≡ false
-not_below v w less = ap (λ b. same_object v w && b) (ap is_lt (version_cmp_total.antisymm v w) ∙ ap (λ r. is_lt (ordering_reverse r)) less) ∙ and_false (same_object v w)
+not_below v w less = ap (λ b. same_object v w && b) (ap is_lt (version_cmp_total.antisymm v w) ∙ ap (λ r. is_lt (ordering_reverse r)) less)
+    ∙ and_false (same_object v w)
 
 false_unless : (b : Bool) → (b ≡ true → ⊥) → b ≡ false
 false_unless true f = absurd (f refl)
 false_unless false f = refl
 
 -- behind one of another object there is none of this one
-none_behind : (v w : VersionData) → version_cmp v w ≡ Less → same_object v w ≡ false → (xs : List VersionData) → AllByRecursion (λ x. version_cmp w x ≡ Less) xs → list_any (beats v) xs ≡ false
+none_behind : (v w : VersionData) → version_cmp v w ≡ Less → same_object v w ≡ false → (xs : List VersionData) →
+    AllByRecursion (λ x. version_cmp w x ≡ Less) xs → list_any (beats v) xs ≡ false
 none_behind v w less other [] h = refl
 none_behind v w less other (x ∷ xs) h =
     let apart : same_object v x ≡ false = false_unless (same_object v x) (λ t. false≢true (sym other ∙ together v w x less h.0 t)) in
@@ -72,7 +77,8 @@ abbrev newest : List VersionData → VersionData → Bool
 newest xs v = not (list_any (beats v) xs)
 
 -- the first of an ascending list is the newest of its object exactly if the second is of another one
-first_newest : (v w : VersionData) (xs : List VersionData) → version_cmp v w ≡ Less → AllByRecursion (λ x. version_cmp w x ≡ Less) xs → newest (v ∷ w ∷ xs) v ≡ not (same_object v w)
+first_newest : (v w : VersionData) (xs : List VersionData) → version_cmp v w ≡ Less → AllByRecursion (λ x. version_cmp w x ≡ Less) xs →
+    newest (v ∷ w ∷ xs) v ≡ not (same_object v w)
 first_newest v w xs less above =
     let second : beats v w ≡ same_object v w = ap (λ b. same_object v w && b) (ap is_lt less) ∙ and_true (same_object v w) in
     (λ i. not (not_itself v i || (second i || list_any (beats v) xs)))
@@ -82,7 +88,8 @@ first_newest v w xs less above =
     ] refl)
 
 -- a list with one more in front has the same newest ones among the others
-same_behind : (v : VersionData) (all xs : List VersionData) → AllByRecursion (λ x. version_cmp v x ≡ Less) xs → filter (newest (v ∷ all)) xs ≡ filter (newest all) xs
+same_behind : (v : VersionData) (all xs : List VersionData) → AllByRecursion (λ x. version_cmp v x ≡ Less) xs →
+    filter (newest (v ∷ all)) xs ≡ filter (newest all) xs
 same_behind v all [] h = refl
 same_behind v all (x ∷ xs) h =
     (λ i. cond (not (not_below x v h.0 i || list_any (beats x) all)) (x ∷ same_behind v all xs h.1 i) (same_behind v all xs h.1 i))
@@ -95,7 +102,8 @@ counted_if true v xs = sym (let e : 0 + length xs ≡ length xs = omega arith in
 counted_if false v xs = let e : suc (length xs) ≡ 1 + length xs = omega arith in e
 
 -- there are as many as objects begin
-newest_count : (v : VersionData) (xs : List VersionData) → IsStrictlySortedBy version_cmp (v ∷ xs) → length (newest_of (v ∷ xs)) ≡ 1 + begun_behind (Some v) xs
+newest_count : (v : VersionData) (xs : List VersionData) → IsStrictlySortedBy version_cmp (v ∷ xs) →
+    length (newest_of (v ∷ xs)) ≡ 1 + begun_behind (Some v) xs
 unfolding IsStrictlySortedBy
 newest_count v [] h = ap (λ b. length (cond (not (b || false)) (v ∷ []) [])) (not_itself v)
 newest_count v (w ∷ xs) h =
@@ -114,4 +122,5 @@ all_count (v ∷ xs) h = newest_count v xs h
 pub objects_begun : (set : VersionSet) → begun_behind None (listed set) ≡ object_count set
 objects_begun set =
     sym (all_count (listed set) (strict-listed set))
-    ∙ ap length (sym (listed-view (newest_of (listed set)) (IsStrictlySortedBy-filter version_cmp (newest (listed set)) (listed set) (strict-listed set))))
+    ∙ ap length (sym (listed-view (newest_of (listed set))
+    (IsStrictlySortedBy-filter version_cmp (newest (listed set)) (listed set) (strict-listed set))))

@@ -29,7 +29,8 @@ numerals : IsNumeralModel (λ ds. all_ascii_digits ds ≡ true) (digits_value 10
 numerals = numerals_by_value (λ ds. all_ascii_digits ds ≡ true) tells_all_ascii_digits
 
 -- up to 9 digits that can't be parsed are no number
-pub parsed_none : {E : Type 0} → (word : List ℕ) (r : Result ℕ E) (e : E) → ParsesUnsigned 64 10 word r → all_ascii_digits word ≡ true → length word ≤ 9 → r ≡ Err e → (n : ℕ) → IsNumber word n → ⊥
+pub parsed_none : {E : Type 0} → (word : List ℕ) (r : Result ℕ E) (e : E) → ParsesUnsigned 64 10 word r → all_ascii_digits word ≡ true →
+    length word ≤ 9 → r ≡ Err e → (n : ℕ) → IsNumber word n → ⊥
 parsed_none word r e parsed digits few is n number =
     let small : digits_value 10 word < 10 ^ 9 = digits_value_short numerals word 9 digits few in
     OkIff-at_err r _ _ e (parse_digits numerals 64 word r parsed digits) is (number.some, omega arith)

@@ -1,5 +1,7 @@
 -- Lines that spell plans: with one more line, and that they spell one plan alone.
-use Rattle.std.proofs.Common.{◌≡◌, ◌⊎◌, ℕ, suc, ◌+◌, ◌<◌, ◌==◌, true, take, drop, get_or, ◌≤◌, cond, List, [], ◌∷◌, ◌++◌, length, map, filter, refl, sym, ap, ◌∙◌, subst, append_assoc, append-nil, length-append, length-take, drop-cons, add-one, Result, Ok, Err, IfErr, inl, inr, arith}
+use Rattle.std.proofs.Common.{◌≡◌, ◌⊎◌, ℕ, suc, ◌+◌, ◌<◌, ◌==◌, true, take, drop, get_or, ◌≤◌, cond, List, [], ◌∷◌, ◌++◌, length, map}
+use Rattle.std.proofs.Common.{filter, refl, sym, ap, ◌∙◌, subst, append_assoc, append-nil, length-append, length-take, drop-cons, add-one}
+use Rattle.std.proofs.Common.{Result, Ok, Err, IfErr, inl, inr, arith}
 use Rattle.std.proofs.lemmas.List.{map-append, take-append-drop}
 use Rattle.std.proofs.lemmas.List.Splits.{length-slice_split}
 use Rattle.std.proofs.lemmas.List.Sums.{count_by-le-length}
@@ -19,7 +21,8 @@ use Rattle.osm_mirror.specs.declared.plan_line.PlanLine.{PlanLine}
 use Rattle.osm_mirror.specs.declared.plan_line.PlanLine.TheVariants.{Mirror, Step, Write}
 use Rattle.osm_mirror.specs.PlanFault.{memory_fault, fault_at}
 use Rattle.osm_mirror.specs.PlanLine.{LineSays, NamesMirrors}
-use Rattle.osm_mirror.specs.Plan.{Parts, parts_of, in_order, lines_of, LinesSpell, NamesItsMirrors, SpellsNoPlan, IsInTurn, IsLineRefused, LineFault, IsFirstFault, with_line, IsLineAdded}
+use Rattle.osm_mirror.specs.Plan.{Parts, parts_of, in_order, lines_of, LinesSpell, NamesItsMirrors, SpellsNoPlan, IsInTurn, IsLineRefused}
+use Rattle.osm_mirror.specs.Plan.{LineFault, IsFirstFault, with_line, IsLineAdded}
 use Rattle.osm_mirror.specs.PlanLaws.{OnePlan, FaultySpellsNothing}
 use Rattle.osm_mirror.proofs.PlanLineLaws.{line_one, says_full}
 
@@ -43,7 +46,8 @@ names_more few many h (Step (Restart m f)) named = omega arith
 names_more few many h (Write w) named = omega arith
 
 -- lines spell one line more
-pub line_added : (lines : List (List ℕ)) (line : List ℕ) (before after : Parts) → LinesSpell lines before → IsLineAdded line before after → LinesSpell (lines ++ line ∷ []) after
+pub line_added : (lines : List (List ℕ)) (line : List ℕ) (before after : Parts) → LinesSpell lines before → IsLineAdded line before after →
+    LinesSpell (lines ++ line ∷ []) after
 line_added lines line before after spelled (inl (empty, same)) =
     rw (same, empty) (record { said = rw (filter-append, append-nil) spelled.said; named = spelled.named })
 line_added lines line before after spelled (inr (said, says, added)) =
@@ -52,7 +56,8 @@ line_added lines line before after spelled (inr (said, says, added)) =
     let order = in_order-push before said added.in_turn in
     let more = names_more (length before.mirrors) (length (with_line before said).mirrors) (mirrors_stay before said) in
     let named : All (NamesMirrors (length (with_line before said).mirrors)) (in_order before ++ said ∷ []) =
-    All-push (NamesMirrors _) (in_order before) said (All-weaker (NamesMirrors _) (NamesMirrors _) more (in_order before) spelled.named) (more said added.named) in
+    All-push (NamesMirrors _) (in_order before) said (All-weaker (NamesMirrors _) (NamesMirrors _) more (in_order before) spelled.named)
+    (more said added.named) in
     rw added.added (record {
       said = rw (full, order) (pairwise_push LineSays (filter is_full lines) (in_order before) line said spelled.said says);
       named = rw order named;
@@ -70,22 +75,35 @@ parts ms ss ws = record { mirrors = ms; steps = ss; writes = ws }
 mirrors_build : (n : ℕ) (had ms : List Keep) (rest : List PlanLine) (after : Parts) → All (NamesMirrors n) (map Mirror ms ++ rest)
     → (All (NamesMirrors n) rest → Builds (parts (had ++ ms) [] []) rest after) → Builds (parts had [] []) (map Mirror ms ++ rest) after
 mirrors_build n had [] rest after all then = rw append-nil at (then all)
-mirrors_build n had (m ∷ ms) rest after all then =
-    ((refl, refl), tt, mirrors_build n (had ++ m ∷ []) ms rest after (All-tail (NamesMirrors n) _ _ all) (λ others. rw append_assoc (then others)))
+mirrors_build n had (m ∷ ms) rest after all then = (
+  (refl, refl),
+  tt,
+  mirrors_build n (had ++ m ∷ []) ms rest after (All-tail (NamesMirrors n) _ _ all)
+      (λ others. rw append_assoc (then others)),
+)
 
 -- then its steps
-steps_build : (ms : List Keep) (had ss : List step.Step) (rest : List PlanLine) (after : Parts) → All (NamesMirrors (length ms)) (map Step ss ++ rest)
-    → (All (NamesMirrors (length ms)) rest → Builds (parts ms (had ++ ss) []) rest after) → Builds (parts ms had []) (map Step ss ++ rest) after
+steps_build : (ms : List Keep) (had ss : List step.Step) (rest : List PlanLine) (after : Parts) →
+    All (NamesMirrors (length ms)) (map Step ss ++ rest)
+    → (All (NamesMirrors (length ms)) rest → Builds (parts ms (had ++ ss) []) rest after) →
+    Builds (parts ms had []) (map Step ss ++ rest) after
 steps_build ms had [] rest after all then = rw append-nil at (then all)
-steps_build ms had (s ∷ ss) rest after all then =
-    (refl, All-head (NamesMirrors (length ms)) _ _ all, steps_build ms (had ++ s ∷ []) ss rest after (All-tail (NamesMirrors (length ms)) _ _ all) (λ others. rw append_assoc (then others)))
+steps_build ms had (s ∷ ss) rest after all then = (
+  refl,
+  All-head (NamesMirrors (length ms)) _ _ all,
+  steps_build ms (had ++ s ∷ []) ss rest after (All-tail (NamesMirrors (length ms)) _ _ all)
+      (λ others. rw append_assoc (then others)),
+)
 
 -- and then its writes
 writes_build : (ms : List Keep) (ss : List step.Step) (had ws : List PlanWrite) → All (NamesMirrors (length ms)) (map Write ws)
     → Builds (parts ms ss had) (map Write ws) (parts ms ss (had ++ ws))
 writes_build ms ss had [] all = λ i. parts ms ss (sym (append-nil had) i)
-writes_build ms ss had (w ∷ ws) all =
-    (tt, All-head (NamesMirrors (length ms)) _ _ all, rw (append_assoc had (w ∷ []) ws) at (writes_build ms ss (had ++ w ∷ []) ws (All-tail (NamesMirrors (length ms)) _ _ all)))
+writes_build ms ss had (w ∷ ws) all = (
+  tt,
+  All-head (NamesMirrors (length ms)) _ _ all,
+  rw (append_assoc had (w ∷ []) ws) at (writes_build ms ss (had ++ w ∷ []) ws (All-tail (NamesMirrors (length ms)) _ _ all)),
+)
 
 in_order_builds : (p : Parts) → All (NamesMirrors (length p.mirrors)) (in_order p) → Builds (parts [] [] []) (in_order p) p
 in_order_builds p all =
@@ -94,7 +112,8 @@ in_order_builds p all =
     writes_build p.mirrors p.steps [] p.writes last))
 
 -- what is added is in its turn, behind what was built before it
-built_in_turn : (from : Parts) (front rest : List PlanLine) (x : PlanLine) (before after : Parts) → Builds from (front ++ x ∷ rest) after → Builds from front before
+built_in_turn : (from : Parts) (front rest : List PlanLine) (x : PlanLine) (before after : Parts) → Builds from (front ++ x ∷ rest) after →
+    Builds from front before
     → IsInTurn before x × NamesMirrors (length before.mirrors) x
 built_in_turn from [] rest x before after all fronts = subst (λ p. IsInTurn p x × NamesMirrors (length p.mirrors) x) fronts (all.0, all.1)
 built_in_turn from (y ∷ front) rest x before after all fronts = built_in_turn (with_line from y) front rest x before after all.2 fronts.2
@@ -111,7 +130,8 @@ lines_one lines one other a b =
     built_one (parts [] [] []) (in_order one) one other (in_order_builds one a.named) (rw (← same) at (in_order_builds other b.named))
 
 -- what is refused is out of its turn, or names a mirror that is not there
-refused_not : (before : Parts) (x : PlanLine) (reason : PlanReason) → IsLineRefused before x reason → IsInTurn before x → NamesMirrors (length before.mirrors) x → ⊥
+refused_not : (before : Parts) (x : PlanLine) (reason : PlanReason) → IsLineRefused before x reason → IsInTurn before x →
+    NamesMirrors (length before.mirrors) x → ⊥
 refused_not before x BadOrder refused turn named = refused turn
 refused_not before x NoMirror refused turn named = refused.1 named
 refused_not before x NotUtf8 refused turn named = refused
@@ -138,19 +158,24 @@ lines_none : (front rest : List (List ℕ)) (faulty : List ℕ) (before after : 
 lines_none front rest faulty before after reason spelled fault all =
     let here : is_full faulty ≡ true = fault_full before faulty reason fault in
     let full : filter is_full (front ++ faulty ∷ rest) ≡ filter is_full front ++ faulty ∷ filter is_full rest =
-    filter-append is_full front (faulty ∷ rest) ∙ ap (λ t. filter is_full front ++ cond t (faulty ∷ filter is_full rest) (filter is_full rest)) here in
+    filter-append is_full front (faulty ∷ rest) ∙ ap
+    (λ t. filter is_full front ++ cond t (faulty ∷ filter is_full rest) (filter is_full rest)) here in
     let p = pairwise_parted LineSays (filter is_full front) (filter is_full rest) faulty (in_order after) (rw full at all.said) in
     let same = pairwise_one LineSays line_one (filter is_full front) (in_order before) p.before spelled.said p.fronts in
-    let turn = built_in_turn (parts [] [] []) p.before p.behind p.here before after (rw p.parted at (in_order_builds after all.named)) (rw same at (in_order_builds before spelled.named)) in
+    let turn = built_in_turn (parts [] [] []) p.before p.behind p.here before after (rw p.parted at (in_order_builds after all.named))
+    (rw same at (in_order_builds before spelled.named)) in
     fault_not before faulty reason p.here fault p.this turn.0 turn.1
 
 -- a text with a first faulty line spells no plan
 pub first_fault_none : (text : List ℕ) (fault : PlanFault) → IsFirstFault text fault → SpellsNoPlan text
 first_fault_none text fault first plan spells =
-    lines_none first.front first.rest first.faulty first.before (parts_of plan) fault.reason first.spelled first.refused (rw first.lines at spells.spelled)
+    lines_none first.front first.rest first.faulty first.before (parts_of plan) fault.reason first.spelled first.refused
+    (rw first.lines at spells.spelled)
 
 -- so where lines aren't read, the text spells none, or memory was refused
-pub fault_none : {A : Type 0} → (text : List ℕ) (read : Result A PlanFault) → IfErr read (λ fault. (fault ≡ memory_fault) ⊎ IsFirstFault text fault) → IfErr read (λ fault. (fault ≡ memory_fault) ⊎ SpellsNoPlan text)
+pub fault_none : {A : Type 0} → (text : List ℕ) (read : Result A PlanFault) →
+    IfErr read (λ fault. (fault ≡ memory_fault) ⊎ IsFirstFault text fault) →
+    IfErr read (λ fault. (fault ≡ memory_fault) ⊎ SpellsNoPlan text)
 fault_none text (Ok plan) why = why
 fault_none text (Err fault) (inl memory) = inl memory
 fault_none text (Err fault) (inr first) = inr (first_fault_none text fault first)
@@ -162,7 +187,8 @@ nothing_spelled p ms ss ws =
     record { said = rw nothing tt; named = rw nothing (λ k d less. absurd (omega (arith, less))) }
 
 -- the first lines of a text, the next one of which is faulty behind them
-pub first_fault : (text line : List ℕ) (n : ℕ) (before : Parts) (fault : PlanFault) → n < length (lines_of text) → line ≡ get_or (lines_of text) n line
+pub first_fault : (text line : List ℕ) (n : ℕ) (before : Parts) (fault : PlanFault) → n < length (lines_of text) →
+    line ≡ get_or (lines_of text) n line
     → LinesSpell (take n (lines_of text)) before → LineFault before line fault.reason → fault.line ≡ n + 1 → IsFirstFault text fault
 first_fault text line n before fault within here spelled refused numbered =
     let all = lines_of text in
@@ -189,7 +215,8 @@ all_behind P (x ∷ xs) ys all = all_behind P xs ys (All-tail P x (xs ++ ys) all
 
 all_before : {X Y : Type 0} (P : Y → Type 0) (f : X → Y) (xs : List X) (ys : List Y) → All P (map f xs ++ ys) → All (λ x. P (f x)) xs
 all_before P f [] ys all = λ k d less. absurd (omega (arith, less))
-all_before P f (x ∷ xs) ys all = All-cons (λ z. P (f z)) x xs (All-head P (f x) (map f xs ++ ys) all) (all_before P f xs ys (All-tail P (f x) (map f xs ++ ys) all))
+all_before P f (x ∷ xs) ys all = All-cons (λ z. P (f z)) x xs (All-head P (f x) (map f xs ++ ys) all)
+    (all_before P f xs ys (All-tail P (f x) (map f xs ++ ys) all))
 
 -- a plan that lines spell names its mirrors alone
 pub spelled_names : (lines : List (List ℕ)) (plan : Plan) → LinesSpell lines (parts_of plan) → NamesItsMirrors plan
@@ -203,18 +230,23 @@ spelled_names lines plan spelled =
     }
 
 -- where the next line isn't added, it is the first faulty one, or memory was refused
-pub fault_added : (text line : List ℕ) (n : ℕ) (before : Parts) (reason : PlanReason) → n < length (lines_of text) → line ≡ get_or (lines_of text) n line
+pub fault_added : (text line : List ℕ) (n : ℕ) (before : Parts) (reason : PlanReason) → n < length (lines_of text) →
+    line ≡ get_or (lines_of text) n line
     → LinesSpell (take n (lines_of text)) before → (reason ≡ Memory) ⊎ LineFault before line reason
     → (fault_at (n + 1) reason ≡ memory_fault) ⊎ IsFirstFault text (fault_at (n + 1) reason)
 fault_added text line n before Memory within here spelled why = inl refl
 fault_added text line n before NotUtf8 within here spelled (inl e) = cc
-fault_added text line n before NotUtf8 within here spelled (inr fault) = inr (first_fault text line n before (fault_at (n + 1) NotUtf8) within here spelled fault refl)
+fault_added text line n before NotUtf8 within here spelled (inr fault) =
+    inr (first_fault text line n before (fault_at (n + 1) NotUtf8) within here spelled fault refl)
 fault_added text line n before BadWord within here spelled (inl e) = cc
-fault_added text line n before BadWord within here spelled (inr fault) = inr (first_fault text line n before (fault_at (n + 1) BadWord) within here spelled fault refl)
+fault_added text line n before BadWord within here spelled (inr fault) =
+    inr (first_fault text line n before (fault_at (n + 1) BadWord) within here spelled fault refl)
 fault_added text line n before BadOrder within here spelled (inl e) = cc
-fault_added text line n before BadOrder within here spelled (inr fault) = inr (first_fault text line n before (fault_at (n + 1) BadOrder) within here spelled fault refl)
+fault_added text line n before BadOrder within here spelled (inr fault) =
+    inr (first_fault text line n before (fault_at (n + 1) BadOrder) within here spelled fault refl)
 fault_added text line n before NoMirror within here spelled (inl e) = cc
-fault_added text line n before NoMirror within here spelled (inr fault) = inr (first_fault text line n before (fault_at (n + 1) NoMirror) within here spelled fault refl)
+fault_added text line n before NoMirror within here spelled (inr fault) =
+    inr (first_fault text line n before (fault_at (n + 1) NoMirror) within here spelled fault refl)
 
 pub one_plan : OnePlan
 one_plan text one other a b = lines_one (lines_of text) (parts_of one) (parts_of other) a.spelled b.spelled

@@ -80,7 +80,7 @@ first_over bound (Some v) w under over = over_bound bound v w under over
 join : (bound : Object) (before : Option VersionData) (xs ys : List VersionData) → BeforeUnder bound before → Rises before xs →
     Rises None ys
     → AllByRecursion (λ v. is_under (Some bound) v ≡ true) xs → AllByRecursion (λ v. reaches (Some bound) v ≡ true) ys →
-        Rises before (xs ++ ys)
+    Rises before (xs ++ ys)
 join bound before [] [] under up more all over = tt
 join bound before [] (y ∷ ys) under up more all over = (first_over bound before y under over.0, more.1)
 join bound before (x ∷ xs) ys under up more all over = (up.0, join bound (Some x) xs ys all.0 up.1 more all.1 over)
@@ -102,7 +102,7 @@ all_within : (from to : Option Object) (s : VersionSet) (vs : List VersionData) 
     IsWithin (span_of from to) s → AllByRecursion (λ v. is_within from to v ≡ true) vs
 all_within from to s vs is within =
     all_members (is_within from to) vs (λ v e. has_within (span_of from to) s within v
-        (ap (λ t. contains t v) is ∙ contains-from_list version_cmp_total vs v ∙ e))
+    (ap (λ t. contains t v) is ∙ contains-from_list version_cmp_total vs v ∙ e))
 
 -- ---- the law
 -- files that are one behind the other spell this together in the order of keys, from a bound on, and hold these sets
@@ -151,9 +151,9 @@ spelled_from from (bound ∷ bounds) bytes (file ∷ next ∷ files) (s ∷ held
           (map_all _ (λ v. is_under (Some bound) v ≡ true) (λ v e. second_so _ _ e) h.versions inside) more.reach;
       reach =
           all_append (λ v. reaches from v ≡ true) h.versions later
-              (map_all _ (λ v. reaches from v ≡ true) (λ v e. first_so _ _ e) h.versions inside)
+          (map_all _ (λ v. reaches from v ≡ true) (λ v e. first_so _ _ e) h.versions inside)
           (map_all (λ v. reaches (Some bound) v ≡ true) (λ v. reaches from v ≡ true)
-              (λ v r. reaches_lower from bound up.0 v r) later more.reach);
+          (λ v r. reaches_lower from bound up.0 v r) later more.reach);
     }
 
 union_is : (held : List VersionSet) → union_of held ≡ union_all held
@@ -183,7 +183,7 @@ module _ (selection : Selection) (sets : List VersionSet) where
   runs_write (span ∷ parts) [] h = absurd h
   runs_write (span ∷ parts) (r ∷ runs) h = λ i.
       spell Opl (selected selection (sym (ap union_of h.0 ∙ union_is (map (slice_of span.from span.to) sets)) i))
-          ++ runs_write parts runs h.1 i
+      ++ runs_write parts runs h.1 i
 
 pub slices_write_the_run : SlicesWriteTheRun
 slices_write_the_run selection bounds sets runs up sliced =

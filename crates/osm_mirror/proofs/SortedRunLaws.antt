@@ -1,5 +1,6 @@
 -- A file that is split into files in sequence holds the union of what they hold.
-use Rattle.std.proofs.Common.{◌≡◌, ◌⊎◌, ⊎_elim, ℕ, Bool, true, false, cond, List, [], ◌∷◌, ◌++◌, drop, map, filter, refl, sym, ap, ◌∙◌, append_assoc, append-nil, None}
+use Rattle.std.proofs.Common.{◌≡◌, ◌⊎◌, ⊎_elim, ℕ, Bool, true, false, cond, List, [], ◌∷◌, ◌++◌, drop, map, filter, refl, sym, ap, ◌∙◌}
+use Rattle.std.proofs.Common.{append_assoc, append-nil, None}
 use Rattle.std.specs.List.{flat_map}
 use Rattle.std.proofs.lemmas.Grind.{flat_map-append}
 use Rattle.std.proofs.lemmas.List.{append_cancel_right}
@@ -13,7 +14,8 @@ use Rattle.opl_line.proofs.CutLaws.{cut_split}
 use Rattle.o5_codec.specs.declared.segment.Segment.{Segment}
 use Rattle.o5_codec.specs.Decoder.{new_segment}
 use Rattle.osm_files.specs.Opl.{is_read, OplFile}
-use Rattle.osm_files.specs.O5.{o5m_header, o5c_header, end_byte, reset_byte, Part, Reset, Lone, Skipped, Object, part_bytes, PartsSpell, O5File}
+use Rattle.osm_files.specs.O5.{o5m_header, o5c_header, end_byte, reset_byte, Part, Reset, Lone, Skipped, Object, part_bytes, PartsSpell}
+use Rattle.osm_files.specs.O5.{O5File}
 use Rattle.osm_files.specs.Units.{InOpl, BeforeHeader, start_of}
 use Rattle.osm_files.specs.Held.{IsFile, Holds}
 use Rattle.osm_files.specs.SortedRun.{SplitAfterLine, SplitAtReset, IsSplitInto}
@@ -28,7 +30,8 @@ use Rattle.osm_mirror.proofs.MergeLaws.{set_given, union_given_is}
 
 -- ---- lines
 module _ {X Y : Type 0} (R : X → Y → Type 0) where
-  pairwise_append : (xs more : List X) (ys others : List Y) → Pairwise R xs ys → Pairwise R more others → Pairwise R (xs ++ more) (ys ++ others)
+  pairwise_append : (xs more : List X) (ys others : List Y) → Pairwise R xs ys → Pairwise R more others →
+      Pairwise R (xs ++ more) (ys ++ others)
   pairwise_append [] more [] others h g = g
   pairwise_append [] more (y ∷ ys) others h g = absurd h
   pairwise_append (x ∷ xs) more [] others h g = absurd h
@@ -50,7 +53,8 @@ lines_of bytes = filter is_read (cut is_line_end bytes)
 
 module _ (last : ℕ) (ends : is_line_end last ≡ true) (front : List ℕ) where
   lines_after : (rest : List ℕ) → lines_of (front ++ last ∷ rest) ≡ lines_of front ++ lines_of rest
-  lines_after rest = ap (filter is_read) (cut_after is_line_end last ends rest front) ∙ filter-append is_read (cut is_line_end front) (cut is_line_end rest)
+  lines_after rest = ap (filter is_read) (cut_after is_line_end last ends rest front)
+      ∙ filter-append is_read (cut is_line_end front) (cut is_line_end rest)
 
   opl_joined : (rest : List ℕ) (earlier later : List VersionData) → OplFile (front ++ last ∷ []) earlier → OplFile rest later
       → OplFile (front ++ last ∷ rest) (earlier ++ later)
@@ -82,7 +86,8 @@ module _ (header rest : List ℕ) (is : Header header) where
 abbrev bytes_of : List Part → List ℕ
 bytes_of parts = flat_map part_bytes parts
 
-before_end : (front : List ℕ) (versions : List VersionData) (file : O5File (front ++ end_byte ∷ []) versions) → front ≡ file.header ++ bytes_of file.parts
+before_end : (front : List ℕ) (versions : List VersionData) (file : O5File (front ++ end_byte ∷ []) versions) →
+    front ≡ file.header ++ bytes_of file.parts
 before_end front versions file =
     append_cancel_right front (file.header ++ bytes_of file.parts) (end_byte ∷ [])
     (file.whole ∙ sym (append_assoc file.header (bytes_of file.parts) (end_byte ∷ [])))
@@ -115,7 +120,8 @@ starts_as : (front rest : List ℕ) (last : ℕ) → start_of (front ++ last ∷
 starts_as [] rest last = refl
 starts_as (b ∷ front) rest last = refl
 
-starts_with_reset : (front rest : List ℕ) → start_of (front ++ end_byte ∷ []) ≡ BeforeHeader → start_of (front ++ reset_byte ∷ rest) ≡ BeforeHeader
+starts_with_reset : (front rest : List ℕ) → start_of (front ++ end_byte ∷ []) ≡ BeforeHeader →
+    start_of (front ++ reset_byte ∷ rest) ≡ BeforeHeader
 starts_with_reset [] rest at = refl
 starts_with_reset (b ∷ front) rest at = at
 
@@ -142,7 +148,8 @@ record Spelled (bytes : List ℕ) (held : List VersionSet) : Type 0 where
   file : IsFile bytes (merged.versions_of given)
   sets : held ≡ map set_given given
 
-spelled : (bytes : List ℕ) (files : List (List ℕ)) (held : List VersionSet) → IsSplitInto bytes files → Pairwise Holds files held → Spelled bytes held
+spelled : (bytes : List ℕ) (files : List (List ℕ)) (held : List VersionSet) → IsSplitInto bytes files → Pairwise Holds files held →
+    Spelled bytes held
 spelled bytes [] held split holds = absurd split
 spelled bytes (file ∷ files) [] split holds = absurd holds
 spelled bytes (file ∷ []) (s ∷ t ∷ held) split holds = absurd holds.1
@@ -156,7 +163,8 @@ spelled bytes (file ∷ next ∷ files) (s ∷ held) (rest, split, more_split) (
     let later : List VersionData = merged.versions_of more.given in
     record {
       given = record { list = h.versions; refusal = None } ∷ more.given;
-      file = ⊎_elim (after_line file rest bytes h.versions later h.file more.file) (at_reset file rest bytes h.versions later h.file more.file) split;
+      file = ⊎_elim (after_line file rest bytes h.versions later h.file more.file)
+          (at_reset file rest bytes h.versions later h.file more.file) split;
       sets = λ i. h.members i ∷ more.sets i;
     }
 
@@ -173,4 +181,5 @@ sorted_runs_hold_the_file bytes files held short split holds =
 
 pub sorted_runs_write_the_file : SortedRunsWriteTheFile
 sorted_runs_write_the_file bytes set files held h split holds selection format =
-    ap (λ s. spell format (selected selection s)) (held_is_one_set bytes set (union_of held) h (sorted_runs_hold_the_file bytes files held h.short split holds))
+    ap (λ s. spell format (selected selection s)) (held_is_one_set bytes set (union_of held) h
+    (sorted_runs_hold_the_file bytes files held h.short split holds))

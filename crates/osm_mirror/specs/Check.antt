@@ -18,7 +18,8 @@ use Rattle.osm_mirror.specs.Given.{GivesFile}
 abbrev pub object_count : VersionSet → ℕ
 object_count set = size (snapshot set)
 
--- The input gives a file; this is its format, how many versions and objects the set has that it holds, and whether it is sorted.
+-- The input gives a file; this is its format, how many versions and objects the set has that it holds, and whether it
+-- is sorted.
 pub record Reports (c : Coming) (report : CheckReport) : Type 0 where
   pub held : VersionSet
   pub file : GivesFile c held

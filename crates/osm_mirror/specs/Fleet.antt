@@ -1,5 +1,7 @@
--- Fleets: what an event makes of the mirrors, which sources reached each of them, and what each holds after a run of events.
-use Rattle.std.specs.Prelude.{◌≡◌, ℕ, ◌<◌, ◌^◌, Bool, true, false, ◌&&◌, cond, nat_eq, List, [], ◌∷◌, ◌++◌, length, map, slice_index_or, slice_set}
+-- Fleets: what an event makes of the mirrors, which sources reached each of them, and what each holds after a run of
+-- events.
+use Rattle.std.specs.Prelude.{◌≡◌, ℕ, ◌<◌, ◌^◌, Bool, true, false, ◌&&◌, cond, nat_eq, List, [], ◌∷◌, ◌++◌, length, map}
+use Rattle.std.specs.Prelude.{slice_index_or, slice_set}
 use Rattle.osm_model.specs.Data.{VersionData}
 use Rattle.osm_model.specs.VersionSet.{VersionSet}
 use Rattle.osm_model.specs.Sets.{contains, empty, union}
@@ -31,7 +33,8 @@ IsWithin count (Take m file) = m < count
 IsWithin count (Pass from to format) = (from < count) × (to < count)
 IsWithin count (Restart m format) = m < count
 
--- What the mirrors hold behind an event that got this reply: one took a file; or what another one holds; or a new one took
+-- What the mirrors hold behind an event that got this reply: one took a file; or what another one holds; or a new one
+-- took
 -- what it held, and stands in its place. A refused event changes none.
 abbrev pub behind : List MirrorData → Event → Reply → List MirrorData
 behind mirrors (Take m file) Taken = slice_set mirrors m (took (at mirrors m) (held_by file.now))
@@ -75,7 +78,8 @@ pub data Source : Type 0 where
   Opening : (mirror : ℕ) → Source
   File : (bytes : List ℕ) → Source
 
--- the sources that reached a mirror; and whether it is purely full: full, and each Pass to it came from a mirror that was
+-- the sources that reached a mirror; and whether it is purely full: full, and each Pass to it came from a mirror that
+-- was
 -- purely full then
 pub record Track : Type 0 where
   pub reach : List Source
@@ -93,10 +97,17 @@ begun openings m = record { reach = Opening m ∷ []; pure = is_full (at opening
 abbrev pub retracked : (ℕ → Track) → ℕ → Track → ℕ → Track
 retracked tracks m track k = cond (nat_eq k m) track (tracks k)
 
--- A file that is taken reaches the mirror, and a Pass that is taken brings all that reached its sender. Nothing else does.
+-- A file that is taken reaches the mirror, and a Pass that is taken brings all that reached its sender. Nothing else
+-- does.
 abbrev pub reached : (ℕ → Track) → Event → Reply → ℕ → Track
-reached tracks (Take m file) Taken = retracked tracks m (record { reach = File file.now ∷ (tracks m).reach; pure = (tracks m).pure })
-reached tracks (Pass from to format) Taken = retracked tracks to (record { reach = (tracks from).reach ++ (tracks to).reach; pure = (tracks from).pure && (tracks to).pure })
+reached tracks (Take m file) Taken = retracked tracks m
+    (record { reach = File file.now ∷ (tracks m).reach; pure = (tracks m).pure })
+reached tracks (Pass from to format) Taken =
+    retracked tracks to (record {
+      reach = (tracks from).reach ++ (tracks to).reach;
+      pure =
+          (tracks from).pure && (tracks to).pure;
+    })
 reached tracks (Restart m format) Taken = tracks
 reached tracks (Take m file) (Refused fault) = tracks
 reached tracks (Pass from to format) (Refused fault) = tracks
@@ -126,7 +137,8 @@ united openings (s ∷ ss) = union (set_of openings s) (united openings ss)
 abbrev pub IsPart : VersionSet → VersionSet → Type 0
 IsPart s t = (v : VersionData) → contains s v ≡ true → contains t v ≡ true
 
--- Of the union of all that reached a mirror it holds no more than that, with the same snapshot; a latest mirror exactly the
+-- Of the union of all that reached a mirror it holds no more than that, with the same snapshot; a latest mirror exactly
+-- the
 -- snapshot, and a purely full one the whole.
 pub record HoldsOf (all : VersionSet) (pure : Bool) (m : MirrorData) : Type 0 where
   pub holds_no_more : IsPart m.held all
@@ -136,8 +148,10 @@ pub record HoldsOf (all : VersionSet) (pure : Bool) (m : MirrorData) : Type 0 wh
 
 -- A run of events over mirrors: one reply for each event, each as it is to be; the mirrors hold what the events made of
 -- them, keep their number and kinds, and each holds of all that reached it what it is to hold.
-pub record Converges (old : List MirrorData) (events : List Event) (replies : List Reply) (new : List MirrorData) : Type 0 where
+pub record Converges (old : List MirrorData) (events : List Event) (replies : List Reply)
+    (new : List MirrorData) : Type 0 where
   pub answers : AreAnswers old events replies
   pub mirrors : new ≡ behind_all old events replies
   pub kinds : map (λ m. m.keep) new ≡ map (λ m. m.keep) old
-  pub each : (m : ℕ) → m < length new → HoldsOf (united old (tracks old events replies m).reach) (tracks old events replies m).pure (at new m)
+  pub each : (m : ℕ) → m < length new → HoldsOf (united old (tracks old events replies m).reach)
+      (tracks old events replies m).pure (at new m)

@@ -18,20 +18,27 @@ SameFilesAmong some others = (bytes : List ℕ) → Contains some (File bytes) �
 abbrev pub AreEmpty : List MirrorData → Type 0
 AreEmpty mirrors = (m : ℕ) → (at mirrors m).held ≡ empty
 
--- Two latest mirrors of a new fleet that the same files reached, whichever mirrors these came through and however often,
+-- Two latest mirrors of a new fleet that the same files reached, whichever mirrors these came through and however
+-- often,
 -- hold the same after the run, and write the same bytes in each format.
 abbrev pub LatestMirrorsAgree : Type 0
 LatestMirrorsAgree =
-    (old new : List MirrorData) (events : List Event) (replies : List Reply) → Converges old events replies new → AreEmpty old
+    (old new : List MirrorData) (events : List Event) (replies : List Reply) → Converges old events replies new →
+    AreEmpty old
     → (m n : ℕ) → m < length new → n < length new → (at new m).keep ≡ Latest → (at new n).keep ≡ Latest
     → SameFilesAmong (tracks old events replies m).reach (tracks old events replies n).reach
-    → ((at new m).held ≡ (at new n).held) × ((format : Format) → spell format (at new m).held ≡ spell format (at new n).held)
+    → ((at new m).held ≡ (at new n).held) × ((format : Format) →
+    spell format (at new m).held ≡ spell format (at new n).held)
 
--- Two full mirrors of a new fleet that the same files reached, through full ones alone, hold the same after the run, and write
+-- Two full mirrors of a new fleet that the same files reached, through full ones alone, hold the same after the run,
+-- and write
 -- the same bytes in each format.
 abbrev pub FullMirrorsAgree : Type 0
 FullMirrorsAgree =
-    (old new : List MirrorData) (events : List Event) (replies : List Reply) → Converges old events replies new → AreEmpty old
-    → (m n : ℕ) → m < length new → n < length new → (tracks old events replies m).pure ≡ true → (tracks old events replies n).pure ≡ true
+    (old new : List MirrorData) (events : List Event) (replies : List Reply) → Converges old events replies new →
+    AreEmpty old
+    → (m n : ℕ) → m < length new → n < length new → (tracks old events replies m).pure ≡ true →
+    (tracks old events replies n).pure ≡ true
     → SameFilesAmong (tracks old events replies m).reach (tracks old events replies n).reach
-    → ((at new m).held ≡ (at new n).held) × ((format : Format) → spell format (at new m).held ≡ spell format (at new n).held)
+    → ((at new m).held ≡ (at new n).held) × ((format : Format) →
+    spell format (at new m).held ≡ spell format (at new n).held)

@@ -57,7 +57,8 @@ read_whole (Some fault) versions = refused fault
 
 -- what an input gives that was read to its end first
 unfoldable pub held_source : ℕ → Coming → source.VersionsToCome
-held_source number c = let units = named number (units_from None 0 c) in read_whole units.refusal (versions_of units.list)
+held_source number c = let units = named number (units_from None 0 c) in
+    read_whole units.refusal (versions_of units.list)
 
 -- what an input gives, by its order: a sorted file its key groups, any other what was read to its end
 abbrev pub source_of : ℕ → Order × Coming → source.VersionsToCome
@@ -74,10 +75,12 @@ abbrev pub IsRead : Order × Coming → Type 0
 IsRead (Sorted, c) = Unit {0}
 IsRead (Any, c) = (held : VersionSet) × GivesFile c held
 
--- A source of this file was opened, the input of this number: whatever it can give, the file could give something of which it
+-- A source of this file was opened, the input of this number: whatever it can give, the file could give something of
+-- which it
 -- gives what the file's source does; one of any order is a file.
 abbrev pub IsOpened : {R : Type 0} → (R → Coming → Type 0) → ℕ → InputFile R → RunSource R → Type 0
-IsOpened can number file source = Explained (FileGives can file) (SourceCanGive can source) (λ input still. (still ≡ source_of number input) × IsRead input)
+IsOpened can number file source = Explained (FileGives can file) (SourceCanGive can source)
+    (λ input still. (still ≡ source_of number input) × IsRead input)
 
 -- each source is one of these files, the first of them being the input of this number
 abbrev pub AreOpened : {R : Type 0} → (R → Coming → Type 0) → ℕ → List (InputFile R) → List (RunSource R) → Type 0

@@ -7,7 +7,8 @@ use Rattle.osm_files.specs.Held.{HoldsSorted}
 use Rattle.osm_files.specs.Spell.{spell}
 use Rattle.osm_mirror.specs.Merge.{union_of}
 
--- The inputs of a merge, one after the other: each is a file, or what another merge wrote of inputs of its own, in any format.
+-- The inputs of a merge, one after the other: each is a file, or what another merge wrote of inputs of its own, in any
+-- format.
 pub data Inputs : Type 0 where
   none : Inputs
   file : List ℕ → Inputs → Inputs
@@ -19,7 +20,8 @@ files_of none = []
 files_of (file bytes others) = bytes ∷ files_of others
 files_of (merged format inputs others) = files_of inputs ++ files_of others
 
--- Inputs hold these sets, one each: each is a sorted file; one that a merge wrote is the one spelling of the union of what the
+-- Inputs hold these sets, one each: each is a sorted file; one that a merge wrote is the one spelling of the union of
+-- what the
 -- inputs of that merge hold.
 abbrev pub Hold : Inputs → List VersionSet → Type 0
 Hold none [] = Unit {0}
@@ -27,15 +29,18 @@ Hold none (set ∷ held) = ⊥
 Hold (file bytes others) [] = ⊥
 Hold (file bytes others) (set ∷ held) = HoldsSorted bytes set × Hold others held
 Hold (merged format inputs others) [] = ⊥
-Hold (merged format inputs others) (set ∷ held) = ((below : List VersionSet) × Hold inputs below × HoldsSorted (spell format (union_of below)) set) × Hold others held
+Hold (merged format inputs others) (set ∷ held) =
+    ((below : List VersionSet) × Hold inputs below × HoldsSorted (spell format (union_of below)) set) × Hold others held
 
 -- the same files, in any order and however often
 abbrev pub SameFiles : List (List ℕ) → List (List ℕ) → Type 0
 SameFiles files others = (bytes : List ℕ) → Contains files bytes ↔ Contains others bytes
 
--- Merges of the same files write the same bytes: in whatever order the files come, in whatever groups they are merged first, in
+-- Merges of the same files write the same bytes: in whatever order the files come, in whatever groups they are merged
+-- first, in
 -- whatever formats, and however often each is among them.
 abbrev pub MergesOfTheSameFiles : Type 0
 MergesOfTheSameFiles =
-    (inputs others : Inputs) (held sets : List VersionSet) → Hold inputs held → Hold others sets → SameFiles (files_of inputs) (files_of others)
+    (inputs others : Inputs) (held sets : List VersionSet) → Hold inputs held → Hold others sets →
+    SameFiles (files_of inputs) (files_of others)
     → (format : Format) → spell format (union_of held) ≡ spell format (union_of sets)

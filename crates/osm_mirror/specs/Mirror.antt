@@ -25,7 +25,8 @@ pub record MirrorData : Type 0 where
   pub held : VersionSet
 
 abbrev pub mirror_code : Coded MirrorData
-mirror_code = code_by (Keep × VersionSet) (coded× (keep.the_row).coded version_set_code) (λ m. (m.keep, m.held)) (λ p. record { keep = p.0; held = p.1 }) (λ _. refl)
+mirror_code = code_by (Keep × VersionSet) (coded× (keep.the_row).coded version_set_code) (λ m. (m.keep, m.held))
+    (λ p. record { keep = p.0; held = p.1 }) (λ _. refl)
 
 abbrev pub mirrors_code : Coded (List MirrorData)
 mirrors_code = coded_list mirror_code
@@ -64,4 +65,5 @@ WhyNotTaken bytes fault = (fault ≡ memory_fault) ⊎ ((v : Verdict) × (verdic
 
 -- why the file of a set isn't written: memory was refused, or the file, which is the output 1, has 2^62 bytes or more
 abbrev pub WhyNotSpelled : Format → VersionSet → Fault → Type 0
-WhyNotSpelled format set fault = (fault ≡ memory_fault) ⊎ ((fault ≡ too_long_fault 1) × (2 ^ 62 ≤ length (spell format set)))
+WhyNotSpelled format set fault = (fault ≡ memory_fault)
+    ⊎ ((fault ≡ too_long_fault 1) × (2 ^ 62 ≤ length (spell format set)))

@@ -50,7 +50,8 @@ pub record NamesItsMirrors (plan : Plan) : Type 0 where
 abbrev pub SpellsNoPlan : List ℕ → Type 0
 SpellsNoPlan text = (plan : Plan) → ¬ PlanSpells text plan
 
--- a line stands where it may, behind lines that spell these parts: a mirror line before all others, a step before the writes
+-- a line stands where it may, behind lines that spell these parts: a mirror line before all others, a step before the
+-- writes
 abbrev pub IsInTurn : Parts → PlanLine → Type 0
 IsInTurn before (Mirror keep) = (before.steps ≡ []) × (before.writes ≡ [])
 IsInTurn before (Step s) = before.writes ≡ []

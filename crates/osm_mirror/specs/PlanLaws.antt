@@ -6,7 +6,8 @@ use Rattle.osm_mirror.specs.Plan.{PlanSpells, SpellsNoPlan, PlanFaultOf, parts_o
 
 -- two plans that one text spells have the same parts
 abbrev pub OnePlan : Type 0
-OnePlan = (text : List ℕ) (one other : Plan) → PlanSpells text one → PlanSpells text other → parts_of one ≡ parts_of other
+OnePlan = (text : List ℕ) (one other : Plan) → PlanSpells text one → PlanSpells text other →
+    parts_of one ≡ parts_of other
 
 -- a text that has a fault spells no plan
 abbrev pub FaultySpellsNothing : Type 0

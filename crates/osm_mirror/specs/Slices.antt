@@ -36,4 +36,4 @@ SlicesWriteTheRun =
     (selection : Selection) (bounds : List Object) (sets : List VersionSet) (runs : List (List VersionSet))
     → IsSorted object_order bounds → Pairwise (AreSlicesWithin sets) (spans bounds) runs
     → spell Opl (selected selection (union_of sets))
-        ≡ concat (map (λ sliced. spell Opl (selected selection (union_of sliced))) runs)
+    ≡ concat (map (λ sliced. spell Opl (selected selection (union_of sliced))) runs)

@@ -4,7 +4,8 @@ use Rattle.std.specs.Prelude.{◌≡◌, ℕ, Bool, false}
 use Rattle.osm_model.specs.Data.{VersionData}
 use Rattle.osm_model.specs.Sets.{size}
 use Rattle.osm_files.specs.declared.fault.Fault.{Fault}
-use Rattle.osm_files.specs.Groups.{FileCanGive, known_or_whole, given_at, one_given, left_at, file_ascends, set_given, given_set_ascends}
+use Rattle.osm_files.specs.Groups.{FileCanGive, known_or_whole, given_at, one_given, left_at, file_ascends, set_given}
+use Rattle.osm_files.specs.Groups.{given_set_ascends}
 use Rattle.osm_files.specs.Input.{Coming}
 use Rattle.osm_files.specs.Source.{Ascends}
 use Rattle.osm_files.specs.Stream.{Still}
@@ -27,8 +28,10 @@ module _ {R : Type 0} (one : R → Coming) where
   source_one (Streamed source) = known_or_whole (given_at source (one source.units.coming))
   source_one (Held rest) = set_given rest
 
-  pub source_possible : (can : R → Coming → Type 0) → ((r : R) → can r (one r)) → (s : RunSource R) → SourceCanGive can s (source_one s)
-  source_possible can possible (Streamed source) = (one source.units.coming, possible source.units.coming, one_given source (one source.units.coming))
+  pub source_possible : (can : R → Coming → Type 0) → ((r : R) → can r (one r)) → (s : RunSource R) →
+      SourceCanGive can s (source_one s)
+  source_possible can possible (Streamed source) =
+      (one source.units.coming, possible source.units.coming, one_given source (one source.units.coming))
   source_possible can possible (Held rest) = refl
 
 -- at most so many versions

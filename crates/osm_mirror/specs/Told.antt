@@ -17,4 +17,5 @@ IsFileIfTold {C = C} can gives input = (c : C) → Tells can input c → (held :
 
 -- inputs that tell what they give can give nothing else
 abbrev pub ToldIsGiven : {R C : Type 0} → (R → C → Type 0) → List R → Type 0
-ToldIsGiven {C = C} can inputs = (told given : List C) → AllTell can inputs told → AllGive can inputs given → given ≡ told
+ToldIsGiven {C = C} can inputs = (told given : List C) → AllTell can inputs told → AllGive can inputs given →
+    given ≡ told

@@ -52,11 +52,13 @@ pub fn run_check<R: Input + Drop>(alloc: Global, input: R) -> Result<CheckReport
     })
 }
 
-/// Checks a sorted file in one pass over it: no more is kept than one key's versions. It tells what [`run_check`] tells.
+/// Checks a sorted file in one pass over it: no more is kept than one key's versions. It tells what [`run_check`]
+/// tells.
 ///
 /// # Errors
 ///
-/// The place and the reason of the first unit that is faulty or whose key is below that of the one before it, ReadFault where
+/// The place and the reason of the first unit that is faulty or whose key is below that of the one before it, ReadFault
+/// where
 /// the input fails, or Memory.
 pub fn run_check_sorted<R: Input + Drop>(alloc: Global, input: R) -> Result<CheckReport, Fault>
     ensures report { IfOk result (λ report. GivesOne (R.can_give input) (λ c. Reports c report)) }

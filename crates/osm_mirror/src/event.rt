@@ -34,6 +34,7 @@ pub enum Event<'a> {
 pub enum Reply {
     /// The file was taken, or what was written.
     Taken,
-    /// It was refused, and no mirror was changed. A file that is taken is the input 0; what a mirror writes is the output 1.
+    /// It was refused, and no mirror was changed. A file that is taken is the input 0; what a mirror writes is the
+    /// output 1.
     Refused(Fault),
 }

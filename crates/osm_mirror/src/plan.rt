@@ -3,7 +3,8 @@ ghost use Rattle.std.specs.Prelude.{◌≡◌, ◌⊎◌, OnOk, IfOk, IfErr};
 ghost use Rattle.osm_mirror.specs.declared.plan_line.PlanLine.TheVariants as line;
 ghost use Rattle.osm_mirror.specs.declared.plan_fault.PlanReason.TheVariants as why;
 ghost use Rattle.osm_mirror.specs.PlanFault.{memory_fault};
-ghost use Rattle.osm_mirror.specs.Plan.{PlanSpells, NamesItsMirrors, SpellsNoPlan, PlanFaultOf, LinesSpell, IsFirstFault};
+ghost use Rattle.osm_mirror.specs.Plan.{PlanSpells, NamesItsMirrors, SpellsNoPlan, PlanFaultOf, LinesSpell};
+ghost use Rattle.osm_mirror.specs.Plan.{IsFirstFault};
 ghost use Rattle.osm_mirror.specs.Plan.{lines_of, parts_of, IsAdded, IsLineAdded, IsLineRefused, LineFault};
 
 use crate::keep::Keep;

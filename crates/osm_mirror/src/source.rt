@@ -19,7 +19,8 @@ pub enum RunSource<R: Input> {
 }
 
 impl<R: Input> Source for RunSource<R> {
-    ghost use Rattle.osm_mirror.specs.Still.{SourceCanGive, source_one, left_of, number_of, failed_of, source_possible, source_ascends};
+    ghost use Rattle.osm_mirror.specs.Still.{SourceCanGive, source_one, left_of, number_of, failed_of, source_possible};
+    ghost use Rattle.osm_mirror.specs.Still.{source_ascends};
 
     ghost can_give = { λ s still. SourceCanGive R.can_give s still };
 
@@ -52,7 +53,8 @@ impl<R: Input> Source for RunSource<R> {
     }
 }
 
-/// The files as sources, numbered from 0. Those of any order were read to their ends; of the others nothing was read yet.
+/// The files as sources, numbered from 0. Those of any order were read to their ends; of the others nothing was read
+/// yet.
 ///
 /// # Errors
 ///

@@ -537,7 +537,8 @@ fn check_and_cut(rt: HostRuntime) {
     );
 }
 
-/// What runs return over three files of which the second is cut, and how many bytes they write. The first and the third file are
+/// What runs return over three files of which the second is cut, and how many bytes they write. The first and the third
+/// file are
 /// streamed in the second run.
 fn cut_text(alloc: Global, format: Format) -> String {
     let mut text = String::new(alloc);

@@ -192,7 +192,8 @@ fn two_mirrors_events<'a>(events: &mut Vec<Event<'a>>) {
     }
 }
 
-/// The number of replies to these, after which the snapshot of the full mirror is what the latest one holds; 0 where it isn't.
+/// The number of replies to these, after which the snapshot of the full mirror is what the latest one holds; 0 where it
+/// isn't.
 fn replies_of_two_mirrors(alloc: Global) -> usize {
     let Ok(mut fleet) = Fleet::new(alloc, &[Keep::Full, Keep::Latest]) else {
         return 0;

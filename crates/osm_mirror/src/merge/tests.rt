@@ -545,7 +545,8 @@ impl Read for Slow<'_> {
     }
 }
 
-/// What a merge of two files to OPL writes that come by `step` bytes a read, and why it is refused, if it is. The second file may fail.
+/// What a merge of two files to OPL writes that come by `step` bytes a read, and why it is refused, if it is. The
+/// second file may fail.
 fn slow_text(alloc: Global, files: [&[u8]; 2], step: usize, fails: bool) -> String {
     let mut inputs = Vec::new(alloc);
     let [rest, second] = files;
@@ -588,7 +589,8 @@ fn a_reader_that_fails_is_named(rt: HostRuntime) {
     );
 }
 
-/// What a merge in this format writes of `count` files that hold the same versions, in each format by turns, the first one being
+/// What a merge in this format writes of `count` files that hold the same versions, in each format by turns, the first
+/// one being
 /// the one at this place.
 fn in_turns(
     alloc: Global,

@@ -114,7 +114,8 @@ fn cut_file(rt: HostRuntime) {
     assert_eq!(rt; mirror_text(rt.alloc(), Keep::Full, &files).as_str(), text);
 }
 
-/// What a latest mirror returns to a file, and what it and a copy of it write then; and the number of versions that the copy holds.
+/// What a latest mirror returns to a file, and what it and a copy of it write then; and the number of versions that the
+/// copy holds.
 fn copied_text(alloc: Global, file: &[u8]) -> String {
     let mut text = String::new(alloc);
     let mut mirror = Mirror::new_latest(alloc);

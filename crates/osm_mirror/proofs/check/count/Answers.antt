@@ -16,7 +16,8 @@ versions-preserved g c = λ later k.
       x.0,
       x.1,
       subst (λ (last : Option VersionData). Counting (Some x.0) (Some later) last c.count_one-sizes.result) (sym held)
-          (count_more (Some x.0) (Some y.0) (Some later) c.versions.last c.in-Some.version c.versions.sizes c.count_one-sizes.result x.2 y.2 c.count_one-sizes.ensures.versions c.count_one-sizes.ensures.objects),
+          (count_more (Some x.0) (Some y.0) (Some later) c.versions.last c.in-Some.version c.versions.sizes c.count_one-sizes.result x.2 y.2
+          c.count_one-sizes.ensures.versions c.count_one-sizes.ensures.objects),
     )
 
 pub returns-in_default-clause-sizes : goal.returns-in_default-clause-sizes
@@ -32,4 +33,9 @@ returns-in_err-version-clause-refused g c =
     let y = c.in_err-version.ensures.step later (g.S.Source.possible c.next.new.self) in
     let x = c.versions.invariant y.0 y.1 in
     let p = err_from_is_err_and c.from_residual.result c.from_residual.ensures.1 in
-    rw (p.1, p.2) (x.0, x.1, count_stops (Some x.0) (Some y.0) (Some later) c.versions.last c.versions.sizes c.in_err-version.field-0.0 x.2 y.2)
+    rw (p.1, p.2) (
+      x.0,
+      x.1,
+      count_stops (Some x.0) (Some y.0)
+          (Some later) c.versions.last c.versions.sizes c.in_err-version.field-0.0 x.2 y.2,
+    )

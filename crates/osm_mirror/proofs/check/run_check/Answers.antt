@@ -8,8 +8,12 @@ use Rattle.osm_mirror.proofs.check.run_check.Goals as goal
 pub returns-clause-report : goal.returns-clause-report
 returns-clause-report g c =
     let h = c.in_ok-loaded.ensures.loaded in
-    let n = c.in_ok-sizes.ensures.sizes in
-    (h.0, h.1, report_is h.0 c.in_ok-loaded.loaded c.new-source.result c.in_ok-sizes.sizes _ h.2 c.new-source.ensures (subst (λ (s : source.VersionsToCome). IsCounted s c.in_ok-sizes.sizes) n.1 n.2) refl)
+    let n = c.in_ok-sizes.ensures.sizes in (
+      h.0,
+      h.1,
+      report_is h.0 c.in_ok-loaded.loaded c.new-source.result c.in_ok-sizes.sizes _ h.2 c.new-source.ensures
+          (subst (λ (s : source.VersionsToCome). IsCounted s c.in_ok-sizes.sizes) n.1 n.2) refl,
+    )
 
 pub returns-in_err-sizes-clause-refused : goal.returns-in_err-sizes-clause-refused
 returns-in_err-sizes-clause-refused g c =

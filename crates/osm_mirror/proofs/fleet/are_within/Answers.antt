@@ -7,8 +7,12 @@ use Rattle.osm_mirror.proofs.fleet.are_within.Goals as goal
 pub loop-event-preserved : goal.loop-event-preserved
 loop-event-preserved c =
     let yes : IsTrue c.is_within.result = search rules in
-    within_more c.args.count c.args.events.now c.loop-event.event-index _ c.loop-event.invariant c.loop-event-test.true (c.is_within.ensures.0 yes)
+    within_more c.args.count c.args.events.now c.loop-event.event-index _ c.loop-event.invariant c.loop-event-test.true
+    (c.is_within.ensures.0 yes)
 
 pub returns : goal.returns
-returns c =
-    (λ _. subst (All (IsWithin c.args.count)) (take_all c.loop-event.event-index c.args.events.now (omega (arith, c.loop-event-test.false))) c.loop-event.invariant, λ _. refl)
+returns c = (
+  λ _. subst (All (IsWithin c.args.count)) (take_all c.loop-event.event-index c.args.events.now (omega (arith, c.loop-event-test.false)))
+      c.loop-event.invariant,
+  λ _. refl,
+)

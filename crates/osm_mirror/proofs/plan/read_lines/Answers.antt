@@ -11,7 +11,8 @@ pub lines-init : goal.lines-init
 lines-init c = record { counted = refl; spelled = nothing_spelled _ c.new.ensures.items c.new-2.ensures.items c.new-3.ensures.items }
 
 -- the line of this turn is the next one of the text
-turn : (c : In-Some) → (c.lines.number < length (lines_of c.args.text.now)) × (c.in-Some.line.now ≡ get_or (lines_of c.args.text.now) c.lines.number c.in-Some.line.now)
+turn : (c : In-Some) → (c.lines.number < length (lines_of c.args.text.now))
+    × (c.in-Some.line.now ≡ get_or (lines_of c.args.text.now) c.lines.number c.in-Some.line.now)
 turn c =
     let e = c.split-line-items.ensures in
     let split = YieldsList-from_str_split {s = c.split-line-items.result} 10 c.args.text.now (lit< tt) e.text e.has_more e.pattern in
@@ -25,13 +26,15 @@ overflow_add-number c = let here = turn (goal.at.overflow_add-number c).In-Some 
 pub returns-in-Err-clause-fault : goal.returns-in-Err-clause-fault
 returns-in-Err-clause-fault c =
     let here = turn (goal.at.returns-in-Err-clause-fault c).In-Some in
-    rw c.at.ensures (fault_added c.args.text.now c.in-Some.line.now c.lines.number (parts_of c.lines.plan) c.in-Err.reason here.0 here.1 c.lines.invariant.spelled c.in-Err.ensures.refused)
+    rw c.at.ensures (fault_added c.args.text.now c.in-Some.line.now c.lines.number
+    (parts_of c.lines.plan) c.in-Err.reason here.0 here.1 c.lines.invariant.spelled c.in-Err.ensures.refused)
 
 pub lines-preserved : goal.lines-preserved
 lines-preserved c =
     let here = turn (goal.at.lines-preserved c).In-Some in
     let all = lines_of c.args.text.now in
-    let more = line_added (take c.lines.number all) c.in-Some.line.now (parts_of c.lines.plan) (parts_of c.add_line.new.self) c.lines.invariant.spelled c.in_default.ensures.added in
+    let more = line_added (take c.lines.number all) c.in-Some.line.now (parts_of c.lines.plan)
+    (parts_of c.add_line.new.self) c.lines.invariant.spelled c.in_default.ensures.added in
     record {
       counted = omega (arith, length_push c.lines.yielded c.in-Some.line, c.lines.invariant.counted);
       spelled = rw (take_more all c.lines.number c.in-Some.line.now here.0, ← here.1) more;

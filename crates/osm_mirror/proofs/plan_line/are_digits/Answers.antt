@@ -7,5 +7,6 @@ use Rattle.osm_mirror.proofs.plan_line.are_digits.Goals as goal
 
 pub returns : goal.returns
 returns c =
-    all_from_yields_List is_ascii_digit _ _ _ c.all.ensures.ran (YieldsList-from_bytes c.args.word.now c.bytes.ensures.rest) (λ x b q k. search (rules, tests))
+    all_from_yields_List is_ascii_digit _ _ _ c.all.ensures.ran (YieldsList-from_bytes c.args.word.now c.bytes.ensures.rest)
+    (λ x b q k. search (rules, tests))
     ∙ are_digits c.args.word.now

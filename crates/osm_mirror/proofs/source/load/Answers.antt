@@ -3,7 +3,8 @@ use Rattle.osm_mirror.proofs.SourceLaws.{load_opens, load_stops}
 use Rattle.osm_mirror.proofs.source.load.Goals as goal
 
 pub returns-clause-opened : goal.returns-clause-opened
-returns-clause-opened g c = load_opens g.R.Input.can_give c.args.number c.args.reader c.in_ok-loaded.loaded c.new.result c.new.ensures c.in_ok-loaded.ensures.loaded
+returns-clause-opened g c = load_opens g.R.Input.can_give c.args.number c.args.reader c.in_ok-loaded.loaded c.new.result c.new.ensures
+    c.in_ok-loaded.ensures.loaded
 
 pub returns-in_err-loaded-clause-refused : goal.returns-in_err-loaded-clause-refused
 returns-in_err-loaded-clause-refused g c =

@@ -7,9 +7,11 @@ answer-reply-requires c = event_within _ _ _ _ _ _ _ c.loop-event.invariant _ c.
 
 pub loop-event-preserved : goal.loop-event-preserved
 loop-event-preserved c =
-    run_goes_on _ _ _ _ _ _ _ c.loop-event.invariant _ _ _ _ _ _ c.loop-event-test.true c.answer-reply.ensures.answer c.answer-reply.ensures.behind
+    run_goes_on _ _ _ _ _ _ _ c.loop-event.invariant _ _ _ _ _ _ c.loop-event-test.true c.answer-reply.ensures.answer
+    c.answer-reply.ensures.behind
     c.push_reserved.ensures.items c.push_reserved.ensures.len c.push_reserved.ensures.capacity
 
 pub returns-clause-run : goal.returns-clause-run
 returns-clause-run c =
-    run_ends _ _ _ _ _ _ _ c.loop-event.invariant (rw c.self.view_is at c.self.invariant) c.requires (omega (arith, c.loop-event-test.false))
+    run_ends _ _ _ _ _ _ _ c.loop-event.invariant (rw c.self.view_is at c.self.invariant) c.requires
+    (omega (arith, c.loop-event-test.false))

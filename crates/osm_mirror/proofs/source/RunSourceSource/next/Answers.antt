@@ -7,8 +7,10 @@ use Rattle.osm_mirror.proofs.source.RunSourceSource.next.Goals as goal
 
 pub returns-in-Streamed-clause-step : goal.returns-in-Streamed-clause-step
 returns-in-Streamed-clause-step g c =
-    subst (λ (s : RunSource _). Steps (SourceCanGive g.R.Input.can_give) s c.next.result (Streamed c.next.new.self)) (sym c.in-Streamed.is) c.next.ensures.step
+    subst (λ (s : RunSource _). Steps (SourceCanGive g.R.Input.can_give) s c.next.result (Streamed c.next.new.self))
+    (sym c.in-Streamed.is) c.next.ensures.step
 
 pub returns-in-Held-clause-step : goal.returns-in-Held-clause-step
 returns-in-Held-clause-step g c =
-    subst (λ (s : RunSource _). Steps (SourceCanGive g.R.Input.can_give) s c.next-in-Held.result (Held c.next-in-Held.new.self)) (sym c.in-Held.is) c.next-in-Held.ensures.step
+    subst (λ (s : RunSource _). Steps (SourceCanGive g.R.Input.can_give) s c.next-in-Held.result (Held c.next-in-Held.new.self))
+    (sym c.in-Held.is) c.next-in-Held.ensures.step
