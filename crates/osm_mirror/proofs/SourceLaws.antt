@@ -204,7 +204,8 @@ module _ {R : Type 0} (can : R → Coming → Type 0) where
   opened_more number (f ∷ files) (t ∷ opened) file s all one = (
     all.0,
     opened_more (number + 1) files opened file s all.1
-        (subst (λ (n : ℕ). IsOpened can n file s) (let e : number + suc (length files) ≡ (number + 1) + length files = omega arith in e) one),
+        (subst (λ (n : ℕ). IsOpened can n file s) (let e : number + suc (length files) ≡ (number + 1) + length files = omega arith in e)
+        one),
   )
 
   pub opened_many : (number : ℕ) (files : List (InputFile R)) (opened : List (RunSource R)) → AreOpened can number files opened
