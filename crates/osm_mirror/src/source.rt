@@ -19,8 +19,8 @@ pub enum RunSource<R: Input> {
 }
 
 impl<R: Input> Source for RunSource<R> {
-    ghost use Rattle.osm_mirror.specs.Still.{SourceCanGive, source_one, left_of, number_of, failed_of, source_possible};
-    ghost use Rattle.osm_mirror.specs.Still.{source_ascends};
+    ghost use Rattle.osm_mirror.specs.Still.{SourceCanGive, source_one, left_of, number_of, failed_of};
+    ghost use Rattle.osm_mirror.specs.Still.{source_possible, source_ascends};
 
     ghost can_give = { λ s still. SourceCanGive R.can_give s still };
 
@@ -64,7 +64,8 @@ pub fn open_inputs<R: Input + Drop>(
     inputs: Vec<InputFile<R>>,
 ) -> Result<Vec<RunSource<R>>, Fault>
     ensures opened { IfOk result (λ sources. AreOpened R.can_give 0 inputs.items sources.items) }
-    ensures refused { IfErr result (λ fault. ForSome (FileGives R.can_give) inputs.items (λ all. IsUnopened 0 all fault)) }
+    ensures refused { IfErr result (λ fault. ForSome (FileGives R.can_give) inputs.items (λ all.
+        IsUnopened 0 all fault)) }
 {
     let count = inputs.len();
     let mut sources = Vec::new(alloc);
@@ -97,7 +98,8 @@ fn open_input<R: Input + Drop>(
     file: InputFile<R>,
 ) -> Result<RunSource<R>, Fault>
     ensures opened { IfOk result (λ source. IsOpened R.can_give number file source) }
-    ensures refused { IfErr result (λ fault. FileGivesOne R.can_give file (λ input. IsUnopened number (input ∷ []) fault)) }
+    ensures refused { IfErr result (λ fault. FileGivesOne R.can_give file (λ input.
+        IsUnopened number (input ∷ []) fault)) }
 {
     match file.order {
         Order::Sorted => stream(alloc, number, count, file.reader),

@@ -30,6 +30,7 @@ pub returns-clause-opened : goal.returns-clause-opened
 returns-clause-opened g c =
     let all : into_iter_items c.into_iter-file-iterator.result ≡ c.args.inputs.items = search rules in
     let many : into_iter_len c.into_iter-file-iterator.result ≡ length c.args.inputs.items = search rules in
-    let end = YieldsList-end (YieldsList-from_vec c.args.inputs.items all many) c.files.yielded c.files.file-iterator c.files.yielded_by
+    let end =
+    YieldsList-end (YieldsList-from_vec c.args.inputs.items all many) c.files.yielded c.files.file-iterator c.files.yielded_by
     c.next.result c.next.new.self c.in-None.is c.next.ensures.steps in
     opened_all g.R.Input.can_give c.files.yielded c.args.inputs.items c.files.sources.items c.files.invariant end.0
