@@ -20,13 +20,13 @@ use Rattle.osm_merge.specs.Selected.{snapshot, beats}
 use Rattle.osm_merge.proofs.SnapLaws.{contains-retain, snapshot_of_union, snapshot_of_snapshot}
 use Rattle.osm_mirror.specs.declared.keep.Keep.{Keep}
 use Rattle.osm_mirror.specs.declared.keep.Keep.TheVariants.{Full, Latest}
-use Rattle.osm_mirror.specs.declared.event.Event.{Event}
-use Rattle.osm_mirror.specs.declared.event.Event.TheVariants.{Take, Pass, Restart}
+use Rattle.osm_mirror.specs.Event.{Event, IsWithin}
+use Rattle.osm_mirror.specs.declared.event.MirrorEvent.TheVariants.{Take, Pass, Restart}
 use Rattle.osm_mirror.specs.declared.event.Reply.{Reply}
 use Rattle.osm_mirror.specs.declared.event.Reply.TheVariants.{Taken, Refused}
 use Rattle.osm_mirror.specs.declared.keep.Taken.{Taken as Taken_of}
 use Rattle.osm_mirror.specs.Mirror.{MirrorData, kept, fresh, took, IsKept, TakesFile}
-use Rattle.osm_mirror.specs.Fleet.{at, AreKept, IsWithin, behind, IsAnswer, behind_all, AreAnswers, Source, Track, is_full, begun}
+use Rattle.osm_mirror.specs.Fleet.{at, AreKept, behind, IsAnswer, behind_all, AreAnswers, Source, Track, is_full, begun}
 use Rattle.osm_mirror.specs.Fleet.{retracked, reached, reached_all, set_of, united, IsPart, HoldsOf, Converges}
 
 -- ---- sets

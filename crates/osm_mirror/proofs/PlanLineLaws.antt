@@ -14,8 +14,8 @@ use Rattle.osm_files.specs.Format.{format_name}
 use Rattle.osm_mirror.specs.declared.keep.Keep.{Keep}
 use Rattle.osm_mirror.specs.declared.keep.Keep.TheVariants.{Full, Latest}
 use Rattle.osm_mirror.specs.declared.plan_line.PlanWrite.{PlanWrite}
-use Rattle.osm_mirror.specs.declared.plan_line.Step as step
-use Rattle.osm_mirror.specs.declared.plan_line.Step.TheVariants.{Take, Pass, Restart}
+use Rattle.osm_mirror.specs.Event as event
+use Rattle.osm_mirror.specs.declared.event.MirrorEvent.TheVariants.{Take, Pass, Restart}
 use Rattle.osm_mirror.specs.declared.plan_line.PlanLine.{PlanLine}
 use Rattle.osm_mirror.specs.declared.plan_line.PlanLine.TheVariants.{Mirror, Step, Write}
 use Rattle.osm_mirror.specs.PlanLine.{IsNumber, IsName, WordsSay, LineSays}
@@ -61,7 +61,7 @@ unfolding letter
 mirror_letter words Full a = omega (arith, ap letter a)
 mirror_letter words Latest a = omega (arith, ap letter a)
 
-step_letter : (words : List (List ℕ)) (s : step.Step) → WordsSay words (Step s) → (111 < letter words) × (letter words < 119)
+step_letter : (words : List (List ℕ)) (s : event.Step) → WordsSay words (Step s) → (111 < letter words) × (letter words < 119)
 unfolding letter
 step_letter words (Take m f) a = omega (arith, ap letter a.2)
 step_letter words (Pass m n f) a = omega (arith, ap letter a.2)
@@ -77,7 +77,7 @@ mirror_one words Full Full a b = refl
 mirror_one words Latest Latest a b = refl
 mirror_one words _ _ a b = absurd (omega (arith, ap letter a, ap letter b))
 
-step_one : (words : List (List ℕ)) (s t : step.Step) → WordsSay words (Step s) → WordsSay words (Step t) → s ≡ t
+step_one : (words : List (List ℕ)) (s t : event.Step) → WordsSay words (Step s) → WordsSay words (Step t) → s ≡ t
 unfolding letter
 step_one words (Take m f) (Take n g) a b =
     let word : a.0 ≡ b.0 = cc in

@@ -14,8 +14,8 @@ use Rattle.osm_mirror.specs.declared.plan.Plan.{Plan}
 use Rattle.osm_mirror.specs.declared.plan_fault.PlanFault.{PlanFault}
 use Rattle.osm_mirror.specs.declared.plan_fault.PlanReason.{PlanReason}
 use Rattle.osm_mirror.specs.declared.plan_fault.PlanReason.TheVariants.{NotUtf8, BadWord, BadOrder, NoMirror, Memory}
-use Rattle.osm_mirror.specs.declared.plan_line.Step as step
-use Rattle.osm_mirror.specs.declared.plan_line.Step.TheVariants.{Take, Pass, Restart}
+use Rattle.osm_mirror.specs.Event as event
+use Rattle.osm_mirror.specs.declared.event.MirrorEvent.TheVariants.{Take, Pass, Restart}
 use Rattle.osm_mirror.specs.declared.plan_line.PlanWrite.{PlanWrite}
 use Rattle.osm_mirror.specs.declared.plan_line.PlanLine.{PlanLine}
 use Rattle.osm_mirror.specs.declared.plan_line.PlanLine.TheVariants.{Mirror, Step, Write}
@@ -68,7 +68,7 @@ abbrev Builds : Parts → List PlanLine → Parts → Type 0
 Builds before [] after = before ≡ after
 Builds before (x ∷ xs) after = IsInTurn before x × NamesMirrors (length before.mirrors) x × Builds (with_line before x) xs after
 
-abbrev parts : List Keep → List step.Step → List PlanWrite → Parts
+abbrev parts : List Keep → List event.Step → List PlanWrite → Parts
 parts ms ss ws = record { mirrors = ms; steps = ss; writes = ws }
 
 -- the mirrors of a plan are added first
@@ -83,7 +83,7 @@ mirrors_build n had (m ∷ ms) rest after all then = (
 )
 
 -- then its steps
-steps_build : (ms : List Keep) (had ss : List step.Step) (rest : List PlanLine) (after : Parts) →
+steps_build : (ms : List Keep) (had ss : List event.Step) (rest : List PlanLine) (after : Parts) →
     All (NamesMirrors (length ms)) (map Step ss ++ rest)
     → (All (NamesMirrors (length ms)) rest → Builds (parts ms (had ++ ss) []) rest after) →
     Builds (parts ms had []) (map Step ss ++ rest) after
@@ -96,7 +96,7 @@ steps_build ms had (s ∷ ss) rest after all then = (
 )
 
 -- and then its writes
-writes_build : (ms : List Keep) (ss : List step.Step) (had ws : List PlanWrite) → All (NamesMirrors (length ms)) (map Write ws)
+writes_build : (ms : List Keep) (ss : List event.Step) (had ws : List PlanWrite) → All (NamesMirrors (length ms)) (map Write ws)
     → Builds (parts ms ss had) (map Write ws) (parts ms ss (had ++ ws))
 writes_build ms ss had [] all = λ i. parts ms ss (sym (append-nil had) i)
 writes_build ms ss had (w ∷ ws) all = (

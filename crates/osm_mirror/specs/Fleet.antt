@@ -12,8 +12,8 @@ use Rattle.osm_files.specs.Verdict.{held_by}
 use Rattle.osm_merge.specs.Selected.{snapshot}
 use Rattle.osm_mirror.specs.declared.keep.Keep.{Keep}
 use Rattle.osm_mirror.specs.declared.keep.Keep.TheVariants.{Full, Latest}
-use Rattle.osm_mirror.specs.declared.event.Event.{Event}
-use Rattle.osm_mirror.specs.declared.event.Event.TheVariants.{Take, Pass, Restart}
+use Rattle.osm_mirror.specs.Event.{Event}
+use Rattle.osm_mirror.specs.declared.event.MirrorEvent.TheVariants.{Take, Pass, Restart}
 use Rattle.osm_mirror.specs.declared.event.Reply.{Reply}
 use Rattle.osm_mirror.specs.declared.event.Reply.TheVariants.{Taken, Refused}
 use Rattle.osm_mirror.specs.Mirror.{MirrorData, fresh, took, IsKept, WhyNotTaken, WhyNotSpelled}
@@ -27,12 +27,6 @@ abbrev pub AreKept : List MirrorData → Type 0
 AreKept mirrors = (m : ℕ) → m < length mirrors → IsKept (at mirrors m)
 
 -- ---- one event
--- the mirrors that an event names are below this number
-abbrev pub IsWithin : ℕ → Event → Type 0
-IsWithin count (Take m file) = m < count
-IsWithin count (Pass from to format) = (from < count) × (to < count)
-IsWithin count (Restart m format) = m < count
-
 -- What the mirrors hold behind an event that got this reply: one took a file; or what another one holds; or a new one
 -- took
 -- what it held, and stands in its place. A refused event changes none.

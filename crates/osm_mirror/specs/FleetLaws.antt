@@ -5,7 +5,7 @@ use Rattle.osm_model.specs.Sets.{empty}
 use Rattle.osm_files.specs.declared.format.Format.{Format}
 use Rattle.osm_files.specs.Spell.{spell}
 use Rattle.osm_mirror.specs.declared.keep.Keep.TheVariants.{Latest}
-use Rattle.osm_mirror.specs.declared.event.Event.{Event}
+use Rattle.osm_mirror.specs.Event.{Event}
 use Rattle.osm_mirror.specs.declared.event.Reply.{Reply}
 use Rattle.osm_mirror.specs.Mirror.{MirrorData}
 use Rattle.osm_mirror.specs.Fleet.{Source, File, at, tracks, Converges}

@@ -6,6 +6,7 @@ pub mod Command
 pub mod Told
 pub mod Check
 pub mod Mirror
+pub mod Event
 pub mod Fleet
 pub mod FleetLaws
 pub mod PlanFault

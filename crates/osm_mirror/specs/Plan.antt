@@ -8,16 +8,17 @@ use Rattle.osm_mirror.specs.declared.plan.Plan.{Plan}
 use Rattle.osm_mirror.specs.declared.plan_fault.PlanFault.{PlanFault}
 use Rattle.osm_mirror.specs.declared.plan_fault.PlanReason.{PlanReason}
 use Rattle.osm_mirror.specs.declared.plan_fault.PlanReason.TheVariants.{NotUtf8, BadWord, BadOrder, NoMirror}
-use Rattle.osm_mirror.specs.declared.plan_line.Step as step
+use Rattle.osm_mirror.specs.Event as event
+use Rattle.osm_mirror.specs.Event.{IsWithin}
 use Rattle.osm_mirror.specs.declared.plan_line.PlanWrite.{PlanWrite}
 use Rattle.osm_mirror.specs.declared.plan_line.PlanLine.{PlanLine}
 use Rattle.osm_mirror.specs.declared.plan_line.PlanLine.TheVariants.{Mirror, Step, Write}
-use Rattle.osm_mirror.specs.PlanLine.{LineSays, StepNames, NamesMirrors}
+use Rattle.osm_mirror.specs.PlanLine.{LineSays, NamesMirrors}
 
 -- the parts of a plan, as lists
 pub record Parts : Type 0 where
   pub mirrors : List Keep
-  pub steps : List step.Step
+  pub steps : List event.Step
   pub writes : List PlanWrite
 
 abbrev pub parts_of : Plan → Parts
@@ -43,7 +44,7 @@ pub record PlanSpells (text : List ℕ) (plan : Plan) : Type 0 where
 
 -- the steps and the writes of a plan name its mirrors alone
 pub record NamesItsMirrors (plan : Plan) : Type 0 where
-  pub steps : All (StepNames (length plan.mirrors.items)) plan.steps.items
+  pub steps : All (IsWithin (length plan.mirrors.items)) plan.steps.items
   pub writes : All (λ w. w.mirror < length plan.mirrors.items) plan.writes.items
 
 -- a text spells no plan at all

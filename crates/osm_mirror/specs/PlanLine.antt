@@ -5,8 +5,8 @@ use Rattle.std.specs.Str.{all_ascii_digits}
 use Rattle.std.specs.Str.Parse.{digits_value}
 use Rattle.osm_files.specs.Format.{format_name}
 use Rattle.osm_mirror.specs.declared.keep.Keep.TheVariants.{Full, Latest}
-use Rattle.osm_mirror.specs.declared.plan_line.Step as step
-use Rattle.osm_mirror.specs.declared.plan_line.Step.TheVariants.{Take, Pass, Restart}
+use Rattle.osm_mirror.specs.Event.{IsWithin}
+use Rattle.osm_mirror.specs.declared.event.MirrorEvent.TheVariants.{Take, Pass, Restart}
 use Rattle.osm_mirror.specs.declared.plan_line.PlanLine.{PlanLine}
 use Rattle.osm_mirror.specs.declared.plan_line.PlanLine.TheVariants.{Mirror, Step, Write}
 
@@ -39,14 +39,8 @@ WordsSay words (Write w) =
 abbrev pub LineSays : List ℕ → PlanLine → Type 0
 LineSays line said = WordsSay (slice_split (λ b. b == 32) line) said
 
--- all mirrors that a step names are among the first so many
-abbrev pub StepNames : ℕ → step.Step → Type 0
-StepNames mirrors (Take mirror file) = mirror < mirrors
-StepNames mirrors (Pass from to format) = (from < mirrors) × (to < mirrors)
-StepNames mirrors (Restart mirror format) = mirror < mirrors
-
--- and all that a line names
+-- all mirrors that a line names are among the first so many
 abbrev pub NamesMirrors : ℕ → PlanLine → Type 0
 NamesMirrors mirrors (Mirror keep) = Unit {0}
-NamesMirrors mirrors (Step s) = StepNames mirrors s
+NamesMirrors mirrors (Step s) = IsWithin mirrors s
 NamesMirrors mirrors (Write w) = w.mirror < mirrors

@@ -1,15 +1,20 @@
-//! What happens to a fleet, and what is answered.
-use osm_files::{Fault, Format};
+//! What happens to mirrors, and what a fleet returns for it.
+ghost use Rattle.std.specs.Prelude.{IsTrue, ◌↔◌};
+ghost use Rattle.osm_mirror.specs.Event.{IsWithin};
 
-/// Something that happens to the mirrors of a fleet, which are numbered from 0.
+use osm_files::{Fault, Format};
+use osm_model::Text;
+
+/// Something that happens to mirrors, which are numbered from 0. `F` is a file: its bytes in an [`Event`], its name in a
+/// [`Step`].
 #[derive(Clone, Copy, Debug, PartialEq, Eq)]
-pub enum Event<'a> {
+pub enum MirrorEvent<F> {
     /// A mirror takes a file.
     Take {
         /// The number of the mirror.
         mirror: usize,
-        /// The bytes of the file, of any format.
-        file: &'a [u8],
+        /// The file, of any format.
+        file: F,
     },
     /// A mirror takes what another one writes, or what it writes itself.
     Pass {
@@ -27,6 +32,26 @@ pub enum Event<'a> {
         /// The format that is written.
         format: Format,
     },
+}
+
+/// An event of a fleet. A file is its bytes.
+pub type Event<'a> = MirrorEvent<&'a [u8]>;
+
+/// A step of a plan. A file is its name.
+pub type Step = MirrorEvent<Text>;
+
+impl<F> MirrorEvent<F> {
+    /// Whether all mirrors that the event names have numbers below `mirrors`.
+    pub(crate) fn names_mirrors(&self, mirrors: usize) -> bool
+        ensures { IsTrue result ↔ IsWithin mirrors self.now }
+    {
+        match self {
+            MirrorEvent::Take { mirror, .. } | MirrorEvent::Restart { mirror, .. } => {
+                *mirror < mirrors
+            }
+            MirrorEvent::Pass { from, to, .. } => *from < mirrors && *to < mirrors,
+        }
+    }
 }
 
 /// The answer to an event.

@@ -4,7 +4,8 @@ ghost use Rattle.std.specs.List.{All};
 ghost use Rattle.osm_files.specs.Held.{Holds};
 ghost use Rattle.osm_files.specs.Verdict.{held_by};
 ghost use Rattle.osm_mirror.specs.Mirror.{fresh, took, WhyNotTaken, WhyNotSpelled};
-ghost use Rattle.osm_mirror.specs.Fleet.{at, IsWithin, IsShort, IsAnswer, behind, Converges};
+ghost use Rattle.osm_mirror.specs.Fleet.{at, IsShort, IsAnswer, behind, Converges};
+ghost use Rattle.osm_mirror.specs.Event.{IsWithin};
 
 use crate::event::{Event, Reply};
 use crate::keep::Keep;
@@ -172,22 +173,11 @@ fn are_within(count: usize, events: &[Event]) -> bool
     ensures { IsTrue result ↔ All (IsWithin count) events.now }
 {
     for event in events {
-        if !is_within(count, event) {
+        if !event.names_mirrors(count) {
             return false;
         }
     }
     true
-}
-
-/// Whether an event names mirrors below this number alone.
-fn is_within(count: usize, event: &Event) -> bool
-    ensures { IsTrue result ↔ IsWithin count event.now }
-{
-    match *event {
-        Event::Take { mirror, .. } => mirror < count,
-        Event::Pass { from, to, .. } => from < count && to < count,
-        Event::Restart { mirror, .. } => mirror < count,
-    }
 }
 
 #[cfg(test)]

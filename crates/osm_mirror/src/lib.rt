@@ -22,7 +22,7 @@ pub mod told;
 
 pub use check::{CheckReport, run_check, run_check_sorted};
 pub use command::{run_apply, run_period_filter, run_sort, run_time_filter};
-pub use event::{Event, Reply};
+pub use event::{Event, MirrorEvent, Reply, Step};
 pub use fault_line::fault_text;
 pub use fleet::Fleet;
 pub use input::{InputFile, Order};
@@ -34,7 +34,7 @@ pub use osm_merge::{Counts, Progress, Selection};
 pub use osm_model::Memory;
 pub use plan::{Plan, read_plan};
 pub use plan_fault::{PlanFault, PlanReason};
-pub use plan_line::{PlanWrite, Step};
+pub use plan_line::PlanWrite;
 pub use run::run_selected;
 
 #[cfg(test)]

@@ -7,9 +7,10 @@ ghost use Rattle.osm_mirror.specs.Plan.{PlanSpells, NamesItsMirrors, SpellsNoPla
 ghost use Rattle.osm_mirror.specs.Plan.{IsFirstFault};
 ghost use Rattle.osm_mirror.specs.Plan.{lines_of, parts_of, IsAdded, IsLineAdded, IsLineRefused, LineFault};
 
+use crate::event::Step;
 use crate::keep::Keep;
 use crate::plan_fault::{PlanFault, PlanReason};
-use crate::plan_line::{PlanLine, PlanWrite, Step, read_plan_line};
+use crate::plan_line::{PlanLine, PlanWrite, read_plan_line};
 use std::alloc::Global;
 use std::str;
 

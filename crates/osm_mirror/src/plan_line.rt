@@ -1,10 +1,11 @@
 //! The lines of plans.
-ghost use Rattle.std.specs.Prelude.{◌≡◌, [], ◌∷◌, map, IfOk, IfErr, MatchBool};
+ghost use Rattle.std.specs.Prelude.{◌≡◌, [], ◌∷◌, map, IfOk, IfErr};
 ghost use Rattle.std.specs.Str.{all_ascii_digits};
 ghost use Rattle.osm_files.specs.Format.{format_name};
-ghost use Rattle.osm_mirror.specs.PlanLine.{WordsSay, LineSays, StepNames, IsNumber, IsName};
+ghost use Rattle.osm_mirror.specs.PlanLine.{WordsSay, LineSays, IsNumber, IsName};
 ghost use Rattle.osm_mirror.specs.PlanFault.{IsNone, IsNoneOrMemory};
 
+use crate::event::Step;
 use crate::keep::Keep;
 use crate::plan_fault::PlanReason;
 use osm_files::Format;
@@ -13,46 +14,6 @@ use std::alloc::Global;
 
 /// The most digits of a mirror's number.
 const MOST_DIGITS: usize = 9;
-
-/// What happens to a plan's mirrors. Their numbers count from 0, in the order of the plan's mirror lines.
-#[derive(Debug, Drop)]
-pub enum Step {
-    /// A mirror takes a file.
-    Take {
-        /// The mirror's number.
-        mirror: usize,
-        /// The file's name.
-        file: Text,
-    },
-    /// A mirror takes what a mirror writes.
-    Pass {
-        /// The number of the mirror that writes.
-        from: usize,
-        /// The number of the mirror that takes.
-        to: usize,
-        /// The format of what is written.
-        format: Format,
-    },
-    /// A mirror is written and read again.
-    Restart {
-        /// The mirror's number.
-        mirror: usize,
-        /// The format of what is written.
-        format: Format,
-    },
-}
-
-impl Step {
-    /// Whether all mirrors that the step names are among the first so many.
-    pub(crate) fn names_mirrors(&self, mirrors: usize) -> bool
-        ensures { MatchBool result (StepNames mirrors self.now) (¬ StepNames mirrors self.now) }
-    {
-        match self {
-            Step::Take { mirror, .. } | Step::Restart { mirror, .. } => *mirror < mirrors,
-            Step::Pass { from, to, .. } => *from < mirrors && *to < mirrors,
-        }
-    }
-}
 
 /// A file that is made once all steps are done.
 #[derive(Debug, Drop)]

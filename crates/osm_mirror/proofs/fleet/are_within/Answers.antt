@@ -1,14 +1,14 @@
 use Rattle.std.proofs.Common.{rules, refl, subst, arith, All, IsTrue}
 use Rattle.std.proofs.lemmas.List.{take_all}
-use Rattle.osm_mirror.specs.Fleet.{IsWithin}
+use Rattle.osm_mirror.specs.Event.{IsWithin}
 use Rattle.osm_mirror.proofs.FleetLaws.{within_more}
 use Rattle.osm_mirror.proofs.fleet.are_within.Goals as goal
 
 pub loop-event-preserved : goal.loop-event-preserved
 loop-event-preserved c =
-    let yes : IsTrue c.is_within.result = search rules in
+    let yes : IsTrue c.names_mirrors.result = search rules in
     within_more c.args.count c.args.events.now c.loop-event.event-index _ c.loop-event.invariant c.loop-event-test.true
-    (c.is_within.ensures.0 yes)
+    (c.names_mirrors.ensures.0 yes)
 
 pub returns : goal.returns
 returns c = (
