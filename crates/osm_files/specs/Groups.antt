@@ -75,8 +75,7 @@ fresh_reading input reader = record {
 }
 
 -- A source of a sorted file between two calls: where its reading stands, the versions that were read of the next group,
--- and what
--- is left of the group that is given.
+-- and what is left of the group that is given.
 pub record FileStand (R : Type 0) : Type 0 where
   pub units : Position R
   pub group : List VersionData
@@ -205,8 +204,7 @@ abbrev pub list_of : Group → List VersionData
 list_of group = group.first ∷ group.others.items
 
 -- The rest of a group was read, of which some versions had begun it, and the version behind it, which has a key above,
--- or
--- there is none.
+-- or there is none.
 pub record Gathers (input : ℕ) (before : Option (Still Placed Fault)) (begun : List VersionData)
     (after : Option (Still Placed Fault)) (first : VersionData) (others : List VersionData)
     (next : Option VersionData) : Type 0 where

@@ -1,6 +1,5 @@
 -- What an input can still give. That a read of nothing into a buffer that isn't empty means the end of input is the
--- rule
--- of Rust's `std::io::Read`; the rest is an own rule of this project.
+-- rule of Rust's `std::io::Read`; the rest is an own rule of this project.
 use Rattle.std.proofs.Common.{sym, refl, append-nil}
 use Rattle.std.specs.Prelude.{◌≡◌, ℕ, Bool, true, false, List, [], ◌++◌, length, Option, Some, None}
 
@@ -36,8 +35,7 @@ GaveMore can before after held more count = (front : List ℕ) × Gave can befor
     × (length front ≡ count)
 
 -- A reader of std with these bytes left can give them all and end, or give a front of them and fail. Where it isn't
--- known what
--- is left, it can give anything.
+-- known what is left, it can give anything.
 abbrev pub CanGive : Option (List ℕ) → Coming → Type 0
 CanGive None c = Unit {0}
 CanGive (Some left) c = (behind : List ℕ) × (left ≡ c.bytes ++ behind) × (c.broken ≡ false → behind ≡ [])

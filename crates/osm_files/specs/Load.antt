@@ -43,8 +43,7 @@ pub record Loads (c : Coming) (loaded : Loaded) : Type 0 where
   pub sorted : IsTrue loaded.sorted ↔ HoldsSorted c.bytes loaded.history
 
 -- an input was read to its end: none of its units is refused, these are its versions, in this order, this is its
--- format, and this
--- is whether it is sorted
+-- format, and this is whether it is sorted
 pub record IsRead (input : ℕ) (c : Coming) (versions : List VersionData) (format : Format)
     (sorted : Bool) : Type 0 where
   pub unrefused : (named input (units_from None 0 c)).refusal ≡ None
@@ -53,8 +52,7 @@ pub record IsRead (input : ℕ) (c : Coming) (versions : List VersionData) (form
   pub rises : IsTrue sorted ↔ IsSorted key_cmp versions
 
 -- A source of this input's file was opened, and its format told: whatever it can give, the reader could give a file of
--- this
--- format, of which it gives what a sorted file's source does.
+-- this format, of which it gives what a sorted file's source does.
 abbrev pub Opens : {R : Type 0} → (R → Coming → Type 0) → ℕ → R → Format → FileStand R → Type 0
 Opens can input reader format s = Explained (can reader) (FileCanGive can s)
     (λ c still. (format ≡ format_of c.bytes) × (still ≡ sorted_source input c))

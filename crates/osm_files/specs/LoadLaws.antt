@@ -1,6 +1,5 @@
 -- Laws of inputs: one that ends has the verdict of its bytes, and so has one that fails behind a faulty unit that
--- stands whole;
--- and of the reasons of verdicts.
+-- stands whole; and of the reasons of verdicts.
 use Rattle.std.specs.Prelude.{◌≡◌, ◌⊎◌, ℕ, ◌<◌, ◌≤◌, ◌^◌, Bool, true, false, List, length, Some, None, option_map}
 use Rattle.osm_model.specs.VersionSet.{VersionSet}
 use Rattle.osm_files.specs.declared.format.Format.{Format}
@@ -37,8 +36,7 @@ abbrev pub broken_behind : List ℕ → Coming
 broken_behind bytes = record { bytes = bytes; broken = true }
 
 -- An input with an error behind its bytes is refused with the verdict of the bytes where they are too many, or where a
--- unit
--- that stands whole in them is faulty; else for the error, at their number.
+-- unit that stands whole in them is faulty; else for the error, at their number.
 abbrev pub BrokenInputsAreRefused : Type 0
 BrokenInputsAreRefused = (bytes : List ℕ) →
     (2 ^ 62 ≤ length bytes × ((units_from None 0 (broken_behind bytes)).refusal ≡ verdict bytes))

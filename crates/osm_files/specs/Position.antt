@@ -13,10 +13,8 @@ use Rattle.osm_files.specs.Units.{Stand, units, unit, unit_at, start_of}
 use Rattle.osm_files.specs.Verdict.{length_limit, too_long}
 
 -- the place in the file of the first byte that is held, the bytes that are held, and what is to come behind them: the
--- reader
--- that gives it, or what it gives; where the reading stands, which isn't known before the first byte; whether the input
--- has
--- ended, and whether a call was refused
+-- reader that gives it, or what it gives; where the reading stands, which isn't known before the first byte; whether
+-- the input has ended, and whether a call was refused
 pub record Position (C : Type 0) : Type 0 where
   pub input : ℕ
   pub place : ℕ
@@ -56,8 +54,7 @@ telling p c = record {
 }
 
 -- whatever can come behind the later position is explained by something that could come behind the earlier one: if that
--- was to
--- come, the step led from the one to the other
+-- was to come, the step led from the one to the other
 abbrev pub Between : {R : Type 0} → (R → Coming → Type 0) → Position R → Position R → (Told → Told → Type 0) → Type 0
 Between can p q step = Explained (can p.coming) (can q.coming)
     (λ earlier later. step (telling p earlier) (telling q later))

@@ -33,8 +33,7 @@ IsGood (Lines last) = Unit {0}
 IsGood (DataSets encoder) = encoder.failed ≡ false
 
 -- a sink between two calls: its format and number, the kind written last and the state of its encoder, how many bytes
--- it
--- has written, and whether it has begun, ended or failed
+-- it has written, and whether it has begun, ended or failed
 pub record SinkState : Type 0 where
   pub format : Format
   pub number : ℕ

@@ -37,8 +37,7 @@ WholeSourceIsHeld = (input : ℕ) (bytes : List ℕ) → (sorted_source input (a
     HoldsSorted bytes (from_list {R = version_cmp} (sorted_source input (all_of bytes)).list)
 
 -- The verdict of the units that stand whole in these bytes, on their order too, where this verdict stands in place of
--- the
--- file's end; it is no other, where none of these units is faulty.
+-- the file's end; it is no other, where none of these units is faulty.
 abbrev pub verdict_within : Verdict → List ℕ → Option Verdict
 verdict_within close bytes = let us = units (Some close) (start_of bytes) 0 bytes in
     sorted_verdict us.refusal None us.list
@@ -48,8 +47,7 @@ abbrev pub IsFaultyWithin : List ℕ → Verdict → Type 0
 IsFaultyWithin bytes fault = (close : Verdict) → verdict_within close bytes ≡ Some fault
 
 -- where an error follows the bytes, their source ends with the verdict of the units that stand whole in them, and else,
--- as
--- none of these is faulty, with the error behind the last byte
+-- as none of these is faulty, with the error behind the last byte
 abbrev pub BrokenSourceEnds : Type 0
 BrokenSourceEnds =
     (input : ℕ) (bytes : List ℕ) → length bytes < 2 ^ 62 →

@@ -1,6 +1,5 @@
 -- The one file that is written for a set of versions (lines: the Osmium OPL file format manual; headers, data sets and
--- the
--- end byte: the OSM wiki's page on o5m). That it is one file alone is an own rule of this project.
+-- the end byte: the OSM wiki's page on o5m). That it is one file alone is an own rule of this project.
 use Rattle.std.specs.Prelude.{ℕ, List, [], ◌∷◌, ◌++◌}
 use Rattle.osm_model.specs.Data.{VersionData, kind_of}
 use Rattle.osm_model.specs.Line.{line}

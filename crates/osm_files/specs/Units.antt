@@ -138,8 +138,7 @@ unit_then close stand place bytes more (Some u) =
     found_then place u.found (λ next. more next (place + u.size) (drop u.size bytes))
 
 -- The units of these bytes, of which each has at least one, where a reading stands at this place of a file. The bytes
--- are
--- the file's last ones, or they are closed by a verdict, and then only the units count that stand whole.
+-- are the file's last ones, or they are closed by a verdict, and then only the units count that stand whole.
 abbrev pub units_within : ℕ → Option Verdict → Stand → ℕ → List ℕ → Still Placed Verdict
 units_within zero close stand place bytes = closed close place (last_at stand bytes)
 units_within (suc most) close stand place bytes =

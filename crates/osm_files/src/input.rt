@@ -14,8 +14,7 @@ pub struct Broken;
 /// A source of bytes.
 pub trait Input {
     /// It can still give this. Of an input that tells what is to come there is one such; what one that tells nothing
-    /// gives is
-    /// seen only as it is read.
+    /// gives is seen only as it is read.
     ghost can_give: { Self → Coming → Type 0 };
 
     /// One of these.

@@ -27,14 +27,12 @@ pub struct Loaded {
 }
 
 /// What the file holds that an input gives. It may be of any format, and its versions may stand in any order. The input
-/// has this
-/// number.
+/// has this number.
 ///
 /// # Errors
 ///
 /// The place and the reason of the first faulty unit; `ReadFault` where the input fails and no unit that stands whole
-/// before is
-/// faulty; or `Memory`.
+/// before is faulty; or `Memory`.
 pub fn load_any<R: Input + Drop>(alloc: Global, input: usize, reader: R) -> Result<Loaded, Fault>
     ensures loaded { IfOk result (λ loaded. GivesOne (R.can_give reader) (λ c. Loads c loaded)) }
     ensures refused { IfErr result (λ fault. GivesOne (R.can_give reader) (λ c. StopsLoading input c fault)) }

@@ -27,8 +27,7 @@ pub struct SortedRun {
 }
 
 /// The bytes of a file that determine whether a run of it may be split at an offset. A byte is none if the file has
-/// none
-/// there.
+/// none there.
 #[derive(Clone, Copy, Debug, PartialEq, Eq)]
 pub struct BytesAtSplit {
     /// The byte at the run's start.
@@ -67,8 +66,7 @@ impl SortedRun {
     }
 
     /// The offset in the file of the byte at this offset of the run. A byte of the header that is read before the part
-    /// has
-    /// the part's start.
+    /// has the part's start.
     pub fn offset_in_file(self, offset: u64) -> u64
         ensures { self.start + offset < 2 ^ 64 → result ≡ self.start + (offset - length (spec.bytes_before self)) }
     {
@@ -77,16 +75,12 @@ impl SortedRun {
     }
 
     /// Splits the run before the byte at this offset of the file, and returns the front and the rest. OPL is split
-    /// after the
-    /// end of a line. o5 is split after a reset, which the end byte replaces in the front. `bytes` determine whether
-    /// the run
-    /// may be split. The rest of OPL must not begin with `ff`, since it would be read as o5.
+    /// after the end of a line. o5 is split after a reset, which the end byte replaces in the front. `bytes` determine
+    /// whether the run may be split. The rest of OPL must not begin with `ff`, since it would be read as o5.
     ///
     /// `bytes` don't determine whether a byte `ff` of o5 is a reset. It may be within a data set, or the last byte of
-    /// one
-    /// that is skipped. It is a reset if the front can be read as a file. So the caller reads the front before it uses
-    /// the
-    /// two runs.
+    /// one that is skipped. It is a reset if the front can be read as a file. So the caller reads the front before it
+    /// uses the two runs.
     pub fn split(self, offset: u64, bytes: BytesAtSplit) -> Option<(SortedRun, SortedRun)>
         ensures value { result ≡ spec.split_run self offset bytes }
         ensures split { IfSome result (λ two. (file : List ℕ) → spec.HasBytes file self.start offset bytes

@@ -43,8 +43,7 @@ impl SplitFile {
     }
 
     /// Splits the rest before the byte at this offset of the file, and returns the run that was split off. It returns
-    /// none
-    /// if the rest can't be split there (`SortedRun::split`).
+    /// none if the rest can't be split there (`SortedRun::split`).
     ///
     /// A file that has the bytes of all calls is split into the runs. If each run is a sorted file, a merge of the runs
     /// writes what is written of the file.

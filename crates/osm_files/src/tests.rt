@@ -227,8 +227,7 @@ fn cut_file(rt: HostRuntime) {
 }
 
 /// What a file gives of a node with a tag of the key k and `letters` letters, whose data set has this length, and of a
-/// node
-/// with the same tag by reference.
+/// node with the same tag by reference.
 fn long_tag_text(alloc: Global, length: &[u8], letters: usize) -> String {
     let mut file = Vec::new(alloc);
     let _ = file.extend_from_slice(b"\xff\xe0\x04o5m2\x10");

@@ -22,8 +22,7 @@ use Rattle.osm_merge.specs.ToCome.{VersionsToCome, coming_at}
 use Rattle.osm_merge.specs.Union.{versions_of, union_given, capped}
 
 -- What `compared` may be, of k sources that gave n versions: at most k - 1 + n * (depth + 1), for the least depth with
--- k up to
--- 2^depth, and for each greater one; and at least so few. Of no source it is 0.
+-- k up to 2^depth, and for each greater one; and at least so few. Of no source it is 0.
 pub record IsBoundedFrom (few sources given compared : ℕ) : Type 0 where
   pub most : (depth : ℕ) → sources ≤ 2 ^ depth → compared ≤ (sources - 1) + given * (depth + 1)
   pub least : capped few ≤ compared
@@ -75,8 +74,7 @@ written_so_far format [] = []
 written_so_far format (v ∷ versions) = spelled_open format (v ∷ versions)
 
 -- what is written of these versions where a source is refused behind its last one: what is put once those up to it are
--- met;
--- nothing, where the source gives none
+-- met; nothing, where the source gives none
 abbrev pub written_before : Selection → Format → Option VersionData → List VersionData → List ℕ
 written_before All format last versions = written_so_far format (up_to last versions)
 written_before selection format None versions = []
@@ -94,8 +92,7 @@ pub record IsSourceFaultAs (selection : Selection) (all : List VersionsToCome) (
       Appends change (written_before selection format last (listed (union_given all)))
 
 -- Why a merge was refused: memory was refused, or the output failed, or the file of what is selected has 2^62 bytes or
--- more, in
--- each of which cases a front of that file was written; or a source is refused.
+-- more, in each of which cases a front of that file was written; or a source is refused.
 abbrev pub IsRefusedAs : Selection → List VersionsToCome → Format → ℕ → Change → Fault → Type 0
 IsRefusedAs selection all format output change fault =
     CutShort output change (spell format (selected selection (union_given all))) fault

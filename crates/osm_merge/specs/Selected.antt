@@ -25,8 +25,7 @@ abbrev pub beats : VersionData → VersionData → Bool
 beats v w = is_eq (object_cmp v w) && is_lt (version_cmp v w)
 
 -- The snapshot: each version such that the set has no greater version of the same object. A deletion counts like any
--- other
--- version. It is the newest version of each object, as after osmium's apply-changes, deletions still in it.
+-- other version. It is the newest version of each object, as after osmium's apply-changes, deletions still in it.
 abbrev pub snapshot : VersionSet → VersionSet
 snapshot s = retain s (λ v. not (list_any (beats v) (listed s)))
 
@@ -39,8 +38,7 @@ abbrev pub is_by : ℕ → VersionData → Bool
 is_by t v = nat_le (moment v) t
 
 -- The state at a moment: the snapshot of the versions that were there by then. Without its deletions it is the map as
--- it
--- stood at that moment, as of osmium's time-filter with one time.
+-- it stood at that moment, as of osmium's time-filter with one time.
 abbrev pub at : VersionSet → ℕ → VersionSet
 at s t = snapshot (retain s (is_by t))
 
@@ -49,15 +47,13 @@ abbrev pub next_in : VersionSet → VersionData → Option VersionData
 next_in s v = least (retain s (beats v))
 
 -- A version of the time `start`, the next one of whose object has the time `end`, stands at `from` or later: there is
--- no next
--- one, or it came after `from`, or both have one time and it isn't below `from`.
+-- no next one, or it came after `from`, or both have one time and it isn't below `from`.
 abbrev pub lasts : (from start : ℕ) → Option ℕ → Bool
 lasts from start None = true
 lasts from start (Some end) = nat_lt from end || (end == start && nat_le from end)
 
 -- A period: each version with a time below `to` that stands at `from` or later. Deletions are kept like other versions.
--- It is
--- the history of the map from one moment up to another, as of osmium's time-filter with two times.
+-- It is the history of the map from one moment up to another, as of osmium's time-filter with two times.
 abbrev pub between : VersionSet → (from to : ℕ) → VersionSet
 between s from to = retain s (λ v. nat_lt (moment v) to && lasts from (moment v) (option_map moment (next_in s v)))
 

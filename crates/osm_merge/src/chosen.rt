@@ -29,8 +29,7 @@ pub fn at(alloc: Global, history: &History, time: u32) -> Result<History, Memory
 }
 
 /// The versions, deletions too, that came before `to` and stood at `from` or later. A version stands until the next one
-/// of
-/// its object; without a time it came at 0.
+/// of its object; without a time it came at 0.
 pub fn between(alloc: Global, history: &History, from: u32, to: u32) -> Result<History, Memory>
     ensures { IfOk result (λ h. h ≡ set.between history.now from to) }
 {

@@ -1,6 +1,5 @@
 //! The streaming merge: what is selected of the union of what sources give, written by a tournament over one version of
-//! each;
-//! and what is selected of a history.
+//! each; and what is selected of a history.
 #![tactic(auto)]
 
 mod chosen;

@@ -9,8 +9,7 @@ use crate::selection::{Selection, keeps};
 use osm_model::{History, Version};
 
 /// The newest version of each object, deletions too, of a history that is given away. It takes no memory: the versions
-/// that
-/// stay are moved, and the others let go.
+/// that stay are moved, and the others let go.
 pub fn into_snapshot(history: History) -> History
     ensures { result ≡ set.snapshot history }
 {

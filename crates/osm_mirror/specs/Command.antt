@@ -41,10 +41,8 @@ abbrev pub any : Coming → Order × Coming
 any c = (Any, c)
 
 -- Why a command was refused: memory was refused before anything was written; or an input can't be read, and nothing was
--- written;
--- or all inputs are files, and a front of the one spelling of what was chosen of the union of the sets that they hold
--- was
--- appended: as many bytes as the place says, where the output failed.
+-- written; or all inputs are files, and a front of the one spelling of what was chosen of the union of the sets that
+-- they hold was appended: as many bytes as the place says, where the output failed.
 abbrev pub IsNotWritten : {O : Type 0} → Ghosts O → (VersionSet → VersionSet) → List Coming → Format → O → O → Fault
     → Type 0
 IsNotWritten output choice inputs format before after fault =

@@ -28,8 +28,7 @@ AreKept mirrors = (m : ℕ) → m < length mirrors → IsKept (at mirrors m)
 
 -- ---- one event
 -- What the mirrors hold behind an event that got this reply: one took a file; or what another one holds; or a new one
--- took
--- what it held, and stands in its place. A refused event changes none.
+-- took what it held, and stands in its place. A refused event changes none.
 abbrev pub behind : List MirrorData → Event → Reply → List MirrorData
 behind mirrors (Take m file) Taken = slice_set mirrors m (took (at mirrors m) (held_by file.now))
 behind mirrors (Pass from to format) Taken = slice_set mirrors to (took (at mirrors to) (at mirrors from).held)
@@ -73,8 +72,7 @@ pub data Source : Type 0 where
   File : (bytes : List ℕ) → Source
 
 -- the sources that reached a mirror; and whether it is purely full: full, and each Pass to it came from a mirror that
--- was
--- purely full then
+-- was purely full then
 pub record Track : Type 0 where
   pub reach : List Source
   pub pure : Bool
@@ -132,8 +130,7 @@ abbrev pub IsPart : VersionSet → VersionSet → Type 0
 IsPart s t = (v : VersionData) → contains s v ≡ true → contains t v ≡ true
 
 -- Of the union of all that reached a mirror it holds no more than that, with the same snapshot; a latest mirror exactly
--- the
--- snapshot, and a purely full one the whole.
+-- the snapshot, and a purely full one the whole.
 pub record HoldsOf (all : VersionSet) (pure : Bool) (m : MirrorData) : Type 0 where
   pub holds_no_more : IsPart m.held all
   pub same_snapshot : snapshot m.held ≡ snapshot all

@@ -19,8 +19,7 @@ abbrev pub AreEmpty : List MirrorData → Type 0
 AreEmpty mirrors = (m : ℕ) → (at mirrors m).held ≡ empty
 
 -- Two latest mirrors of a new fleet that the same files reached, whichever mirrors these came through and however
--- often,
--- hold the same after the run, and write the same bytes in each format.
+-- often, hold the same after the run, and write the same bytes in each format.
 abbrev pub LatestMirrorsAgree : Type 0
 LatestMirrorsAgree =
     (old new : List MirrorData) (events : List Event) (replies : List Reply) → Converges old events replies new →
@@ -31,8 +30,7 @@ LatestMirrorsAgree =
     spell format (at new m).held ≡ spell format (at new n).held)
 
 -- Two full mirrors of a new fleet that the same files reached, through full ones alone, hold the same after the run,
--- and write
--- the same bytes in each format.
+-- and write the same bytes in each format.
 abbrev pub FullMirrorsAgree : Type 0
 FullMirrorsAgree =
     (old new : List MirrorData) (events : List Event) (replies : List Reply) → Converges old events replies new →

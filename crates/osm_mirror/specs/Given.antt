@@ -76,8 +76,7 @@ IsRead (Sorted, c) = Unit {0}
 IsRead (Any, c) = (held : VersionSet) × GivesFile c held
 
 -- A source of this file was opened, the input of this number: whatever it can give, the file could give something of
--- which it
--- gives what the file's source does; one of any order is a file.
+-- which it gives what the file's source does; one of any order is a file.
 abbrev pub IsOpened : {R : Type 0} → (R → Coming → Type 0) → ℕ → InputFile R → RunSource R → Type 0
 IsOpened can number file source = Explained (FileGives can file) (SourceCanGive can source)
     (λ input still. (still ≡ source_of number input) × IsRead input)

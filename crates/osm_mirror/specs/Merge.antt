@@ -46,8 +46,7 @@ opened number [] = []
 opened number (reader ∷ inputs) = opened_file number reader ∷ opened (number + 1) inputs
 
 -- Why a merge was refused: memory was refused, the output failed, or the file would be too long, with a front of the
--- file
--- appended; or it is the refusal of an input, and what stands before it was written.
+-- file appended; or it is the refusal of an input, and what stands before it was written.
 abbrev pub IsRefused : List Coming → Format → Change → Fault → Type 0
 IsRefused inputs format change fault = merged.RefusesSources (sources 0 inputs) format (length inputs) change fault
 

@@ -21,8 +21,7 @@ files_of (file bytes others) = bytes ∷ files_of others
 files_of (merged format inputs others) = files_of inputs ++ files_of others
 
 -- Inputs hold these sets, one each: each is a sorted file; one that a merge wrote is the one spelling of the union of
--- what the
--- inputs of that merge hold.
+-- what the inputs of that merge hold.
 abbrev pub Hold : Inputs → List VersionSet → Type 0
 Hold none [] = Unit {0}
 Hold none (set ∷ held) = ⊥
@@ -37,8 +36,7 @@ abbrev pub SameFiles : List (List ℕ) → List (List ℕ) → Type 0
 SameFiles files others = (bytes : List ℕ) → Contains files bytes ↔ Contains others bytes
 
 -- Merges of the same files write the same bytes: in whatever order the files come, in whatever groups they are merged
--- first, in
--- whatever formats, and however often each is among them.
+-- first, in whatever formats, and however often each is among them.
 abbrev pub MergesOfTheSameFiles : Type 0
 MergesOfTheSameFiles =
     (inputs others : Inputs) (held sets : List VersionSet) → Hold inputs held → Hold others sets →

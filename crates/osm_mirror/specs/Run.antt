@@ -36,9 +36,8 @@ pub record IsRun (selection : Selection) (inputs : List (Order × Coming)) (form
       merged.IsBoundedFrom (merged.few_of selection given) (length inputs) given counts.compared
 
 -- Why a run was refused: memory was refused before anything was written; or an input of any order can't be read, and
--- nothing
--- was written; or all of those were read, and then the merge was refused. Where nothing was written, the output is as
--- it was.
+-- nothing was written; or all of those were read, and then the merge was refused. Where nothing was written, the output
+-- is as it was.
 abbrev pub IsRunRefused : {O : Type 0} → Ghosts O → Selection → List (Order × Coming) → Format → O → O → Fault → Type 0
 IsRunRefused output selection inputs format before after fault =
     ((fault ≡ memory_fault) × (after ≡ before))
@@ -47,8 +46,7 @@ IsRunRefused output selection inputs format before after fault =
     × merged.IsRefusedAs selection (sources 0 inputs) format (length inputs) (change_of output before after) fault)
 
 -- Of files of the order that was asked for no input is refused, and a front of the one spelling of what is selected of
--- the
--- union of the sets that they hold was appended: as many bytes as the place says, where the output failed.
+-- the union of the sets that they hold was appended: as many bytes as the place says, where the output failed.
 abbrev pub IsRunCutShort : Selection → List (Order × Coming) → Format → Change → Fault → Type 0
 IsRunCutShort selection inputs format change fault =
     (held : List VersionSet) → Pairwise GivesAs inputs held

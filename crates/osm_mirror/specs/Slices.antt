@@ -16,8 +16,7 @@ use Rattle.osm_merge.specs.Slice.{object_order, slice_of, spans, slices, IsWithi
 use Rattle.osm_mirror.specs.Merge.{union_of}
 
 -- A file that is split into sorted files, each within its span, is sorted. It holds the union of what they hold, and
--- each of
--- them holds its slice of that.
+-- each of them holds its slice of that.
 abbrev pub SlicesHoldTheFile : Type 0
 SlicesHoldTheFile =
     (bounds : List Object) (bytes : List ℕ) (pieces : List (List ℕ)) (held : List VersionSet) → length bytes < 2 ^ 62
@@ -29,8 +28,7 @@ abbrev pub AreSlicesWithin : List VersionSet → Span → List VersionSet → Ty
 AreSlicesWithin sets span sliced = sliced ≡ map (slice_of span.from span.to) sets
 
 -- One run for each span, over the slices of some sets, writes what one run over the sets writes: its OPL files, one
--- after the
--- other, are the OPL file of the one run.
+-- after the other, are the OPL file of the one run.
 abbrev pub SlicesWriteTheRun : Type 0
 SlicesWriteTheRun =
     (selection : Selection) (bounds : List Object) (sets : List VersionSet) (runs : List (List VersionSet))

@@ -58,8 +58,7 @@ pub fn run_check<R: Input + Drop>(alloc: Global, input: R) -> Result<CheckReport
 /// # Errors
 ///
 /// The place and the reason of the first unit that is faulty or whose key is below that of the one before it, ReadFault
-/// where
-/// the input fails, or Memory.
+/// where the input fails, or Memory.
 pub fn run_check_sorted<R: Input + Drop>(alloc: Global, input: R) -> Result<CheckReport, Fault>
     ensures report { IfOk result (λ report. GivesOne (R.can_give input) (λ c. Reports c report)) }
     ensures sorted { IfOk result (λ report. report.sorted ≡ true) }

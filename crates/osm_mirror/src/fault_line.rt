@@ -11,8 +11,7 @@ use osm_model::Memory;
 use std::alloc::Global;
 
 /// The line of a fault, without its end: `NAME: PLACE: REASON`, with the name of the input at the fault's number, or
-/// that
-/// of the output where there are no more inputs than that number; `out of memory` for want of memory.
+/// that of the output where there are no more inputs than that number; `out of memory` for want of memory.
 ///
 /// # Errors
 ///

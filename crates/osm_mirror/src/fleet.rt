@@ -74,14 +74,11 @@ impl Fleet {
     }
 
     /// Lets these events happen, one after the other, and answers a reply for each. Every mirror number is below the
-    /// number
-    /// of mirrors.
+    /// number of mirrors.
     ///
     /// Whatever the events are, in any order, with repeats and refusals: afterwards each mirror's snapshot is that of
-    /// all
-    /// that reached it. A latest mirror holds that snapshot exactly, and a full one all that reached it, as long as no
-    /// latest
-    /// one passed to it. A Pass and a Restart go through the bytes of the format, as between machines.
+    /// all that reached it. A latest mirror holds that snapshot exactly, and a full one all that reached it, as long as
+    /// no latest one passed to it. A Pass and a Restart go through the bytes of the format, as between machines.
     ///
     /// # Errors
     ///

@@ -1,14 +1,12 @@
 //! Laws of merges, fleets and files that are split, each the contract of a function with an empty body. Nothing is run
-//! to
-//! use them.
+//! to use them.
 ghost use Rattle.osm_mirror.specs.FleetLaws.{LatestMirrorsAgree, FullMirrorsAgree};
 ghost use Rattle.osm_mirror.specs.Merges.{MergesOfTheSameFiles};
 ghost use Rattle.osm_mirror.specs.Slices.{SlicesHoldTheFile, SlicesWriteTheRun};
 ghost use Rattle.osm_mirror.specs.SortedRuns.{SortedRunsHoldTheFile, SortedRunsWriteTheFile};
 
 /// Merges of the same files write the same bytes, in whatever order the files come, in whatever groups they are merged
-/// first, in
-/// whatever formats, and however often each is among them.
+/// first, in whatever formats, and however often each is among them.
 pub fn merges_of_the_same_files()
     ensures { MergesOfTheSameFiles }
 {}
@@ -20,8 +18,7 @@ pub fn latest_mirrors_agree()
 {}
 
 /// Two full mirrors of a new fleet that the same files reached, through full ones alone, hold the same, and write the
-/// same bytes
-/// in one format.
+/// same bytes in one format.
 pub fn full_mirrors_agree()
     ensures { FullMirrorsAgree }
 {}

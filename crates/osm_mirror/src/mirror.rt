@@ -16,8 +16,7 @@ use std::alloc::Global;
 use std::marker::Model;
 
 /// A copy of the map, in memory: a full one holds the whole history that reached it, a latest one the newest version of
-/// each
-/// object.
+/// each object.
 ///
 /// Whatever files mirrors take, in any order and however often, each mirror's snapshot is that of all that reached it.
 #[derive(Drop)]
@@ -96,8 +95,7 @@ impl Mirror {
     }
 
     /// Takes what a file holds, which may be of any format, its versions in any order. A full mirror then holds the
-    /// union
-    /// of what it held and what the file holds, a latest one the snapshot of that union.
+    /// union of what it held and what the file holds, a latest one the snapshot of that union.
     ///
     /// What is held already isn't copied. The file is read first, and all memory taken, so that a refusal changes
     /// nothing.
@@ -105,8 +103,7 @@ impl Mirror {
     /// # Errors
     ///
     /// The place and the reason of the file's first faulty unit, the file being the input 0; or Memory. The mirror
-    /// stays
-    /// as it was.
+    /// stays as it was.
     pub fn take(&mut self, file: &[u8]) -> Result<Taken, Fault>
         ensures taken { IfOk result (spec.TakesFile file.now self.old self.new) }
         ensures refused { IfErr result (spec.WhyNotTaken file.now) }

@@ -538,8 +538,7 @@ fn check_and_cut(rt: HostRuntime) {
 }
 
 /// What runs return over three files of which the second is cut, and how many bytes they write. The first and the third
-/// file are
-/// streamed in the second run.
+/// file are streamed in the second run.
 fn cut_text(alloc: Global, format: Format) -> String {
     let mut text = String::new(alloc);
     let mut out = VecOut::new(alloc);

@@ -216,10 +216,8 @@ const N7: &[u8] = b"n7 v1 dV c0 t i0 u T x1 y1\n";
 const N8: &[u8] = b"n8 v1 dV c0 t i0 u T x1 y1\n";
 
 /// Sources, and the least and the most comparisons of their merge. Of two sources with the same three versions five
-/// games are
-/// played, and three versions are compared with the one put last, as the first has none before it, and two of the
-/// others are
-/// known to repeat one.
+/// games are played, and three versions are compared with the one put last, as the first has none before it, and two of
+/// the others are known to repeat one.
 const COMPARISONS: &[(&[&[&[u8]]], u64, u64)] = &[
     (&[], 0, 0),
     (&[&[FIRST, SECOND]], 1, 2),

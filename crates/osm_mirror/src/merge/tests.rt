@@ -590,8 +590,7 @@ fn a_reader_that_fails_is_named(rt: HostRuntime) {
 }
 
 /// What a merge in this format writes of `count` files that hold the same versions, in each format by turns, the first
-/// one being
-/// the one at this place.
+/// one being the one at this place.
 fn in_turns(
     alloc: Global,
     files: [&[u8]; 3],
