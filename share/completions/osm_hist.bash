@@ -17,7 +17,8 @@ _osm_hist_options() {
     merge) echo --output -o --format -f --fsync --progress --help -h ;;
     apply) echo --output -o --format -f --fsync --progress --with-history --sorted --help -h ;;
     time-filter | sort) echo --output -o --format -f --fsync --progress --sorted --help -h ;;
-    check | plan) echo --help -h ;;
+    check) echo --sorted --help -h ;;
+    plan) echo --help -h ;;
     '') echo --help -h --version -V ;;
     esac
 }

@@ -21,4 +21,4 @@ complete -c osm_hist -n "__fish_seen_subcommand_from $writing" -s f -l format -x
 complete -c osm_hist -n "__fish_seen_subcommand_from $writing" -l fsync -d 'Have it on the disk before it is renamed'
 complete -c osm_hist -n "__fish_seen_subcommand_from $writing" -l progress -d 'Tell while it runs how much was read and written'
 complete -c osm_hist -n "__fish_seen_subcommand_from apply" -l with-history -d 'Write all versions'
-complete -c osm_hist -n "__fish_seen_subcommand_from apply time-filter sort" -l sorted -d 'Refuse a file that is not sorted'
+complete -c osm_hist -n "__fish_seen_subcommand_from apply time-filter sort check" -l sorted -d 'Refuse a file that is not sorted'

@@ -59,7 +59,7 @@ where
 {
     match Request::parse(rt.alloc(), words)? {
         Request::Files(run) => running::run_files(rt, &run, input, out, err),
-        Request::Check(check) => checking::check_file(rt, &check, input, out),
+        Request::Check(check) => checking::check_files(rt, &check, input, out, err),
         Request::Plan(run) => planning::run_plan(rt, &run, out),
         Request::Help(text) => print(out, &text),
     }

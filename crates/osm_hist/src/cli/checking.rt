@@ -1,4 +1,4 @@
-//! Checking a file.
+//! Checking files.
 use super::files::{Stream, input_name, open, open_word};
 use super::print;
 use super::refusal::Refusal;
@@ -9,36 +9,80 @@ use std::alloc::Global;
 use std::io::{Read, Write};
 use std::rt::Files;
 
-/// Prints what a file holds, and whether it is sorted.
-pub(super) fn check_file<'a, R: Files + AllocGlobal, I: Read + Drop, O: Write>(
+/// Prints what each of the files holds, and whether it is sorted. The refusal of a file is reported, and the files after it are
+/// still checked; the last refusal is returned.
+pub(super) fn check_files<'a, R: Files + AllocGlobal, I: Read + Drop, O: Write, E: Write>(
     rt: &R,
     check: &FileCheck<'a>,
     input: I,
     out: &mut O,
+    err: &mut E,
 ) -> Result<(), Refusal<'a>> {
-    let report = report_of(rt, check.file, input)?;
+    let mut input = Some(input);
+    let mut last = None;
+    for word in &check.files {
+        let outcome = match report_of(rt, check, *word, &mut input) {
+            Ok(report) => print_report(rt.alloc(), check, *word, &report, out),
+            Err(refusal) => Err(refusal),
+        };
+        if let Err(refusal) = outcome {
+            let cannot_print = matches!(refusal, Refusal::StandardOutput);
+            report_refusal(last.replace(refusal), err);
+            if cannot_print {
+                break;
+            }
+        }
+    }
+    match last {
+        Some(refusal) => Err(refusal),
+        None => Ok(()),
+    }
+}
+
+/// Writes the line of a refusal, if there is one.
+fn report_refusal<'a, E: Write>(refusal: Option<Refusal<'a>>, err: &mut E) {
+    if let Some(refusal) = refusal {
+        refusal.report(err);
+    }
+}
+
+/// Prints what a file holds. Of several files the line begins with the name.
+fn print_report<'a, O: Write>(
+    alloc: Global,
+    check: &FileCheck<'a>,
+    word: &'a str,
+    report: &CheckReport,
+    out: &mut O,
+) -> Result<(), Refusal<'a>> {
     let order = if report.sorted { "sorted" } else { "unsorted" };
     let format = report.format.name();
     let (versions, objects) = (report.versions, report.objects);
-    let line = format!(in rt.alloc();
-        "{format}: {versions} versions, {objects} objects, {order}\n"
+    let (name, mark) = if check.files.len() > 1 {
+        (input_name(word), ": ")
+    } else {
+        ("", "")
+    };
+    let line = format!(in alloc;
+        "{name}{mark}{format}: {versions} versions, {objects} objects, {order}\n"
     )?;
     print(out, &line)
 }
 
-/// What a check tells of a file. It is held only where it isn't sorted or can't be read again.
+/// What a file holds. It is held in memory only where it isn't sorted or can't be read again, and where an unsorted file is not
+/// refused.
 fn report_of<'a, R: Files + AllocGlobal, I: Read + Drop>(
     rt: &R,
+    check: &FileCheck<'a>,
     word: &'a str,
-    input: I,
+    input: &mut Option<I>,
 ) -> Result<CheckReport, Refusal<'a>> {
-    let file = open_word(rt, word, &mut Some(input))?;
-    if !file.can_be_read_again() {
+    let file = open_word(rt, word, input)?;
+    if !check.sorted && !file.can_be_read_again() {
         return report_of_held(rt.alloc(), word, file);
     }
     match run_check_sorted(rt.alloc(), FromRead::new(file)) {
         Ok(report) => Ok(report),
-        Err(fault) if is_unsorted(&fault) => {
+        Err(fault) if is_unsorted(&fault) && !check.sorted => {
             let again: Stream<R::File, I> = Stream::File(open(rt, word)?);
             report_of_held(rt.alloc(), word, again)
         }
@@ -46,7 +90,7 @@ fn report_of<'a, R: Files + AllocGlobal, I: Read + Drop>(
     }
 }
 
-/// What a check tells of a file in any order.
+/// What a file in any order holds.
 fn report_of_held<'a, F: Read + Drop>(
     alloc: Global,
     word: &'a str,
@@ -58,7 +102,7 @@ fn report_of_held<'a, F: Read + Drop>(
     }
 }
 
-/// Whether a file is refused for its order alone.
+/// Whether a file is refused only for its order.
 pub(super) fn is_unsorted(fault: &Fault) -> bool {
     fault.reason == Reason::Unsorted
 }

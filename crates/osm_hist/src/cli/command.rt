@@ -27,8 +27,9 @@ macro_rules! any_order_help {
 
 /// What the help of `check` says of memory, with an example.
 const CHECK: &str =
-    "Memory: a sorted file is read one version at a time. A file that isn't sorted is held in memory, and so is a pipe, which \
-    can't be read twice.\n\nExample: osm_hist check download.o5m";
+    "Of several files each gets a line that begins with its name; where one is refused, the others are still checked.\n\n\
+    Memory: a sorted file is read one version at a time. A file that isn't sorted is held in memory, and so is a pipe, which \
+    can't be read twice. With --sorted none is held.\n\nExample: osm_hist check download.o5m";
 
 /// What the help of `plan` says of the lines of a plan.
 const PLAN: &str =
@@ -127,11 +128,12 @@ fn sort_command<'a>(alloc: Global) -> Made<'a> {
 }
 
 fn check_command<'a>(alloc: Global) -> Made<'a> {
-    let help = "The file to be checked, in OPL, o5m or o5c; - is standard input";
-    Command::new(alloc, "check")
+    let help = "The files to be checked, in OPL, o5m or o5c; - is standard input";
+    let command = Command::new(alloc, "check")
         .about("Prints a file's format, its versions and objects, and whether it is sorted")
         .after_help(CHECK)
-        .arg(required_arg(alloc, "file", "FILE", help))
+        .arg(sorted_arg(alloc));
+    with_arg(command, files_arg(alloc, help))
 }
 
 fn plan_command<'a>(alloc: Global) -> Made<'a> {

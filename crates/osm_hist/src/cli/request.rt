@@ -14,7 +14,7 @@ use std::convert::AsStr;
 pub(super) enum Request<'a> {
     /// Files, of which one is made.
     Files(FileRun<'a>),
-    /// A file, checked.
+    /// Files, each checked.
     Check(FileCheck<'a>),
     /// A plan, run.
     Plan(PlanRun<'a>),
@@ -41,11 +41,13 @@ pub(super) struct FileRun<'a> {
     pub(super) progress: bool,
 }
 
-/// A check of a file.
+/// A check of files, one after the other.
 #[derive(Drop)]
 pub(super) struct FileCheck<'a> {
-    /// Its name.
-    pub(super) file: &'a str,
+    /// Their names.
+    pub(super) files: Vec<&'a str>,
+    /// Whether each of them has to be sorted.
+    pub(super) sorted: bool,
 }
 
 /// A run of a plan.
@@ -101,11 +103,9 @@ impl<'a> Request<'a> {
         matches: &ArgMatches<'a>,
     ) -> Result<Option<Request<'a>>, Refusal<'a>> {
         match matches.subcommand() {
-            Some(("check", words)) => Ok(
-                words
-                    .get_str("file")
-                    .map(|file| Request::Check(FileCheck { file })),
-            ),
+            Some(("check", words)) => {
+                Ok(FileCheck::of_matches(alloc, words)?.map(|check| Request::Check(check)))
+            }
             Some(("plan", words)) => Ok(
                 words
                     .get_str("plan")
@@ -167,6 +167,25 @@ impl<'a> FileRun<'a> {
             })),
             _ => Ok(None),
         }
+    }
+}
+
+impl<'a> FileCheck<'a> {
+    /// The check for which the arguments of `check` ask.
+    fn of_matches(
+        alloc: Global,
+        words: &ArgMatches<'a>,
+    ) -> Result<Option<FileCheck<'a>>, Refusal<'a>> {
+        let Some(files) = words.get_strs("files") else {
+            return Ok(None);
+        };
+        if names_standard_input_twice(files) {
+            return Err(Refusal::StandardInputTwice);
+        }
+        Ok(Some(FileCheck {
+            files: Vec::from_slice(alloc, files)?,
+            sorted: words.get_flag("sorted"),
+        }))
     }
 }
 
