@@ -24,8 +24,9 @@ use std::time::Clock;
 ///
 /// `rt` is the runtime in whose folder the files of the words lie, and `words` are the words after the program's
 /// name. Standard input is `input`, and standard output `out`; without any words the one is merged to the other. Help,
-/// the version, what a check tells and what a plan's events get go to `out` too, and what is told of a run while it goes
-/// on and the line of a refusal to `err`. The status is 0 for success and help, 1 where a file, memory or `out` fails, and 2 where the words are refused.
+/// the version, what a check tells and what a plan's events get go to `out` too, and what is told of a run while it
+/// goes on and the line of a refusal to `err`. The status is 0 for success and help, 1 where a file, memory or `out`
+/// fails, and 2 where the words are refused.
 pub fn run_words<R, S, I, O, E>(rt: &R, words: &[S], input: I, mut out: O, mut err: E) -> u8
 where
     R: Files + Clock + AllocGlobal,

@@ -1,7 +1,8 @@
 //! Calls of the libraries: measured, with memory refused, and over devices that fail.
 //!
-//! The arguments are a call, as `load_any`, and what it is given. A file is given as `@NAME`, as `@NAME:STEP` where a read
-//! gives at most STEP bytes, or as `@NAME:STEP:END` where the file fails after END bytes. The program prints the result of the call.
+//! The arguments are a call, as `load_any`, and what it is given. A file is given as `@NAME`, as `@NAME:STEP` where a
+//! read gives at most STEP bytes, or as `@NAME:STEP:END` where the file fails after END bytes. The program prints the
+//! result of the call.
 //!
 //! `measure` takes a measurement and its amount, and prints what was measured:
 //!
@@ -9,10 +10,12 @@
 //! - `measure lines 100`: megabytes of OPL lines, read and written, beside a plain pass over them.
 //! - `measure read-sets 1000000`: nodes read from data sets.
 //! - `measure write-sets 1000000`: nodes, and a fifth as many ways, written as data sets.
-//! - `measure take 1000000`: a file of 10,000 changes taken by mirrors that hold that number of versions, and runs of a fleet.
+//! - `measure take 1000000`: a file of 10,000 changes taken by mirrors that hold that number of versions, and runs of a
+//! fleet.
 //! - `measure file map.opl`: the units of a file only, through a source, and by `load_any`.
 //!
-//! Without arguments the program takes each measurement of a small amount, and then prints the names of the calls, one a line.
+//! Without arguments the program takes each measurement of a small amount, and then prints the names of the calls, one
+//! a line.
 #![tactic(auto)]
 
 use crate::given::Given;

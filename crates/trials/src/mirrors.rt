@@ -71,8 +71,8 @@ fn copy(alloc: Global, given: &Given) -> Result<Vec<u8>> {
     Ok(full(alloc, given)?.copy()?.write(Format::Opl)?)
 }
 
-/// What two latest mirrors answer that take a file each, pass to each other, and take the first file again, and what they
-/// hold then; and what they hold when all of it has happened once more.
+/// What two latest mirrors answer that take a file each, pass to each other, and take the first file again, and what
+/// they hold then; and what they hold when all of it has happened once more.
 fn run(alloc: Global, first: &[u8], second: &[u8]) -> Result<Vec<u8>> {
     let mut fleet = Fleet::new(alloc, &[Keep::Latest, Keep::Latest])?;
     let events = events(first, second);

@@ -98,7 +98,8 @@ fn copy_history(alloc: Global, file: &[u8]) -> Result<Vec<u8>> {
     }
 }
 
-/// Compares each version of a file with each, this number of times. The growths of memory are those of reading the file.
+/// Compares each version of a file with each, this number of times. The growths of memory are those of reading the
+/// file.
 fn compare_all(alloc: Global, rounds: u64, file: &[u8]) -> Result<Vec<u8>> {
     let history = history_of(alloc, file)?;
     for _ in 0..rounds {

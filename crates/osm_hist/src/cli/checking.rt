@@ -9,8 +9,8 @@ use std::alloc::Global;
 use std::io::{Read, Write};
 use std::rt::Files;
 
-/// Prints what each of the files holds, and whether it is sorted. The refusal of a file is reported, and the files after it are
-/// still checked; the last refusal is returned.
+/// Prints what each of the files holds, and whether it is sorted. The refusal of a file is reported, and the files
+/// after it are still checked; the last refusal is returned.
 pub(super) fn check_files<'a, R: Files + AllocGlobal, I: Read + Drop, O: Write, E: Write>(
     rt: &R,
     check: &FileCheck<'a>,
@@ -68,8 +68,8 @@ fn print_report<'a, O: Write>(
     print(out, &line)
 }
 
-/// What a file holds. It is held in memory only where it isn't sorted or can't be read again, and where an unsorted file is not
-/// refused.
+/// What a file holds. It is held in memory only where it isn't sorted or can't be read again, and where an unsorted
+/// file is not refused.
 fn report_of<'a, R: Files + AllocGlobal, I: Read + Drop>(
     rt: &R,
     check: &FileCheck<'a>,

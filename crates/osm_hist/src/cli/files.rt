@@ -119,8 +119,8 @@ pub(super) fn open<'a, R: Files>(rt: &R, name: &'a str) -> Result<R::File, Refus
     }
 }
 
-/// Opens what these arguments mean, in their order, in place of what was open. Standard input is among them at most once, where
-/// it is given.
+/// Opens what these arguments mean, in their order, in place of what was open. Standard input is among them at most
+/// once, where it is given.
 pub(super) fn open_all<'a, R: Files, I: Read + Drop>(
     rt: &R,
     words: &[&'a str],

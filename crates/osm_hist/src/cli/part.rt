@@ -1,6 +1,7 @@
 //! OUT.part: the file that a run writes, and renames to OUT at the end. It belongs to one run at a time.
 //!
-//! A run holds a lock on its OUT.part. The lock ends with the process, so the next run takes over what a killed run left.
+//! A run holds a lock on its OUT.part. The lock ends with the process, so the next run takes over what a killed run
+//! left.
 use super::files::Stream;
 use super::refusal::Refusal;
 use std::alloc::Global;
@@ -243,7 +244,8 @@ where
     file.set_permissions(Permissions::from_mode(mode))
 }
 
-/// Removes the regular file that a killed run left. A link, a folder, a device, a file that another run has locked and an input stay.
+/// Removes the regular file that a killed run left. A link, a folder, a device, a file that another run has locked and
+/// an input stay.
 fn remove_leftover<R: Files, I>(
     rt: &R,
     name: &str,

@@ -1,9 +1,8 @@
 //! Running a plan: its mirrors take files and pass on what they hold, and what they hold in the end is written.
 ghost use Rattle.std.specs.Prelude.{ℕ, ◌<◌, length, IfOk};
 ghost use Rattle.std.specs.List.{All};
-ghost use Rattle.osm_mirror.specs.Fleet.{IsWithin};
+ghost use Rattle.osm_mirror.specs.Event.{IsWithin};
 ghost use Rattle.osm_mirror.specs.Plan.{NamesItsMirrors};
-ghost use Rattle.osm_mirror.specs.PlanLine.{StepNames};
 
 use super::files::{Stream, read};
 use super::part::PartFile;
@@ -82,7 +81,7 @@ fn events_of<'f>(
     steps: &[Step],
     files: &'f [Vec<u8>],
 ) -> Result<Vec<Event<'f>>, AllocError>
-    requires { All (StepNames mirrors) steps.now }
+    requires { All (IsWithin mirrors) steps.now }
     ensures { IfOk result (λ events. All (IsWithin mirrors) events.items) }
 {
     let mut events = Vec::new(alloc);
@@ -94,7 +93,7 @@ fn events_of<'f>(
 
 /// The event of a step, with what is taken in it.
 fn event_of<'f>(step: &Step, file: &'f [u8]) -> Event<'f>
-    ensures { (mirrors : ℕ) → StepNames mirrors step.now → IsWithin mirrors result }
+    ensures { (mirrors : ℕ) → IsWithin mirrors step.now → IsWithin mirrors result }
 {
     match step {
         Step::Take { mirror, .. } => Event::Take {

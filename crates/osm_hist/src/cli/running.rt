@@ -122,10 +122,10 @@ where
         }
     }
 
-    /// Writes what is selected. At first all files that can be read again are taken as sorted. If one of them turns out not
-    /// to be sorted, the run writes anew with that file split into sorted runs, or held. If that happens again, the run
-    /// checks the order of the others before it writes, so that there are few turns, however many files there are. There
-    /// is only one turn if a file can't be read again, or the output can't be made anew.
+    /// Writes what is selected. At first all files that can be read again are taken as sorted. If one of them turns out
+    /// not to be sorted, the run writes anew with that file split into sorted runs, or held. If that happens again, the
+    /// run checks the order of the others before it writes, so that there are few turns, however many files there are.
+    /// There is only one turn if a file can't be read again, or the output can't be made anew.
     fn write_by_turns<I: Read + Drop, O: Write>(
         &self,
         files: &mut OpenFiles<R::File, I>,
@@ -201,8 +201,8 @@ where
         }
     }
 
-    /// Takes a file by its sorted runs from now on. The version at `offset` is its first that is out of order. The file is
-    /// held if it can't be split, if it has too many runs, or if it was split before and has changed since.
+    /// Takes a file by its sorted runs from now on. The version at `offset` is its first that is out of order. The file
+    /// is held if it can't be split, if it has too many runs, or if it was split before and has changed since.
     fn split(&self, takings: &mut [Taking], file: usize, offset: u64) -> Result<(), Refusal<'a>> {
         let most = MOST_RUNS.saturating_sub(runs_of_others(takings, file));
         let (Some(taking), Some(name)) = (takings.get_mut(file), self.asked.files.get(file)) else {

@@ -1,5 +1,5 @@
-//! The sorted runs of a file that isn't sorted. The file is split before each version that is out of order, into a few runs,
-//! so that the program need not hold it.
+//! The sorted runs of a file that isn't sorted. The file is split before each version that is out of order, into a few
+//! runs, so that the program need not hold it.
 use super::checking::is_unsorted;
 use super::files::{Stream, open, read_retried};
 use super::refusal::Refusal;
@@ -48,8 +48,8 @@ pub(super) fn check_order<'a, R: Files + AllocGlobal>(
     }
 }
 
-/// Splits the file of this name into at most `most` sorted runs. The version at `offset` is its first that is out of order.
-/// It returns none if the file can't be split, if it has more runs, or if a run can't be read.
+/// Splits the file of this name into at most `most` sorted runs. The version at `offset` is its first that is out of
+/// order. It returns none if the file can't be split, if it has more runs, or if a run can't be read.
 pub(super) fn split_into_runs<'a, R: Files + AllocGlobal>(
     rt: &R,
     name: &'a str,
@@ -71,8 +71,8 @@ pub(super) fn split_into_runs<'a, R: Files + AllocGlobal>(
     Ok(None)
 }
 
-/// Splits the rest of the file of this name before the version at this offset, and returns whether it could be split. The
-/// front of an o5 file is read, since the byte before the offset may be no reset.
+/// Splits the rest of the file of this name before the version at this offset, and returns whether it could be split.
+/// The front of an o5 file is read, since the byte before the offset may be no reset.
 fn split_before<'a, R: Files + AllocGlobal>(
     rt: &R,
     name: &'a str,

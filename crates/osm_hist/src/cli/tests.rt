@@ -1,5 +1,5 @@
-//! Commands in a folder of their own: the exit status, what is printed, and which files there are. `tests/commands` tests the
-//! built program.
+//! Commands in a folder of their own: the exit status, what is printed, and which files there are. `tests/commands`
+//! tests the built program.
 use super::part::{Lock, PartFile, take_lock};
 use super::run_words;
 use std::alloc::Global;

@@ -7,4 +7,5 @@ use Rattle.callers.proofs.content.first_version.Goals as goal
 pub returns-in-Err-clause-refused : goal.returns-in-Err-clause-refused
 returns-in-Err-clause-refused c =
     let reason = c.in-Err.reason in
-    subst (λ (s : State). s.failed ≡ false → (reason ≡ o5.Memory) ⊎ SetReason c.args.kind s.segment c.args.content.now reason) c.in_ok-decoder.ensures c.in-Err.ensures.refused refl
+    subst (λ (s : State). s.failed ≡ false → (reason ≡ o5.Memory) ⊎ SetReason c.args.kind s.segment c.args.content.now reason)
+    c.in_ok-decoder.ensures c.in-Err.ensures.refused refl

@@ -7,5 +7,9 @@ pub returns : goal.returns
 returns c =
     let held = c.in_ok-loaded.loaded.history in
     let loaded = c.in_ok-loaded.ensures.loaded in
-    let written = c.in_ok-write_history.ensures.written in
-    (held, subst (λ (given : Coming). Holds given.bytes held) (loaded.1 ∙ ap whole c.new.ensures) loaded.2.holds, c.into_vec.ensures ∙ written.appended [] c.new-output.ensures.bytes)
+    let written = c.in_ok-write_history.ensures.written in (
+      held,
+      subst (λ (given : Coming). Holds given.bytes held) (loaded.1 ∙ ap whole c.new.ensures) loaded.2.holds,
+      c.into_vec.ensures
+          ∙ written.appended [] c.new-output.ensures.bytes,
+    )

@@ -11,7 +11,8 @@ use Rattle.callers.proofs.whole.one_file.Goals as goal
 abbrev GivesBytes : List ℕ → Coming → Type 0
 GivesBytes bytes given = given ≡ whole bytes
 
-all_hold : (files : List (List ℕ)) (all : List Coming) (held : List VersionSet) → AllGive GivesBytes files all → Pairwise GivesSorted all held → Pairwise HoldsSorted files held
+all_hold : (files : List (List ℕ)) (all : List Coming) (held : List VersionSet) → AllGive GivesBytes files all →
+    Pairwise GivesSorted all held → Pairwise HoldsSorted files held
 all_hold [] [] [] gives sorted = tt
 all_hold [] [] (set ∷ held) gives sorted = sorted
 all_hold [] (given ∷ all) held gives sorted = absurd gives

@@ -1,5 +1,5 @@
 use Rattle.std.specs.List.{All}
-use Rattle.osm_mirror.specs.Fleet.{IsWithin}
+use Rattle.osm_mirror.specs.Event.{IsWithin}
 use Rattle.osm_hist.proofs.cli.planning.events_of.Given as goal
 
 abbrev pub invariant-steps : goal.invariant-steps
