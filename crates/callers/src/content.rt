@@ -9,8 +9,7 @@ use o5_codec::{Decoder, O5Reason};
 use osm_model::{Kind, Version};
 use std::alloc::Global;
 
-/// The version that the first data set of a file spells, of this kind and with this content, and the decoder for the
-/// next.
+/// The version that the first data set of a file spells, of this kind and with this content, and the decoder for the next.
 ///
 /// # Errors
 ///

@@ -12,8 +12,7 @@ use std::alloc::Global;
 ///
 /// # Errors
 ///
-/// The first fault of the file, which has the number 0; `TooLong` of what is written, which has the number 1; or
-/// `Memory`.
+/// The first fault of the file, which has the number 0; `TooLong` of what is written, which has the number 1; or `Memory`.
 pub fn to_o5m(alloc: Global, file: &[u8]) -> Result<Vec<u8>, Fault>
     ensures { IfOk result (λ written. (held : VersionSet) × Holds file.now held × (written.items ≡ spell format.O5m held)) }
 {
