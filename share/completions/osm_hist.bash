@@ -14,11 +14,11 @@ _osm_hist_files() {
 # The options of a command.
 _osm_hist_options() {
     case $1 in
-    merge) echo --output -o --format -f --fsync --progress --help -h ;;
-    apply) echo --output -o --format -f --fsync --progress --with-history --sorted --help -h ;;
-    time-filter | sort) echo --output -o --format -f --fsync --progress --sorted --help -h ;;
-    check) echo --sorted --help -h ;;
-    plan) echo --help -h ;;
+    merge) echo --output -o --format -f --shard --fsync --progress --summary --whole --files0-from --hints --help -h ;;
+    apply) echo --output -o --format -f --shard --fsync --progress --summary --whole --files0-from --hints --with-history --sorted --help -h ;;
+    time-filter | sort) echo --output -o --format -f --shard --fsync --progress --summary --whole --files0-from --hints --sorted --help -h ;;
+    check) echo --sorted --whole --files0-from --hints --help -h ;;
+    plan) echo --hints --help -h ;;
     '') echo --help -h --version -V ;;
     esac
 }
@@ -32,7 +32,8 @@ _osm_hist() {
     if [ "$before" = = ]; then before=${COMP_WORDS[COMP_CWORD - 2]}; fi
     case $before in
     --format | -f) _osm_hist_offer 'opl o5m o5c' "$word" && return ;;
-    --output | -o) _osm_hist_files "$word" && return ;;
+    --shard) return ;;
+    --output | -o | --files0-from) _osm_hist_files "$word" && return ;;
     esac
     case $word in
     -*) _osm_hist_offer "$(_osm_hist_options "$command")" "$word" && return ;;

@@ -1,4 +1,4 @@
--- Each content has one answer: the version that it spells, or the reason why it spells none.
+-- Each content has one result: the version that it spells, or the reason why it spells none.
 use Rattle.std.proofs.Common.{◌≡◌, ◌∙◌, ◌⊎◌, inl, inr, ap, sym, refl, subst, ℕ, true, List, Result, Ok, Err}
 use Rattle.osm_model.specs.declared.kind.Kind.{Kind}
 use Rattle.osm_model.specs.Data.{VersionData}
@@ -20,6 +20,7 @@ by_reading : (k : Kind) (s : Segment) (content : List ℕ) (r : Result (VersionD
 by_reading k s content (Ok x) h = inl (x, set_found k s content x h)
 by_reading k s content (Err reason) h = inr (reason, (set_refused k s content reason).0 h)
 
+-- Each content spells a version or has a reason why it spells none.
 pub some_answer : (k : Kind) (s : Segment) (content : List ℕ) →
     ((x : VersionData × Segment) × SpellsSet k s content x) ⊎ ((reason : O5Reason) × SetReason k s content reason)
 some_answer k s content = by_reading k s content (set_at k s content) refl
@@ -34,6 +35,7 @@ step_reason k s content reason refused =
     let P : Result (VersionData × Segment) O5Reason → Type 0 = λ r. Named r in
     subst P ((set_refused k s content reason).1 refused) (set_named k s content)
 
+-- A content that has a reason spells nothing and has no other reason.
 pub only_reason : (k : Kind) (s : Segment) (content : List ℕ) (reason : O5Reason) → SetReason k s content reason →
     IsTheOnlyReason k s content reason
 only_reason k s content reason refused = record {
@@ -43,11 +45,12 @@ only_reason k s content reason refused = record {
   of_a_step = step_reason k s content reason refused;
 }
 
--- ---- what a reading from a segment says of an equal one
+-- ---- a reading from a segment, and from an equal one
 pub spelled_in : (k : Kind) (s other : Segment) (content : List ℕ) (x : VersionData × Segment) → s ≡ other → set_at k s content ≡ Ok x →
     SpellsSet k other content x
 spelled_in k s other content x same read = set_found k other content x (ap (λ z. set_at k z content) (sym same) ∙ read)
 
+-- A content that is refused for another reason than Memory has that reason.
 pub refused_in : (k : Kind) (s other : Segment) (content : List ℕ) (reason : O5Reason) → s ≡ other →
     (reason ≡ Memory) ⊎ (set_at k s content ≡ Err reason) →
     (reason ≡ Memory) ⊎ SetReason k other content reason

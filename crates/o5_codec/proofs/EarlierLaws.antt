@@ -1,4 +1,4 @@
--- What a segment keeps is told by the objects and the inline entries that it had.
+-- The objects and the inline entries of a segment determine what it keeps.
 use Rattle.std.proofs.Common.{◌≡◌, ◌∙◌, ap, sym, refl, ℕ, pos, Bool, false, ◌||◌, ◌&&◌, List, [], ◌∷◌, ◌++◌, append_assoc, subst, Ok}
 use Rattle.std.specs.List.{flat_map, list_any}
 use Rattle.std.proofs.Math.Bool.{or-false}
@@ -10,8 +10,8 @@ use Rattle.osm_model.specs.declared.kind.Kind.{Kind}
 use Rattle.osm_model.specs.Data.{VersionData}
 use Rattle.o5_codec.specs.declared.segment.Segment.{Segment}
 use Rattle.o5_codec.specs.declared.segment.ListsSeen.{ListsSeen}
-use Rattle.o5_codec.specs.Entry.{Entry}
-use Rattle.o5_codec.specs.Table.{limit, table_of}
+use Rattle.o5_codec.specs.Entry.{EntryStrings}
+use Rattle.o5_codec.specs.Table.{table_limit, table_of}
 use Rattle.o5_codec.specs.Body.{set_at}
 use Rattle.o5_codec.specs.Decoder.{new_segment}
 use Rattle.o5_codec.specs.Spelling.{SpellsSet}
@@ -58,13 +58,13 @@ lists_more objects s k content x spells h =
     told_as _ _ _ _ _ _ refl (any_more has_references objects x.0) (any_more has_node_members objects x.0)
     (set_seen k s content x (list_any has_references objects) (list_any has_node_members objects) spells h)
 
--- the bases and the table of a segment are told by these lists
-record IsTold (s : Segment) (objects : List VersionData) (entries : List Entry) : Type 0 where
+-- these lists determine the bases and the table of a segment
+record IsTold (s : Segment) (objects : List VersionData) (entries : List EntryStrings) : Type 0 where
   bases_are : s.bases ≡ bases_of objects
   table_is : s.table ≡ table_of entries
 
 -- one more data set
-told_more : (objects : List VersionData) (entries : List Entry) (s : Segment) (k : Kind) (content : List ℕ) (x : VersionData × Segment) →
+told_more : (objects : List VersionData) (entries : List EntryStrings) (s : Segment) (k : Kind) (content : List ℕ) (x : VersionData × Segment) →
     IsTold s objects entries → (spells : SpellsSet k s content x) →
     IsTold x.1 (objects ++ x.0 ∷ []) (entries ++ inline_entries k s content x spells)
 told_more objects entries s k content x told spells = record {
@@ -73,55 +73,58 @@ told_more objects entries s k content x told spells = record {
 }
 
 -- more data sets
-all_told : (objects : List VersionData) (entries : List Entry) (s : Segment) (sets : List (Kind × List ℕ)) (versions : List VersionData)
-    (inline : List Entry) (end : Segment) →
+all_told : (objects : List VersionData) (entries : List EntryStrings) (s : Segment) (sets : List (Kind × List ℕ)) (versions : List VersionData)
+    (inline : List EntryStrings) (end : Segment) →
     IsTold s objects entries → Lists s.seen objects → SpellSets s sets versions inline end →
     IsTold end (objects ++ versions) (entries ++ inline) × Lists end.seen (objects ++ versions)
 all_told objects entries s [] [] inline end told lists spells =
-    let P : List VersionData × List Entry × Segment → Type 0 = λ y. IsTold y.2 y.0 y.1 × Lists y.2.seen y.0 in
+    let P : List VersionData × List EntryStrings × Segment → Type 0 = λ y. IsTold y.2 y.0 y.1 × Lists y.2.seen y.0 in
     let none = sym (append-nil entries) ∙ ap (λ es. entries ++ es) (sym spells.0) in
     subst P (λ i. (sym (append-nil objects) i, none i, spells.1 i)) (told, lists)
 all_told objects entries s [] (v ∷ versions) inline end told lists spells = absurd spells
 all_told objects entries s (set ∷ sets) [] inline end told lists spells = absurd spells
 all_told objects entries s (set ∷ sets) (v ∷ versions) inline end told lists (middle, later, spells, all, more) =
     let here = inline_entries set.0 s set.1 (v, middle) spells in
-    let P : List VersionData × List Entry → Type 0 = λ y. IsTold end y.0 y.1 × Lists end.seen y.0 in
+    let P : List VersionData × List EntryStrings → Type 0 = λ y. IsTold end y.0 y.1 × Lists end.seen y.0 in
     let behind = append_assoc entries here later ∙ ap (λ es. entries ++ es) (sym all) in
     subst P (λ i. (append_assoc objects (v ∷ []) versions i, behind i))
     (all_told (objects ++ v ∷ []) (entries ++ here) middle sets versions later end
     (told_more objects entries s set.0 set.1 (v, middle) told spells) (lists_more objects s set.0 set.1 (v, middle) spells lists) more)
 
 new_told : IsTold new_segment [] []
-new_told = record { bases_are = refl; table_is = sym (take-nil {A = Entry} limit) }
+new_told = record { bases_are = refl; table_is = sym (take-nil {A = EntryStrings} table_limit) }
 
-pub from_new : (sets : List (Kind × List ℕ)) (versions : List VersionData) (inline : List Entry) (end : Segment) →
+-- The segment after some data sets is determined by their versions and inline entries.
+pub from_new : (sets : List (Kind × List ℕ)) (versions : List VersionData) (inline : List EntryStrings) (end : Segment) →
     SpellSets new_segment sets versions inline end → end ≡ segment_of versions inline
 from_new sets versions inline end spells =
     let told = all_told [] [] new_segment sets versions inline end new_told (refl, refl) spells in
     (λ i. record { bases = told.0.bases_are i; table = told.0.table_is i; seen = told.1.0 i })
 
-pub not_mixed : (sets : List (Kind × List ℕ)) (versions : List VersionData) (inline : List Entry) (end : Segment) →
+-- No segment has both a way with references and a relation with a node member.
+pub not_mixed : (sets : List (Kind × List ℕ)) (versions : List VersionData) (inline : List EntryStrings) (end : Segment) →
     SpellSets new_segment sets versions inline end →
     list_any has_references versions && list_any has_node_members versions ≡ false
 not_mixed sets versions inline end spells = (all_told [] [] new_segment sets versions inline end new_told (refl, refl) spells).1.1
 
--- ---- reading one after the other
+-- ---- reading in sequence
 pub sets_found : (s : Segment) (sets : List (Kind × List ℕ)) (x : List VersionData × Segment) → sets_at s sets ≡ Ok x →
-    (inline : List Entry) × SpellSets s sets x.0 inline x.1
+    (inline : List EntryStrings) × SpellSets s sets x.0 inline x.1
 sets_found s [] x h =
     let same : ([], s) ≡ x = same_value _ _ h in
-    let P : List VersionData × Segment → Type 0 = λ y. (inline : List Entry) × SpellSets s [] y.0 inline y.1 in
+    let P : List VersionData × Segment → Type 0 = λ y. (inline : List EntryStrings) × SpellSets s [] y.0 inline y.1 in
     subst P same ([], (refl, refl))
 sets_found s (set ∷ sets) x h =
     let f = first_ok (set_at set.0 s set.1) _ x h in
     let g = first_ok (sets_at f.0.1 sets) _ x f.2 in
     let same : (f.0.0 ∷ g.0.0, g.0.1) ≡ x = same_value _ _ g.2 in
-    let P : List VersionData × Segment → Type 0 = λ y. (inline : List Entry) × SpellSets s (set ∷ sets) y.0 inline y.1 in
+    let P : List VersionData × Segment → Type 0 = λ y. (inline : List EntryStrings) × SpellSets s (set ∷ sets) y.0 inline y.1 in
     let later = sets_found f.0.1 sets g.0 g.1 in
     let spells : SpellsSet set.0 s set.1 (f.0.0, f.0.1) = set_found set.0 s set.1 f.0 f.1 in
     subst P same (inline_entries set.0 s set.1 (f.0.0, f.0.1) spells ++ later.0, (f.0.1, later.0, spells, refl, later.1))
 
-pub sets_only : (s : Segment) (sets : List (Kind × List ℕ)) (versions : List VersionData) (inline : List Entry) (end : Segment) →
+-- Data sets that spell versions are read as them.
+pub sets_only : (s : Segment) (sets : List (Kind × List ℕ)) (versions : List VersionData) (inline : List EntryStrings) (end : Segment) →
     SpellSets s sets versions inline end → sets_at s sets ≡ Ok (versions, end)
 sets_only s [] [] inline end spells = ap (λ z. Ok ([], z)) spells.1
 sets_only s [] (v ∷ versions) inline end spells = absurd spells
@@ -130,8 +133,8 @@ sets_only s (set ∷ sets) (v ∷ versions) inline end (middle, later, spells, a
     read_next (set_at set.0 s set.1) _ _ (set_only set.0 s set.1 (v, middle) spells)
     ∙ read_next (sets_at middle sets) _ _ (sets_only middle sets versions later end more)
 
--- ---- one data set behind others
-pub sets_go_on : (s : Segment) (sets : List (Kind × List ℕ)) (versions : List VersionData) (inline : List Entry) (end : Segment) (k : Kind)
+-- ---- one data set after others
+pub sets_go_on : (s : Segment) (sets : List (Kind × List ℕ)) (versions : List VersionData) (inline : List EntryStrings) (end : Segment) (k : Kind)
     (content : List ℕ) (x : VersionData × Segment) →
     SpellSets s sets versions inline end → (spells : SpellsSet k end content x) →
     SpellSets s (sets ++ (k, content) ∷ []) (versions ++ x.0 ∷ []) (inline ++ inline_entries k end content x spells) x.1

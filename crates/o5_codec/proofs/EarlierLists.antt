@@ -1,4 +1,4 @@
--- Which of the two lists that exclude each other a segment had is told by its objects.
+-- The objects of a segment determine which of the two lists that exclude each other it had.
 use Rattle.std.proofs.Common.{◌≡◌, ◌∙◌, ap, sym, refl, ℕ, ℤ, Bool, true, false, ◌||◌, ◌&&◌, List, [], ◌∷◌, ◌++◌, arith, Ok, if◌then◌else◌}
 use Rattle.std.proofs.Math.Bool.{or-false, or_assoc}
 use Rattle.osm_model.specs.declared.kind.Kind.{Kind}
@@ -17,7 +17,7 @@ use Rattle.o5_codec.proofs.StepLaws.{reference_only}
 use Rattle.o5_codec.proofs.SoundStrings.{same_value}
 use Rattle.o5_codec.proofs.EarlierSteps.{meta_end, tags_end, references_end}
 
--- what a segment had, by whether it had the one and the other
+-- the lists of a segment, by whether it had the one and the other
 abbrev pub lists_with : Bool → Bool → ListsSeen
 lists_with refs nodes = if refs then References else (if nodes then NodeMembers else Neither)
 
@@ -25,6 +25,7 @@ lists_with refs nodes = if refs then References else (if nodes then NodeMembers 
 abbrev pub Told : ListsSeen → Bool → Bool → Type 0
 Told seen refs nodes = (seen ≡ lists_with refs nodes) × (refs && nodes ≡ false)
 
+-- Equal flags determine the same list.
 pub told_as : (seen other : ListsSeen) (refs more nodes more_nodes : Bool) → other ≡ seen → refs ≡ more → nodes ≡ more_nodes →
     Told seen refs nodes → Told other more more_nodes
 told_as seen other refs more nodes more_nodes same p q t = (same ∙ t.0 ∙ (λ i. lists_with (p i) (q i)), (λ i. sym p i && sym q i) ∙ t.1)
@@ -121,6 +122,7 @@ same_lists seen refs nodes (Node lon lat tags) t = t
 same_lists seen refs nodes (Way ids tags) t = t
 same_lists seen refs nodes (Relation members tags) t = t
 
+-- A data set adds its own list to those that its segment had.
 pub set_seen : (k : Kind) (s : Segment) (content : List ℕ) (x : VersionData × Segment) (refs nodes : Bool) → SpellsSet k s content x →
     Told s.seen refs nodes →
     Told x.1.seen (refs || has_references x.0) (nodes || has_node_members x.0)

@@ -1,4 +1,5 @@
--- What a data set that spells a version changes in its segment: the bases by the version, the table by the inline entries.
+-- The changes of a segment by a data set that spells a version: the bases by the version, the table by the inline
+-- entries.
 use Rattle.std.proofs.Common.{◌≡◌, ◌∙◌, inl, inr, ap, sym, refl, ℕ, ℤ, true, false, eqb, List, [], ◌∷◌, ◌++◌, append_assoc, is_some}
 use Rattle.std.proofs.Common.{unwrap_or, arith, Ok, if◌then◌else◌}
 use Rattle.std.proofs.lemmas.List.{append-nil}
@@ -16,8 +17,8 @@ use Rattle.o5_codec.specs.declared.segment.Segment.{Segment}
 use Rattle.o5_codec.specs.Author.{Author}
 use Rattle.o5_codec.specs.declared.strings.Form.{Form}
 use Rattle.o5_codec.specs.declared.strings.Form.TheVariants.{Pair, Single}
-use Rattle.o5_codec.specs.Entry.{Entry}
-use Rattle.o5_codec.specs.Table.{stored, table_of}
+use Rattle.o5_codec.specs.Entry.{EntryStrings}
+use Rattle.o5_codec.specs.Table.{table_with, table_of}
 use Rattle.o5_codec.specs.Base.{moved_id}
 use Rattle.o5_codec.specs.Segment.{time_of, meta_of}
 use Rattle.o5_codec.specs.Body.{moved_member}
@@ -30,21 +31,21 @@ use Rattle.o5_codec.proofs.SoundStrings.{first_ok, same_value}
 use Rattle.o5_codec.proofs.EntryLaws.{table_more}
 
 -- ---- the table
-abbrev pub Grows : Segment → Segment → List Entry → Type 0
-Grows s end inline = (entries : List Entry) → s.table ≡ table_of entries → end.table ≡ table_of (entries ++ inline)
+abbrev pub Grows : Segment → Segment → List EntryStrings → Type 0
+Grows s end inline = (entries : List EntryStrings) → s.table ≡ table_of entries → end.table ≡ table_of (entries ++ inline)
 
 pub grows_not : (s end : Segment) → end.table ≡ s.table → Grows s end []
 grows_not s end same entries h = same ∙ h ∙ ap table_of (sym (append-nil entries))
 
-pub grows_then : (s middle end : Segment) (first second : List Entry) → Grows s middle first → Grows middle end second →
+pub grows_then : (s middle end : Segment) (first second : List EntryStrings) → Grows s middle first → Grows middle end second →
     Grows s end (first ++ second)
 grows_then s middle end first second one more entries h =
     more (entries ++ first) (one entries h) ∙ ap table_of (append_assoc entries first second)
 
-strings_table : (form : Form) (table : List Entry) (bytes : List ℕ) (x : Entry × List Entry × List ℕ)
-    (stands : StringsStand form table bytes x) (entries : List Entry) →
+strings_table : (form : Form) (table : List EntryStrings) (bytes : List ℕ) (x : EntryStrings × List EntryStrings × List ℕ)
+    (stands : StringsStand form table bytes x) (entries : List EntryStrings) →
     table ≡ table_of entries → x.1 ≡ table_of (entries ++ inline_strings form table bytes x stands)
-strings_table form table bytes x (inl inline) entries h = inline.3 ∙ ap (stored x.0) h ∙ sym (table_more entries x.0)
+strings_table form table bytes x (inl inline) entries h = inline.3 ∙ ap (table_with x.0) h ∙ sym (table_more entries x.0)
 strings_table form table bytes x (inr reference) entries h = reference.3 ∙ h ∙ ap table_of (sym (append-nil entries))
 
 -- ---- metadata
@@ -67,8 +68,8 @@ with_time : (b : Bases) (time changeset : ℕ) → eqb time 0 ≡ false →
     }
 with_time b time changeset h = rw h refl
 
--- a user leaves the bases
-record Behind (changeset : ℕ) (s : Segment) (x : Author × Segment × List ℕ) (inline : List Entry) : Type 0 where
+-- a user keeps the bases
+record Behind (changeset : ℕ) (s : Segment) (x : Author × Segment × List ℕ) (inline : List EntryStrings) : Type 0 where
   changeset_is : x.0.changeset ≡ changeset
   bases_are : x.1.bases ≡ s.bases
   seen_is : x.1.seen ≡ s.seen
@@ -91,8 +92,8 @@ behind_end changeset s (b ∷ bytes) x stands =
       table_is = λ entries h. ap (λ z. z.table) user.4 ∙ strings_table Pair s.table (b ∷ bytes) (user.0, user.1, x.2) user.2 entries h;
     }
 
--- what is behind the metadata
-pub record AfterMeta (s : Segment) (x : Meta × Segment × List ℕ) (inline : List Entry) : Type 0 where
+-- the state after the metadata
+pub record AfterMeta (s : Segment) (x : Meta × Segment × List ℕ) (inline : List EntryStrings) : Type 0 where
   pub bases_are : x.1.bases ≡ meta_bases s.bases x.0
   pub seen_is : x.1.seen ≡ s.seen
   pub table_is : Grows s x.1 inline
@@ -125,13 +126,14 @@ meta_by_author s v t x a timed (inr some) made =
       table_is = λ entries h. ap (λ z. z.table) last ∙ behind.table_is entries (ap (λ z. z.table) moved.3 ∙ ap (λ z. z.table) timed ∙ h);
     }
 
+-- The metadata of a data set moves the bases and adds its inline entries.
 pub meta_end : (s : Segment) (bytes : List ℕ) (x : Meta × Segment × List ℕ) (stands : MetaStands s bytes x) →
     AfterMeta s x (inline_author stands.1.0 stands.1.1 stands.1.2 stands.2 stands.5)
 meta_end s bytes x stands = meta_by_author s stands.0 stands.1 x stands.2 stands.4.3 stands.5 stands.6
 
 -- ---- lists
--- what is behind tags
-pub record Kept (s end : Segment) (inline : List Entry) : Type 0 where
+-- the state after tags
+pub record Kept (s end : Segment) (inline : List EntryStrings) : Type 0 where
   pub bases_are : end.bases ≡ s.bases
   pub seen_is : end.seen ≡ s.seen
   pub table_is : Grows s end inline
@@ -144,6 +146,7 @@ tag_end s bytes x stands = record {
   table_is = λ entries h. ap (λ z. z.table) stands.4 ∙ strings_table Pair s.table bytes (stands.0, stands.1, x.2) stands.2 entries h;
 }
 
+-- Tags change the table only, by their inline entries.
 pub tags_end : (s : Segment) (bytes : List ℕ) (tags : List Tag) (end : Segment) (stands : ItemsStand TagStands s bytes tags end) →
     Kept s end (inline_tags s bytes tags end stands)
 tags_end s bytes [] end stands = record {
@@ -160,12 +163,13 @@ tags_end s bytes (tag ∷ tags) end stands =
       table_is = grows_then s stands.0 end _ _ first.table_is later.table_is;
     }
 
--- what is behind references
+-- the state after references
 pub record Referred (s end : Segment) (ids : List ℤ) : Type 0 where
   pub bases_are : end.bases ≡ record s.bases { reference = last_from s.bases.reference ids }
   pub seen_is : end.seen ≡ s.seen
   pub table_is : end.table ≡ s.table
 
+-- References move the base of references only.
 pub references_end : (s : Segment) (bytes : List ℕ) (ids : List ℤ) (end : Segment) → ItemsStand ReferenceStands s bytes ids end →
     Referred s end ids
 references_end s bytes [] end stands = record {
@@ -183,7 +187,7 @@ references_end s bytes (id ∷ ids) end stands =
       table_is = later.table_is ∙ ap (λ z. z.table) moved;
     }
 
--- the bases behind members
+-- the bases after members
 abbrev pub member_bases : Bases → List Member → Bases
 member_bases b members = record b {
   node_member = last_from b.node_member (node_ids members);
@@ -191,7 +195,7 @@ member_bases b members = record b {
   relation_member = last_from b.relation_member (relation_ids members);
 }
 
--- the bases behind a member of this kind and id
+-- the bases after a member of this kind and id
 abbrev pub bases_with : Bases → Kind → ℤ → Bases
 bases_with b k id = record b {
   node_member = last_from b.node_member (node_id k id);
@@ -213,6 +217,7 @@ moved_bases b kind.Relation difference id h =
     let same : (f.0, record b { relation_member = f.0 }) ≡ id = same_value _ _ f.2 in
     ap (λ z. z.1) (sym same) ∙ ap (λ (n : ℤ). record b { relation_member = n }) (ap (λ z. z.0) same)
 
+-- The last of two lists in sequence is the last of the second after the last of the first.
 pub last_append : {X : Type 0} (x : X) (xs ys : List X) → last_from x (xs ++ ys) ≡ last_from (last_from x xs) ys
 last_append x [] ys = refl
 last_append x (z ∷ xs) ys = last_append z xs ys
@@ -225,8 +230,8 @@ bases_more b m members = λ i. record b {
   relation_member = sym (last_append b.relation_member (relation_id m.kind m.id) (relation_ids members)) i;
 }
 
--- what is behind members
-record Joined (s end : Segment) (members : List Member) (inline : List Entry) : Type 0 where
+-- the state after members
+record Joined (s end : Segment) (members : List Member) (inline : List EntryStrings) : Type 0 where
   bases_are : end.bases ≡ member_bases s.bases members
   table_is : Grows s end inline
 
@@ -269,8 +274,8 @@ same_bases b (Node lon lat tags) = refl
 same_bases b (Way refs tags) = refl
 same_bases b (Relation members tags) = refl
 
--- what is behind a body
-pub record AfterBody (s : Segment) (x : Body × Segment) (inline : List Entry) : Type 0 where
+-- the state after a body
+pub record AfterBody (s : Segment) (x : Body × Segment) (inline : List EntryStrings) : Type 0 where
   pub bases_are : x.1.bases ≡ body_bases s.bases x.0
   pub table_is : Grows s x.1 inline
 
@@ -319,6 +324,7 @@ body_end kind.Relation s (b ∷ bytes) x stands = relation_end s (b ∷ bytes) x
 abbrev pub bases_after : Bases → VersionData → Bases
 bases_after b v = body_bases (record b { id = v.id; time = unwrap_or v.time 0; changeset = last_from b.changeset (changesets v) }) v.body
 
+-- A data set moves the bases to the values of its version.
 pub set_bases : (k : Kind) (s : Segment) (content : List ℕ) (x : VersionData × Segment) → SpellsSet k s content x →
     x.1.bases ≡ bases_after s.bases x.0
 set_bases k s content x spells =
@@ -332,6 +338,7 @@ set_bases k s content x spells =
     ∙ ap (λ b. body_bases b body.0) (behind.bases_are ∙ ap (λ b. meta_bases b meta.0) started)
     ∙ same_bases _ body.0 ∙ ap (bases_after s.bases) (sym (ap (λ z. z.0) spells.made))
 
+-- A data set extends the table by its inline entries.
 pub set_table : (k : Kind) (s : Segment) (content : List ℕ) (x : VersionData × Segment) (spells : SpellsSet k s content x) →
     Grows s x.1 (inline_entries k s content x spells)
 set_table k s content x spells entries h =

@@ -1,11 +1,11 @@
--- An entry is told by its form, by the bytes of both strings together, and by where the first string ends.
+-- The form of an entry, the bytes of both strings together, and the end of the first string determine the entry.
 use Rattle.std.proofs.Common.{◌≡◌, ℕ, ◌++◌, Bool, true, false, ◌&&◌, List, take, drop, refl, ap, sym, ◌∙◌, inl, inr}
 use Rattle.std.proofs.lemmas.List.{take-append-drop}
 use Rattle.std.proofs.lemmas.Bool.{cases_Bool}
 use Rattle.std.specs.Str.{bytes_eq}
 use Rattle.std.specs.Cmp.Lexicographic.{bytes_decides}
 use Rattle.o5_codec.specs.declared.strings.Form.{Form}
-use Rattle.o5_codec.specs.Formed.{FormedEntry, formed, same_form, same_entry}
+use Rattle.o5_codec.specs.Formed.{FormedEntry, formed_entry, same_form, same_entry}
 use Rattle.o5_codec.specs.SameEntry.{same_entry_decides}
 
 agree : (a b : Bool) → (a ≡ true → b ≡ true) → (b ≡ true → a ≡ true) → a ≡ b
@@ -13,9 +13,9 @@ agree true b there back = sym (there refl)
 agree false true there back = back refl
 agree false false there back = refl
 
--- the entry of these bytes, whose first string ends there
+-- the entry of these bytes, whose first string ends at `split`
 abbrev pub cut : Form → ℕ → List ℕ → FormedEntry
-cut form split bytes = formed form (take split bytes) (drop split bytes)
+cut form split bytes = formed_entry form (take split bytes) (drop split bytes)
 
 whole : (f g : Form) (i j : ℕ) (xs ys : List ℕ) → cut f i xs ≡ cut g j ys → xs ≡ ys
 whole f g i j xs ys e =
@@ -27,7 +27,7 @@ both_equal f g i xs ys form e =
     let second : bytes_eq (drop i xs) (drop i ys) ≡ true = (bytes_decides (drop i xs) (drop i ys)).1 (ap (drop i) e) in
     λ k. form k && (first k && second k)
 
--- where the forms and the places are the same, the bytes decide
+-- if the forms and the splits are the same, the bytes decide
 pub same_bytes : (f g : Form) (i j : ℕ) (xs ys : List ℕ) → i ≡ j → same_form f g ≡ true →
     bytes_eq xs ys ≡ same_entry (cut f i xs) (cut g j ys)
 same_bytes f g i j xs ys place form =

@@ -1,12 +1,12 @@
--- The two bytes in front of a data set's content.
+-- The two bytes before a data set's content.
 use Rattle.std.proofs.Common.{◌≡◌, ℕ, ◌-◌, ◌++◌, ◌∷◌, [], List, drop, length, min, refl, sym, ap, ◌∙◌, arith}
 use Rattle.std.proofs.Math.Seq.{drop-append_seam}
 
--- what stands behind them
+-- the bytes after them
 pub behind_two : (front content : List ℕ) → length front ≡ 2 → drop 2 (front ++ content) ≡ content
 behind_two front content two = ap (λ n. drop n (front ++ content)) (sym two) ∙ drop-append_seam front content
 
--- of bytes in two parts
+-- the same for bytes in two parts
 pub drop_both : (xs ys : List ℕ) (gone : ℕ) → gone ≡ min (length xs) 2 → drop gone xs ++ drop (2 - gone) ys ≡ drop 2 (xs ++ ys)
 drop_both [] ys gone h = rw (h) refl
 drop_both (x ∷ []) ys gone h = rw (h) refl

@@ -1,4 +1,4 @@
--- What storing an entry and evicting the oldest one do to the numbers.
+-- The changes of the numbers when an entry is stored and the oldest one is evicted.
 use Rattle.std.proofs.Common.{◌≡◌, ℕ, zero, suc, ◌+◌, ◌-◌, ◌<◌, ◌≤◌, ◌^◌, Bool, true, false, cond, List, [], ◌∷◌, ◌++◌, length, take, drop}
 use Rattle.std.proofs.Common.{reverse, length-append, refl, sym, ap, ◌∙◌, subst, arith, Option, Some, None, inl, inr, nat_lt, if◌then◌else◌}
 use Rattle.std.specs.Option.{option_map}
@@ -9,7 +9,7 @@ use Rattle.std.proofs.lemmas.List.{take_all, take_at, length-reverse, reverse-ap
 use Rattle.std.specs.Map.{lookup, KeepsOthers}
 use Rattle.std.specs.Cmp.{decided, IsEquivalence}
 use Rattle.std.proofs.lemmas.Bool.{cases_Bool, cases_lt, lt-ltb, le-ltb, cond-true, cond-false}
-use Rattle.o5_codec.specs.Table.{limit}
+use Rattle.o5_codec.specs.Table.{table_limit}
 use Rattle.o5_codec.specs.Formed.{FormedEntry, same_entry, reference_to}
 use Rattle.o5_codec.specs.SameEntry.{same_entry_decides}
 use Rattle.o5_codec.specs.Indexed.{AreDistinct, Numbered, IsIndexed, IsNext}
@@ -20,12 +20,13 @@ same = decided same_entry same_entry_decides
 apart : (e f k : FormedEntry) → same_entry e f ≡ false → same_entry e k ≡ true → same_entry f k ≡ false
 apart e f k n y = same.symm f k ∙ sym (same.congr e k f y) ∙ n
 
--- what another entry finds after a change at e
+-- the result of another entry after a change at e
 others_stay : {X : Type 0} (e f : FormedEntry) (old new : List (FormedEntry × X)) → KeepsOthers same_entry (λ k. same_entry e k) old new →
     same_entry e f ≡ false → lookup (λ k. same_entry f k) new ≡ lookup (λ k. same_entry f k) old
 unfolding KeepsOthers
 others_stay e f old new h n = h (λ k. same_entry f k) (λ x y. same.congr f x y) (λ k. apart e f k n)
 
+-- A reference, if there is one, is at most a bound.
 abbrev pub Within : ℕ → Option ℕ → Type 0
 Within k None = Unit {0}
 Within k (Some i) = (0 < i) × (i ≤ k)
@@ -43,7 +44,7 @@ within e (x ∷ table) =
       | false ↦ within_more (length table) (reference_to e table) (within e table)
     ]
 
--- an entry that isn't the last one has its reference without the last one too
+-- an entry that isn't the last one has the same reference without the last one
 without_last : (e : FormedEntry) (table : List FormedEntry) (last : FormedEntry) → same_entry e last ≡ false →
     reference_to e (table ++ last ∷ []) ≡ reference_to e table
 without_last e [] last n = cond-false (same_entry e last) (Some 1) None n
@@ -70,7 +71,7 @@ distinct_last (x ∷ table) last h =
     let rest : AreDistinct table × (reference_to last table ≡ None) = distinct_last table last h.1 in
     ((first.0, rest.0), cond-false (same_entry last x) _ _ (same.symm last x ∙ first.1) ∙ ap (option_map (λ n. n + 1)) rest.1)
 
--- the number at e is now this one, and at other entries it stays
+-- the number at e is `now`, and at other entries it is unchanged
 pub record IsChanged (e : FormedEntry) (now : Option ℕ) (number number' : FormedEntry → Option ℕ) : Type 0 where
   pub here : number' e ≡ now
   pub others : (f : FormedEntry) → same_entry e f ≡ false → number' f ≡ number f
@@ -81,7 +82,7 @@ are_none m next None (Some n) e f = absurd (cc)
 are_none m next (Some i) None e f = absurd (cc)
 are_none m next (Some i) (Some n) e f = absurd (cc)
 
--- the last entry goes
+-- the last entry is evicted
 evicted : (m most next : ℕ) (table : List FormedEntry) (last : FormedEntry) (number number' : FormedEntry → Option ℕ) →
     IsIndexed m most next (table ++ last ∷ []) number → IsChanged last None number number' → IsIndexed m most next table number'
 evicted m most next table last number number' h changed =
@@ -114,7 +115,7 @@ numbered_more m next after k (Some i) (Some n) up few w h = (
 first_number : (m next after : ℕ) → next < m → IsNext m next after → Numbered m after (Some 1) (Some next)
 first_number m next after h up = (h, elim up [ inl round ↦ inr (omega arith) | inr on ↦ inl (omega arith) ])
 
--- an entry comes
+-- an entry is stored
 stored_one : (m most next after : ℕ) (table : List FormedEntry) (e : FormedEntry) (number number' : FormedEntry → Option ℕ) →
     IsIndexed m most next table number → length table < most → length table < m → reference_to e table ≡ None →
     IsNext m next after → IsChanged e (Some next) number number' →
@@ -137,7 +138,7 @@ fewer : (m most more next : ℕ) (table : List FormedEntry) (number : FormedEntr
     length table ≤ most → IsIndexed m most next table number
 fewer m most more next table number h few = record { few = few; below = h.below; distinct = h.distinct; each = h.each }
 
--- an entry comes, and none goes yet
+-- an entry is stored, and none is evicted yet
 stored_over : (m most next after : ℕ) (table : List FormedEntry) (e : FormedEntry) (number number' : FormedEntry → Option ℕ) → most < m →
     IsIndexed m most next table number → reference_to e table ≡ None → IsNext m next after → IsChanged e (Some next) number number' →
     IsIndexed m (suc most) after (e ∷ table) number'
@@ -157,7 +158,7 @@ first_of : {X : Type 0} (xs : List X) (x : X) → slice_get xs 0 ≡ Some x → 
 first_of [] x at = absurd (cc)
 first_of (y ∷ ys) x at = let same : y ≡ x = cc in ap (λ z. z ∷ ys) same
 
--- an entry comes into a ring that has room
+-- an entry is stored in a ring that has room
 pub put_free : (m most next after capacity : ℕ) (xs : List FormedEntry) (e : FormedEntry) (number number' : FormedEntry → Option ℕ) →
     most < m → capacity ≡ most →
     IsIndexed m most next (reverse xs) number → reference_to e (reverse xs) ≡ None → IsNext m next after →
@@ -173,7 +174,7 @@ put_free m most next after capacity xs e number number' small full h absent up c
       | inr le ↦ absurd (has_first xs e (sym (rw (le-ltb (length xs) most le) at none)))
     ]
 
--- an entry comes into a full ring, and the oldest one goes
+-- an entry is stored in a full ring, and the oldest one is evicted
 pub put_full : (m most next after capacity : ℕ) (xs : List FormedEntry) (e last : FormedEntry)
     (number number' number'' : FormedEntry → Option ℕ) → most < m → capacity ≡ most →
     IsIndexed m most next (reverse xs) number → reference_to e (reverse xs) ≡ None → IsNext m next after →
@@ -197,20 +198,22 @@ put_full m most next after capacity xs e last number number' number'' small full
           (subst (λ t. IsIndexed m (suc most) after t number') turned over) removed) (omega arith)))
     ]
 
--- the reference at a number, below next and not
+-- the reference of a number that is below `next`, or isn't
 pub found_low : (m most next n : ℕ) (r : Option ℕ) → Numbered m next r (Some n) → Within most r → most < m → n < next → r ≡ Some (next - n)
 found_low m most next n None h w small lt = absurd h
 found_low m most next n (Some i) h w small lt = ap (λ k. Some k) (elim h.1 [ inl a ↦ omega arith | inr b ↦ absurd (omega arith) ])
 
+-- A number from the next one on was given before the count wrapped.
 pub found_high : (m most next n : ℕ) (r : Option ℕ) → Numbered m next r (Some n) → Within most r → next ≤ n → r ≡ Some (next + m - n)
 found_high m most next n None h w le = absurd h
 found_high m most next n (Some i) h w le = ap (λ k. Some k) (elim h.1 [ inl a ↦ absurd (omega arith) | inr b ↦ omega arith ])
 
+-- The number of an entry is below the modulus.
 pub number_below : (m next n : ℕ) (r : Option ℕ) → Numbered m next r (Some n) → n < m
 number_below m next n None h = absurd h
 number_below m next n (Some i) h = h.0
 
--- where the number isn't below next, there are so many more numbers up to m
+-- if the number isn't below `next`, there are enough numbers up to m
 pub room_above : (m most next n : ℕ) (r : Option ℕ) → Numbered m next r (Some n) → Within most r → next ≤ n → next + m ≤ n + most
 room_above m most next n None h w le = absurd h
 room_above m most next n (Some i) h w le = elim h.1 [ inl a ↦ absurd (omega arith) | inr b ↦ omega arith ]
@@ -219,12 +222,14 @@ within_up : (k m : ℕ) (r : Option ℕ) → k ≤ m → Within k r → Within m
 within_up k m None le w = tt
 within_up k m (Some i) le w = (w.0, omega arith)
 
+-- An entry that has a number is in the table, at the reference that goes with the number.
 pub found_in : (m most next : ℕ) (table : List FormedEntry) (number : FormedEntry → Option ℕ) (e : FormedEntry) (n : ℕ) →
     IsIndexed m most next table number → Some n ≡ number e →
     Numbered m next (reference_to e table) (Some n) × Within most (reference_to e table)
 found_in m most next table number e n h is =
     (subst (λ o. Numbered m next (reference_to e table) o) (sym is) (h.each e), within_up (length table) most _ h.few (within e table))
 
+-- An empty table has no numbers.
 pub nothing_indexed : (m most next : ℕ) → next < m → (number : FormedEntry → Option ℕ) → ((e : FormedEntry) → number e ≡ None) →
     IsIndexed m most next [] number
 nothing_indexed m most next below number none = record {
@@ -234,16 +239,18 @@ nothing_indexed m most next below number none = record {
   each = λ e. are_none m next None (number e) refl (none e);
 }
 
+-- An update of the map changes one number only.
 pub changed_by : {S : Type 0} (e : FormedEntry) (w : Option ℕ) (old new : HashMap FormedEntry ℕ S) →
     hash.UpdatesBy same_entry (λ k. same_entry e k) old new w →
     IsChanged e w (λ f. hash.get_by (same_entry f) old) (λ f. hash.get_by (same_entry f) new)
 changed_by e w old new h = record { here = h.1; others = λ f n. others_stay e f _ _ h.3 n }
 
-pub limit_is_small : limit < 2 ^ 64
-unfolding limit
+-- The size of a table is below 2^64.
+pub limit_is_small : table_limit < 2 ^ 64
+unfolding table_limit
 limit_is_small = omega arith
 
--- an entry that stands in a table of distinct ones has the reference of its place
+-- an entry of a table of distinct ones has the reference of its index
 pub standing : (table : List FormedEntry) (i : ℕ) (e : FormedEntry) → AreDistinct table → slice_get table i ≡ Some e →
     reference_to e table ≡ Some (i + 1)
 standing [] i e distinct at = absurd (cc)

@@ -1,4 +1,4 @@
--- The loops over lists that go to the end of some bytes.
+-- The loops over lists that extend to the end of some bytes.
 use Rattle.std.proofs.Common.{◌≡◌, ℕ, suc, ◌+◌, ◌-◌, ◌<◌, ◌≤◌, ◌⊎◌, inl, inr, List, [], ◌∷◌, ◌++◌, length, refl, ap, sym, subst, ◌∙◌, arith}
 use Rattle.std.proofs.Common.{append_assoc, length-append, false, true, eqb, Result, Ok, Err}
 use Rattle.std.proofs.lemmas.Bool.Decides.{nat_tests}
@@ -7,17 +7,17 @@ use Rattle.o5_codec.specs.declared.reason.O5Reason.{O5Reason}
 use Rattle.o5_codec.specs.declared.reason.O5Reason.TheVariants.{Memory}
 use Rattle.o5_codec.specs.declared.segment.Segment.{Segment}
 use Rattle.o5_codec.specs.Answer.{and_then}
-use Rattle.o5_codec.specs.Segment.{Step}
+use Rattle.o5_codec.specs.Segment.{ReadStep}
 use Rattle.o5_codec.specs.Items.{items_up_to, items_at, and_one_more}
 
 module _ {X : Type 0} where
-  -- items behind those that were read
+  -- items after those that were read
   abbrev pub behind : List X → Result (List X × Segment) O5Reason → Result (List X × Segment) O5Reason
   behind done (Ok x) = Ok (done ++ x.0, x.1)
   behind done (Err reason) = Err reason
 
   -- these items were read, and these bytes are left
-  pub record HasItems (item_at : Segment → List ℕ → Step X) (start : Segment) (bytes : List ℕ) (done : List X) (s : Segment)
+  pub record HasItems (item_at : Segment → List ℕ → ReadStep X) (start : Segment) (bytes : List ℕ) (done : List X) (s : Segment)
       (rest : List ℕ) : Type 0 where
     pub room : length rest + length done ≤ length bytes
     pub left : (most : ℕ) → most + length done ≡ length bytes → items_at item_at start bytes ≡ behind done (items_up_to item_at most s rest)
@@ -31,7 +31,8 @@ module _ {X : Type 0} where
   behind_one done x (Ok more) = ap (λ xs. Ok (xs, more.1)) (sym (append_assoc done (x ∷ []) more.0))
   behind_one done x (Err reason) = refl
 
-module _ {X : Type 0} (item_at : Segment → List ℕ → Step X) where
+module _ {X : Type 0} (item_at : Segment → List ℕ → ReadStep X) where
+  -- At first no item was read.
   pub items_begin : (s : Segment) (bytes : List ℕ) → HasItems item_at s bytes [] s bytes
   unfolding items_at
   items_begin s bytes = record {
@@ -40,10 +41,12 @@ module _ {X : Type 0} (item_at : Segment → List ℕ → Step X) where
         ∙ sym (behind_none (items_up_to item_at most s bytes)));
   }
 
+  -- No bytes are no items.
   pub items_none : (s : Segment) (bytes : List ℕ) → bytes ≡ [] → items_at item_at s bytes ≡ Ok ([], s)
   unfolding items_at items_up_to
   items_none s bytes none = rw none refl
 
+  -- Where no bytes are left, the items that were read are all.
   pub items_end : (start : Segment) (bytes : List ℕ) (done : List X) (s : Segment) (rest : List ℕ) →
       HasItems item_at start bytes done s rest → rest ≡ [] → items_at item_at start bytes ≡ Ok (done, s)
   unfolding items_up_to
@@ -51,6 +54,7 @@ module _ {X : Type 0} (item_at : Segment → List ℕ → Step X) where
       h.left (length bytes - length done) (omega (arith, h.room)) ∙ ap (λ xs. Ok (xs, s)) (append-nil done)
   items_end start bytes done s (b ∷ rest) h e = cc
 
+  -- One more item extends the items that were read.
   pub items_more : (start : Segment) (bytes : List ℕ) (done : List X) (s : Segment) (rest : List ℕ) (x : X) (next : Segment)
       (after : List ℕ) →
       HasItems item_at start bytes done s rest → item_at s rest ≡ Ok (x, next, after) → length after < length rest →
@@ -74,6 +78,7 @@ module _ {X : Type 0} (item_at : Segment → List ℕ → Step X) where
       h.left (suc most) (omega (arith, h.room))
       ∙ ap (λ r. behind done (and_then r (λ y. and_then (items_up_to item_at most y.1 y.2) (λ more. Ok (y.0 ∷ more.0, more.1))))) is
 
+  -- Where an item can't be read, neither can the items.
   pub items_wanting : (start : Segment) (bytes : List ℕ) (done : List X) (s : Segment) (rest : List ℕ) (reason : O5Reason) →
       HasItems item_at start bytes done s rest → (rest ≡ [] → ⊥) → (reason ≡ Memory) ⊎ (item_at s rest ≡ Err reason) →
       (reason ≡ Memory) ⊎ (items_at item_at start bytes ≡ Err reason)
@@ -84,7 +89,7 @@ module _ {X : Type 0} (item_at : Segment → List ℕ → Step X) where
   payload y (Ok x) = x
   payload y (Err reason) = y
 
-  -- what was read where a list has one item more
+  -- the reading of a list with one more item
   one_more : (done : List X) (reading : Result (X × Segment × List ℕ) O5Reason) (list : List X) (next : Segment) (after : List ℕ) →
       and_one_more done reading ≡ Ok (list, next, after) → (x : X) × (reading ≡ Ok (x, next, after)) × (done ++ x ∷ [] ≡ list)
   one_more done (Ok x) list next after e =
@@ -97,6 +102,7 @@ module _ {X : Type 0} (item_at : Segment → List ℕ → Step X) where
   no_more done (Ok x) reason e = cc
   no_more done (Err r) reason e = cc
 
+  -- An item that is added to a list extends the items that were read.
   pub items_added : (start : Segment) (bytes : List ℕ) (done : List X) (s : Segment) (rest : List ℕ) (list : List X) (next : Segment)
       (after : List ℕ) →
       HasItems item_at start bytes done s rest → and_one_more done (item_at s rest) ≡ Ok (list, next, after) → length after < length rest →
@@ -106,6 +112,7 @@ module _ {X : Type 0} (item_at : Segment → List ℕ → Step X) where
       subst (λ (xs : List X). HasItems item_at start bytes xs next after) one.2
       (items_more start bytes done s rest one.0 next after h one.1 short)
 
+  -- Where an item can't be added, the items can't be read.
   pub items_not_added : (start : Segment) (bytes : List ℕ) (done : List X) (s : Segment) (rest : List ℕ) (reason : O5Reason) →
       HasItems item_at start bytes done s rest → (rest ≡ [] → ⊥) → (reason ≡ Memory) ⊎ (and_one_more done (item_at s rest) ≡ Err reason) →
       (reason ≡ Memory) ⊎ (items_at item_at start bytes ≡ Err reason)
@@ -113,15 +120,17 @@ module _ {X : Type 0} (item_at : Segment → List ℕ → Step X) where
   items_not_added start bytes done s rest reason h some (inr is) =
       inr (items_refused start bytes done s rest reason h some (no_more done (item_at s rest) reason is))
 
--- what the test of the loop says
+-- consequences of the test of the loop
 pub filled_by_test : {X : Type 0} (xs : List X) → false ≡ eqb (length xs) 0 → xs ≡ [] → ⊥
 filled_by_test [] test e = cc
 filled_by_test (x ∷ xs) test e = cc
 
+-- A list whose length isn't 0 has an item.
 pub some_by_test : {X : Type 0} (xs : List X) → false ≡ eqb (length xs) 0 → 0 < length xs
 some_by_test [] test = cc
 some_by_test (x ∷ xs) test = omega arith
 
+-- A list whose length is 0 is empty.
 pub empty_by_test : {X : Type 0} (xs : List X) → true ≡ eqb (length xs) 0 → xs ≡ []
 empty_by_test [] test = refl
 empty_by_test (x ∷ xs) test = grind (arith, nat_tests)

@@ -6,7 +6,7 @@ use Rattle.std.proofs.lemmas.Bool.{cases_lt, lt-ltb, le-ltb}
 use Rattle.std.proofs.lemmas.Option.{slice_get-get_or, slice_get_past}
 use Rattle.std.specs.List.{slice_get}
 use Rattle.circular_buffer.specs.Buffer.{Buffer, buffer, keep_last}
-use Rattle.o5_codec.specs.Entry.{Entry}
+use Rattle.o5_codec.specs.Entry.{EntryStrings}
 use Rattle.o5_codec.specs.Table.{entry_at}
 
 reverse_last : {X : Type 0} (n : ℕ) (ys : List X) → reverse (keep_last n ys) ≡ take n (reverse ys)
@@ -47,7 +47,8 @@ from_back (y ∷ ys) i = elim (cases_lt i (length (y ∷ ys))) [
   | inr past ↦ rw (le-ltb i (length (y ∷ ys)) past) (sym (slice_get_past (reverse (y ∷ ys)) i (omega (arith, length-reverse (y ∷ ys)))))
 ]
 
-pub entry_from : (table : List Entry) (n : ℕ) → (n ≡ 0 → ⊥) → slice_get table (n - 1) ≡ entry_at table n
+-- Reference n names the item at n - 1.
+pub entry_from : (table : List EntryStrings) (n : ℕ) → (n ≡ 0 → ⊥) → slice_get table (n - 1) ≡ entry_at table n
 entry_from table zero h = absurd (h refl)
 entry_from table (suc n) h = let e : suc n - 1 ≡ n = omega arith in ap (slice_get table) e
 
@@ -57,6 +58,7 @@ take_twice (suc n) zero xs h = absurd (omega arith)
 take_twice (suc n) (suc m) [] h = refl
 take_twice (suc n) (suc m) (x ∷ xs) h = ap (λ ys. x ∷ ys) (take_twice n m xs (omega arith))
 
+-- To cut a list before an item is added changes nothing once it is cut after it.
 pub cons_twice : {X : Type 0} (n : ℕ) (x : X) (xs : List X) → take n (x ∷ take n xs) ≡ take n (x ∷ xs)
 cons_twice zero x xs = refl
 cons_twice (suc n) x xs = ap (λ ys. x ∷ ys) (take_twice n (suc n) xs (omega arith))

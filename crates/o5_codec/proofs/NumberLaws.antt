@@ -1,4 +1,4 @@
--- What is read as a number is spelled so, and what is spelled so is read.
+-- A number is read exactly if its bytes spell it.
 use Rattle.std.proofs.Common.{◌≡◌, ℕ, ℤ, pos, negsuc, zero, suc, ◌+◌, ◌-◌, ◌*◌, ◌/◌, ◌%◌, ◌<◌, ◌≤◌, ◌^◌, true, false, eqb, ltb, List, []}
 use Rattle.std.proofs.Common.{◌∷◌, ◌++◌, length, refl, ap, sym, ◌∙◌, arith, Result, Ok, Err, inl, inr, subst, length-append, if◌then◌else◌}
 use Rattle.std.proofs.lemmas.Bool.{le-ltb, lt-ltb, cases_lt}
@@ -15,6 +15,7 @@ low_ok : (low : ℕ) (r : Result (ℕ × List ℕ) O5Reason) (x : ℕ × List �
 low_ok low (Ok y) x h = let e : (low + 128 * y.0, y.1) ≡ x = cc in (y.0, ap (λ z. Ok (y.0, z.1)) e, ap (λ z. z.0) (sym e))
 low_ok low (Err e) x h = cc
 
+-- A group with its top bit set before groups of seven bits adds its value.
 pub longer : (b n high : ℕ) (front : List ℕ) → 128 ≤ b → n ≡ (b - 128) + 128 * high → AreGroups front high → AreGroups (b ∷ front) n
 longer b n high [] big e g = absurd g
 longer b n high (c ∷ cs) big e g = (big, (high, omega arith, g))
@@ -44,9 +45,11 @@ groups_only (suc room) (b ∷ c ∷ front) rest n g short =
     rw (le-ltb b 128 g.0) (ap (λ r. with_low (b - 128) r) (groups_only room (c ∷ front) rest g.1.0 g.1.2 (omega arith))
     ∙ ap (λ k. Ok (k, rest)) (let e : (b - 128) + 128 * g.1.0 ≡ n = omega (arith, g.0, g.1.1) in e))
 
+-- The test `ltb` decides whether a number is less.
 pub below : (n m : ℕ) → ltb n m ≡ true → n < m
 below n m h = grind (arith, nat_tests)
 
+-- A number that is read is spelled by the bytes before the rest.
 pub number_found : (bytes : List ℕ) (x : ℕ × List ℕ) → number_at bytes ≡ Ok x → NumberStands bytes x
 unfolding number_at
 number_found bytes x h =
@@ -58,6 +61,7 @@ number_found bytes x h =
     let P : ℕ × List ℕ → Type 0 = λ y. NumberStands bytes y in
     subst P same (g.0, record { short = g.1; fits = fits; groups = g.2 }, g.3)
 
+-- A number that is spelled is read.
 pub number_only : (bytes : List ℕ) (x : ℕ × List ℕ) → NumberStands bytes x → number_at bytes ≡ Ok x
 unfolding number_at
 number_only bytes x s =
@@ -68,6 +72,7 @@ nonempty : (front rest : List ℕ) (n : ℕ) → AreGroups front n → length re
 nonempty [] rest n g = absurd g
 nonempty (b ∷ front) rest n g = omega (arith, length-append front rest)
 
+-- A number takes a byte at least.
 pub number_shorter : (bytes : List ℕ) (x : ℕ × List ℕ) → NumberStands bytes x → length x.1 < length bytes
 number_shorter bytes x s = rw s.2 (nonempty s.0 x.1 x.0 s.1.groups)
 
@@ -83,6 +88,7 @@ signed_unsigned (pos n) = let even : (2 * n) % 2 ≡ 0 = omega arith in let half
 signed_unsigned (negsuc n) = let odd : (2 * n + 1) % 2 ≡ 1 = omega arith in let half : (2 * n + 1) / 2 ≡ n = omega arith in
     rw (odd, half) refl
 
+-- A signed number that is read is spelled by the bytes before the rest.
 pub signed_found : (bytes : List ℕ) (x : ℤ × List ℕ) → signed_at bytes ≡ Ok x → SignedStands bytes x
 unfolding signed_at
 signed_found bytes x h =
@@ -93,11 +99,13 @@ signed_found bytes x h =
     let N : ℕ → Type 0 = λ n. SpellsNumber g.0 n in
     subst P same (g.0, subst N (sym (unsigned_signed f.0.0)) g.1, g.2)
 
+-- A signed number that is spelled is read.
 pub signed_only : (bytes : List ℕ) (x : ℤ × List ℕ) → SignedStands bytes x → signed_at bytes ≡ Ok x
 unfolding signed_at
 signed_only bytes x s =
     ap (λ r. and_then r (λ y. Ok (signed_of y.0, y.1))) (number_only bytes (unsigned_of x.0, x.1) s)
     ∙ ap (λ m. Ok (m, x.1)) (signed_unsigned x.0)
 
+-- A signed number takes a byte at least.
 pub signed_shorter : (bytes : List ℕ) (x : ℤ × List ℕ) → SignedStands bytes x → length x.1 < length bytes
 signed_shorter bytes x s = number_shorter bytes (unsigned_of x.0, x.1) s

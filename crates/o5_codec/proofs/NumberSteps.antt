@@ -1,4 +1,4 @@
--- The loop of the reader: what is read so far, and what is left, stand for the whole number.
+-- The loop of the reader: the part that was read and the part that is left determine the whole number.
 use Rattle.std.proofs.Common.{◌≡◌, ℕ, zero, suc, ◌+◌, ◌-◌, ◌*◌, ◌<◌, ◌≤◌, ◌^◌, List, [], ◌∷◌, refl, ap, sym, ◌∙◌, Result, Ok, Err, arith}
 use Rattle.std.proofs.Common.{length, drop, take, get_or, inl, inr, subst}
 use Rattle.std.proofs.Math.Nat.{pow-le-pow_right, mul-le-mul_right}
@@ -39,6 +39,7 @@ scaled_end : (value weight room b : ℕ) (rest : List ℕ) → b < 128 →
 unfolding groups_at
 scaled_end value weight room b rest l = rw (lt-ltb b 128 l) refl
 
+-- One more group with its top bit set adds to the value.
 pub read_more : (bytes : List ℕ) (i value weight b : ℕ) → Read bytes i value weight → b ≡ get_or bytes i 0 → i < 9 → i < length bytes →
     128 ≤ b → b < 256 →
     Read bytes (i + 1) (value + (b - 128) * weight) (weight * 128)
@@ -53,6 +54,7 @@ read_more bytes i value weight b r is small inside high byte =
           ∙ scaled_step value weight room b (drop (i + 1) bytes) high;
     }
 
+-- The weight of the next group fits into 64 bits.
 pub weight_fits : (bytes : List ℕ) (i value weight : ℕ) → Read bytes i value weight → i ≤ 8 → weight * 128 ≤ 2 ^ 63
 weight_fits bytes i value weight r small =
     let p : 128 ^ i ≤ 128 ^ 8 = pow-le-pow_right (omega arith) small in
@@ -64,6 +66,7 @@ unfolding groups_at
 groups_none zero = refl
 groups_none (suc room) = refl
 
+-- A number that isn't ended is BadNumber.
 pub read_none : (bytes : List ℕ) (i value weight : ℕ) → Read bytes i value weight → i < 10 → i ≡ length bytes →
     number_at bytes ≡ Err BadNumber
 unfolding number_at
@@ -71,6 +74,7 @@ read_none bytes i value weight r small e =
     let none : drop i bytes ≡ [] = drop_of_length-le bytes (omega arith) in
     rw (r.left (10 - i) (omega arith), none, groups_none (10 - i)) refl
 
+-- A group without its top bit ends the number.
 pub read_end : (bytes : List ℕ) (i value weight b : ℕ) → Read bytes i value weight → b ≡ get_or bytes i 0 → i < 10 → i < length bytes →
     b < 128 → value + b * weight < 2 ^ 64 →
     number_at bytes ≡ Ok (value + b * weight, take (length bytes - (i + 1)) (drop (i + 1) bytes))
@@ -115,6 +119,7 @@ read_over bytes i value weight b r is nine inside high =
     ∙ ap (λ x. scaled value weight (groups_at 1 (x ∷ drop (i + 1) bytes))) (sym is) in
     ap (λ r. and_then r within_word) left ∙ over value weight b (drop (i + 1) bytes) (rw p (omega arith))
 
+-- Nine groups are nine groups, however they are counted.
 pub read_to_nine : (bytes : List ℕ) (i value weight : ℕ) → Read bytes i value weight → i ≡ 9 → Read bytes 9 value weight
 read_to_nine bytes i value weight r nine = let P : ℕ → Type 0 = λ n. Read bytes n value weight in subst P nine r
 

@@ -10,16 +10,16 @@ use Rattle.o5_codec.specs.declared.reason.O5Reason.TheVariants.{BadNumber, BadTe
 use Rattle.o5_codec.specs.declared.segment.Segment.{Segment}
 use Rattle.o5_codec.specs.declared.strings.Form.{Form}
 use Rattle.o5_codec.specs.declared.strings.Form.TheVariants.{Pair, Single}
-use Rattle.o5_codec.specs.declared.strings.Spelled.{Spelled}
-use Rattle.o5_codec.specs.declared.strings.Spelled.TheVariants.{Inline, Reference}
+use Rattle.o5_codec.specs.declared.strings.StringRef.{StringRef}
+use Rattle.o5_codec.specs.declared.strings.StringRef.TheVariants.{Inline, Reference}
 use Rattle.o5_codec.specs.Answer.{and_then}
-use Rattle.o5_codec.specs.Entry.{Entry}
+use Rattle.o5_codec.specs.Entry.{EntryStrings}
 use Rattle.o5_codec.specs.Table.{entry_at}
 use Rattle.o5_codec.specs.Number.{groups_at, with_low, within_word, number_at, signed_at}
 use Rattle.o5_codec.specs.Base.{moved_id, moved_number, moved_coordinate}
-use Rattle.o5_codec.specs.Strings.{ended_at, string_at, inline_at, spelled_at, referred, strings_of, table_after, strings_at}
+use Rattle.o5_codec.specs.StringPair.{split_at_end, string_at, inline_at, spelled_at, entry_or_fault, strings_of, table_after, strings_at}
 use Rattle.o5_codec.specs.Text.{text_of, tag_of, user_of}
-use Rattle.o5_codec.specs.Segment.{Step, with_bases, id_at, numbered, version_at, time_at, changeset_at, user_at, author, author_behind}
+use Rattle.o5_codec.specs.Segment.{ReadStep, with_bases, id_at, nonzero_version, version_at, time_at, changeset_at, user_at, author, author_behind}
 use Rattle.o5_codec.specs.Segment.{author_at, meta_at}
 use Rattle.o5_codec.specs.Items.{items_up_to, items_at}
 use Rattle.o5_codec.specs.Body.{with_seen, tag_at, longitude_at, latitude_at, node_at, cut_at, section_at, with_section, reference_at}
@@ -41,6 +41,7 @@ use Rattle.o5_codec.proofs.StepLaws.{section_only}
 abbrev Same : Type 0 → Type 0 → Type 0
 Same P Q = (P → Q) × (Q → P)
 
+-- A refusal has one reason.
 pub same_reason : {X : Type 0} (a b : O5Reason) → (let refused : Result X O5Reason = Err a in refused ≡ Err b) → a ≡ b
 same_reason a b h = cc
 
@@ -58,7 +59,7 @@ then_only : {X Y : Type 0} (reading : Result X O5Reason) (next : X → Result Y 
 then_only reading next reason first Stands later refused only behind (inl h) = ap (λ r. and_then r next) (refused h)
 then_only reading next reason first Stands later refused only behind (inr h) = read_next reading next h.0 (only h.0 h.1) ∙ behind h.0 h.2
 
--- one step, then those behind it
+-- one step, then those after it
 then_same : {X Y : Type 0} (reading : Result X O5Reason) (next : X → Result Y O5Reason) (reason : O5Reason) (first : Type 0)
     (Stands later : X → Type 0) →
     Same (reading ≡ Err reason) first → ((x : X) → Same (reading ≡ Ok x) (Stands x)) → ((x : X) → Same (next x ≡ Err reason) (later x)) →
@@ -77,7 +78,7 @@ last_same (Err f) value reason first refused = (
   λ g. ap (λ e. Err e) (same_reason f reason (refused.1 g)),
 )
 
--- a step with one reason is refused where nothing stands
+-- a step with one reason is refused if nothing is spelled
 only_reason : {X : Type 0} (reading : Result X O5Reason) (only reason : O5Reason) (Stands : X → Type 0) →
     ((f : O5Reason) → reading ≡ Err f → f ≡ only) →
     ((x : X) → Same (reading ≡ Ok x) (Stands x)) → Same (reading ≡ Err reason) ((reason ≡ only) × Nothing Stands)
@@ -131,7 +132,7 @@ signed_refused : (bytes : List ℕ) (reason : O5Reason) → Same (signed_at byte
 signed_refused bytes reason = only_reason (signed_at bytes) BadNumber reason (SignedStands bytes) (signed_reason bytes) (signed_same bytes)
 
 -- ---- strings
-ended_reason : (bytes : List ℕ) (place : Option ℕ) (f : O5Reason) → ended_at bytes place ≡ Err f → f ≡ BadText
+ended_reason : (bytes : List ℕ) (place : Option ℕ) (f : O5Reason) → split_at_end bytes place ≡ Err f → f ≡ BadText
 ended_reason bytes None f h = sym (same_reason BadText f h)
 ended_reason bytes (Some end) f h = cc
 
@@ -157,20 +158,20 @@ inline_refused form bytes reason =
     only_reason (inline_at form bytes) BadText reason (InlineStands form bytes) (inline_reason form bytes)
     (λ x. (inline_found form bytes x, inline_only form bytes x))
 
-abbrev with_table_and : List Entry → List ℕ → Entry → Result (Entry × List Entry × List ℕ) O5Reason
+abbrev with_table_and : List EntryStrings → List ℕ → EntryStrings → Result (EntryStrings × List EntryStrings × List ℕ) O5Reason
 with_table_and table rest e = Ok (e, table, rest)
 
-abbrev inline_of : Entry × List ℕ → Result (Spelled × List ℕ) O5Reason
+abbrev inline_of : EntryStrings × List ℕ → Result (StringRef × List ℕ) O5Reason
 inline_of y = Ok (Inline y.0, y.1)
 
-abbrev resolved : List Entry → Spelled × List ℕ → Result (Entry × List Entry × List ℕ) O5Reason
+abbrev resolved : List EntryStrings → StringRef × List ℕ → Result (EntryStrings × List EntryStrings × List ℕ) O5Reason
 resolved table x = and_then (strings_of table x.0) (with_table_and (table_after x.0 table) x.1)
 
-abbrev moved_on : {X : Type 0} → (ℤ → Result X O5Reason) → (X → Segment) → ℤ × List ℕ → Step X
-moved_on {X} moved after x = let made : X → Step X = λ v. Ok (v, after v, x.1) in and_then (moved x.0) made
+abbrev moved_on : {X : Type 0} → (ℤ → Result X O5Reason) → (X → Segment) → ℤ × List ℕ → ReadStep X
+moved_on {X} moved after x = let made : X → ReadStep X = λ v. Ok (v, after v, x.1) in and_then (moved x.0) made
 
-missing : (table : List Entry) (rest : List ℕ) (o : Option Entry) (reason : O5Reason) →
-    Same (and_then (referred o) (with_table_and table rest) ≡ Err reason) ((o ≡ None) × (reason ≡ BadReference))
+missing : (table : List EntryStrings) (rest : List ℕ) (o : Option EntryStrings) (reason : O5Reason) →
+    Same (and_then (entry_or_fault o) (with_table_and table rest) ≡ Err reason) ((o ≡ None) × (reason ≡ BadReference))
 missing table rest None reason = (λ h. (refl, sym (same_reason BadReference reason h)), λ h. ap (λ e. Err e) (sym h.1))
 missing table rest (Some e) reason = (λ h. cc, λ h. (let clash = h.0 in cc))
 
@@ -180,33 +181,33 @@ joined : {X Y Z : Type 0} (r : Result X O5Reason) (value : X → Y) (next : Y �
 joined (Ok x) value next = refl
 joined (Err e) value next = refl
 
-inline_first : (r : Result (Entry × List ℕ) O5Reason) (table : List Entry) (reason : O5Reason) →
+inline_first : (r : Result (EntryStrings × List ℕ) O5Reason) (table : List EntryStrings) (reason : O5Reason) →
     and_then (and_then r inline_of) (resolved table) ≡ Err reason → r ≡ Err reason
 inline_first (Ok x) table reason h = cc
 inline_first (Err e) table reason h = ap (λ f. Err f) (same_reason e reason h)
 
-inline_again : (form : Form) (table : List Entry) (bytes : List ℕ) (reason : O5Reason) {Q : Type 0} →
+inline_again : (form : Form) (table : List EntryStrings) (bytes : List ℕ) (reason : O5Reason) {Q : Type 0} →
     ((true ≡ true) × InlineRefused form bytes reason) ⊎ ((true ≡ false) × Q) →
     (InlineRefused form bytes reason → inline_at form bytes ≡ Err reason) →
     and_then (and_then (inline_at form bytes) inline_of) (resolved table) ≡ Err reason
 inline_again form table bytes reason (inl s) again = rw (again s.1) refl
 inline_again form table bytes reason (inr s) again = (let clash = s.0 in cc)
 
-reference_again : (table : List Entry) (bytes : List ℕ) (reason : O5Reason) {P Q : Type 0} →
+reference_again : (table : List EntryStrings) (bytes : List ℕ) (reason : O5Reason) {P Q : Type 0} →
     ((false ≡ true) × P) ⊎ ((false ≡ false) × ReferenceMissing table bytes reason) →
     (ReferenceMissing table bytes reason → Q) → Q
 reference_again table bytes reason (inl s) again = absurd (false≢true s.0)
 reference_again table bytes reason (inr s) again = again s.1
 
-strings_refused : (form : Form) (table : List Entry) (bytes : List ℕ) (reason : O5Reason) →
+strings_refused : (form : Form) (table : List EntryStrings) (bytes : List ℕ) (reason : O5Reason) →
     Same (strings_at form table bytes ≡ Err reason) (StringsRefused form table bytes reason)
 unfolding strings_at spelled_at
 strings_refused form table [] reason = (λ h. sym (same_reason BadText reason h), λ h. ap (λ e. Err e) (sym h))
 strings_refused form table (b ∷ bytes) reason =
-    let behind : Spelled × List ℕ → Result (Entry × List Entry × List ℕ) O5Reason =
+    let behind : StringRef × List ℕ → Result (EntryStrings × List EntryStrings × List ℕ) O5Reason =
     λ x. and_then (strings_of table x.0) (λ e. Ok (e, table_after x.0 table, x.1)) in
-    let inline : Result (Spelled × List ℕ) O5Reason = and_then (inline_at form bytes) (λ y. Ok (Inline y.0, y.1)) in
-    let reference : Result (Spelled × List ℕ) O5Reason = and_then (number_at (b ∷ bytes)) (λ y. Ok (Reference y.0, y.1)) in
+    let inline : Result (StringRef × List ℕ) O5Reason = and_then (inline_at form bytes) (λ y. Ok (Inline y.0, y.1)) in
+    let reference : Result (StringRef × List ℕ) O5Reason = and_then (number_at (b ∷ bytes)) (λ y. Ok (Reference y.0, y.1)) in
     elim (eqb b 0) as (λ t. Same (and_then (if t then inline else reference) behind ≡ Err reason)
     (((t ≡ true) × InlineRefused form bytes reason) ⊎ ((t ≡ false) × ReferenceMissing table (b ∷ bytes) reason))) [
       | true ↦ (let r = inline_refused form bytes reason in (
@@ -220,7 +221,7 @@ strings_refused form table (b ∷ bytes) reason =
           (λ h. inr (refl, r.0 (sym same ∙ h)), λ s. reference_again table (b ∷ bytes) reason s (λ m. same ∙ r.1 m)))
     ]
 
-strings_same : (form : Form) (table : List Entry) (bytes : List ℕ) (x : Entry × List Entry × List ℕ) →
+strings_same : (form : Form) (table : List EntryStrings) (bytes : List ℕ) (x : EntryStrings × List EntryStrings × List ℕ) →
     Same (strings_at form table bytes ≡ Ok x) (StringsStand form table bytes x)
 strings_same form table bytes x = (strings_found form table bytes x, strings_only form table bytes x)
 
@@ -235,7 +236,7 @@ moved_refused moved after bytes reason =
 version_refused : (bytes : List ℕ) (reason : O5Reason) → Same (version_at bytes ≡ Err reason) (VersionRefused bytes reason)
 unfolding version_at
 version_refused bytes reason =
-    then_same (number_at bytes) numbered reason (NumberRefused bytes reason) (NumberStands bytes) (λ x. numbered x ≡ Err reason)
+    then_same (number_at bytes) nonzero_version reason (NumberRefused bytes reason) (NumberStands bytes) (λ x. nonzero_version x ≡ Err reason)
     (number_refused bytes reason) (number_same bytes) (λ x. (λ h. h, λ h. h))
 
 user_refused : (s : Segment) (bytes : List ℕ) (reason : O5Reason) → Same (user_at s bytes ≡ Err reason) (UserRefused s bytes reason)
@@ -306,7 +307,7 @@ member_refused s bytes reason =
     then_same (moved_member s.bases m.0 d.0) _ reason _ _ _ (λ h. h, λ h. h) (λ id. (λ h. h, λ h. h)) (λ id.
     last_same (text_of m.1) _ reason _ (λ h. h, λ h. h))))))
 
-module _ {X : Type 0} (item_at : Segment → List ℕ → Step X) (Stands : Segment → List ℕ → X × Segment × List ℕ → Type 0)
+module _ {X : Type 0} (item_at : Segment → List ℕ → ReadStep X) (Stands : Segment → List ℕ → X × Segment × List ℕ → Type 0)
     (Refused : Segment → List ℕ → O5Reason → Type 0)
     (found : (s : Segment) (bytes : List ℕ) (x : X × Segment × List ℕ) → item_at s bytes ≡ Ok x → Stands s bytes x)
     (only : (s : Segment) (bytes : List ℕ) (x : X × Segment × List ℕ) → Stands s bytes x →

@@ -1,4 +1,4 @@
--- A content is refused for a reason of its steps: never for want of memory, an earlier refusal or the end of a file.
+-- A content is refused for a reason of its steps: never for lack of memory, an earlier refusal or the end of a file.
 use Rattle.std.proofs.Common.{◌≡◌, ℕ, ℤ, pos, negsuc, zero, suc, ◌-◌, ◌^◌, Bool, true, eqb, leb, ltb, List, [], ◌∷◌, length, take, drop}
 use Rattle.std.proofs.Common.{Option, Some, None, refl, Result, Ok, Err, if◌then◌else◌}
 use Rattle.std.specs.Prelude.{unsigned_abs, position}
@@ -16,22 +16,22 @@ use Rattle.o5_codec.specs.declared.segment.ListsSeen.{ListsSeen}
 use Rattle.o5_codec.specs.declared.segment.ListsSeen.TheVariants.{Neither, References, NodeMembers}
 use Rattle.o5_codec.specs.declared.strings.Form.{Form}
 use Rattle.o5_codec.specs.declared.strings.Form.TheVariants.{Pair, Single}
-use Rattle.o5_codec.specs.declared.strings.Spelled.{Spelled}
-use Rattle.o5_codec.specs.declared.strings.Spelled.TheVariants.{Inline, Reference}
+use Rattle.o5_codec.specs.declared.strings.StringRef.{StringRef}
+use Rattle.o5_codec.specs.declared.strings.StringRef.TheVariants.{Inline, Reference}
 use Rattle.o5_codec.specs.Reason.{is_step_reason}
 use Rattle.o5_codec.specs.Answer.{and_then}
-use Rattle.o5_codec.specs.Entry.{Entry}
+use Rattle.o5_codec.specs.Entry.{EntryStrings}
 use Rattle.o5_codec.specs.Table.{entry_at}
 use Rattle.o5_codec.specs.Number.{with_low, groups_at, within_word, number_at, signed_at}
 use Rattle.o5_codec.specs.Base.{moved_id, within_range, number_within, moved_number, moved_coordinate}
-use Rattle.o5_codec.specs.Strings.{is_zero, ended_at, string_at, inline_at, spelled_at, referred, strings_of, strings_at}
+use Rattle.o5_codec.specs.StringPair.{is_zero, split_at_end, string_at, inline_at, spelled_at, entry_or_fault, strings_of, strings_at}
 use Rattle.o5_codec.specs.Text.{text_of, tag_of, whole_number, uid_of, user_of}
-use Rattle.o5_codec.specs.Segment.{Step, id_at, numbered, version_at, time_at, changeset_at, user_at, author_behind, author_at, meta_at}
+use Rattle.o5_codec.specs.Segment.{ReadStep, id_at, nonzero_version, version_at, time_at, changeset_at, user_at, author_behind, author_at, meta_at}
 use Rattle.o5_codec.specs.Items.{items_up_to, items_at}
 use Rattle.o5_codec.specs.Body.{with_seen, tag_at, longitude_at, latitude_at, node_at, cut_at, section_at, with_section, reference_at}
 use Rattle.o5_codec.specs.Body.{way_at, member_kind, kind_and_role, with_member, moved_member, member_at, relation_at, body_at, set_at}
 
--- where it is refused, for a reason of the steps
+-- if it is refused, the reason is one of the steps
 abbrev pub Named : {X : Type 0} → Result X O5Reason → Type 0
 Named (Ok x) = Unit {0}
 Named (Err reason) = is_step_reason reason ≡ true
@@ -88,7 +88,7 @@ text_named : (bytes : List ℕ) → Named (text_of bytes)
 unfolding text_of
 text_named bytes = named_if (is_utf8 bytes) (Ok (chars bytes)) (Err NotUtf8) tt refl
 
-tag_of_named : (e : Entry) → Named (tag_of e)
+tag_of_named : (e : EntryStrings) → Named (tag_of e)
 unfolding tag_of
 tag_of_named e = named_then (text_of e.first) _ (text_named e.first) (λ key. named_last (text_of e.second) _ (text_named e.second))
 
@@ -101,12 +101,12 @@ unfolding uid_of
 uid_named [] = tt
 uid_named (b ∷ bytes) = named_then (number_at (b ∷ bytes)) whole_number (number_named (b ∷ bytes)) whole_named
 
-user_of_named : (e : Entry) → Named (user_of e)
+user_of_named : (e : EntryStrings) → Named (user_of e)
 unfolding user_of
 user_of_named e = named_then (uid_of e.first) _ (uid_named e.first) (λ uid. named_last (text_of e.second) _ (text_named e.second))
 
 -- ---- strings
-ended_named : (bytes : List ℕ) (place : Option ℕ) → Named (ended_at bytes place)
+ended_named : (bytes : List ℕ) (place : Option ℕ) → Named (split_at_end bytes place)
 ended_named bytes None = refl
 ended_named bytes (Some end) = tt
 
@@ -127,15 +127,15 @@ spelled_named form (b ∷ bytes) =
     (and_then (number_at (b ∷ bytes)) (λ x. Ok (Reference x.0, x.1)))
     (named_last (inline_at form bytes) _ (inline_named form bytes)) (named_last (number_at (b ∷ bytes)) _ (number_named (b ∷ bytes)))
 
-referred_named : (o : Option Entry) → Named (referred o)
+referred_named : (o : Option EntryStrings) → Named (entry_or_fault o)
 referred_named None = refl
 referred_named (Some e) = tt
 
-strings_of_named : (table : List Entry) (x : Spelled) → Named (strings_of table x)
+strings_of_named : (table : List EntryStrings) (x : StringRef) → Named (strings_of table x)
 strings_of_named table (Inline e) = tt
 strings_of_named table (Reference n) = referred_named (entry_at table n)
 
-strings_named : (form : Form) (table : List Entry) (bytes : List ℕ) → Named (strings_at form table bytes)
+strings_named : (form : Form) (table : List EntryStrings) (bytes : List ℕ) → Named (strings_at form table bytes)
 unfolding strings_at
 strings_named form table bytes = named_then (spelled_at form bytes) _ (spelled_named form bytes)
     (λ x. named_last (strings_of table x.0) _ (strings_of_named table x.0))
@@ -151,13 +151,13 @@ id_step_named : (s : Segment) (bytes : List ℕ) → Named (id_at s bytes)
 unfolding id_at
 id_step_named s bytes = moved_named (moved_id s.bases.id) _ bytes (id_named s.bases.id)
 
-numbered_named : (x : ℕ × List ℕ) → Named (numbered x)
+numbered_named : (x : ℕ × List ℕ) → Named (nonzero_version x)
 numbered_named x = named_if (eqb x.0 0) (Err NoVersion) (and_then (within_range x.0) (λ n. Ok (n, x.1))) refl
     (named_last (within_range x.0) _ (range_named x.0))
 
 version_named : (bytes : List ℕ) → Named (version_at bytes)
 unfolding version_at
-version_named bytes = named_then (number_at bytes) numbered (number_named bytes) numbered_named
+version_named bytes = named_then (number_at bytes) nonzero_version (number_named bytes) numbered_named
 
 time_named : (s : Segment) (bytes : List ℕ) → Named (time_at s bytes)
 unfolding time_at
@@ -231,7 +231,7 @@ member_named s bytes =
     named_then (moved_member s.bases m.0 d.0) _ (moved_member_named s.bases m.0 d.0) (λ id.
     named_last (text_of m.1) _ (text_named m.1))))))
 
-module _ {X : Type 0} (item_at : Segment → List ℕ → Step X) (step : (s : Segment) (bytes : List ℕ) → Named (item_at s bytes)) where
+module _ {X : Type 0} (item_at : Segment → List ℕ → ReadStep X) (step : (s : Segment) (bytes : List ℕ) → Named (item_at s bytes)) where
   up_to_named : (most : ℕ) (s : Segment) (bytes : List ℕ) → Named (items_up_to item_at most s bytes)
   unfolding items_up_to
   up_to_named zero s [] = tt
@@ -297,6 +297,7 @@ body_named kind.Node s (b ∷ bytes) = node_named s (b ∷ bytes)
 body_named kind.Way s (b ∷ bytes) = way_named s (b ∷ bytes)
 body_named kind.Relation s (b ∷ bytes) = relation_named s (b ∷ bytes)
 
+-- No content is refused for Memory, Failed or Truncated.
 pub set_named : (k : Kind) (s : Segment) (content : List ℕ) → Named (set_at k s content)
 unfolding set_at
 set_named k s content =

@@ -38,6 +38,7 @@ groups_least (suc more) n (b ∷ c ∷ bytes) bound groups = elim (cases_lt n 12
       let both = more_groups more n big in omega arith)
 ]
 
+-- No fewer bytes than those that are written spell a number.
 pub numbers_shortest : WrittenNumbersAreShortest
 unfolding shortest_number
 numbers_shortest n small = (shortest_spells n small, λ bytes bound spells. groups_least 9 n bytes bound spells.groups)

@@ -1,4 +1,4 @@
--- The loop of the writer of numbers: what is written, and what is left, are the whole number.
+-- The loop of the writer of numbers: the part that was written and the part that is left are the whole number.
 use Rattle.std.proofs.Common.{◌≡◌, ℕ, zero, suc, length, take, slice_set, ◌+◌, ◌-◌, ◌*◌, ◌/◌, ◌%◌, ◌<◌, ◌≤◌, ◌^◌, List, [], ◌∷◌, ◌++◌, refl}
 use Rattle.std.proofs.Common.{ap, sym, ◌∙◌, arith, append_assoc, subst, inl, inr}
 use Rattle.std.proofs.Math.Nat.{mul-le-mul_right}
@@ -12,6 +12,7 @@ pub record Written (all written : List ℕ) (n i rest : ℕ) : Type 0 where
   pub below : rest * 128 ^ i ≤ n
   pub left : (more : ℕ) → more + i ≡ 9 → all ≡ written ++ groups_of more rest
 
+-- At first nothing of a number was written.
 pub write_begin : (front : List ℕ) (n : ℕ) → Written (front ++ shortest_number n) front n 0 n
 unfolding shortest_number
 write_begin front n = record {
@@ -19,6 +20,7 @@ write_begin front n = record {
   left = λ more e. (let m : more ≡ 9 = omega arith in rw m refl);
 }
 
+-- A group with its top bit set is written, and the quotient by 128 is left.
 pub write_more : (all written : List ℕ) (n i rest : ℕ) → Written all written n i rest → i < 9 → 128 ≤ rest →
     Written all (written ++ (rest % 128 + 128) ∷ []) n (i + 1) (rest / 128)
 unfolding groups_of
@@ -35,6 +37,7 @@ unfolding groups_of
 last_group zero rest low = refl
 last_group (suc more) rest low = rw (lt-ltb rest 128 low) refl
 
+-- The last group completes the number.
 pub write_last : (all written : List ℕ) (n i rest : ℕ) → Written all written n i rest → i ≤ 9 → rest < 128 → all ≡ written ++ rest ∷ []
 write_last all written n i rest w small low = w.left (9 - i) (omega arith) ∙ ap (λ xs. written ++ xs) (last_group (9 - i) rest low)
 
@@ -55,7 +58,7 @@ pub write_one : (n : ℕ) → n < 128 → shortest_number n ≡ n ∷ []
 unfolding shortest_number groups_of
 write_one n low = rw (lt-ltb n 128 low) refl
 
--- one byte more behind those that are filled
+-- one more byte after those that are filled
 pub fill_more : (bytes written : List ℕ) (end behind byte : ℕ) → behind ≡ end + 1 → take end bytes ≡ written → end < length bytes →
     take behind (slice_set bytes end byte) ≡ written ++ byte ∷ []
 fill_more bytes written end behind byte next same inside = ap (λ n. take n (slice_set bytes end byte)) next

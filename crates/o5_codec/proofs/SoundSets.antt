@@ -1,4 +1,4 @@
--- What a data set in a sound segment spells is a version, and the segment behind it is sound.
+-- A data set in a sound segment spells a version, and the segment after it is sound.
 use Rattle.std.proofs.Common.{◌≡◌, ℕ, ℤ, Bool, true, false, not, eqb, ◌&&◌, List, [], ◌∷◌, refl, ap, sym, ◌∙◌, subst, arith, Ok, None}
 use Rattle.std.specs.Prelude.{All}
 use Rattle.std.specs.List.{list_all}
@@ -122,7 +122,7 @@ no_fault id meta body i m b =
     let texts : list_all is_text (meta.user ∷ texts_of body) ≡ true = and_true _ _ user.1 body_parts.1 in
     rw (ids, above, small, dated.0, user.0, texts) refl
 
--- what the steps read has no fault
+-- the data that the steps read has no fault
 pub set_faultless : (k : Kind) (s : Segment) (content : List ℕ) (x : ℤ × Segment × List ℕ) (m : Meta × Segment × List ℕ)
     (b : Body × Segment) → is_sound s ≡ true →
     id_at s content ≡ Ok x → meta_at x.1 x.2 ≡ Ok m → body_at k m.1 m.2 ≡ Ok b →
@@ -175,7 +175,7 @@ body_range kind.Node s (b ∷ bytes) x h = node_range s (b ∷ bytes) x h
 body_range kind.Way s (b ∷ bytes) x h = way_range s (b ∷ bytes) x h
 body_range kind.Relation s (b ∷ bytes) x h = relation_range s (b ∷ bytes) x h
 
--- what a data set spells is a version
+-- a data set spells a version
 pub set_version : (k : Kind) (s : Segment) (content : List ℕ) (x : VersionData × Segment) → is_sound s ≡ true → set_at k s content ≡ Ok x →
     IsVersion x.0 × (is_sound x.1 ≡ true)
 unfolding set_at
@@ -188,6 +188,7 @@ set_version k s content x sound h =
     let faultless = set_faultless k s content id.0 meta.0 body.0 sound id.1 meta.1 body.1 in
     subst P same (valid_version id.0.0 meta.0.0 body.0.0 faultless.0 (body_range k meta.0.1 meta.0.2 body.0 body.1), faultless.1)
 
+-- What data sets in a sound segment spell are versions, and the segment after them is sound.
 pub sets_versions : (s : Segment) (sets : List (Kind × List ℕ)) (x : List VersionData × Segment) → is_sound s ≡ true →
     sets_at s sets ≡ Ok x → All IsVersion x.0 × (is_sound x.1 ≡ true)
 sets_versions s [] x sound h =

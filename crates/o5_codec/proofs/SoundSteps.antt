@@ -1,4 +1,4 @@
--- What the steps of a data set in a sound segment read is in its range, and the segment behind them is sound.
+-- The values that the steps of a data set in a sound segment read are in range, and the segment after them is sound.
 use Rattle.std.proofs.Common.{◌≡◌, ℕ, ℤ, pos, negsuc, zero, suc, ◌^◌, Bool, true, false, not, eqb, ltb, ◌&&◌, List, [], ◌∷◌, length, refl}
 use Rattle.std.proofs.Common.{ap, sym, ◌∙◌, subst, arith, Ok, Err, Some, None, if◌then◌else◌}
 use lib.IntN.{◌+ℤ◌}
@@ -21,12 +21,12 @@ use Rattle.o5_codec.specs.declared.segment.Segment.{Segment}
 use Rattle.o5_codec.specs.Author.{Author}
 use Rattle.o5_codec.specs.declared.strings.Form.TheVariants.{Pair, Single}
 use Rattle.o5_codec.specs.Answer.{and_then}
-use Rattle.o5_codec.specs.Entry.{Entry}
+use Rattle.o5_codec.specs.Entry.{EntryStrings}
 use Rattle.o5_codec.specs.Number.{number_at, signed_at}
 use Rattle.o5_codec.specs.Base.{moved_id, within_range, number_within, moved_number, moved_coordinate}
-use Rattle.o5_codec.specs.Strings.{strings_at}
+use Rattle.o5_codec.specs.StringPair.{strings_at}
 use Rattle.o5_codec.specs.Text.{text_of, tag_of, whole_number, uid_of, user_of}
-use Rattle.o5_codec.specs.Segment.{Step, with_bases, with_table, id_at, numbered, version_at, time_at, changeset_at, user_at, author}
+use Rattle.o5_codec.specs.Segment.{ReadStep, with_bases, with_table, id_at, nonzero_version, version_at, time_at, changeset_at, user_at, author}
 use Rattle.o5_codec.specs.Segment.{author_behind, author_at, time_of, meta_of, meta_at}
 use Rattle.o5_codec.specs.Items.{items_up_to, items_at}
 use Rattle.o5_codec.specs.Body.{tag_at, kind_and_role, moved_member, with_member, member_at, reference_at, longitude_at, latitude_at}
@@ -55,6 +55,7 @@ id_ok s bytes x sound h =
     let same : (g.0, with_bases s (record s.bases { id = g.0 }), f.0.1) ≡ x = cc in
     (ap (λ y. is_id y.0) (sym same) ∙ moved_id_ok s.bases.id f.0.0 g.0 g.1, ap (λ y. is_sound y.1) (sym same) ∙ sound)
 
+-- A reference that is read is an id, and the segment stays sound.
 pub reference_ok : (s : Segment) (bytes : List ℕ) (x : ℤ × Segment × List ℕ) → is_sound s ≡ true → reference_at s bytes ≡ Ok x →
     (is_id x.0 ≡ true) × (is_sound x.1 ≡ true)
 unfolding reference_at
@@ -64,6 +65,7 @@ reference_ok s bytes x sound h =
     let same : (g.0, with_bases s (record s.bases { reference = g.0 }), f.0.1) ≡ x = cc in
     (ap (λ y. is_id y.0) (sym same) ∙ moved_id_ok s.bases.reference f.0.0 g.0 g.1, ap (λ y. is_sound y.1) (sym same) ∙ sound)
 
+-- A longitude that is read leaves the segment sound.
 pub longitude_ok : (s : Segment) (bytes : List ℕ) (x : ℤ × Segment × List ℕ) → is_sound s ≡ true → longitude_at s bytes ≡ Ok x →
     is_sound x.1 ≡ true
 unfolding longitude_at
@@ -72,6 +74,7 @@ longitude_ok s bytes x sound h =
     let g = first_ok (moved_coordinate s.bases.lon f.0.0) _ x f.2 in
     let same : (g.0, with_bases s (record s.bases { lon = g.0 }), f.0.1) ≡ x = cc in ap (λ y. is_sound y.1) (sym same) ∙ sound
 
+-- A latitude that is read leaves the segment sound.
 pub latitude_ok : (s : Segment) (bytes : List ℕ) (x : ℤ × Segment × List ℕ) → is_sound s ≡ true → latitude_at s bytes ≡ Ok x →
     is_sound x.1 ≡ true
 unfolding latitude_at
@@ -80,13 +83,14 @@ latitude_ok s bytes x sound h =
     let g = first_ok (moved_coordinate s.bases.lat f.0.0) _ x f.2 in
     let same : (g.0, with_bases s (record s.bases { lat = g.0 }), f.0.1) ≡ x = cc in ap (λ y. is_sound y.1) (sym same) ∙ sound
 
+-- A version number is above 0 and below 2^32.
 abbrev pub is_version : ℕ → Bool
 is_version n = not (eqb n 0) && is_number n
 
 version_ok : (bytes : List ℕ) (x : ℕ × List ℕ) → version_at bytes ≡ Ok x → is_version x.0 ≡ true
 unfolding version_at
 version_ok bytes x h =
-    let f = first_ok (number_at bytes) numbered x h in
+    let f = first_ok (number_at bytes) nonzero_version x h in
     elim (eqb f.0.0 0) as (λ b. eqb f.0.0 0 ≡ b → (if b then Err NoVersion else and_then (within_range f.0.0) (λ n. Ok (n, f.0.1))) ≡ Ok x →
     is_version x.0 ≡ true) [
       | true ↦ λ e is. cc
@@ -126,7 +130,7 @@ unfolding uid_of
 uid_ok [] n h = let same : 0 ≡ n = cc in ap is_number (sym same)
 uid_ok (b ∷ bytes) n h = let f = first_ok (number_at (b ∷ bytes)) whole_number n h in whole_ok f.0 n f.2
 
-user_of_ok : (e : Entry) (x : ℕ × List ℕ) → is_entry e ≡ true → user_of e ≡ Ok x → (is_number x.0 ≡ true) × (is_text x.1 ≡ true)
+user_of_ok : (e : EntryStrings) (x : ℕ × List ℕ) → is_entry e ≡ true → user_of e ≡ Ok x → (is_number x.0 ≡ true) × (is_text x.1 ≡ true)
 unfolding user_of
 user_of_ok e x sound h =
     let f = first_ok (uid_of e.first) _ x h in
@@ -166,6 +170,7 @@ behind_ok (changeset, s, b ∷ bytes) y number sound h =
     let user = user_ok s (b ∷ bytes) f.0 sound f.1 in
     (ap (λ z. is_author z.0) (sym same) ∙ and_true _ _ number (and_true _ _ user.0.0 user.0.1), ap (λ z. is_sound z.1) (sym same) ∙ user.1)
 
+-- Metadata is within its ranges.
 abbrev pub is_meta : Meta → Bool
 is_meta m = (is_version m.version && (is_number m.changeset && is_number m.uid)) && (is_time m.time && (is_dated m && is_text m.user))
 
@@ -183,6 +188,7 @@ untimed_ok version time v none =
     let when : time_of time ≡ None = rw none refl in
     rw when (and_true _ _ (and_true _ _ v refl) refl)
 
+-- Metadata that is read is within its ranges, and the segment stays sound.
 pub meta_ok : (s : Segment) (bytes : List ℕ) (x : Meta × Segment × List ℕ) → is_sound s ≡ true → meta_at s bytes ≡ Ok x →
     (is_meta x.0 ≡ true) × (is_sound x.1 ≡ true)
 unfolding meta_at author_at
@@ -215,6 +221,7 @@ coordinate_range base difference lon h =
     let P : ℤ → Type 0 = λ z. FitsSigned w32 z in
     subst P t.1 (SFits-int_wrap w32 (base +ℤ difference))
 
+-- A longitude that is read has 32 bits.
 pub longitude_range : (s : Segment) (bytes : List ℕ) (x : ℤ × Segment × List ℕ) → longitude_at s bytes ≡ Ok x → FitsSigned w32 x.0
 unfolding longitude_at
 longitude_range s bytes x h =
@@ -224,6 +231,7 @@ longitude_range s bytes x h =
     let P : ℤ → Type 0 = λ z. FitsSigned w32 z in
     subst P (ap (λ y. y.0) same) (coordinate_range s.bases.lon f.0.0 g.0 g.1)
 
+-- A latitude that is read has 32 bits.
 pub latitude_range : (s : Segment) (bytes : List ℕ) (x : ℤ × Segment × List ℕ) → latitude_at s bytes ≡ Ok x → FitsSigned w32 x.0
 unfolding latitude_at
 latitude_range s bytes x h =
@@ -237,7 +245,7 @@ latitude_range s bytes x h =
 abbrev pub is_tag : Tag → Bool
 is_tag t = is_text t.key && is_text t.value
 
-tag_of_ok : (e : Entry) (t : Tag) → is_entry e ≡ true → tag_of e ≡ Ok t → is_tag t ≡ true
+tag_of_ok : (e : EntryStrings) (t : Tag) → is_entry e ≡ true → tag_of e ≡ Ok t → is_tag t ≡ true
 unfolding tag_of
 tag_of_ok e t sound h =
     let f = first_ok (text_of e.first) _ t h in
@@ -247,6 +255,7 @@ tag_of_ok e t sound h =
     let same : made ≡ t = cc in
     ap is_tag (sym same) ∙ and_true _ _ (text_ok e.first f.0 strings.0 f.1) (text_ok e.second g.0 strings.1 g.1)
 
+-- The texts of a tag that is read have no U+0000, and the segment stays sound.
 pub tag_ok : (s : Segment) (bytes : List ℕ) (x : Tag × Segment × List ℕ) → is_sound s ≡ true → tag_at s bytes ≡ Ok x →
     (is_tag x.0 ≡ true) × (is_sound x.1 ≡ true)
 unfolding tag_at
@@ -257,6 +266,7 @@ tag_ok s bytes x sound h =
     let strings = strings_ok Pair s.table bytes f.0 sound f.1 in
     (ap (λ y. is_tag y.0) (sym same) ∙ tag_of_ok f.0.0 g.0 strings.0 g.1, ap (λ y. is_sound y.1) (sym same) ∙ strings.1)
 
+-- A member has an id and a role without U+0000.
 abbrev pub is_member : Member → Bool
 is_member m = is_id m.id && is_text m.role
 
@@ -281,6 +291,7 @@ moved_member_ok bases kind.Relation difference x h =
     let same : (f.0, record bases { relation_member = f.0 }) ≡ x = cc in ap (λ y. is_id y.0) (sym same)
     ∙ moved_id_ok bases.relation_member difference f.0 f.1
 
+-- A member that is read is within its ranges, and the segment stays sound.
 pub member_ok : (s : Segment) (bytes : List ℕ) (x : Member × Segment × List ℕ) → is_sound s ≡ true → member_at s bytes ≡ Ok x →
     (is_member x.0 ≡ true) × (is_sound x.1 ≡ true)
 unfolding member_at
@@ -302,7 +313,7 @@ member_ok s bytes x sound h =
     )
 
 -- ---- lists
-module _ {X : Type 0} (item_at : Segment → List ℕ → Step X) (passes : X → Bool)
+module _ {X : Type 0} (item_at : Segment → List ℕ → ReadStep X) (passes : X → Bool)
     (step : (s : Segment) (bytes : List ℕ) (x : X × Segment × List ℕ) → is_sound s ≡ true → item_at s bytes ≡ Ok x →
     (passes x.0 ≡ true) × (is_sound x.1 ≡ true)) where
   up_to_ok : (most : ℕ) (s : Segment) (bytes : List ℕ) (x : List X × Segment) → is_sound s ≡ true →
@@ -320,6 +331,7 @@ module _ {X : Type 0} (item_at : Segment → List ℕ → Step X) (passes : X �
       let more = up_to_ok most f.0.1 f.0.2 g.0 one.1 g.1 in
       (ap (λ y. list_all passes y.0) (sym same) ∙ and_true _ _ one.0 more.0, ap (λ y. is_sound y.1) (sym same) ∙ more.1)
 
+  -- Items that are read pass the test that each item passes, and the segment stays sound.
   pub items_ok : (s : Segment) (bytes : List ℕ) (x : List X × Segment) → is_sound s ≡ true → items_at item_at s bytes ≡ Ok x →
       (list_all passes x.0 ≡ true) × (is_sound x.1 ≡ true)
   unfolding items_at

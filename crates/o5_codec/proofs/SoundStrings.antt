@@ -10,13 +10,13 @@ use Rattle.osm_model.proofs.TextLaws.{zero_bytes}
 use Rattle.o5_codec.specs.declared.reason.O5Reason.{O5Reason}
 use Rattle.o5_codec.specs.declared.strings.Form.{Form}
 use Rattle.o5_codec.specs.declared.strings.Form.TheVariants.{Pair, Single}
-use Rattle.o5_codec.specs.declared.strings.Spelled.{Spelled}
-use Rattle.o5_codec.specs.declared.strings.Spelled.TheVariants.{Inline, Reference}
+use Rattle.o5_codec.specs.declared.strings.StringRef.{StringRef}
+use Rattle.o5_codec.specs.declared.strings.StringRef.TheVariants.{Inline, Reference}
 use Rattle.o5_codec.specs.Answer.{and_then}
-use Rattle.o5_codec.specs.Entry.{Entry}
-use Rattle.o5_codec.specs.Table.{limit, is_short, stored, entry_at}
+use Rattle.o5_codec.specs.Entry.{EntryStrings}
+use Rattle.o5_codec.specs.Table.{table_limit, is_short, table_with, entry_at}
 use Rattle.o5_codec.specs.Number.{number_at}
-use Rattle.o5_codec.specs.Strings.{ended_at, string_at, entry_of, inline_at, spelled_at, referred, strings_of, table_after, strings_at}
+use Rattle.o5_codec.specs.StringPair.{split_at_end, string_at, entry_of, inline_at, spelled_at, entry_or_fault, strings_of, table_after, strings_at}
 use Rattle.o5_codec.specs.Text.{text_of}
 use Rattle.o5_codec.specs.Sound.{has_no_zero, is_entry}
 
@@ -29,6 +29,7 @@ first_ok (Err reason) next y h = cc
 abbrev value_read : Type 0 → Type 0
 value_read X = Result X O5Reason
 
+-- A reading has one value.
 pub same_value : {X : Type 0} (x y : X) → (let read : value_read X = Ok x in read ≡ Ok y) → x ≡ y
 same_value x y h = cc
 
@@ -38,14 +39,16 @@ pub tested_ok : {X : Type 0} (test : Bool) (x y : X) (reason : O5Reason) → (if
 tested_ok true x y reason h = (refl, cc)
 tested_ok false x y reason h = cc
 
+-- Where a conjunction is true, both parts are.
 pub both_true : (a b : Bool) → a && b ≡ true → (a ≡ true) × (b ≡ true)
 both_true true b h = (refl, h)
 both_true false b h = cc
 
+-- Two true tests are true together.
 pub and_true : (a b : Bool) → a ≡ true → b ≡ true → a && b ≡ true
 and_true a b h g = rw (h, g) refl
 
--- the elements in front of the first that fails
+-- the elements before the first that fails
 prefix_passes : {X : Type 0} (p : X → Bool) (xs : List X) → list_all p (take (prefix_len p xs) xs) ≡ true
 prefix_passes p [] = refl
 prefix_passes p (x ∷ xs) =
@@ -65,18 +68,19 @@ get_passes p [] n x h is = cc
 get_passes p (y ∷ ys) zero x h is = let e : y ≡ x = cc in ap p (sym e) ∙ (both_true (p y) (list_all p ys) h).0
 get_passes p (y ∷ ys) (suc n) x h is = get_passes p ys n x (both_true (p y) (list_all p ys) h).1 is
 
+-- A string that is read has no zero byte.
 pub string_ok : (bytes : List ℕ) (x : List ℕ × List ℕ) → string_at bytes ≡ Ok x → has_no_zero x.0 ≡ true
 unfolding string_at
 string_ok bytes x h =
     let p : ℕ → Bool = λ b. not (eqb b 0) in
     let n : ℕ = prefix_len p bytes in
-    elim (ltb n (length bytes)) as (λ b. ended_at bytes (cond b (Some n) None) ≡ Ok x → has_no_zero x.0 ≡ true) [
+    elim (ltb n (length bytes)) as (λ b. split_at_end bytes (cond b (Some n) None) ≡ Ok x → has_no_zero x.0 ≡ true) [
       | true ↦ λ e. (let same : take n bytes ≡ x.0 = (let pairs : (take n bytes, drop (n + 1) bytes) ≡ x = cc in ap (λ y. y.0) pairs) in
           ap has_no_zero (sym same) ∙ prefix_passes p bytes)
       | false ↦ λ e. cc
     ] h
 
-pub inline_ok : (form : Form) (bytes : List ℕ) (x : Entry × List ℕ) → inline_at form bytes ≡ Ok x → is_entry x.0 ≡ true
+pub inline_ok : (form : Form) (bytes : List ℕ) (x : EntryStrings × List ℕ) → inline_at form bytes ≡ Ok x → is_entry x.0 ≡ true
 unfolding inline_at
 inline_ok Pair bytes x h =
     let f = first_ok (string_at bytes) _ x h in
@@ -88,12 +92,12 @@ inline_ok Single bytes x h =
     let same : (entry_of f.0.0 [], f.0.1) ≡ x = cc in
     ap (λ y. is_entry y.0) (sym same) ∙ and_true _ _ (string_ok bytes f.0 f.1) refl
 
--- what is spelled inline has no zero byte
-abbrev pub is_spelled : Spelled → Bool
+-- a string spelled inline has no zero byte
+abbrev pub is_spelled : StringRef → Bool
 is_spelled (Inline e) = is_entry e
 is_spelled (Reference n) = true
 
-spelled_ok : (form : Form) (bytes : List ℕ) (x : Spelled × List ℕ) → spelled_at form bytes ≡ Ok x → is_spelled x.0 ≡ true
+spelled_ok : (form : Form) (bytes : List ℕ) (x : StringRef × List ℕ) → spelled_at form bytes ≡ Ok x → is_spelled x.0 ≡ true
 unfolding spelled_at
 spelled_ok form [] x h = cc
 spelled_ok form (b ∷ bytes) x h =
@@ -107,33 +111,35 @@ spelled_ok form (b ∷ bytes) x h =
           ap (λ y. is_spelled y.0) (sym same))
     ] h
 
-stored_ok : (e : Entry) (table : List Entry) → is_entry e ≡ true → list_all is_entry table ≡ true →
-    list_all is_entry (stored e table) ≡ true
+stored_ok : (e : EntryStrings) (table : List EntryStrings) → is_entry e ≡ true → list_all is_entry table ≡ true →
+    list_all is_entry (table_with e table) ≡ true
 stored_ok e table h g =
-    elim (is_short e) as (λ t. list_all is_entry (if t then take limit (e ∷ table) else table) ≡ true) [
-      | true ↦ take_passes is_entry limit (e ∷ table) (and_true _ _ h g)
+    elim (is_short e) as (λ t. list_all is_entry (if t then take table_limit (e ∷ table) else table) ≡ true) [
+      | true ↦ take_passes is_entry table_limit (e ∷ table) (and_true _ _ h g)
       | false ↦ g
     ]
 
-table_after_ok : (x : Spelled) (table : List Entry) → is_spelled x ≡ true → list_all is_entry table ≡ true →
+table_after_ok : (x : StringRef) (table : List EntryStrings) → is_spelled x ≡ true → list_all is_entry table ≡ true →
     list_all is_entry (table_after x table) ≡ true
 table_after_ok (Inline e) table h g = stored_ok e table h g
 table_after_ok (Reference n) table h g = g
 
-pub referred_ok : (o : Option Entry) (e : Entry) → referred o ≡ Ok e → o ≡ Some e
+-- An entry that is returned is there.
+pub referred_ok : (o : Option EntryStrings) (e : EntryStrings) → entry_or_fault o ≡ Ok e → o ≡ Some e
 referred_ok None e h = cc
 referred_ok (Some f) e h = let same : f ≡ e = cc in ap (λ y. Some y) same
 
-entry_ok : (table : List Entry) (n : ℕ) (e : Entry) → list_all is_entry table ≡ true → entry_at table n ≡ Some e → is_entry e ≡ true
+entry_ok : (table : List EntryStrings) (n : ℕ) (e : EntryStrings) → list_all is_entry table ≡ true → entry_at table n ≡ Some e → is_entry e ≡ true
 entry_ok table zero e h is = cc
 entry_ok table (suc n) e h is = get_passes is_entry table n e h is
 
-strings_of_ok : (table : List Entry) (x : Spelled) (e : Entry) → is_spelled x ≡ true → list_all is_entry table ≡ true →
+strings_of_ok : (table : List EntryStrings) (x : StringRef) (e : EntryStrings) → is_spelled x ≡ true → list_all is_entry table ≡ true →
     strings_of table x ≡ Ok e → is_entry e ≡ true
 strings_of_ok table (Inline f) e h g is = let same : f ≡ e = cc in ap is_entry (sym same) ∙ h
 strings_of_ok table (Reference n) e h g is = entry_ok table n e g (referred_ok (entry_at table n) e is)
 
-pub strings_ok : (form : Form) (table : List Entry) (bytes : List ℕ) (x : Entry × List Entry × List ℕ) → list_all is_entry table ≡ true →
+-- Strings that are read of a sound table have no zero byte, and the table stays sound.
+pub strings_ok : (form : Form) (table : List EntryStrings) (bytes : List ℕ) (x : EntryStrings × List EntryStrings × List ℕ) → list_all is_entry table ≡ true →
     strings_at form table bytes ≡ Ok x → (is_entry x.0 ≡ true) × (list_all is_entry x.1 ≡ true)
 unfolding strings_at
 strings_ok form table bytes x g h =
@@ -145,10 +151,12 @@ strings_ok form table bytes x g h =
       ap (λ y. list_all is_entry y.1) (sym same) ∙ table_after_ok f.0.0 table spelled g,
     )
 
+-- Bytes have no zero byte if and only if none of them is zero.
 pub not_any : (bytes : List ℕ) → has_no_zero bytes ≡ not (list_any (λ b. eqb b 0) bytes)
 not_any [] = refl
 not_any (b ∷ bytes) = rw (not_any bytes) (grind (arith, nat_tests))
 
+-- The text of bytes without a zero byte has no U+0000.
 pub text_ok : (bytes characters : List ℕ) → has_no_zero bytes ≡ true → text_of bytes ≡ Ok characters → is_text characters ≡ true
 unfolding text_of
 text_ok bytes characters h is =

@@ -1,4 +1,4 @@
--- What the steps of a data set read is spelled so, and what is spelled so is read.
+-- The values that the steps of a data set read are those that the bytes spell.
 use Rattle.std.proofs.Common.{◌≡◌, ℕ, ℤ, zero, suc, ◌+◌, ◌<◌, ◌≤◌, inl, inr, true, false, eqb, leb, List, [], ◌∷◌, ◌++◌, length, take, drop}
 use Rattle.std.proofs.Common.{refl, ap, sym, ◌∙◌, arith, Result, Ok, Err, subst, length-append, if◌then◌else◌}
 use Rattle.std.proofs.lemmas.List.{take-append-drop, length-take}
@@ -20,9 +20,9 @@ use Rattle.o5_codec.specs.declared.strings.Form.TheVariants.{Pair, Single}
 use Rattle.o5_codec.specs.Answer.{and_then}
 use Rattle.o5_codec.specs.Number.{number_at, signed_at}
 use Rattle.o5_codec.specs.Base.{moved_id, within_range, moved_number, moved_coordinate}
-use Rattle.o5_codec.specs.Strings.{strings_at}
+use Rattle.o5_codec.specs.StringPair.{strings_at}
 use Rattle.o5_codec.specs.Text.{text_of, tag_of, user_of}
-use Rattle.o5_codec.specs.Segment.{Step, with_bases, with_table, id_at, numbered, version_at, time_at, changeset_at, user_at, author}
+use Rattle.o5_codec.specs.Segment.{ReadStep, with_bases, with_table, id_at, nonzero_version, version_at, time_at, changeset_at, user_at, author}
 use Rattle.o5_codec.specs.Segment.{author_behind, author_at, meta_at}
 use Rattle.o5_codec.specs.Items.{items_up_to, items_at}
 use Rattle.o5_codec.specs.Body.{with_seen, tag_at, longitude_at, latitude_at, node_at, cut_at, section_at, with_section, reference_at}
@@ -37,9 +37,10 @@ use Rattle.o5_codec.proofs.StringLaws.{strings_found, strings_only, strings_shor
 
 -- ---- a value by its difference
 module _ {X : Type 0} (moved : ℤ → Result X O5Reason) (after : X → Segment) where
-  abbrev moved_at : List ℕ → Step X
+  abbrev moved_at : List ℕ → ReadStep X
   moved_at bytes = and_then (signed_at bytes) (λ x. and_then (moved x.0) (λ v. Ok (v, after v, x.1)))
 
+  -- A value that is read by its difference is spelled so.
   pub moved_found : (bytes : List ℕ) (x : X × Segment × List ℕ) → moved_at bytes ≡ Ok x → MovedStands moved after bytes x
   moved_found bytes x h =
       let f = first_ok (signed_at bytes) _ x h in
@@ -48,6 +49,7 @@ module _ {X : Type 0} (moved : ℤ → Result X O5Reason) (after : X → Segment
       let P : X × Segment × List ℕ → Type 0 = λ y. MovedStands moved after bytes y in
       subst P same (f.0.0, signed_found bytes f.0 f.1, g.1, refl)
 
+  -- A value that is spelled by its difference is read.
   pub moved_only : (bytes : List ℕ) (x : X × Segment × List ℕ) → MovedStands moved after bytes x → moved_at bytes ≡ Ok x
   moved_only bytes x s =
       read_next (signed_at bytes) _ _ (signed_only bytes (s.0, x.2) s.1) ∙ read_next (moved s.0) _ _ s.2
@@ -57,25 +59,27 @@ module _ {X : Type 0} (moved : ℤ → Result X O5Reason) (after : X → Segment
   moved_shorter bytes x s = signed_shorter bytes (s.0, x.2) s.1
 
 -- ---- metadata
-numbered_rest : (x y : ℕ × List ℕ) → numbered x ≡ Ok y → x.1 ≡ y.1
+numbered_rest : (x y : ℕ × List ℕ) → nonzero_version x ≡ Ok y → x.1 ≡ y.1
 numbered_rest x y h =
     elim (eqb x.0 0) as (λ t. (if t then Err NoVersion else and_then (within_range x.0) (λ n. Ok (n, x.1))) ≡ Ok y → x.1 ≡ y.1) [
       | true ↦ λ e. cc
       | false ↦ λ e. (let f = first_ok (within_range x.0) _ y e in let same : (f.0, x.1) ≡ y = same_value _ _ f.2 in ap (λ z. z.1) same)
     ] h
 
+-- A version number that is read is spelled so.
 pub version_found : (bytes : List ℕ) (x : ℕ × List ℕ) → version_at bytes ≡ Ok x → VersionStands bytes x
 unfolding version_at
 version_found bytes x h =
-    let f = first_ok (number_at bytes) numbered x h in
+    let f = first_ok (number_at bytes) nonzero_version x h in
     let rest : f.0.1 ≡ x.1 = numbered_rest f.0 x f.2 in
-    let P : List ℕ → Type 0 = λ r. NumberStands bytes (f.0.0, r) × (numbered (f.0.0, r) ≡ Ok x) in
+    let P : List ℕ → Type 0 = λ r. NumberStands bytes (f.0.0, r) × (nonzero_version (f.0.0, r) ≡ Ok x) in
     let both = subst P rest (number_found bytes f.0 f.1, f.2) in
     (f.0.0, both.0, both.1)
 
+-- A version number that is spelled is read.
 pub version_only : (bytes : List ℕ) (x : ℕ × List ℕ) → VersionStands bytes x → version_at bytes ≡ Ok x
 unfolding version_at
-version_only bytes x s = read_next (number_at bytes) numbered _ (number_only bytes (s.0, x.1) s.1) ∙ s.2
+version_only bytes x s = read_next (number_at bytes) nonzero_version _ (number_only bytes (s.0, x.1) s.1) ∙ s.2
 
 user_found : (s : Segment) (bytes : List ℕ) (x : (ℕ × List ℕ) × Segment × List ℕ) → user_at s bytes ≡ Ok x → UserStands s bytes x
 unfolding user_at
@@ -136,6 +140,7 @@ author_only time s bytes x (inr a) =
     (moved_only (moved_number s.bases.changeset) (λ c. with_bases s (record s.bases { changeset = c })) bytes a.1.0 a.1.1)
     ∙ behind_only a.1.0.0 a.1.0.1 a.1.0.2 x a.1.2)
 
+-- Metadata that is read is spelled so.
 pub meta_found : (s : Segment) (bytes : List ℕ) (x : Meta × Segment × List ℕ) → meta_at s bytes ≡ Ok x → MetaStands s bytes x
 unfolding meta_at time_at
 meta_found s bytes x h =
@@ -151,6 +156,7 @@ meta_found s bytes x h =
       sym (same_value _ _ a.2),
     )
 
+-- Metadata that is spelled is read.
 pub meta_only : (s : Segment) (bytes : List ℕ) (x : Meta × Segment × List ℕ) → MetaStands s bytes x → meta_at s bytes ≡ Ok x
 unfolding meta_at time_at
 meta_only s bytes x m =
@@ -169,6 +175,7 @@ tag_found s bytes x h =
     let P : Tag × Segment × List ℕ → Type 0 = λ y. TagStands s bytes y in
     subst P same (f.0.0, f.0.1, strings_found Pair s.table bytes f.0 f.1, g.1, refl)
 
+-- A tag that is spelled is read, and takes a byte at least.
 pub tag_only : (s : Segment) (bytes : List ℕ) (x : Tag × Segment × List ℕ) → TagStands s bytes x →
     (tag_at s bytes ≡ Ok x) × (length x.2 < length bytes)
 unfolding tag_at
@@ -178,10 +185,12 @@ tag_only s bytes x u = (
   strings_shorter Pair s.table bytes (u.0, u.1, x.2) u.2,
 )
 
+-- A reference that is read is spelled so.
 pub reference_found : (s : Segment) (bytes : List ℕ) (x : ℤ × Segment × List ℕ) → reference_at s bytes ≡ Ok x → ReferenceStands s bytes x
 unfolding reference_at
 reference_found s bytes x h = moved_found (moved_id s.bases.reference) (λ id. with_bases s (record s.bases { reference = id })) bytes x h
 
+-- A reference that is spelled is read, and takes a byte at least.
 pub reference_only : (s : Segment) (bytes : List ℕ) (x : ℤ × Segment × List ℕ) → ReferenceStands s bytes x →
     (reference_at s bytes ≡ Ok x) × (length x.2 < length bytes)
 unfolding reference_at
@@ -190,6 +199,7 @@ reference_only s bytes x r = (
   moved_shorter (moved_id s.bases.reference) (λ id. with_bases s (record s.bases { reference = id })) bytes x r,
 )
 
+-- A member that is read is spelled so.
 pub member_found : (s : Segment) (bytes : List ℕ) (x : Member × Segment × List ℕ) → member_at s bytes ≡ Ok x → MemberStands s bytes x
 unfolding member_at
 member_found s bytes x h =
@@ -220,6 +230,7 @@ member_found s bytes x h =
       refl,
     )
 
+-- A member that is spelled is read, and takes a byte at least.
 pub member_only : (s : Segment) (bytes : List ℕ) (x : Member × Segment × List ℕ) → MemberStands s bytes x →
     (member_at s bytes ≡ Ok x) × (length x.2 < length bytes)
 unfolding member_at
@@ -235,7 +246,7 @@ member_only s bytes x (d, e, m, seen, id, ds, es, ms, sees, ids, role, kind_is, 
       (let a = signed_shorter bytes d ds in let b = strings_shorter Single s.table d.1 (e.0, e.1, x.2) es in omega arith),
     )
 
-module _ {X : Type 0} (item_at : Segment → List ℕ → Step X) (Stands : Segment → List ℕ → X × Segment × List ℕ → Type 0) where
+module _ {X : Type 0} (item_at : Segment → List ℕ → ReadStep X) (Stands : Segment → List ℕ → X × Segment × List ℕ → Type 0) where
   up_to_found : ((s : Segment) (bytes : List ℕ) (x : X × Segment × List ℕ) → item_at s bytes ≡ Ok x → Stands s bytes x) →
       (most : ℕ) (s : Segment) (bytes : List ℕ) (xs : List X) (end : Segment) → items_up_to item_at most s bytes ≡ Ok (xs, end) →
       ItemsStand Stands s bytes xs end
@@ -251,6 +262,7 @@ module _ {X : Type 0} (item_at : Segment → List ℕ → Step X) (Stands : Segm
       let P : List X × Segment → Type 0 = λ y. ItemsStand Stands s (b ∷ bytes) y.0 y.1 in
       subst P same (f.0.1, f.0.2, found s (b ∷ bytes) f.0 f.1, up_to_found found most f.0.1 f.0.2 g.0.0 g.0.1 g.1)
 
+  -- Items that are read are spelled so, if each item is.
   pub items_found : ((s : Segment) (bytes : List ℕ) (x : X × Segment × List ℕ) → item_at s bytes ≡ Ok x → Stands s bytes x) →
       (s : Segment) (bytes : List ℕ) (x : List X × Segment) → items_at item_at s bytes ≡ Ok x → ItemsStand Stands s bytes x.0 x.1
   unfolding items_at
@@ -275,6 +287,7 @@ module _ {X : Type 0} (item_at : Segment → List ℕ → Step X) (Stands : Segm
       read_next (item_at s (b ∷ bytes)) _ _ one.0 ∙ read_next (items_up_to item_at most h.0 h.1) _ _
       (up_to_only only most h.0 h.1 xs end (omega arith) h.3)
 
+  -- Items that are spelled are read, if each item is and takes a byte at least.
   pub items_only : ((s : Segment) (bytes : List ℕ) (x : X × Segment × List ℕ) → Stands s bytes x →
       (item_at s bytes ≡ Ok x) × (length x.2 < length bytes)) →
       (s : Segment) (bytes : List ℕ) (xs : List X) (end : Segment) → ItemsStand Stands s bytes xs end →
@@ -286,6 +299,7 @@ module _ {X : Type 0} (item_at : Segment → List ℕ → Step X) (Stands : Segm
 at_most : (n m : ℕ) → leb n m ≡ true → n ≤ m
 at_most n m h = grind (arith, nat_tests)
 
+-- A section that is read is spelled so.
 pub section_found : (bytes : List ℕ) (x : List ℕ × List ℕ) → section_at bytes ≡ Ok x → SectionStands bytes x
 unfolding section_at
 section_found bytes x h =
@@ -299,6 +313,7 @@ section_found bytes x h =
     let both : f.0 ≡ (length (take n f.0.1), take n f.0.1 ++ drop n f.0.1) = (λ i. (sym long i, sym (take-append-drop n f.0.1) i)) in
     subst P t.1 (subst Q both (number_found bytes f.0 f.1))
 
+-- A section that is spelled is read.
 pub section_only : (bytes : List ℕ) (x : List ℕ × List ℕ) → SectionStands bytes x → section_at bytes ≡ Ok x
 unfolding section_at
 section_only bytes x s =
@@ -423,6 +438,7 @@ set_found k s content x h =
       made = sym (same_value _ _ body.2);
     }
 
+-- A version that a content spells is read.
 pub set_only : (k : Kind) (s : Segment) (content : List ℕ) (x : VersionData × Segment) → SpellsSet k s content x → set_at k s content ≡ Ok x
 unfolding set_at id_at
 set_only k s content x h =
@@ -431,6 +447,7 @@ set_only k s content x h =
     ∙ read_next (meta_at h.id.1 h.id.2) _ _ (meta_only h.id.1 h.id.2 h.meta h.meta_stands)
     ∙ read_next (body_at k h.meta.1 h.meta.2) _ _ (body_only k h.meta.1 h.meta.2 h.body h.body_stands) ∙ ap (λ y. Ok y) (sym h.made)
 
+-- A content spells at most one version.
 pub one_version : (k : Kind) (s : Segment) (content : List ℕ) (x y : VersionData × Segment) → SpellsSet k s content x →
     SpellsSet k s content y → x ≡ y
 one_version k s content x y first second = one_value (set_at k s content) x y (set_only k s content x first) (set_only k s content y second)

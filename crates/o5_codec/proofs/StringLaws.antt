@@ -1,4 +1,4 @@
--- What is read as strings is spelled so, and what is spelled so is read.
+-- Strings are read exactly if their bytes spell them.
 use Rattle.std.proofs.Common.{◌≡◌, ℕ, suc, ◌+◌, ◌<◌, inl, inr, true, false, not, eqb, ltb, cond, List, [], ◌∷◌, ◌++◌, length, take, drop}
 use Rattle.std.proofs.Common.{refl, ap, sym, ◌∙◌, arith, Result, Ok, Some, None, subst, length-append, if◌then◌else◌}
 use Rattle.std.specs.List.{prefix_len}
@@ -8,13 +8,13 @@ use Rattle.std.proofs.Math.Seq.{take-append_seam, drop-append-add}
 use Rattle.o5_codec.specs.declared.reason.O5Reason.{O5Reason}
 use Rattle.o5_codec.specs.declared.strings.Form.{Form}
 use Rattle.o5_codec.specs.declared.strings.Form.TheVariants.{Pair, Single}
-use Rattle.o5_codec.specs.declared.strings.Spelled.{Spelled}
-use Rattle.o5_codec.specs.declared.strings.Spelled.TheVariants.{Inline, Reference}
+use Rattle.o5_codec.specs.declared.strings.StringRef.{StringRef}
+use Rattle.o5_codec.specs.declared.strings.StringRef.TheVariants.{Inline, Reference}
 use Rattle.o5_codec.specs.Answer.{and_then}
-use Rattle.o5_codec.specs.Entry.{Entry}
-use Rattle.o5_codec.specs.Table.{stored, entry_at}
+use Rattle.o5_codec.specs.Entry.{EntryStrings}
+use Rattle.o5_codec.specs.Table.{table_with, entry_at}
 use Rattle.o5_codec.specs.Number.{number_at}
-use Rattle.o5_codec.specs.Strings.{ended_at, string_at, entry_of, inline_at, spelled_at, strings_of, table_after, strings_at}
+use Rattle.o5_codec.specs.StringPair.{split_at_end, string_at, entry_of, inline_at, spelled_at, strings_of, table_after, strings_at}
 use Rattle.o5_codec.specs.Sound.{has_no_zero}
 use Rattle.o5_codec.specs.Spelling.{NumberStands, StringStands, InlineStands, StringsStand}
 use Rattle.o5_codec.proofs.AnswerSteps.{read_next}
@@ -52,7 +52,7 @@ unfolding string_at
 string_found bytes x h = (
   string_ok bytes x h,
   elim (ltb (before_zero bytes) (length bytes)) as (λ t. ltb (before_zero bytes) (length bytes) ≡ t →
-      ended_at bytes (cond t (Some (before_zero bytes)) None) ≡ Ok x → bytes ≡ x.0 ++ 0 ∷ x.1) [
+      split_at_end bytes (cond t (Some (before_zero bytes)) None) ≡ Ok x → bytes ≡ x.0 ++ 0 ∷ x.1) [
         | true ↦ λ t e. (let same : (take (before_zero bytes) bytes, drop (before_zero bytes + 1) bytes) ≡ x = cc in
             split_at_zero bytes t ∙ ap (λ y. y.0 ++ 0 ∷ y.1) same)
         | false ↦ λ t e. cc
@@ -66,7 +66,7 @@ string_there string rest h =
     let lengths : length (string ++ 0 ∷ rest) ≡ length string + length (0 ∷ rest) = length-append string (0 ∷ rest) in
     let inside : ltb (length string) (length (string ++ 0 ∷ rest)) ≡ true =
     lt-ltb (length string) (length (string ++ 0 ∷ rest)) (omega arith) in
-    ap (λ n. ended_at (string ++ 0 ∷ rest) (cond (ltb n (length (string ++ 0 ∷ rest))) (Some n) None)) place
+    ap (λ n. split_at_end (string ++ 0 ∷ rest) (cond (ltb n (length (string ++ 0 ∷ rest))) (Some n) None)) place
     ∙ rw (inside, take-append_seam string (0 ∷ rest), drop-append-add string (0 ∷ rest) 1) refl
 
 pub string_only : (bytes : List ℕ) (x : List ℕ × List ℕ) → StringStands bytes x → string_at bytes ≡ Ok x
@@ -75,50 +75,53 @@ string_only bytes x s = ap string_at s.1 ∙ string_there x.0 x.1 s.0
 string_shorter : (bytes : List ℕ) (x : List ℕ × List ℕ) → StringStands bytes x → length x.1 < length bytes
 string_shorter bytes x s = rw s.1 (omega (arith, length-append x.0 (0 ∷ x.1)))
 
-pub inline_found : (form : Form) (bytes : List ℕ) (x : Entry × List ℕ) → inline_at form bytes ≡ Ok x → InlineStands form bytes x
+-- Inline strings that are read are spelled so.
+pub inline_found : (form : Form) (bytes : List ℕ) (x : EntryStrings × List ℕ) → inline_at form bytes ≡ Ok x → InlineStands form bytes x
 unfolding inline_at
 inline_found Pair bytes x h =
     let f = first_ok (string_at bytes) _ x h in
     let g = first_ok (string_at f.0.1) _ x f.2 in
     let same : (entry_of f.0.0 g.0.0, g.0.1) ≡ x = cc in
-    let P : Entry × List ℕ → Type 0 = λ y. InlineStands Pair bytes y in
+    let P : EntryStrings × List ℕ → Type 0 = λ y. InlineStands Pair bytes y in
     subst P same (f.0.1, string_found bytes f.0 f.1, string_found f.0.1 g.0 g.1)
 inline_found Single bytes x h =
     let f = first_ok (string_at bytes) _ x h in
     let same : (entry_of f.0.0 [], f.0.1) ≡ x = cc in
-    let P : Entry × List ℕ → Type 0 = λ y. InlineStands Single bytes y in
+    let P : EntryStrings × List ℕ → Type 0 = λ y. InlineStands Single bytes y in
     subst P same (string_found bytes f.0 f.1, refl)
 
-pub inline_only : (form : Form) (bytes : List ℕ) (x : Entry × List ℕ) → InlineStands form bytes x → inline_at form bytes ≡ Ok x
+-- Inline strings that are spelled are read.
+pub inline_only : (form : Form) (bytes : List ℕ) (x : EntryStrings × List ℕ) → InlineStands form bytes x → inline_at form bytes ≡ Ok x
 unfolding inline_at
 inline_only Pair bytes x s = read_next (string_at bytes) _ _ (string_only bytes (x.0.first, s.0) s.1)
     ∙ read_next (string_at s.0) _ _ (string_only s.0 (x.0.second, x.1) s.2)
 inline_only Single bytes x s = read_next (string_at bytes) _ _ (string_only bytes (x.0.first, x.1) s.0)
     ∙ ap (λ second. Ok (entry_of x.0.first second, x.1)) (sym s.1)
 
-inline_shorter : (form : Form) (bytes : List ℕ) (x : Entry × List ℕ) → InlineStands form bytes x → length x.1 < length bytes
+inline_shorter : (form : Form) (bytes : List ℕ) (x : EntryStrings × List ℕ) → InlineStands form bytes x → length x.1 < length bytes
 inline_shorter Pair bytes x s = omega (arith, string_shorter bytes (x.0.first, s.0) s.1, string_shorter s.0 (x.0.second, x.1) s.2)
 inline_shorter Single bytes x s = string_shorter bytes (x.0.first, x.1) s.0
 
-inline_value : (table : List Entry) (x : Spelled) (e f : Entry) → x ≡ Inline e → strings_of table x ≡ Ok f → e ≡ f
+inline_value : (table : List EntryStrings) (x : StringRef) (e f : EntryStrings) → x ≡ Inline e → strings_of table x ≡ Ok f → e ≡ f
 inline_value table x e f is h = (let same : strings_of table (Inline e) ≡ Ok f = ap (strings_of table) (sym is) ∙ h in cc)
 
-referred_value : (table : List Entry) (x : Spelled) (n : ℕ) (e : Entry) → x ≡ Reference n → strings_of table x ≡ Ok e →
+referred_value : (table : List EntryStrings) (x : StringRef) (n : ℕ) (e : EntryStrings) → x ≡ Reference n → strings_of table x ≡ Ok e →
     entry_at table n ≡ Some e
 referred_value table x n e is h = referred_ok (entry_at table n) e (ap (strings_of table) (sym is) ∙ h)
 
-pub strings_found : (form : Form) (table : List Entry) (bytes : List ℕ) (x : Entry × List Entry × List ℕ) →
+-- Strings that are read are spelled so.
+pub strings_found : (form : Form) (table : List EntryStrings) (bytes : List ℕ) (x : EntryStrings × List EntryStrings × List ℕ) →
     strings_at form table bytes ≡ Ok x → StringsStand form table bytes x
 unfolding strings_at spelled_at
 strings_found form table [] x h = cc
 strings_found form table (b ∷ bytes) x h =
-    let inline : Result (Spelled × List ℕ) O5Reason = and_then (inline_at form bytes) (λ y. Ok (Inline y.0, y.1)) in
-    let reference : Result (Spelled × List ℕ) O5Reason = and_then (number_at (b ∷ bytes)) (λ y. Ok (Reference y.0, y.1)) in
+    let inline : Result (StringRef × List ℕ) O5Reason = and_then (inline_at form bytes) (λ y. Ok (Inline y.0, y.1)) in
+    let reference : Result (StringRef × List ℕ) O5Reason = and_then (number_at (b ∷ bytes)) (λ y. Ok (Reference y.0, y.1)) in
     let f = first_ok (if eqb b 0 then inline else reference)
     (λ y. and_then (strings_of table y.0) (λ e. Ok (e, table_after y.0 table, y.1))) x h in
     let k = first_ok (strings_of table f.0.0) _ x f.2 in
     let same : (k.0, table_after f.0.0 table, f.0.1) ≡ x = cc in
-    let P : Entry × List Entry × List ℕ → Type 0 = λ y. StringsStand form table (b ∷ bytes) y in
+    let P : EntryStrings × List EntryStrings × List ℕ → Type 0 = λ y. StringsStand form table (b ∷ bytes) y in
     subst P same (elim (eqb b 0) as (λ t. eqb b 0 ≡ t →
     (if t then and_then (inline_at form bytes) (λ y. Ok (Inline y.0, y.1))
     else and_then (number_at (b ∷ bytes)) (λ y. Ok (Reference y.0, y.1))) ≡ Ok f.0 →
@@ -129,14 +132,14 @@ strings_found form table (b ∷ bytes) x h =
           let rest : g.0.1 ≡ f.0.1 = ap (λ y. y.1) made in
           let entry : g.0.0 ≡ k.0 = inline_value table f.0.0 g.0.0 k.0 kind k.1 in
           let zero_byte : b ≡ 0 = grind (arith, nat_tests) in
-          let Q : Entry × List ℕ → Type 0 = λ y. InlineStands form bytes y in
+          let Q : EntryStrings × List ℕ → Type 0 = λ y. InlineStands form bytes y in
           let both : g.0 ≡ (k.0, f.0.1) = (λ i. (entry i, rest i)) in
           inl (
             bytes,
             ap (λ c. c ∷ bytes) zero_byte,
             subst Q both (inline_found form bytes g.0 g.1),
             ap (λ y. table_after y table) kind
-                ∙ ap (λ y. stored y table) entry,
+                ∙ ap (λ y. table_with y table) entry,
           ))
       | false ↦ λ t e. (let g = first_ok (number_at (b ∷ bytes)) _ f.0 e in
           let made : (Reference g.0.0, g.0.1) ≡ f.0 = cc in
@@ -157,7 +160,7 @@ zero_number bytes x (b ∷ [], s, e) = s.groups.1 ∙ (let same : 0 ∷ bytes �
 zero_number bytes x (b ∷ c ∷ front, s, e) = (let same : 0 ≡ b = (let lists : 0 ∷ bytes ≡ b ∷ c ∷ front ++ x.1 = e in cc) in
     absurd (omega (arith, s.groups.0)))
 
-strings_there : (form : Form) (table : List Entry) (n : ℕ) (bytes : List ℕ) (x : Entry × List Entry × List ℕ) →
+strings_there : (form : Form) (table : List EntryStrings) (n : ℕ) (bytes : List ℕ) (x : EntryStrings × List EntryStrings × List ℕ) →
     NumberStands bytes (n, x.2) → entry_at table n ≡ Some x.0 → x.1 ≡ table → strings_at form table bytes ≡ Ok x
 unfolding strings_at spelled_at
 strings_there form table n [] x s e t = absurd (let short = number_shorter [] (n, x.2) s in omega arith)
@@ -171,14 +174,16 @@ strings_there form table n (b ∷ bytes) x s e t =
     ] refl) in
     rw (some, number_only (b ∷ bytes) (n, x.2) s, e) (ap (λ u. Ok (x.0, u, x.2)) (sym t))
 
-pub strings_only : (form : Form) (table : List Entry) (bytes : List ℕ) (x : Entry × List Entry × List ℕ) → StringsStand form table bytes x →
+-- Strings that are spelled are read.
+pub strings_only : (form : Form) (table : List EntryStrings) (bytes : List ℕ) (x : EntryStrings × List EntryStrings × List ℕ) → StringsStand form table bytes x →
     strings_at form table bytes ≡ Ok x
 unfolding strings_at spelled_at
 strings_only form table bytes x (inl s) =
     ap (strings_at form table) s.1 ∙ rw (inline_only form s.0 (x.0, x.2) s.2) (ap (λ u. Ok (x.0, u, x.2)) (sym s.3))
 strings_only form table bytes x (inr s) = strings_there form table s.0 bytes x s.1 s.2 s.3
 
-pub strings_shorter : (form : Form) (table : List Entry) (bytes : List ℕ) (x : Entry × List Entry × List ℕ) →
+-- Strings take a byte at least.
+pub strings_shorter : (form : Form) (table : List EntryStrings) (bytes : List ℕ) (x : EntryStrings × List EntryStrings × List ℕ) →
     StringsStand form table bytes x → length x.2 < length bytes
 strings_shorter form table bytes x (inl s) = rw s.1 (omega (arith, inline_shorter form s.0 (x.0, x.2) s.2))
 strings_shorter form table bytes x (inr s) = number_shorter bytes (s.0, x.2) s.1

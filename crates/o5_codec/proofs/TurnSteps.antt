@@ -1,4 +1,4 @@
--- Steps of writing one behind the other.
+-- Steps of writing in sequence.
 use Rattle.std.proofs.Common.{◌≡◌, ℕ, ◌<◌, List, [], ◌∷◌, ◌++◌, map, length, refl, sym, ap, ◌∙◌, subst, arith, append_assoc, get_or, Bool}
 use Rattle.std.proofs.Common.{true, inl, inr}
 use Rattle.std.specs.List.{list_all}
@@ -8,53 +8,60 @@ use Rattle.std.proofs.lemmas.Bool.{cases_Bool, false≢true}
 use Rattle.osm_model.specs.declared.members.Member.{Member}
 use Rattle.osm_model.specs.Members.{ids_of_members}
 use Rattle.osm_model.specs.Id.{is_id}
-use Rattle.o5_codec.specs.Writing.{WrittenSegment, Step, in_turn, plain}
-use Rattle.o5_codec.specs.Appended.{Appended}
+use Rattle.o5_codec.specs.Writing.{EncoderSegment, WriteStep, sequence, fixed_bytes}
+use Rattle.o5_codec.specs.Appended.{AppendsSpelling}
 
-pub turn_none : (bytes : List ℕ) (s : WrittenSegment) → Appended bytes bytes s (in_turn [] s)
-unfolding in_turn
+-- No steps append nothing.
+pub turn_none : (bytes : List ℕ) (s : EncoderSegment) → AppendsSpelling bytes bytes s (sequence [] s)
+unfolding sequence
 turn_none bytes s = record { bytes = sym (append-nil bytes); context = refl }
 
-pub turn_next : (step : Step) (steps : List Step) (b0 b1 b2 : List ℕ) (s0 s1 s2 : WrittenSegment) →
-    Appended b0 b1 s1 (step s0) → Appended b1 b2 s2 (in_turn steps s1) → Appended b0 b2 s2 (in_turn (step ∷ steps) s0)
-unfolding in_turn
+-- A step and then the other steps append what all of them spell.
+pub turn_next : (step : WriteStep) (steps : List WriteStep) (b0 b1 b2 : List ℕ) (s0 s1 s2 : EncoderSegment) →
+    AppendsSpelling b0 b1 s1 (step s0) → AppendsSpelling b1 b2 s2 (sequence steps s1) → AppendsSpelling b0 b2 s2 (sequence (step ∷ steps) s0)
+unfolding sequence
 turn_next step steps b0 b1 b2 s0 s1 s2 first rest =
-    let P : WrittenSegment → Type 0 = λ s. Appended b1 b2 s2 (in_turn steps s) in
-    let behind : Appended b1 b2 s2 (in_turn steps (step s0).1) = subst P first.context rest in
+    let P : EncoderSegment → Type 0 = λ s. AppendsSpelling b1 b2 s2 (sequence steps s) in
+    let behind : AppendsSpelling b1 b2 s2 (sequence steps (step s0).1) = subst P first.context rest in
     record {
-      bytes = behind.bytes ∙ ap (λ b. b ++ (in_turn steps (step s0).1).0) first.bytes
-          ∙ append_assoc b0 (step s0).0 (in_turn steps (step s0).1).0;
+      bytes = behind.bytes ∙ ap (λ b. b ++ (sequence steps (step s0).1).0) first.bytes
+          ∙ append_assoc b0 (step s0).0 (sequence steps (step s0).1).0;
       context = behind.context;
     }
 
-pub turn_last : (step : Step) (b0 b1 : List ℕ) (s0 s1 : WrittenSegment) → Appended b0 b1 s1 (step s0) →
-    Appended b0 b1 s1 (in_turn (step ∷ []) s0)
+-- A single step appends what the sequence of it spells.
+pub turn_last : (step : WriteStep) (b0 b1 : List ℕ) (s0 s1 : EncoderSegment) → AppendsSpelling b0 b1 s1 (step s0) →
+    AppendsSpelling b0 b1 s1 (sequence (step ∷ []) s0)
 turn_last step b0 b1 s0 s1 first = turn_next step [] b0 b1 b1 s0 s1 s1 first (turn_none b1 s1)
 
-pub plainly : (bytes before after : List ℕ) (s : WrittenSegment) → after ≡ before ++ bytes → Appended before after s (plain bytes s)
-unfolding plain
+-- Fixed bytes leave the segment as it is.
+pub plainly : (bytes before after : List ℕ) (s : EncoderSegment) → after ≡ before ++ bytes → AppendsSpelling before after s (fixed_bytes bytes s)
+unfolding fixed_bytes
 plainly bytes before after s e = record { bytes = e; context = refl }
 
-module _ {X : Type 0} (step : X → Step) where
-  -- what the steps left do makes the whole of what all do
-  pub record Turns (all rest : List X) (before now : List ℕ) (start s : WrittenSegment) : Type 0 where
-    pub left : (after : List ℕ) (reached : WrittenSegment) → Appended now after reached (in_turn (map step rest) s) →
-        Appended before after reached (in_turn (map step all) start)
+module _ {X : Type 0} (step : X → WriteStep) where
+  -- the steps that are left complete the bytes of all steps
+  pub record Turns (all rest : List X) (before now : List ℕ) (start s : EncoderSegment) : Type 0 where
+    pub left : (after : List ℕ) (reached : EncoderSegment) → AppendsSpelling now after reached (sequence (map step rest) s) →
+        AppendsSpelling before after reached (sequence (map step all) start)
 
-  pub turns_begin : (all : List X) (before : List ℕ) (start : WrittenSegment) → Turns all all before before start start
+  -- At first all steps are left.
+  pub turns_begin : (all : List X) (before : List ℕ) (start : EncoderSegment) → Turns all all before before start start
   turns_begin all before start = record { left = λ after reached h. h }
 
-  pub turns_more : (all rest more : List X) (x : X) (before now next : List ℕ) (start s t : WrittenSegment) →
-      Turns all rest before now start s → rest ≡ x ∷ more → Appended now next t (step x s) → Turns all more before next start t
+  -- One more step extends what was appended.
+  pub turns_more : (all rest more : List X) (x : X) (before now next : List ℕ) (start s t : EncoderSegment) →
+      Turns all rest before now start s → rest ≡ x ∷ more → AppendsSpelling now next t (step x s) → Turns all more before next start t
   turns_more all rest more x before now next start s t h is one = record {
-    left = λ after reached k. h.left after reached (let P : List X → Type 0 = λ xs. Appended now after reached (in_turn (map step xs) s) in
+    left = λ after reached k. h.left after reached (let P : List X → Type 0 = λ xs. AppendsSpelling now after reached (sequence (map step xs) s) in
         subst P (sym is) (turn_next (step x) (map step more) now next after s t reached one k));
   }
 
-  pub turns_end : (all rest : List X) (before now : List ℕ) (start s : WrittenSegment) → Turns all rest before now start s → rest ≡ [] →
-      Appended before now s (in_turn (map step all) start)
+  -- Where no step is left, all steps were appended.
+  pub turns_end : (all rest : List X) (before now : List ℕ) (start s : EncoderSegment) → Turns all rest before now start s → rest ≡ [] →
+      AppendsSpelling before now s (sequence (map step all) start)
   turns_end all rest before now start s h is =
-      let P : List X → Type 0 = λ xs. Appended now now s (in_turn (map step xs) s) in
+      let P : List X → Type 0 = λ xs. AppendsSpelling now now s (sequence (map step xs) s) in
       h.left now s (subst P (sym is) (turn_none now s))
 
 -- each item of a list passes a test that all of them pass
@@ -64,6 +71,7 @@ all_at p xs i d inside all = elim (cases_Bool (p (get_or xs i d))) [
   | inr failed ↦ absurd (false≢true (sym (list_all_at p xs i d inside failed) ∙ all))
 ]
 
+-- Each member of a list of ids has an id.
 pub member_at : (members : List Member) (i : ℕ) (m : Member) → i < length members → m ≡ get_or members i m →
     list_all is_id (ids_of_members members) ≡ true → is_id m.id ≡ true
 member_at members i m inside is all =

@@ -1,10 +1,10 @@
--- A user is read exactly where the two strings of a pair spell it.
+-- A user is read exactly if the two strings of a pair spell it.
 use Rattle.std.proofs.Common.{◌≡◌, ◌∙◌, ap, sym, refl, subst, ℕ, ◌<◌, ◌^◌, ltb, true, List, [], ◌∷◌, arith, Ok}
 use Rattle.std.proofs.lemmas.List.{append-nil}
 use Rattle.std.proofs.lemmas.Bool.{lt-ltb}
 use Rattle.std.proofs.lemmas.Bool.Decides.{nat_tests}
 use Rattle.o5_codec.specs.declared.reason.O5Reason.TheVariants.{OutOfRange}
-use Rattle.o5_codec.specs.Entry.{Entry}
+use Rattle.o5_codec.specs.Entry.{EntryStrings}
 use Rattle.o5_codec.specs.Number.{SpellsNumber, number_at}
 use Rattle.o5_codec.specs.Text.{text_of, whole_number, uid_of, user_of}
 use Rattle.o5_codec.specs.Laws.{SpellsUid}
@@ -36,7 +36,8 @@ uid_only (b ∷ bytes) n h =
     read_next (number_at (b ∷ bytes)) whole_number (n, []) (number_only (b ∷ bytes) (n, []) (b ∷ bytes, h.0, sym (append-nil (b ∷ bytes))))
     ∙ rw (lt-ltb n (2 ^ 32) h.1) refl
 
-pub user_found : (e : Entry) (x : ℕ × List ℕ) → user_of e ≡ Ok x → SpellsUid e.first x.0 × (text_of e.second ≡ Ok x.1)
+-- A user that is read is spelled by the two strings.
+pub user_found : (e : EntryStrings) (x : ℕ × List ℕ) → user_of e ≡ Ok x → SpellsUid e.first x.0 × (text_of e.second ≡ Ok x.1)
 unfolding user_of
 user_found e x h =
     let f = first_ok (uid_of e.first) _ x h in
@@ -45,6 +46,7 @@ user_found e x h =
     let P : ℕ × List ℕ → Type 0 = λ y. SpellsUid e.first y.0 × (text_of e.second ≡ Ok y.1) in
     subst P same (uid_found e.first f.0 f.1, g.1)
 
-pub user_only : (e : Entry) (x : ℕ × List ℕ) → SpellsUid e.first x.0 × (text_of e.second ≡ Ok x.1) → user_of e ≡ Ok x
+-- A user that the two strings spell is read.
+pub user_only : (e : EntryStrings) (x : ℕ × List ℕ) → SpellsUid e.first x.0 × (text_of e.second ≡ Ok x.1) → user_of e ≡ Ok x
 unfolding user_of
 user_only e x h = read_next (uid_of e.first) _ x.0 (uid_only e.first x.0 h.0) ∙ read_next (text_of e.second) _ x.1 h.1

@@ -1,4 +1,4 @@
--- The bodies of data sets, as they are written, are read back.
+-- The bodies of data sets that are written are read back.
 use Rattle.std.proofs.Common.{◌≡◌, ℕ, ℤ, ◌<◌, ◌^◌, ◌-ℤ◌, Bool, true, ◌&&◌, List, [], ◌∷◌, ◌++◌, map, length, refl, ap, sym, ◌∙◌, arith, Ok}
 use Rattle.std.proofs.Common.{inl, inr, subst, append_assoc, length-append, FitsSigned, encode_utf8_all}
 use Rattle.std.specs.Int.{w32}
@@ -22,7 +22,7 @@ use Rattle.o5_codec.specs.Base.{moved_id}
 use Rattle.o5_codec.specs.Spelling.{NumberStands, TagStands, MemberStands, ItemsStand, SectionStands, VisibleStands, BodyStands}
 use Rattle.o5_codec.specs.Shortest.{shortest_number}
 use Rattle.o5_codec.specs.Formed.{FormedEntry}
-use Rattle.o5_codec.specs.Writing.{WrittenSegment, Step, in_turn, longitude_written, latitude_written, reference_written, member_id_written}
+use Rattle.o5_codec.specs.Writing.{EncoderSegment, WriteStep, sequence, longitude_written, latitude_written, reference_written, member_id_written}
 use Rattle.o5_codec.specs.Writing.{strings_written, member_entry, tag_written, tags_written, member_written, section_written}
 use Rattle.o5_codec.specs.Writing.{references_written, members_written, body_written}
 use Rattle.o5_codec.specs.Agreement.{strings_in, segment_behind, IsContext, MayHaveSeen}
@@ -51,10 +51,11 @@ may_go_on kind.Node seen may = inr refl
 may_go_on kind.Way seen may = may
 may_go_on kind.Relation seen may = may
 
+-- Two parts and the rest are the same list, however they are grouped.
 pub two_bytes : (a b rest : List ℕ) → (a ++ (b ++ [])) ++ rest ≡ a ++ (b ++ rest)
 two_bytes a b rest = ap (λ x. (a ++ x) ++ rest) (append-nil b) ∙ append_assoc a b rest
 
-member_stands : (k : Kind) (id : ℤ) (role : List ℕ) (c : WrittenSegment) (seen : ListsSeen) (rest : List ℕ) → IsContext c →
+member_stands : (k : Kind) (id : ℤ) (role : List ℕ) (c : EncoderSegment) (seen : ListsSeen) (rest : List ℕ) → IsContext c →
     MayHaveSeen kind.Relation seen → is_id id ≡ true → is_text role ≡ true →
     MemberStands (segment_behind c seen) ((member_id_written k id c).0
     ++ ((strings_written (member_entry k role) (member_id_written k id c).1).0 ++ rest)) (
@@ -66,7 +67,7 @@ member_stands : (k : Kind) (id : ℤ) (role : List ℕ) (c : WrittenSegment) (se
 unfolding member_id_written strings_written
 member_stands kind.Node id role c seen rest ok may h text =
     let e : FormedEntry = member_entry kind.Node role in
-    let c1 : WrittenSegment = (member_id_written kind.Node id c).1 in
+    let c1 : EncoderSegment = (member_id_written kind.Node id c).1 in
     let behind : List ℕ = (strings_written e c1).0 ++ rest in (
       (id -ℤ c.bases.node_member, behind),
       (e.strings, strings_in (strings_written e c1).1.table),
@@ -85,7 +86,7 @@ member_stands kind.Node id role c seen rest ok may h text =
     )
 member_stands kind.Way id role c seen rest ok may h text =
     let e : FormedEntry = member_entry kind.Way role in
-    let c1 : WrittenSegment = (member_id_written kind.Way id c).1 in
+    let c1 : EncoderSegment = (member_id_written kind.Way id c).1 in
     let behind : List ℕ = (strings_written e c1).0 ++ rest in (
       (id -ℤ c.bases.way_member, behind),
       (e.strings, strings_in (strings_written e c1).1.table),
@@ -104,7 +105,7 @@ member_stands kind.Way id role c seen rest ok may h text =
     )
 member_stands kind.Relation id role c seen rest ok may h text =
     let e : FormedEntry = member_entry kind.Relation role in
-    let c1 : WrittenSegment = (member_id_written kind.Relation id c).1 in
+    let c1 : EncoderSegment = (member_id_written kind.Relation id c).1 in
     let behind : List ℕ = (strings_written e c1).0 ++ rest in (
       (id -ℤ c.bases.relation_member, behind),
       (e.strings, strings_in (strings_written e c1).1.table),
@@ -122,11 +123,11 @@ member_stands kind.Relation id role c seen rest ok may h text =
       refl,
     )
 
-member_back : (m : Member) (c : WrittenSegment) (seen : ListsSeen) (rest : List ℕ) → IsContext c → MayHaveSeen kind.Relation seen →
+member_back : (m : Member) (c : EncoderSegment) (seen : ListsSeen) (rest : List ℕ) → IsContext c → MayHaveSeen kind.Relation seen →
     is_id m.id ≡ true → is_text m.role ≡ true →
     MemberStands (segment_behind c seen) ((member_written m c).0 ++ rest)
     (m, segment_behind (member_written m c).1 (seen_with m.kind seen), rest)
-unfolding member_written in_turn
+unfolding member_written sequence
 member_back m c seen rest ok may h text =
     let end : Segment = segment_behind (strings_written (member_entry m.kind m.role) (member_id_written m.kind m.id c).1).1
     (seen_with m.kind seen) in
@@ -135,7 +136,7 @@ member_back m c seen rest ok may h text =
     (strings_written (member_entry m.kind m.role) (member_id_written m.kind m.id c).1).0 rest))
     (member_stands m.kind m.id m.role c seen rest ok may h text)
 
-member_id_keeps : (k : Kind) (id : ℤ) (c : WrittenSegment) → IsContext c → is_id id ≡ true → IsContext (member_id_written k id c).1
+member_id_keeps : (k : Kind) (id : ℤ) (c : EncoderSegment) → IsContext c → is_id id ≡ true → IsContext (member_id_written k id c).1
 unfolding member_id_written
 member_id_keeps kind.Node id c ok h = record {
   few = ok.few;
@@ -182,10 +183,11 @@ member_id_keeps kind.Relation id c ok h = record {
   lat = ok.lat;
 }
 
-member_keeps : (m : Member) (c : WrittenSegment) → IsContext c → is_id m.id ≡ true → IsContext (member_written m c).1
-unfolding member_written in_turn
+member_keeps : (m : Member) (c : EncoderSegment) → IsContext c → is_id m.id ≡ true → IsContext (member_written m c).1
+unfolding member_written sequence
 member_keeps m c ok h = strings_keep (member_entry m.kind m.role) (member_id_written m.kind m.id c).1 (member_id_keeps m.kind m.id c ok h)
 
+-- A member has an id and a role without U+0000.
 abbrev pub is_member : Member → Bool
 is_member m = is_id m.id && is_text m.role
 
@@ -193,24 +195,24 @@ abbrev seen_with_all : List Member → ListsSeen → ListsSeen
 seen_with_all [] seen = seen
 seen_with_all (m ∷ members) seen = seen_with_all members (seen_with m.kind seen)
 
-members_back : (members : List Member) (c : WrittenSegment) (seen : ListsSeen) → IsContext c → MayHaveSeen kind.Relation seen →
+members_back : (members : List Member) (c : EncoderSegment) (seen : ListsSeen) → IsContext c → MayHaveSeen kind.Relation seen →
     list_all is_member members ≡ true →
-    ItemsStand MemberStands (segment_behind c seen) (in_turn (map member_written members) c).0 members
-    (segment_behind (in_turn (map member_written members) c).1 (seen_with_all members seen))
-unfolding in_turn
+    ItemsStand MemberStands (segment_behind c seen) (sequence (map member_written members) c).0 members
+    (segment_behind (sequence (map member_written members) c).1 (seen_with_all members seen))
+unfolding sequence
 members_back [] c seen ok may h = (refl, refl)
 members_back (m ∷ members) c seen ok may h =
     let all = both_true (is_member m) (list_all is_member members) h in
     let own = both_true (is_id m.id) (is_text m.role) all.0 in (
       segment_behind (member_written m c).1 (seen_with m.kind seen),
-      (in_turn (map member_written members) (member_written m c).1).0,
-      member_back m c seen (in_turn (map member_written members) (member_written m c).1).0 ok may own.0 own.1,
+      (sequence (map member_written members) (member_written m c).1).0,
+      member_back m c seen (sequence (map member_written members) (member_written m c).1).0 ok may own.0 own.1,
       members_back members (member_written m c).1 (seen_with m.kind seen) (member_keeps m c ok own.0) (may_go_on m.kind seen may) all.1,
     )
 
-members_keep : (members : List Member) (c : WrittenSegment) → IsContext c → list_all is_member members ≡ true →
-    IsContext (in_turn (map member_written members) c).1
-unfolding in_turn
+members_keep : (members : List Member) (c : EncoderSegment) → IsContext c → list_all is_member members ≡ true →
+    IsContext (sequence (map member_written members) c).1
+unfolding sequence
 members_keep [] c ok h = ok
 members_keep (m ∷ members) c ok h =
     let all = both_true (is_member m) (list_all is_member members) h in
@@ -228,7 +230,7 @@ members_in (Node lon lat tags) = []
 members_in (Way ids tags) = []
 members_in (Relation members tags) = members
 
--- what a body needs in order to be read back
+-- the conditions under which a body is read back
 pub record IsWritable (body : Body) : Type 0 where
   pub ids : list_all is_id (ids_of body) ≡ true
   pub texts : list_all are_texts (tags_of body) ≡ true
@@ -236,35 +238,35 @@ pub record IsWritable (body : Body) : Type 0 where
   pub roles : list_all is_member (members_in body) ≡ true
 
 -- a body is read back, in a segment of its kind
-abbrev pub BodyBack : Kind → WrittenSegment → ListsSeen → Step → Body → Type 0
+abbrev pub BodyBack : Kind → EncoderSegment → ListsSeen → WriteStep → Body → Type 0
 BodyBack k c seen step body = (after : ListsSeen) × MayHaveSeen k after
     × BodyStands k (segment_behind c seen) (step c).0 (body, segment_behind (step c).1 after) × IsContext (step c).1
 
--- bytes stand there, so a visible body does
+-- there are bytes, so the body is visible
 visible : (k : Kind) (s : Segment) (bytes : List ℕ) (x : Body × Segment) → VisibleStands k s bytes x → 0 < length bytes →
     BodyStands k s bytes x
 visible k s [] x stands some = absurd (omega arith)
 visible k s (b ∷ bytes) x stands some = stands
 
-node_back : (lon lat : ℤ) (tags : List Tag) (c : WrittenSegment) (seen : ListsSeen) → IsContext c → MayHaveSeen kind.Node seen →
+node_back : (lon lat : ℤ) (tags : List Tag) (c : EncoderSegment) (seen : ListsSeen) → IsContext c → MayHaveSeen kind.Node seen →
     FitsSigned w32 lon → FitsSigned w32 lat → list_all are_texts tags ≡ true →
     BodyBack kind.Node c seen (body_written (Node lon lat tags)) (Node lon lat tags)
-unfolding body_written in_turn tags_written
+unfolding body_written sequence tags_written
 node_back lon lat tags c seen ok may lon_fits lat_fits texts =
-    let c1 : WrittenSegment = (longitude_written lon c).1 in
-    let c2 : WrittenSegment = (latitude_written lat c1).1 in
+    let c1 : EncoderSegment = (longitude_written lon c).1 in
+    let c2 : EncoderSegment = (latitude_written lat c1).1 in
     let ok1 : IsContext c1 = longitude_keeps c lon ok lon_fits in
     let ok2 : IsContext c2 = latitude_keeps c1 lat ok1 lat_fits in
-    let end : List ℕ = (in_turn (map tag_written tags) c2).0 ++ [] in
+    let end : List ℕ = (sequence (map tag_written tags) c2).0 ++ [] in
     let behind : List ℕ = (latitude_written lat c1).0 ++ end in
     let first = longitude_back c seen lon behind ok lon_fits in
     let items = subst (λ bytes. ItemsStand TagStands (segment_behind c2 seen) bytes tags
-    (segment_behind (in_turn (map tag_written tags) c2).1 seen))
-    (sym (append-nil (in_turn (map tag_written tags) c2).0)) (tags_back tags c2 seen ok2 texts) in (
+    (segment_behind (sequence (map tag_written tags) c2).1 seen))
+    (sym (append-nil (sequence (map tag_written tags) c2).0)) (tags_back tags c2 seen ok2 texts) in (
       seen,
       may,
       visible kind.Node (segment_behind c seen) ((longitude_written lon c).0 ++ behind)
-          (Node lon lat tags, segment_behind (in_turn (map tag_written tags) c2).1 seen) (
+          (Node lon lat tags, segment_behind (sequence (map tag_written tags) c2).1 seen) (
             (lon, segment_behind c1 seen, behind),
             (lat, segment_behind c2 seen, end),
             tags,
@@ -284,55 +286,56 @@ section_seen [] seen may = (seen, refl, may)
 section_seen (b ∷ section) seen (inl e) = (References, ap (λ s. with_section s (b ∷ section)) e, inr refl)
 section_seen (b ∷ section) seen (inr e) = (References, ap (λ s. with_section s (b ∷ section)) e, inr refl)
 
+-- A section that is written is read back.
 pub section_back : (section rest : List ℕ) → length section < 2 ^ 64 →
     SectionStands ((shortest_number (length section) ++ section) ++ rest) (section, rest)
 section_back section rest small =
     subst (λ bytes. NumberStands bytes (length section, section ++ rest))
     (sym (append_assoc (shortest_number (length section)) section rest)) (number_back (length section) (section ++ rest) small)
 
-way_back : (ids : List ℤ) (tags : List Tag) (c : WrittenSegment) (seen : ListsSeen) → IsContext c → MayHaveSeen kind.Way seen →
+way_back : (ids : List ℤ) (tags : List Tag) (c : EncoderSegment) (seen : ListsSeen) → IsContext c → MayHaveSeen kind.Way seen →
     list_all is_id ids ≡ true → list_all are_texts tags ≡ true →
-    length (in_turn (map reference_written ids) c).0 < 2 ^ 64 → BodyBack kind.Way c seen (body_written (Way ids tags)) (Way ids tags)
-unfolding body_written in_turn tags_written section_written references_written
+    length (sequence (map reference_written ids) c).0 < 2 ^ 64 → BodyBack kind.Way c seen (body_written (Way ids tags)) (Way ids tags)
+unfolding body_written sequence tags_written section_written references_written
 way_back ids tags c seen ok may are_ids texts small =
-    let section : List ℕ = (in_turn (map reference_written ids) c).0 in
-    let c1 : WrittenSegment = (in_turn (map reference_written ids) c).1 in
+    let section : List ℕ = (sequence (map reference_written ids) c).0 in
+    let c1 : EncoderSegment = (sequence (map reference_written ids) c).1 in
     let ok1 : IsContext c1 = references_keep ids c ok are_ids in
-    let end : List ℕ = (in_turn (map tag_written tags) c1).0 ++ [] in
+    let end : List ℕ = (sequence (map tag_written tags) c1).0 ++ [] in
     let sees = section_seen section seen may in
     let cut = section_back section end small in
     let items = subst (λ bytes. ItemsStand TagStands (segment_behind c1 sees.0) bytes tags
-    (segment_behind (in_turn (map tag_written tags) c1).1 sees.0))
-    (sym (append-nil (in_turn (map tag_written tags) c1).0)) (tags_back tags c1 sees.0 ok1 texts) in (
+    (segment_behind (sequence (map tag_written tags) c1).1 sees.0))
+    (sym (append-nil (sequence (map tag_written tags) c1).0)) (tags_back tags c1 sees.0 ok1 texts) in (
       sees.0,
       sees.2,
       visible kind.Way (segment_behind c seen) ((shortest_number (length section) ++ section) ++ end)
-          (Way ids tags, segment_behind (in_turn (map tag_written tags) c1).1 sees.0)
+          (Way ids tags, segment_behind (sequence (map tag_written tags) c1).1 sees.0)
           ((section, end), sees.0, (ids, segment_behind c1 sees.0), tags, cut, sees.1, references_back ids c sees.0 ok are_ids, items, refl)
           (let short = number_shorter ((shortest_number (length section) ++ section) ++ end) (length section, section ++ end) cut in
           omega arith),
       tags_keep tags c1 ok1,
     )
 
-relation_back : (members : List Member) (tags : List Tag) (c : WrittenSegment) (seen : ListsSeen) → IsContext c →
+relation_back : (members : List Member) (tags : List Tag) (c : EncoderSegment) (seen : ListsSeen) → IsContext c →
     MayHaveSeen kind.Relation seen → list_all is_member members ≡ true → list_all are_texts tags ≡ true →
-    length (in_turn (map member_written members) c).0 < 2 ^ 64 →
+    length (sequence (map member_written members) c).0 < 2 ^ 64 →
     BodyBack kind.Relation c seen (body_written (Relation members tags)) (Relation members tags)
-unfolding body_written in_turn tags_written section_written members_written
+unfolding body_written sequence tags_written section_written members_written
 relation_back members tags c seen ok may are_members texts small =
-    let section : List ℕ = (in_turn (map member_written members) c).0 in
-    let c1 : WrittenSegment = (in_turn (map member_written members) c).1 in
+    let section : List ℕ = (sequence (map member_written members) c).0 in
+    let c1 : EncoderSegment = (sequence (map member_written members) c).1 in
     let ok1 : IsContext c1 = members_keep members c ok are_members in
-    let end : List ℕ = (in_turn (map tag_written tags) c1).0 ++ [] in
+    let end : List ℕ = (sequence (map tag_written tags) c1).0 ++ [] in
     let after : ListsSeen = seen_with_all members seen in
     let cut = section_back section end small in
     let items = subst (λ bytes. ItemsStand TagStands (segment_behind c1 after) bytes tags
-    (segment_behind (in_turn (map tag_written tags) c1).1 after))
-    (sym (append-nil (in_turn (map tag_written tags) c1).0)) (tags_back tags c1 after ok1 texts) in (
+    (segment_behind (sequence (map tag_written tags) c1).1 after))
+    (sym (append-nil (sequence (map tag_written tags) c1).0)) (tags_back tags c1 after ok1 texts) in (
       after,
       all_may members seen may,
       visible kind.Relation (segment_behind c seen) ((shortest_number (length section) ++ section) ++ end)
-          (Relation members tags, segment_behind (in_turn (map tag_written tags) c1).1 after)
+          (Relation members tags, segment_behind (sequence (map tag_written tags) c1).1 after)
           ((section, end), (members, segment_behind c1 after), tags, cut, members_back members c seen ok may are_members, items, refl)
           (let short = number_shorter ((shortest_number (length section) ++ section) ++ end) (length section, section ++ end) cut in
           omega arith),
@@ -344,24 +347,25 @@ section_room : (section end : List ℕ) → length ((shortest_number (length sec
 section_room section end small =
     omega (arith, length-append (shortest_number (length section) ++ section) end, length-append (shortest_number (length section)) section)
 
-way_section : (ids : List ℤ) (tags : List Tag) (c : WrittenSegment) → length (body_written (Way ids tags) c).0 < 2 ^ 64 →
-    length (in_turn (map reference_written ids) c).0 < 2 ^ 64
-unfolding body_written in_turn tags_written section_written references_written
-way_section ids tags c small = section_room (in_turn (map reference_written ids) c).0
-    ((in_turn (map tag_written tags) (in_turn (map reference_written ids) c).1).0 ++ []) small
+way_section : (ids : List ℤ) (tags : List Tag) (c : EncoderSegment) → length (body_written (Way ids tags) c).0 < 2 ^ 64 →
+    length (sequence (map reference_written ids) c).0 < 2 ^ 64
+unfolding body_written sequence tags_written section_written references_written
+way_section ids tags c small = section_room (sequence (map reference_written ids) c).0
+    ((sequence (map tag_written tags) (sequence (map reference_written ids) c).1).0 ++ []) small
 
-relation_section : (members : List Member) (tags : List Tag) (c : WrittenSegment) →
-    length (body_written (Relation members tags) c).0 < 2 ^ 64 → length (in_turn (map member_written members) c).0 < 2 ^ 64
-unfolding body_written in_turn tags_written section_written members_written
-relation_section members tags c small = section_room (in_turn (map member_written members) c).0
-    ((in_turn (map tag_written tags) (in_turn (map member_written members) c).1).0 ++ []) small
+relation_section : (members : List Member) (tags : List Tag) (c : EncoderSegment) →
+    length (body_written (Relation members tags) c).0 < 2 ^ 64 → length (sequence (map member_written members) c).0 < 2 ^ 64
+unfolding body_written sequence tags_written section_written members_written
+relation_section members tags c small = section_room (sequence (map member_written members) c).0
+    ((sequence (map tag_written tags) (sequence (map member_written members) c).1).0 ++ []) small
 
-deleted_back : (k : Kind) (c : WrittenSegment) (seen : ListsSeen) → IsContext c → MayHaveSeen k seen →
+deleted_back : (k : Kind) (c : EncoderSegment) (seen : ListsSeen) → IsContext c → MayHaveSeen k seen →
     BodyBack k c seen (body_written (Deleted k)) (Deleted k)
-unfolding body_written in_turn
+unfolding body_written sequence
 deleted_back k c seen ok may = (seen, may, refl, ok)
 
-pub body_back : (body : Body) (c : WrittenSegment) (seen : ListsSeen) → IsContext c → MayHaveSeen (kind_of body) seen → IsWritable body →
+-- A body that is written is read back.
+pub body_back : (body : Body) (c : EncoderSegment) (seen : ListsSeen) → IsContext c → MayHaveSeen (kind_of body) seen → IsWritable body →
     length (body_written body c).0 < 2 ^ 64 →
     BodyBack (kind_of body) c seen (body_written body) body
 body_back (Deleted k) c seen ok may w small = deleted_back k c seen ok may

@@ -1,4 +1,4 @@
--- Data sets one behind the other, as they are written, are read back.
+-- Data sets in sequence that are written are read back.
 use Rattle.std.proofs.Common.{◌≡◌, ℕ, suc, ◌+◌, ◌<◌, ◌^◌, Bool, true, false, eqb, List, [], ◌∷◌, ◌++◌, length, refl, ap, sym, ◌∙◌, arith}
 use Rattle.std.proofs.Common.{rules, inl, subst, append_assoc, length-append}
 use Rattle.std.specs.List.{All}
@@ -10,14 +10,14 @@ use Rattle.osm_model.specs.Valid.{IsVersion}
 use Rattle.o5_codec.specs.declared.segment.Segment.{Segment}
 use Rattle.o5_codec.specs.declared.segment.ListsSeen.{ListsSeen}
 use Rattle.o5_codec.specs.declared.segment.ListsSeen.TheVariants.{Neither}
-use Rattle.o5_codec.specs.Table.{limit}
+use Rattle.o5_codec.specs.Table.{table_limit}
 use Rattle.o5_codec.specs.Decoder.{new_segment}
 use Rattle.o5_codec.specs.Body.{section_at, set_at}
 use Rattle.o5_codec.specs.Spelling.{SpellsSet}
 use Rattle.o5_codec.specs.Shortest.{shortest_number}
 use Rattle.o5_codec.specs.Writing.{content_written}
 use Rattle.o5_codec.specs.Agreement.{segment_behind, IsContext, MayHaveSeen}
-use Rattle.o5_codec.specs.Encoder.{Written, new_written_segment, nothing_written, type_byte, begins_segment, reset_before, context_for}
+use Rattle.o5_codec.specs.Encoder.{Written, new_written_segment, initial_written, type_byte, begins_segment, reset_before, context_for}
 use Rattle.o5_codec.specs.Encoder.{data_set, context_of, spelled_set, written_after}
 use Rattle.o5_codec.specs.WritingLaws.{segment_for, segment_after, IsBehind, content_after, IsReadNext, WrittenSetsAreRead, SetsStand}
 use Rattle.o5_codec.specs.WritingLaws.{spelled_sets, WrittenListsAreRead}
@@ -33,7 +33,7 @@ none_yet kind.Way = inl refl
 none_yet kind.Relation = inl refl
 
 new_is_context : IsContext new_written_segment
-unfolding limit
+unfolding table_limit
 new_is_context = record {
   few = omega arith;
   ids = record { id = refl; reference = refl; node_member = refl; way_member = refl; relation_member = refl };
@@ -43,7 +43,7 @@ new_is_context = record {
   lat = search rules;
 }
 
-begin : IsBehind nothing_written Neither
+begin : IsBehind initial_written Neither
 begin = record { context = new_is_context; lists = refl }
 
 one_kind : (j k : Kind) → begins_segment j k ≡ false → j ≡ k
@@ -89,6 +89,7 @@ next_back w seen v h valid small =
     let r = next_by (begins_segment w.last (kind_of v.body)) w seen v refl h valid small in
     record { after = r.0; spells = r.2; behind = record { context = r.3; lists = r.1 } }
 
+-- What is written for a version is read as that version and no other.
 pub sets_read : WrittenSetsAreRead
 sets_read = (begin, λ w seen v h valid small. next_back w seen v h valid (content_room w v small))
 
@@ -145,7 +146,7 @@ no_reset kind.Node e = apart 0xff 0x10 refl e
 no_reset kind.Way e = apart 0xff 0x11 refl e
 no_reset kind.Relation e = apart 0xff 0x12 refl e
 
--- a reset, a type byte and what stands behind them are told by the bytes
+-- the bytes determine a reset, a type byte and the bytes after them
 same_begin : (b c : Bool) (j k : Kind) (x y : List ℕ) → reset_before b ++ type_byte j ∷ x ≡ reset_before c ++ type_byte k ∷ y →
     (b ≡ c) × (j ≡ k) × (x ≡ y)
 same_begin true true j k x y e =
@@ -178,7 +179,8 @@ one_list (v ∷ versions) (w ∷ others) s bytes (b, set, x, after, is, cut, spe
     let rest : others ≡ versions = one_list versions others after x.1 more later in
     λ i. (same i).0 ∷ rest i
 
+-- What is written for a list of versions is read as that list and no other.
 pub lists_read : WrittenListsAreRead
 lists_read versions valid small =
-    let stands = lists_stand versions nothing_written Neither begin valid small in
-    (stands, λ others h. one_list versions others new_segment (spelled_sets nothing_written versions) stands h)
+    let stands = lists_stand versions initial_written Neither begin valid small in
+    (stands, λ others h. one_list versions others new_segment (spelled_sets initial_written versions) stands h)

@@ -1,4 +1,4 @@
--- What is written as a number is read back.
+-- A number that is written is read back.
 use Rattle.std.proofs.Common.{◌≡◌, ℕ, ℤ, pos, negsuc, zero, suc, ◌+◌, ◌*◌, ◌/◌, ◌%◌, ◌<◌, ◌≤◌, ◌^◌, ◌+ℤ◌, ◌-ℤ◌, true, List, ◌++◌, length}
 use Rattle.std.proofs.Common.{refl, ap, ◌∙◌, arith, Ok, Err, inl, inr, if◌then◌else◌, unsigned_abs, FitsSigned}
 use Rattle.std.proofs.lemmas.Bool.{le-ltb, lt-ltb, cases_lt}
@@ -31,10 +31,12 @@ groups_short (suc more) n = elim (cases_lt n 128) [
   | inr high ↦ rw (le-ltb n 128 high) (let h : length (groups_of more (n / 128)) ≤ suc more = groups_short more (n / 128) in omega arith)
 ]
 
+-- The shortest number spells the number.
 pub shortest_spells : (n : ℕ) → n < 2 ^ 64 → SpellsNumber (shortest_number n) n
 unfolding shortest_number
 shortest_spells n small = record { short = groups_short 9 n; fits = small; groups = groups_spell 9 n (omega arith) }
 
+-- A number that is written is read back.
 pub number_back : (n : ℕ) (rest : List ℕ) → n < 2 ^ 64 → NumberStands (shortest_number n ++ rest) (n, rest)
 number_back n rest small = (shortest_number n, shortest_spells n small, refl)
 
@@ -42,7 +44,7 @@ signed_back : (d : ℤ) (rest : List ℕ) → unsigned_of d < 2 ^ 64 → SignedS
 unfolding shortest_signed
 signed_back d rest small = (shortest_number (unsigned_of d), shortest_spells (unsigned_of d) small, refl)
 
--- a difference of numbers of which each lies below a bound on either side of 0
+-- a difference of numbers, each below a bound on either side of 0
 small_unsigned : (d : ℤ) → unsigned_abs d < 2 ^ 63 → unsigned_of d < 2 ^ 64
 small_unsigned (pos n) h = omega arith
 small_unsigned (negsuc n) h = omega arith
@@ -50,29 +52,36 @@ small_unsigned (negsuc n) h = omega arith
 pub again : (a b : ℤ) → a +ℤ (b -ℤ a) ≡ b
 again a b = omega (arith, ints)
 
+-- The difference of two ids is spelled as it is written.
 pub id_difference : (a b : ℤ) (rest : List ℕ) → is_id a ≡ true → is_id b ≡ true → SignedStands (difference a b ++ rest) (b -ℤ a, rest)
 id_difference a b rest ha hb =
     let sa : unsigned_abs a < 2 ^ 62 = below _ _ ha in
     let sb : unsigned_abs b < 2 ^ 62 = below _ _ hb in
     signed_back (b -ℤ a) rest (small_unsigned (b -ℤ a) (omega (arith, ints)))
 
+-- The difference of two ids leads from the one to the other.
 pub id_moved : (a b : ℤ) → is_id b ≡ true → moved_id a (b -ℤ a) ≡ Ok b
 id_moved a b h = ap (λ n. if is_id n then Ok n else Err OutOfRange) (again a b) ∙ rw h refl
 
+-- The difference of two numbers of 32 bits is spelled as it is written.
 pub number_difference : (a b : ℕ) (rest : List ℕ) → a < 2 ^ 32 → b < 2 ^ 32 →
     SignedStands (difference (pos a) (pos b) ++ rest) (pos b -ℤ pos a, rest)
 number_difference a b rest ha hb = signed_back (pos b -ℤ pos a) rest (small_unsigned (pos b -ℤ pos a) (omega (arith, ints)))
 
+-- A number below 2^32 is within its range.
 pub number_ranged : (n : ℕ) → n < 2 ^ 32 → within_range n ≡ Ok n
 number_ranged n h = rw (lt-ltb n (2 ^ 32) h) refl
 
+-- The difference of two numbers of 32 bits leads from the one to the other.
 pub number_moved : (a b : ℕ) → b < 2 ^ 32 → moved_number a (pos b -ℤ pos a) ≡ Ok b
 number_moved a b h = ap number_within (again (pos a) (pos b)) ∙ number_ranged b h
 
+-- The difference of two coordinates is spelled as it is written.
 pub coordinate_difference : (a b : ℤ) (rest : List ℕ) → FitsSigned w32 a → FitsSigned w32 b →
     SignedStands (difference a b ++ rest) (b -ℤ a, rest)
 coordinate_difference a b rest ha hb = signed_back (b -ℤ a) rest (small_unsigned (b -ℤ a) (omega (arith, ints)))
 
+-- The difference of two coordinates leads from the one to the other.
 pub coordinate_moved : (a b : ℤ) → FitsSigned w32 a → FitsSigned w32 b → moved_coordinate a (b -ℤ a) ≡ Ok b
 coordinate_moved a b ha hb =
     let small : unsigned_abs (b -ℤ a) < 2 ^ 32 = omega (arith, ints) in

@@ -1,4 +1,4 @@
--- What is written for a version is read back as this version.
+-- The bytes written for a version are read back as this version.
 use Rattle.std.proofs.Common.{◌≡◌, ℕ, ◌<◌, ◌^◌, true, false, eqb, ◌&&◌, List, [], ◌∷◌, ◌++◌, length, refl, ap, sym, ◌∙◌, arith, Option}
 use Rattle.std.proofs.Common.{Some, None, inl, inr, subst, length-append, unwrap_or}
 use Rattle.std.specs.Option.{ForSome}
@@ -15,10 +15,10 @@ use Rattle.osm_model.specs.declared.body.Body.TheVariants.{Deleted, Node, Way, R
 use Rattle.osm_model.specs.Data.{VersionData, kind_of, ids_of, tags_of, texts_of, normal_body, version_of}
 use Rattle.osm_model.specs.Id.{is_id}
 use Rattle.osm_model.specs.Text.{is_text}
-use Rattle.osm_model.specs.Tags.{tag_cmp, normal, texts_of_tags}
+use Rattle.osm_model.specs.Tags.{tag_cmp, normal_tags, texts_of_tags}
 use Rattle.osm_model.specs.Members.{ids_of_members, roles_of}
 use Rattle.osm_model.specs.Valid.{IsInRange, IsVersion}
-use Rattle.osm_model.proofs.SetLaws.{listed-from_list}
+use Rattle.osm_model.proofs.SetLaws.{to_list-from_list}
 use Rattle.osm_model.proofs.TagLaws.{tag_cmp-IsAntisymmetric, list_all-texts_of_tags}
 use Rattle.osm_model.specs.Tags.{tag_cmp_total}
 use Rattle.o5_codec.specs.declared.segment.Segment.{Segment}
@@ -28,7 +28,7 @@ use Rattle.o5_codec.specs.declared.strings.Form.TheVariants.{Pair}
 use Rattle.o5_codec.specs.Segment.{author, time_of, meta_of}
 use Rattle.o5_codec.specs.Spelling.{UserStands, AuthorBehind, AuthorStands, BodyStands, SpellsSet}
 use Rattle.o5_codec.specs.Shortest.{shortest_number}
-use Rattle.o5_codec.specs.Writing.{WrittenSegment, Step, in_turn, plain, id_written, time_written, changeset_written, strings_written}
+use Rattle.o5_codec.specs.Writing.{EncoderSegment, WriteStep, sequence, fixed_bytes, id_written, time_written, changeset_written, strings_written}
 use Rattle.o5_codec.specs.Writing.{user_entry, author_steps, author_written, body_written, content_written}
 use Rattle.o5_codec.specs.Agreement.{segment_behind, IsContext, MayHaveSeen}
 use Rattle.o5_codec.proofs.SoundStrings.{both_true}
@@ -50,11 +50,11 @@ abbrev author_of : VersionData → Author
 author_of v = author v.changeset v.uid v.user
 
 -- the author is read back
-abbrev AuthorBack : WrittenSegment → ListsSeen → VersionData → Step → List ℕ → Type 0
+abbrev AuthorBack : EncoderSegment → ListsSeen → VersionData → WriteStep → List ℕ → Type 0
 AuthorBack c seen v step rest = AuthorStands (unwrap_or v.time 0) (segment_behind c seen) ((step c).0 ++ rest)
     (author_of v, segment_behind (step c).1 seen, rest)
 
-no_author : (c : WrittenSegment) (seen : ListsSeen) (v : VersionData) (rest : List ℕ) → v.time ≡ None →
+no_author : (c : EncoderSegment) (seen : ListsSeen) (v : VersionData) (rest : List ℕ) → v.time ≡ None →
     (v.changeset ≡ 0) × (v.uid ≡ 0) × (v.user ≡ []) →
     AuthorStands (unwrap_or v.time 0) (segment_behind c seen) rest (author_of v, segment_behind c seen, rest)
 no_author c seen v rest none nobody = inl (
@@ -62,14 +62,14 @@ no_author c seen v rest none nobody = inl (
   λ i. (author (nobody.0 i) (nobody.1 i) (nobody.2 i), segment_behind c seen, rest),
 )
 
-some_author : (c : WrittenSegment) (seen : ListsSeen) (v : VersionData) (t : ℕ) (rest : List ℕ) → IsContext c → v.time ≡ Some t → 0 < t →
+some_author : (c : EncoderSegment) (seen : ListsSeen) (v : VersionData) (t : ℕ) (rest : List ℕ) → IsContext c → v.time ≡ Some t → 0 < t →
     v.changeset < 2 ^ 32 → v.uid < 2 ^ 32 → is_text v.user ≡ true →
-    AuthorBack c seen v (in_turn (changeset_written v.changeset ∷ strings_written (user_entry v.uid v.user) ∷ [])) rest
-unfolding in_turn
+    AuthorBack c seen v (sequence (changeset_written v.changeset ∷ strings_written (user_entry v.uid v.user) ∷ [])) rest
+unfolding sequence
 some_author c seen v t rest ok is some changeset uid user =
-    let c1 : WrittenSegment = (changeset_written v.changeset c).1 in
+    let c1 : EncoderSegment = (changeset_written v.changeset c).1 in
     let user_bytes : List ℕ = (strings_written (user_entry v.uid v.user) c1).0 in
-    let c2 : WrittenSegment = (strings_written (user_entry v.uid v.user) c1).1 in
+    let c2 : EncoderSegment = (strings_written (user_entry v.uid v.user) c1).1 in
     let ok1 : IsContext c1 = changeset_keeps c v.changeset ok changeset in
     subst (λ bytes. AuthorStands (unwrap_or v.time 0) (segment_behind c seen) bytes (author_of v, segment_behind c2 seen, rest))
     (sym (two_bytes (changeset_written v.changeset c).0 user_bytes rest)) (inr (
@@ -82,17 +82,17 @@ some_author c seen v t rest ok is some changeset uid user =
       ),
     ))
 
-author_by : (o : Option ℕ) (c : WrittenSegment) (seen : ListsSeen) (v : VersionData) (rest : List ℕ) → v.time ≡ o → IsContext c →
+author_by : (o : Option ℕ) (c : EncoderSegment) (seen : ListsSeen) (v : VersionData) (rest : List ℕ) → v.time ≡ o → IsContext c →
     IsVersion v → ForSome o (λ t. (0 < t) × (t < 2 ^ 32)) →
-    AuthorBack c seen v (in_turn (author_steps o v)) rest × IsContext (in_turn (author_steps o v) c).1
-unfolding in_turn
+    AuthorBack c seen v (sequence (author_steps o v)) rest × IsContext (sequence (author_steps o v) c).1
+unfolding sequence
 author_by None c seen v rest is ok valid dated = (no_author c seen v rest is (valid.author is), ok)
 author_by (Some t) c seen v rest is ok valid dated = (
   some_author c seen v t rest ok is (dated t refl).0 valid.changeset valid.uid (both_true _ _ valid.texts).0,
   strings_keep (user_entry v.uid v.user) (changeset_written v.changeset c).1 (changeset_keeps c v.changeset ok valid.changeset),
 )
 
-pub author_back : (c : WrittenSegment) (seen : ListsSeen) (v : VersionData) (rest : List ℕ) → IsContext c → IsVersion v →
+pub author_back : (c : EncoderSegment) (seen : ListsSeen) (v : VersionData) (rest : List ℕ) → IsContext c → IsVersion v →
     AuthorBack c seen v (author_written v) rest × IsContext (author_written v c).1
 unfolding author_written
 author_back c seen v rest ok valid = author_by v.time c seen v rest refl ok valid valid.time
@@ -106,8 +106,8 @@ time_again : (o : Option ℕ) → ForSome o (λ t. (0 < t) × (t < 2 ^ 32)) → 
 time_again None h = refl
 time_again (Some t) h = cond-false (eqb t 0) None (Some t) (let some : 0 < t = (h t refl).0 in grind (arith, nat_tests))
 
-tags_again : (tags : List Tag) → IsStrictlySortedBy tag_cmp tags → normal tags ≡ tags
-tags_again tags sorted = listed-from_list tag_cmp_total tag_cmp-IsAntisymmetric tags sorted
+tags_again : (tags : List Tag) → IsStrictlySortedBy tag_cmp tags → normal_tags tags ≡ tags
+tags_again tags sorted = to_list-from_list tag_cmp_total tag_cmp-IsAntisymmetric tags sorted
 
 body_again : (body : Body) → IsStrictlySortedBy tag_cmp (tags_of body) → normal_body body ≡ body
 body_again (Deleted k) sorted = refl
@@ -126,7 +126,7 @@ version_again v valid = λ i. record {
   body = sym (body_again v.body valid.tags) i;
 }
 
--- ---- what a version's body needs
+-- ---- the requirements of a version's body
 texts_there : (tags : List Tag) → list_all is_text (texts_of_tags tags) ≡ true → list_all are_texts tags ≡ true
 texts_there tags h = sym (list_all-texts_of_tags is_text tags) ∙ h
 
@@ -148,25 +148,26 @@ writable (Relation members tags) ids texts location =
     record { ids = ids; texts = texts_there tags both.1; location = location; roles = members_there members ids both.0 }
 
 -- ---- a whole content
--- the content spells the version for a reader who has the same in mind, and both go on alike
-pub record IsReadBack (v : VersionData) (c : WrittenSegment) (seen : ListsSeen) : Type 0 where
+-- the content spells the version for a reader in the same state, and both continue with equal contexts
+pub record IsReadBack (v : VersionData) (c : EncoderSegment) (seen : ListsSeen) : Type 0 where
   pub after : ListsSeen
   pub may : MayHaveSeen (kind_of v.body) after
   pub spells : SpellsSet (kind_of v.body) (segment_behind c seen) (content_written v c).0 (v, segment_behind (content_written v c).1 after)
   pub context : IsContext (content_written v c).1
 
-pub set_back : (v : VersionData) (c : WrittenSegment) (seen : ListsSeen) → IsVersion v → IsContext c → MayHaveSeen (kind_of v.body) seen →
+-- What is written for a version is read back as this version.
+pub set_back : (v : VersionData) (c : EncoderSegment) (seen : ListsSeen) → IsVersion v → IsContext c → MayHaveSeen (kind_of v.body) seen →
     length (content_written v c).0 < 2 ^ 64 → IsReadBack v c seen
-unfolding content_written in_turn plain
+unfolding content_written sequence fixed_bytes
 set_back v c seen valid ok may small =
     let ids = both_true (is_id v.id) (list_all is_id (ids_of v.body)) valid.ids in
     let texts = both_true (is_text v.user) (list_all is_text (texts_of v.body)) valid.texts in
     let time : ℕ = unwrap_or v.time 0 in
     let time_small : time < 2 ^ 32 = times_are_small v.time valid.time in
-    let c1 : WrittenSegment = (id_written v.id c).1 in
-    let c2 : WrittenSegment = (time_written time c1).1 in
-    let c3 : WrittenSegment = (author_written v c2).1 in
-    let c4 : WrittenSegment = (body_written v.body c3).1 in
+    let c1 : EncoderSegment = (id_written v.id c).1 in
+    let c2 : EncoderSegment = (time_written time c1).1 in
+    let c3 : EncoderSegment = (author_written v c2).1 in
+    let c4 : EncoderSegment = (body_written v.body c3).1 in
     let ok1 : IsContext c1 = id_keeps c v.id ok ids.0 in
     let ok2 : IsContext c2 = time_keeps c1 time ok1 time_small in
     let bytes : List ℕ = (body_written v.body c3).0 in

@@ -1,4 +1,4 @@
--- What the steps of a data set write is read back.
+-- The steps of a data set that are written are read back.
 use Rattle.std.proofs.Common.{◌≡◌, ℕ, ℤ, pos, ◌<◌, ◌^◌, ◌-ℤ◌, Bool, true, false, eqb, ◌&&◌, List, [], ◌∷◌, ◌++◌, map, refl, arith}
 use Rattle.std.proofs.Common.{FitsSigned}
 use Rattle.std.specs.Int.{w32}
@@ -13,7 +13,7 @@ use Rattle.o5_codec.specs.Spelling.{IdStands, TimeStands, ChangesetStands, Longi
 use Rattle.o5_codec.specs.Spelling.{UserStands, TagStands, ItemsStand}
 use Rattle.o5_codec.specs.Shortest.{shortest_number}
 use Rattle.o5_codec.specs.Formed.{FormedEntry}
-use Rattle.o5_codec.specs.Writing.{WrittenSegment, in_turn, id_written, time_written, changeset_written, longitude_written}
+use Rattle.o5_codec.specs.Writing.{EncoderSegment, sequence, id_written, time_written, changeset_written, longitude_written}
 use Rattle.o5_codec.specs.Writing.{latitude_written, reference_written, strings_written, user_entry, tag_entry, tag_written}
 use Rattle.o5_codec.specs.Agreement.{strings_in, segment_behind, IsContext}
 use Rattle.o5_codec.proofs.SoundStrings.{both_true}
@@ -22,12 +22,13 @@ use Rattle.o5_codec.proofs.WrittenNumbers.{coordinate_moved}
 use Rattle.o5_codec.proofs.WrittenStrings.{strings_back, strings_few, user_back, tag_back, user_spellable, tag_spellable}
 
 -- ---- one value
-pub id_back : (c : WrittenSegment) (seen : ListsSeen) (id : ℤ) (rest : List ℕ) → IsContext c → is_id id ≡ true →
+pub id_back : (c : EncoderSegment) (seen : ListsSeen) (id : ℤ) (rest : List ℕ) → IsContext c → is_id id ≡ true →
     IdStands (segment_behind c seen) ((id_written id c).0 ++ rest) (id, segment_behind (id_written id c).1 seen, rest)
 unfolding id_written
 id_back c seen id rest ok h = (id -ℤ c.bases.id, id_difference c.bases.id id rest ok.ids.id h, id_moved c.bases.id id h, refl)
 
-pub id_keeps : (c : WrittenSegment) (id : ℤ) → IsContext c → is_id id ≡ true → IsContext (id_written id c).1
+-- An id that is written leaves the bases within their ranges.
+pub id_keeps : (c : EncoderSegment) (id : ℤ) → IsContext c → is_id id ≡ true → IsContext (id_written id c).1
 unfolding id_written
 id_keeps c id ok h = record {
   few = ok.few;
@@ -45,7 +46,8 @@ id_keeps c id ok h = record {
   lat = ok.lat;
 }
 
-pub time_back : (c : WrittenSegment) (seen : ListsSeen) (time : ℕ) (rest : List ℕ) → IsContext c → time < 2 ^ 32 →
+-- A time that is written is read back.
+pub time_back : (c : EncoderSegment) (seen : ListsSeen) (time : ℕ) (rest : List ℕ) → IsContext c → time < 2 ^ 32 →
     TimeStands (segment_behind c seen) ((time_written time c).0 ++ rest) (time, segment_behind (time_written time c).1 seen, rest)
 unfolding time_written
 time_back c seen time rest ok h = (
@@ -55,7 +57,8 @@ time_back c seen time rest ok h = (
   refl,
 )
 
-pub time_keeps : (c : WrittenSegment) (time : ℕ) → IsContext c → time < 2 ^ 32 → IsContext (time_written time c).1
+-- A time that is written leaves the bases within their ranges.
+pub time_keeps : (c : EncoderSegment) (time : ℕ) → IsContext c → time < 2 ^ 32 → IsContext (time_written time c).1
 unfolding time_written
 time_keeps c time ok h = record {
   few = ok.few;
@@ -72,7 +75,8 @@ time_keeps c time ok h = record {
   lat = ok.lat;
 }
 
-pub changeset_back : (c : WrittenSegment) (seen : ListsSeen) (changeset : ℕ) (rest : List ℕ) → IsContext c → changeset < 2 ^ 32 →
+-- A changeset that is written is read back.
+pub changeset_back : (c : EncoderSegment) (seen : ListsSeen) (changeset : ℕ) (rest : List ℕ) → IsContext c → changeset < 2 ^ 32 →
     ChangesetStands (segment_behind c seen) ((changeset_written changeset c).0 ++ rest)
     (changeset, segment_behind (changeset_written changeset c).1 seen, rest)
 unfolding changeset_written
@@ -83,7 +87,8 @@ changeset_back c seen changeset rest ok h = (
   refl,
 )
 
-pub changeset_keeps : (c : WrittenSegment) (changeset : ℕ) → IsContext c → changeset < 2 ^ 32 → IsContext (changeset_written changeset c).1
+-- A changeset that is written leaves the bases within their ranges.
+pub changeset_keeps : (c : EncoderSegment) (changeset : ℕ) → IsContext c → changeset < 2 ^ 32 → IsContext (changeset_written changeset c).1
 unfolding changeset_written
 changeset_keeps c changeset ok h = record {
   few = ok.few;
@@ -100,7 +105,8 @@ changeset_keeps c changeset ok h = record {
   lat = ok.lat;
 }
 
-pub longitude_back : (c : WrittenSegment) (seen : ListsSeen) (lon : ℤ) (rest : List ℕ) → IsContext c → FitsSigned w32 lon →
+-- A longitude that is written is read back.
+pub longitude_back : (c : EncoderSegment) (seen : ListsSeen) (lon : ℤ) (rest : List ℕ) → IsContext c → FitsSigned w32 lon →
     LongitudeStands (segment_behind c seen) ((longitude_written lon c).0 ++ rest)
     (lon, segment_behind (longitude_written lon c).1 seen, rest)
 unfolding longitude_written
@@ -111,7 +117,8 @@ longitude_back c seen lon rest ok h = (
   refl,
 )
 
-pub longitude_keeps : (c : WrittenSegment) (lon : ℤ) → IsContext c → FitsSigned w32 lon → IsContext (longitude_written lon c).1
+-- A longitude that is written leaves the bases within their ranges.
+pub longitude_keeps : (c : EncoderSegment) (lon : ℤ) → IsContext c → FitsSigned w32 lon → IsContext (longitude_written lon c).1
 unfolding longitude_written
 longitude_keeps c lon ok h = record {
   few = ok.few;
@@ -128,7 +135,8 @@ longitude_keeps c lon ok h = record {
   lat = ok.lat;
 }
 
-pub latitude_back : (c : WrittenSegment) (seen : ListsSeen) (lat : ℤ) (rest : List ℕ) → IsContext c → FitsSigned w32 lat →
+-- A latitude that is written is read back.
+pub latitude_back : (c : EncoderSegment) (seen : ListsSeen) (lat : ℤ) (rest : List ℕ) → IsContext c → FitsSigned w32 lat →
     LatitudeStands (segment_behind c seen) ((latitude_written lat c).0 ++ rest) (lat, segment_behind (latitude_written lat c).1 seen, rest)
 unfolding latitude_written
 latitude_back c seen lat rest ok h = (
@@ -138,7 +146,8 @@ latitude_back c seen lat rest ok h = (
   refl,
 )
 
-pub latitude_keeps : (c : WrittenSegment) (lat : ℤ) → IsContext c → FitsSigned w32 lat → IsContext (latitude_written lat c).1
+-- A latitude that is written leaves the bases within their ranges.
+pub latitude_keeps : (c : EncoderSegment) (lat : ℤ) → IsContext c → FitsSigned w32 lat → IsContext (latitude_written lat c).1
 unfolding latitude_written
 latitude_keeps c lat ok h = record {
   few = ok.few;
@@ -155,7 +164,7 @@ latitude_keeps c lat ok h = record {
   lat = h;
 }
 
-reference_back : (c : WrittenSegment) (seen : ListsSeen) (id : ℤ) (rest : List ℕ) → IsContext c → is_id id ≡ true →
+reference_back : (c : EncoderSegment) (seen : ListsSeen) (id : ℤ) (rest : List ℕ) → IsContext c → is_id id ≡ true →
     ReferenceStands (segment_behind c seen) ((reference_written id c).0 ++ rest) (id, segment_behind (reference_written id c).1 seen, rest)
 unfolding reference_written
 reference_back c seen id rest ok h = (
@@ -165,7 +174,7 @@ reference_back c seen id rest ok h = (
   refl,
 )
 
-reference_keeps : (c : WrittenSegment) (id : ℤ) → IsContext c → is_id id ≡ true → IsContext (reference_written id c).1
+reference_keeps : (c : EncoderSegment) (id : ℤ) → IsContext c → is_id id ≡ true → IsContext (reference_written id c).1
 unfolding reference_written
 reference_keeps c id ok h = record {
   few = ok.few;
@@ -183,6 +192,7 @@ reference_keeps c id ok h = record {
   lat = ok.lat;
 }
 
+-- A version number that is written is read back.
 pub version_back : (n : ℕ) (rest : List ℕ) → 0 < n → n < 2 ^ 32 → VersionStands (shortest_number n ++ rest) (n, rest)
 version_back n rest some small = (
   n,
@@ -191,7 +201,7 @@ version_back n rest some small = (
 )
 
 -- ---- strings
-pub strings_keep : (e : FormedEntry) (c : WrittenSegment) → IsContext c → IsContext (strings_written e c).1
+pub strings_keep : (e : FormedEntry) (c : EncoderSegment) → IsContext c → IsContext (strings_written e c).1
 unfolding strings_written
 strings_keep e c ok = record {
   few = strings_few e c.table ok.few;
@@ -202,7 +212,8 @@ strings_keep e c ok = record {
   lat = ok.lat;
 }
 
-pub user_stands : (c : WrittenSegment) (seen : ListsSeen) (uid : ℕ) (user : List ℕ) (rest : List ℕ) → IsContext c → uid < 2 ^ 32 →
+-- A user that is written is read back.
+pub user_stands : (c : EncoderSegment) (seen : ListsSeen) (uid : ℕ) (user : List ℕ) (rest : List ℕ) → IsContext c → uid < 2 ^ 32 →
     is_text user ≡ true →
     UserStands (segment_behind c seen) ((strings_written (user_entry uid user) c).0 ++ rest)
     ((uid, user), segment_behind (strings_written (user_entry uid user) c).1 seen, rest)
@@ -215,7 +226,7 @@ user_stands c seen uid user rest ok small text = (
   refl,
 )
 
-tag_stands : (c : WrittenSegment) (seen : ListsSeen) (tag : Tag) (rest : List ℕ) → IsContext c → is_text tag.key ≡ true →
+tag_stands : (c : EncoderSegment) (seen : ListsSeen) (tag : Tag) (rest : List ℕ) → IsContext c → is_text tag.key ≡ true →
     is_text tag.value ≡ true →
     TagStands (segment_behind c seen) ((tag_written tag c).0 ++ rest) (tag, segment_behind (tag_written tag c).1 seen, rest)
 unfolding strings_written
@@ -231,41 +242,45 @@ tag_stands c seen tag rest ok key value = (
 abbrev pub are_texts : Tag → Bool
 are_texts tag = is_text tag.key && is_text tag.value
 
-pub tags_back : (tags : List Tag) (c : WrittenSegment) (seen : ListsSeen) → IsContext c → list_all are_texts tags ≡ true →
-    ItemsStand TagStands (segment_behind c seen) (in_turn (map tag_written tags) c).0 tags
-    (segment_behind (in_turn (map tag_written tags) c).1 seen)
-unfolding in_turn
+-- Tags that are written are read back.
+pub tags_back : (tags : List Tag) (c : EncoderSegment) (seen : ListsSeen) → IsContext c → list_all are_texts tags ≡ true →
+    ItemsStand TagStands (segment_behind c seen) (sequence (map tag_written tags) c).0 tags
+    (segment_behind (sequence (map tag_written tags) c).1 seen)
+unfolding sequence
 tags_back [] c seen ok texts = (refl, refl)
 tags_back (tag ∷ tags) c seen ok texts =
     let all = both_true (are_texts tag) (list_all are_texts tags) texts in
     let own = both_true (is_text tag.key) (is_text tag.value) all.0 in (
       segment_behind (tag_written tag c).1 seen,
-      (in_turn (map tag_written tags) (tag_written tag c).1).0,
-      tag_stands c seen tag (in_turn (map tag_written tags) (tag_written tag c).1).0 ok own.0 own.1,
+      (sequence (map tag_written tags) (tag_written tag c).1).0,
+      tag_stands c seen tag (sequence (map tag_written tags) (tag_written tag c).1).0 ok own.0 own.1,
       tags_back tags (tag_written tag c).1 seen (strings_keep (tag_entry tag) c ok) all.1,
     )
 
-pub tags_keep : (tags : List Tag) (c : WrittenSegment) → IsContext c → IsContext (in_turn (map tag_written tags) c).1
-unfolding in_turn
+-- Tags that are written leave the bases within their ranges.
+pub tags_keep : (tags : List Tag) (c : EncoderSegment) → IsContext c → IsContext (sequence (map tag_written tags) c).1
+unfolding sequence
 tags_keep [] c ok = ok
 tags_keep (tag ∷ tags) c ok = tags_keep tags (tag_written tag c).1 (strings_keep (tag_entry tag) c ok)
 
-pub references_back : (ids : List ℤ) (c : WrittenSegment) (seen : ListsSeen) → IsContext c → list_all is_id ids ≡ true →
-    ItemsStand ReferenceStands (segment_behind c seen) (in_turn (map reference_written ids) c).0 ids
-    (segment_behind (in_turn (map reference_written ids) c).1 seen)
-unfolding in_turn
+-- References that are written are read back.
+pub references_back : (ids : List ℤ) (c : EncoderSegment) (seen : ListsSeen) → IsContext c → list_all is_id ids ≡ true →
+    ItemsStand ReferenceStands (segment_behind c seen) (sequence (map reference_written ids) c).0 ids
+    (segment_behind (sequence (map reference_written ids) c).1 seen)
+unfolding sequence
 references_back [] c seen ok h = (refl, refl)
 references_back (id ∷ ids) c seen ok h =
     let all = both_true (is_id id) (list_all is_id ids) h in (
       segment_behind (reference_written id c).1 seen,
-      (in_turn (map reference_written ids) (reference_written id c).1).0,
-      reference_back c seen id (in_turn (map reference_written ids) (reference_written id c).1).0 ok all.0,
+      (sequence (map reference_written ids) (reference_written id c).1).0,
+      reference_back c seen id (sequence (map reference_written ids) (reference_written id c).1).0 ok all.0,
       references_back ids (reference_written id c).1 seen (reference_keeps c id ok all.0) all.1,
     )
 
-pub references_keep : (ids : List ℤ) (c : WrittenSegment) → IsContext c → list_all is_id ids ≡ true →
-    IsContext (in_turn (map reference_written ids) c).1
-unfolding in_turn
+-- References that are written leave the bases within their ranges.
+pub references_keep : (ids : List ℤ) (c : EncoderSegment) → IsContext c → list_all is_id ids ≡ true →
+    IsContext (sequence (map reference_written ids) c).1
+unfolding sequence
 references_keep [] c ok h = ok
 references_keep (id ∷ ids) c ok h = let all = both_true (is_id id) (list_all is_id ids) h in
     references_keep ids (reference_written id c).1 (reference_keeps c id ok all.0) all.1

@@ -1,4 +1,4 @@
--- What is written as a pair or a single string is read back.
+-- A pair or a single string that is written is read back.
 use Rattle.std.proofs.Common.{◌≡◌, ℕ, zero, suc, ◌+◌, ◌/◌, ◌<◌, ◌≤◌, ◌^◌, true, not, eqb, List, [], ◌∷◌, ◌++◌, length, take, refl, ap, sym}
 use Rattle.std.proofs.Common.{◌∙◌, arith, Option, Some, None, Ok, inl, inr, subst, append_assoc, encode_utf8_all}
 use Rattle.std.specs.Option.{option_map}
@@ -14,15 +14,15 @@ use Rattle.osm_model.specs.Text.{is_text}
 use Rattle.osm_model.proofs.TextLaws.{zero_bytes}
 use Rattle.o5_codec.specs.declared.strings.Form.{Form}
 use Rattle.o5_codec.specs.declared.strings.Form.TheVariants.{Pair, Single}
-use Rattle.o5_codec.specs.Entry.{Entry}
-use Rattle.o5_codec.specs.Table.{limit, is_short, stored, entry_at}
+use Rattle.o5_codec.specs.Entry.{EntryStrings}
+use Rattle.o5_codec.specs.Table.{table_limit, is_short, table_with, entry_at}
 use Rattle.o5_codec.specs.Text.{text_of, tag_of, uid_of, user_of, whole_number}
 use Rattle.o5_codec.specs.Body.{kind_and_role}
 use Rattle.o5_codec.specs.Sound.{has_no_zero}
 use Rattle.o5_codec.specs.Number.{number_at}
 use Rattle.o5_codec.specs.Spelling.{NumberStands, InlineStands, StringsStand}
 use Rattle.o5_codec.specs.Shortest.{groups_of, shortest_number}
-use Rattle.o5_codec.specs.Formed.{FormedEntry, same_entry, inline_bytes, reference_to, kept, spelled_by, kept_by}
+use Rattle.o5_codec.specs.Formed.{FormedEntry, same_entry, inline_bytes, reference_to, formed_table_with, strings_bytes, formed_table_after}
 use Rattle.o5_codec.specs.Agreement.{strings_in}
 use Rattle.o5_codec.specs.SameEntry.{same_entry_decides}
 use Rattle.o5_codec.specs.Writing.{uid_string, user_entry, tag_entry, member_entry}
@@ -55,19 +55,19 @@ named e (x ∷ table) n is = elim (cases_Bool (same_entry e x)) [
 ]
 
 -- storing drops the forms, or forms are dropped and then strings stored
-pub kept_strings : (e : FormedEntry) (table : List FormedEntry) → strings_in (kept e table) ≡ stored e.strings (strings_in table)
+pub kept_strings : (e : FormedEntry) (table : List FormedEntry) → strings_in (formed_table_with e table) ≡ table_with e.strings (strings_in table)
 kept_strings e table = elim (cases_Bool (is_short e.strings)) [
   | inl short ↦ ap strings_in (cond-true (is_short e.strings) _ table short)
-      ∙ sym (take-map (λ (x : FormedEntry). x.strings) limit (e ∷ table)) ∙ sym (cond-true (is_short e.strings) _ (strings_in table) short)
+      ∙ sym (take-map (λ (x : FormedEntry). x.strings) table_limit (e ∷ table)) ∙ sym (cond-true (is_short e.strings) _ (strings_in table) short)
   | inr long ↦ ap strings_in (cond-false (is_short e.strings) _ table long)
       ∙ sym (cond-false (is_short e.strings) _ (strings_in table) long)
 ]
 
-pub kept_few : (e : FormedEntry) (table : List FormedEntry) → length table ≤ limit → length (kept e table) ≤ limit
+pub kept_few : (e : FormedEntry) (table : List FormedEntry) → length table ≤ table_limit → length (formed_table_with e table) ≤ table_limit
 kept_few e table few = elim (cases_Bool (is_short e.strings)) [
-  | inl short ↦ subst (λ t. length t ≤ limit) (sym (cond-true (is_short e.strings) (take limit (e ∷ table)) table short))
-      (omega (arith, length-take limit (e ∷ table)))
-  | inr long ↦ subst (λ t. length t ≤ limit) (sym (cond-false (is_short e.strings) (take limit (e ∷ table)) table long)) few
+  | inl short ↦ subst (λ t. length t ≤ table_limit) (sym (cond-true (is_short e.strings) (take table_limit (e ∷ table)) table short))
+      (omega (arith, length-take table_limit (e ∷ table)))
+  | inr long ↦ subst (λ t. length t ≤ table_limit) (sym (cond-false (is_short e.strings) (take table_limit (e ∷ table)) table long)) few
 ]
 
 -- strings that can be spelled: without zero bytes, and a single one without a second string
@@ -76,7 +76,7 @@ pub record IsSpellable (e : FormedEntry) : Type 0 where
   pub second : has_no_zero e.strings.second ≡ true
   pub single : e.form ≡ Single → e.strings.second ≡ []
 
-inline_back : (form : Form) (strings : Entry) (rest : List ℕ) → has_no_zero strings.first ≡ true → has_no_zero strings.second ≡ true →
+inline_back : (form : Form) (strings : EntryStrings) (rest : List ℕ) → has_no_zero strings.first ≡ true → has_no_zero strings.second ≡ true →
     (form ≡ Single → strings.second ≡ []) →
     (inline : List ℕ) × (inline_bytes form strings ++ rest ≡ 0 ∷ inline) × InlineStands form inline (strings, rest)
 inline_back Pair strings rest first second single = (
@@ -86,36 +86,38 @@ inline_back Pair strings rest first second single = (
 )
 inline_back Single strings rest first second single = (strings.first ++ 0 ∷ rest, simp append_assoc, ((first, refl), single refl))
 
-reference_small : (n : ℕ) (table : List FormedEntry) → Within (length table) (Some n) → length table ≤ limit → n < 2 ^ 64
-unfolding limit
+reference_small : (n : ℕ) (table : List FormedEntry) → Within (length table) (Some n) → length table ≤ table_limit → n < 2 ^ 64
+unfolding table_limit
 reference_small n table w few = omega (arith, w.1)
 
-by_reference : (e : FormedEntry) (table : List FormedEntry) (r : Option ℕ) (rest : List ℕ) → IsSpellable e → length table ≤ limit →
+by_reference : (e : FormedEntry) (table : List FormedEntry) (r : Option ℕ) (rest : List ℕ) → IsSpellable e → length table ≤ table_limit →
     reference_to e table ≡ r → Within (length table) r →
-    StringsStand e.form (strings_in table) (spelled_by e r ++ rest) (e.strings, strings_in (kept_by e r table), rest)
+    StringsStand e.form (strings_in table) (strings_bytes e r ++ rest) (e.strings, strings_in (formed_table_after e r table), rest)
 by_reference e table None rest ok few is w =
     let inline = inline_back e.form e.strings rest ok.first ok.second ok.single in
     inl (inline.0, inline.1, inline.2, kept_strings e table)
 by_reference e table (Some n) rest ok few is w = inr (n, number_back n rest (reference_small n table w few), named e table n is, refl)
 
--- the strings are read back, and the tables go on alike
-pub strings_back : (e : FormedEntry) (table : List FormedEntry) (rest : List ℕ) → IsSpellable e → length table ≤ limit →
-    StringsStand e.form (strings_in table) (spelled_by e (reference_to e table) ++ rest)
-    (e.strings, strings_in (kept_by e (reference_to e table) table), rest)
+-- the strings are read back, and the tables remain equal
+pub strings_back : (e : FormedEntry) (table : List FormedEntry) (rest : List ℕ) → IsSpellable e → length table ≤ table_limit →
+    StringsStand e.form (strings_in table) (strings_bytes e (reference_to e table) ++ rest)
+    (e.strings, strings_in (formed_table_after e (reference_to e table) table), rest)
 strings_back e table rest ok few = by_reference e table (reference_to e table) rest ok few refl (within e table)
 
-few_by : (e : FormedEntry) (table : List FormedEntry) (r : Option ℕ) → length table ≤ limit → length (kept_by e r table) ≤ limit
+few_by : (e : FormedEntry) (table : List FormedEntry) (r : Option ℕ) → length table ≤ table_limit → length (formed_table_after e r table) ≤ table_limit
 few_by e table None few = kept_few e table few
 few_by e table (Some n) few = few
 
-pub strings_few : (e : FormedEntry) (table : List FormedEntry) → length table ≤ limit →
-    length (kept_by e (reference_to e table) table) ≤ limit
+-- Strings that are written leave the table within its size.
+pub strings_few : (e : FormedEntry) (table : List FormedEntry) → length table ≤ table_limit →
+    length (formed_table_after e (reference_to e table) table) ≤ table_limit
 strings_few e table few = few_by e table (reference_to e table) few
 
 -- ---- texts
 pub text_no_zero : (cs : List ℕ) → is_text cs ≡ true → has_no_zero (encode_utf8_all cs) ≡ true
 text_no_zero cs h = not_any (encode_utf8_all cs) ∙ ap not (zero_bytes cs) ∙ (both_true _ _ h).1
 
+-- The bytes of a text are read as the text.
 pub text_back : (cs : List ℕ) → is_text cs ≡ true → text_of (encode_utf8_all cs) ≡ Ok cs
 unfolding text_of
 text_back cs h =
@@ -165,11 +167,13 @@ unfolding user_of
 user_back uid user small text = read_next (uid_of (uid_string uid)) _ _ (uid_back uid small)
     ∙ read_next (text_of (encode_utf8_all user)) _ _ (text_back user text)
 
+-- The strings of a tag are read as the tag.
 pub tag_back : (tag : Tag) → is_text tag.key ≡ true → is_text tag.value ≡ true → tag_of (tag_entry tag).strings ≡ Ok tag
 unfolding tag_of
 tag_back tag key value = read_next (text_of (encode_utf8_all tag.key)) _ _ (text_back tag.key key)
     ∙ read_next (text_of (encode_utf8_all tag.value)) _ _ (text_back tag.value value)
 
+-- The string of a member is read as its kind and role.
 pub role_back : (k : Kind) (role : List ℕ) → kind_and_role (member_entry k role).strings.first ≡ Ok (k, encode_utf8_all role)
 role_back kind.Node role = refl
 role_back kind.Way role = refl
@@ -181,9 +185,11 @@ pair_apart = Pair ≡ Single → ⊥
 is_apart : pair_apart
 is_apart e = cc
 
+-- The strings of a user have no zero byte.
 pub user_spellable : (uid : ℕ) (user : List ℕ) → is_text user ≡ true → IsSpellable (user_entry uid user)
 user_spellable uid user text = record { first = uid_no_zero uid; second = text_no_zero user text; single = λ e. absurd (is_apart e) }
 
+-- The strings of a tag have no zero byte.
 pub tag_spellable : (tag : Tag) → is_text tag.key ≡ true → is_text tag.value ≡ true → IsSpellable (tag_entry tag)
 tag_spellable tag key value = record {
   first = text_no_zero tag.key key;
@@ -192,6 +198,7 @@ tag_spellable tag key value = record {
       λ e. absurd (is_apart e);
 }
 
+-- The string of a member has no zero byte.
 pub role_spellable : (k : Kind) (role : List ℕ) → is_text role ≡ true → IsSpellable (member_entry k role)
 role_spellable kind.Node role text = record { first = text_no_zero role text; second = refl; single = λ e. refl }
 role_spellable kind.Way role text = record { first = text_no_zero role text; second = refl; single = λ e. refl }

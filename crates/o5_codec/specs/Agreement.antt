@@ -1,4 +1,4 @@
--- What a reader knows of a segment behind what was written in it.
+-- The segment that a reader has after the bytes that were written.
 use Rattle.std.specs.Prelude.{◌≡◌, ◌⊎◌, ◌<◌, ◌≤◌, ◌^◌, List, map, length, FitsSigned}
 use Rattle.std.specs.Int.{w32}
 use Rattle.osm_model.specs.declared.kind.Kind.{Kind}
@@ -6,18 +6,18 @@ use Rattle.osm_model.specs.declared.kind.Kind.TheVariants as kind
 use Rattle.o5_codec.specs.declared.segment.Segment.{Segment}
 use Rattle.o5_codec.specs.declared.segment.ListsSeen.{ListsSeen}
 use Rattle.o5_codec.specs.declared.segment.ListsSeen.TheVariants.{Neither, References, NodeMembers}
-use Rattle.o5_codec.specs.Entry.{Entry}
-use Rattle.o5_codec.specs.Table.{limit}
+use Rattle.o5_codec.specs.Entry.{EntryStrings}
+use Rattle.o5_codec.specs.Table.{table_limit}
 use Rattle.o5_codec.specs.Formed.{FormedEntry}
 use Rattle.o5_codec.specs.IdBases.{AreIds}
-use Rattle.o5_codec.specs.Writing.{WrittenSegment}
+use Rattle.o5_codec.specs.Writing.{EncoderSegment}
 
 -- the strings of a table, without their forms
-abbrev pub strings_in : List FormedEntry → List Entry
+abbrev pub strings_in : List FormedEntry → List EntryStrings
 strings_in table = map (λ e. e.strings) table
 
 -- the segment of a reader: the same bases, the strings of the table, and which lists the segment had
-abbrev pub segment_behind : WrittenSegment → ListsSeen → Segment
+abbrev pub segment_behind : EncoderSegment → ListsSeen → Segment
 segment_behind c seen = record { bases = c.bases; table = strings_in c.table; seen = seen }
 
 -- the lists that a segment of objects of this kind may have had
@@ -27,8 +27,8 @@ MayHaveSeen kind.Way seen = (seen ≡ Neither) ⊎ (seen ≡ References)
 MayHaveSeen kind.Relation seen = (seen ≡ Neither) ⊎ (seen ≡ NodeMembers)
 
 -- the bases are within the ranges of their fields, and the table isn't too long
-pub record IsContext (c : WrittenSegment) : Type 0 where
-  pub few : length c.table ≤ limit
+pub record IsContext (c : EncoderSegment) : Type 0 where
+  pub few : length c.table ≤ table_limit
   pub ids : AreIds c.bases
   pub time : c.bases.time < 2 ^ 32
   pub changeset : c.bases.changeset < 2 ^ 32

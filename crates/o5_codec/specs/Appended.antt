@@ -1,8 +1,8 @@
--- What a step appends.
+-- The bytes that a step appends.
 use Rattle.std.specs.Prelude.{◌≡◌, ℕ, List, ◌++◌}
-use Rattle.o5_codec.specs.Writing.{WrittenSegment, Spelling}
+use Rattle.o5_codec.specs.Writing.{EncoderSegment, Spelling}
 
--- behind the old bytes stand those of the spelling, and the context is the one behind it
-pub record Appended (before after : List ℕ) (reached : WrittenSegment) (x : Spelling) : Type 0 where
+-- the new bytes are the old ones, followed by those of the spelling, and the context is the one after it
+pub record AppendsSpelling (before after : List ℕ) (reached : EncoderSegment) (x : Spelling) : Type 0 where
   pub bytes : after ≡ before ++ x.0
   pub context : reached ≡ x.1

@@ -1,4 +1,4 @@
--- Who made a version (the OSM wiki's page Elements).
+-- The author of a version (the OSM wiki's page Elements).
 use Rattle.std.specs.Prelude.{ℕ, List}
 
 -- the user name as its characters

@@ -8,9 +8,9 @@ use Rattle.o5_codec.specs.declared.reason.O5Reason.TheVariants.{OutOfRange}
 use Rattle.o5_codec.specs.Answer.{and_then}
 use Rattle.o5_codec.specs.Number.{signed_at}
 
--- a value by its difference at the front, and the bytes behind it
-abbrev pub read_by : {X : Type 0} → (ℤ → Result X O5Reason) → List ℕ → Result (X × List ℕ) O5Reason
-read_by moved bytes = and_then (signed_at bytes) (λ x. and_then (moved x.0) (λ v. Ok (v, x.1)))
+-- a value by its difference at the front, and the bytes after it
+abbrev pub read_difference : {X : Type 0} → (ℤ → Result X O5Reason) → List ℕ → Result (X × List ℕ) O5Reason
+read_difference moved bytes = and_then (signed_at bytes) (λ x. and_then (moved x.0) (λ v. Ok (v, x.1)))
 
 -- an id, a reference or the id of a member
 abbrev pub moved_id : ℤ → ℤ → Result ℤ O5Reason

@@ -1,4 +1,4 @@
--- What a decoder keeps between two data sets.
+-- The state of a decoder between two data sets.
 use Rattle.std.specs.Prelude.{◌≡◌, ◌⊎◌, ℕ, pos, Bool, true, false, List, [], Result, Ok, Err, MatchResult}
 use Rattle.osm_model.specs.declared.kind.Kind.{Kind}
 use Rattle.osm_model.specs.Data.{VersionData}
@@ -9,7 +9,7 @@ use Rattle.o5_codec.specs.declared.segment.ListsSeen.TheVariants.{Neither}
 use Rattle.o5_codec.specs.declared.base.Bases.{Bases}
 use Rattle.o5_codec.specs.Body.{set_at}
 
--- the bases where a segment begins
+-- the bases at the start of a segment
 abbrev pub no_bases : Bases
 no_bases = record {
   id = pos 0;
@@ -23,20 +23,20 @@ no_bases = record {
   relation_member = pos 0;
 }
 
--- a segment that had nothing
+-- a segment without any data sets
 abbrev pub new_segment : Segment
 new_segment = record { bases = no_bases; table = []; seen = Neither }
 
 -- the segment so far, and whether a data set was refused
-pub record State : Type 0 where
+pub record DecoderState : Type 0 where
   pub segment : Segment
   pub failed : Bool
 
-abbrev pub reading_in : Segment → State
+abbrev pub reading_in : Segment → DecoderState
 reading_in s = record { segment = s; failed = false }
 
--- after a data set of this kind was read, or refused: the answer, with the state before and the state after
-pub record Reads (k : Kind) (content : List ℕ) (old new : State) (answer : Result VersionData O5Reason) : Type 0 where
+-- after a data set of this kind was read, or refused: the result, with the state before and the state after
+pub record Reads (k : Kind) (content : List ℕ) (old new : DecoderState) (answer : Result VersionData O5Reason) : Type 0 where
   pub read : MatchResult answer
       (λ v. (old.failed ≡ false) × (new.failed ≡ false) × (set_at k old.segment content ≡ Ok (v, new.segment)))
       (λ reason. (new.failed ≡ true) ×

@@ -1,5 +1,5 @@
--- What a segment had, by the list of its objects and the list of its inline entries.
--- Delta coding and the string table are those of the OSM wiki's page on o5m.
+-- The contents of a segment, by the list of its objects and the list of its inline entries. Delta coding and the string
+-- table are those of the OSM wiki's page on o5m.
 use Rattle.std.specs.Prelude.{◌≡◌, ℕ, ℤ, pos, Bool, true, false, List, [], ◌∷◌, ◌++◌, is_some, unwrap_or, Result, Ok}
 use Rattle.std.specs.Prelude.{if◌then◌else◌}
 use Rattle.std.specs.List.{flat_map, list_any}
@@ -19,7 +19,7 @@ use Rattle.o5_codec.specs.declared.segment.ListsSeen.{ListsSeen}
 use Rattle.o5_codec.specs.declared.segment.ListsSeen.TheVariants.{Neither, References, NodeMembers}
 use Rattle.o5_codec.specs.declared.strings.Form.{Form}
 use Rattle.o5_codec.specs.declared.strings.Form.TheVariants.{Pair, Single}
-use Rattle.o5_codec.specs.Entry.{Entry}
+use Rattle.o5_codec.specs.Entry.{EntryStrings}
 use Rattle.o5_codec.specs.Table.{table_of}
 use Rattle.o5_codec.specs.Answer.{and_then}
 use Rattle.o5_codec.specs.Body.{set_at}
@@ -88,12 +88,12 @@ relation_ids members = flat_map (λ m. relation_id m.kind m.id) members
 
 -- ---- the segment after these objects and entries
 
--- the last value of a list, or this one where there is none
+-- the last value of a list, or `x` if there is none
 abbrev pub last_from : {X : Type 0} → X → List X → X
 last_from x [] = x
 last_from x (y ∷ ys) = last_from y ys
 
--- the value last spelled for a field, or this one where none was
+-- the value last spelled for a field, or `x` if there is none
 abbrev pub last_spelled : {X : Type 0} → X → (VersionData → List X) → List VersionData → X
 last_spelled x spelled objects = last_from x (flat_map spelled objects)
 
@@ -123,97 +123,97 @@ has_references v = is_some_of (references v.body)
 abbrev pub has_node_members : VersionData → Bool
 has_node_members v = is_some_of (node_ids (members_of v.body))
 
--- which of the two was among these objects; no segment has both
+-- which of the two these objects had; no segment has both
 abbrev pub lists_of : List VersionData → ListsSeen
 lists_of objects =
     if list_any has_references objects then References else
     (if list_any has_node_members objects then NodeMembers else Neither)
 
 -- the segment that had these objects, and these entries inline
-abbrev pub segment_of : List VersionData → List Entry → Segment
+abbrev pub segment_of : List VersionData → List EntryStrings → Segment
 segment_of objects entries = record { bases = bases_of objects; table = table_of entries; seen = lists_of objects }
 
--- ---- the entries that stand inline in what spells a version, in their order
+-- ---- the inline entries in the bytes that spell a version, in their order
 
-abbrev pub inline_strings : (form : Form) (table : List Entry) (bytes : List ℕ) (x : Entry × List Entry × List ℕ) →
-    StringsStand form table bytes x → List Entry
+abbrev pub inline_strings : (form : Form) (table : List EntryStrings) (bytes : List ℕ) (x : EntryStrings × List EntryStrings × List ℕ) →
+    StringsStand form table bytes x → List EntryStrings
 inline_strings form table bytes x (inl inline) = x.0 ∷ []
 inline_strings form table bytes x (inr reference) = []
 
 abbrev pub inline_user : (changeset : ℕ) (s : Segment) (bytes : List ℕ) (x : Author × Segment × List ℕ) →
-    AuthorBehind changeset s bytes x → List Entry
+    AuthorBehind changeset s bytes x → List EntryStrings
 inline_user changeset s [] x stands = []
 inline_user changeset s (b ∷ bytes) x stands =
     let user = stands.1 in
     inline_strings Pair s.table (b ∷ bytes) (user.0, user.1, x.2) user.2
 
 abbrev pub inline_author : (time : ℕ) (s : Segment) (bytes : List ℕ) (x : Author × Segment × List ℕ) →
-    AuthorStands time s bytes x → List Entry
+    AuthorStands time s bytes x → List EntryStrings
 inline_author time s bytes x (inl none) = []
 inline_author time s bytes x (inr author) = inline_user author.1.0.0 author.1.0.1 author.1.0.2 x author.1.2
 
--- of a list, by those of its items
+-- the inline entries of a list, by those of its items
 abbrev pub inline_items : {X : Type 0} (Stands : Segment → List ℕ → X × Segment × List ℕ → Type 0) →
-    ((s : Segment) (bytes : List ℕ) (x : X × Segment × List ℕ) → Stands s bytes x → List Entry) →
-    (s : Segment) (bytes : List ℕ) (xs : List X) (end : Segment) → ItemsStand Stands s bytes xs end → List Entry
+    ((s : Segment) (bytes : List ℕ) (x : X × Segment × List ℕ) → Stands s bytes x → List EntryStrings) →
+    (s : Segment) (bytes : List ℕ) (xs : List X) (end : Segment) → ItemsStand Stands s bytes xs end → List EntryStrings
 inline_items Stands of_item s bytes [] end stands = []
 inline_items Stands of_item s bytes (x ∷ xs) end stands =
     of_item s bytes (x, stands.0, stands.1) stands.2 ++ inline_items Stands of_item stands.0 stands.1 xs end stands.3
 
-abbrev pub inline_tag : (s : Segment) (bytes : List ℕ) (x : Tag × Segment × List ℕ) → TagStands s bytes x → List Entry
+abbrev pub inline_tag : (s : Segment) (bytes : List ℕ) (x : Tag × Segment × List ℕ) → TagStands s bytes x → List EntryStrings
 inline_tag s bytes x stands = inline_strings Pair s.table bytes (stands.0, stands.1, x.2) stands.2
 
 abbrev pub inline_tags : (s : Segment) (bytes : List ℕ) (tags : List Tag) (end : Segment) →
-    ItemsStand TagStands s bytes tags end → List Entry
+    ItemsStand TagStands s bytes tags end → List EntryStrings
 inline_tags = inline_items TagStands inline_tag
 
 abbrev pub inline_member : (s : Segment) (bytes : List ℕ) (x : Member × Segment × List ℕ) → MemberStands s bytes x →
-    List Entry
+    List EntryStrings
 inline_member s bytes x stands = inline_strings Single s.table stands.0.1 (stands.1.0, stands.1.1, x.2) stands.6
 
 abbrev pub inline_members : (s : Segment) (bytes : List ℕ) (members : List Member) (end : Segment) →
-    ItemsStand MemberStands s bytes members end → List Entry
+    ItemsStand MemberStands s bytes members end → List EntryStrings
 inline_members = inline_items MemberStands inline_member
 
-abbrev pub inline_node : (s : Segment) (bytes : List ℕ) (x : Body × Segment) → NodeStands s bytes x → List Entry
+abbrev pub inline_node : (s : Segment) (bytes : List ℕ) (x : Body × Segment) → NodeStands s bytes x → List EntryStrings
 inline_node s bytes x stands = inline_tags stands.1.1 stands.1.2 stands.2 x.1 stands.5
 
-abbrev pub inline_way : (s : Segment) (bytes : List ℕ) (x : Body × Segment) → WayStands s bytes x → List Entry
+abbrev pub inline_way : (s : Segment) (bytes : List ℕ) (x : Body × Segment) → WayStands s bytes x → List EntryStrings
 inline_way s bytes x stands = inline_tags stands.2.1 stands.0.1 stands.3 x.1 stands.7
 
-abbrev pub inline_relation : (s : Segment) (bytes : List ℕ) (x : Body × Segment) → RelationStands s bytes x → List Entry
+abbrev pub inline_relation : (s : Segment) (bytes : List ℕ) (x : Body × Segment) → RelationStands s bytes x → List EntryStrings
 inline_relation s bytes x stands =
     inline_members s stands.0.0 stands.1.0 stands.1.1 stands.4 ++
     inline_tags stands.1.1 stands.0.1 stands.2 x.1 stands.5
 
 abbrev pub inline_body : (k : Kind) (s : Segment) (bytes : List ℕ) (x : Body × Segment) → BodyStands k s bytes x →
-    List Entry
+    List EntryStrings
 inline_body k s [] x stands = []
 inline_body kind.Node s (b ∷ bytes) x stands = inline_node s (b ∷ bytes) x stands
 inline_body kind.Way s (b ∷ bytes) x stands = inline_way s (b ∷ bytes) x stands
 inline_body kind.Relation s (b ∷ bytes) x stands = inline_relation s (b ∷ bytes) x stands
 
--- of a data set: the user, the members, the tags
+-- the inline entries of a data set: those of the user, the members, the tags
 abbrev pub inline_entries : (k : Kind) (s : Segment) (content : List ℕ) (x : VersionData × Segment) →
-    SpellsSet k s content x → List Entry
+    SpellsSet k s content x → List EntryStrings
 inline_entries k s content x spells =
     let meta = spells.meta_stands in
     inline_author meta.1.0 meta.1.1 meta.1.2 meta.2 meta.5 ++
     inline_body k spells.meta.1 spells.meta.2 spells.body spells.body_stands
 
--- ---- data sets one after the other
+-- ---- data sets in sequence
 
--- contents, each with its kind, spell these versions one after the other, with these entries inline, from a segment to
--- the segment behind them
-abbrev pub SpellSets : Segment → List (Kind × List ℕ) → List VersionData → List Entry → Segment → Type 0
+-- contents, each with its kind, spell these versions in sequence, with these inline entries, from one segment to the
+-- segment after them
+abbrev pub SpellSets : Segment → List (Kind × List ℕ) → List VersionData → List EntryStrings → Segment → Type 0
 SpellSets s [] [] inline end = (inline ≡ []) × (s ≡ end)
 SpellSets s [] (v ∷ versions) inline end = ⊥
 SpellSets s (set ∷ sets) [] inline end = ⊥
 SpellSets s (set ∷ sets) (v ∷ versions) inline end =
-    (middle : Segment) × (later : List Entry) × (spells : SpellsSet set.0 s set.1 (v, middle)) ×
+    (middle : Segment) × (later : List EntryStrings) × (spells : SpellsSet set.0 s set.1 (v, middle)) ×
     (inline ≡ inline_entries set.0 s set.1 (v, middle) spells ++ later) × SpellSets middle sets versions later end
 
--- the versions of data sets that are read one after the other, and the segment behind them
+-- the versions of data sets that are read in sequence, and the segment after them
 abbrev pub sets_at : Segment → List (Kind × List ℕ) → Result (List VersionData × Segment) O5Reason
 sets_at s [] = Ok ([], s)
 sets_at s (set ∷ sets) =

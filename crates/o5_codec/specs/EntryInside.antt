@@ -1,4 +1,4 @@
--- What is true of the fields of an entry that is written.
+-- The properties of the fields of an entry that is written.
 use Rattle.std.specs.Prelude.{◌≡◌, ◌≤◌, IfSome, take, length}
 use Rattle.o5_codec.specs.declared.write.entry.Entry.TheInside.{Inside}
 use Rattle.o5_codec.specs.Digest.{digest}

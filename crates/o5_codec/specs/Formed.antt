@@ -6,18 +6,18 @@ use Rattle.std.specs.Option.{option_map}
 use Rattle.std.specs.Str.{bytes_eq}
 use Rattle.o5_codec.specs.declared.strings.Form.{Form}
 use Rattle.o5_codec.specs.declared.strings.Form.TheVariants.{Pair, Single}
-use Rattle.o5_codec.specs.Entry.{Entry}
-use Rattle.o5_codec.specs.Strings.{entry_of}
-use Rattle.o5_codec.specs.Table.{limit, is_short}
+use Rattle.o5_codec.specs.Entry.{EntryStrings}
+use Rattle.o5_codec.specs.StringPair.{entry_of}
+use Rattle.o5_codec.specs.Table.{table_limit, is_short}
 use Rattle.o5_codec.specs.Shortest.{shortest_number}
 
 -- a pair, or a single string, whose second string is empty
 pub record FormedEntry : Type 0 where
   pub form : Form
-  pub strings : Entry
+  pub strings : EntryStrings
 
-abbrev pub formed : Form → List ℕ → List ℕ → FormedEntry
-formed form first second = record { form = form; strings = entry_of first second }
+abbrev pub formed_entry : Form → List ℕ → List ℕ → FormedEntry
+formed_entry form first second = record { form = form; strings = entry_of first second }
 
 abbrev pub same_form : Form → Form → Bool
 same_form Pair Pair = true
@@ -30,26 +30,26 @@ abbrev pub same_entry : FormedEntry → FormedEntry → Bool
 same_entry x y =
     same_form x.form y.form && (bytes_eq x.strings.first y.strings.first && bytes_eq x.strings.second y.strings.second)
 
--- how strings stand inline
-abbrev pub inline_bytes : Form → Entry → List ℕ
+-- the inline form of strings
+abbrev pub inline_bytes : Form → EntryStrings → List ℕ
 inline_bytes Pair e = 0 ∷ e.first ++ 0 ∷ e.second ++ 0 ∷ []
 inline_bytes Single e = 0 ∷ e.first ++ 0 ∷ []
 
--- the reference that names the entry, where it stands in the table; 1 is the one stored last
+-- the reference that names the entry, if the table has it; 1 is the one stored last
 abbrev pub reference_to : FormedEntry → List FormedEntry → Option ℕ
 reference_to e [] = None
 reference_to e (x ∷ table) = if same_entry e x then Some 1 else option_map (λ n. n + 1) (reference_to e table)
 
 -- the table after an inline entry
-abbrev pub kept : FormedEntry → List FormedEntry → List FormedEntry
-kept e table = if is_short e.strings then take limit (e ∷ table) else table
+abbrev pub formed_table_with : FormedEntry → List FormedEntry → List FormedEntry
+formed_table_with e table = if is_short e.strings then take table_limit (e ∷ table) else table
 
 -- an entry with this reference, and without one
-abbrev pub spelled_by : FormedEntry → Option ℕ → List ℕ
-spelled_by e None = inline_bytes e.form e.strings
-spelled_by e (Some n) = shortest_number n
+abbrev pub strings_bytes : FormedEntry → Option ℕ → List ℕ
+strings_bytes e None = inline_bytes e.form e.strings
+strings_bytes e (Some n) = shortest_number n
 
 -- a reference stores nothing
-abbrev pub kept_by : FormedEntry → Option ℕ → List FormedEntry → List FormedEntry
-kept_by e None table = kept e table
-kept_by e (Some n) table = table
+abbrev pub formed_table_after : FormedEntry → Option ℕ → List FormedEntry → List FormedEntry
+formed_table_after e None table = formed_table_with e table
+formed_table_after e (Some n) table = table

@@ -1,4 +1,4 @@
--- How a table's entries are numbered, in the order in which they were stored.
+-- The numbers of a table's entries, in the order in which they were stored.
 use Rattle.std.specs.Prelude.{◌≡◌, ◌⊎◌, ◌+◌, ◌<◌, ◌≤◌, ℕ, List, [], ◌∷◌, length, Option, Some, None}
 use Rattle.o5_codec.specs.Formed.{FormedEntry, reference_to}
 
@@ -7,14 +7,14 @@ abbrev pub AreDistinct : List FormedEntry → Type 0
 AreDistinct [] = Unit {0}
 AreDistinct (e ∷ table) = (reference_to e table ≡ None) × AreDistinct table
 
--- the reference goes with the number of the storing; next is the number of the next one, and numbers count modulo m
+-- the reference agrees with the number; `next` is the number of the next entry, and numbers count modulo m
 abbrev pub Numbered : ℕ → ℕ → Option ℕ → Option ℕ → Type 0
 Numbered m next None None = Unit {0}
 Numbered m next (Some i) (Some n) = (n < m) × ((n + i ≡ next) ⊎ (n + i ≡ next + m))
 Numbered m next None (Some n) = ⊥
 Numbered m next (Some i) None = ⊥
 
--- the table's entries are distinct, and just these have numbers
+-- the table's entries are distinct, and only these have numbers
 pub record IsIndexed (m limit next : ℕ) (table : List FormedEntry) (number : FormedEntry → Option ℕ) : Type 0 where
   pub few : length table ≤ limit
   pub below : next < m

@@ -1,4 +1,4 @@
--- Laws of the definitions: what is read is what is spelled.
+-- Laws of the definitions: a value is read exactly if its bytes spell it.
 use Rattle.std.specs.Prelude.{◌≡◌, ◌⊎◌, ◌<◌, ◌^◌, ℕ, ℤ, true, false, ◌&&◌, List, [], ◌∷◌, ◌++◌, All, Ok, Err}
 use Rattle.std.specs.List.{list_any}
 use Rattle.osm_model.specs.declared.kind.Kind.{Kind}
@@ -6,10 +6,10 @@ use Rattle.osm_model.specs.Data.{VersionData}
 use Rattle.osm_model.specs.Valid.{IsVersion}
 use Rattle.o5_codec.specs.declared.segment.Segment.{Segment}
 use Rattle.o5_codec.specs.declared.strings.Form.{Form}
-use Rattle.o5_codec.specs.Entry.{Entry}
-use Rattle.o5_codec.specs.Table.{stored, table_of}
+use Rattle.o5_codec.specs.Entry.{EntryStrings}
+use Rattle.o5_codec.specs.Table.{table_with, table_of}
 use Rattle.o5_codec.specs.Number.{SpellsNumber, number_at, signed_at}
-use Rattle.o5_codec.specs.Strings.{strings_at}
+use Rattle.o5_codec.specs.StringPair.{strings_at}
 use Rattle.o5_codec.specs.Text.{text_of, user_of}
 use Rattle.o5_codec.specs.Body.{set_at}
 use Rattle.o5_codec.specs.declared.reason.O5Reason.{O5Reason}
@@ -20,40 +20,40 @@ use Rattle.o5_codec.specs.Decoder.{new_segment}
 use Rattle.o5_codec.specs.Earlier.{has_references, has_node_members, segment_of, inline_entries, SpellSets, sets_at}
 use Rattle.o5_codec.specs.Spelling.{NumberStands, SignedStands, StringsStand, SpellsSet}
 
--- an unsigned number is read exactly where it is spelled
+-- an unsigned number is read exactly if it is spelled
 abbrev pub NumbersAreRead : Type 0
 NumbersAreRead =
     (bytes : List ℕ) (x : ℕ × List ℕ) → (number_at bytes ≡ Ok x → NumberStands bytes x) ×
     (NumberStands bytes x → number_at bytes ≡ Ok x)
 
--- a signed number is read exactly where it is spelled
+-- a signed number is read exactly if it is spelled
 abbrev pub SignedNumbersAreRead : Type 0
 SignedNumbersAreRead =
     (bytes : List ℕ) (x : ℤ × List ℕ) → (signed_at bytes ≡ Ok x → SignedStands bytes x) ×
     (SignedStands bytes x → signed_at bytes ≡ Ok x)
 
--- strings are read exactly where they are spelled, inline or by a reference
+-- strings are read exactly if they are spelled, inline or by a reference
 abbrev pub StringsAreRead : Type 0
-StringsAreRead = (form : Form) (table : List Entry) (bytes : List ℕ) (x : Entry × List Entry × List ℕ) →
+StringsAreRead = (form : Form) (table : List EntryStrings) (bytes : List ℕ) (x : EntryStrings × List EntryStrings × List ℕ) →
     (strings_at form table bytes ≡ Ok x → StringsStand form table bytes x) ×
     (StringsStand form table bytes x → strings_at form table bytes ≡ Ok x)
 
--- a user id: an empty string for 0, else one number below 2^32 with nothing behind it
+-- a user id: an empty string for 0, else one number below 2^32 with nothing after it
 abbrev pub SpellsUid : List ℕ → ℕ → Type 0
 SpellsUid [] n = n ≡ 0
 SpellsUid (b ∷ bytes) n = SpellsNumber (b ∷ bytes) n × (n < 2 ^ 32)
 
--- a user is read exactly where the first string of a pair spells its id and the second its name
+-- a user is read exactly if the first string of a pair spells its id and the second its name
 abbrev pub UsersAreRead : Type 0
-UsersAreRead = (e : Entry) (x : ℕ × List ℕ) →
+UsersAreRead = (e : EntryStrings) (x : ℕ × List ℕ) →
     (user_of e ≡ Ok x → SpellsUid e.first x.0 × (text_of e.second ≡ Ok x.1)) ×
     (SpellsUid e.first x.0 × (text_of e.second ≡ Ok x.1) → user_of e ≡ Ok x)
 
 -- one more inline entry
 abbrev pub TableOfEntries : Type 0
-TableOfEntries = (entries : List Entry) (e : Entry) → table_of (entries ++ e ∷ []) ≡ stored e (table_of entries)
+TableOfEntries = (entries : List EntryStrings) (e : EntryStrings) → table_of (entries ++ e ∷ []) ≡ table_with e (table_of entries)
 
--- a version is read exactly where the content spells it: so a content that is refused spells none
+-- a version is read exactly if the content spells it: so a content that is refused spells none
 abbrev pub SetsAreRead : Type 0
 SetsAreRead = (k : Kind) (s : Segment) (content : List ℕ) (x : VersionData × Segment) →
     (set_at k s content ≡ Ok x → SpellsSet k s content x) × (SpellsSet k s content x → set_at k s content ≡ Ok x)
@@ -76,7 +76,7 @@ SpelledOrRefused =
     (k : Kind) (s : Segment) (content : List ℕ) → ((x : VersionData × Segment) × SpellsSet k s content x) ⊎
     ((reason : O5Reason) × SetReason k s content reason)
 
--- not both, and one reason alone, which is a reason of the steps
+-- not both, and only one reason, which is a reason of the steps
 pub record IsTheOnlyReason (k : Kind) (s : Segment) (content : List ℕ) (reason : O5Reason) : Type 0 where
   pub spells_none : (x : VersionData × Segment) → SpellsSet k s content x → ⊥
   pub only : (other : O5Reason) → SetReason k s content other → other ≡ reason
@@ -87,34 +87,34 @@ OneReason =
     (k : Kind) (s : Segment) (content : List ℕ) (reason : O5Reason) → SetReason k s content reason →
     IsTheOnlyReason k s content reason
 
--- Data sets one after the other are read exactly where they spell these versions one after the other.
+-- Data sets in sequence are read exactly if they spell these versions in sequence.
 abbrev pub ListsAreRead : Type 0
 ListsAreRead = (s : Segment) (sets : List (Kind × List ℕ)) (x : List VersionData × Segment) →
-    (sets_at s sets ≡ Ok x → (inline : List Entry) × SpellSets s sets x.0 inline x.1) ×
-    ((inline : List Entry) → SpellSets s sets x.0 inline x.1 → sets_at s sets ≡ Ok x)
+    (sets_at s sets ≡ Ok x → (inline : List EntryStrings) × SpellSets s sets x.0 inline x.1) ×
+    ((inline : List EntryStrings) → SpellSets s sets x.0 inline x.1 → sets_at s sets ≡ Ok x)
 
--- one more data set behind others
+-- one more data set after others
 abbrev pub SetsGoOn : Type 0
 SetsGoOn =
-    (s : Segment) (sets : List (Kind × List ℕ)) (versions : List VersionData) (inline : List Entry) (end : Segment)
+    (s : Segment) (sets : List (Kind × List ℕ)) (versions : List VersionData) (inline : List EntryStrings) (end : Segment)
     (k : Kind) (content : List ℕ) (x : VersionData × Segment) →
     SpellSets s sets versions inline end → (spells : SpellsSet k end content x) →
     SpellSets s (sets ++ (k, content) ∷ []) (versions ++ x.0 ∷ []) (inline ++ inline_entries k end content x spells) x.1
 
--- What a segment keeps is told by the lists of what it had: each base is the value last spelled for its field, the
+-- The lists of a segment's objects and entries determine it: each base is the value last spelled for its field, the
 -- table that of all inline entries, and the lists those that the objects have.
 abbrev pub SegmentsAreToldByLists : Type 0
 SegmentsAreToldByLists =
-    (sets : List (Kind × List ℕ)) (versions : List VersionData) (inline : List Entry) (end : Segment) →
+    (sets : List (Kind × List ℕ)) (versions : List VersionData) (inline : List EntryStrings) (end : Segment) →
     SpellSets new_segment sets versions inline end → end ≡ segment_of versions inline
 
 -- No segment has both a way with references and a relation with a node member.
 abbrev pub ListsAreNotMixed : Type 0
-ListsAreNotMixed = (sets : List (Kind × List ℕ)) (versions : List VersionData) (inline : List Entry) (end : Segment) →
+ListsAreNotMixed = (sets : List (Kind × List ℕ)) (versions : List VersionData) (inline : List EntryStrings) (end : Segment) →
     SpellSets new_segment sets versions inline end →
     list_any has_references versions && list_any has_node_members versions ≡ false
 
--- What is read from a new segment on is within the ranges of versions.
+-- All that is read from a new segment on is within the ranges of versions.
 abbrev pub SetsMakeVersions : Type 0
 SetsMakeVersions =
     (sets : List (Kind × List ℕ)) (versions : List VersionData) (end : Segment) →

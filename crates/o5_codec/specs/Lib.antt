@@ -3,7 +3,7 @@ pub mod Answer
 pub mod Number
 pub mod Entry
 pub mod Table
-pub mod Strings
+pub mod StringPair
 pub mod Base
 pub mod Text
 pub mod Author
@@ -28,7 +28,7 @@ pub mod SameEntry
 pub mod Agreement
 pub mod WritingLaws
 pub mod Block
-pub mod Meaning
+pub mod Decoded
 pub mod StoredInside
 pub mod EntryInside
 pub mod Digest

@@ -1,5 +1,5 @@
--- Numbers in groups of seven bits (the OSM wiki's page on o5m).
--- Own rules of this project: a number has ten bytes at most and is below 2^64, and padding is accepted.
+-- Numbers in groups of seven bits (the OSM wiki's page on o5m). Own rules of this project: a number has at most ten
+-- bytes and is below 2^64, and padding is accepted.
 use Rattle.std.specs.Prelude.{◌≡◌, ℕ, zero, suc, ℤ, pos, negsuc, ◌+◌, ◌-◌, ◌*◌, ◌/◌, ◌%◌, ◌^◌, ◌<◌, ◌≤◌, ◌==◌, nat_lt}
 use Rattle.std.specs.Prelude.{List, [], ◌∷◌, length, Result, Ok, Err, if◌then◌else◌}
 use Rattle.o5_codec.specs.declared.reason.O5Reason.{O5Reason}
@@ -18,7 +18,7 @@ pub record SpellsNumber (bytes : List ℕ) (n : ℕ) : Type 0 where
   pub fits : n < 2 ^ 64
   pub groups : AreGroups bytes n
 
--- the unsigned number that stands for a signed one
+-- the unsigned number of a signed one
 abbrev pub unsigned_of : ℤ → ℕ
 unsigned_of (pos n) = 2 * n
 unsigned_of (negsuc n) = 2 * n + 1
@@ -27,12 +27,12 @@ unsigned_of (negsuc n) = 2 * n + 1
 abbrev pub SpellsSigned : List ℕ → ℤ → Type 0
 SpellsSigned bytes m = SpellsNumber bytes (unsigned_of m)
 
--- a lowest group in front of the others
+-- a lowest group before the others
 abbrev pub with_low : ℕ → Result (ℕ × List ℕ) O5Reason → Result (ℕ × List ℕ) O5Reason
 with_low low (Ok x) = Ok (low + 128 * x.0, x.1)
 with_low low (Err reason) = Err reason
 
--- the number at the front, of at most room bytes, and the bytes behind it
+-- the number at the front, of at most room bytes, and the bytes after it
 unfoldable pub groups_at : ℕ → List ℕ → Result (ℕ × List ℕ) O5Reason
 groups_at zero bytes = Err BadNumber
 groups_at (suc room) [] = Err BadNumber
@@ -41,14 +41,14 @@ groups_at (suc room) (b ∷ bytes) = if nat_lt b 128 then Ok (b, bytes) else wit
 abbrev pub within_word : ℕ × List ℕ → Result (ℕ × List ℕ) O5Reason
 within_word x = if nat_lt x.0 (2 ^ 64) then Ok x else Err BadNumber
 
--- the unsigned number at the front, and the bytes behind it
+-- the unsigned number at the front, and the bytes after it
 unfoldable pub number_at : List ℕ → Result (ℕ × List ℕ) O5Reason
 number_at bytes = and_then (groups_at 10 bytes) within_word
 
--- the signed number that an unsigned one stands for
+-- the signed number of an unsigned one
 abbrev pub signed_of : ℕ → ℤ
 signed_of n = if n % 2 == 0 then pos (n / 2) else negsuc (n / 2)
 
--- the signed number at the front, and the bytes behind it
+-- the signed number at the front, and the bytes after it
 unfoldable pub signed_at : List ℕ → Result (ℤ × List ℕ) O5Reason
 signed_at bytes = and_then (number_at bytes) (λ x. Ok (signed_of x.0, x.1))

@@ -9,21 +9,21 @@ use Rattle.o5_codec.specs.declared.reason.O5Reason.TheVariants.{BadNumber, BadTe
 use Rattle.o5_codec.specs.declared.segment.Segment.{Segment}
 use Rattle.o5_codec.specs.declared.strings.Form.{Form}
 use Rattle.o5_codec.specs.declared.strings.Form.TheVariants.{Pair, Single}
-use Rattle.o5_codec.specs.Entry.{Entry}
+use Rattle.o5_codec.specs.Entry.{EntryStrings}
 use Rattle.o5_codec.specs.Table.{entry_at}
 use Rattle.o5_codec.specs.Base.{moved_id, moved_number, moved_coordinate}
 use Rattle.o5_codec.specs.Text.{text_of, tag_of, user_of}
-use Rattle.o5_codec.specs.Segment.{numbered}
+use Rattle.o5_codec.specs.Segment.{nonzero_version}
 use Rattle.o5_codec.specs.Body.{with_seen, with_section, kind_and_role, with_member, moved_member}
 use Rattle.o5_codec.specs.Spelling.{NumberStands, SignedStands, InlineStands, StringsStand, IdStands, TimeStands}
 use Rattle.o5_codec.specs.Spelling.{ChangesetStands, LongitudeStands, LatitudeStands, ReferenceStands, VersionStands}
 use Rattle.o5_codec.specs.Spelling.{MetaStands, TagStands, MemberStands, ItemsStand, SectionStands}
 
--- nothing stands there, whatever it would spell
+-- the bytes spell nothing of this form
 abbrev pub Nothing : {X : Type 0} → (X → Type 0) → Type 0
 Nothing {X} Stands = (x : X) → Stands x → ⊥
 
--- a step is refused, or it stands and a later step is refused
+-- a step is refused, or it is spelled and a later step is refused
 abbrev pub Then : {X : Type 0} → Type 0 → (X → Type 0) → (X → Type 0) → Type 0
 Then {X} first Stands later = first ⊎ ((x : X) × Stands x × later x)
 
@@ -41,12 +41,12 @@ abbrev pub InlineRefused : Form → List ℕ → O5Reason → Type 0
 InlineRefused form bytes reason = (reason ≡ BadText) × Nothing (InlineStands form bytes)
 
 -- a number that refers to no entry
-abbrev pub ReferenceMissing : List Entry → List ℕ → O5Reason → Type 0
+abbrev pub ReferenceMissing : List EntryStrings → List ℕ → O5Reason → Type 0
 ReferenceMissing table bytes reason =
     Then (NumberRefused bytes reason) (NumberStands bytes) (λ x. (entry_at table x.0 ≡ None) × (reason ≡ BadReference))
 
 -- no byte is left, a string isn't ended, or there is no such entry
-abbrev pub StringsRefused : Form → List Entry → List ℕ → O5Reason → Type 0
+abbrev pub StringsRefused : Form → List EntryStrings → List ℕ → O5Reason → Type 0
 StringsRefused form table [] reason = reason ≡ BadText
 StringsRefused form table (b ∷ bytes) reason =
     ((b == 0 ≡ true) × InlineRefused form bytes reason) ⊎ ((b == 0 ≡ false) × ReferenceMissing table (b ∷ bytes) reason)
@@ -55,7 +55,7 @@ abbrev pub MovedRefused : {X : Type 0} → (ℤ → Result X O5Reason) → List 
 MovedRefused moved bytes reason = Then (SignedRefused bytes reason) (SignedStands bytes) (λ x. moved x.0 ≡ Err reason)
 
 abbrev pub VersionRefused : List ℕ → O5Reason → Type 0
-VersionRefused bytes reason = Then (NumberRefused bytes reason) (NumberStands bytes) (λ x. numbered x ≡ Err reason)
+VersionRefused bytes reason = Then (NumberRefused bytes reason) (NumberStands bytes) (λ x. nonzero_version x ≡ Err reason)
 
 abbrev pub UserRefused : Segment → List ℕ → O5Reason → Type 0
 UserRefused s bytes reason =
@@ -90,7 +90,7 @@ MemberRefused s bytes reason = Then (SignedRefused bytes reason) (SignedStands b
     (λ m. Made (with_member s.seen m.0)
     (λ _. Made (moved_member s.bases m.0 d.0) (λ _. text_of m.1 ≡ Err reason) reason) reason) reason))
 
--- these items stand, and behind them, where bytes are left, the next one is refused
+-- these items are spelled, and if bytes are left after them, the next one is refused
 abbrev pub RefusedBehind : {X : Type 0} → (Segment → List ℕ → X × Segment × List ℕ → Type 0) →
     (Segment → List ℕ → O5Reason → Type 0) → O5Reason → List X → Segment → List ℕ → Type 0
 RefusedBehind Stands Refused reason [] s bytes = Refused s bytes reason × (bytes ≡ [] → ⊥)
@@ -98,7 +98,7 @@ RefusedBehind Stands Refused reason (x ∷ xs) s bytes =
     (middle : Segment) × (behind : List ℕ) × Stands s bytes (x, middle, behind) ×
     RefusedBehind Stands Refused reason xs middle behind
 
--- some of the items of a list is refused
+-- one of the items of a list is refused
 abbrev pub ItemsRefused : {X : Type 0} → (Segment → List ℕ → X × Segment × List ℕ → Type 0) →
     (Segment → List ℕ → O5Reason → Type 0) → Segment → List ℕ → O5Reason → Type 0
 ItemsRefused {X} Stands Refused s bytes reason = (xs : List X) × RefusedBehind Stands Refused reason xs s bytes
@@ -112,7 +112,7 @@ NodeRefused s bytes reason =
     Then (MovedRefused (moved_coordinate lon.1.bases.lat) lon.2 reason) (LatitudeStands lon.1 lon.2)
     (λ lat. TagsRefused lat.1 lat.2 reason))
 
--- the length is no number, or more than what is left
+-- the length is no number, or more than the bytes that are left
 abbrev pub SectionRefused : List ℕ → O5Reason → Type 0
 SectionRefused bytes reason =
     Then (NumberRefused bytes reason) (NumberStands bytes) (λ x. (length x.1 < x.0) × (reason ≡ BadSection))
@@ -139,7 +139,7 @@ abbrev pub BodyRefused : Kind → Segment → List ℕ → O5Reason → Type 0
 BodyRefused k s [] reason = ⊥
 BodyRefused k s (b ∷ bytes) reason = VisibleRefused k s (b ∷ bytes) reason
 
--- why a content spells no version of this kind, relative to what the segment had before
+-- why a content spells no version of this kind, relative to the segment before it
 abbrev pub SetReason : Kind → Segment → List ℕ → O5Reason → Type 0
 SetReason k s content reason = Then (MovedRefused (moved_id s.bases.id) content reason) (IdStands s content) (λ id.
     Then (MetaRefused id.1 id.2 reason) (MetaStands id.1 id.2) (λ meta. BodyRefused k meta.1 meta.2 reason))

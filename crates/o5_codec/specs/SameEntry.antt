@@ -1,4 +1,4 @@
--- Entries are the same exactly where their forms and their strings are equal.
+-- Entries are the same exactly if their forms and their strings are equal.
 use Rattle.std.specs.Prelude.{◌≡◌, Bool, true, false, ◌&&◌, refl}
 use Rattle.std.proofs.Common.{ap}
 use Rattle.std.specs.Bool.{Decides}
@@ -6,7 +6,7 @@ use Rattle.std.specs.Str.{bytes_eq}
 use Rattle.std.specs.Cmp.Lexicographic.{bytes_decides}
 use Rattle.o5_codec.specs.declared.strings.Form.{Form}
 use Rattle.o5_codec.specs.declared.strings.Form.TheVariants.{Pair, Single}
-use Rattle.o5_codec.specs.Formed.{FormedEntry, formed, same_form, same_entry}
+use Rattle.o5_codec.specs.Formed.{FormedEntry, formed_entry, same_form, same_entry}
 
 same_form_decides : (x y : Form) → Decides (same_form x y) (x ≡ y)
 same_form_decides Pair Pair = (λ e. refl, λ e. refl)
@@ -28,7 +28,7 @@ same_entry_decides x y = (
       let form : x.form ≡ y.form = (same_form_decides x.form y.form).0 outer.0 in
       let first : x.strings.first ≡ y.strings.first = (bytes_decides x.strings.first y.strings.first).0 inner.0 in
       let second : x.strings.second ≡ y.strings.second = (bytes_decides x.strings.second y.strings.second).0 inner.1 in
-      λ i. formed (form i) (first i) (second i),
+      λ i. formed_entry (form i) (first i) (second i),
   λ e.
       let form : same_form x.form y.form ≡ true = (same_form_decides x.form y.form).1 (ap (λ z. z.form) e) in
       let first : bytes_eq x.strings.first y.strings.first ≡ true =

@@ -1,13 +1,13 @@
--- What holds of each segment: the strings of its table have no zero byte, since such a byte ends a string.
+-- A property of each segment: the strings of its table have no zero byte, since such a byte ends a string.
 use Rattle.std.specs.Prelude.{ℕ, Bool, not, ◌&&◌, ◌==◌, List}
 use Rattle.std.specs.List.{list_all}
 use Rattle.o5_codec.specs.declared.segment.Segment.{Segment}
-use Rattle.o5_codec.specs.Entry.{Entry}
+use Rattle.o5_codec.specs.Entry.{EntryStrings}
 
 abbrev pub has_no_zero : List ℕ → Bool
 has_no_zero bytes = list_all (λ b. not (b == 0)) bytes
 
-abbrev pub is_entry : Entry → Bool
+abbrev pub is_entry : EntryStrings → Bool
 is_entry e = has_no_zero e.first && has_no_zero e.second
 
 abbrev pub is_sound : Segment → Bool

@@ -1,5 +1,5 @@
--- What a data set spells, as a relation (the OSM wiki's page on o5m).
--- A value is related to the bytes that begin with it, together with the segment and the bytes after it.
+-- The values that a data set spells, as a relation (the OSM wiki's page on o5m). A value is related to the bytes that
+-- begin with it, together with the segment and the bytes after it.
 use Rattle.std.specs.Prelude.{◌≡◌, ◌⊎◌, ℕ, ℤ, true, List, [], ◌∷◌, ◌++◌, length, Some, Result, Ok, ◌==◌, false}
 use Rattle.osm_model.specs.declared.kind.Kind.{Kind}
 use Rattle.osm_model.specs.declared.kind.Kind.TheVariants as kind
@@ -16,12 +16,12 @@ use Rattle.o5_codec.specs.declared.segment.ListsSeen.{ListsSeen}
 use Rattle.o5_codec.specs.declared.base.Bases.{Bases}
 use Rattle.o5_codec.specs.declared.strings.Form.{Form}
 use Rattle.o5_codec.specs.declared.strings.Form.TheVariants.{Pair, Single}
-use Rattle.o5_codec.specs.Entry.{Entry}
-use Rattle.o5_codec.specs.Table.{stored, entry_at}
+use Rattle.o5_codec.specs.Entry.{EntryStrings}
+use Rattle.o5_codec.specs.Table.{table_with, entry_at}
 use Rattle.o5_codec.specs.Number.{SpellsNumber, SpellsSigned}
 use Rattle.o5_codec.specs.Base.{moved_id, moved_number, moved_coordinate}
 use Rattle.o5_codec.specs.Text.{text_of, tag_of, user_of}
-use Rattle.o5_codec.specs.Segment.{with_bases, with_table, numbered, author, meta_of}
+use Rattle.o5_codec.specs.Segment.{with_bases, with_table, nonzero_version, author, meta_of}
 use Rattle.o5_codec.specs.Body.{with_seen, with_section, kind_and_role, with_member, moved_member}
 use Rattle.o5_codec.specs.Sound.{has_no_zero}
 
@@ -38,18 +38,18 @@ abbrev pub StringStands : List ℕ → List ℕ × List ℕ → Type 0
 StringStands bytes x = (has_no_zero x.0 ≡ true) × (bytes ≡ x.0 ++ 0 ∷ x.1)
 
 -- two strings, or one; with one the second is empty
-abbrev pub InlineStands : Form → List ℕ → Entry × List ℕ → Type 0
+abbrev pub InlineStands : Form → List ℕ → EntryStrings × List ℕ → Type 0
 InlineStands Pair bytes x =
     (behind : List ℕ) × StringStands bytes (x.0.first, behind) × StringStands behind (x.0.second, x.1)
 InlineStands Single bytes x = StringStands bytes (x.0.first, x.1) × (x.0.second ≡ [])
 
--- strings behind a zero byte, which are stored; or a number that refers to them
-abbrev pub StringsStand : Form → List Entry → List ℕ → Entry × List Entry × List ℕ → Type 0
+-- strings after a zero byte, which are stored; or a number that refers to them
+abbrev pub StringsStand : Form → List EntryStrings → List ℕ → EntryStrings × List EntryStrings × List ℕ → Type 0
 StringsStand form table bytes x =
-    ((inline : List ℕ) × (bytes ≡ 0 ∷ inline) × InlineStands form inline (x.0, x.2) × (x.1 ≡ stored x.0 table))
+    ((inline : List ℕ) × (bytes ≡ 0 ∷ inline) × InlineStands form inline (x.0, x.2) × (x.1 ≡ table_with x.0 table))
     ⊎ ((n : ℕ) × NumberStands bytes (n, x.2) × (entry_at table n ≡ Some x.0) × (x.1 ≡ table))
 
--- a difference, the value that it makes, and the segment behind that
+-- a difference, the value that it makes, and the segment after that
 abbrev pub MovedStands : {X : Type 0} → (ℤ → Result X O5Reason) → (X → Segment) → List ℕ → X × Segment × List ℕ → Type 0
 MovedStands moved after bytes x =
     (difference : ℤ) × SignedStands bytes (difference, x.2) × (moved difference ≡ Ok x.0) × (x.1 ≡ after x.0)
@@ -75,14 +75,14 @@ ReferenceStands s = MovedStands (moved_id s.bases.reference) (λ id. with_bases 
 
 -- a version number from 1 to 4294967295
 abbrev pub VersionStands : List ℕ → ℕ × List ℕ → Type 0
-VersionStands bytes x = (n : ℕ) × NumberStands bytes (n, x.1) × (numbered (n, x.1) ≡ Ok x)
+VersionStands bytes x = (n : ℕ) × NumberStands bytes (n, x.1) × (nonzero_version (n, x.1) ≡ Ok x)
 
 abbrev pub UserStands : Segment → List ℕ → (ℕ × List ℕ) × Segment × List ℕ → Type 0
 UserStands s bytes x =
-    (e : Entry) × (table : List Entry) × StringsStand Pair s.table bytes (e, table, x.2) × (user_of e ≡ Ok x.0) ×
+    (e : EntryStrings) × (table : List EntryStrings) × StringsStand Pair s.table bytes (e, table, x.2) × (user_of e ≡ Ok x.0) ×
     (x.1 ≡ with_table s table)
 
--- behind a changeset a user stands, or the data set ends
+-- after a changeset there is a user, or the data set ends
 abbrev pub AuthorBehind : ℕ → Segment → List ℕ → Author × Segment × List ℕ → Type 0
 AuthorBehind changeset s [] x = x ≡ (author changeset 0 [], s, [])
 AuthorBehind changeset s (b ∷ bytes) x =
@@ -101,10 +101,10 @@ MetaStands s bytes x =
 
 abbrev pub TagStands : Segment → List ℕ → Tag × Segment × List ℕ → Type 0
 TagStands s bytes x =
-    (e : Entry) × (table : List Entry) × StringsStand Pair s.table bytes (e, table, x.2) × (tag_of e ≡ Ok x.0) ×
+    (e : EntryStrings) × (table : List EntryStrings) × StringsStand Pair s.table bytes (e, table, x.2) × (tag_of e ≡ Ok x.0) ×
     (x.1 ≡ with_table s table)
 
--- items one behind the other, to the end of the bytes
+-- items in sequence, to the end of the bytes
 abbrev pub ItemsStand : {X : Type 0} → (Segment → List ℕ → X × Segment × List ℕ → Type 0) → Segment → List ℕ → List X →
     Segment → Type 0
 ItemsStand Stands s bytes [] end = (bytes ≡ []) × (s ≡ end)
@@ -117,7 +117,7 @@ NodeStands s bytes x =
     LongitudeStands s bytes lon × LatitudeStands lon.1 lon.2 lat × ItemsStand TagStands lat.1 lat.2 tags x.1 ×
     (x.0 ≡ Node lon.0 lat.0 tags)
 
--- a section with its length in front
+-- a section after its length
 abbrev pub SectionStands : List ℕ → List ℕ × List ℕ → Type 0
 SectionStands bytes x = NumberStands bytes (length x.0, x.0 ++ x.1)
 
@@ -131,7 +131,7 @@ WayStands s bytes x =
 -- the difference of the id, and a single string of kind and role
 abbrev pub MemberStands : Segment → List ℕ → Member × Segment × List ℕ → Type 0
 MemberStands s bytes x =
-    (d : ℤ × List ℕ) × (e : Entry × List Entry) × (m : Kind × List ℕ) × (seen : ListsSeen) × (id : ℤ × Bases) ×
+    (d : ℤ × List ℕ) × (e : EntryStrings × List EntryStrings) × (m : Kind × List ℕ) × (seen : ListsSeen) × (id : ℤ × Bases) ×
     SignedStands bytes d × StringsStand Single s.table d.1 (e.0, e.1, x.2) × (kind_and_role e.0.first ≡ Ok m) ×
     (with_member s.seen m.0 ≡ Ok seen) ×
     (moved_member s.bases m.0 d.0 ≡ Ok id) × (text_of m.1 ≡ Ok x.0.role) × (x.0.kind ≡ m.0) × (x.0.id ≡ id.0) ×
@@ -148,12 +148,12 @@ VisibleStands kind.Node = NodeStands
 VisibleStands kind.Way = WayStands
 VisibleStands kind.Relation = RelationStands
 
--- a body to the end of the data set; the object was deleted exactly where nothing is left
+-- a body to the end of the data set; the object was deleted exactly if nothing is left
 abbrev pub BodyStands : Kind → Segment → List ℕ → Body × Segment → Type 0
 BodyStands k s [] x = x ≡ (Deleted k, s)
 BodyStands k s (b ∷ bytes) x = VisibleStands k s (b ∷ bytes) x
 
--- a content spells a version of this kind, relative to what the segment had before
+-- a content spells a version of this kind, relative to the segment before it
 pub record SpellsSet (k : Kind) (s : Segment) (content : List ℕ) (x : VersionData × Segment) : Type 0 where
   pub id : ℤ × Segment × List ℕ
   pub meta : Meta × Segment × List ℕ

@@ -1,28 +1,28 @@
 -- The string table of a segment (the OSM wiki's page on o5m), the entry stored last first.
 use Rattle.std.specs.Prelude.{ℕ, zero, suc, ◌+◌, Bool, nat_le, List, ◌∷◌, length, reverse, filter, take, slice_get}
 use Rattle.std.specs.Prelude.{Option, None, if◌then◌else◌}
-use Rattle.o5_codec.specs.Entry.{Entry}
+use Rattle.o5_codec.specs.Entry.{EntryStrings}
 
-unfoldable pub limit : ℕ
-limit = 15_000
+unfoldable pub table_limit : ℕ
+table_limit = 15_000
 
--- how many bytes the two strings of a stored entry have together at most, zero bytes not counted (that they aren't is
--- an own rule of this project)
-abbrev pub longest_stored : ℕ
-longest_stored = 250
+-- the most bytes that the two strings of a stored entry have together, zero bytes not counted (that they aren't is an
+-- own rule of this project)
+abbrev pub longest_entry : ℕ
+longest_entry = 250
 
-abbrev pub is_short : Entry → Bool
-is_short e = nat_le (length e.first + length e.second) longest_stored
+abbrev pub is_short : EntryStrings → Bool
+is_short e = nat_le (length e.first + length e.second) longest_entry
 
 -- the table after an inline entry
-abbrev pub stored : Entry → List Entry → List Entry
-stored e table = if is_short e then take limit (e ∷ table) else table
+abbrev pub table_with : EntryStrings → List EntryStrings → List EntryStrings
+table_with e table = if is_short e then take table_limit (e ∷ table) else table
 
 -- the table after these inline entries, the earliest first: the last ones of the short ones
-abbrev pub table_of : List Entry → List Entry
-table_of entries = take limit (reverse (filter is_short entries))
+abbrev pub table_of : List EntryStrings → List EntryStrings
+table_of entries = take table_limit (reverse (filter is_short entries))
 
 -- the entry of a reference; 1 is the one stored last
-abbrev pub entry_at : List Entry → ℕ → Option Entry
+abbrev pub entry_at : List EntryStrings → ℕ → Option EntryStrings
 entry_at table zero = None
 entry_at table (suc n) = slice_get table n

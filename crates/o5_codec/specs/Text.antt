@@ -6,7 +6,7 @@ use Rattle.osm_model.specs.declared.tags.Tag.{Tag}
 use Rattle.o5_codec.specs.declared.reason.O5Reason.{O5Reason}
 use Rattle.o5_codec.specs.declared.reason.O5Reason.TheVariants.{BadNumber, NotUtf8}
 use Rattle.o5_codec.specs.Answer.{and_then}
-use Rattle.o5_codec.specs.Entry.{Entry}
+use Rattle.o5_codec.specs.Entry.{EntryStrings}
 use Rattle.o5_codec.specs.Number.{number_at}
 use Rattle.o5_codec.specs.Base.{within_range}
 
@@ -15,11 +15,11 @@ unfoldable pub text_of : List ℕ → Result (List ℕ) O5Reason
 text_of bytes = if is_utf8 bytes then Ok (chars bytes) else Err NotUtf8
 
 -- a tag: its key and its value
-unfoldable pub tag_of : Entry → Result Tag O5Reason
+unfoldable pub tag_of : EntryStrings → Result Tag O5Reason
 tag_of e =
     and_then (text_of e.first) (λ key. and_then (text_of e.second) (λ value. Ok (record { key = key; value = value })))
 
--- a number with nothing behind it
+-- a number with nothing after it
 abbrev pub whole_number : ℕ × List ℕ → Result ℕ O5Reason
 whole_number (n, []) = within_range n
 whole_number (n, b ∷ bytes) = Err BadNumber
@@ -30,7 +30,7 @@ uid_of [] = Ok 0
 uid_of (b ∷ bytes) = and_then (number_at (b ∷ bytes)) whole_number
 
 -- a user id and a user name
-unfoldable pub user_of : Entry → Result (ℕ × List ℕ) O5Reason
+unfoldable pub user_of : EntryStrings → Result (ℕ × List ℕ) O5Reason
 user_of e = and_then (uid_of e.first) (λ uid. and_then (text_of e.second) (λ name. Ok (uid, name)))
 
 -- metadata, the user replaced by the one read

@@ -1,20 +1,20 @@
-//! The values last spelled in a segment, which later ones are differences to.
+//! The values last spelled in a segment. Later values are spelled as differences to them.
 ghost use Rattle.std.specs.Prelude.{◌≡◌, ◌<◌, ◌++◌, length, true, pos, IfOk, OnOk};
 ghost use Rattle.std.specs.Int.{w32, int_wrap};
 ghost use Rattle.osm_model.specs.Id.{is_id};
-ghost use Rattle.o5_codec.specs.Answer.{Gives};
+ghost use Rattle.o5_codec.specs.Answer.{O5Gives};
 ghost use Rattle.o5_codec.specs.Base as spec;
 ghost use Rattle.o5_codec.specs.Decoder.{no_bases};
 ghost use Rattle.o5_codec.specs.Shortest.{difference};
 
 use crate::O5Reason;
-use crate::number::{behind_zero, read_signed};
-use crate::write::draft::Draft;
+use crate::number::{read_signed, strip_zero};
+use crate::write::draft::SetBuffer;
 use crate::write::number::append_signed;
 use osm_model::{Memory, is_id};
 use std::marker::Model;
 
-/// The value last spelled for each field in the segment, 0 where there is none.
+/// The value last spelled for each field in the segment, 0 if there is none.
 #[derive(Drop)]
 pub struct Bases {
     /// The id of the object, of any kind.
@@ -38,7 +38,7 @@ pub struct Bases {
 }
 
 impl Bases {
-    /// The bases where a segment begins.
+    /// The bases at the start of a segment.
     pub(crate) fn new() -> Bases
         ensures { result ≡ no_bases }
     {
@@ -78,10 +78,10 @@ impl IdBase {
     ///
     /// # Errors
     ///
-    /// `OutOfRange` where the sum is no id, else as for [`read_signed`].
+    /// `OutOfRange` if the sum is no id, else as for [`read_signed`].
     #[inline(always)]
     pub(crate) fn read<'a>(&mut self, bytes: &'a [u8]) -> Result<(i64, &'a [u8]), O5Reason>
-        ensures value { Gives (λ x. (x.0, x.1.now)) (spec.read_by (spec.moved_id self.old) bytes.now) result }
+        ensures value { O5Gives (λ x. (x.0, x.1.now)) (spec.read_difference (spec.moved_id self.old) bytes.now) result }
         ensures base { IfOk result (λ x. self.new ≡ x.0) }
         ensures shorter { IfOk result (λ x. length x.1.now < length bytes.now) }
     {
@@ -94,7 +94,7 @@ impl IdBase {
     ///
     /// # Errors
     ///
-    /// `OutOfRange` where the sum is no id.
+    /// `OutOfRange` if the sum is no id.
     #[inline(always)]
     pub(crate) fn move_by(&mut self, difference: i64) -> Result<i64, O5Reason>
         ensures value { result ≡ spec.moved_id self.old difference }
@@ -115,7 +115,7 @@ impl IdBase {
     ///
     /// `Memory` when out of memory.
     #[inline(always)]
-    pub(crate) fn append(&mut self, out: &mut Draft, id: i64) -> Result<(), Memory>
+    pub(crate) fn append(&mut self, out: &mut SetBuffer, id: i64) -> Result<(), Memory>
         requires { is_id id ≡ true }
         ensures bytes { OnOk result (out.new ≡ out.old ++ difference self.old id) }
         ensures base { OnOk result (self.new ≡ id) }
@@ -146,14 +146,14 @@ impl NumberBase {
     ///
     /// # Errors
     ///
-    /// `OutOfRange` where the sum is below 0 or above 4294967295, else as for [`read_signed`].
+    /// `OutOfRange` if the sum is below 0 or above 4294967295, else as for [`read_signed`].
     #[inline(always)]
     pub(crate) fn read<'a>(&mut self, bytes: &'a [u8]) -> Result<(u32, &'a [u8]), O5Reason>
-        ensures value { Gives (λ x. (x.0, x.1.now)) (spec.read_by (spec.moved_number self.old) bytes.now) result }
+        ensures value { O5Gives (λ x. (x.0, x.1.now)) (spec.read_difference (spec.moved_number self.old) bytes.now) result }
         ensures base { IfOk result (λ x. self.new ≡ x.0) }
         ensures shorter { IfOk result (λ x. length x.1.now < length bytes.now) }
     {
-        if let Some(rest) = behind_zero(bytes) {
+        if let Some(rest) = strip_zero(bytes) {
             let number = self.move_by(0)?;
             return Ok((number, rest));
         }
@@ -166,7 +166,7 @@ impl NumberBase {
     ///
     /// # Errors
     ///
-    /// `OutOfRange` where the sum is below 0 or above 4294967295.
+    /// `OutOfRange` if the sum is below 0 or above 4294967295.
     #[inline(always)]
     fn move_by(&mut self, difference: i64) -> Result<u32, O5Reason>
         ensures value { result ≡ spec.moved_number self.old difference }
@@ -187,7 +187,7 @@ impl NumberBase {
     ///
     /// `Memory` when out of memory.
     #[inline(always)]
-    pub(crate) fn append(&mut self, out: &mut Draft, number: u32) -> Result<(), Memory>
+    pub(crate) fn append(&mut self, out: &mut SetBuffer, number: u32) -> Result<(), Memory>
         ensures bytes { OnOk result (out.new ≡ out.old ++ difference (pos self.old) (pos number)) }
         ensures base { OnOk result (self.new ≡ number) }
     {
@@ -216,10 +216,10 @@ impl CoordinateBase {
     ///
     /// # Errors
     ///
-    /// `OutOfRange` where the difference is outside -4294967295 to 4294967295, else as for [`read_signed`].
+    /// `OutOfRange` if the difference is outside -4294967295 to 4294967295, else as for [`read_signed`].
     #[inline(always)]
     pub(crate) fn read<'a>(&mut self, bytes: &'a [u8]) -> Result<(i32, &'a [u8]), O5Reason>
-        ensures value { Gives (λ x. (x.0, x.1.now)) (spec.read_by (spec.moved_coordinate self.old) bytes.now) result }
+        ensures value { O5Gives (λ x. (x.0, x.1.now)) (spec.read_difference (spec.moved_coordinate self.old) bytes.now) result }
         ensures base { IfOk result (λ x. self.new ≡ x.0) }
         ensures shorter { IfOk result (λ x. length x.1.now < length bytes.now) }
     {
@@ -232,7 +232,7 @@ impl CoordinateBase {
     ///
     /// # Errors
     ///
-    /// `OutOfRange` where the difference is outside -4294967295 to 4294967295.
+    /// `OutOfRange` if the difference is outside -4294967295 to 4294967295.
     #[inline(always)]
     fn move_by(&mut self, difference: i64) -> Result<i32, O5Reason>
         ensures value { result ≡ spec.moved_coordinate self.old difference }
@@ -252,7 +252,7 @@ impl CoordinateBase {
     ///
     /// `Memory` when out of memory.
     #[inline(always)]
-    pub(crate) fn append(&mut self, out: &mut Draft, coordinate: i32) -> Result<(), Memory>
+    pub(crate) fn append(&mut self, out: &mut SetBuffer, coordinate: i32) -> Result<(), Memory>
         ensures bytes { OnOk result (out.new ≡ out.old ++ difference self.old coordinate) }
         ensures base { OnOk result (self.new ≡ coordinate) }
     {
@@ -266,7 +266,7 @@ impl CoordinateBase {
 ///
 /// # Errors
 ///
-/// `OutOfRange` where it is above.
+/// `OutOfRange` if it is above.
 pub(crate) fn within_range(number: u64) -> Result<u32, O5Reason>
     ensures { result ≡ spec.within_range number }
 {

@@ -1,6 +1,6 @@
 //! The bodies of data sets.
 ghost use Rattle.std.specs.Prelude.{◌≡◌, ◌<◌, [], length, IfOk};
-ghost use Rattle.o5_codec.specs.Answer.{Gives, Answers};
+ghost use Rattle.o5_codec.specs.Answer.{O5Gives, O5Answers};
 ghost use Rattle.o5_codec.specs.Items.{items_at, and_one_more};
 ghost use Rattle.o5_codec.specs.Body as spec;
 
@@ -41,7 +41,7 @@ impl ListsSeen {
 impl Bases {
     /// The id of a member of this kind, by its difference.
     fn move_member(&mut self, kind: Kind, difference: i64) -> Result<i64, O5Reason>
-        ensures { Gives (λ id. (id, self.new)) (spec.moved_member self.old kind difference) result }
+        ensures { O5Gives (λ id. (id, self.new)) (spec.moved_member self.old kind difference) result }
     {
         match kind {
             Kind::Node => self.node_member.move_by(difference),
@@ -62,7 +62,7 @@ impl Segment {
         spare: &mut Spare,
         body: &mut Body,
     ) -> Result<(), O5Reason>
-        ensures { Answers (λ _. (body.new, self.new)) (spec.body_at kind self.old bytes.now) result }
+        ensures { O5Answers (λ _. (body.new, self.new)) (spec.body_at kind self.old bytes.now) result }
     {
         if bytes.is_empty() {
             body.replace(Body::Deleted(kind));
@@ -82,7 +82,7 @@ impl Segment {
         spare: &mut Spare,
         body: &mut Body,
     ) -> Result<(), O5Reason>
-        ensures { Answers (λ _. (body.new, self.new)) (spec.node_at self.old bytes.now) result }
+        ensures { O5Answers (λ _. (body.new, self.new)) (spec.node_at self.old bytes.now) result }
     {
         let (lon, rest) = self.read_longitude(bytes)?;
         let (lat, rest) = self.read_latitude(rest)?;
@@ -106,7 +106,7 @@ impl Segment {
         spare: &mut Spare,
         body: &mut Body,
     ) -> Result<(), O5Reason>
-        ensures { Answers (λ _. (body.new, self.new)) (spec.placed_at lon lat self.old bytes.now) result }
+        ensures { O5Answers (λ _. (body.new, self.new)) (spec.node_body_at lon lat self.old bytes.now) result }
     {
         let tags = self.read_each_tag(bytes, spare)?;
         body.replace(Body::Node { lon, lat, tags });
@@ -115,21 +115,21 @@ impl Segment {
 
     #[tactic(auto, unfolding(crate::specs::Body::longitude_at))]
     fn read_longitude<'a>(&mut self, bytes: &'a [u8]) -> Result<(i32, &'a [u8]), O5Reason>
-        ensures { Gives (λ x. (x.0, self.new, x.1.now)) (spec.longitude_at self.old bytes.now) result }
+        ensures { O5Gives (λ x. (x.0, self.new, x.1.now)) (spec.longitude_at self.old bytes.now) result }
     {
         self.bases.lon.read(bytes)
     }
 
     #[tactic(auto, unfolding(crate::specs::Body::latitude_at))]
     fn read_latitude<'a>(&mut self, bytes: &'a [u8]) -> Result<(i32, &'a [u8]), O5Reason>
-        ensures { Gives (λ x. (x.0, self.new, x.1.now)) (spec.latitude_at self.old bytes.now) result }
+        ensures { O5Gives (λ x. (x.0, self.new, x.1.now)) (spec.latitude_at self.old bytes.now) result }
     {
         self.bases.lat.read(bytes)
     }
 
     #[tactic(auto, unfolding(crate::specs::Body::way_at))]
     fn read_way(&mut self, bytes: &[u8], spare: &mut Spare, body: &mut Body) -> Result<(), O5Reason>
-        ensures { Answers (λ _. (body.new, self.new)) (spec.way_at self.old bytes.now) result }
+        ensures { O5Answers (λ _. (body.new, self.new)) (spec.way_at self.old bytes.now) result }
     {
         let (section, rest) = read_section(bytes)?;
         self.seen = self.seen.with_section(section)?;
@@ -146,7 +146,7 @@ impl Segment {
         spare: &mut Spare,
         body: &mut Body,
     ) -> Result<(), O5Reason>
-        ensures { Answers (λ _. (body.new, self.new)) (spec.relation_at self.old bytes.now) result }
+        ensures { O5Answers (λ _. (body.new, self.new)) (spec.relation_at self.old bytes.now) result }
     {
         let (section, rest) = read_section(bytes)?;
         let members = self.read_members(section, spare)?;
@@ -157,7 +157,7 @@ impl Segment {
 
     /// References to the end of the bytes.
     fn read_references(&mut self, bytes: &[u8], spare: &mut Spare) -> Result<References, O5Reason>
-        ensures { Answers (λ ids. (ids, self.new)) (items_at spec.reference_at self.old bytes.now) result }
+        ensures { O5Answers (λ ids. (ids, self.new)) (items_at spec.reference_at self.old bytes.now) result }
     {
         let mut ids = room_for_references(bytes, spare)?;
         let mut rest = bytes;
@@ -171,7 +171,7 @@ impl Segment {
 
     #[tactic(auto, unfolding(crate::specs::Body::reference_at))]
     fn read_reference<'a>(&mut self, bytes: &'a [u8]) -> Result<(i64, &'a [u8]), O5Reason>
-        ensures value { Gives (λ x. (x.0, self.new, x.1.now)) (spec.reference_at self.old bytes.now) result }
+        ensures value { O5Gives (λ x. (x.0, self.new, x.1.now)) (spec.reference_at self.old bytes.now) result }
         ensures shorter { IfOk result (λ x. length x.1.now < length bytes.now) }
     {
         self.bases.reference.read(bytes)
@@ -179,7 +179,7 @@ impl Segment {
 
     /// Members to the end of the bytes.
     fn read_members(&mut self, bytes: &[u8], spare: &mut Spare) -> Result<Members, O5Reason>
-        ensures { Answers (λ members. (members, self.new)) (items_at spec.member_at self.old bytes.now) result }
+        ensures { O5Answers (λ members. (members, self.new)) (items_at spec.member_at self.old bytes.now) result }
     {
         let mut members = spare.take_members();
         let mut rest = bytes;
@@ -191,9 +191,9 @@ impl Segment {
         Ok(Members::from_vec(members))
     }
 
-    #[tactic(auto, unfolding(crate::specs::Body::member_at, crate::specs::Strings::strings_at))]
+    #[tactic(auto, unfolding(crate::specs::Body::member_at, crate::specs::StringPair::strings_at))]
     fn read_member<'a>(&mut self, bytes: &'a [u8]) -> Result<(Member, &'a [u8]), O5Reason>
-        ensures value { Answers (λ x. (x.0, self.new, x.1.now)) (spec.member_at self.old bytes.now) result }
+        ensures value { O5Answers (λ x. (x.0, self.new, x.1.now)) (spec.member_at self.old bytes.now) result }
         ensures shorter { IfOk result (λ x. length x.1.now < length bytes.now) }
     {
         let (difference, rest) = read_signed(bytes)?;
@@ -210,7 +210,7 @@ impl Segment {
     /// Tags to the end of the bytes.
     #[inline(always)]
     fn read_tags(&mut self, bytes: &[u8], spare: &mut Spare) -> Result<Tags, O5Reason>
-        ensures { Answers (λ tags. (tags, self.new)) (items_at spec.tag_at self.old bytes.now) result }
+        ensures { O5Answers (λ tags. (tags, self.new)) (items_at spec.tag_at self.old bytes.now) result }
     {
         if bytes.is_empty() {
             return Ok(self.no_tags());
@@ -229,7 +229,7 @@ impl Segment {
     /// most objects have no tags.
     #[inline(never)]
     fn read_each_tag(&mut self, bytes: &[u8], spare: &mut Spare) -> Result<Tags, O5Reason>
-        ensures { Answers (λ tags. (tags, self.new)) (items_at spec.tag_at self.old bytes.now) result }
+        ensures { O5Answers (λ tags. (tags, self.new)) (items_at spec.tag_at self.old bytes.now) result }
     {
         let mut tags = spare.take_tags();
         let mut rest = bytes;
@@ -241,9 +241,9 @@ impl Segment {
 
     /// Adds a tag to a list. Returns the bytes after it. Handed on by results, a tag was moved four times.
     #[inline(always)]
-    #[tactic(auto, unfolding(crate::specs::Body::tag_at, crate::specs::Strings::strings_at))]
+    #[tactic(auto, unfolding(crate::specs::Body::tag_at, crate::specs::StringPair::strings_at))]
     fn add_tag<'a>(&mut self, bytes: &'a [u8], tags: &mut Vec<Tag>) -> Result<&'a [u8], O5Reason>
-        ensures value { Answers (λ rest. (tags.new.items, self.new, rest.now))
+        ensures value { O5Answers (λ rest. (tags.new.items, self.new, rest.now))
             (and_one_more tags.old.items (spec.tag_at self.old bytes.now)) result }
         ensures shorter { IfOk result (λ rest. length rest.now < length bytes.now) }
     {
@@ -268,7 +268,7 @@ fn room_for_references(bytes: &[u8], spare: &mut Spare) -> Result<Vec<i64>, Memo
 /// The section at the front, which begins with its length, and the bytes after it.
 #[tactic(auto, unfolding(crate::specs::Body::section_at))]
 fn read_section(bytes: &[u8]) -> Result<(&[u8], &[u8]), O5Reason>
-    ensures { Gives (λ x. (x.0.now, x.1.now)) (spec.section_at bytes.now) result }
+    ensures { O5Gives (λ x. (x.0.now, x.1.now)) (spec.section_at bytes.now) result }
 {
     let (length, rest) = read_number(bytes)?;
     if length > rest.len() as u64 {
@@ -279,7 +279,7 @@ fn read_section(bytes: &[u8]) -> Result<(&[u8], &[u8]), O5Reason>
 
 /// The kind of a member by its first byte, and the role after it.
 fn split_kind(text: &[u8]) -> Result<(Kind, &[u8]), O5Reason>
-    ensures { Gives (λ x. (x.0, x.1.now)) (spec.kind_and_role text.now) result }
+    ensures { O5Gives (λ x. (x.0, x.1.now)) (spec.kind_and_role text.now) result }
 {
     match text.split_first() {
         Some((b'0', role)) => Ok((Kind::Node, role)),

@@ -1,6 +1,6 @@
 //! Reading data sets.
 ghost use Rattle.std.specs.Prelude.{◌≡◌, ◌⊎◌, Ok, true, false, IfOk, IfErr, OnOk};
-ghost use Rattle.o5_codec.specs.Answer.{Answers};
+ghost use Rattle.o5_codec.specs.Answer.{O5Answers};
 ghost use Rattle.o5_codec.specs.Body.{set_at};
 ghost use Rattle.o5_codec.specs.Sound.{is_sound};
 ghost use Rattle.o5_codec.specs.Decoder.{new_segment, reading_in, Reads};
@@ -15,21 +15,21 @@ use osm_model::{Kind, Memory, Parts, Spare, Version};
 use std::alloc::Global;
 use std::marker::Model;
 
-/// Reads the data sets of o5m and o5c files one after the other, each relative to those before it in its segment.
+/// Reads the data sets of o5m and o5c files in sequence, each relative to those before it in its segment.
 #[derive(Drop)]
 pub struct Decoder {
     segment: Segment,
     failed: bool,
-    /// What memory isn't needed any more, which the next version takes.
+    /// The memory that isn't needed any more; the next version is made in it.
     spare: Spare,
 }
 
 impl Model for Decoder {
     ghost use Rattle.std.specs.Prelude.{◌≡◌, true, false};
-    ghost use Rattle.o5_codec.specs.Decoder.{State};
+    ghost use Rattle.o5_codec.specs.Decoder.{DecoderState};
     ghost use Rattle.o5_codec.specs.Sound.{is_sound};
 
-    ghost Value = { State };
+    ghost Value = { DecoderState };
 
     ghost view = { λ d. record { segment = d.segment; failed = d.failed } };
 
@@ -75,7 +75,7 @@ impl Decoder {
         }
     }
 
-    /// Takes back a version that isn't needed any more. The next one takes its memory, so that none is asked for.
+    /// Takes back a version that isn't needed any more. The next one is made in its memory, so none is allocated.
     #[inline(always)]
     pub fn reuse(&mut self, version: Version)
         ensures { self.new ≡ self.old }
@@ -83,7 +83,7 @@ impl Decoder {
         self.spare.put(version);
     }
 
-    /// Begins a segment: all bases are 0, and the string table is empty. A decoder that has failed stays so.
+    /// Begins a segment: all bases are 0, and the string table is empty. A decoder that has failed remains failed.
     pub fn reset(&mut self)
         ensures { self.new ≡ record { segment = new_segment; failed = self.old.failed } }
     {
@@ -92,7 +92,7 @@ impl Decoder {
 }
 
 impl Segment {
-    /// A segment that had nothing.
+    /// A segment without any data sets.
     fn new(alloc: Global) -> Result<Segment, Memory>
         ensures { IfOk result (λ s. s ≡ new_segment) }
     {
@@ -103,7 +103,7 @@ impl Segment {
         })
     }
 
-    /// Forgets what the segment had.
+    /// Resets the segment.
     fn clear(&mut self)
         ensures { self.new ≡ new_segment }
     {
@@ -121,15 +121,15 @@ impl Segment {
         spare: &mut Spare,
     ) -> Result<Version, O5Reason>
         requires { is_sound self.old ≡ true }
-        ensures value { Answers (λ v. (v, self.new)) (set_at kind self.old content.now) result }
+        ensures value { O5Answers (λ v. (v, self.new)) (set_at kind self.old content.now) result }
         ensures sound { OnOk result (is_sound self.new ≡ true) }
     {
-        let mut parts = Parts::to_fill(self.table.allocator(), spare)?;
+        let mut parts = Parts::recycled_or_new(self.table.allocator(), spare)?;
         let (id, rest) = self.read_id(content)?;
         parts.id = id;
         let rest = self.read_meta(rest, &mut parts.meta)?;
         self.read_body(kind, rest, spare, &mut parts.body)?;
-        // What a data set says is within all ranges.
-        Ok(Version::of_sound_parts(parts))
+        // A data set that is read is within all ranges.
+        Ok(Version::from_checked_parts(parts))
     }
 }

@@ -5,30 +5,30 @@ ghost use Rattle.osm_model.specs.Extends.{Extends};
 ghost use Rattle.o5_codec.specs.Encoder as spec;
 
 use crate::EncodeFault;
-use crate::write::draft::Draft;
+use crate::write::draft::SetBuffer;
 use crate::write::number::append_number;
-use crate::write::segment::WrittenSegment;
+use crate::write::segment::EncoderSegment;
 use osm_model::{Kind, Memory, Version};
 use std::alloc::Global;
 use std::marker::Model;
 
-/// Writes the data sets of o5m and o5c files one after the other, each relative to those before it in its segment. A
-/// version has one form.
+/// Writes the data sets of o5m and o5c files in sequence, each relative to those before it in its segment. A version
+/// has one form.
 #[derive(Drop)]
 pub struct Encoder {
     last: Kind,
-    context: WrittenSegment,
+    context: EncoderSegment,
     failed: bool,
     alloc: Global,
-    /// Buffers that are used again: a data set, with room for its type and length in front, and a section within it.
-    set: Draft,
-    section: Draft,
+    /// Buffers that are reused: a data set, with room for its type and length at the front, and a section within it.
+    set: SetBuffer,
+    section: SetBuffer,
 }
 
 impl Model for Encoder {
-    ghost use Rattle.o5_codec.specs.Encoder.{State};
+    ghost use Rattle.o5_codec.specs.Encoder.{EncoderState};
 
-    ghost Value = { State };
+    ghost Value = { EncoderState };
 
     ghost view = { λ e. record { written = record { last = e.last; context = e.context }; failed = e.failed } };
 }
@@ -40,20 +40,20 @@ impl Encoder {
     ///
     /// `Memory` if that room can't be allocated.
     pub fn new(alloc: Global) -> Result<Encoder, Memory>
-        ensures { IfOk result (λ e. e ≡ spec.writing_on spec.nothing_written) }
+        ensures { IfOk result (λ e. e ≡ spec.writing_on spec.initial_written) }
     {
         Ok(Encoder {
             last: Kind::Node,
-            context: WrittenSegment::new(alloc)?,
+            context: EncoderSegment::new(alloc)?,
             failed: false,
             alloc,
-            set: Draft::new(alloc),
-            section: Draft::new(alloc),
+            set: SetBuffer::new(alloc),
+            section: SetBuffer::new(alloc),
         })
     }
 
-    /// The data set of a version, with a reset before it where it begins a segment. The kind may not be below that of
-    /// the version written last.
+    /// The data set of a version, after a reset if the version begins a segment. The kind may not be below that of the
+    /// version written last.
     ///
     /// # Errors
     ///
@@ -94,7 +94,7 @@ impl Encoder {
         }
     }
 
-    /// Appends the data set of a version, where the encoder hasn't failed.
+    /// Appends the data set of a version, if the encoder hasn't failed.
     #[tactic(auto, using(crate::proofs::FrontLaws::behind_two), unfolding(crate::specs::Encoder::context_of, crate::specs::Encoder::spelled_set, crate::specs::Encoder::written_after))]
     fn append_version(&mut self, out: &mut Vec<u8>, v: &Version) -> Result<(), Memory>
         ensures bytes { OnOk result (out.new.items ≡ out.old.items ++ spec.spelled_set self.old.written v.now) }
@@ -121,7 +121,7 @@ fn begins_segment(last: Kind, kind: Kind) -> bool
 }
 
 /// Begins a segment, if one begins.
-fn begin_if(begins: bool, context: &mut WrittenSegment)
+fn begin_if(begins: bool, context: &mut EncoderSegment)
     ensures { context.new ≡ spec.context_for begins context.old }
 {
     if begins {
@@ -129,9 +129,14 @@ fn begin_if(begins: bool, context: &mut WrittenSegment)
     }
 }
 
-/// Appends a data set whose content has room for two bytes in front of it, and a reset before it where it begins a
+/// Appends a data set whose content has room for two bytes before it, and a reset before the data set if it begins a
 /// segment. After an error `out` has the bytes that it had before.
-fn append_whole(out: &mut Vec<u8>, begins: bool, kind: Kind, set: &mut Draft) -> Result<(), Memory>
+fn append_whole(
+    out: &mut Vec<u8>,
+    begins: bool,
+    kind: Kind,
+    set: &mut SetBuffer,
+) -> Result<(), Memory>
     requires { 2 ≤ length set.old }
     ensures bytes { OnOk result
         (out.new.items ≡ out.old.items ++ (spec.reset_before begins ++ spec.data_set kind (drop 2 set.old))) }
@@ -147,9 +152,14 @@ fn append_whole(out: &mut Vec<u8>, begins: bool, kind: Kind, set: &mut Draft) ->
     }
 }
 
-/// Appends the parts of a data set one after the other.
+/// Appends the parts of a data set in sequence.
 #[inline(always)]
-fn append_parts(out: &mut Vec<u8>, begins: bool, kind: Kind, set: &mut Draft) -> Result<(), Memory>
+fn append_parts(
+    out: &mut Vec<u8>,
+    begins: bool,
+    kind: Kind,
+    set: &mut SetBuffer,
+) -> Result<(), Memory>
     requires { 2 ≤ length set.old }
     ensures bytes { OnOk result
         (out.new.items ≡ out.old.items ++ (spec.reset_before begins ++ spec.data_set kind (drop 2 set.old))) }
@@ -162,9 +172,9 @@ fn append_parts(out: &mut Vec<u8>, begins: bool, kind: Kind, set: &mut Draft) ->
     append_short_set(out, kind, set)
 }
 
-/// Appends a data set whose content is short, where no segment begins.
+/// Appends a data set whose content is short and that begins no segment.
 #[inline(always)]
-fn append_short_set(out: &mut Vec<u8>, kind: Kind, set: &mut Draft) -> Result<(), Memory>
+fn append_short_set(out: &mut Vec<u8>, kind: Kind, set: &mut SetBuffer) -> Result<(), Memory>
     requires some { 2 ≤ length set.old }
     requires short { length set.old < 130 }
     ensures bytes { OnOk result (out.new.items ≡ out.old.items ++ spec.data_set kind (drop 2 set.old)) }
@@ -177,9 +187,14 @@ fn append_short_set(out: &mut Vec<u8>, kind: Kind, set: &mut Draft) -> Result<()
     set.append_to(out)
 }
 
-/// Appends a data set with any content, after a reset where it begins a segment.
+/// Appends a data set with any content, after a reset if it begins a segment.
 #[inline(never)]
-fn append_any_set(out: &mut Vec<u8>, begins: bool, kind: Kind, set: &Draft) -> Result<(), Memory>
+fn append_any_set(
+    out: &mut Vec<u8>,
+    begins: bool,
+    kind: Kind,
+    set: &SetBuffer,
+) -> Result<(), Memory>
     requires { 2 ≤ length set.now }
     ensures bytes { OnOk result
         (out.new.items ≡ out.old.items ++ (spec.reset_before begins ++ spec.data_set kind (drop 2 set.now))) }

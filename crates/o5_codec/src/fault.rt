@@ -8,7 +8,7 @@ pub enum EncodeFault {
     /// A growth of memory was refused.
     #[error("out of memory")]
     Memory,
-    /// Memory was wanting before.
+    /// An earlier version ran out of memory.
     #[error("failed before")]
     Failed,
 }

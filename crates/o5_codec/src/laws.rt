@@ -1,29 +1,29 @@
-//! Laws of the definitions, over all data. Nothing is run to use them: each is the clause of a function without a body.
+//! Laws of the definitions, over all data. They run no code: each is the clause of a function without a body.
 ghost use Rattle.o5_codec.specs.Laws as law;
 ghost use Rattle.o5_codec.specs.WritingLaws as writing;
 
-/// An unsigned number is read exactly where it is spelled.
+/// An unsigned number is read exactly if it is spelled.
 pub fn numbers_are_read()
     ensures { law.NumbersAreRead }
 {}
 
-/// A signed number is read exactly where it is spelled.
+/// A signed number is read exactly if it is spelled.
 pub fn signed_numbers_are_read()
     ensures { law.SignedNumbersAreRead }
 {}
 
-/// Strings are read exactly where they are spelled, inline or by a reference.
+/// Strings are read exactly if they are spelled, inline or by a reference.
 pub fn strings_are_read()
     ensures { law.StringsAreRead }
 {}
 
-/// A user is read exactly where the first string of a pair spells its id and the second its name.
+/// A user is read exactly if the first string of a pair spells its id and the second its name.
 pub fn users_are_read()
     ensures { law.UsersAreRead }
 {}
 
-/// A version is read exactly where the content of a data set spells it, relative to the segment so far. So a content
-/// that is refused spells none.
+/// A version is read exactly if the content of a data set spells it, relative to the segment so far. So a content that
+/// is refused spells none.
 pub fn sets_are_read()
     ensures { law.SetsAreRead }
 {}
@@ -48,24 +48,24 @@ pub fn spelled_or_refused()
     ensures { law.SpelledOrRefused }
 {}
 
-/// A content with such a reason spells no version and has no other reason. It is never want of memory, an earlier
-/// refusal, or the end of a file.
+/// A content with such a reason spells no version and has no other reason. The reason is never out of memory, an
+/// earlier refusal, or the end of a file.
 pub fn one_reason()
     ensures { law.OneReason }
 {}
 
-/// Data sets one after the other are read exactly where they spell versions one after the other.
+/// Data sets in sequence are read exactly if they spell versions in sequence.
 pub fn lists_are_read()
     ensures { law.ListsAreRead }
 {}
 
-/// One more data set behind others spells one more version, and its inline entries stand behind theirs.
+/// One more data set after others spells one more version, and its inline entries come after theirs.
 pub fn sets_go_on()
     ensures { law.SetsGoOn }
 {}
 
-/// What a segment keeps is told by the lists of what it had: each base is the value last spelled for its field, else 0;
-/// the string table is that of all inline entries; and the objects tell which lists it had.
+/// The lists of a segment's objects and entries determine it: each base is the value last spelled for its field, else
+/// 0; the string table is that of all inline entries; and the objects determine which lists it had.
 pub fn segments_are_told_by_lists()
     ensures { law.SegmentsAreToldByLists }
 {}
@@ -75,7 +75,7 @@ pub fn lists_are_not_mixed()
     ensures { law.ListsAreNotMixed }
 {}
 
-/// What is read from a new segment on is within the ranges of versions.
+/// All that is read from a new segment on is within the ranges of versions.
 pub fn sets_make_versions()
     ensures { law.SetsMakeVersions }
 {}
@@ -91,12 +91,13 @@ pub fn written_numbers_are_shortest()
     ensures { writing.WrittenNumbersAreShortest }
 {}
 
-/// What is written for a version is read as this version and no other, and encoder and reader go on alike.
+/// The bytes written for a version are read as this version and no other, and encoder and reader continue with equal
+/// contexts.
 pub fn written_sets_are_read()
     ensures { writing.WrittenSetsAreRead }
 {}
 
-/// What is written for a list of versions, from the header on, spells that list and no other.
+/// The bytes written for a list of versions, from the header on, spell that list and no other.
 pub fn written_lists_are_read()
     ensures { writing.WrittenListsAreRead }
 {}

@@ -4,34 +4,34 @@
 //! 10 million nodes a second to 18 to 25 million. One test for a difference of 0 saves 1.0 percent of the instructions
 //! of a merge from o5m to o5m.
 //! Assumes: nothing; the straight code tests the length before each group.
-//! Otherwise: a number of more than five groups, or one that isn't ended, is read by the loop of `read_groups`.
+//! Otherwise: the loop of `read_groups` reads a number of more than five groups, or one that isn't ended.
 //! Compared by: `reads_numbers_at_their_limits`.
 ghost use Rattle.std.specs.Prelude.{◌≡◌, ◌<◌, length, pos, Ok, IfOk, IfSome};
-ghost use Rattle.o5_codec.specs.Answer.{Gives};
+ghost use Rattle.o5_codec.specs.Answer.{O5Gives};
 ghost use Rattle.o5_codec.specs.Number.{number_at, signed_at, signed_of};
 
 use crate::O5Reason;
 
-/// The mark of a group that another one follows, as the sum of the groups has it.
-const ONE_MARK: u64 = 128;
+/// The mark of a group before another one, as a part of the sum of the groups.
+const CONTINUATION_BITS_1: u64 = 128;
 
 /// The marks of the first two groups.
-const TWO_MARKS: u64 = ONE_MARK + 128 * 128;
+const CONTINUATION_BITS_2: u64 = CONTINUATION_BITS_1 + 128 * 128;
 
 /// The marks of the first three groups.
-const THREE_MARKS: u64 = TWO_MARKS + 128 * 16_384;
+const CONTINUATION_BITS_3: u64 = CONTINUATION_BITS_2 + 128 * 16_384;
 
 /// The marks of the first four groups.
-const FOUR_MARKS: u64 = THREE_MARKS + 128 * 2_097_152;
+const CONTINUATION_BITS_4: u64 = CONTINUATION_BITS_3 + 128 * 2_097_152;
 
 /// The unsigned number at the front, and the bytes after it.
 ///
 /// # Errors
 ///
-/// `BadNumber` where it isn't ended, has more than 10 bytes, or is 2^64 or more.
+/// `BadNumber` if it isn't ended, has more than 10 bytes, or is 2^64 or more.
 #[inline(always)]
 pub fn read_number(bytes: &[u8]) -> Result<(u64, &[u8]), O5Reason>
-    ensures value { Gives (λ x. (x.0, x.1.now)) (number_at bytes.now) result }
+    ensures value { O5Gives (λ x. (x.0, x.1.now)) (number_at bytes.now) result }
     ensures shorter { IfOk result (λ x. length x.1.now < length bytes.now) }
 {
     match read_few_groups(bytes) {
@@ -40,7 +40,7 @@ pub fn read_number(bytes: &[u8]) -> Result<(u64, &[u8]), O5Reason>
     }
 }
 
-/// The unsigned number at the front, and the bytes after it, where it is ended and has five groups at most.
+/// The unsigned number at the front, and the bytes after it, if the number is ended and has at most five groups.
 #[inline(always)]
 fn read_few_groups(bytes: &[u8]) -> Option<(u64, &[u8])>
     ensures value { IfSome result (λ x. number_at bytes.now ≡ Ok (x.0, x.1.now)) }
@@ -58,28 +58,28 @@ fn read_few_groups(bytes: &[u8]) -> Option<(u64, &[u8])>
     }
     let two = one + u64::from(bytes[1]) * 128;
     if bytes[1] < 128 {
-        return Some((two - ONE_MARK, &bytes[2..]));
+        return Some((two - CONTINUATION_BITS_1, &bytes[2..]));
     }
     if bytes.len() < 3 {
         return None;
     }
     let three = two + u64::from(bytes[2]) * 16_384;
     if bytes[2] < 128 {
-        return Some((three - TWO_MARKS, &bytes[3..]));
+        return Some((three - CONTINUATION_BITS_2, &bytes[3..]));
     }
     if bytes.len() < 4 {
         return None;
     }
     let four = three + u64::from(bytes[3]) * 2_097_152;
     if bytes[3] < 128 {
-        return Some((four - THREE_MARKS, &bytes[4..]));
+        return Some((four - CONTINUATION_BITS_3, &bytes[4..]));
     }
     if bytes.len() < 5 {
         return None;
     }
     let five = four + u64::from(bytes[4]) * 268_435_456;
     if bytes[4] < 128 {
-        return Some((five - FOUR_MARKS, &bytes[5..]));
+        return Some((five - CONTINUATION_BITS_4, &bytes[5..]));
     }
     None
 }
@@ -87,10 +87,10 @@ fn read_few_groups(bytes: &[u8]) -> Option<(u64, &[u8])>
 /// The unsigned number of any length at the front, and the bytes after it.
 ///
 /// This function exists only for the optimizer: it takes the result of `read_groups` apart, so that no room for that
-/// result is cleared where `read_few_groups` reads the number.
+/// result is cleared when `read_few_groups` reads the number.
 #[inline(always)]
 fn read_any_groups(bytes: &[u8]) -> Result<(u64, &[u8]), O5Reason>
-    ensures value { Gives (λ x. (x.0, x.1.now)) (number_at bytes.now) result }
+    ensures value { O5Gives (λ x. (x.0, x.1.now)) (number_at bytes.now) result }
     ensures shorter { IfOk result (λ x. length x.1.now < length bytes.now) }
 {
     let (number, rest) = read_groups(bytes)?;
@@ -101,7 +101,7 @@ fn read_any_groups(bytes: &[u8]) -> Result<(u64, &[u8]), O5Reason>
 #[cold]
 #[inline(never)]
 fn read_groups(bytes: &[u8]) -> Result<(u64, &[u8]), O5Reason>
-    ensures value { Gives (λ x. (x.0, x.1.now)) (number_at bytes.now) result }
+    ensures value { O5Gives (λ x. (x.0, x.1.now)) (number_at bytes.now) result }
     ensures shorter { IfOk result (λ x. length x.1.now < length bytes.now) }
 {
     let mut value: u64 = 0;
@@ -127,7 +127,7 @@ fn read_groups(bytes: &[u8]) -> Result<(u64, &[u8]), O5Reason>
     Ok((value + last * weight, &bytes[10..]))
 }
 
-/// How many numbers end in these bytes.
+/// The number of numbers that end in these bytes.
 pub(crate) fn count_ended(bytes: &[u8]) -> usize {
     bytes.iter().filter(|byte| **byte < 128).count()
 }
@@ -140,7 +140,7 @@ pub(crate) fn count_ended(bytes: &[u8]) -> usize {
 #[inline(always)]
 #[tactic(auto, unfolding(crate::specs::Number::signed_at))]
 pub(crate) fn read_signed(bytes: &[u8]) -> Result<(i64, &[u8]), O5Reason>
-    ensures value { Gives (λ x. (x.0, x.1.now)) (signed_at bytes.now) result }
+    ensures value { O5Gives (λ x. (x.0, x.1.now)) (signed_at bytes.now) result }
     ensures shorter { IfOk result (λ x. length x.1.now < length bytes.now) }
 {
     let (number, rest) = read_number(bytes)?;
@@ -150,7 +150,7 @@ pub(crate) fn read_signed(bytes: &[u8]) -> Result<(i64, &[u8]), O5Reason>
 /// The bytes after the signed number 0, if the front has it in its shortest form.
 #[inline(always)]
 #[tactic(auto, unfolding(crate::specs::Number::signed_at, crate::specs::Number::number_at, crate::specs::Number::groups_at))]
-pub(crate) fn behind_zero(bytes: &[u8]) -> Option<&[u8]>
+pub(crate) fn strip_zero(bytes: &[u8]) -> Option<&[u8]>
     ensures value { IfSome result (λ rest. signed_at bytes.now ≡ Ok (pos 0, rest.now)) }
     ensures shorter { IfSome result (λ rest. length rest.now < length bytes.now) }
 {
@@ -158,7 +158,7 @@ pub(crate) fn behind_zero(bytes: &[u8]) -> Option<&[u8]>
     if *first == 0 { Some(rest) } else { None }
 }
 
-/// The signed number that an unsigned one stands for: even ones for 0, 1, 2 and so on, odd ones for -1, -2 and so on.
+/// The signed number of an unsigned one: even ones are 0, 1, 2 and so on, odd ones are -1, -2 and so on.
 #[inline(always)]
 fn to_signed(number: u64) -> i64
     ensures { result ≡ signed_of number }

@@ -27,7 +27,7 @@ pub enum O5Reason {
     /// A text isn't UTF-8.
     #[error("not UTF-8")]
     NotUtf8,
-    /// The section of references or members is longer than what is left of the data set.
+    /// The section of references or members is longer than the rest of the data set.
     #[error("bad section")]
     BadSection,
     /// The text of a member doesn't begin with the digit of a kind.

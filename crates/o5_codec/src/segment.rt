@@ -1,6 +1,6 @@
 //! The segment that data sets are read relative to, and the steps of a data set before its body.
 ghost use Rattle.std.specs.Prelude.{◌≡◌};
-ghost use Rattle.o5_codec.specs.Answer.{Gives, Answers};
+ghost use Rattle.o5_codec.specs.Answer.{O5Gives, O5Answers};
 ghost use Rattle.o5_codec.specs.Segment as spec;
 
 use crate::O5Reason;
@@ -21,7 +21,7 @@ pub enum ListsSeen {
     NodeMembers,
 }
 
-/// What a segment had so far, as far as later data sets are read relative to it.
+/// The part of a segment that later data sets are read relative to.
 #[derive(Drop)]
 pub struct Segment {
     pub(crate) bases: Bases,
@@ -33,19 +33,19 @@ impl Segment {
     /// The object's id, and the bytes after it.
     #[tactic(auto, unfolding(crate::specs::Segment::id_at))]
     pub(crate) fn read_id<'a>(&mut self, bytes: &'a [u8]) -> Result<(i64, &'a [u8]), O5Reason>
-        ensures { Gives (λ x. (x.0, self.new, x.1.now)) (spec.id_at self.old bytes.now) result }
+        ensures { O5Gives (λ x. (x.0, self.new, x.1.now)) (spec.id_at self.old bytes.now) result }
     {
         self.bases.id.read(bytes)
     }
 
-    /// Puts version number, time, changeset and user into `meta`. Returns the bytes after them.
+    /// Reads version number, time, changeset and user into `meta`. Returns the bytes after them.
     #[tactic(auto, unfolding(crate::specs::Segment::meta_at))]
     pub(crate) fn read_meta<'a>(
         &mut self,
         bytes: &'a [u8],
         meta: &mut Meta,
     ) -> Result<&'a [u8], O5Reason>
-        ensures { Answers (λ rest. (meta.new, self.new, rest.now)) (spec.meta_at self.old bytes.now) result }
+        ensures { O5Answers (λ rest. (meta.new, self.new, rest.now)) (spec.meta_at self.old bytes.now) result }
     {
         let (version, rest) = read_version(bytes)?;
         meta.version = u64::from(version);
@@ -56,12 +56,13 @@ impl Segment {
 
     #[tactic(auto, unfolding(crate::specs::Segment::time_at))]
     fn read_time<'a>(&mut self, bytes: &'a [u8]) -> Result<(u32, &'a [u8]), O5Reason>
-        ensures { Gives (λ x. (x.0, self.new, x.1.now)) (spec.time_at self.old bytes.now) result }
+        ensures { O5Gives (λ x. (x.0, self.new, x.1.now)) (spec.time_at self.old bytes.now) result }
     {
         self.bases.time.read(bytes)
     }
 
-    /// Reads changeset and user of a version with this time, 0 being none, into `meta`. Returns the bytes after them.
+    /// Reads changeset and user of a version with this time, where 0 is none, into `meta`. Returns the bytes after
+    /// them.
     #[tactic(auto, unfolding(crate::specs::Segment::author_at))]
     fn read_author<'a>(
         &mut self,
@@ -69,7 +70,7 @@ impl Segment {
         bytes: &'a [u8],
         meta: &mut Meta,
     ) -> Result<&'a [u8], O5Reason>
-        ensures { Answers (λ rest. (meta.new, self.new, rest.now))
+        ensures { O5Answers (λ rest. (meta.new, self.new, rest.now))
             (spec.and_author meta.old (spec.author_at time self.old bytes.now)) result }
     {
         if time == 0 {
@@ -83,14 +84,14 @@ impl Segment {
         self.read_author_behind(rest, meta)
     }
 
-    /// Puts the user into `meta`, which has the changeset already. Returns the bytes after it.
+    /// Reads the user into `meta`, which has the changeset already. Returns the bytes after it.
     #[tactic(auto, unfolding(crate::specs::Segment::author_behind))]
     fn read_author_behind<'a>(
         &mut self,
         bytes: &'a [u8],
         meta: &mut Meta,
     ) -> Result<&'a [u8], O5Reason>
-        ensures { Answers (λ rest. (meta.new, self.new, rest.now))
+        ensures { O5Answers (λ rest. (meta.new, self.new, rest.now))
             (spec.and_author meta.old (spec.author_behind (meta.old.changeset, self.old, bytes.now))) result }
     {
         if bytes.is_empty() {
@@ -103,15 +104,15 @@ impl Segment {
 
     #[tactic(auto, unfolding(crate::specs::Segment::changeset_at))]
     fn read_changeset<'a>(&mut self, bytes: &'a [u8]) -> Result<(u32, &'a [u8]), O5Reason>
-        ensures { Gives (λ x. (x.0, self.new, x.1.now)) (spec.changeset_at self.old bytes.now) result }
+        ensures { O5Gives (λ x. (x.0, self.new, x.1.now)) (spec.changeset_at self.old bytes.now) result }
     {
         self.bases.changeset.read(bytes)
     }
 
-    /// Puts user id and user name into `meta`. Returns the bytes after them.
-    #[tactic(auto, unfolding(crate::specs::Segment::user_at, crate::specs::Strings::strings_at))]
+    /// Reads user id and user name into `meta`. Returns the bytes after them.
+    #[tactic(auto, unfolding(crate::specs::Segment::user_at, crate::specs::StringPair::strings_at))]
     fn read_user<'a>(&mut self, bytes: &'a [u8], meta: &mut Meta) -> Result<&'a [u8], O5Reason>
-        ensures { Answers (λ rest. (meta.new, self.new, rest.now))
+        ensures { O5Answers (λ rest. (meta.new, self.new, rest.now))
             (spec.and_user_read meta.old (spec.user_at self.old bytes.now)) result }
     {
         let (spelled, rest) = read_spelled(Form::Pair, bytes)?;
@@ -124,7 +125,7 @@ impl Segment {
 /// The version number, and the bytes after it.
 #[tactic(auto, unfolding(crate::specs::Segment::version_at))]
 fn read_version(bytes: &[u8]) -> Result<(u32, &[u8]), O5Reason>
-    ensures { Gives (λ x. (x.0, x.1.now)) (spec.version_at bytes.now) result }
+    ensures { O5Gives (λ x. (x.0, x.1.now)) (spec.version_at bytes.now) result }
 {
     let (number, rest) = read_number(bytes)?;
     if number == 0 {
@@ -134,7 +135,7 @@ fn read_version(bytes: &[u8]) -> Result<(u32, &[u8]), O5Reason>
     Ok((version, rest))
 }
 
-/// A time, 0 being none.
+/// A time; 0 is none.
 fn time_of(time: u32) -> Option<u64>
     ensures { result ≡ spec.time_of time }
 {

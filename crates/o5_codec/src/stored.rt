@@ -1,83 +1,83 @@
-//! The entries that are stored, which references name.
+//! The stored entries, which references name.
 //!
 //! Why: most entries are named again and again. A reference then copies a user id or a text, and no string is read or
 //! tested for UTF-8 again. With entries of 96 bytes instead of 136, a version of names as in an extract takes 1,110
 //! instructions to read instead of 1,259.
-//! Assumes: a meaning agrees with its bytes, which is an invariant of `Stored`.
-//! Otherwise: an entry whose strings mean something else is read from its bytes, as one that is inline.
+//! Assumes: a meaning agrees with its bytes, which is an invariant of `TableEntry`.
+//! Otherwise: an entry whose strings mean something else is read from its bytes, like an inline one.
 //! Compared by: `takes_strings_by_what_they_mean`.
 ghost use Rattle.std.specs.Prelude.{◌≡◌, IfOk};
-ghost use Rattle.o5_codec.specs.Answer.{Answers, and_added};
+ghost use Rattle.o5_codec.specs.Answer.{O5Answers, and_added};
 ghost use Rattle.o5_codec.specs.Text.{tag_of, user_of, and_user};
-ghost use Rattle.o5_codec.specs.Meaning.{bytes_of, IsMeant};
+ghost use Rattle.o5_codec.specs.Decoded.{bytes_of, IsMeant};
 
 use crate::O5Reason;
-use crate::strings::Strings;
+use crate::strings::StringPair;
 use crate::text::{add_tag, known_text, put_user, to_uid};
 use arrayvec::ArrayVec;
 use osm_model::{Memory, Meta, Tag, Text};
 use std::alloc::Global;
 use std::marker::Model;
 
-/// The most bytes that spell a user id, in a string, which holds no zero byte.
+/// The most bytes of a string that spells a user id and holds no zero byte.
 const UID_BYTES: usize = 5;
 
-/// A stored entry, by what its strings mean: most are referred to again and again, and then copied and not read again.
-/// Contracts see the two strings.
+/// A stored entry as the meaning of its strings. Most entries are referred to again and again, and are then copied and
+/// not read again. Contracts see the two strings.
 #[derive(Drop)]
-pub(crate) struct Stored {
-    first: Meaning,
-    second: Meaning,
+pub(crate) struct TableEntry {
+    first: Decoded,
+    second: Decoded,
 }
 
-/// What a string means.
+/// The meaning of a string.
 #[derive(Drop)]
-pub(crate) enum Meaning {
-    /// This user id, which these bytes spell.
+pub(crate) enum Decoded {
+    /// A user id, and the bytes that spell it.
     Uid(u32, ArrayVec<u8, UID_BYTES>),
-    /// This text.
+    /// A text.
     Text(Text),
-    /// Nothing that is known.
+    /// No known meaning.
     Unknown(Vec<u8>),
 }
 
-impl Model for Stored {
-    ghost use Rattle.o5_codec.specs.Entry.{Entry};
-    ghost use Rattle.o5_codec.specs.Strings.{entry_of};
-    ghost use Rattle.o5_codec.specs.Meaning.{bytes_of};
+impl Model for TableEntry {
+    ghost use Rattle.o5_codec.specs.Entry.{EntryStrings};
+    ghost use Rattle.o5_codec.specs.StringPair.{entry_of};
+    ghost use Rattle.o5_codec.specs.Decoded.{bytes_of};
     ghost use Rattle.o5_codec.specs.StoredInside.{IsStored};
 
-    ghost Value = { Entry };
+    ghost Value = { EntryStrings };
 
     ghost view = { λ e. entry_of (bytes_of e.first) (bytes_of e.second) };
 
     ghost invariant = { IsStored };
 }
 
-impl Meaning {
-    /// The meaning of the first string of an entry: a user id where it spells one in few bytes, which keys and members
-    /// hardly do.
-    fn of_first(alloc: Global, string: &[u8]) -> Result<Meaning, Memory>
+impl Decoded {
+    /// The meaning of the first string of an entry: a user id if the string spells one in few bytes, which keys and
+    /// members hardly do.
+    fn of_first(alloc: Global, string: &[u8]) -> Result<Decoded, Memory>
         ensures bytes { IfOk result (λ m. bytes_of m ≡ string.now) }
         ensures meant { IfOk result IsMeant }
     {
         let mut spelled = ArrayVec::new();
         match to_uid(string) {
             Ok(uid) if spelled.try_extend_from_slice(string).is_ok() => {
-                Ok(Meaning::Uid(uid, spelled))
+                Ok(Decoded::Uid(uid, spelled))
             }
-            _ => Meaning::of_second(alloc, string),
+            _ => Decoded::of_second(alloc, string),
         }
     }
 
-    /// What the second string of an entry means.
-    fn of_second(alloc: Global, string: &[u8]) -> Result<Meaning, Memory>
+    /// The meaning of the second string of an entry.
+    fn of_second(alloc: Global, string: &[u8]) -> Result<Decoded, Memory>
         ensures bytes { IfOk result (λ m. bytes_of m ≡ string.now) }
         ensures meant { IfOk result IsMeant }
     {
         match known_text(alloc, string)? {
-            Some(text) => Ok(Meaning::Text(text)),
-            None => Ok(Meaning::Unknown(Vec::from_slice(alloc, string)?)),
+            Some(text) => Ok(Decoded::Text(text)),
+            None => Ok(Decoded::Unknown(Vec::from_slice(alloc, string)?)),
         }
     }
 
@@ -85,46 +85,46 @@ impl Meaning {
         ensures { result.now ≡ bytes_of self.now }
     {
         match self {
-            Meaning::Uid(_, spelled) => spelled.as_slice(),
-            Meaning::Text(text) => text.as_str().as_bytes(),
-            Meaning::Unknown(bytes) => bytes.as_slice(),
+            Decoded::Uid(_, spelled) => spelled.as_slice(),
+            Decoded::Text(text) => text.as_str().as_bytes(),
+            Decoded::Unknown(bytes) => bytes.as_slice(),
         }
     }
 }
 
-impl Stored {
+impl TableEntry {
     /// A copy of two strings.
-    pub(crate) fn new(alloc: Global, strings: &Strings<'_>) -> Result<Stored, Memory>
+    pub(crate) fn new(alloc: Global, strings: &StringPair<'_>) -> Result<TableEntry, Memory>
         ensures { IfOk result (λ e. e ≡ strings.now) }
     {
-        Ok(Stored {
-            first: Meaning::of_first(alloc, strings.first)?,
-            second: Meaning::of_second(alloc, strings.second)?,
+        Ok(TableEntry {
+            first: Decoded::of_first(alloc, strings.first)?,
+            second: Decoded::of_second(alloc, strings.second)?,
         })
     }
 
-    pub(crate) fn strings(&self) -> Strings<'_>
+    pub(crate) fn strings(&self) -> StringPair<'_>
         ensures { result ≡ self.now }
     {
-        Strings {
+        StringPair {
             first: self.first.as_slice(),
             second: self.second.as_slice(),
         }
     }
 
-    /// Puts the user id and the user name into `meta`.
+    /// Writes the user id and the user name into `meta`.
     ///
     /// # Errors
     ///
     /// As for [`put_user`].
     #[inline(always)]
     pub(crate) fn put_user(&self, alloc: Global, meta: &mut Meta) -> Result<(), O5Reason>
-        ensures { Answers (λ _. meta.new) (and_user meta.old (user_of self.now)) result }
+        ensures { O5Answers (λ _. meta.new) (and_user meta.old (user_of self.now)) result }
     {
         match (&self.first, &self.second) {
-            (Meaning::Uid(uid, _), Meaning::Text(name)) => {
+            (Decoded::Uid(uid, _), Decoded::Text(name)) => {
                 meta.uid = u64::from(*uid);
-                Ok(name.copy_to(&mut meta.user)?)
+                Ok(name.copy_into(&mut meta.user)?)
             }
             _ => put_user(alloc, &self.strings(), meta),
         }
@@ -137,10 +137,10 @@ impl Stored {
     /// As for [`add_tag`].
     #[inline(always)]
     pub(crate) fn add_tag(&self, alloc: Global, tags: &mut Vec<Tag>) -> Result<(), O5Reason>
-        ensures { Answers (λ _. tags.new.items) (and_added tags.old.items (tag_of self.now)) result }
+        ensures { O5Answers (λ _. tags.new.items) (and_added tags.old.items (tag_of self.now)) result }
     {
         match (&self.first, &self.second) {
-            (Meaning::Text(key), Meaning::Text(value)) => {
+            (Decoded::Text(key), Decoded::Text(value)) => {
                 let (key, value) = (key.copy()?, value.copy()?);
                 Ok(tags.push(Tag { key, value })?)
             }

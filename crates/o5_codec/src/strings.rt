@@ -1,7 +1,7 @@
 //! Pairs of strings and single strings.
 ghost use Rattle.std.specs.Prelude.{◌≡◌, ◌<◌, length, IfOk, position};
-ghost use Rattle.o5_codec.specs.Answer.{Gives};
-ghost use Rattle.o5_codec.specs.Strings.{is_zero, string_at, inline_at, inline_spelled, spelled_at};
+ghost use Rattle.o5_codec.specs.Answer.{O5Gives};
+ghost use Rattle.o5_codec.specs.StringPair.{is_zero, string_at, inline_at, inline_spelled, spelled_at};
 
 use crate::O5Reason;
 use crate::number::read_number;
@@ -18,24 +18,24 @@ pub(crate) enum Form {
 
 /// Two strings in the bytes of a data set or in the table. Contracts see them as an entry of the table.
 #[derive(Drop)]
-pub(crate) struct Strings<'a> {
+pub(crate) struct StringPair<'a> {
     pub(crate) first: &'a [u8],
     pub(crate) second: &'a [u8],
 }
 
-impl<'a> Model for Strings<'a> {
-    ghost use Rattle.o5_codec.specs.Entry.{Entry};
+impl<'a> Model for StringPair<'a> {
+    ghost use Rattle.o5_codec.specs.Entry.{EntryStrings};
 
-    ghost Value = { Entry };
+    ghost Value = { EntryStrings };
 
     ghost view = { λ s. record { first = s.first.now; second = s.second.now } };
 }
 
 /// A pair or a single string in a data set.
 #[derive(Drop)]
-pub(crate) enum Spelled<'a> {
+pub(crate) enum StringRef<'a> {
     /// The strings themselves.
-    Inline(Strings<'a>),
+    Inline(StringPair<'a>),
     /// The reference that names an entry of the table; 1 is the entry stored last.
     Reference(u64),
 }
@@ -44,11 +44,11 @@ pub(crate) enum Spelled<'a> {
 ///
 /// # Errors
 ///
-/// `BadText` where no byte is left or a string isn't ended, `BadNumber` where a reference is no number.
+/// `BadText` if no byte is left or a string isn't ended, `BadNumber` if a reference is no number.
 #[inline(always)]
-#[tactic(auto, unfolding(crate::specs::Strings::spelled_at))]
-pub(crate) fn read_spelled(form: Form, bytes: &[u8]) -> Result<(Spelled<'_>, &[u8]), O5Reason>
-    ensures value { Gives (λ x. (x.0, x.1.now)) (spelled_at form bytes.now) result }
+#[tactic(auto, unfolding(crate::specs::StringPair::spelled_at))]
+pub(crate) fn read_spelled(form: Form, bytes: &[u8]) -> Result<(StringRef<'_>, &[u8]), O5Reason>
+    ensures value { O5Gives (λ x. (x.0, x.1.now)) (spelled_at form bytes.now) result }
     ensures shorter { IfOk result (λ x. length x.1.now < length bytes.now) }
 {
     let Some((first, behind)) = bytes.split_first() else {
@@ -58,43 +58,43 @@ pub(crate) fn read_spelled(form: Form, bytes: &[u8]) -> Result<(Spelled<'_>, &[u
         return spelled_inline(form, behind);
     }
     let (reference, rest) = read_number(bytes)?;
-    Ok((Spelled::Reference(reference), rest))
+    Ok((StringRef::Reference(reference), rest))
 }
 
 /// The strings after the zero byte that begins them inline, as they are spelled, and the bytes after them.
 ///
 /// This function exists only for the optimizer: it takes the result of `read_inline` apart, so that no room for that
-/// result is cleared where a reference is read.
+/// result is cleared when a reference is read.
 #[inline(always)]
-fn spelled_inline(form: Form, bytes: &[u8]) -> Result<(Spelled<'_>, &[u8]), O5Reason>
-    ensures value { Gives (λ x. (x.0, x.1.now)) (inline_spelled form bytes.now) result }
+fn spelled_inline(form: Form, bytes: &[u8]) -> Result<(StringRef<'_>, &[u8]), O5Reason>
+    ensures value { O5Gives (λ x. (x.0, x.1.now)) (inline_spelled form bytes.now) result }
     ensures shorter { IfOk result (λ x. length x.1.now < length bytes.now) }
 {
     let (strings, rest) = read_inline(form, bytes)?;
-    Ok((Spelled::Inline(strings), rest))
+    Ok((StringRef::Inline(strings), rest))
 }
 
 /// The strings after the zero byte that begins them inline, and the bytes after them.
 #[inline(never)]
-#[tactic(auto, unfolding(crate::specs::Strings::inline_at))]
-fn read_inline(form: Form, bytes: &[u8]) -> Result<(Strings<'_>, &[u8]), O5Reason>
-    ensures value { Gives (λ x. (x.0, x.1.now)) (inline_at form bytes.now) result }
+#[tactic(auto, unfolding(crate::specs::StringPair::inline_at))]
+fn read_inline(form: Form, bytes: &[u8]) -> Result<(StringPair<'_>, &[u8]), O5Reason>
+    ensures value { O5Gives (λ x. (x.0, x.1.now)) (inline_at form bytes.now) result }
     ensures shorter { IfOk result (λ x. length x.1.now < length bytes.now) }
 {
     let (first, rest) = read_string(bytes)?;
     match form {
         Form::Pair => {
             let (second, rest) = read_string(rest)?;
-            Ok((Strings { first, second }, rest))
+            Ok((StringPair { first, second }, rest))
         }
-        Form::Single => Ok((Strings { first, second: &[] }, rest)),
+        Form::Single => Ok((StringPair { first, second: &[] }, rest)),
     }
 }
 
 /// The string at the front, which ends at the first zero byte, and the bytes after it.
-#[tactic(auto, unfolding(crate::specs::Strings::string_at))]
+#[tactic(auto, unfolding(crate::specs::StringPair::string_at))]
 fn read_string(bytes: &[u8]) -> Result<(&[u8], &[u8]), O5Reason>
-    ensures value { Gives (λ x. (x.0.now, x.1.now)) (string_at bytes.now) result }
+    ensures value { O5Gives (λ x. (x.0.now, x.1.now)) (string_at bytes.now) result }
     ensures shorter { IfOk result (λ x. length x.1.now < length bytes.now) }
 {
     match find_zero(bytes) {
@@ -103,7 +103,7 @@ fn read_string(bytes: &[u8]) -> Result<(&[u8], &[u8]), O5Reason>
     }
 }
 
-/// The place of the first zero byte.
+/// The offset of the first zero byte.
 fn find_zero(bytes: &[u8]) -> Option<usize>
     ensures { result ≡ position is_zero bytes.now }
 {

@@ -1,23 +1,23 @@
 //! The string table of a segment.
 ghost use Rattle.std.specs.Prelude.{◌≡◌, [], ◌∷◌, take, IfOk, OnOk, option_copied};
-ghost use Rattle.o5_codec.specs.Answer.{Gives, Answers, and_then, and_added};
-ghost use Rattle.o5_codec.specs.Table.{limit, is_short, stored, entry_at};
+ghost use Rattle.o5_codec.specs.Answer.{O5Gives, O5Answers, and_then, and_added};
+ghost use Rattle.o5_codec.specs.Table.{table_limit, is_short, table_with, entry_at};
 ghost use Rattle.o5_codec.specs.Text.{tag_of, user_of, and_user};
-ghost use Rattle.o5_codec.specs.Strings.{entry_of, strings_of, table_after};
+ghost use Rattle.o5_codec.specs.StringPair.{entry_of, strings_of, table_after};
 
 use crate::O5Reason;
-use crate::stored::Stored;
-use crate::strings::{Spelled, Strings};
+use crate::stored::TableEntry;
+use crate::strings::{StringPair, StringRef};
 use crate::text::{add_tag, put_user};
 use circular_buffer::HeapCircularBuffer;
 use osm_model::{Memory, Meta, Tag};
 use std::alloc::Global;
 use std::marker::Model;
 
-/// How many entries the table holds at most.
+/// The most entries that the table holds.
 pub(crate) const LIMIT: usize = 15_000;
 
-/// How many bytes the two strings of a stored entry have together at most.
+/// The most bytes that the two strings of a stored entry have together.
 pub(crate) const LONGEST: usize = 250;
 
 /// The entries that references can name, in a ring. Contracts see their list, the one stored last first.
@@ -25,19 +25,19 @@ pub(crate) const LONGEST: usize = 250;
 /// The ring's block is allocated once. Its pages cost no resident memory before an entry is written into them.
 #[derive(Drop)]
 pub(crate) struct Table {
-    ring: HeapCircularBuffer<Stored>,
+    ring: HeapCircularBuffer<TableEntry>,
 }
 
 impl Model for Table {
     ghost use Rattle.std.specs.Prelude.{◌≡◌, List, reverse};
-    ghost use Rattle.o5_codec.specs.Entry.{Entry};
-    ghost use Rattle.o5_codec.specs.Table.{limit};
+    ghost use Rattle.o5_codec.specs.Entry.{EntryStrings};
+    ghost use Rattle.o5_codec.specs.Table.{table_limit};
 
-    ghost Value = { List Entry };
+    ghost Value = { List EntryStrings };
 
     ghost view = { λ t. reverse t.ring.items };
 
-    ghost invariant = { λ t. t.ring.capacity ≡ limit };
+    ghost invariant = { λ t. t.ring.capacity ≡ table_limit };
 }
 
 impl Table {
@@ -54,7 +54,7 @@ impl Table {
         *self.ring.allocator()
     }
 
-    /// Forgets all entries.
+    /// Drops all entries.
     pub(crate) fn clear(&mut self)
         ensures { self.new ≡ [] }
     {
@@ -63,12 +63,12 @@ impl Table {
 
     /// Stores strings that are inline, unless they are too long.
     #[inline(always)]
-    pub(crate) fn store(&mut self, spelled: &Spelled<'_>) -> Result<(), Memory>
+    pub(crate) fn store(&mut self, spelled: &StringRef<'_>) -> Result<(), Memory>
         ensures { OnOk result (self.new ≡ table_after spelled.now self.old) }
     {
         match spelled {
-            Spelled::Inline(strings) => self.store_strings(strings.first, strings.second),
-            Spelled::Reference(_) => Ok(()),
+            StringRef::Inline(strings) => self.store_strings(strings.first, strings.second),
+            StringRef::Reference(_) => Ok(()),
         }
     }
 
@@ -76,19 +76,19 @@ impl Table {
     /// strings are references.
     #[inline(never)]
     fn store_strings(&mut self, first: &[u8], second: &[u8]) -> Result<(), Memory>
-        ensures { OnOk result (self.new ≡ stored (entry_of first.now second.now) self.old) }
+        ensures { OnOk result (self.new ≡ table_with (entry_of first.now second.now) self.old) }
     {
-        let strings = Strings { first, second };
+        let strings = StringPair { first, second };
         if is_short(&strings) {
-            let entry = Stored::new(self.allocator(), &strings)?;
+            let entry = TableEntry::new(self.allocator(), &strings)?;
             self.push(entry);
         }
         Ok(())
     }
 
     /// Stores an entry. A full table drops its oldest one.
-    fn push(&mut self, entry: Stored)
-        ensures { self.new ≡ take limit (entry ∷ self.old) }
+    fn push(&mut self, entry: TableEntry)
+        ensures { self.new ≡ take table_limit (entry ∷ self.old) }
     {
         self.ring.push_back(entry);
     }
@@ -97,36 +97,36 @@ impl Table {
     ///
     /// # Errors
     ///
-    /// `BadReference` where the table has no such entry.
+    /// `BadReference` if the table has no such entry.
     #[inline(always)]
-    pub(crate) fn strings<'a>(&'a self, spelled: &Spelled<'a>) -> Result<Strings<'a>, O5Reason>
-        ensures { Gives (λ s. s) (strings_of self.now spelled.now) result }
+    pub(crate) fn strings<'a>(&'a self, spelled: &StringRef<'a>) -> Result<StringPair<'a>, O5Reason>
+        ensures { O5Gives (λ s. s) (strings_of self.now spelled.now) result }
     {
         match spelled {
-            Spelled::Inline(strings) => Ok(Strings {
+            StringRef::Inline(strings) => Ok(StringPair {
                 first: strings.first,
                 second: strings.second,
             }),
-            Spelled::Reference(reference) => match self.get(*reference) {
+            StringRef::Reference(reference) => match self.get(*reference) {
                 Some(entry) => Ok(entry.strings()),
                 None => Err(O5Reason::BadReference),
             },
         }
     }
 
-    /// Puts the user id and the user name of strings, which are inline or which a reference names, into `meta`.
+    /// Writes the user id and the user name of strings, which are inline or which a reference names, into `meta`.
     ///
     /// # Errors
     ///
-    /// `BadReference` where the table has no such entry, else as for [`put_user`].
+    /// `BadReference` if the table has no such entry, else as for [`put_user`].
     #[inline(always)]
-    pub(crate) fn put_user(&self, spelled: &Spelled<'_>, meta: &mut Meta) -> Result<(), O5Reason>
-        ensures { Answers (λ _. meta.new)
+    pub(crate) fn put_user(&self, spelled: &StringRef<'_>, meta: &mut Meta) -> Result<(), O5Reason>
+        ensures { O5Answers (λ _. meta.new)
             (and_user meta.old (and_then (strings_of self.now spelled.now) user_of)) result }
     {
         match spelled {
-            Spelled::Inline(strings) => put_user(self.allocator(), strings, meta),
-            Spelled::Reference(reference) => match self.get(*reference) {
+            StringRef::Inline(strings) => put_user(self.allocator(), strings, meta),
+            StringRef::Reference(reference) => match self.get(*reference) {
                 Some(entry) => entry.put_user(self.allocator(), meta),
                 None => Err(O5Reason::BadReference),
             },
@@ -137,15 +137,19 @@ impl Table {
     ///
     /// # Errors
     ///
-    /// `BadReference` where the table has no such entry, else as for [`add_tag`].
+    /// `BadReference` if the table has no such entry, else as for [`add_tag`].
     #[inline(always)]
-    pub(crate) fn add_tag(&self, spelled: &Spelled<'_>, tags: &mut Vec<Tag>) -> Result<(), O5Reason>
-        ensures { Answers (λ _. tags.new.items)
+    pub(crate) fn add_tag(
+        &self,
+        spelled: &StringRef<'_>,
+        tags: &mut Vec<Tag>,
+    ) -> Result<(), O5Reason>
+        ensures { O5Answers (λ _. tags.new.items)
             (and_added tags.old.items (and_then (strings_of self.now spelled.now) tag_of)) result }
     {
         match spelled {
-            Spelled::Inline(strings) => add_tag(self.allocator(), strings, tags),
-            Spelled::Reference(reference) => match self.get(*reference) {
+            StringRef::Inline(strings) => add_tag(self.allocator(), strings, tags),
+            StringRef::Reference(reference) => match self.get(*reference) {
                 Some(entry) => entry.add_tag(self.allocator(), tags),
                 None => Err(O5Reason::BadReference),
             },
@@ -153,7 +157,7 @@ impl Table {
     }
 
     #[inline(always)]
-    fn get(&self, reference: u64) -> Option<&Stored>
+    fn get(&self, reference: u64) -> Option<&TableEntry>
         ensures { option_copied result ≡ entry_at self.now reference }
     {
         if reference == 0 {
@@ -163,8 +167,8 @@ impl Table {
     }
 }
 
-/// Whether two strings are few enough bytes to be stored.
-pub(crate) fn is_short(strings: &Strings<'_>) -> bool
+/// Whether two strings have few enough bytes to be stored.
+pub(crate) fn is_short(strings: &StringPair<'_>) -> bool
     ensures { result ≡ is_short strings.now }
 {
     strings.first.len() <= LONGEST && strings.second.len() <= LONGEST - strings.first.len()

@@ -5,7 +5,7 @@ use std::alloc::Global;
 use std::process::Abort;
 use std::test::Fail;
 
-/// The kind by a letter in front, `w` or `r`, none being a node, and the digits behind it.
+/// The kind of a letter at the front, `w` or `r`, or a node without a letter, and the digits after it.
 fn split_kind(content: &str) -> (Kind, &str) {
     if let Some(digits) = content.strip_prefix("w ") {
         return (Kind::Way, digits);
@@ -17,7 +17,7 @@ fn split_kind(content: &str) -> (Kind, &str) {
 }
 
 /// Reads a content, written in hexadecimal, and compares the line of its version, or the name of its reason. The next
-/// version takes the memory of this one.
+/// version is made in the memory of this one.
 fn read(
     rt: &impl Abort,
     alloc: Global,
@@ -42,7 +42,7 @@ fn read(
     Ok(())
 }
 
-/// Reads rows of a content and what it spells. At the row `reset` a segment begins, at an empty row a decoder.
+/// Reads rows of a content and what it spells. A segment begins at the row `reset`, and a decoder at an empty row.
 fn read_all(rt: &impl Abort, alloc: Global, rows: &str) -> Result<(), Fail> {
     let mut decoder = Decoder::new(alloc)?;
     for row in rows.lines() {
@@ -448,7 +448,7 @@ fn reads_texts(rt: HostRuntime) -> Result<(), Fail> {
     read_all(&rt, rt.alloc(), rows)
 }
 
-/// A decoder behind a node with this content.
+/// A decoder after a node with this content.
 fn decoder_behind(alloc: Global, content: &[u8]) -> Result<Decoder, Fail> {
     let mut decoder = Decoder::new(alloc)?;
     let version = decoder.read_set(Kind::Node, content)?;
@@ -456,7 +456,7 @@ fn decoder_behind(alloc: Global, content: &[u8]) -> Result<Decoder, Fail> {
     Ok(decoder)
 }
 
-/// Reads a content behind a node with the first one, as `read` does.
+/// Reads a content after a node with the first one, as `read` does.
 fn read_behind(
     rt: &impl Abort,
     alloc: Global,
@@ -468,7 +468,7 @@ fn read_behind(
     read(rt, alloc, &mut decoder, content, expected)
 }
 
-/// So many letters `a`.
+/// `count` letters `a`.
 fn letters(alloc: Global, count: usize) -> Result<String, Fail> {
     let mut text = String::new(alloc);
     for _ in 0..count {

@@ -7,13 +7,13 @@
 //! Compared by: `reads_texts`.
 ghost use Rattle.std.specs.Prelude.{◌≡◌, Ok, IfOk, IfSome, encode_utf8_all};
 ghost use Rattle.std.specs.Str.{chars};
-ghost use Rattle.o5_codec.specs.Answer.{Gives, Answers, and_added};
+ghost use Rattle.o5_codec.specs.Answer.{O5Gives, O5Answers, and_added};
 ghost use Rattle.o5_codec.specs.Text.{text_of, tag_of, uid_of, user_of, and_user};
 
 use crate::O5Reason;
 use crate::base::within_range;
 use crate::number::read_number;
-use crate::strings::Strings;
+use crate::strings::StringPair;
 use osm_model::{Memory, Meta, Tag, Text};
 use std::alloc::Global;
 
@@ -21,10 +21,10 @@ use std::alloc::Global;
 ///
 /// # Errors
 ///
-/// `NotUtf8` where it isn't UTF-8.
+/// `NotUtf8` if it isn't UTF-8.
 #[inline(always)]
 pub(crate) fn to_text(alloc: Global, bytes: &[u8]) -> Result<Text, O5Reason>
-    ensures { Answers (λ text. text) (text_of bytes.now) result }
+    ensures { O5Answers (λ text. text) (text_of bytes.now) result }
 {
     let text = to_str(bytes)?;
     Ok(Text::from_str(alloc, text)?)
@@ -33,7 +33,7 @@ pub(crate) fn to_text(alloc: Global, bytes: &[u8]) -> Result<Text, O5Reason>
 /// A string as a slice of a text.
 #[inline(always)]
 fn to_str(bytes: &[u8]) -> Result<&str, O5Reason>
-    ensures text { Gives (λ text. chars text.now) (text_of bytes.now) result }
+    ensures text { O5Gives (λ text. chars text.now) (text_of bytes.now) result }
     ensures bytes { IfOk result (λ text. text.now ≡ bytes.now) }
 {
     if bytes.is_ascii() {
@@ -46,7 +46,7 @@ fn to_str(bytes: &[u8]) -> Result<&str, O5Reason>
 /// A string with characters of any kind as a slice of a text. This is a function of its own only for the optimizer.
 #[inline(never)]
 fn any_to_str(bytes: &[u8]) -> Result<&str, O5Reason>
-    ensures text { Gives (λ text. chars text.now) (text_of bytes.now) result }
+    ensures text { O5Gives (λ text. chars text.now) (text_of bytes.now) result }
     ensures bytes { IfOk result (λ text. text.now ≡ bytes.now) }
 {
     match simdutf8::basic::from_utf8(bytes) {
@@ -64,17 +64,17 @@ fn any_to_str(bytes: &[u8]) -> Result<&str, O5Reason>
 #[tactic(auto, unfolding(crate::specs::Text::tag_of))]
 pub(crate) fn add_tag(
     alloc: Global,
-    strings: &Strings<'_>,
+    strings: &StringPair<'_>,
     tags: &mut Vec<Tag>,
 ) -> Result<(), O5Reason>
-    ensures { Answers (λ _. tags.new.items) (and_added tags.old.items (tag_of strings.now)) result }
+    ensures { O5Answers (λ _. tags.new.items) (and_added tags.old.items (tag_of strings.now)) result }
 {
     let key = to_text(alloc, strings.first)?;
     let value = to_text(alloc, strings.second)?;
     Ok(tags.push(Tag { key, value })?)
 }
 
-/// Puts the user id and the user name of a pair into `meta`.
+/// Writes the user id and the user name of a pair into `meta`.
 ///
 /// # Errors
 ///
@@ -83,10 +83,10 @@ pub(crate) fn add_tag(
 #[tactic(auto, unfolding(crate::specs::Text::user_of))]
 pub(crate) fn put_user(
     alloc: Global,
-    strings: &Strings<'_>,
+    strings: &StringPair<'_>,
     meta: &mut Meta,
 ) -> Result<(), O5Reason>
-    ensures { Answers (λ _. meta.new) (and_user meta.old (user_of strings.now)) result }
+    ensures { O5Answers (λ _. meta.new) (and_user meta.old (user_of strings.now)) result }
 {
     let uid = to_uid(strings.first)?;
     let name = to_text(alloc, strings.second)?;
@@ -95,7 +95,7 @@ pub(crate) fn put_user(
     Ok(())
 }
 
-/// The text of a string that is one. Its copies are written many times, so it is marked if it is plain.
+/// The text of a string, if it is UTF-8. Its copies are written many times, so it is marked if it is plain.
 ///
 /// # Errors
 ///
@@ -118,10 +118,10 @@ pub(crate) fn known_text(alloc: Global, bytes: &[u8]) -> Result<Option<Text>, Me
 ///
 /// # Errors
 ///
-/// `BadNumber` where the string is no number, `OutOfRange` where that is above 4294967295.
+/// `BadNumber` if the string is no number, `OutOfRange` if that is above 4294967295.
 #[tactic(auto, unfolding(crate::specs::Text::uid_of))]
 pub(crate) fn to_uid(bytes: &[u8]) -> Result<u32, O5Reason>
-    ensures { Gives (λ uid. uid) (uid_of bytes.now) result }
+    ensures { O5Gives (λ uid. uid) (uid_of bytes.now) result }
 {
     if bytes.is_empty() {
         return Ok(0);

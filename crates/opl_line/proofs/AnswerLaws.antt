@@ -1,4 +1,4 @@
--- What is known of readings that succeed.
+-- Consequences of readings that succeed.
 use Rattle.std.proofs.Common.{◌≡◌, Result, Ok, Err, refl}
 use Rattle.opl_line.specs.declared.reason.OplReason.{OplReason}
 use Rattle.opl_line.specs.Answer.{and_then, as_value, with_reason}
@@ -9,6 +9,7 @@ pub record Both {X Y : Type 0} (first : Result X OplReason) (next : X → Result
   pub done : first ≡ Ok between
   pub then_done : next between ≡ Ok y
 
+-- A second reading that succeeds had a first one that did.
 pub both : {X Y : Type 0} (first : Result X OplReason) (next : X → Result Y OplReason) (y : Y) → and_then first next ≡ Ok y →
     Both first next y
 both (Ok x) next y e = record { between = x; done = refl; then_done = e }
@@ -18,6 +19,7 @@ both (Err reason) next y e = cc
 pub record Became {X Y : Type 0} (f : X → Y) (said : Result X OplReason) (y : Y) : Type 0 where
   pub from : X
   pub said_so : said ≡ Ok from
+  -- A value that is made of a reading had a reading that succeeded.
   pub became : f from ≡ y
 
 pub became : {X Y : Type 0} (f : X → Y) (said : Result X OplReason) (y : Y) → as_value f said ≡ Ok y → Became f said y

@@ -12,12 +12,12 @@ use Rattle.std.specs.Char.{digit_char, is_ascii_digit}
 use Rattle.osm_model.specs.Numeral.{numeral}
 use Rattle.osm_model.specs.Decimal.{number_text, integer_text}
 use Rattle.osm_model.proofs.NumeralLaws.{numeral-digit, numeral-step}
-use Rattle.opl_line.specs.Number.{is_numeral, with_digit, decimal_value, up_to, reading_number, is_negative, without_sign, signed}
+use Rattle.opl_line.specs.Number.{is_numeral, with_digit, decimal_value, up_to, reading_number, is_negative, without_sign, with_sign}
 use Rattle.opl_line.specs.Answer.{as_value}
 use Rattle.opl_line.specs.Canonical.{NumberIsReadBack, IdIsReadBack}
 use Rattle.opl_line.specs.declared.reason.OplReason.TheVariants.{BadNumber, OutOfRange}
 
--- what a row of digits writes, and that all are digits
+-- the value of a sequence of digits, and that all are digits
 pub record IsRead (base : ℕ) (step : ℕ → ℕ → ℕ) (is_one : ℕ → Bool) (n : ℕ) (text : List ℕ) : Type 0 where
   pub value : fold step 0 text ≡ n
   pub digits : list_all is_one text ≡ true
@@ -48,6 +48,7 @@ module _ (base : ℕ) (step : ℕ → ℕ → ℕ) (is_one : ℕ → Bool) (low 
         some = omega (arith, length-append (numeral base (n / base)) (digit_char (n % base) ∷ []));
       })
 
+  -- The numeral of a number up to a bound is read as the number.
   pub is_read : (most n : ℕ) → n ≤ most → IsRead base step is_one n (numeral base n)
   is_read zero n few = one_digit n (omega arith)
   is_read (suc most) n few =
@@ -55,7 +56,7 @@ module _ (base : ℕ) (step : ℕ → ℕ → ℕ) (is_one : ℕ → Bool) (low 
       (is_read most (n / base) (let product : 2 * (n / base) ≤ base * (n / base) = mul-le-mul_right (n / base) low in
       let whole : base * (n / base) + n % base ≡ n = omega arith in omega arith))) (cases_lt n base)
 
--- zeros in front
+-- leading zeros
 pub zeros_read : (base : ℕ) (step : ℕ → ℕ → ℕ) (is_one : ℕ → Bool) (k n : ℕ) (text : List ℕ) → step 0 48 ≡ 0 → is_one 48 ≡ true →
     IsRead base step is_one n text → IsRead base step is_one n (replicate k 48 ++ text)
 zeros_read base step is_one zero n text none one is = is
@@ -73,13 +74,16 @@ digit_step n d small = grind (arith, nat_tests)
 digit_one : (d : ℕ) → d < 10 → is_ascii_digit (digit_char d) ≡ true
 digit_one d small = grind (arith, nat_tests)
 
+-- The decimal text of a number is read as the number.
 pub decimal : (n : ℕ) → IsRead 10 with_digit is_ascii_digit n (number_text n)
 unfolding number_text
 decimal n = is_read 10 with_digit is_ascii_digit (omega arith) digit_step digit_one n n (omega arith)
 
+-- A text of one digit or more is a numeral.
 pub numeral_is : (text : List ℕ) → 0 < length text → list_all is_ascii_digit text ≡ true → is_numeral text ≡ true
 numeral_is text some all = rw all (grind (arith, nat_tests))
 
+-- The text of a number is read as the number.
 pub number_is_read_back : NumberIsReadBack
 number_is_read_back most n small =
     let d = decimal n in
@@ -87,6 +91,7 @@ number_is_read_back most n small =
     ∙ ap (up_to most) d.value
     ∙ ap (λ t. cond t (Ok n) (Err OutOfRange)) (le-leb n most small)
 
+-- A digit is no minus sign.
 pub minus_apart : (b : ℕ) → is_ascii_digit b ≡ true → eqb b 45 ≡ false
 minus_apart b e = grind (arith, nat_tests)
 
@@ -98,15 +103,16 @@ unsigned (b ∷ bs) all =
     let other : eqb b 45 ≡ false = minus_apart b parts.0 in
     (other, ap (λ t. cond t bs (b ∷ bs)) other)
 
+-- The text of an id is read as the id.
 pub id_is_read_back : IdIsReadBack
 unfolding integer_text
 id_is_read_back (pos n) is =
     let d = decimal n in
     let u = unsigned (number_text n) d.digits in
     let small = ltb-true n (2 ^ 62) is in
-    ap (λ t. as_value (signed (is_negative (number_text n))) (reading_number 4_611_686_018_427_387_903 t)) u.1
-    ∙ ap (as_value (signed (is_negative (number_text n)))) (number_is_read_back 4_611_686_018_427_387_903 n (omega arith))
-    ∙ ap (λ s. Ok (signed s n)) u.0
+    ap (λ t. as_value (with_sign (is_negative (number_text n))) (reading_number 4_611_686_018_427_387_903 t)) u.1
+    ∙ ap (as_value (with_sign (is_negative (number_text n)))) (number_is_read_back 4_611_686_018_427_387_903 n (omega arith))
+    ∙ ap (λ s. Ok (with_sign s n)) u.0
 id_is_read_back (negsuc n) is =
     let small = ltb-true (suc n) (2 ^ 62) is in
-    ap (as_value (signed true)) (number_is_read_back 4_611_686_018_427_387_903 (suc n) (omega arith))
+    ap (as_value (with_sign true)) (number_is_read_back 4_611_686_018_427_387_903 (suc n) (omega arith))

@@ -49,13 +49,14 @@ valid_roles (m ∷ ms) all =
     let parts = and_parts (is_id m.id && is_text m.role) (list_all (λ member. is_id member.id && is_text member.role) ms) all in
     λ i. (and_parts (is_id m.id) (is_text m.role) parts.0).1 i && valid_roles ms parts.1 i
 
--- the tags, and what stands behind them
+-- the tags, and the text after them
 module _ (text from_tags behind : List ℕ) (k : Kind) (deleted : Bool) (tags : List Tag) (marked : text ≡ 32 ∷ 84 ∷ from_tags)
     (listed : from_tags ≡ list_text tag_text tags ++ behind) (visible : deleted ≡ false)
     (all : list_all (λ tag. is_text tag.key && is_text tag.value) tags ≡ true) where
   spelled_behind : (rest : List ℕ) → behind ≡ rest → text ≡ 32 ∷ 84 ∷ (list_text tag_text tags ++ rest)
   spelled_behind rest is = marked ∙ ap (λ t. 32 ∷ 84 ∷ t) (listed ∙ ap (λ t. list_text tag_text tags ++ t) is)
 
+  -- Tags and then a location are the tail of a node's line.
   pub node_tail : (lon lat : ℤ) → k ≡ kind.Node → behind ≡ location_text lon lat → IsTail text k deleted (Node lon lat tags)
   node_tail lon lat is located =
       record {
@@ -67,6 +68,7 @@ module _ (text from_tags behind : List ℕ) (k : Kind) (deleted : Bool) (tags : 
             valid_tags tags all;
       }
 
+  -- Tags and then references are the tail of a way's line.
   pub way_tail : (refs : List ℤ) (rest : List ℕ) → k ≡ kind.Way → behind ≡ 32 ∷ 78 ∷ rest → rest ≡ list_text reference_text refs →
       list_all is_id refs ≡ true → IsTail text k deleted (Way refs tags)
   way_tail refs rest is mark list valid =
@@ -78,6 +80,7 @@ module _ (text from_tags behind : List ℕ) (k : Kind) (deleted : Bool) (tags : 
         texts = valid_tags tags all;
       }
 
+  -- Tags and then members are the tail of a relation's line.
   pub relation_tail : (members : List Member) (rest : List ℕ) → k ≡ kind.Relation → behind ≡ 32 ∷ 77 ∷ rest →
       rest ≡ list_text member_text members → list_all (λ member. is_id member.id && is_text member.role) members ≡ true →
       IsTail text k deleted (Relation members tags)
@@ -134,9 +137,11 @@ module _ (text behind : List ℕ) (k : Kind) (id : ℤ) (deleted : Bool) (meta :
       ∙ (λ i. head_text (sym tail.same_kind i) id (sym tail.same_deleted i) meta ++ tail_text b)
       ∙ whole_text id meta b
 
+  -- The data of a line that was parsed straight has no fault.
   pub no_fault : first_fault id meta b ≡ None
   no_fault = without_fault id meta b passes
 
+  -- The general reader reads a line that was parsed straight as the same version.
   pub is_read : (v : VersionData) → IsVersion v → v ≡ version_of id meta b → reading_line text ≡ Ok (Some v)
   is_read v is same =
       let of_data = subst IsVersion same is in

@@ -1,4 +1,4 @@
--- What is read of a number in its one form is written so again.
+-- A number read in its one form is written in the same form.
 use Rattle.std.proofs.Common.{◌≡◌, ◌≢◌, ℕ, ℤ, zero, suc, ◌+◌, ◌-◌, ◌*◌, ◌/◌, ◌%◌, ◌^◌, ◌<◌, ◌≤◌, Bool, true, false, eqb, List, [], ◌∷◌}
 use Rattle.std.proofs.Common.{◌++◌, length, take, drop, get_or, cond, leb, ◌⊎◌, ⊎_elim, Ok, Err, refl, sym, ap, ◌∙◌, arith, append_assoc}
 use Rattle.std.proofs.lemmas.Bool.{and_parts, leb-true, eqb-true, false≢true}
@@ -8,12 +8,12 @@ use Rattle.std.proofs.lemmas.Nat.{pow-add}
 use Rattle.std.proofs.lemmas.List.{append-nil, take-append-drop, take_rest, length-take-le, drop-drop}
 use Rattle.std.specs.List.{list_all, fold}
 use Rattle.std.specs.Char.{is_ascii_digit, digit_char}
-use Rattle.osm_model.specs.Numeral.{numeral, padded}
+use Rattle.osm_model.specs.Numeral.{numeral, pad_zeros}
 use Rattle.osm_model.specs.Decimal.{number_text, integer_text}
 use Rattle.osm_model.specs.Coordinate.{without_last_zeros, fraction_text, degrees_text, coordinate_text}
-use Rattle.osm_model.proofs.NumeralLaws.{numeral-step, numeral-digit, padded-step, padded-digit}
+use Rattle.osm_model.proofs.NumeralLaws.{numeral-step, numeral-digit, pad_zeros-step, pad_zeros-digit}
 use Rattle.osm_model.proofs.CoordinateLaws.{fraction_next, fraction_is}
-use Rattle.opl_line.specs.Number.{with_digit, decimal_value, is_negative, without_sign, signed, reading_units}
+use Rattle.opl_line.specs.Number.{with_digit, decimal_value, is_negative, without_sign, with_sign, reading_units}
 use Rattle.opl_line.specs.declared.reason.OplReason.TheVariants.{OutOfRange}
 use Rattle.opl_line.proofs.CanonicalLaws.{numeral_is}
 use Rattle.opl_line.proofs.NumberLaws.{numeral_below}
@@ -60,7 +60,7 @@ numbers_more n (d ∷ ds) some all =
 positive_first : (d : ℕ) → 48 ≤ d → d ≢ 48 → 0 < with_digit 0 d
 positive_first d low apart = grind arith
 
--- digits of which the first is no zero, or a digit alone
+-- digits of which the first is no zero, or a single digit
 pub numeral_text : (ds : List ℕ) → 0 < length ds → list_all is_ascii_digit ds ≡ true → (1 < length ds → get_or ds 0 0 ≢ 48) →
     number_text (decimal_value ds) ≡ ds
 numeral_text [] some all first = absurd (omega arith)
@@ -74,7 +74,7 @@ numeral_text (d ∷ e ∷ es) some all first =
     numbers_more (with_digit 0 d) (e ∷ es) more parts.1 ∙ ap (λ t. t ++ e ∷ es) (number_one d parts.0)
 
 next_decimal : (width n d : ℕ) → is_ascii_digit d ≡ true →
-    padded (suc (suc width)) (number_text (with_digit n d)) ≡ padded (suc width) (number_text n) ++ d ∷ []
+    pad_zeros (suc (suc width)) (number_text (with_digit n d)) ≡ pad_zeros (suc width) (number_text n) ++ d ∷ []
 unfolding number_text
 next_decimal width n d is =
     let range = digit d is in
@@ -82,38 +82,38 @@ next_decimal width n d is =
     let high = range.high in
     let front : with_digit n d / 10 ≡ n = omega arith in
     let last : with_digit n d % 10 ≡ d - 48 = omega arith in
-    padded-step 10 width (with_digit n d) (omega arith)
-    ∙ (λ i. padded (suc width) (numeral 10 (front i)) ++ (ap digit_char last ∙ digit_back d is) i ∷ [])
+    pad_zeros-step 10 width (with_digit n d) (omega arith)
+    ∙ (λ i. pad_zeros (suc width) (numeral 10 (front i)) ++ (ap digit_char last ∙ digit_back d is) i ∷ [])
 
 -- decimals, with the zeros before them
 decimals_more : (width n : ℕ) (ds : List ℕ) → list_all is_ascii_digit ds ≡ true →
-    padded (length ds + suc width) (number_text (fold with_digit n ds)) ≡ padded (suc width) (number_text n) ++ ds
+    pad_zeros (length ds + suc width) (number_text (fold with_digit n ds)) ≡ pad_zeros (suc width) (number_text n) ++ ds
 decimals_more width n [] all =
     let same : 0 + suc width ≡ suc width = omega arith in
-    ap (λ w. padded w (number_text n)) same ∙ sym (append-nil _)
+    ap (λ w. pad_zeros w (number_text n)) same ∙ sym (append-nil _)
 decimals_more width n (d ∷ ds) all =
     let parts = and_parts (is_ascii_digit d) (list_all is_ascii_digit ds) all in
     let wide : suc (length ds) + suc width ≡ length ds + suc (suc width) = omega arith in
-    ap (λ w. padded w (number_text (fold with_digit (with_digit n d) ds))) wide
+    ap (λ w. pad_zeros w (number_text (fold with_digit (with_digit n d) ds))) wide
     ∙ decimals_more (suc width) (with_digit n d) ds parts.1
     ∙ ap (λ t. t ++ ds) (next_decimal width n d parts.0)
-    ∙ append_assoc (padded (suc width) (number_text n)) (d ∷ []) ds
+    ∙ append_assoc (pad_zeros (suc width) (number_text n)) (d ∷ []) ds
 
-first_decimal : (d : ℕ) → is_ascii_digit d ≡ true → padded 1 (number_text (with_digit 0 d)) ≡ d ∷ []
+first_decimal : (d : ℕ) → is_ascii_digit d ≡ true → pad_zeros 1 (number_text (with_digit 0 d)) ≡ d ∷ []
 unfolding number_text
 first_decimal d is =
     let range = digit d is in
     let low = range.low in
     let high = range.high in
     let value : with_digit 0 d ≡ d - 48 = omega arith in
-    ap (λ n. padded 1 (numeral 10 n)) value ∙ padded-digit 10 (d - 48) (omega arith) (omega arith) ∙ ap (λ c. c ∷ []) (digit_back d is)
+    ap (λ n. pad_zeros 1 (numeral 10 n)) value ∙ pad_zeros-digit 10 (d - 48) (omega arith) (omega arith) ∙ ap (λ c. c ∷ []) (digit_back d is)
 
-decimals_are : (ds : List ℕ) → 0 < length ds → list_all is_ascii_digit ds ≡ true → padded (length ds) (number_text (decimal_value ds)) ≡ ds
+decimals_are : (ds : List ℕ) → 0 < length ds → list_all is_ascii_digit ds ≡ true → pad_zeros (length ds) (number_text (decimal_value ds)) ≡ ds
 decimals_are [] some all = absurd (omega arith)
 decimals_are (d ∷ ds) some all =
     let parts = and_parts (is_ascii_digit d) (list_all is_ascii_digit ds) all in
     let wide : suc (length ds) ≡ length ds + 1 = omega arith in
-    ap (λ w. padded w (number_text (fold with_digit (with_digit 0 d) ds))) wide
+    ap (λ w. pad_zeros w (number_text (fold with_digit (with_digit 0 d) ds))) wide
     ∙ decimals_more 0 (with_digit 0 d) ds parts.1
     ∙ ap (λ t. t ++ ds) (first_decimal d parts.0)
 
@@ -135,14 +135,14 @@ scaled_below zeros places digits fits =
     ∙ ap (λ n. 10 * n) (pow-add 10 places zeros) in
     rw all (omega arith)
 
--- decimals, and as many zeros behind them as there is room for
+-- decimals, and as many zeros after them as there is room for
 scaled : (zeros places digits : ℕ) → 0 < digits → digits < 10 ^ places →
-    without_last_zeros (padded (zeros + places) (number_text (digits * 10 ^ zeros)))
-    ≡ without_last_zeros (padded places (number_text digits))
+    without_last_zeros (pad_zeros (zeros + places) (number_text (digits * 10 ^ zeros)))
+    ≡ without_last_zeros (pad_zeros places (number_text digits))
 scaled zero places digits some fits =
     let same : digits * 10 ^ 0 ≡ digits = omega arith in
     let width : zero + places ≡ places = omega arith in
-    λ i. without_last_zeros (padded (width i) (number_text (same i)))
+    λ i. without_last_zeros (pad_zeros (width i) (number_text (same i)))
 scaled (suc zeros) places digits some fits =
     let power : 10 ^ suc zeros ≡ 10 * 10 ^ zeros = pow-succ' 10 zeros in
     let n = digits * 10 ^ zeros in
@@ -151,9 +151,9 @@ scaled (suc zeros) places digits some fits =
     let less : suc zeros + places - 1 ≡ zeros + places = omega arith in
     let step = fraction_next (suc zeros + places) (10 * n) (several digits zeros some) (scaled_below zeros places digits fits)
     (omega arith) in
-    ap (λ k. without_last_zeros (padded (suc zeros + places) (number_text k))) wide
+    ap (λ k. without_last_zeros (pad_zeros (suc zeros + places) (number_text k))) wide
     ∙ step.2
-    ∙ (λ i. without_last_zeros (padded (less i) (number_text (front i))))
+    ∙ (λ i. without_last_zeros (pad_zeros (less i) (number_text (front i))))
     ∙ scaled zeros places digits some fits
 
 positive_last : (v : ℕ) → v % 10 ≢ 0 → 0 < v
@@ -170,8 +170,8 @@ fraction_read (d ∷ ds) few all last =
     let fits : v < 10 ^ k = numeral_below (d ∷ ds) k (numeral_is (d ∷ ds) (omega arith) all) (omega arith) in
     let some : 0 < v = positive_last v last in
     let wide : 7 - k + k ≡ 7 = omega arith in
-    let same : without_last_zeros (padded 7 (number_text (v * 10 ^ (7 - k)))) ≡ without_last_zeros (padded k (number_text v)) =
-    ap (λ w. without_last_zeros (padded w (number_text (v * 10 ^ (7 - k))))) (sym wide) ∙ scaled (7 - k) k v some fits in
+    let same : without_last_zeros (pad_zeros 7 (number_text (v * 10 ^ (7 - k)))) ≡ without_last_zeros (pad_zeros k (number_text v)) =
+    ap (λ w. without_last_zeros (pad_zeros w (number_text (v * 10 ^ (7 - k))))) (sym wide) ∙ scaled (7 - k) k v some fits in
     fraction_is k v (v * 10 ^ (7 - k)) (mul-pos some (power_some (7 - k))) fits last (sym same)
     ∙ ap (λ t. 46 ∷ t) (decimals_are (d ∷ ds) (omega arith) all)
 
@@ -182,6 +182,7 @@ fraction_below v k few fits =
     let all : 10 ^ k * 10 ^ (7 - k) ≡ 10_000_000 = sym (pow-add 10 k (7 - k)) ∙ ap (λ w. 10 ^ w) wide in
     rw all at less
 
+-- The text of degrees is that of the whole degrees and that of the fraction.
 pub degrees_read : (whole units : ℕ) → units < 10_000_000 →
     degrees_text (whole * 10_000_000 + units) ≡ number_text whole ++ fraction_text units
 unfolding degrees_text
@@ -190,11 +191,12 @@ degrees_read whole units small =
     let rest : (whole * 10_000_000 + units) % 10_000_000 ≡ units = omega arith in
     λ i. number_text (front i) ++ fraction_text (rest i)
 
+-- The text of no fraction is empty.
 pub no_fraction : fraction_text 0 ≡ []
 unfolding fraction_text
 no_fraction = refl
 
--- a sign, and what stands behind it
+-- a sign, and the text after it
 sign_of : Bool → List ℕ
 sign_of negative = cond negative (45 ∷ []) []
 
@@ -208,20 +210,20 @@ sign_split (b ∷ bs) =
     ] refl
 
 integer_signed : (negative : Bool) (n : ℕ) → (negative ≡ true → 0 < n) →
-    integer_text (signed negative n) ≡ sign_of negative ++ number_text n
+    integer_text (with_sign negative n) ≡ sign_of negative ++ number_text n
 unfolding integer_text sign_of
 integer_signed true zero some = absurd (omega (arith, some refl))
 integer_signed true (suc n) some = refl
 integer_signed false n some = refl
 
 coordinate_signed : (negative : Bool) (n : ℕ) → (negative ≡ true → 0 < n) →
-    coordinate_text (signed negative n) ≡ sign_of negative ++ degrees_text n
+    coordinate_text (with_sign negative n) ≡ sign_of negative ++ degrees_text n
 unfolding coordinate_text sign_of
 coordinate_signed true zero some = absurd (omega (arith, some refl))
 coordinate_signed true (suc n) some = refl
 coordinate_signed false n some = refl
 
--- a sign stands before a number above 0
+-- a sign before a number above 0
 pub some_signed : (negative told : Bool) (n : ℕ) → negative ≡ told → (negative ≡ true × (n ≡ 0 → ⊥)) ⊎ (negative ≡ false) → told ≡ true →
     0 < n
 some_signed negative told n same either is = ⊎_elim (λ other. above n other.1) (λ none. absurd (false≢true (sym none ∙ same ∙ is))) either
@@ -230,22 +232,25 @@ some_signed negative told n same either is = ⊎_elim (λ other. above n other.1
     above zero other = absurd (other refl)
     above (suc n) other = omega arith
 
-pub place_is : (negative : Bool) (n : ℕ) (place : ℤ) → reading_units negative n ≡ Ok place → signed negative n ≡ place
+-- Units that are read with a sign are the number with that sign.
+pub place_is : (negative : Bool) (n : ℕ) (place : ℤ) → reading_units negative n ≡ Ok place → with_sign negative n ≡ place
 place_is negative n place e =
     elim (leb n (cond negative 2_147_483_648 2_147_483_647)) as
-    (λ t. cond t (Ok (signed negative n)) (Err OutOfRange) ≡ Ok place → signed negative n ≡ place) [
+    (λ t. cond t (Ok (with_sign negative n)) (Err OutOfRange) ≡ Ok place → with_sign negative n ≡ place) [
       | true ↦ λ read. cc
       | false ↦ λ read. cc
     ] e
 
+-- A sign and the text of a number are the text of an integer.
 pub integer_read : (text behind : List ℕ) (n : ℕ) → (is_negative text ≡ true → 0 < n) → without_sign text ≡ number_text n ++ behind →
-    text ≡ integer_text (signed (is_negative text) n) ++ behind
+    text ≡ integer_text (with_sign (is_negative text) n) ++ behind
 integer_read text behind n some is =
     sign_split text ∙ ap (λ t. sign_of (is_negative text) ++ t) is ∙ sym (append_assoc (sign_of (is_negative text)) (number_text n) behind)
     ∙ ap (λ t. t ++ behind) (sym (integer_signed (is_negative text) n some))
 
+-- A sign and the text of degrees are the text of a coordinate.
 pub place_read : (text behind : List ℕ) (n : ℕ) → (is_negative text ≡ true → 0 < n) → without_sign text ≡ degrees_text n ++ behind →
-    text ≡ coordinate_text (signed (is_negative text) n) ++ behind
+    text ≡ coordinate_text (with_sign (is_negative text) n) ++ behind
 place_read text behind n some is =
     sign_split text ∙ ap (λ t. sign_of (is_negative text) ++ t) is ∙ sym (append_assoc (sign_of (is_negative text)) (degrees_text n) behind)
     ∙ ap (λ t. t ++ behind) (sym (coordinate_signed (is_negative text) n some))
@@ -264,6 +269,7 @@ below_power_of [] zero all long = omega arith
 below_power_of [] (suc count) all long = absurd (omega (arith, long))
 below_power_of (d ∷ ds) count all long = numeral_below (d ∷ ds) count (numeral_is (d ∷ ds) (omega arith) all) (omega (arith, long))
 
+-- Up to 7 decimals, as units, are below one degree.
 pub fraction_fits : (text : List ℕ) (count n scale : ℕ) → count ≤ length text → count ≤ 7 →
     list_all is_ascii_digit (take count text) ≡ true → n ≡ decimal_value (take count text) → scale ≡ 10 ^ (7 - count) →
     n * scale < 10_000_000
@@ -272,7 +278,7 @@ fraction_fits text count n scale within few all value by =
     let fits : decimal_value (take count text) < 10 ^ count = below_power_of (take count text) count all long in
     rw (value, by) (fraction_below (decimal_value (take count text)) count few fits)
 
--- a part of a degree behind its point
+-- a part of a degree after its point
 pub fraction_front : (text decimals : List ℕ) (count n scale : ℕ) → decimals ≡ drop 1 text → get_or text 0 0 ≡ 46 →
     count ≤ length decimals → count ≤ 7 → list_all is_ascii_digit (take count decimals) ≡ true →
     n ≡ decimal_value (take count decimals) → scale ≡ 10 ^ (7 - count) → n % 10 ≢ 0 →

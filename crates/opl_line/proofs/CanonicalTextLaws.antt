@@ -38,10 +38,12 @@ raw_latin c low high other = grind (arith, nat_tests)
 raw_more : (c : ℕ) → 0xC0 ≤ c → c < 0x600 → is_raw c ≡ true
 raw_more c low high = grind (arith, nat_tests)
 
+-- C2 and a byte from A1 to BF other than AD are a raw character.
 pub latin_pair : (lead next : ℕ) → lead ≡ 0xC2 → 0xA1 ≤ next → next ≤ 0xBF → (next ≡ 0xAD → ⊥) → AreRaw (lead ∷ next ∷ [])
 latin_pair lead next is low high other = raw_two lead next next (omega arith) (omega arith) (raw_latin next low (omega arith) other)
     (omega arith) (omega arith)
 
+-- A byte from C3 to D7 and a continuation byte are a raw character.
 pub other_pair : (lead next : ℕ) → 0xC3 ≤ lead → lead ≤ 0xD7 → 0x80 ≤ next → next ≤ 0xBF → AreRaw (lead ∷ next ∷ [])
 other_pair lead next low high from to =
     let c = 64 * (lead - 192) + (next - 128) in
@@ -51,6 +53,7 @@ raw_byte : (byte : ℕ) → is_raw_byte byte ≡ true → AreRaw (byte ∷ [])
 raw_byte byte raw = let both = and_parts (is_raw byte) (ltb byte 0x80) raw in
     raw_one byte (byte ∷ []) both.0 (encode_ascii byte (ltb-true byte 0x80 both.1))
 
+-- A raw byte at the front is a raw character.
 pub raw_first : (bytes : List ℕ) → 0 < length bytes → is_raw_byte (get_or bytes 0 0) ≡ true → AreRaw (take 1 bytes)
 raw_first [] some raw = absurd (omega arith)
 raw_first (b ∷ bs) some raw = raw_byte b raw
@@ -74,6 +77,7 @@ raw_bytes [] raw = raw_none
 raw_bytes (b ∷ bs) raw = let both = and_parts (is_raw_byte b) (list_all is_raw_byte bs) raw in
     raw_append (b ∷ []) bs (raw_byte b both.0) (raw_bytes bs both.1)
 
+-- Raw characters after raw characters are raw characters together.
 pub raw_next : (bytes : List ℕ) (n width : ℕ) → AreRaw (take n bytes) → AreRaw (take width (drop n bytes)) → AreRaw (take (n + width) bytes)
 raw_next bytes n width front back = subst AreRaw (sym (take-add n width bytes))
     (raw_append (take n bytes) (take width (drop n bytes)) front back)
@@ -98,6 +102,7 @@ raw_escape [] raw = refl
 raw_escape (c ∷ cs) raw = let both = and_parts (is_raw c) (list_all is_raw cs) raw in
     λ i. escape_char-raw c both.0 i ++ raw_escape cs both.1 i
 
+-- Raw characters are UTF-8.
 pub raw_utf8 : (bytes : List ℕ) → AreRaw bytes → IsUtf8 bytes
 raw_utf8 bytes raw = (raw.characters, (raw_scalars raw.characters raw.raw, sym raw.spelled))
 
@@ -116,7 +121,7 @@ text_append cs ds c d =
     both_false true b x y = x
     both_false false b x y = y
 
--- what was read of a text, and what stands behind it
+-- the text that was read, and the bytes after it
 pub record IsReadTo (bytes text rest : List ℕ) : Type 0 where
   pub spelled : bytes ≡ escape text ++ rest
   pub valid : is_text text ≡ true
@@ -133,7 +138,7 @@ read_more bytes text rest more form behind now so_far e is valid n = record {
   valid = ap is_text n ∙ text_append text more so_far.valid valid;
 }
 
--- raw characters more
+-- more raw characters
 pub read_raw : (bytes text rest raw behind now : List ℕ) → IsReadTo bytes text rest → AreRaw raw → rest ≡ raw ++ behind →
     now ≡ text ++ chars raw → IsReadTo bytes now behind
 read_raw bytes text rest raw behind now so_far are e n =
@@ -142,7 +147,7 @@ read_raw bytes text rest raw behind now so_far are e n =
     let valid : is_text cs ≡ true = (λ i. raw_scalars cs are.raw i && not (raw_no_zero cs are.raw i)) in
     read_more bytes text rest cs raw behind now so_far e (raw_escape cs are.raw ∙ sym are.spelled) valid (n ∙ ap (λ t. text ++ t) same)
 
--- the raw characters at the front alone
+-- only the raw characters at the front
 pub read_front : (bytes text : List ℕ) (end : ℕ) → list_all is_raw_byte (take end bytes) ≡ true → text ≡ chars (take end bytes) →
     IsReadTo bytes text (take (length bytes - end) (drop end bytes))
 read_front bytes text end raw e =
@@ -151,7 +156,7 @@ read_front bytes text end raw e =
     read_raw bytes [] bytes (take end bytes) (take (length bytes - end) (drop end bytes)) text (read_nothing bytes [] refl)
     (raw_bytes (take end bytes) raw) whole e
 
--- an escape more
+-- one more escape
 pub read_escape : (bytes text rest behind now : List ℕ) (c : ℕ) → IsReadTo bytes text rest → rest ≡ escape_char c ++ behind →
     is_text (c ∷ []) ≡ true → now ≡ text ++ chars (encode c) → IsReadTo bytes now behind
 read_escape bytes text rest behind now c so_far e valid n =

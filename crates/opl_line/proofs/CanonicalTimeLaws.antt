@@ -1,4 +1,4 @@
--- A time that is read stands as it is written.
+-- A time that is read has the form in which it is written.
 use Rattle.std.proofs.Common.{◌≡◌, ℕ, ◌+◌, ◌-◌, ◌*◌, ◌/◌, ◌%◌, ◌^◌, ◌<◌, ◌≤◌, Bool, true, false, not, ◌&&◌, ◌==◌, ltb, cond, List, [], ◌∷◌}
 use Rattle.std.proofs.Common.{◌++◌, length, take, drop, get_or, slice_index, add-one, drop-cons, length-drop, arith, refl, sym, ap, ◌∙◌}
 use Rattle.std.proofs.Common.{Option, Some, None, Result, Ok, Err}
@@ -20,7 +20,7 @@ use Rattle.opl_line.specs.Time.{digits_at, day_of, second_of, reading_date, read
 use Rattle.opl_line.proofs.AnswerLaws.{both}
 use Rattle.opl_line.proofs.JiffDays.{epoch_day_number}
 
--- what is known of a reading in two steps that succeeds
+-- consequences of a reading in two steps that succeeds
 record SomeBoth {X Y : Type 0} (next : X → Option Y) (first : Option X) (y : Y) : Type 0 where
   between : X
   done : first ≡ Some between
@@ -38,7 +38,7 @@ is_so : {X : Type 0} (test : Bool) (o : Option X) (x : X) → cond test o None �
 is_so true o x e = refl
 is_so false o x e = cc
 
--- what a test that holds answers
+-- the result of a test that holds
 so_value : {X : Type 0} (test : Bool) (x y : X) → cond test (Some x) None ≡ Some y → x ≡ y
 so_value true x y e = cc
 so_value false x y e = cc
@@ -50,7 +50,7 @@ record IsDigit (d : ℕ) : Type 0 where
 digit : (d : ℕ) → is_ascii_digit d ≡ true → IsDigit d
 digit d is = let range = and_parts _ _ is in record { low = leb-true 48 d range.0; high = leb-true d 57 range.1 }
 
--- a number below 100 stands in two digits
+-- a number below 100 in two digits
 record IsPair (n : ℕ) (now behind : List ℕ) : Type 0 where
   small : n < 100
   spelled : now ≡ pair n ++ behind
@@ -109,7 +109,7 @@ four (a ∷ b ∷ c ∷ d ∷ rest) n long e =
     let fourth : d ≡ 48 + n % 100 % 10 = omega arith in
     record { small = omega arith; spelled = λ i. first i ∷ second i ∷ third i ∷ fourth i ∷ rest }
 
--- what a time that was read says of its text
+-- the text of a time that was read
 record IsDate (text : List ℕ) (days : ℕ) (behind : List ℕ) : Type 0 where
   year : ℕ
   month : ℕ
@@ -262,6 +262,7 @@ spelled_at text time days seconds of_moment date clock =
     } in
     record { range = λ i. lt-ltb 0 time of_moment.some i && lt-ltb time (2 ^ 32) small i; spelled = (time_law time text small).1 is }
 
+-- A time that is read has the one text of that time.
 pub time_canonical : (text : List ℕ) (time : ℕ) → reading_time text ≡ Ok time → IsTimeRead text time
 time_canonical text time e =
     let with_clock : ℕ → Result ℕ OplReason = λ days.
@@ -279,6 +280,7 @@ time_canonical text time e =
       | false ↦ λ is read. cc
     ] refl e
 
+-- The text of no time is empty.
 pub no_time : time_text None ≡ []
 unfolding time_text
 no_time = refl

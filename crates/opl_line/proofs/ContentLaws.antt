@@ -1,4 +1,4 @@
--- Texts and lists that are read are spelled so, and the reverse.
+-- Texts and lists that are read are spelled by their bytes, and conversely.
 use Rattle.std.proofs.Common.{◌≡◌, ℕ, ℤ, Bool, true, false, not, cond, eqb, leb, ltb, ◌&&◌, List, [], ◌∷◌, ◌++◌, length, Option, Some, None}
 use Rattle.std.proofs.Common.{Result, Ok, Err, refl, sym, ap, ◌∙◌, subst, append_assoc, append-nil, arith}
 use Rattle.std.proofs.lemmas.Bool.{and_parts, eqb-true}
@@ -13,14 +13,14 @@ use Rattle.osm_model.specs.declared.tags.Tag.{Tag}
 use Rattle.osm_model.specs.declared.members.Member.{Member}
 use Rattle.osm_model.specs.Kind.{kind_letter}
 use Rattle.osm_model.specs.Pairwise.{Pairwise}
-use Rattle.opl_line.specs.declared.bytes.cut.Cut.TheVariants.{Percents, Commas, Equals, Ats}
+use Rattle.opl_line.specs.declared.bytes.cut.Delimiter.TheVariants.{Percents, Commas, Equals, Ats}
 use Rattle.opl_line.specs.declared.reason.OplReason.{OplReason}
 use Rattle.opl_line.specs.declared.reason.OplReason.TheVariants.{BadText, BadList}
 use Rattle.opl_line.specs.Answer.{and_then, as_value, with_reason}
 use Rattle.opl_line.specs.Number.{reading_id}
 use Rattle.opl_line.specs.Item.{reading_items, reading_list, tag_of_pieces, reading_tag, item_reason, reading_item_id, reading_reference}
 use Rattle.opl_line.specs.Item.{kind_of_letter, reading_named, reading_object_name, member_of_parts, reading_member}
-use Rattle.opl_line.specs.Cut.{is_end, split_first, begun_with, cut, pieces_of}
+use Rattle.opl_line.specs.Delimiter.{is_end, split_first, with_first_byte, split_all, pieces_of}
 use Rattle.opl_line.specs.Text.{stands_for_itself, is_hex_digit, hex_value, is_hex, scalar_of, with_escape, text_from, text_of_pieces}
 use Rattle.opl_line.specs.Text.{text_of, reading_text}
 use Rattle.opl_line.specs.Content.{SpellsText, raw, escaped, SpellsCharacters, SpellsTag, SpellsReference, SpellsObject, SpellsMember}
@@ -30,12 +30,14 @@ use Rattle.opl_line.proofs.AnswerLaws.{both, became, same_success}
 use Rattle.opl_line.proofs.CutLaws.{cut_split, split_front, split_never}
 use Rattle.opl_line.proofs.TextLaws.{one_escape}
 
+-- Bytes that all pass a test pass a weaker one.
 pub all_weaker : (p q : ℕ → Bool) → ((x : ℕ) → p x ≡ true → q x ≡ true) → (xs : List ℕ) → list_all p xs ≡ true → list_all q xs ≡ true
 all_weaker p q h [] all = refl
 all_weaker p q h (x ∷ xs) all =
     let parts = and_parts (p x) (list_all p xs) all in
     ap (λ t. t && list_all q xs) (h x parts.0) ∙ all_weaker p q h xs parts.1
 
+-- A byte that stands for itself is no percent sign.
 pub raw_no_percent : (b : ℕ) → stands_for_itself b ≡ true → not (eqb b 37) ≡ true
 raw_no_percent b e = grind (arith, nat_tests)
 
@@ -53,7 +55,7 @@ scalar_digits digits c =
       | false ↦ λ is e. cc
     ] refl
 
--- what was read before stands in front
+-- the text that was read already stays in front
 from_behind : (start done : List ℕ) (pieces : List (List ℕ)) →
     text_from (start ++ done) pieces ≡ option_map (λ t. start ++ t) (text_from done pieces)
 unfolding text_from
@@ -72,7 +74,7 @@ from_behind start done (escape ∷ piece ∷ more) =
           ]
     ]
 
--- ---- what is spelled is read
+-- ---- texts that are spelled are read
 text_complete_behind : (front digits rest text : List ℕ) (c : ℕ) → list_all stands_for_itself front ≡ true → scalar_of digits ≡ Some c →
     text_of rest ≡ Some text → text_of (front ++ 37 ∷ (digits ++ 37 ∷ rest)) ≡ Some (front ++ (encode c ++ text))
 text_complete_behind front digits rest text c all some read =
@@ -82,13 +84,13 @@ text_complete_behind front digits rest text c all some read =
     let escape = split_front percent digits rest 37 (all_weaker is_hex_digit (λ b. not (eqb b 37)) hex_no_percent digits
     (scalar_digits digits c some)) refl in
     let parts = split_first percent rest in
-    let pieces : cut percent (digits ++ 37 ∷ rest) ≡ digits ∷ cut percent rest = cut_split percent (digits ++ 37 ∷ rest)
+    let pieces : split_all percent (digits ++ 37 ∷ rest) ≡ digits ∷ split_all percent rest = cut_split percent (digits ++ 37 ∷ rest)
     ∙ ap (λ s. s.0 ∷ pieces_of percent s.1) escape in
     ap text_of_pieces at
-    ∙ ap (λ t. cond t (text_from front (cut percent (digits ++ 37 ∷ rest))) None) all
+    ∙ ap (λ t. cond t (text_from front (split_all percent (digits ++ 37 ∷ rest))) None) all
     ∙ (elim (list_all stands_for_itself parts.0) as (λ b. list_all stands_for_itself parts.0 ≡ b →
     cond b (text_from parts.0 (pieces_of percent parts.1)) None ≡ Some text →
-    text_from front (cut percent (digits ++ 37 ∷ rest)) ≡ Some (front ++ (encode c ++ text))) [
+    text_from front (split_all percent (digits ++ 37 ∷ rest)) ≡ Some (front ++ (encode c ++ text))) [
       | true ↦ λ is e.
           one_escape front digits parts.0 c _ _ _ pieces (cut_split percent rest) some is
           ∙ from_behind (front ++ encode c) parts.0 (pieces_of percent parts.1)
@@ -105,17 +107,17 @@ text_complete bytes out (raw text all) =
 text_complete bytes out (escaped front digits rest text c all some spelled) =
     text_complete_behind front digits rest text c all some (text_complete rest text spelled)
 
--- ---- what is read is spelled
+-- ---- texts that are read are spelled
 behind_percents : List (List ℕ) → List ℕ
 behind_percents [] = []
 behind_percents (piece ∷ pieces) = 37 ∷ (piece ++ behind_percents pieces)
 
-uncut : (bytes : List ℕ) → behind_percents (cut (is_end Percents) bytes) ≡ 37 ∷ bytes
+uncut : (bytes : List ℕ) → behind_percents (split_all (is_end Percents) bytes) ≡ 37 ∷ bytes
 unfolding behind_percents
 uncut [] = refl
 uncut (b ∷ bs) =
     elim (eqb b 37) as (λ t. eqb b 37 ≡ t → behind_percents
-    (cond t ([] ∷ cut (is_end Percents) bs) (begun_with b (cut (is_end Percents) bs))) ≡ 37 ∷ b ∷ bs) [
+    (cond t ([] ∷ split_all (is_end Percents) bs) (with_first_byte b (split_all (is_end Percents) bs))) ≡ 37 ∷ b ∷ bs) [
       | true ↦ λ is. ap (λ r. 37 ∷ r) (uncut bs) ∙ ap (λ x. 37 ∷ x ∷ bs) (sym (eqb-true b 37 is))
       | false ↦ λ other.
           let parts = split_first (is_end Percents) bs in
@@ -123,7 +125,7 @@ uncut (b ∷ bs) =
           let rest : 37 ∷ (parts.0 ++ behind_percents (pieces_of (is_end Percents) parts.1)) ≡ 37 ∷ bs = sym (ap behind_percents first)
           ∙ uncut bs in
           let same : parts.0 ++ behind_percents (pieces_of (is_end Percents) parts.1) ≡ bs = cc in
-          ap (λ ps. behind_percents (begun_with b ps)) first ∙ ap (λ r. 37 ∷ b ∷ r) same
+          ap (λ ps. behind_percents (with_first_byte b ps)) first ∙ ap (λ r. 37 ∷ b ∷ r) same
     ] refl
 
 rejoined : (bytes : List ℕ) → let parts = split_first (is_end Percents) bytes in
@@ -198,12 +200,13 @@ characters_sound bytes cs =
       }
     ] refl
 
+-- A text that is spelled is read.
 pub characters_complete : (bytes cs : List ℕ) → SpellsCharacters bytes cs → reading_text bytes ≡ Ok cs
 characters_complete bytes cs s = ap (λ o. ok_or (option_map chars o) BadText) (text_complete bytes s.text s.spelled)
     ∙ ap (λ t. Ok t) (sym s.characters)
 
 -- ---- tags
-tag_pieces : (bytes : List ℕ) (tag : Tag) (pieces : List (List ℕ)) → cut (is_end Equals) bytes ≡ pieces → tag_of_pieces pieces ≡ Ok tag →
+tag_pieces : (bytes : List ℕ) (tag : Tag) (pieces : List (List ℕ)) → split_all (is_end Equals) bytes ≡ pieces → tag_of_pieces pieces ≡ Ok tag →
     SpellsTag bytes tag
 tag_pieces bytes tag [] is e = cc
 tag_pieces bytes tag (key ∷ []) is e = cc
@@ -222,9 +225,11 @@ tag_pieces bytes tag (key ∷ value ∷ []) is e =
       spells_value = characters_sound value tag.value (v.said_so ∙ ap (λ t. Ok t) same_value);
     }
 
+-- A tag that is read is spelled.
 pub tag_sound : (bytes : List ℕ) (tag : Tag) → reading_tag bytes ≡ Ok tag → SpellsTag bytes tag
-tag_sound bytes tag e = tag_pieces bytes tag (cut (is_end Equals) bytes) refl e
+tag_sound bytes tag e = tag_pieces bytes tag (split_all (is_end Equals) bytes) refl e
 
+-- A tag that is spelled is read.
 pub tag_complete : (bytes : List ℕ) (tag : Tag) → SpellsTag bytes tag → reading_tag bytes ≡ Ok tag
 tag_complete bytes tag s =
     ap tag_of_pieces s.parted
@@ -247,6 +252,7 @@ reference_sound (letter ∷ digits) id e =
       | false ↦ λ is read. cc
     ] refl e
 
+-- A reference that is spelled is read.
 pub reference_complete : (bytes : List ℕ) (id : ℤ) → SpellsReference bytes id → reading_reference bytes ≡ Ok id
 reference_complete bytes id s = ap reading_reference s.lettered ∙ ap (with_reason item_reason) (id_complete s.digits id s.spelled)
 
@@ -268,11 +274,13 @@ letter_of_kind letter k =
           ] refl
     ] refl
 
+-- The letter of a kind names the kind.
 pub kind_of_its_letter : (k : Kind) → kind_of_letter (kind_letter k) ≡ Some k
 kind_of_its_letter kind.Node = refl
 kind_of_its_letter kind.Way = refl
 kind_of_its_letter kind.Relation = refl
 
+-- An object's name that is read is spelled.
 pub name_sound : (bytes : List ℕ) (k : Kind) (id : ℤ) → reading_object_name bytes ≡ Ok (k, id) → SpellsObject bytes k id
 name_sound [] k id e = cc
 name_sound (letter ∷ digits) k id e =
@@ -290,6 +298,7 @@ name_sound (letter ∷ digits) k id e =
           }
     ] refl e
 
+-- An object's name that is spelled is read.
 pub name_complete : (bytes : List ℕ) (k : Kind) (id : ℤ) → SpellsObject bytes k id → reading_object_name bytes ≡ Ok (k, id)
 name_complete bytes k id s =
     ap reading_object_name s.lettered
@@ -314,9 +323,11 @@ member_parts bytes object (Some role) member is e =
       spells_role = characters_sound role member.role (r.said_so ∙ ap (λ t. Ok t) same_role);
     }
 
+-- A member that is read is spelled.
 pub member_sound : (bytes : List ℕ) (member : Member) → reading_member bytes ≡ Ok member → SpellsMember bytes member
 member_sound bytes member e = member_parts bytes _ _ member refl e
 
+-- A member that is spelled is read.
 pub member_complete : (bytes : List ℕ) (member : Member) → SpellsMember bytes member → reading_member bytes ≡ Ok member
 member_complete bytes member s =
     ap member_of_parts s.parted
@@ -356,31 +367,37 @@ module _ {X : Type 0} (reading : List ℕ → Result X OplReason) (Spells : List
   list_sound : ((bytes : List ℕ) (x : X) → reading bytes ≡ Ok x → Spells bytes x) → (content : List ℕ) (xs : List X) →
       reading_list reading content ≡ Ok xs → SpellsList Spells content xs
   list_sound sound [] xs e = let same : [] ≡ xs = cc in sym same
-  list_sound sound (b ∷ bs) xs e = items_sound sound (cut (is_end Commas) (b ∷ bs)) xs e
+  list_sound sound (b ∷ bs) xs e = items_sound sound (split_all (is_end Commas) (b ∷ bs)) xs e
 
   list_complete : ((bytes : List ℕ) (x : X) → Spells bytes x → reading bytes ≡ Ok x) → (content : List ℕ) (xs : List X) →
       SpellsList Spells content xs → reading_list reading content ≡ Ok xs
   list_complete complete [] xs s = ap (λ ys. Ok ys) (sym s)
-  list_complete complete (b ∷ bs) xs s = items_complete complete (cut (is_end Commas) (b ∷ bs)) xs s
+  list_complete complete (b ∷ bs) xs s = items_complete complete (split_all (is_end Commas) (b ∷ bs)) xs s
 
+-- A list of tags that is read is spelled.
 pub tags_sound : (content : List ℕ) (tags : List Tag) → reading_list reading_tag content ≡ Ok tags → SpellsList SpellsTag content tags
 tags_sound = list_sound reading_tag SpellsTag tag_sound
 
+-- A list of tags that is spelled is read.
 pub tags_complete : (content : List ℕ) (tags : List Tag) → SpellsList SpellsTag content tags → reading_list reading_tag content ≡ Ok tags
 tags_complete = list_complete reading_tag SpellsTag tag_complete
 
+-- A list of references that is read is spelled.
 pub references_sound : (content : List ℕ) (ids : List ℤ) → reading_list reading_reference content ≡ Ok ids →
     SpellsList SpellsReference content ids
 references_sound = list_sound reading_reference SpellsReference reference_sound
 
+-- A list of references that is spelled is read.
 pub references_complete : (content : List ℕ) (ids : List ℤ) → SpellsList SpellsReference content ids →
     reading_list reading_reference content ≡ Ok ids
 references_complete = list_complete reading_reference SpellsReference reference_complete
 
+-- A list of members that is read is spelled.
 pub members_sound : (content : List ℕ) (members : List Member) → reading_list reading_member content ≡ Ok members →
     SpellsList SpellsMember content members
 members_sound = list_sound reading_member SpellsMember member_sound
 
+-- A list of members that is spelled is read.
 pub members_complete : (content : List ℕ) (members : List Member) → SpellsList SpellsMember content members →
     reading_list reading_member content ≡ Ok members
 members_complete = list_complete reading_member SpellsMember member_complete

@@ -6,15 +6,15 @@ use Rattle.std.proofs.lemmas.Bool.Decides.{nat_tests}
 use Rattle.std.proofs.Math.Nat.{pow-succ'}
 use Rattle.std.specs.List.{list_all}
 use Rattle.std.specs.Char.{is_ascii_digit}
-use Rattle.osm_model.specs.Numeral.{padded}
+use Rattle.osm_model.specs.Numeral.{pad_zeros}
 use Rattle.osm_model.specs.Decimal.{number_text}
 use Rattle.osm_model.specs.Coordinate.{digit_before, without_last_zeros, fraction_text, degrees_text, coordinate_text}
 use Rattle.osm_model.proofs.NumeralLaws.{length-numeral-le, length-padded}
-use Rattle.opl_line.specs.declared.bytes.cut.Cut.TheVariants.{Points}
+use Rattle.opl_line.specs.declared.bytes.cut.Delimiter.TheVariants.{Points}
 use Rattle.opl_line.specs.declared.reason.OplReason.TheVariants.{BadCoordinate, OutOfRange}
 use Rattle.opl_line.specs.Answer.{and_then, as_value}
-use Rattle.opl_line.specs.Cut.{is_end}
-use Rattle.opl_line.specs.Number.{with_digit, decimal_value, is_negative, without_sign, signed, reading_short_numeral, decimals_value}
+use Rattle.opl_line.specs.Delimiter.{is_end}
+use Rattle.opl_line.specs.Number.{with_digit, decimal_value, is_negative, without_sign, with_sign, reading_short_numeral, decimals_value}
 use Rattle.opl_line.specs.Number.{reading_degrees, reading_units, degree_parts}
 use Rattle.opl_line.specs.Canonical.{CoordinateIsReadBack}
 use Rattle.opl_line.proofs.CutLaws.{split_front, split_never}
@@ -31,7 +31,7 @@ number_short : (n k : ℕ) → 0 < k → n < 10 ^ k → length (number_text n) �
 unfolding number_text
 number_short n k some small = length-numeral-le 10 k n (omega arith) some small
 
--- digits, and what is left of them without the zeros at their end
+-- digits, and the digits without the zeros at their end
 pub record Trimmed (n : ℕ) (digits left : List ℕ) : Type 0 where
   pub value : fold with_digit n digits ≡ fold with_digit n left * 10 ^ (length digits - length left)
   pub short : length left ≤ length digits
@@ -68,6 +68,7 @@ trimmed_before n d digits (e ∷ es) is rest =
       all = ap (λ t. t && list_all is_ascii_digit (e ∷ es)) is ∙ rest.all;
     }
 
+-- Digits without their last zeros keep their value as decimals.
 pub trimmed : (n : ℕ) (digits : List ℕ) → list_all is_ascii_digit digits ≡ true → Trimmed n digits (without_last_zeros digits)
 unfolding without_last_zeros
 trimmed n [] all = record { value = omega arith; short = omega arith; all = refl }
@@ -88,22 +89,23 @@ some_left units digits [] other value t = absurd (other
     (sym value ∙ t.value ∙ (let e : 0 * 10 ^ (length digits - 0) ≡ 0 = omega arith in e)))
 some_left units digits (d ∷ ds) other value t = omega arith
 
-decimals : (units : ℕ) → units < 10_000_000 → (units ≡ 0 → ⊥) → Decimals units (without_last_zeros (padded 7 (number_text units)))
-unfolding padded
+decimals : (units : ℕ) → units < 10_000_000 → (units ≡ 0 → ⊥) → Decimals units (without_last_zeros (pad_zeros 7 (number_text units)))
+unfolding pad_zeros
 decimals units small other =
     let short = number_short units 7 (omega arith) small in
-    let wide : length (padded 7 (number_text units)) ≡ 7 = length-padded 7 (number_text units) short in
+    let wide : length (pad_zeros 7 (number_text units)) ≡ 7 = length-padded 7 (number_text units) short in
     let is = zeros_read 10 with_digit is_ascii_digit (7 - length (number_text units)) units (number_text units) refl refl (decimal units) in
-    let t = trimmed 0 (padded 7 (number_text units)) is.digits in
+    let t = trimmed 0 (pad_zeros 7 (number_text units)) is.digits in
     let few = t.short in
     record {
-      some = some_left units (padded 7 (number_text units)) (without_last_zeros (padded 7 (number_text units))) other is.value t;
+      some = some_left units (pad_zeros 7 (number_text units)) (without_last_zeros (pad_zeros 7 (number_text units))) other is.value t;
       few = omega arith;
       all = t.all;
-      value = ap (λ k. decimal_value (without_last_zeros (padded 7 (number_text units))) * 10 ^
-          (k - length (without_last_zeros (padded 7 (number_text units))))) (sym wide) ∙ sym t.value ∙ is.value;
+      value = ap (λ k. decimal_value (without_last_zeros (pad_zeros 7 (number_text units))) * 10 ^
+          (k - length (without_last_zeros (pad_zeros 7 (number_text units))))) (sym wide) ∙ sym t.value ∙ is.value;
     }
 
+-- A digit is no point.
 pub no_point : (b : ℕ) → is_ascii_digit b ≡ true → not (eqb b 46) ≡ true
 no_point b e = grind (arith, nat_tests)
 
@@ -117,8 +119,8 @@ degrees_read units small =
     let lacks = all_weaker is_ascii_digit (λ b. not (eqb b 46)) no_point whole is.digits in
     let read = short_read whole 3 (units / 10_000_000) is (number_short (units / 10_000_000) 3 (omega arith) (omega arith)) in
     elim (eqb part 0) as (λ t. eqb part 0 ≡ t → reading_degrees
-    (degree_parts (whole ++ cond t [] (46 ∷ without_last_zeros (padded 7 (number_text part))))).0
-    (degree_parts (whole ++ cond t [] (46 ∷ without_last_zeros (padded 7 (number_text part))))).1 ≡ Ok units) [
+    (degree_parts (whole ++ cond t [] (46 ∷ without_last_zeros (pad_zeros 7 (number_text part))))).0
+    (degree_parts (whole ++ cond t [] (46 ∷ without_last_zeros (pad_zeros 7 (number_text part))))).1 ≡ Ok units) [
       | true ↦ λ none.
           let zero_part : part ≡ 0 = eqb-true part 0 none in
           ap (λ t. reading_degrees (degree_parts t).0 (degree_parts t).1) (append-nil whole)
@@ -127,7 +129,7 @@ degrees_read units small =
           ∙ ap (λ n. Ok n) (let e : units / 10_000_000 * 10_000_000 ≡ units = omega arith in e)
       | false ↦ λ some.
           let d = decimals part (omega arith) (λ e. eqb-false part 0 some e) in
-          let text = without_last_zeros (padded 7 (number_text part)) in
+          let text = without_last_zeros (pad_zeros 7 (number_text part)) in
           let read_part : reading_short_numeral 7 text ≡ Ok (decimal_value text) =
           short_read text 7 (decimal_value text) (record { value = refl; digits = d.all; some = d.some }) d.few in
           ap (λ p. reading_degrees p.0 p.1) (split_front (is_end Points) whole text 46 lacks refl)
@@ -149,6 +151,7 @@ unfolding degrees_text
 degrees_unsigned units = let is = decimal (units / 10_000_000) in
     no_sign (number_text (units / 10_000_000)) (fraction_text (units % 10_000_000)) is.some is.digits
 
+-- The text of a coordinate is read as the coordinate.
 pub coordinate_is_read_back : CoordinateIsReadBack
 unfolding coordinate_text
 coordinate_is_read_back (pos n) is =
@@ -156,8 +159,8 @@ coordinate_is_read_back (pos n) is =
     let small : n < 2 ^ 31 = is.sfits in
     (λ i. and_then (reading_degrees (degree_parts (u.1 i)).0 (degree_parts (u.1 i)).1) (reading_units (u.0 i)))
     ∙ ap (λ r. and_then r (reading_units false)) (degrees_read n (omega arith))
-    ∙ ap (λ t. cond t (Ok (signed false n)) (Err OutOfRange)) (le-leb n 2_147_483_647 (omega arith))
+    ∙ ap (λ t. cond t (Ok (with_sign false n)) (Err OutOfRange)) (le-leb n 2_147_483_647 (omega arith))
 coordinate_is_read_back (negsuc n) is =
     let small : n < 2 ^ 31 = is.sfits in
     ap (λ r. and_then r (reading_units true)) (degrees_read (suc n) (omega arith))
-    ∙ ap (λ t. cond t (Ok (signed true (suc n))) (Err OutOfRange)) (le-leb (suc n) 2_147_483_648 (omega arith))
+    ∙ ap (λ t. cond t (Ok (with_sign true (suc n))) (Err OutOfRange)) (le-leb (suc n) 2_147_483_648 (omega arith))

@@ -1,4 +1,4 @@
--- Where a text is cut first, and into which pieces.
+-- The first cut of a text, and its pieces.
 use Rattle.std.proofs.Common.{◌≡◌, ℕ, zero, suc, ◌+◌, ◌<◌, ◌≤◌, Bool, true, false, not, ◌&&◌, cond, List, [], ◌∷◌, ◌++◌, length, take, drop}
 use Rattle.std.proofs.Common.{get_or, refl, ap, ◌∙◌, arith, add-one, Option, Some, None, position, ltb}
 use Rattle.std.proofs.lemmas.Bool.{and_parts, ltb-true, ltb-false, lt-ltb, le-ltb}
@@ -8,20 +8,20 @@ use Rattle.std.proofs.lemmas.List.Sums.{passes_at_first, position_or_len_is}
 use Rattle.std.proofs.lemmas.Str.{IsCharBoundary-before_ascii, IsCharBoundary-after_ascii}
 use Rattle.std.specs.List.{list_all, position_or_len}
 use Rattle.std.specs.Str.{IsUtf8, IsCharBoundary}
-use Rattle.opl_line.specs.declared.bytes.cut.Cut.{Cut}
-use Rattle.opl_line.specs.declared.bytes.cut.Cut.TheVariants.{Blanks, Commas, Equals, Ats, Percents, Points}
-use Rattle.opl_line.specs.Cut.{is_end, lengthened, split_first, begun_with, cut, pieces_of}
+use Rattle.opl_line.specs.declared.bytes.cut.Delimiter.{Delimiter}
+use Rattle.opl_line.specs.declared.bytes.cut.Delimiter.TheVariants.{Blanks, Commas, Equals, Ats, Percents, Points}
+use Rattle.opl_line.specs.Delimiter.{is_end, with_byte, split_first, with_first_byte, split_all, pieces_of}
 use Rattle.opl_line.proofs.BoolLaws.{not_true}
 
 module _ (p : ℕ → Bool) where
-  -- what was split off is the first piece
-  pub cut_split : (bytes : List ℕ) → cut p bytes ≡ (split_first p bytes).0 ∷ pieces_of p (split_first p bytes).1
+  -- the part split off is the first piece
+  pub cut_split : (bytes : List ℕ) → split_all p bytes ≡ (split_first p bytes).0 ∷ pieces_of p (split_first p bytes).1
   cut_split [] = refl
   cut_split (b ∷ bs) =
-      elim (p b) as (λ t. cond t ([] ∷ cut p bs) (begun_with b (cut p bs)) ≡ (cond t ([], Some bs) (lengthened b (split_first p bs))).0
-      ∷ pieces_of p (cond t ([], Some bs) (lengthened b (split_first p bs))).1) [
+      elim (p b) as (λ t. cond t ([] ∷ split_all p bs) (with_first_byte b (split_all p bs)) ≡ (cond t ([], Some bs) (with_byte b (split_first p bs))).0
+      ∷ pieces_of p (cond t ([], Some bs) (with_byte b (split_first p bs))).1) [
         | true ↦ refl
-        | false ↦ ap (begun_with b) (cut_split bs)
+        | false ↦ ap (with_first_byte b) (cut_split bs)
       ]
 
   split_found : (bytes : List ℕ) → let n = position_or_len p bytes in n < length bytes →
@@ -30,13 +30,13 @@ module _ (p : ℕ → Bool) where
   split_found (b ∷ bs) h =
       let n = position_or_len p bs in
       elim (p b) as (λ t. cond (not t) (1 + n) 0 < suc (length bs) →
-      cond t ([], Some bs) (lengthened b (split_first p bs))
+      cond t ([], Some bs) (with_byte b (split_first p bs))
       ≡ (take (cond (not t) (1 + n) 0) (b ∷ bs), Some (drop (cond (not t) (1 + n) 0 + 1) (b ∷ bs)))) [
         | true ↦ λ _. refl
         | false ↦ λ k.
             let one : 1 + n ≡ suc n = omega arith in
             let two : suc n + 1 ≡ suc (n + 1) = omega arith in
-            rw (one, two) (ap (lengthened b) (split_found bs (omega (arith, k))))
+            rw (one, two) (ap (with_byte b) (split_found bs (omega (arith, k))))
       ] h
 
   split_none : (bytes : List ℕ) → length bytes ≤ position_or_len p bytes → split_first p bytes ≡ (bytes, None)
@@ -44,17 +44,18 @@ module _ (p : ℕ → Bool) where
   split_none (b ∷ bs) h =
       let n = position_or_len p bs in
       elim (p b) as (λ t. suc (length bs) ≤ cond (not t) (1 + n) 0 →
-      cond t ([], Some bs) (lengthened b (split_first p bs)) ≡ (b ∷ bs, None)) [
+      cond t ([], Some bs) (with_byte b (split_first p bs)) ≡ (b ∷ bs, None)) [
         | true ↦ λ k. absurd (omega (arith, k))
-        | false ↦ λ k. ap (lengthened b) (split_none bs (omega (arith, k)))
+        | false ↦ λ k. ap (with_byte b) (split_none bs (omega (arith, k)))
       ] h
 
-  -- where the first end was found, the text is split there
+  -- a text is split at the first end
   pub record SplitAt (bytes : List ℕ) (n : ℕ) : Type 0 where
     pub within : n < length bytes
     pub passes : p (get_or bytes n 0) ≡ true
     pub split : split_first p bytes ≡ (take n bytes, Some (drop (n + 1) bytes))
 
+  -- A text is split first at the first byte that passes.
   pub split_at : (bytes : List ℕ) (n : ℕ) → position p bytes ≡ Some n → SplitAt bytes n
   split_at bytes n found =
       let at = position_or_len p bytes in
@@ -70,6 +71,7 @@ module _ (p : ℕ → Bool) where
         | false ↦ λ e f. cc
       ] refl found
 
+  -- A text in which no byte passes is its own first piece.
   pub split_nowhere : (bytes : List ℕ) → position p bytes ≡ None → split_first p bytes ≡ (bytes, None)
   split_nowhere bytes found =
       let at = position_or_len p bytes in
@@ -81,14 +83,17 @@ module _ (p : ℕ → Bool) where
 
 -- the first byte that passes, as a search finds it
 module _ (p : ℕ → Bool) (bytes : List ℕ) where
+  -- No byte before an offset passes.
   abbrev pub NoneBelow : ℕ → Type 0
   NoneBelow n = (k : ℕ) → k < n → p (get_or bytes k 0) ≡ false
 
+  -- A byte that passes, before which none does, is the first one.
   pub first_at : (n : ℕ) → n < length bytes → NoneBelow n → p (get_or bytes n 0) ≡ true → Some n ≡ position p bytes
   first_at n within none here =
       let at : position_or_len p bytes ≡ n = position_or_len_is p bytes n 0 (omega arith) none (λ _. here) in
       rw (at, lt-ltb n (length bytes) within) refl
 
+  -- Where no byte passes up to the end, none passes.
   pub first_nowhere : NoneBelow (length bytes) → None ≡ position p bytes
   first_nowhere none =
       let at : position_or_len p bytes ≡ length bytes =
@@ -103,7 +108,7 @@ module _ (p : ℕ → Bool) (bytes : List ℕ) where
       rw (← add-one) (list_all_more (λ x. not (p x)) bytes n 0 (omega arith) ∙ (λ i. before i && not (here i)))
 
 -- all bytes that are cut at are ASCII
-pub ends_ascii : (at : Cut) (b : ℕ) → is_end at b ≡ true → b < 128
+pub ends_ascii : (at : Delimiter) (b : ℕ) → is_end at b ≡ true → b < 128
 ends_ascii Blanks b e = grind (arith, nat_tests)
 ends_ascii Commas b e = grind (arith, nat_tests)
 ends_ascii Equals b e = grind (arith, nat_tests)
@@ -111,32 +116,34 @@ ends_ascii Ats b e = grind (arith, nat_tests)
 ends_ascii Percents b e = grind (arith, nat_tests)
 ends_ascii Points b e = grind (arith, nat_tests)
 
--- so a text may be cut before and behind them
-pub cut_before : (at : Cut) (text : List ℕ) (n : ℕ) → position (is_end at) text ≡ Some n → IsCharBoundary text n
+-- so a text may be cut before and after them
+pub cut_before : (at : Delimiter) (text : List ℕ) (n : ℕ) → position (is_end at) text ≡ Some n → IsCharBoundary text n
 cut_before at text n found = let s = split_at (is_end at) text n found in
     IsCharBoundary-before_ascii text n s.within (ends_ascii at _ s.passes)
 
-pub cut_behind : (at : Cut) (text : List ℕ) (n : ℕ) → IsUtf8 text → position (is_end at) text ≡ Some n → IsCharBoundary text (n + 1)
+-- The offset after a delimiter is a boundary of a character.
+pub cut_behind : (at : Delimiter) (text : List ℕ) (n : ℕ) → IsUtf8 text → position (is_end at) text ≡ Some n → IsCharBoundary text (n + 1)
 cut_behind at text n utf8 found = let s = split_at (is_end at) text n found in
     IsCharBoundary-after_ascii text n utf8 s.within (ends_ascii at _ s.passes)
 
--- how much is left of what stands behind a first piece
+-- the length of the text after a first piece
 abbrev pub left_of : Option (List ℕ) → ℕ
 left_of None = 0
 left_of (Some bytes) = length bytes + 1
 
 module _ (p : ℕ → Bool) where
-  -- where a text is split that has no earlier end
+  -- the split of a text that has no earlier end
   pub split_front : (front rest : List ℕ) (b : ℕ) → list_all (λ x. not (p x)) front ≡ true → p b ≡ true →
       split_first p (front ++ b ∷ rest) ≡ (front, Some rest)
   split_front [] rest b none is = rw is refl
   split_front (x ∷ xs) rest b none is =
       let parts = and_parts (not (p x)) (list_all (λ y. not (p y)) xs) none in
-      ap (λ t. cond t ([], Some (xs ++ b ∷ rest)) (lengthened x (split_first p (xs ++ b ∷ rest)))) (not_true (p x) parts.0)
-      ∙ ap (lengthened x) (split_front xs rest b parts.1 is)
+      ap (λ t. cond t ([], Some (xs ++ b ∷ rest)) (with_byte x (split_first p (xs ++ b ∷ rest)))) (not_true (p x) parts.0)
+      ∙ ap (with_byte x) (split_front xs rest b parts.1 is)
 
+  -- A text of which all bytes fail the test is its own first piece.
   pub split_never : (bytes : List ℕ) → list_all (λ x. not (p x)) bytes ≡ true → split_first p bytes ≡ (bytes, None)
   split_never [] none = refl
   split_never (x ∷ xs) none =
       let parts = and_parts (not (p x)) (list_all (λ y. not (p y)) xs) none in
-      ap (λ t. cond t ([], Some xs) (lengthened x (split_first p xs))) (not_true (p x) parts.0) ∙ ap (lengthened x) (split_never xs parts.1)
+      ap (λ t. cond t ([], Some xs) (with_byte x (split_first p xs))) (not_true (p x) parts.0) ∙ ap (with_byte x) (split_never xs parts.1)

@@ -9,7 +9,7 @@ use Rattle.std.proofs.lemmas.Str.{chars-encodes}
 use Rattle.std.specs.List.{list_all}
 use Rattle.std.specs.Char.{digit_char}
 use lib.Utf8.{encode, encodes, scalar, scalars}
-use Rattle.osm_model.specs.Numeral.{numeral, padded}
+use Rattle.osm_model.specs.Numeral.{numeral, pad_zeros}
 use Rattle.osm_model.specs.Escape as model
 use Rattle.osm_model.specs.Escape.{escape_width, code_escape, escape_char, escape}
 use Rattle.osm_model.specs.Text.{has_zero}
@@ -68,13 +68,14 @@ hex_step n d small = grind (arith, nat_tests)
 hex_one : (d : ℕ) → d < 16 → is_hex_digit (digit_char d) ≡ true
 hex_one d small = grind (arith, nat_tests)
 
-pub escape_digits : (c : ℕ) → IsRead 16 with_hex_digit is_hex_digit c (padded (escape_width c) (numeral 16 c))
-unfolding padded
+-- The digits of an escape are read as the code point.
+pub escape_digits : (c : ℕ) → IsRead 16 with_hex_digit is_hex_digit c (pad_zeros (escape_width c) (numeral 16 c))
+unfolding pad_zeros
 escape_digits c = zeros_read 16 with_hex_digit is_hex_digit _ c (numeral 16 c) refl refl
     (is_read 16 with_hex_digit is_hex_digit (omega arith) hex_step hex_one c c (omega arith))
 
-short_escape : (c : ℕ) → c < 16 ^ 6 → length (padded (escape_width c) (numeral 16 c)) ≤ 8
-unfolding padded
+short_escape : (c : ℕ) → c < 16 ^ 6 → length (pad_zeros (escape_width c) (numeral 16 c)) ≤ 8
+unfolding pad_zeros
 short_escape c small =
     let text = numeral 16 c in
     let short = length-numeral-le 16 6 c (omega arith) (omega arith) small in
@@ -103,7 +104,7 @@ escape_spelled : (c : ℕ) (bytes out : List ℕ) → scalar c ≡ true → eqb 
     SpellsText (code_escape c ++ bytes) (encode c ++ out)
 unfolding code_escape
 escape_spelled c bytes out sc other spelled =
-    let digits = padded (escape_width c) (numeral 16 c) in
+    let digits = pad_zeros (escape_width c) (numeral 16 c) in
     let P : List ℕ → Type 0 = λ b. SpellsText (37 ∷ b) (encode c ++ out) in
     subst P (sym (append_assoc digits (37 ∷ []) bytes))
     (escaped [] digits bytes out c refl (named digits c (escape_digits c) (short_escape c (scalar_small c sc)) sc other) spelled)
@@ -124,6 +125,7 @@ text_spelled (c ∷ cs) sc none =
     let zeros = neither (eqb c 0) (has_zero cs) none in
     char_spelled c (escape cs) (encodes cs) all.0 zeros.0 (text_spelled cs all.1 zeros.1)
 
+-- The escaped form of a text spells the text.
 pub text_is_read_back : TextIsReadBack
 text_is_read_back cs is =
     let parts = and_parts (scalars cs) (not (has_zero cs)) is in

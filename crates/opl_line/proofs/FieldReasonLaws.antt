@@ -1,4 +1,4 @@
--- Fields that are refused are faulty, and the reverse.
+-- Fields that are refused are faulty, and conversely.
 use Rattle.std.proofs.Common.{◌≡◌, ◌⊎◌, ℕ, Bool, true, false, cond, eqb, ◌||◌, List, [], ◌∷◌, ◌++◌, map, fold, Some, Result, Ok, Err, refl}
 use Rattle.std.proofs.Common.{sym, ap, ◌∙◌, subst, inl, inr, ⊎_elim}
 use Rattle.osm_model.specs.declared.kind.Kind.{Kind}
@@ -11,9 +11,9 @@ use Rattle.opl_line.specs.Number.{reading_coordinate}
 use Rattle.opl_line.specs.Time.{reading_time}
 use Rattle.opl_line.specs.Text.{reading_text}
 use Rattle.opl_line.specs.Item.{reading_list, reading_tag, reading_reference, reading_member}
-use Rattle.opl_line.specs.Field.{nothing_said, reading_number_32, reading_count, reading_deleted, reading_optional, has_field}
+use Rattle.opl_line.specs.Field.{no_fields, reading_number_32, reading_count, reading_deleted, reading_optional, has_field}
 use Rattle.opl_line.specs.Field.{with_body_field, with_field, reading_field, reading_fields}
-use Rattle.opl_line.specs.Part.{Part, letter_of, with_part}
+use Rattle.opl_line.specs.Part.{LinePart, letter_of, with_part}
 use Rattle.opl_line.specs.LineReason.{ContentReason, number, deleted, changeset, time, uid, user, tags, longitude, latitude, references}
 use Rattle.opl_line.specs.LineReason.{members, body_letters, letters_of, is_among, FieldReason, repeated, unknown, ill_formed, FieldsReason}
 use Rattle.opl_line.proofs.BoolLaws.{neither}
@@ -95,7 +95,7 @@ field_refused k fields met_letters has (letter ∷ content) reason refused =
           (λ other. subst P other.1 (unknown letter content new other.0)) (content_refused k letter content fields reason e)
     ] refl refused
 
--- ---- what is faulty is refused
+-- ---- faulty fields are refused
 pass : (letter at : ℕ) (here there out : Result Fields OplReason) → eqb letter at ≡ false → there ≡ out →
     cond (eqb letter at) here there ≡ out
 pass letter at here there out other e = ap (λ t. cond t here there) other ∙ e
@@ -188,15 +188,15 @@ or_false : (b : Bool) → (b || false) ≡ b
 or_false true = refl
 or_false false = refl
 
-met_from : (fields : Fields) (parts : List Part) (l : ℕ) →
+met_from : (fields : Fields) (parts : List LinePart) (l : ℕ) →
     has_field (fold with_part fields parts) l ≡ (is_among l (map letter_of parts) || has_field fields l)
 met_from fields [] l = refl
 met_from fields (p ∷ ps) l =
     met_from (with_part fields p) ps l ∙ ap (λ t. is_among l (map letter_of ps) || t) (met fields p l)
     ∙ shuffled (eqb l (letter_of p)) (is_among l (map letter_of ps)) (has_field fields l)
 
-met_by : (parts : List Part) (l : ℕ) → has_field (fold with_part nothing_said parts) l ≡ is_among l (map letter_of parts)
-met_by parts l = met_from nothing_said parts l ∙ ap (λ t. is_among l (map letter_of parts) || t) (unmet l)
+met_by : (parts : List LinePart) (l : ℕ) → has_field (fold with_part no_fields parts) l ≡ is_among l (map letter_of parts)
+met_by parts l = met_from no_fields parts l ∙ ap (λ t. is_among l (map letter_of parts) || t) (unmet l)
     ∙ or_false (is_among l (map letter_of parts))
 
 -- ---- the first faulty field
@@ -255,10 +255,11 @@ unsplit k (f ∷ fs) field behind fields next reason read refused =
       | Err bad ↦ λ e. cc
     ] read
 
-pub fields_refused : (k : Kind) (pieces : List (List ℕ)) (reason : OplReason) → reading_fields k pieces nothing_said ≡ Err reason →
+-- Fields that are refused have the reason of their leftmost faulty field.
+pub fields_refused : (k : Kind) (pieces : List (List ℕ)) (reason : OplReason) → reading_fields k pieces no_fields ≡ Err reason →
     FieldsReason k pieces reason
 fields_refused k pieces reason e =
-    let s = split k pieces nothing_said reason e in
+    let s = split k pieces no_fields reason e in
     let said = parts_of k s.front s.next s.read in
     record {
       front = s.front;
@@ -272,10 +273,11 @@ fields_refused k pieces reason e =
           (λ l. ap (λ f. has_field f l) said.together ∙ met_by said.parts l) s.field reason s.refused;
     }
 
+-- Fields whose leftmost faulty field has a reason are refused with it.
 pub fields_told : (k : Kind) (pieces : List (List ℕ)) (reason : OplReason) → FieldsReason k pieces reason →
-    reading_fields k pieces nothing_said ≡ Err reason
+    reading_fields k pieces no_fields ≡ Err reason
 fields_told k pieces reason r =
-    ap (λ ps. reading_fields k ps nothing_said) r.parted
-    ∙ unsplit k r.front r.field r.behind nothing_said (fold with_part nothing_said r.parts) reason
+    ap (λ ps. reading_fields k ps no_fields) r.parted
+    ∙ unsplit k r.front r.field r.behind no_fields (fold with_part no_fields r.parts) reason
     (read_of k r.front r.parts r.fine r.different)
-    (field_told k (fold with_part nothing_said r.parts) (map letter_of r.parts) (met_by r.parts) r.field reason r.faulty)
+    (field_told k (fold with_part no_fields r.parts) (map letter_of r.parts) (met_by r.parts) r.field reason r.faulty)

@@ -14,7 +14,7 @@ use Rattle.osm_model.specs.declared.members.Member.{Member}
 use Rattle.osm_model.specs.declared.body.Body.{Body}
 use Rattle.osm_model.specs.declared.body.Body.TheVariants as body
 use Rattle.osm_model.specs.Kind.{kind_letter}
-use Rattle.osm_model.specs.Numeral.{numeral, padded}
+use Rattle.osm_model.specs.Numeral.{numeral, pad_zeros}
 use Rattle.osm_model.specs.Decimal.{number_text, integer_text}
 use Rattle.osm_model.specs.Coordinate.{fraction_text, degrees_text, coordinate_text, without_last_zeros}
 use Rattle.osm_model.specs.Time.{date_of, date_text, clock_text, time_text}
@@ -34,6 +34,7 @@ use Rattle.opl_line.proofs.CoordinateLaws.{trimmed}
 abbrev pub is_graphic : ℕ → Bool
 is_graphic b = is_in_range 33 126 b
 
+-- Two lists whose items pass a test pass it together.
 pub all_append : (p : ℕ → Bool) (xs ys : List ℕ) → list_all p xs ≡ true → list_all p ys ≡ true → list_all p (xs ++ ys) ≡ true
 all_append p xs ys a b = list_all-append p xs ys ∙ (λ i. a i && b i)
 
@@ -52,13 +53,13 @@ digits_graphic text all = all_weaker is_ascii_digit is_graphic digit_graphic tex
 number_graphic : (n : ℕ) → list_all is_graphic (number_text n) ≡ true
 number_graphic n = digits_graphic (number_text n) (decimal n).digits
 
-padded_digits : (width n : ℕ) → list_all is_ascii_digit (padded width (number_text n)) ≡ true
-unfolding padded
+padded_digits : (width n : ℕ) → list_all is_ascii_digit (pad_zeros width (number_text n)) ≡ true
+unfolding pad_zeros
 padded_digits width n = (zeros_read 10 with_digit is_ascii_digit (width - length (number_text n)) n (number_text n) refl refl
     (decimal n)).digits
 
-padded_graphic : (width n : ℕ) → list_all is_graphic (padded width (number_text n)) ≡ true
-padded_graphic width n = digits_graphic (padded width (number_text n)) (padded_digits width n)
+padded_graphic : (width n : ℕ) → list_all is_graphic (pad_zeros width (number_text n)) ≡ true
+padded_graphic width n = digits_graphic (pad_zeros width (number_text n)) (padded_digits width n)
 
 integer_graphic : (z : ℤ) → list_all is_graphic (integer_text z) ≡ true
 unfolding integer_text
@@ -75,12 +76,12 @@ time_graphic None = refl
 time_graphic (Some s) =
     let d = date_of (s / 86_400) in
     let second = s % 86_400 in
-    let year = padded 4 (number_text d.year) in
-    let month = padded 2 (number_text d.month) in
-    let day = padded 2 (number_text d.day) in
-    let hours = padded 2 (number_text (second / 3600)) in
-    let minutes = padded 2 (number_text (second / 60 % 60)) in
-    let seconds = padded 2 (number_text (second % 60)) in
+    let year = pad_zeros 4 (number_text d.year) in
+    let month = pad_zeros 2 (number_text d.month) in
+    let day = pad_zeros 2 (number_text d.day) in
+    let hours = pad_zeros 2 (number_text (second / 3600)) in
+    let minutes = pad_zeros 2 (number_text (second / 60 % 60)) in
+    let seconds = pad_zeros 2 (number_text (second % 60)) in
     let date = between 45 year (month ++ 45 ∷ day) (padded_graphic 4 d.year) refl
     (between 45 month day (padded_graphic 2 d.month) refl (padded_graphic 2 d.day)) in
     let clock = between 58 hours (minutes ++ 58 ∷ seconds) (padded_graphic 2 (second / 3600)) refl
@@ -90,11 +91,11 @@ time_graphic (Some s) =
 fraction_graphic : (units : ℕ) → list_all is_graphic (fraction_text units) ≡ true
 unfolding fraction_text
 fraction_graphic units =
-    elim (eqb units 0) as (λ t. list_all is_graphic (cond t [] (46 ∷ without_last_zeros (padded 7 (number_text units)))) ≡ true) [
+    elim (eqb units 0) as (λ t. list_all is_graphic (cond t [] (46 ∷ without_last_zeros (pad_zeros 7 (number_text units)))) ≡ true) [
       | true ↦ refl
-      | false ↦ let decimals = without_last_zeros (padded 7 (number_text units)) in
+      | false ↦ let decimals = without_last_zeros (pad_zeros 7 (number_text units)) in
           all_next is_graphic 46 decimals refl (digits_graphic decimals
-          (trimmed 0 (padded 7 (number_text units)) (padded_digits 7 units)).all)
+          (trimmed 0 (pad_zeros 7 (number_text units)) (padded_digits 7 units)).all)
     ]
 
 degrees_graphic : (units : ℕ) → list_all is_graphic (degrees_text units) ≡ true
@@ -107,10 +108,11 @@ unfolding coordinate_text
 coordinate_graphic (pos n) = degrees_graphic n
 coordinate_graphic (negsuc n) = all_next is_graphic 45 (degrees_text (suc n)) refl (degrees_graphic (suc n))
 
+-- An escape has graphic bytes only.
 pub escape_graphic : (c : ℕ) → list_all is_graphic (code_escape c) ≡ true
 unfolding code_escape
 escape_graphic c =
-    let digits = padded (escape_width c) (numeral 16 c) in
+    let digits = pad_zeros (escape_width c) (numeral 16 c) in
     all_next is_graphic 37 (digits ++ 37 ∷ []) refl (between 37 digits []
     (all_weaker is_hex_digit is_graphic hex_graphic digits (escape_digits c).digits) refl refl)
 
@@ -134,7 +136,7 @@ tags_of_body ok (body.Relation members tags) all =
     (and_parts (list_all ok (roles_of members)) (list_all ok (texts_of_tags tags))
     (sym (list_all-append ok (roles_of members) (texts_of_tags tags)) ∙ all)).1
 
--- What holds of graphic characters and of canonical texts, and of texts put together, holds of each field.
+-- A property of graphic characters, of canonical texts, and of concatenations holds for each field.
 module _ (P : List ℕ → Type 0) (put : (xs ys : List ℕ) → P xs → P ys → P (xs ++ ys))
     (graphic : (xs : List ℕ) → list_all is_graphic xs ≡ true → P xs) (ok : List ℕ → Bool)
     (text : (cs : List ℕ) → ok cs ≡ true → P (escape cs)) where
@@ -195,6 +197,7 @@ module _ (P : List ℕ → Type 0) (put : (xs ys : List ℕ) → P xs → P ys �
       (sym (list_all-append ok (roles_of members) (texts_of_tags tags)) ∙ all) in
       (lettered 77 (list_text member_text members) refl (list_has member_text members (members_have members parts.0)), tt)
 
+  -- Each field of a line has a property that all its contents have.
   pub fields_have : (v : VersionData) → list_all ok (v.user ∷ texts_of v.body) ≡ true → AllByRecursion P (fields v)
   fields_have v all =
       let parts = and_parts (ok v.user) (list_all ok (texts_of v.body)) all in (

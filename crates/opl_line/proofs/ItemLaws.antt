@@ -1,16 +1,16 @@
 -- Lists, read item by item.
 use Rattle.std.proofs.Common.{◌≡◌, ℕ, List, [], ◌∷◌, ◌++◌, Result, Ok, Err, refl, sym, ap, ◌∙◌, append_assoc, append-nil, Option, Some}
 use Rattle.std.proofs.Common.{None, is_some, true}
-use Rattle.opl_line.specs.declared.bytes.cut.Cut.TheVariants.{Equals}
+use Rattle.opl_line.specs.declared.bytes.cut.Delimiter.TheVariants.{Equals}
 use Rattle.opl_line.specs.declared.reason.OplReason.{OplReason}
 use Rattle.opl_line.specs.declared.reason.OplReason.TheVariants.{BadList}
 use Rattle.opl_line.specs.Answer.{and_then, as_value}
-use Rattle.opl_line.specs.Cut.{is_end, pieces_of}
+use Rattle.opl_line.specs.Delimiter.{is_end, pieces_of}
 use Rattle.opl_line.specs.Item.{reading_items, tag_of_pieces}
 use Rattle.opl_line.proofs.CutLaws.{cut_split}
 
 module _ {X : Type 0} (reading : List ℕ → Result X OplReason) where
-  -- what was read so far, and the pieces that are left
+  -- the items that were read already, and the pieces that are left
   abbrev pub reading_on : List X → List (List ℕ) → Result (List X) OplReason
   reading_on done pieces = as_value (λ xs. done ++ xs) (reading_items reading pieces)
 
@@ -19,6 +19,7 @@ module _ {X : Type 0} (reading : List ℕ → Result X OplReason) where
   behind_one done x (Ok xs) = ap (λ ys. Ok ys) (sym (append_assoc done (x ∷ []) xs))
   behind_one done x (Err reason) = refl
 
+  -- The items are read by reading the first and then the others.
   pub one_item : (done : List X) (x : X) (piece : List ℕ) (pieces more : List (List ℕ)) → pieces ≡ piece ∷ more → reading piece ≡ Ok x →
       reading_on done pieces ≡ reading_on (done ++ x ∷ []) more
   unfolding reading_items
@@ -27,6 +28,7 @@ module _ {X : Type 0} (reading : List ℕ → Result X OplReason) where
       ∙ ap (λ r. as_value (λ xs. done ++ xs) (and_then r (λ y. as_value (λ xs. y ∷ xs) (reading_items reading more)))) read
       ∙ behind_one done x (reading_items reading more)
 
+  -- The items are refused if the first one is.
   pub refused_item : (done : List X) (reason : OplReason) (piece : List ℕ) (pieces more : List (List ℕ)) → pieces ≡ piece ∷ more →
       reading piece ≡ Err reason → reading_on done pieces ≡ Err reason
   unfolding reading_items
@@ -34,6 +36,7 @@ module _ {X : Type 0} (reading : List ℕ → Result X OplReason) where
       ap (reading_on done) e ∙ ap (λ r. as_value (λ xs. done ++ xs)
       (and_then r (λ y. as_value (λ xs. y ∷ xs) (reading_items reading more)))) refused
 
+  -- No items add nothing.
   pub all_items : (done : List X) (pieces : List (List ℕ)) → pieces ≡ [] → reading_on done pieces ≡ Ok done
   unfolding reading_items
   all_items done pieces e = ap (reading_on done) e ∙ ap (λ xs. Ok xs) (append-nil done)

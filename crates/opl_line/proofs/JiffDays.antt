@@ -29,6 +29,7 @@ cast r n e b =
     (omega (arith, signed_arith, ap up e, ap down e), omega (arith, signed_arith, ap up e, ap down e)) in
     rw (p, e) (to_z-of_z f)
 
+-- A date of jiff that was made of a year, month and day has these.
 pub dated : (date : Date) (y m d : ℕ) → y < 10000 → m < 100 → d < 100 → IsYmd (to_z w16 y) (to_z w8 m) (to_z w8 d) date →
     (date.year ≡ pos y) × (date.month ≡ m) × (date.day ≡ d)
 dated date y m d yl ml dl is = (
@@ -37,6 +38,7 @@ dated date y m d yl ml dl is = (
   (let e = is.2 ∙ to_z_pos w8 d (omega arith) in cc),
 )
 
+-- A date of jiff is a date of this calendar.
 pub dated_is : (date : Date) (y m d : ℕ) → (date.year ≡ pos y) × (date.month ≡ m) × (date.day ≡ d) → is_date y m d ≡ true
 dated_is date y m d e =
     civil-is_date y m d (record {
@@ -44,7 +46,7 @@ dated_is date y m d e =
       day_in = rw (e.0, e.1, e.2) at date.day_in;
     })
 
--- what the code computes from a date
+-- the computation from a date
 pub computed : (date plain : Date) (r : ℤ) (y m d : ℕ) → (date.year ≡ pos y) × (date.month ≡ m) × (date.day ≡ d) → plain ≡ date →
     r ≡ epoch_day plain → IsEpochDay r →
     to_z w32 (of_z w32 (to_z w32 (of_z w32 r) +ℤ pos 719_528)) ≡ pos (day_number y m d)
@@ -53,6 +55,7 @@ computed date plain r y m d e same is bound =
     let at : epoch_day date ≡ jiff.days_from_civil (pos y) m d = rw (e.0, e.1, e.2) refl in
     cast r (day_number y m d) (number_of r y m d di.0 (is ∙ ap epoch_day same ∙ at)) bound
 
+-- The day number of a date of jiff is below 2^32.
 pub small : (date plain : Date) (r : ℤ) (y m d : ℕ) → (date.year ≡ pos y) × (date.month ≡ m) × (date.day ≡ d) → plain ≡ date →
     r ≡ epoch_day plain → IsEpochDay r →
     Fits w32 (day_number y m d)

@@ -1,21 +1,22 @@
--- Several bytes that are compared with others together.
+-- Several bytes, compared with others in one step.
 use Rattle.std.proofs.Common.{◌≡◌, ℕ, zero, suc, ◌%◌, ◌^◌, ◌≤◌, Bool, true, false, ◌||◌, cond, eqb, List, [], ◌∷◌, length, map, replicate}
 use Rattle.std.proofs.Common.{refl, sym, ap, ◌∙◌, arith, bit_or}
 use Rattle.std.proofs.lemmas.List.{length-map}
 use Rattle.std.proofs.lemmas.Simd.{map-map, zip2_splat, zip2_of_maps, mask_l-mod}
 use lib.Lanes.{zip2, mask_l, top}
 
--- one value beside each of a list
+-- one value in each lane
 pub splat_left : {X Y : Type 0} (f : ℕ → X → Y) (c : ℕ) (v : List X) (n : ℕ) → length v ≡ n → zip2 f (replicate n c) v ≡ map (f c) v
 splat_left f c [] zero e = refl
 splat_left f c [] (suc n) e = absurd (omega (arith, e))
 splat_left f c (x ∷ xs) zero e = absurd (omega (arith, e))
 splat_left f c (x ∷ xs) (suc n) e = ap (λ rest. f c x ∷ rest) (splat_left f c xs n (omega (arith, e)))
 
--- a lane for each byte, with all bits set where it passes
+-- a lane for each byte, with all bits set if it passes
 abbrev pub lanes : (ℕ → Bool) → List ℕ → List ℕ
 lanes p v = map (λ x. cond (p x) 255 0) v
 
+-- Lanes that are compared with one byte are marked where the test holds.
 pub compared : (t : ℕ → ℕ → Bool) (v : List ℕ) (n y : ℕ) → length v ≡ n →
     zip2 (λ a b. cond (t a b) 255 0) v (replicate n y) ≡ lanes (λ x. t x y) v
 compared t v n y long = zip2_splat (λ a b. cond (t a b) 255 0) v n y long
@@ -26,6 +27,7 @@ both true false = refl
 both false true = refl
 both false false = refl
 
+-- The disjunction of marks marks what either test marks.
 pub either : (p q : ℕ → Bool) (v : List ℕ) {a b : List ℕ} → a ≡ lanes p v → b ≡ lanes q v → zip2 bit_or a b ≡ lanes (λ x. p x || q x) v
 either p q v e f = zip2_of_maps bit_or (λ x. cond (p x) 255 0) (λ x. cond (q x) 255 0) v e f ∙ ap (λ h. map h v) (λ i x. both (p x) (q x) i)
 

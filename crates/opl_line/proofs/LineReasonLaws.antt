@@ -1,4 +1,4 @@
--- What is refused is refused for the one reason of its line.
+-- A line that is refused is refused for its one reason.
 use Rattle.std.proofs.Common.{◌≡◌, ◌⊎◌, ℕ, ℤ, true, false, not, cond, eqb, List, [], ◌∷◌, Option, Some, None, unwrap_or, Result, Ok, Err}
 use Rattle.std.proofs.Common.{IfErr, refl, sym, ap, ◌∙◌, subst, inl, inr, ⊎_elim}
 use Rattle.std.proofs.lemmas.Bool.{eqb-true, eqb-false}
@@ -13,17 +13,17 @@ use Rattle.osm_model.specs.declared.body.Body.TheVariants.{Deleted}
 use Rattle.osm_model.specs.Id.{is_id}
 use Rattle.osm_model.specs.Data.{VersionData}
 use Rattle.osm_model.specs.New.{is_dated, version_or_fault}
-use Rattle.opl_line.specs.declared.bytes.cut.Cut.TheVariants.{Blanks}
+use Rattle.opl_line.specs.declared.bytes.cut.Delimiter.TheVariants.{Blanks}
 use Rattle.opl_line.specs.declared.general.field.Fields.{Fields}
 use Rattle.opl_line.specs.declared.reason.OplReason.{OplReason}
 use Rattle.opl_line.specs.declared.reason.OplReason.TheVariants.{NotUtf8, NoVersion, NoTime, NoLocation, Memory}
-use Rattle.opl_line.specs.Answer.{and_then, as_value, Answers}
-use Rattle.opl_line.specs.Cut.{is_end, split_first, cut, pieces_of}
-use Rattle.opl_line.specs.Field.{nothing_said, reading_fields}
+use Rattle.opl_line.specs.Answer.{and_then, as_value, OplAnswers}
+use Rattle.opl_line.specs.Delimiter.{is_end, split_first, split_all, pieces_of}
+use Rattle.opl_line.specs.Field.{no_fields, reading_fields}
 use Rattle.opl_line.specs.Reading.{is_skipped, reading_object, meta_of, reading_location, reading_visible, reading_body, unless_fault}
 use Rattle.opl_line.specs.Reading.{reading_whole, reading_version, reading_line}
 use Rattle.opl_line.specs.Content.{SpellsObject}
-use Rattle.opl_line.specs.Spells.{said_by, SpellsNothing}
+use Rattle.opl_line.specs.Spells.{fields_of_parts, SpellsNothing}
 use Rattle.opl_line.specs.LineReason.{LacksLocation, WholeReason, no_version, no_time, no_location, LineReason, not_utf8, no_object}
 use Rattle.opl_line.specs.LineReason.{faulty_field, no_whole, ReasonIsTold, ToldIsReason, HasOneReason, NeitherHasOneReason}
 use Rattle.opl_line.specs.LineReason.{ReasonSpellsNothing}
@@ -77,7 +77,7 @@ body_told k fields l =
     ∙ subst P (sym l.node) (location_told (unwrap_or fields.longitude None) (unwrap_or fields.latitude None)
     (unwrap_or fields.tags []) l.lacks)
 
--- ---- what all fields say together
+-- ---- all fields together
 not_zero : (n : ℕ) → (n ≡ 0 → ⊥) → eqb n 0 ≡ false
 not_zero n other = elim (eqb n 0) as (λ t. eqb n 0 ≡ t → t ≡ false) [ true ↦ λ e. absurd (other (eqb-true n 0 e)) | false ↦ λ e. refl ] refl
 
@@ -129,7 +129,7 @@ whole_told k id fields reason (no_location some dated lacks) =
 -- ---- the line
 fields_fine : (line : List ℕ) (k : Kind) (id : ℤ) (fields : Fields) (reason : OplReason) → is_skipped line ≡ false → IsUtf8 line →
     reading_object (split_first (is_end Blanks) line).0 ≡ Ok (k, id) →
-    reading_fields k (pieces_of (is_end Blanks) (split_first (is_end Blanks) line).1) nothing_said ≡ Ok fields →
+    reading_fields k (pieces_of (is_end Blanks) (split_first (is_end Blanks) line).1) no_fields ≡ Ok fields →
     reading_whole k id fields ≡ Err reason → LineReason line reason
 fields_fine line k id fields reason kept utf8 at read e =
     let parts = split_first (is_end Blanks) line in
@@ -147,7 +147,7 @@ fields_fine line k id fields reason kept utf8 at read e =
       names = names;
       spelled = said.spelled;
       different = said.different;
-    }) (whole_refused k id (said_by said.parts) reason (id_within names.digits id (id_complete names.digits id names.spelled))
+    }) (whole_refused k id (fields_of_parts said.parts) reason (id_within names.digits id (id_complete names.digits id names.spelled))
     (line_within k pieces said.parts said.spelled all.1) (ap (reading_whole k id) (sym said.together) ∙ e))
 
 version_refused : (line : List ℕ) (reason : OplReason) → is_skipped line ≡ false → IsUtf8 line → reading_version line ≡ Err reason →
@@ -157,12 +157,12 @@ version_refused line reason kept utf8 refused =
     let parts = split_first (is_end Blanks) line in
     let pieces = pieces_of (is_end Blanks) parts.1 in
     let parted = cut_split (is_end Blanks) line in
-    let rest = λ (object : Kind × ℤ). and_then (reading_fields object.0 pieces nothing_said) (reading_whole object.0 object.1) in
+    let rest = λ (object : Kind × ℤ). and_then (reading_fields object.0 pieces no_fields) (reading_whole object.0 object.1) in
     elim (reading_object parts.0) as (λ r. reading_object parts.0 ≡ r → and_then r rest ≡ Err reason → LineReason line reason) [
       | Err bad ↦ λ at e. let same : bad ≡ reason = cc in
           no_object line parts.0 pieces reason kept utf8 parted (object_refused parts.0 reason (at ∙ ap (λ r. Err r) same))
-      | Ok object ↦ λ at. elim (reading_fields object.0 pieces nothing_said) as
-          (λ r. reading_fields object.0 pieces nothing_said ≡ r → and_then r (reading_whole object.0 object.1) ≡ Err reason →
+      | Ok object ↦ λ at. elim (reading_fields object.0 pieces no_fields) as
+          (λ r. reading_fields object.0 pieces no_fields ≡ r → and_then r (reading_whole object.0 object.1) ≡ Err reason →
           LineReason line reason) [
             | Err bad ↦ λ read e.
                 let same : bad ≡ reason = cc in
@@ -172,6 +172,7 @@ version_refused line reason kept utf8 refused =
           ] refl
     ] refl refused
 
+-- A line that is refused has the reason that is returned.
 pub told_is_reason : ToldIsReason
 told_is_reason line reason =
     let P : OplReason → Type 0 = LineReason line in
@@ -193,25 +194,26 @@ version_told : (line : List ℕ) (reason : OplReason) → is_skipped line ≡ fa
     reading_line line ≡ Err reason
 version_told line reason kept utf8 e = reading.utf8_line line kept utf8 ∙ ap (as_value (λ w. Some w)) e
 
-object_told : (line object : List ℕ) (others : List (List ℕ)) (reason : OplReason) → cut (is_end Blanks) line ≡ object ∷ others →
+object_told : (line object : List ℕ) (others : List (List ℕ)) (reason : OplReason) → split_all (is_end Blanks) line ≡ object ∷ others →
     reading_object object ≡ Err reason → reading_version line ≡ Err reason
 unfolding reading_version
 object_told line object others reason parted e =
     let pieces = pieces_of (is_end Blanks) (split_first (is_end Blanks) line).1 in
-    let rest = λ (o : Kind × ℤ). and_then (reading_fields o.0 pieces nothing_said) (reading_whole o.0 o.1) in
+    let rest = λ (o : Kind × ℤ). and_then (reading_fields o.0 pieces no_fields) (reading_whole o.0 o.1) in
     ap (λ r. and_then r rest) (ap reading_object (first_and_rest line object others parted).0 ∙ e)
 
 fields_of_line_told : (line object : List ℕ) (others : List (List ℕ)) (k : Kind) (id : ℤ) (reason : OplReason) →
-    cut (is_end Blanks) line ≡ object ∷ others → SpellsObject object k id → reading_fields k others nothing_said ≡ Err reason →
+    split_all (is_end Blanks) line ≡ object ∷ others → SpellsObject object k id → reading_fields k others no_fields ≡ Err reason →
     reading_version line ≡ Err reason
 unfolding reading_version
 fields_of_line_told line object others k id reason parted names e =
     let pieces = pieces_of (is_end Blanks) (split_first (is_end Blanks) line).1 in
     let at = first_and_rest line object others parted in
-    let rest = λ (o : Kind × ℤ). and_then (reading_fields o.0 pieces nothing_said) (reading_whole o.0 o.1) in
+    let rest = λ (o : Kind × ℤ). and_then (reading_fields o.0 pieces no_fields) (reading_whole o.0 o.1) in
     ap (λ r. and_then r rest) (ap reading_object at.0 ∙ object_read object k id names)
-    ∙ ap (λ r. and_then r (reading_whole k id)) (ap (λ ps. reading_fields k ps nothing_said) at.1 ∙ e)
+    ∙ ap (λ r. and_then r (reading_whole k id)) (ap (λ ps. reading_fields k ps no_fields) at.1 ∙ e)
 
+-- A line that has a reason is refused with it.
 pub reason_is_told : ReasonIsTold
 reason_is_told line reason (not_utf8 line' kept other) = reading.not_utf8 line' kept other
 reason_is_told line reason (no_object line' object others reason' kept utf8 parted faulty) =
@@ -221,7 +223,7 @@ reason_is_told line reason (faulty_field line' object others k id reason' kept u
     (fields_told k others reason' faulty))
 reason_is_told line reason (no_whole line' k id parts reason' tells faulty) =
     version_told line' reason' tells.not_skipped tells.utf8
-    (tells_read line' k id parts tells ∙ whole_told k id (said_by parts) reason' faulty)
+    (tells_read line' k id parts tells ∙ whole_told k id (fields_of_parts parts) reason' faulty)
 
 neither_by : (line : List ℕ) (answer : Result (Option VersionData) OplReason) → SpellsNothing line → reading_line line ≡ answer →
     HasOneReason line
@@ -233,16 +235,18 @@ neither_by line (Err reason) nothing e = record {
   alone = (λ other h. let both = sym (reason_is_told line other h) ∙ e in let same : other ≡ reason = cc in same);
 }
 
+-- A line that spells nothing and isn't skipped has exactly one reason.
 pub neither_has_one_reason : NeitherHasOneReason
 neither_has_one_reason line nothing = neither_by line (reading_line line) nothing refl
 
+-- A line that has a reason spells nothing.
 pub reason_spells_nothing : ReasonSpellsNothing
 reason_spells_nothing line reason h =
     let e = reason_is_told line reason h in
     record { kept = not_skipped line reason e; none = λ v s. refused_spells_nothing line reason v e s }
 
--- an answer other than Memory tells the reason
-pub answer_reason : (line : List ℕ) (answer : Result (Option VersionData) OplReason) → Answers (reading_line line) answer →
+-- a result other than Memory is the reason
+pub answer_reason : (line : List ℕ) (answer : Result (Option VersionData) OplReason) → OplAnswers (reading_line line) answer →
     IfErr answer (λ reason. (reason ≡ Memory) ⊎ LineReason line reason)
 answer_reason line (Ok read) h = tt
 answer_reason line (Err reason) h = ⊎_elim (λ memory. inl memory) (λ refused. inr (told_is_reason line reason refused)) h

@@ -13,14 +13,14 @@ use Rattle.osm_model.specs.Tags.{texts_of_tags}
 use Rattle.osm_model.specs.Members.{ids_of_members, roles_of}
 use Rattle.osm_model.specs.Decimal.{integer_text}
 use Rattle.osm_model.specs.Escape.{escape}
-use Rattle.osm_model.specs.Joined.{joined}
+use Rattle.osm_model.specs.Joined.{join_with}
 use Rattle.osm_model.specs.Line.{tag_text, reference_text, member_text, list_text}
 use Rattle.osm_model.specs.Pairwise.{Pairwise}
 use Rattle.osm_model.proofs.Separators.{Lacks, comma, equals, at}
 use Rattle.osm_model.proofs.EscapeLaws.{escape_lacks}
 use Rattle.osm_model.proofs.LineLaws.{tag_lacks, reference_lacks, member_lacks, object_lacks, differs}
-use Rattle.opl_line.specs.declared.bytes.cut.Cut.TheVariants.{Commas, Equals, Ats}
-use Rattle.opl_line.specs.Cut.{is_end, cut, pieces_of}
+use Rattle.opl_line.specs.declared.bytes.cut.Delimiter.TheVariants.{Commas, Equals, Ats}
+use Rattle.opl_line.specs.Delimiter.{is_end, split_all, pieces_of}
 use Rattle.opl_line.specs.Content.{SpellsCharacters, SpellsTag, SpellsReference, SpellsMember, SpellsList}
 use Rattle.opl_line.specs.Canonical.{ListsAreSpelled}
 use Rattle.opl_line.proofs.NumeralLaws.{id_sound}
@@ -38,24 +38,24 @@ lacking c (x ∷ xs) l = ap (λ t. t && list_all (λ b. not (eqb b c)) xs) (apar
 
 -- texts without the separator are the pieces that they are joined from
 pub cut_joined : (p : ℕ → Bool) (c : ℕ) → p c ≡ true → (text : List ℕ) (texts : List (List ℕ)) →
-    list_all (λ t. list_all (λ b. not (p b)) t) (text ∷ texts) ≡ true → cut p (joined c (text ∷ texts)) ≡ text ∷ texts
+    list_all (λ t. list_all (λ b. not (p b)) t) (text ∷ texts) ≡ true → split_all p (join_with c (text ∷ texts)) ≡ text ∷ texts
 cut_joined p c is text [] all =
     let here = and_parts (list_all (λ b. not (p b)) text) true all in
     cut_split p text ∙ ap (λ s. s.0 ∷ pieces_of p s.1) (split_never p text here.0)
 cut_joined p c is text (next ∷ more) all =
     let here = and_parts (list_all (λ b. not (p b)) text) (list_all (λ t. list_all (λ b. not (p b)) t) (next ∷ more)) all in
-    cut_split p (text ++ c ∷ joined c (next ∷ more))
-    ∙ ap (λ s. s.0 ∷ pieces_of p s.1) (split_front p text (joined c (next ∷ more)) c here.0 is)
+    cut_split p (text ++ c ∷ join_with c (next ∷ more))
+    ∙ ap (λ s. s.0 ∷ pieces_of p s.1) (split_front p text (join_with c (next ∷ more)) c here.0 is)
     ∙ ap (λ ps. text ∷ ps) (cut_joined p c is next more here.1)
 
 some_list : {X : Type 0} (Spells : List ℕ → X → Type 0) (content : List ℕ) (xs : List X) → 0 < length content →
-    Pairwise Spells (cut (is_end Commas) content) xs → SpellsList Spells content xs
+    Pairwise Spells (split_all (is_end Commas) content) xs → SpellsList Spells content xs
 some_list Spells [] xs some h = absurd (omega arith)
 some_list Spells (b ∷ bs) xs some h = h
 
-some_joined : (c : ℕ) (text : List ℕ) (texts : List (List ℕ)) → 0 < length text → 0 < length (joined c (text ∷ texts))
+some_joined : (c : ℕ) (text : List ℕ) (texts : List (List ℕ)) → 0 < length text → 0 < length (join_with c (text ∷ texts))
 some_joined c text [] some = some
-some_joined c text (next ∷ more) some = omega (arith, length-append text (c ∷ joined c (next ∷ more)))
+some_joined c text (next ∷ more) some = omega (arith, length-append text (c ∷ join_with c (next ∷ more)))
 
 module _ {X : Type 0} (text : X → List ℕ) (lacks : (x : X) → Lacks 44 (text x)) (some : (x : X) → 0 < length (text x))
     (Spells : List ℕ → X → Type 0) where
@@ -126,6 +126,7 @@ members_spelled (m ∷ ms) ids texts =
     let role = and_parts (is_text m.role) (list_all is_text (roles_of ms)) texts in
     (member_spelled m id.0 (text_is_read_back m.role role.0), members_spelled ms id.1 role.1)
 
+-- The lists of a canonical line spell their items.
 pub lists_are_spelled : ListsAreSpelled
 lists_are_spelled = (
   (λ tags texts. list_spelled tag_text (tag_lacks comma (differs 61 44 (omega arith))) some_tag SpellsTag tags (tags_spelled tags texts)),

@@ -12,11 +12,11 @@ use Rattle.osm_model.specs.declared.body.Body.TheVariants.{Deleted, Node, Way, R
 use Rattle.osm_model.specs.declared.fault.ValueFault.TheVariants as fault
 use Rattle.osm_model.specs.Id.{is_id}
 use Rattle.osm_model.specs.Text.{is_empty, is_text}
-use Rattle.osm_model.specs.Tags.{tag_cmp, tag_cmp_total, normal}
+use Rattle.osm_model.specs.Tags.{tag_cmp, tag_cmp_total, normal_tags}
 use Rattle.osm_model.specs.Data.{VersionData, tags_of, ids_of, texts_of, normal_body, version_of}
 use Rattle.osm_model.specs.New.{is_number, is_time, is_dated, first_of_tests, first_fault, unless_faulty, version_or_fault}
 use Rattle.osm_model.specs.Valid.{IsVersion}
-use Rattle.osm_model.proofs.SetLaws.{listed-from_list}
+use Rattle.osm_model.proofs.SetLaws.{to_list-from_list}
 use Rattle.osm_model.proofs.TagLaws.{tag_cmp-IsAntisymmetric}
 
 -- data that passes each test
@@ -28,6 +28,7 @@ pub record Passes (id : ℤ) (meta : Meta) (b : Body) : Type 0 where
   pub dated : is_dated meta ≡ true
   pub texts : list_all is_text (meta.user ∷ texts_of b) ≡ true
 
+-- Data within its ranges has no fault.
 pub without_fault : (id : ℤ) (meta : Meta) (b : Body) → Passes id meta b → first_fault id meta b ≡ None
 without_fault id meta b p =
     λ i. first_of_tests (
@@ -35,16 +36,18 @@ without_fault id meta b p =
     ∷ (not (p.time i), fault.TimeRange) ∷ (not (p.dated i), fault.NoTime) ∷ (not (p.texts i), fault.ZeroInText) ∷ []
     )
 
+-- Data within its ranges makes a version.
 pub made : (id : ℤ) (meta : Meta) (b : Body) → Passes id meta b → version_or_fault id meta b ≡ Ok (version_of id meta b)
 made id meta b p = ap (λ f. unless_faulty f (version_of id meta b)) (without_fault id meta b p)
 
--- the data beside the body
+-- the metadata of a version
 abbrev pub meta_of_version : VersionData → Meta
 meta_of_version v = record { version = v.number; time = v.time; changeset = v.changeset; uid = v.uid; user = v.user }
 
 some_number : (n : ℕ) → 0 < n → eqb n 0 ≡ false
 some_number n h = grind (arith, nat_tests)
 
+-- A time from 1 to 2^32 - 1 is a time.
 pub valid_time : (time : Option ℕ) → ForSome time (λ t. (0 < t) × (t < 2 ^ 32)) → is_time time ≡ true
 valid_time None h = refl
 valid_time (Some t) h = let range = h t refl in λ i. lt-ltb 0 t range.0 i && lt-ltb t (2 ^ 32) range.1 i
@@ -55,8 +58,8 @@ valid_author : (time : Option ℕ) (changeset uid : ℕ) (user : List ℕ) (numb
 valid_author None changeset uid user number h = let none = h refl in λ i. eqb (none.0 i) 0 && (eqb (none.1 i) 0 && is_empty (none.2 i))
 valid_author (Some t) changeset uid user number h = refl
 
-same_tags : (tags : List Tag) → IsStrictlySortedBy tag_cmp tags → normal tags ≡ tags
-same_tags tags h = listed-from_list tag_cmp_total tag_cmp-IsAntisymmetric tags h
+same_tags : (tags : List Tag) → IsStrictlySortedBy tag_cmp tags → normal_tags tags ≡ tags
+same_tags tags h = to_list-from_list tag_cmp_total tag_cmp-IsAntisymmetric tags h
 
 same_body : (b : Body) → IsStrictlySortedBy tag_cmp (tags_of b) → normal_body b ≡ b
 same_body (Deleted k) h = refl
@@ -64,6 +67,7 @@ same_body (Node lon lat tags) h = ap (Node lon lat) (same_tags tags h)
 same_body (Way refs tags) h = ap (Way refs) (same_tags tags h)
 same_body (Relation members tags) h = ap (Relation members) (same_tags tags h)
 
+-- The data of a version makes that version.
 pub version_made : (v : VersionData) → IsVersion v → version_or_fault v.id (meta_of_version v) v.body ≡ Ok v
 version_made v is =
     made v.id (meta_of_version v) v.body (record {

@@ -1,4 +1,4 @@
--- No reading wants memory.
+-- No reading returns out of memory.
 use Rattle.std.proofs.Common.{◌≡◌, ℕ, ◌+◌, ◌-◌, ◌*◌, ◌^◌, Bool, true, false, cond, eqb, leb, ltb, ◌&&◌, List, [], ◌∷◌, length, map, Option}
 use Rattle.std.proofs.Common.{Some, None, Result, Ok, Err, refl, ap, ◌∙◌}
 use Rattle.std.specs.Option.{ok_or}
@@ -9,14 +9,14 @@ use Rattle.opl_line.specs.declared.reason.OplReason.TheVariants.{NotUtf8, Unknow
 use Rattle.opl_line.specs.declared.reason.OplReason.TheVariants.{BadTime, BadCoordinate, BadText, BadList, NoVersion, NoTime, NoLocation}
 use Rattle.opl_line.specs.declared.reason.OplReason.TheVariants.{Memory}
 use Rattle.opl_line.specs.Answer.{and_then, as_value}
-use Rattle.opl_line.specs.Number.{is_numeral, decimal_value, up_to, reading_number, is_negative, without_sign, signed, reading_id}
+use Rattle.opl_line.specs.Number.{is_numeral, decimal_value, up_to, reading_number, is_negative, without_sign, with_sign, reading_id}
 use Rattle.opl_line.specs.Number.{reading_short_numeral, decimals_value, reading_degrees, reading_units, degree_parts, reading_coordinate}
 use Rattle.opl_line.specs.Time.{reading_date, reading_clock, epoch, reading_moment, reading_time}
 use Rattle.opl_line.specs.Item.{item_reason}
 use Rattle.opl_line.specs.Field.{reading_number_32, reading_count, reading_deleted, reading_optional}
 use Rattle.opl_line.specs.Content.{SpellsTag, SpellsReference, SpellsMember}
 use Rattle.opl_line.specs.Part.{letter_of}
-use Rattle.opl_line.specs.Spells.{said_by}
+use Rattle.opl_line.specs.Spells.{fields_of_parts}
 use Rattle.opl_line.specs.LineReason.{ObjectReason, no_kind, no_id, TagReason, uneven, no_text, ReferenceReason, no_letter, no_number}
 use Rattle.opl_line.specs.LineReason.{MemberReason, no_at, no_name, no_role, ListReason, ContentReason, number, deleted, changeset, time}
 use Rattle.opl_line.specs.LineReason.{uid, user, tags, longitude, latitude, references, members, FieldReason, repeated, unknown, ill_formed}
@@ -46,7 +46,7 @@ count_takes [] e = cc
 count_takes (b ∷ bs) e = number_takes 4_294_967_295 (b ∷ bs) e
 
 id_takes : (text : List ℕ) → reading_id text ≡ Err Memory → ⊥
-id_takes text = taken_as (signed (is_negative text)) (reading_number 4_611_686_018_427_387_903 (without_sign text))
+id_takes text = taken_as (with_sign (is_negative text)) (reading_number 4_611_686_018_427_387_903 (without_sign text))
     (number_takes 4_611_686_018_427_387_903 (without_sign text))
 
 deleted_takes : (text : List ℕ) → reading_deleted text ≡ Err Memory → ⊥
@@ -97,7 +97,7 @@ degrees_take whole (Some decimals) =
 units_take : (negative : Bool) (n : ℕ) → reading_units negative n ≡ Err Memory → ⊥
 units_take negative n =
     elim (leb n (cond negative 2_147_483_648 2_147_483_647)) as
-    (λ t. cond t (Ok (signed negative n)) (Err OutOfRange) ≡ Err Memory → ⊥) [ true ↦ λ e. cc | false ↦ λ e. cc ]
+    (λ t. cond t (Ok (with_sign negative n)) (Err OutOfRange) ≡ Err Memory → ⊥) [ true ↦ λ e. cc | false ↦ λ e. cc ]
 
 coordinate_takes : (text : List ℕ) → reading_coordinate text ≡ Err Memory → ⊥
 coordinate_takes text =
@@ -186,7 +186,8 @@ line_apart text reason (not_utf8 text' kept other) e = cc
 line_apart text reason (no_object text' object others bad kept utf8 parted faulty) e = object_apart object bad faulty e
 line_apart text reason (faulty_field text' object others k id bad kept utf8 parted names faulty) e =
     field_apart k (map letter_of faulty.parts) faulty.field bad faulty.faulty e
-line_apart text reason (no_whole text' k id parts bad tells faulty) e = whole_apart k (said_by parts) bad faulty e
+line_apart text reason (no_whole text' k id parts bad tells faulty) e = whole_apart k (fields_of_parts parts) bad faulty e
 
+-- No line has the reason Memory.
 pub memory_is_no_reason : MemoryIsNoReason
 memory_is_no_reason text r = line_apart text Memory r refl

@@ -9,7 +9,7 @@ use Rattle.std.proofs.Math.Nat.{pow-le-pow_right, pow-succ'}
 use Rattle.opl_line.specs.declared.reason.OplReason.TheVariants.{BadCoordinate}
 use Rattle.opl_line.specs.Number.{is_numeral, with_digit, decimal_value, value_of, reading_short_numeral}
 
--- the first digits, and their value, or 2^64 - 1 where it is more
+-- the first digits, and their value, or 2^64 - 1 if it is more
 pub record IsReadTo (digits : List ℕ) (i number : ℕ) : Type 0 where
   pub all_digits : list_all is_ascii_digit (take i digits) ≡ true
   pub value : number ≡ min (decimal_value (take i digits)) (2 ^ 64 - 1)
@@ -20,12 +20,14 @@ pub record IsFewTo (digits : List ℕ) (i number : ℕ) : Type 0 where
   pub value : number ≡ decimal_value (take i digits)
   pub bound : number < 10 ^ i
 
+-- A number of fewer than 19 digits is below 10^18.
 pub small_number : (i number : ℕ) → i < 19 → number < 10 ^ i → number < 10 ^ 18
 small_number i number few below =
     let some : 0 < 10 = omega arith in
     let power : 10 ^ i ≤ 10 ^ 18 = pow-le-pow_right some (let k : i ≤ 18 = omega arith in k) in
     omega arith
 
+-- A number of some digits is below a power of ten with as many zeros or more.
 pub below_power : (number count most : ℕ) → number < 10 ^ count → count ≤ most → number < 10 ^ most
 below_power number count most small few =
     let some : 0 < 10 = omega arith in
@@ -46,6 +48,7 @@ decimal_below (d ∷ ds) n k all small =
     let more : length ds + (k + 1) ≡ suc (length ds) + k = omega arith in
     rw (← more) (decimal_below ds (with_digit n d) (k + 1) parts.1 next)
 
+-- A numeral of some digits is below a power of ten with as many zeros or more.
 pub numeral_below : (digits : List ℕ) (most : ℕ) → is_numeral digits ≡ true → length digits ≤ most → decimal_value digits < 10 ^ most
 numeral_below digits most is few =
     let parts = and_parts (not (length digits == 0)) (list_all is_ascii_digit digits) is in
@@ -56,10 +59,11 @@ numeral_below digits most is few =
     let at : fold with_digit 0 digits < 10 ^ length digits = rw same at below in
     omega arith
 
+-- The scale of decimals is at most 10^7.
 pub scale_below : (decimals : ℕ) → 10 ^ (7 - decimals) ≤ 10 ^ 7
 scale_below decimals = let less : 7 - decimals ≤ 7 = omega arith in let some : 0 < 10 = omega arith in pow-le-pow_right some less
 
--- few digits, and so many at most
+-- few digits, at most `most`
 pub short_numeral : (digits : List ℕ) (most : ℕ) → length digits ≤ most →
     ok_or (value_of digits) BadCoordinate ≡ reading_short_numeral most digits
 short_numeral digits most few =
@@ -69,6 +73,7 @@ short_numeral digits most few =
       | false ↦ refl
     ]
 
+-- A short numeral that is read is below the power of ten of its length.
 pub short_below : (digits : List ℕ) (most : ℕ) → IfOk (reading_short_numeral most digits) (λ n. n < 10 ^ most)
 short_below digits most =
     elim (is_numeral digits && leb (length digits) most) as

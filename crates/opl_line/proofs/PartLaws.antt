@@ -1,4 +1,4 @@
--- A field that is read says one part, and the parts of one line have different letters.
+-- A field that is read has one part, and the parts of one line have different letters.
 use Rattle.std.proofs.Common.{◌≡◌, ℕ, Bool, true, false, cond, eqb, ◌||◌, List, [], ◌∷◌, map, fold, filter, nat_eq, Some, Result, Ok, Err}
 use Rattle.std.proofs.Common.{refl, sym, ap, ◌∙◌, subst, arith}
 use Rattle.std.specs.List.{IsDistinct, AllByRecursion}
@@ -13,8 +13,8 @@ use Rattle.opl_line.specs.declared.reason.OplReason.TheVariants.{UnknownField, R
 use Rattle.opl_line.specs.Answer.{and_then, as_value}
 use Rattle.opl_line.specs.Number.{reading_coordinate}
 use Rattle.opl_line.specs.Item.{reading_list, reading_reference, reading_member}
-use Rattle.opl_line.specs.Field.{nothing_said, reading_optional, has_field, with_body_field, with_field, reading_field, reading_fields}
-use Rattle.opl_line.specs.Part.{Part, Number, Deleted, Changeset, Time, UserId, User, Tags, Longitude, Latitude, References, Members}
+use Rattle.opl_line.specs.Field.{no_fields, reading_optional, has_field, with_body_field, with_field, reading_field, reading_fields}
+use Rattle.opl_line.specs.Part.{LinePart, Number, Deleted, Changeset, Time, UserId, User, Tags, Longitude, Latitude, References, Members}
 use Rattle.opl_line.specs.Part.{letter_of, SpellsContent, IsPartOf, SpellsPart, with_part}
 use Rattle.opl_line.specs.Spells.{is_full}
 use Rattle.opl_line.proofs.NumeralLaws.{number_sound, number_complete, count_sound, count_complete, deleted_sound, deleted_complete}
@@ -23,17 +23,17 @@ use Rattle.opl_line.proofs.BoolLaws.{neither}
 use Rattle.opl_line.proofs.ContentLaws.{characters_sound, characters_complete, tags_sound, tags_complete, references_sound}
 use Rattle.opl_line.proofs.ContentLaws.{references_complete, members_sound, members_complete}
 
--- a field says a part
+-- a field has a part
 record Says (k : Kind) (letter : ℕ) (content : List ℕ) (fields next : Fields) : Type 0 where
-  part : Part
+  part : LinePart
   lettered : letter ≡ letter_of part
   of_kind : IsPartOf k part
   spelled : SpellsContent content part
   together : next ≡ with_part fields part
 
--- what was read makes one part
+-- a reading makes one part
 read_part : {X : Type 0} (k : Kind) (letter : ℕ) (content : List ℕ) (fields next : Fields) (said : Result X OplReason) (f : X → Fields)
-    (part : X → Part) →
+    (part : X → LinePart) →
     ((x : X) → letter ≡ letter_of (part x)) → ((x : X) → IsPartOf k (part x)) → ((x : X) → said ≡ Ok x → SpellsContent content (part x)) →
     ((x : X) → f x ≡ with_part fields (part x)) →
     as_value f said ≡ Ok next → Says k letter content fields next
@@ -103,7 +103,7 @@ says k letter content fields next =
     (λ x s. tags_sound content x s) (λ x. refl))
     (λ other. says_body k letter content fields next)))))))
 
--- a test of one letter behind a test of another
+-- a test of one letter after a test of another
 skip : (l a b : ℕ) (x rest more : Bool) → eqb a b ≡ false → more ≡ (eqb l b || rest) →
     cond (eqb l a) x more ≡ (eqb l b || cond (eqb l a) x rest)
 skip l a b x rest more apart h =
@@ -115,8 +115,8 @@ skip l a b x rest more apart h =
 here : (l b : ℕ) (x rest : Bool) → cond (eqb l b) true rest ≡ (eqb l b || cond (eqb l b) x rest)
 here l b x rest = elim (eqb l b) as (λ t. cond t true rest ≡ (t || cond t x rest)) [ true ↦ refl | false ↦ refl ]
 
--- which letters were met, after one more part
-pub met : (fields : Fields) (part : Part) (l : ℕ) → has_field (with_part fields part) l ≡ (eqb l (letter_of part) || has_field fields l)
+-- the letters met, after one more part
+pub met : (fields : Fields) (part : LinePart) (l : ℕ) → has_field (with_part fields part) l ≡ (eqb l (letter_of part) || has_field fields l)
 met fields (Number n) l = here l 118 _ _
 met fields (Deleted d) l = skip l 118 100 _ _ _ refl (here l 100 _ _)
 met fields (Changeset n) l = skip l 118 99 _ _ _ refl (skip l 100 99 _ _ _ refl (here l 99 _ _))
@@ -147,13 +147,13 @@ met fields (Members ms) l =
     (skip l 84 77 _ _ _ refl (skip l 120 77 _ _ _ refl (skip l 121 77 _ _ _ refl (skip l 78 77 _ _ _ refl (here l 77 _ _))))))))))
 
 -- each part has a letter that was not met before
-abbrev pub Different : Fields → List Part → Type 0
+abbrev pub Different : Fields → List LinePart → Type 0
 Different fields [] = Unit {0}
 Different fields (part ∷ parts) = (has_field fields (letter_of part) ≡ false) × Different (with_part fields part) parts
 
--- what a row of fields says
+-- the parts of a sequence of fields
 record Told (k : Kind) (fields next : Fields) (pieces : List (List ℕ)) : Type 0 where
-  parts : List Part
+  parts : List LinePart
   spelled : Pairwise (SpellsPart k) (filter is_full pieces) parts
   different : Different fields parts
   together : next ≡ fold with_part fields parts
@@ -192,8 +192,8 @@ told k ((letter ∷ content) ∷ more) fields next e =
           ] refl
     ] refl e
 
--- a field that spells a part is read so
-spelled_content : (k : Kind) (part : Part) (content : List ℕ) (fields : Fields) → IsPartOf k part → SpellsContent content part →
+-- a field that spells a part is read as the part
+spelled_content : (k : Kind) (part : LinePart) (content : List ℕ) (fields : Fields) → IsPartOf k part → SpellsContent content part →
     with_field k (letter_of part) content fields ≡ Ok (with_part fields part)
 spelled_content k (Number n) content fields of_kind s =
     ap (as_value (λ x. record fields { number = Some x })) (number_complete 4_294_967_295 content n s)
@@ -218,14 +218,14 @@ spelled_content k (Members ms) content fields of_kind s =
     let P : Kind → Type 0 = λ l. with_field l 77 content fields ≡ Ok (record fields { members = Some ms }) in
     subst P (sym of_kind) (ap (as_value (λ x. record fields { members = Some x })) (members_complete content ms s))
 
-spelled_field : (k : Kind) (field : List ℕ) (part : Part) (fields : Fields) → SpellsPart k field part →
+spelled_field : (k : Kind) (field : List ℕ) (part : LinePart) (fields : Fields) → SpellsPart k field part →
     has_field fields (letter_of part) ≡ false → reading_field k field fields ≡ Ok (with_part fields part)
 spelled_field k field part fields s fresh =
     ap (λ f. reading_field k f fields) s.lettered
     ∙ ap (λ t. cond t (Err RepeatedField) (with_field k (letter_of part) s.content fields)) fresh
     ∙ spelled_content k part s.content fields s.of_kind s.spelled
 
-retold : (k : Kind) (pieces : List (List ℕ)) (parts : List Part) (fields : Fields) → Pairwise (SpellsPart k) (filter is_full pieces) parts →
+retold : (k : Kind) (pieces : List (List ℕ)) (parts : List LinePart) (fields : Fields) → Pairwise (SpellsPart k) (filter is_full pieces) parts →
     Different fields parts → reading_fields k pieces fields ≡ Ok (fold with_part fields parts)
 unfolding reading_fields
 retold k [] [] fields s d = refl
@@ -236,22 +236,22 @@ retold k ((b ∷ bs) ∷ more) (part ∷ parts) fields s d =
     ap (λ r. and_then r (reading_fields k more)) (spelled_field k (b ∷ bs) part fields s.0 d.0)
     ∙ retold k more parts (with_part fields part) s.1 d.1
 
--- different letters, as seen from the first part on
+-- different letters, from the first part on
 symmetric : (a b : ℕ) → eqb a b ≡ false → eqb b a ≡ false
 symmetric a b e = grind (arith, nat_tests)
 
-dropped : (fields : Fields) (part : Part) (ps : List Part) →
+dropped : (fields : Fields) (part : LinePart) (ps : List LinePart) →
     AllByRecursion (λ l. has_field (with_part fields part) l ≡ false) (map letter_of ps) →
     AllByRecursion (λ l. has_field fields l ≡ false) (map letter_of ps)
 dropped fields part [] h = tt
 dropped fields part (p ∷ ps) h = ((neither _ _ (sym (met fields part (letter_of p)) ∙ h.0)).1, dropped fields part ps h.1)
 
-fresh_all : (fields : Fields) (parts : List Part) → Different fields parts →
+fresh_all : (fields : Fields) (parts : List LinePart) → Different fields parts →
     AllByRecursion (λ l. has_field fields l ≡ false) (map letter_of parts)
 fresh_all fields [] d = tt
 fresh_all fields (part ∷ parts) d = (d.0, dropped fields part parts (fresh_all (with_part fields part) parts d.1))
 
-apart_all : (fields : Fields) (part : Part) (parts : List Part) →
+apart_all : (fields : Fields) (part : LinePart) (parts : List LinePart) →
     AllByRecursion (λ l. has_field (with_part fields part) l ≡ false) (map letter_of parts) →
     AllByRecursion (λ l. nat_eq (letter_of part) l ≡ false) (map letter_of parts)
 apart_all fields part [] h = tt
@@ -260,7 +260,8 @@ apart_all fields part (p ∷ ps) h = (
   apart_all fields part ps h.1,
 )
 
-pub distinct : (fields : Fields) (parts : List Part) → Different fields parts → IsDistinct nat_eq (map letter_of parts)
+-- Parts that differ in their fields have different letters.
+pub distinct : (fields : Fields) (parts : List LinePart) → Different fields parts → IsDistinct nat_eq (map letter_of parts)
 unfolding IsDistinct
 distinct fields [] d = tt
 distinct fields (part ∷ parts) d = (
@@ -268,7 +269,7 @@ distinct fields (part ∷ parts) d = (
   distinct (with_part fields part) parts d.1,
 )
 
-fresh_more : (fields : Fields) (part : Part) (parts : List Part) →
+fresh_more : (fields : Fields) (part : LinePart) (parts : List LinePart) →
     AllByRecursion (λ l. nat_eq (letter_of part) l ≡ false) (map letter_of parts) →
     AllByRecursion (λ l. has_field fields l ≡ false) (map letter_of parts) →
     AllByRecursion (λ l. has_field (with_part fields part) l ≡ false) (map letter_of parts)
@@ -279,7 +280,7 @@ fresh_more fields part (p ∷ ps) a h = (
   fresh_more fields part ps a.1 h.1,
 )
 
-different : (fields : Fields) (parts : List Part) → IsDistinct nat_eq (map letter_of parts) →
+different : (fields : Fields) (parts : List LinePart) → IsDistinct nat_eq (map letter_of parts) →
     AllByRecursion (λ l. has_field fields l ≡ false) (map letter_of parts) → Different fields parts
 unfolding IsDistinct
 different fields [] d h = tt
@@ -289,27 +290,30 @@ not_met : (t more : Bool) → more ≡ false → cond t false more ≡ false
 not_met true more h = refl
 not_met false more h = h
 
-pub unmet : (l : ℕ) → has_field nothing_said l ≡ false
+-- At first no field was met.
+pub unmet : (l : ℕ) → has_field no_fields l ≡ false
 unmet l =
     not_met (eqb l 118) _ (not_met (eqb l 100) _ (not_met (eqb l 99) _ (not_met (eqb l 116) _ (not_met (eqb l 105) _ (not_met (eqb l 117) _
     (not_met (eqb l 84) _ (not_met (eqb l 120) _ (not_met (eqb l 121) _ (not_met (eqb l 78) _ (not_met (eqb l 77) false refl))))))))))
 
-nothing_met : (parts : List Part) → AllByRecursion (λ l. has_field nothing_said l ≡ false) (map letter_of parts)
+nothing_met : (parts : List LinePart) → AllByRecursion (λ l. has_field no_fields l ≡ false) (map letter_of parts)
 nothing_met [] = tt
 nothing_met (part ∷ parts) = (unmet (letter_of part), nothing_met parts)
 
 -- the fields of a line, and their parts
 pub record PartsOf (k : Kind) (pieces : List (List ℕ)) (next : Fields) : Type 0 where
-  pub parts : List Part
+  pub parts : List LinePart
   pub spelled : Pairwise (SpellsPart k) (filter is_full pieces) parts
   pub different : IsDistinct nat_eq (map letter_of parts)
-  pub together : next ≡ fold with_part nothing_said parts
+  pub together : next ≡ fold with_part no_fields parts
 
-pub parts_of : (k : Kind) (pieces : List (List ℕ)) (next : Fields) → reading_fields k pieces nothing_said ≡ Ok next → PartsOf k pieces next
+-- Fields that are read spell parts that say what was read.
+pub parts_of : (k : Kind) (pieces : List (List ℕ)) (next : Fields) → reading_fields k pieces no_fields ≡ Ok next → PartsOf k pieces next
 parts_of k pieces next e =
-    let t = told k pieces nothing_said next e in
-    record { parts = t.parts; spelled = t.spelled; different = distinct nothing_said t.parts t.different; together = t.together }
+    let t = told k pieces no_fields next e in
+    record { parts = t.parts; spelled = t.spelled; different = distinct no_fields t.parts t.different; together = t.together }
 
-pub read_of : (k : Kind) (pieces : List (List ℕ)) (parts : List Part) → Pairwise (SpellsPart k) (filter is_full pieces) parts →
-    IsDistinct nat_eq (map letter_of parts) → reading_fields k pieces nothing_said ≡ Ok (fold with_part nothing_said parts)
-read_of k pieces parts s d = retold k pieces parts nothing_said s (different nothing_said parts d (nothing_met parts))
+-- Fields that spell parts of different letters are read as what the parts say.
+pub read_of : (k : Kind) (pieces : List (List ℕ)) (parts : List LinePart) → Pairwise (SpellsPart k) (filter is_full pieces) parts →
+    IsDistinct nat_eq (map letter_of parts) → reading_fields k pieces no_fields ≡ Ok (fold with_part no_fields parts)
+read_of k pieces parts s d = retold k pieces parts no_fields s (different no_fields parts d (nothing_met parts))

@@ -1,4 +1,4 @@
--- Times and coordinates that are read are spelled so, and the reverse.
+-- Times and coordinates that are read are spelled by their bytes, and conversely.
 use Rattle.std.proofs.Common.{◌≡◌, ◌≤◌, ℕ, ℤ, ◌+◌, ◌*◌, ◌^◌, Bool, true, false, not, cond, eqb, leb, ltb, ◌&&◌, List, [], ◌∷◌, ◌++◌, length}
 use Rattle.std.proofs.Common.{Option, Some, None, Result, Ok, Err, refl, sym, ap, ◌∙◌, subst, append-nil}
 use Rattle.std.proofs.lemmas.Bool.{and_parts, eqb-true, leb-true, le-leb, ltb-true}
@@ -6,17 +6,17 @@ use Rattle.std.specs.Char.{is_ascii_digit}
 use Rattle.std.specs.List.{list_all}
 use Rattle.osm_model.specs.New.{is_time}
 use Rattle.osm_model.specs.Time.{time_text}
-use Rattle.opl_line.specs.declared.bytes.cut.Cut.TheVariants.{Points}
+use Rattle.opl_line.specs.declared.bytes.cut.Delimiter.TheVariants.{Points}
 use Rattle.opl_line.specs.declared.reason.OplReason.{OplReason}
 use Rattle.opl_line.specs.declared.reason.OplReason.TheVariants.{BadCoordinate, OutOfRange}
 use Rattle.opl_line.specs.Answer.{and_then, as_value}
-use Rattle.opl_line.specs.Cut.{is_end, lengthened}
+use Rattle.opl_line.specs.Delimiter.{is_end, with_byte}
 use Rattle.opl_line.specs.Field.{reading_optional}
-use Rattle.opl_line.specs.Number.{is_numeral, decimal_value, signed, is_negative, without_sign, decimals_value, degree_parts}
+use Rattle.opl_line.specs.Number.{is_numeral, decimal_value, with_sign, is_negative, without_sign, decimals_value, degree_parts}
 use Rattle.opl_line.specs.Number.{reading_short_numeral, reading_degrees, reading_units, reading_coordinate}
 use Rattle.opl_line.specs.Time.{reading_time}
 use Rattle.opl_line.specs.Content.{SpellsNumeral, SpellsTime, SpellsDegrees, whole_degrees, with_decimals, SpellsCoordinate, plain_degrees}
-use Rattle.opl_line.specs.Content.{minus_degrees, SpellsPlace, no_place, some_place}
+use Rattle.opl_line.specs.Content.{minus_degrees, SpellsOptionalCoordinate, no_place, some_place}
 use Rattle.opl_line.proofs.AnswerLaws.{both, became}
 use Rattle.opl_line.proofs.CanonicalTimeLaws.{time_canonical, no_time}
 use Rattle.opl_line.proofs.ContentLaws.{all_weaker}
@@ -45,6 +45,7 @@ time_read (Some t) range =
     let bounds = and_parts (ltb 0 t) (ltb t (2 ^ 32)) range in
     some_optional reading_time (time_text (Some t)) t (λ e. cc) (time_is_read_back t (ltb-true 0 t bounds.0) (ltb-true t (2 ^ 32) bounds.1))
 
+-- A time that is spelled is read.
 pub time_complete : (text : List ℕ) (time : Option ℕ) → SpellsTime text time → reading_optional reading_time text ≡ Ok time
 time_complete text time s = ap (reading_optional reading_time) s.spelled ∙ time_read time s.range
 
@@ -68,12 +69,12 @@ short_complete : (most : ℕ) (digits : List ℕ) (n : ℕ) → SpellsNumeral di
     reading_short_numeral most digits ≡ Ok n
 short_complete most digits n s few = λ i. cond (s.numeral i && le-leb (length digits) most few i) (Ok (s.value i)) (Err BadCoordinate)
 
--- the parts before and after a point, put together again
+-- the parts before and after a point, joined again
 rejoined : List ℕ × Option (List ℕ) → List ℕ
 rejoined (whole, None) = whole
 rejoined (whole, Some decimals) = whole ++ 46 ∷ decimals
 
-longer : (b : ℕ) (parts : List ℕ × Option (List ℕ)) → rejoined (lengthened b parts) ≡ b ∷ rejoined parts
+longer : (b : ℕ) (parts : List ℕ × Option (List ℕ)) → rejoined (with_byte b parts) ≡ b ∷ rejoined parts
 unfolding rejoined
 longer b (whole, None) = refl
 longer b (whole, Some decimals) = refl
@@ -82,7 +83,7 @@ parted : (text : List ℕ) → text ≡ rejoined (degree_parts text)
 unfolding rejoined
 parted [] = refl
 parted (b ∷ bs) =
-    elim (eqb b 46) as (λ t. eqb b 46 ≡ t → b ∷ bs ≡ rejoined (cond t ([], Some bs) (lengthened b (degree_parts bs)))) [
+    elim (eqb b 46) as (λ t. eqb b 46 ≡ t → b ∷ bs ≡ rejoined (cond t ([], Some bs) (with_byte b (degree_parts bs)))) [
       | true ↦ λ is. ap (λ c. c ∷ bs) (eqb-true b 46 is)
       | false ↦ λ other. ap (λ t. b ∷ t) (parted bs) ∙ sym (longer b (degree_parts bs))
     ] refl
@@ -123,17 +124,18 @@ degrees_complete text units (with_decimals digits decimals n d s few t short) =
 
 -- ---- coordinates
 record IsSigned (negative : Bool) (n : ℕ) (units : ℤ) : Type 0 where
-  value : signed negative n ≡ units
+  value : with_sign negative n ≡ units
   bound : n ≤ cond negative 2_147_483_648 2_147_483_647
 
 units_sound : (negative : Bool) (n : ℕ) (units : ℤ) → reading_units negative n ≡ Ok units → IsSigned negative n units
 units_sound negative n units =
     let most : ℕ = cond negative 2_147_483_648 2_147_483_647 in
-    elim (leb n most) as (λ t. leb n most ≡ t → cond t (Ok (signed negative n)) (Err OutOfRange) ≡ Ok units → IsSigned negative n units) [
-      | true ↦ λ few e. record { value = (let same : signed negative n ≡ units = cc in same); bound = leb-true n most few }
+    elim (leb n most) as (λ t. leb n most ≡ t → cond t (Ok (with_sign negative n)) (Err OutOfRange) ≡ Ok units → IsSigned negative n units) [
+      | true ↦ λ few e. record { value = (let same : with_sign negative n ≡ units = cc in same); bound = leb-true n most few }
       | false ↦ λ many e. cc
     ] refl
 
+-- A coordinate that is read is spelled.
 pub coordinate_sound : (text : List ℕ) (units : ℤ) → reading_coordinate text ≡ Ok units → SpellsCoordinate text units
 coordinate_sound [] units e = cc
 coordinate_sound (b ∷ bs) units e =
@@ -143,14 +145,14 @@ coordinate_sound (b ∷ bs) units e =
       | true ↦ λ minus read.
           let r = both (reading_degrees (degree_parts bs).0 (degree_parts bs).1) (reading_units true) units read in
           let u = units_sound true r.between units r.then_done in
-          let of_bs : SpellsCoordinate (45 ∷ bs) (signed true r.between) =
+          let of_bs : SpellsCoordinate (45 ∷ bs) (with_sign true r.between) =
           minus_degrees bs r.between (degrees_sound bs r.between r.done) u.bound in
-          subst (SpellsCoordinate (b ∷ bs)) u.value (subst (λ c. SpellsCoordinate (c ∷ bs) (signed true r.between))
+          subst (SpellsCoordinate (b ∷ bs)) u.value (subst (λ c. SpellsCoordinate (c ∷ bs) (with_sign true r.between))
           (sym (eqb-true b 45 minus)) of_bs)
       | false ↦ λ plain read.
           let r = both (reading_degrees (degree_parts (b ∷ bs)).0 (degree_parts (b ∷ bs)).1) (reading_units false) units read in
           let u = units_sound false r.between units r.then_done in
-          let of_all : SpellsCoordinate (b ∷ bs) (signed false r.between) =
+          let of_all : SpellsCoordinate (b ∷ bs) (with_sign false r.between) =
           plain_degrees (b ∷ bs) r.between (degrees_sound (b ∷ bs) r.between r.done) u.bound in
           subst (SpellsCoordinate (b ∷ bs)) u.value of_all
     ] refl e
@@ -171,8 +173,8 @@ degrees_unsigned text units (whole_degrees digits n s few) = subst IsUnsigned (a
 degrees_unsigned text units (with_decimals digits decimals n d s few t short) = numeral_first digits (46 ∷ decimals) n s
 
 units_complete : (negative : Bool) (n : ℕ) → n ≤ cond negative 2_147_483_648 2_147_483_647 →
-    reading_units negative n ≡ Ok (signed negative n)
-units_complete negative n few = ap (λ t. cond t (Ok (signed negative n)) (Err OutOfRange))
+    reading_units negative n ≡ Ok (with_sign negative n)
+units_complete negative n few = ap (λ t. cond t (Ok (with_sign negative n)) (Err OutOfRange))
     (le-leb n (cond negative 2_147_483_648 2_147_483_647) few)
 
 coordinate_complete : (text : List ℕ) (units : ℤ) → SpellsCoordinate text units → reading_coordinate text ≡ Ok units
@@ -184,13 +186,15 @@ coordinate_complete text units (plain_degrees bytes n s few) =
 coordinate_complete text units (minus_degrees bytes n s few) =
     ap (λ r. and_then r (reading_units true)) (degrees_complete bytes n s) ∙ units_complete true n few
 
-pub place_sound : (text : List ℕ) (place : Option ℤ) → reading_optional reading_coordinate text ≡ Ok place → SpellsPlace text place
-place_sound [] place e = let same : None ≡ place = cc in subst (SpellsPlace []) same no_place
+-- A coordinate, or none, that is read is spelled.
+pub place_sound : (text : List ℕ) (place : Option ℤ) → reading_optional reading_coordinate text ≡ Ok place → SpellsOptionalCoordinate text place
+place_sound [] place e = let same : None ≡ place = cc in subst (SpellsOptionalCoordinate []) same no_place
 place_sound (b ∷ bs) place e =
     let r = became (λ (x : ℤ). Some x) (reading_coordinate (b ∷ bs)) place e in
-    subst (SpellsPlace (b ∷ bs)) r.became (some_place (b ∷ bs) r.from (coordinate_sound (b ∷ bs) r.from r.said_so))
+    subst (SpellsOptionalCoordinate (b ∷ bs)) r.became (some_place (b ∷ bs) r.from (coordinate_sound (b ∷ bs) r.from r.said_so))
 
-pub place_complete : (text : List ℕ) (place : Option ℤ) → SpellsPlace text place → reading_optional reading_coordinate text ≡ Ok place
+-- A coordinate, or none, that is spelled is read.
+pub place_complete : (text : List ℕ) (place : Option ℤ) → SpellsOptionalCoordinate text place → reading_optional reading_coordinate text ≡ Ok place
 place_complete text place no_place = refl
 place_complete text place (some_place bytes units s) =
     some_optional reading_coordinate bytes units (λ e. cc) (coordinate_complete bytes units s)

@@ -1,21 +1,21 @@
--- Texts without an escape, told by several bytes at a time.
+-- Texts without an escape, found several bytes at a time.
 use Rattle.std.proofs.Common.{◌≡◌, ℕ, ◌%◌, ◌^◌, ◌≤◌, Bool, true, false, not, cond, eqb, leb, ◌&&◌, ◌||◌, bit_or, List, [], ◌∷◌, length}
 use Rattle.std.proofs.Common.{take, map, replicate, refl, sym, ap, ◌∙◌, arith, Some, None, position}
 use Rattle.std.proofs.lemmas.Bool.Decides.{nat_tests}
 use Rattle.std.proofs.lemmas.List.{take_all}
 use Rattle.std.specs.List.{list_all}
 use lib.Lanes.{zip2, mask_l, top}
-use Rattle.opl_line.specs.Cut.{lengthened, split_first}
+use Rattle.opl_line.specs.Delimiter.{with_byte, split_first}
 use Rattle.osm_model.specs.Escape.{is_raw_byte}
 use Rattle.opl_line.proofs.CutLaws.{split_at, split_nowhere}
 use Rattle.opl_line.proofs.LaneLaws.{lanes, compared, splat_left, either, marked}
 
--- what stands before the first byte that isn't plain
+-- the text before the first byte that isn't plain
 module _ (p : ℕ → Bool) where
   front_fails : (bytes : List ℕ) → list_all (λ b. not (p b)) (split_first p bytes).0 ≡ true
   front_fails [] = refl
   front_fails (b ∷ bs) =
-      elim (p b) as (λ t. p b ≡ t → list_all (λ b. not (p b)) (cond t ([], Some bs) (lengthened b (split_first p bs))).0 ≡ true) [
+      elim (p b) as (λ t. p b ≡ t → list_all (λ b. not (p b)) (cond t ([], Some bs) (with_byte b (split_first p bs))).0 ≡ true) [
         | true ↦ λ is. refl
         | false ↦ λ is. λ i. not (is i) && front_fails bs i
       ] refl
@@ -31,7 +31,7 @@ is_odd b = ((((leb b 32 || leb 127 b) || eqb b 37) || eqb b 44) || eqb b 61) || 
 told_odd : (b : ℕ) → is_odd b ≡ not (is_raw_byte b)
 told_odd b = grind (arith, nat_tests)
 
--- several bytes that are compared with others together
+-- several bytes, compared with others in one step
 module _ (n : ℕ) (few : n ≤ 64) (v : List ℕ) (long : length v ≡ n) where
   equal : (b : ℕ) → zip2 (λ x y. cond (eqb x y) 255 0) v (replicate n b) ≡ lanes (λ x. eqb x b) v
   equal b = compared eqb v n b long
@@ -39,6 +39,7 @@ module _ (n : ℕ) (few : n ≤ 64) (v : List ℕ) (long : length v ≡ n) where
   abbrev same : ℕ → List ℕ
   same b = zip2 (λ x y. cond (eqb x y) 255 0) v (replicate n b)
 
+  -- The marks of several bytes mark those that are not raw.
   pub odd_marked : mask_l (map (top 7) (zip2 bit_or
       (zip2 bit_or (zip2 bit_or (zip2 bit_or (zip2 bit_or (zip2 (λ x y. cond (leb x y) 255 0) v (replicate n 32))
       (zip2 (λ x y. cond (leb x y) 255 0) (replicate n 127) v)) (same 37)) (same 44)) (same 61)) (same 64))) % 2 ^ 64
@@ -52,7 +53,7 @@ module _ (n : ℕ) (few : n ≤ 64) (v : List ℕ) (long : length v ≡ n) where
       let others = either (λ x. (((leb x 32 || leb 127 x) || eqb x 37) || eqb x 44) || eqb x 61) (λ x. eqb x 64) v equals (equal 64) in
       marked is_odd v others (omega (arith, long, few)) ∙ ap (λ h. mask_l (map h v)) (λ i x. told_odd x i)
 
--- what passes before the first byte that doesn't
+-- the bytes before the first that doesn't pass
 module _ (passes : ℕ → Bool) where
   abbrev fails : ℕ → Bool
   fails b = not (passes b)
@@ -60,9 +61,11 @@ module _ (passes : ℕ → Bool) where
   front_passes : (bytes : List ℕ) → list_all passes (split_first fails bytes).0 ≡ true
   front_passes bytes = ap (λ q. list_all q (split_first fails bytes).0) (λ i b. twice (passes b) i) ∙ front_fails fails bytes
 
+  -- The bytes before the first that fails pass.
   pub passing_before : (bytes : List ℕ) (n : ℕ) → position fails bytes ≡ Some n → list_all passes (take n bytes) ≡ true
   passing_before bytes n found = sym (ap (λ parts. list_all passes parts.0) (split_at fails bytes n found).split) ∙ front_passes bytes
 
+  -- Where no byte fails, all pass.
   pub passing_throughout : (bytes : List ℕ) → position fails bytes ≡ None → list_all passes (take (length bytes) bytes) ≡ true
   passing_throughout bytes none =
       ap (list_all passes) (take_all (length bytes) bytes (omega arith))

@@ -1,4 +1,4 @@
--- What a line in UTF-8 tells is within its range.
+-- The fields of a line in UTF-8 are within their ranges.
 use Rattle.std.proofs.Common.{◌≡◌, ℕ, ℤ, zero, suc, ◌^◌, ◌<◌, ◌≤◌, Bool, true, false, cond, leb, ◌&&◌, List, [], ◌∷◌, filter, fold, Option}
 use Rattle.std.proofs.Common.{Some, None, unwrap_or, Ok, Err, refl, sym, ap, ◌∙◌, subst, arith}
 use Rattle.std.proofs.lemmas.Bool.{leb-true, lt-ltb}
@@ -18,15 +18,15 @@ use Rattle.osm_model.specs.Members.{ids_of_members, roles_of}
 use Rattle.osm_model.specs.Data.{ids_of, texts_of}
 use Rattle.osm_model.specs.New.{is_number, is_time}
 use Rattle.osm_model.specs.Pairwise.{Pairwise}
-use Rattle.opl_line.specs.declared.bytes.cut.Cut.TheVariants.{Commas, Equals, Ats}
+use Rattle.opl_line.specs.declared.bytes.cut.Delimiter.TheVariants.{Commas, Equals, Ats}
 use Rattle.opl_line.specs.declared.general.field.Fields.{Fields}
 use Rattle.opl_line.specs.declared.reason.OplReason.TheVariants.{BadNumber, OutOfRange}
-use Rattle.opl_line.specs.Cut.{is_end, cut}
-use Rattle.opl_line.specs.Number.{is_numeral, decimal_value, up_to, reading_number, is_negative, without_sign, signed, reading_id}
-use Rattle.opl_line.specs.Field.{nothing_said, reading_number_32, reading_count}
+use Rattle.opl_line.specs.Delimiter.{is_end, split_all}
+use Rattle.opl_line.specs.Number.{is_numeral, decimal_value, up_to, reading_number, is_negative, without_sign, with_sign, reading_id}
+use Rattle.opl_line.specs.Field.{no_fields, reading_number_32, reading_count}
 use Rattle.opl_line.specs.Content.{SpellsTag, SpellsReference, SpellsMember, SpellsList}
 use Rattle.opl_line.specs.Part as part
-use Rattle.opl_line.specs.Part.{Part, letter_of, SpellsContent, SpellsPart, with_part}
+use Rattle.opl_line.specs.Part.{LinePart, letter_of, SpellsContent, SpellsPart, with_part}
 use Rattle.opl_line.specs.Reading.{reading_location, reading_visible, reading_body}
 use Rattle.opl_line.specs.Spells.{is_full}
 use Rattle.opl_line.specs.Within.{AreWithin}
@@ -53,14 +53,15 @@ count_within : (text : List ℕ) (n : ℕ) → reading_count text ≡ Ok n → i
 count_within [] n e = let same : 0 ≡ n = cc in sym (ap is_number same)
 count_within (b ∷ bs) n e = number_within (b ∷ bs) n e
 
-signed_within : (negative : Bool) (n : ℕ) → n ≤ 4_611_686_018_427_387_903 → is_id (signed negative n) ≡ true
+signed_within : (negative : Bool) (n : ℕ) → n ≤ 4_611_686_018_427_387_903 → is_id (with_sign negative n) ≡ true
 signed_within true zero few = refl
 signed_within true (suc n) few = lt-ltb (suc n) (2 ^ 62) (omega arith)
 signed_within false n few = lt-ltb n (2 ^ 62) (omega arith)
 
+-- An id that is read is within its range.
 pub id_within : (text : List ℕ) (id : ℤ) → reading_id text ≡ Ok id → is_id id ≡ true
 id_within text id e =
-    let b = became (signed (is_negative text)) (reading_number 4_611_686_018_427_387_903 (without_sign text)) id e in
+    let b = became (with_sign (is_negative text)) (reading_number 4_611_686_018_427_387_903 (without_sign text)) id e in
     sym (ap is_id b.became) ∙ signed_within (is_negative text) b.from
     (number_at_most 4_611_686_018_427_387_903 (without_sign text) b.from b.said_so)
 
@@ -101,7 +102,7 @@ members_within (piece ∷ pieces) (m ∷ ms) s utf8 =
     }
 
 -- ---- parts
-abbrev IsWithin : Part → Type 0
+abbrev IsWithin : LinePart → Type 0
 IsWithin (part.Number n) = is_number n ≡ true
 IsWithin (part.Deleted d) = Unit {0}
 IsWithin (part.Changeset n) = is_number n ≡ true
@@ -118,9 +119,9 @@ list_within : {X : Type 0} (SpellsItem : List ℕ → X → Type 0) (Q : List X 
     ((pieces : List (List ℕ)) (xs : List X) → Pairwise SpellsItem pieces xs → AllByRecursion IsUtf8 pieces → Q xs) →
     (content : List ℕ) (xs : List X) → SpellsList SpellsItem content xs → IsUtf8 content → Q xs
 list_within SpellsItem Q none some [] xs s utf8 = subst Q (sym s) none
-list_within SpellsItem Q none some (b ∷ bs) xs s utf8 = some (cut (is_end Commas) (b ∷ bs)) xs s (cut_utf8 Commas (b ∷ bs) utf8)
+list_within SpellsItem Q none some (b ∷ bs) xs s utf8 = some (split_all (is_end Commas) (b ∷ bs)) xs s (cut_utf8 Commas (b ∷ bs) utf8)
 
-content_within : (content : List ℕ) (p : Part) → SpellsContent content p → IsUtf8 content → IsWithin p
+content_within : (content : List ℕ) (p : LinePart) → SpellsContent content p → IsUtf8 content → IsWithin p
 content_within content (part.Number n) s utf8 = number_within content n (number_complete 4_294_967_295 content n s)
 content_within content (part.Deleted d) s utf8 = tt
 content_within content (part.Changeset n) s utf8 = count_within content n (count_complete content n s)
@@ -136,7 +137,7 @@ content_within content (part.References ids) s utf8 =
 content_within content (part.Members ms) s utf8 = list_within SpellsMember MembersWithin
     (record { ids = refl; roles = refl }) members_within content ms s utf8
 
-letter_ascii : (p : Part) → letter_of p < 128
+letter_ascii : (p : LinePart) → letter_of p < 128
 letter_ascii (part.Number n) = omega arith
 letter_ascii (part.Deleted d) = omega arith
 letter_ascii (part.Changeset n) = omega arith
@@ -149,11 +150,11 @@ letter_ascii (part.Latitude y) = omega arith
 letter_ascii (part.References ids) = omega arith
 letter_ascii (part.Members ms) = omega arith
 
-part_within : (k : Kind) (field : List ℕ) (p : Part) → SpellsPart k field p → IsUtf8 field → IsWithin p
+part_within : (k : Kind) (field : List ℕ) (p : LinePart) → SpellsPart k field p → IsUtf8 field → IsWithin p
 part_within k field p s utf8 = content_within s.content p s.spelled
     (utf8_around [] s.content (letter_of p) (letter_ascii p) (subst IsUtf8 s.lettered utf8)).1
 
-parts_within : (k : Kind) (fields : List (List ℕ)) (parts : List Part) → Pairwise (SpellsPart k) (filter is_full fields) parts →
+parts_within : (k : Kind) (fields : List (List ℕ)) (parts : List LinePart) → Pairwise (SpellsPart k) (filter is_full fields) parts →
     AllByRecursion IsUtf8 fields → AllByRecursion IsWithin parts
 parts_within k [] [] s utf8 = tt
 parts_within k [] (p ∷ ps) s utf8 = absurd s
@@ -162,7 +163,7 @@ parts_within k ((b ∷ bs) ∷ fields) [] s utf8 = absurd s
 parts_within k ((b ∷ bs) ∷ fields) (p ∷ ps) s utf8 = (part_within k (b ∷ bs) p s.0 utf8.0, parts_within k fields ps s.1 utf8.1)
 
 -- ---- all fields together
-with_within : (fields : Fields) (p : Part) → AreWithin fields → IsWithin p → AreWithin (with_part fields p)
+with_within : (fields : Fields) (p : LinePart) → AreWithin fields → IsWithin p → AreWithin (with_part fields p)
 with_within fields (part.Number n) h w = record {
   number = w;
   changeset = h.changeset;
@@ -291,15 +292,16 @@ with_within fields (part.Members ms) h w = record {
   roles = w.roles;
 }
 
-said_within : (fields : Fields) (parts : List Part) → AreWithin fields → AllByRecursion IsWithin parts →
+said_within : (fields : Fields) (parts : List LinePart) → AreWithin fields → AllByRecursion IsWithin parts →
     AreWithin (fold with_part fields parts)
 said_within fields [] h ws = h
 said_within fields (p ∷ ps) h ws = said_within (with_part fields p) ps (with_within fields p h ws.0) ws.1
 
-pub line_within : (k : Kind) (fields : List (List ℕ)) (parts : List Part) → Pairwise (SpellsPart k) (filter is_full fields) parts →
-    AllByRecursion IsUtf8 fields → AreWithin (fold with_part nothing_said parts)
+-- What the parts of a line say is within its ranges.
+pub line_within : (k : Kind) (fields : List (List ℕ)) (parts : List LinePart) → Pairwise (SpellsPart k) (filter is_full fields) parts →
+    AllByRecursion IsUtf8 fields → AreWithin (fold with_part no_fields parts)
 line_within k fields parts s utf8 =
-    said_within nothing_said parts (record {
+    said_within no_fields parts (record {
       number = refl;
       changeset = refl;
       time = refl;
@@ -340,6 +342,7 @@ visible_within kind.Relation fields b h e =
           ∙ (λ i. h.roles i && h.tags i);
     })
 
+-- A body that is read of data within its ranges is within its ranges.
 pub body_within : (k : Kind) (fields : Fields) (b : Body) → AreWithin fields → reading_body k fields ≡ Ok b → BodyWithin b
 body_within k fields b h =
     elim (unwrap_or fields.deleted false) as (λ t. cond t (Ok (Deleted k)) (reading_visible k fields) ≡ Ok b → BodyWithin b) [

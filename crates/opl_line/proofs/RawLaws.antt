@@ -1,4 +1,4 @@
--- Where the raw characters of a text end.
+-- The end of the raw characters of a text.
 use Rattle.std.proofs.Common.{◌≡◌, ℕ, ◌+◌, ◌<◌, Bool, true, false, not, cond, eqb, ◌&&◌, List, [], ◌∷◌, ◌++◌, length, take, drop, get_or}
 use Rattle.std.proofs.Common.{Some, None, Ok, position, refl, sym, ap, ◌∙◌, add-one}
 use Rattle.std.proofs.lemmas.Bool.{and_parts}
@@ -7,8 +7,8 @@ use Rattle.std.proofs.Math.Seq.{drop-cons}
 use Rattle.std.specs.List.{list_all}
 use Rattle.std.specs.Option.{option_map, ok_or}
 use Rattle.std.specs.Str.{chars}
-use Rattle.opl_line.specs.declared.bytes.cut.Cut.TheVariants.{Percents}
-use Rattle.opl_line.specs.Cut.{is_end, lengthened, split_first}
+use Rattle.opl_line.specs.declared.bytes.cut.Delimiter.TheVariants.{Percents}
+use Rattle.opl_line.specs.Delimiter.{is_end, with_byte, split_first}
 use Rattle.opl_line.specs.declared.reason.OplReason.TheVariants.{BadText}
 use Rattle.opl_line.specs.Text.{stands_for_itself, text_from, text_of_pieces}
 use Rattle.opl_line.proofs.BoolLaws.{not_true}
@@ -16,6 +16,7 @@ use Rattle.opl_line.proofs.CutLaws.{split_at, split_nowhere, split_front, split_
 use Rattle.opl_line.proofs.ContentLaws.{all_weaker, raw_no_percent}
 use Rattle.opl_line.proofs.TextLaws.{all_read}
 
+-- A byte doesn't stand for itself.
 abbrev pub is_other : ℕ → Bool
 is_other b = not (stands_for_itself b)
 
@@ -23,12 +24,12 @@ twice : (b : Bool) → not (not b) ≡ true → b ≡ true
 twice true e = refl
 twice false e = cc
 
--- what stands before the first other character is raw
+-- the text before the first other character is raw
 front_raw : (bytes : List ℕ) → list_all stands_for_itself (split_first is_other bytes).0 ≡ true
 front_raw [] = refl
 front_raw (b ∷ bs) =
     elim (stands_for_itself b) as (λ t. stands_for_itself b ≡ t →
-    list_all stands_for_itself (cond (not t) ([], Some bs) (lengthened b (split_first is_other bs))).0 ≡ true) [
+    list_all stands_for_itself (cond (not t) ([], Some bs) (with_byte b (split_first is_other bs))).0 ≡ true) [
       | true ↦ λ is. λ i. is i && front_raw bs i
       | false ↦ λ is. refl
     ] refl
@@ -40,6 +41,7 @@ pub record RawEnd (bytes : List ℕ) (n : ℕ) : Type 0 where
   pub other : stands_for_itself (get_or bytes n 0) ≡ false
   pub whole : bytes ≡ take n bytes ++ get_or bytes n 0 ∷ drop (n + 1) bytes
 
+-- The first byte that isn't raw is where the raw text ends.
 pub raw_end : (bytes : List ℕ) (n : ℕ) → position is_other bytes ≡ Some n → RawEnd bytes n
 raw_end bytes n found =
     let s = split_at is_other bytes n found in
@@ -63,14 +65,15 @@ percent_ends bytes n end is =
 unraw : (front rest : List ℕ) (b : ℕ) → list_all stands_for_itself front ≡ true → stands_for_itself b ≡ false → eqb b 37 ≡ false →
     list_all stands_for_itself (split_first (is_end Percents) (front ++ b ∷ rest)).0 ≡ false
 unraw [] rest b all other apart =
-    ap (λ t. list_all stands_for_itself (cond t ([], Some rest) (lengthened b (split_first (is_end Percents) rest))).0) apart
+    ap (λ t. list_all stands_for_itself (cond t ([], Some rest) (with_byte b (split_first (is_end Percents) rest))).0) apart
     ∙ ap (λ t. t && list_all stands_for_itself (split_first (is_end Percents) rest).0) other
 unraw (x ∷ xs) rest b all other apart =
     let parts = and_parts (stands_for_itself x) (list_all stands_for_itself xs) all in
     ap (λ t. list_all stands_for_itself (cond t ([], Some (xs ++ b ∷ rest))
-    (lengthened x (split_first (is_end Percents) (xs ++ b ∷ rest)))).0) (not_true (eqb x 37) (raw_no_percent x parts.0))
+    (with_byte x (split_first (is_end Percents) (xs ++ b ∷ rest)))).0) (not_true (eqb x 37) (raw_no_percent x parts.0))
     ∙ (λ i. parts.0 i && unraw xs rest b parts.1 other apart i)
 
+-- Where raw text ends at another byte than a percent sign, the first piece isn't raw.
 pub other_ends : (bytes : List ℕ) (n : ℕ) → RawEnd bytes n → eqb (get_or bytes n 0) 37 ≡ false →
     list_all stands_for_itself (split_first (is_end Percents) bytes).0 ≡ false
 other_ends bytes n end apart = ap (λ t. list_all stands_for_itself (split_first (is_end Percents) t).0) end.whole
@@ -87,6 +90,7 @@ raw_alone bytes raw = (
       (all_weaker stands_for_itself (λ b. not (eqb b 37)) raw_no_percent bytes raw),
 )
 
+-- A text without any other byte is raw.
 pub all_raw : (bytes : List ℕ) → position is_other bytes ≡ None → AllRaw bytes
 all_raw bytes none = raw_alone bytes (sym (ap (λ parts. list_all stands_for_itself parts.0) (split_nowhere is_other bytes none))
     ∙ front_raw bytes)

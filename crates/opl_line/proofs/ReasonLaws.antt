@@ -1,4 +1,4 @@
--- Contents that are refused are faulty, and the reverse.
+-- Contents that are refused are faulty, and conversely.
 use Rattle.std.proofs.Common.{◌≡◌, ℕ, ℤ, true, false, cond, eqb, List, [], ◌∷◌, ◌++◌, Option, Some, None, Result, Ok, Err, refl, sym, ap}
 use Rattle.std.proofs.Common.{◌∙◌, subst, inl, inr, ⊎_elim}
 use Rattle.std.proofs.lemmas.Bool.{eqb-true, eqb-false}
@@ -9,11 +9,11 @@ use Rattle.osm_model.specs.declared.tags.Tag.{Tag}
 use Rattle.osm_model.specs.declared.members.Member.{Member}
 use Rattle.osm_model.specs.Kind.{kind_letter}
 use Rattle.osm_model.specs.Pairwise.{Pairwise}
-use Rattle.opl_line.specs.declared.bytes.cut.Cut.TheVariants.{Commas, Equals, Ats}
+use Rattle.opl_line.specs.declared.bytes.cut.Delimiter.TheVariants.{Commas, Equals, Ats}
 use Rattle.opl_line.specs.declared.reason.OplReason.{OplReason}
 use Rattle.opl_line.specs.declared.reason.OplReason.TheVariants.{UnknownKind, BadText, BadList}
 use Rattle.opl_line.specs.Answer.{and_then, as_value, with_reason}
-use Rattle.opl_line.specs.Cut.{is_end, split_first, cut}
+use Rattle.opl_line.specs.Delimiter.{is_end, split_first, split_all}
 use Rattle.opl_line.specs.Number.{reading_id}
 use Rattle.opl_line.specs.Item.{reading_items, reading_list, tag_of_pieces, reading_tag, item_reason, reading_item_id, reading_reference}
 use Rattle.opl_line.specs.Item.{kind_of_letter, reading_named, reading_object_name, member_of_parts, reading_member}
@@ -25,6 +25,7 @@ use Rattle.opl_line.specs.LineReason.{no_number, MemberReason, no_at, no_name, n
 use Rattle.opl_line.proofs.ContentLaws.{characters_sound, characters_complete, tag_sound, tag_complete, reference_sound, reference_complete}
 use Rattle.opl_line.proofs.ContentLaws.{member_sound, member_complete, name_sound, name_complete, kind_of_its_letter, letter_of_kind}
 
+-- A refusal stays one with the same reason if another value is wanted.
 pub still_refused : {X Y : Type 0} (f : X → Y) (said : Result X OplReason) (reason : OplReason) → as_value f said ≡ Err reason →
     said ≡ Err reason
 still_refused f (Ok x) reason e = cc
@@ -52,6 +53,7 @@ text_reason bytes reason =
 text_refused : (bytes : List ℕ) (reason : OplReason) → reading_text bytes ≡ Err reason → SpellsNoText bytes
 text_refused bytes reason e cs s = let clash = sym e ∙ characters_complete bytes cs s in cc
 
+-- Bytes that spell no text are refused as BadText.
 pub no_text_read : (bytes : List ℕ) → SpellsNoText bytes → reading_text bytes ≡ Err BadText
 no_text_read bytes none =
     elim (reading_text bytes) as (λ r. reading_text bytes ≡ r → r ≡ Err BadText) [
@@ -60,7 +62,7 @@ no_text_read bytes none =
     ] refl
 
 -- ---- tags
-tag_pieces_refused : (bytes : List ℕ) (pieces : List (List ℕ)) (reason : OplReason) → cut (is_end Equals) bytes ≡ pieces →
+tag_pieces_refused : (bytes : List ℕ) (pieces : List (List ℕ)) (reason : OplReason) → split_all (is_end Equals) bytes ≡ pieces →
     tag_of_pieces pieces ≡ Err reason → TagReason bytes reason
 tag_pieces_refused bytes [] reason is e =
     let P : OplReason → Type 0 = TagReason bytes in
@@ -88,10 +90,10 @@ tag_pieces_refused bytes (key ∷ value ∷ []) reason is refused =
     ] refl refused
 
 tag_refused : (bytes : List ℕ) (reason : OplReason) → reading_tag bytes ≡ Err reason → TagReason bytes reason
-tag_refused bytes reason e = tag_pieces_refused bytes (cut (is_end Equals) bytes) reason refl e
+tag_refused bytes reason e = tag_pieces_refused bytes (split_all (is_end Equals) bytes) reason refl e
 
-uneven_read : (bytes : List ℕ) (pieces : List (List ℕ)) → cut (is_end Equals) bytes ≡ pieces →
-    ((key value : List ℕ) → cut (is_end Equals) bytes ≡ key ∷ value ∷ [] → ⊥) → tag_of_pieces pieces ≡ Err BadList
+uneven_read : (bytes : List ℕ) (pieces : List (List ℕ)) → split_all (is_end Equals) bytes ≡ pieces →
+    ((key value : List ℕ) → split_all (is_end Equals) bytes ≡ key ∷ value ∷ [] → ⊥) → tag_of_pieces pieces ≡ Err BadList
 uneven_read bytes [] is none = refl
 uneven_read bytes (key ∷ []) is none = refl
 uneven_read bytes (key ∷ value ∷ []) is none = absurd (none key value is)
@@ -106,7 +108,7 @@ no_value_read key value none =
     ] refl
 
 tag_reason_told : (bytes : List ℕ) (reason : OplReason) → TagReason bytes reason → reading_tag bytes ≡ Err reason
-tag_reason_told bytes reason (uneven bytes' none) = uneven_read bytes' (cut (is_end Equals) bytes') refl none
+tag_reason_told bytes reason (uneven bytes' none) = uneven_read bytes' (split_all (is_end Equals) bytes') refl none
 tag_reason_told bytes reason (no_text bytes' key value is which) =
     let tag : List ℕ → List ℕ → Tag = λ k v. record { key = k; value = v } in
     ap tag_of_pieces is ∙ ⊎_elim (λ none. ap (λ r. and_then r (λ k. as_value (tag k) (reading_text value))) (no_text_read key none))
@@ -181,6 +183,7 @@ module _ (other : OplReason) (of_id : OplReason → OplReason) (read : List ℕ 
   no_id_told k digits reason e = ap (λ o. named o digits) (kind_of_its_letter k) ∙ some_is k digits
       ∙ ap (as_value (λ id. (k, id))) (reason_to digits reason e)
 
+-- An object that is refused has the reason that is returned.
 pub object_refused : (bytes : List ℕ) (reason : OplReason) → reading_object bytes ≡ Err reason →
     ObjectReason UnknownKind (λ r. r) bytes reason
 object_refused [] reason e =
@@ -191,6 +194,7 @@ object_refused (letter ∷ digits) reason e =
     named_refused UnknownKind (λ r. r) reading_id reading_kind_and_id (λ ds. refl) (λ k ds. refl)
     (λ ds r at. record { from = r; said_so = at; became = refl }) (λ ds r at. at) letter digits reason e
 
+-- An object that has a reason is refused with it.
 pub object_reason_told : (bytes : List ℕ) (reason : OplReason) → ObjectReason UnknownKind (λ r. r) bytes reason →
     reading_object bytes ≡ Err reason
 object_reason_told bytes reason (no_kind [] none) = refl
@@ -308,7 +312,7 @@ module _ {X : Type 0} (reading : List ℕ → Result X OplReason) (SpellsItem : 
   list_refused : (content : List ℕ) (reason : OplReason) → reading_list reading content ≡ Err reason →
       ListReason SpellsItem ItemReason content reason
   list_refused [] reason e = cc
-  list_refused (b ∷ bs) reason e = items_refused (cut (is_end Commas) (b ∷ bs)) reason e
+  list_refused (b ∷ bs) reason e = items_refused (split_all (is_end Commas) (b ∷ bs)) reason e
 
   list_told : (content : List ℕ) (reason : OplReason) → ListReason SpellsItem ItemReason content reason →
       reading_list reading content ≡ Err reason
@@ -316,31 +320,38 @@ module _ {X : Type 0} (reading : List ℕ → Result X OplReason) (SpellsItem : 
   list_told (b ∷ bs) reason r = ap (reading_items reading) r.parted
       ∙ items_told r.front r.items r.piece r.behind reason r.fine (told r.piece reason r.faulty)
 
+-- A list of tags that is refused has the reason that is returned.
 pub tags_refused : (content : List ℕ) (reason : OplReason) → reading_list reading_tag content ≡ Err reason →
     ListReason SpellsTag TagReason content reason
 tags_refused = list_refused reading_tag SpellsTag TagReason tag_sound tag_complete tag_refused tag_reason_told
 
+-- A list of tags that has a reason is refused with it.
 pub tags_told : (content : List ℕ) (reason : OplReason) → ListReason SpellsTag TagReason content reason →
     reading_list reading_tag content ≡ Err reason
 tags_told = list_told reading_tag SpellsTag TagReason tag_sound tag_complete tag_refused tag_reason_told
 
+-- A list of references that is refused has the reason that is returned.
 pub references_refused : (content : List ℕ) (reason : OplReason) → reading_list reading_reference content ≡ Err reason →
     ListReason SpellsReference ReferenceReason content reason
 references_refused = list_refused reading_reference SpellsReference ReferenceReason reference_sound reference_complete reference_refused
     reference_reason_told
 
+-- A list of references that has a reason is refused with it.
 pub references_told : (content : List ℕ) (reason : OplReason) → ListReason SpellsReference ReferenceReason content reason →
     reading_list reading_reference content ≡ Err reason
 references_told = list_told reading_reference SpellsReference ReferenceReason reference_sound reference_complete reference_refused
     reference_reason_told
 
+-- A list of members that is refused has the reason that is returned.
 pub members_refused : (content : List ℕ) (reason : OplReason) → reading_list reading_member content ≡ Err reason →
     ListReason SpellsMember MemberReason content reason
 members_refused = list_refused reading_member SpellsMember MemberReason member_sound member_complete member_refused member_reason_told
 
+-- A list of members that has a reason is refused with it.
 pub members_told : (content : List ℕ) (reason : OplReason) → ListReason SpellsMember MemberReason content reason →
     reading_list reading_member content ≡ Err reason
 members_told = list_told reading_member SpellsMember MemberReason member_sound member_complete member_refused member_reason_told
 
+-- A user name that is refused is BadText and spells no text.
 pub user_refused : (content : List ℕ) (reason : OplReason) → reading_text content ≡ Err reason → (reason ≡ BadText) × SpellsNoText content
 user_refused content reason e = (text_reason content reason e, text_refused content reason e)

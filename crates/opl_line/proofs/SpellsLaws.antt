@@ -1,4 +1,4 @@
--- What is read is spelled so, and what is spelled so is read.
+-- A version is read from a line exactly if the line spells it.
 use Rattle.std.proofs.Common.{◌≡◌, ℕ, ℤ, Bool, true, false, not, cond, ◌==◌, List, [], ◌∷◌, Option, Some, None, Result, Ok, Err, refl, sym}
 use Rattle.std.proofs.Common.{ap, ◌∙◌, subst, IfOk, IfErr, MatchOption, inl, inr, ⊎_elim, ◌⊎◌}
 use Rattle.std.proofs.lemmas.Str.{IsUtf8-from_is_utf8}
@@ -13,20 +13,20 @@ use Rattle.osm_model.specs.declared.fault.ValueFault.TheVariants as fault
 use Rattle.osm_model.specs.Id.{is_id}
 use Rattle.osm_model.specs.Text.{is_text}
 use Rattle.osm_model.specs.New.{is_number, is_time, is_dated, first_of_tests, first_fault, unless_faulty, version_or_fault}
-use Rattle.opl_line.specs.declared.bytes.cut.Cut.TheVariants.{Blanks}
+use Rattle.opl_line.specs.declared.bytes.cut.Delimiter.TheVariants.{Blanks}
 use Rattle.opl_line.specs.declared.general.field.Fields.{Fields}
 use Rattle.opl_line.specs.declared.reason.OplReason.{OplReason}
 use Rattle.opl_line.specs.declared.reason.OplReason.TheVariants.{NotUtf8, NoVersion, NoTime, Memory}
-use Rattle.opl_line.specs.Answer.{and_then, as_value, Answers}
-use Rattle.opl_line.specs.Cut.{is_end, split_first, cut, pieces_of}
+use Rattle.opl_line.specs.Answer.{and_then, as_value, OplAnswers}
+use Rattle.opl_line.specs.Delimiter.{is_end, split_first, split_all, pieces_of}
 use Rattle.opl_line.specs.Number.{reading_id}
 use Rattle.opl_line.specs.Item.{kind_of_letter}
-use Rattle.opl_line.specs.Field.{nothing_said, reading_fields}
+use Rattle.opl_line.specs.Field.{no_fields, reading_fields}
 use Rattle.opl_line.specs.Reading.{is_skipped, reading_kind_and_id, reading_object, meta_of, reading_body, unless_fault, reading_whole}
 use Rattle.opl_line.specs.Reading.{reading_version, reading_line}
 use Rattle.opl_line.specs.Content.{SpellsObject}
-use Rattle.opl_line.specs.Part.{Part}
-use Rattle.opl_line.specs.Spells.{IsVersionOf, said_by, Tells, Spells, SpellsNothing, ReadIsSpelled, SpelledIsRead, OneReading}
+use Rattle.opl_line.specs.Part.{LinePart}
+use Rattle.opl_line.specs.Spells.{IsVersionOf, fields_of_parts, SpellsParts, Spells, SpellsNothing, ReadIsSpelled, SpelledIsRead, OneReading}
 use Rattle.opl_line.specs.Spells.{RefusedSpellsNothing, SkippedSpellsNothing}
 use Rattle.opl_line.proofs.NumeralLaws.{id_sound, id_complete}
 use Rattle.opl_line.proofs.AnswerLaws.{both, became}
@@ -53,6 +53,7 @@ object_spelled (letter ∷ digits) k id read =
           }
     ] refl read
 
+-- An object that is spelled is read.
 pub object_read : (field : List ℕ) (k : Kind) (id : ℤ) → SpellsObject field k id → reading_object field ≡ Ok (k, id)
 object_read field k id s =
     ap reading_object s.lettered
@@ -112,12 +113,12 @@ line_spelled : (line : List ℕ) (v : VersionData) → is_skipped line ≡ false
 unfolding reading_version
 line_spelled line v kept utf8 e =
     let parts = split_first (is_end Blanks) line in
-    let rest = λ (object : Kind × ℤ). and_then (reading_fields object.0 (pieces_of (is_end Blanks) parts.1) nothing_said)
+    let rest = λ (object : Kind × ℤ). and_then (reading_fields object.0 (pieces_of (is_end Blanks) parts.1) no_fields)
     (reading_whole object.0 object.1) in
     let object = both (reading_object parts.0) rest v e in
     let k = object.between.0 in
     let id = object.between.1 in
-    let fields = both (reading_fields k (pieces_of (is_end Blanks) parts.1) nothing_said) (reading_whole k id) v object.then_done in
+    let fields = both (reading_fields k (pieces_of (is_end Blanks) parts.1) no_fields) (reading_whole k id) v object.then_done in
     let said = parts_of k (pieces_of (is_end Blanks) parts.1) fields.between fields.done in
     let P : Fields → Type 0 = λ f. IsVersionOf k id f v in
     record {
@@ -137,6 +138,7 @@ line_spelled line v kept utf8 e =
       version = subst P said.together (whole_spelled k id fields.between v fields.then_done);
     }
 
+-- A line that is read as a version spells it.
 pub read_is_spelled : ReadIsSpelled
 read_is_spelled line v =
     elim (is_skipped line) as (λ t. is_skipped line ≡ t →
@@ -153,39 +155,44 @@ read_is_spelled line v =
           ] refl
     ] refl
 
-pub first_and_rest : (line object : List ℕ) (others : List (List ℕ)) → cut (is_end Blanks) line ≡ object ∷ others →
+-- The first field of a line is its first piece, and the others are the pieces of the rest.
+pub first_and_rest : (line object : List ℕ) (others : List (List ℕ)) → split_all (is_end Blanks) line ≡ object ∷ others →
     ((split_first (is_end Blanks) line).0 ≡ object) × (pieces_of (is_end Blanks) (split_first (is_end Blanks) line).1 ≡ others)
 first_and_rest line object others e = let same = sym (cut_split (is_end Blanks) line) ∙ e in (cc, cc)
 
--- the version of a line is that of what it tells
-pub tells_read : (line : List ℕ) (k : Kind) (id : ℤ) (parts : List Part) → Tells line k id parts →
-    reading_version line ≡ reading_whole k id (said_by parts)
+-- the version of a line is that of its object and parts
+pub tells_read : (line : List ℕ) (k : Kind) (id : ℤ) (parts : List LinePart) → SpellsParts line k id parts →
+    reading_version line ≡ reading_whole k id (fields_of_parts parts)
 unfolding reading_version
 tells_read line k id parts t =
     let pieces = split_first (is_end Blanks) line in
     let at = first_and_rest line t.object t.others t.fields in
-    let rest = λ (object : Kind × ℤ). and_then (reading_fields object.0 (pieces_of (is_end Blanks) pieces.1) nothing_said)
+    let rest = λ (object : Kind × ℤ). and_then (reading_fields object.0 (pieces_of (is_end Blanks) pieces.1) no_fields)
     (reading_whole object.0 object.1) in
     ap (λ r. and_then r rest) (ap reading_object at.0 ∙ object_read t.object k id t.names)
-    ∙ ap (λ r. and_then r (reading_whole k id)) (ap (λ ps. reading_fields k ps nothing_said) at.1
+    ∙ ap (λ r. and_then r (reading_whole k id)) (ap (λ ps. reading_fields k ps no_fields) at.1
     ∙ read_of k t.others parts t.spelled t.different)
 
 version_read : (line : List ℕ) (v : VersionData) → Spells line v → reading_version line ≡ Ok v
-version_read line v s = tells_read line s.kind s.id s.parts s.tells ∙ whole_read s.kind s.id (said_by s.parts) v s.version
+version_read line v s = tells_read line s.kind s.id s.parts s.tells ∙ whole_read s.kind s.id (fields_of_parts s.parts) v s.version
 
+-- A line that spells a version is read as it.
 pub spelled_is_read : SpelledIsRead
 spelled_is_read line v s = utf8_line line s.tells.not_skipped s.tells.utf8 ∙ ap (as_value (λ w. Some w)) (version_read line v s)
 
+-- A line spells at most one version.
 pub one_reading : OneReading
 one_reading line v w s t = let same = sym (spelled_is_read line v s) ∙ spelled_is_read line w t in cc
 
+-- A line that is refused spells nothing.
 pub refused_spells_nothing : RefusedSpellsNothing
 refused_spells_nothing line reason v refused s = let clash = sym refused ∙ spelled_is_read line v s in cc
 
+-- A line that is skipped spells nothing.
 pub skipped_spells_nothing : SkippedSpellsNothing
 skipped_spells_nothing line v skipped s = let clash = sym skipped ∙ spelled_is_read line v s in cc
 
--- ---- what an answer says
+-- ---- consequences of results
 pub skipped_only : (line : List ℕ) → reading_line line ≡ Ok None → is_skipped line ≡ true
 skipped_only line =
     elim (is_skipped line) as (λ t. cond t (Ok None) (cond (is_utf8 line) (as_value (λ w. Some w) (reading_version line)) (Err NotUtf8))
@@ -198,12 +205,14 @@ skipped_only line =
           ]
     ]
 
-pub answer_spelled : (line : List ℕ) (answer : Result (Option VersionData) OplReason) → Answers (reading_line line) answer →
+-- A version that is returned is spelled by the line.
+pub answer_spelled : (line : List ℕ) (answer : Result (Option VersionData) OplReason) → OplAnswers (reading_line line) answer →
     IfOk answer (λ read. MatchOption read (is_skipped line ≡ true) (Spells line))
 answer_spelled line (Ok None) h = skipped_only line h
 answer_spelled line (Ok (Some v)) h = read_is_spelled line v h
 answer_spelled line (Err reason) h = tt
 
+-- A line that is refused isn't skipped.
 pub not_skipped : (line : List ℕ) (reason : OplReason) → reading_line line ≡ Err reason → is_skipped line ≡ false
 not_skipped line reason =
     elim (is_skipped line) as (λ t. cond t (Ok None) (cond (is_utf8 line) (as_value (λ w. Some w) (reading_version line)) (Err NotUtf8))
@@ -212,7 +221,8 @@ not_skipped line reason =
       | false ↦ λ e. refl
     ]
 
-pub answer_refused : (line : List ℕ) (answer : Result (Option VersionData) OplReason) → Answers (reading_line line) answer →
+-- A line that is refused for another reason than Memory spells nothing.
+pub answer_refused : (line : List ℕ) (answer : Result (Option VersionData) OplReason) → OplAnswers (reading_line line) answer →
     IfErr answer (λ reason. (reason ≡ Memory) ⊎ SpellsNothing line)
 answer_refused line (Ok read) h = tt
 answer_refused line (Err reason) h = ⊎_elim (λ memory. inl memory)

@@ -12,13 +12,14 @@ pub record IsHexTo (digits : List ℕ) (i code : ℕ) : Type 0 where
   pub value : code ≡ hex_value (take i digits)
   pub bound : code < 16 ^ i
 
+-- A code point of fewer than 8 hexadecimal digits is below 2^28.
 pub small_code : (i code : ℕ) → i < 8 → code < 16 ^ i → code < 2 ^ 28
 small_code i code few below =
     let some : 0 < 16 = omega arith in
     let power : 16 ^ i ≤ 16 ^ 7 = pow-le-pow_right some (let k : i ≤ 7 = omega arith in k) in
     omega arith
 
--- an escape that nothing ends
+-- an escape without an end
 pub never_ended : (done escape : List ℕ) (pieces : List (List ℕ)) → pieces ≡ escape ∷ [] → text_from done pieces ≡ None
 unfolding text_from
 never_ended done escape pieces e = rw e refl
@@ -29,10 +30,12 @@ pub escape_turn : (done escape raw : List ℕ) (pieces behind more : List (List 
 unfolding text_from
 escape_turn done escape raw pieces behind more e f = rw (e, f) refl
 
+-- Where no piece is left, the text is done.
 pub all_read : (done : List ℕ) (pieces : List (List ℕ)) → pieces ≡ [] → text_from done pieces ≡ Some done
 unfolding text_from
 all_read done pieces e = rw e refl
 
+-- An escape that names no character is refused.
 pub bad_scalar : (done escape raw : List ℕ) (pieces behind more : List (List ℕ)) → pieces ≡ escape ∷ behind → behind ≡ raw ∷ more →
     scalar_of escape ≡ None → text_from done pieces ≡ None
 bad_scalar done escape raw pieces behind more e f none =
@@ -43,12 +46,14 @@ not_raw : (done raw : List ℕ) (s : Option ℕ) → list_all stands_for_itself 
 not_raw done raw None other = refl
 not_raw done raw (Some c) other = rw other refl
 
+-- A raw piece with a byte that doesn't stand for itself is refused.
 pub bad_raw : (done escape raw : List ℕ) (pieces behind more : List (List ℕ)) → pieces ≡ escape ∷ behind → behind ≡ raw ∷ more →
     list_all stands_for_itself raw ≡ false → text_from done pieces ≡ None
 bad_raw done escape raw pieces behind more e f other =
     escape_turn done escape raw pieces behind more e f
     ∙ ap (option_and_then (λ text. text_from text more)) (not_raw done raw (scalar_of escape) other)
 
+-- An escape and a raw piece append their characters.
 pub one_escape : (done escape raw : List ℕ) (c : ℕ) (pieces behind more : List (List ℕ)) → pieces ≡ escape ∷ behind → behind ≡ raw ∷ more →
     scalar_of escape ≡ Some c → list_all stands_for_itself raw ≡ true →
     text_from done pieces ≡ text_from (done ++ encode c ++ raw) more

@@ -90,6 +90,7 @@ time_complete seconds text some small h =
     (clock_read h.year h.month h.day h.hour h.minute h.second h.hour_in h.minute_in h.second_in)
     ∙ moment_read seconds (86_400 * days + clock) some small total
 
+-- The text of a time is read as the time.
 pub time_is_read_back : TimeIsReadBack
 time_is_read_back seconds some small = time_complete seconds (time_text (Some seconds)) some small
     ((time_law seconds (time_text (Some seconds)) small).0 refl)

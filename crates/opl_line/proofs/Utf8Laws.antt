@@ -13,14 +13,14 @@ use Rattle.std.specs.Str.{IsUtf8, chars}
 use lib.Utf8.{encode, scalar}
 use Rattle.osm_model.specs.Text.{has_zero, is_text}
 use Rattle.osm_model.proofs.TextLaws.{zero_bytes}
-use Rattle.opl_line.specs.declared.bytes.cut.Cut.{Cut}
-use Rattle.opl_line.specs.Cut.{is_end, lengthened, split_first, cut, pieces_of}
+use Rattle.opl_line.specs.declared.bytes.cut.Delimiter.{Delimiter}
+use Rattle.opl_line.specs.Delimiter.{is_end, with_byte, split_first, split_all, pieces_of}
 use Rattle.opl_line.specs.Text.{stands_for_itself, hex_value, is_hex, scalar_of}
 use Rattle.opl_line.specs.Content.{SpellsText, raw, escaped, SpellsCharacters}
 use Rattle.opl_line.proofs.BoolLaws.{not_true}
 use Rattle.opl_line.proofs.CutLaws.{cut_split, ends_ascii}
 
--- before and behind an ASCII character
+-- before and after an ASCII character
 pub utf8_around : (front rest : List ℕ) (b : ℕ) → b < 128 → IsUtf8 (front ++ b ∷ rest) → IsUtf8 front × IsUtf8 rest
 utf8_around front rest b ascii utf8 =
     let text = front ++ b ∷ rest in
@@ -32,30 +32,31 @@ utf8_around front rest b ascii utf8 =
       subst IsUtf8 (drop-append-add front (b ∷ rest) 1) (IsUtf8-drop text (n + 1) utf8 (IsCharBoundary-after_ascii text n utf8 within low)),
     )
 
--- how a text is split
+-- the split of a text
 data IsSplit (p : ℕ → Bool) (bytes : List ℕ) : Type 0 where
   nowhere : split_first p bytes ≡ (bytes, None) → IsSplit p bytes
   here : (front rest : List ℕ) (b : ℕ) → p b ≡ true → bytes ≡ front ++ b ∷ rest → split_first p bytes ≡ (front, Some rest) → IsSplit p bytes
 
 longer : (p : ℕ → Bool) (b : ℕ) (bs : List ℕ) → p b ≡ false → IsSplit p bs → IsSplit p (b ∷ bs)
-longer p b bs other (nowhere e) = nowhere (ap (λ t. cond t ([], Some bs) (lengthened b (split_first p bs))) other ∙ ap (lengthened b) e)
+longer p b bs other (nowhere e) = nowhere (ap (λ t. cond t ([], Some bs) (with_byte b (split_first p bs))) other ∙ ap (with_byte b) e)
 longer p b bs other (here front rest end is whole e) =
     here (b ∷ front) rest end is (ap (λ t. b ∷ t) whole)
-    (ap (λ t. cond t ([], Some bs) (lengthened b (split_first p bs))) other ∙ ap (lengthened b) e)
+    (ap (λ t. cond t ([], Some bs) (with_byte b (split_first p bs))) other ∙ ap (with_byte b) e)
 
 is_split : (p : ℕ → Bool) (bytes : List ℕ) → IsSplit p bytes
 is_split p [] = nowhere refl
 is_split p (b ∷ bs) =
     elim (p b) as (λ t. p b ≡ t → IsSplit p (b ∷ bs)) [
-      | true ↦ λ is. here [] bs b is refl (ap (λ t. cond t ([], Some bs) (lengthened b (split_first p bs))) is)
+      | true ↦ λ is. here [] bs b is refl (ap (λ t. cond t ([], Some bs) (with_byte b (split_first p bs))) is)
       | false ↦ λ other. longer p b bs other (is_split p bs)
     ] refl
 
+-- The bytes, if there are any, are UTF-8.
 abbrev pub OptionUtf8 : Option (List ℕ) → Type 0
 OptionUtf8 None = Unit {0}
 OptionUtf8 (Some bytes) = IsUtf8 bytes
 
-split_parts : (at : Cut) (bytes : List ℕ) → IsUtf8 bytes → IsSplit (is_end at) bytes →
+split_parts : (at : Delimiter) (bytes : List ℕ) → IsUtf8 bytes → IsSplit (is_end at) bytes →
     IsUtf8 (split_first (is_end at) bytes).0 × OptionUtf8 (split_first (is_end at) bytes).1
 split_parts at bytes utf8 (nowhere e) =
     let P : List ℕ × Option (List ℕ) → Type 0 = λ s. IsUtf8 s.0 × OptionUtf8 s.1 in
@@ -64,13 +65,14 @@ split_parts at bytes utf8 (here front rest b is whole e) =
     let P : List ℕ × Option (List ℕ) → Type 0 = λ s. IsUtf8 s.0 × OptionUtf8 s.1 in
     subst P (sym e) (utf8_around front rest b (ends_ascii at b is) (subst IsUtf8 whole utf8))
 
-pub split_utf8 : (at : Cut) (bytes : List ℕ) → IsUtf8 bytes →
+-- A text in UTF-8 that is split at a delimiter has pieces in UTF-8.
+pub split_utf8 : (at : Delimiter) (bytes : List ℕ) → IsUtf8 bytes →
     IsUtf8 (split_first (is_end at) bytes).0 × OptionUtf8 (split_first (is_end at) bytes).1
 split_utf8 at bytes utf8 = split_parts at bytes utf8 (is_split (is_end at) bytes)
 
-cut_parts : (at : Cut) (bytes : List ℕ) → ((rest : List ℕ) → length rest < length bytes → IsUtf8 rest →
-    AllByRecursion IsUtf8 (cut (is_end at) rest)) → IsUtf8 bytes → IsSplit (is_end at) bytes →
-    AllByRecursion IsUtf8 (cut (is_end at) bytes)
+cut_parts : (at : Delimiter) (bytes : List ℕ) → ((rest : List ℕ) → length rest < length bytes → IsUtf8 rest →
+    AllByRecursion IsUtf8 (split_all (is_end at) rest)) → IsUtf8 bytes → IsSplit (is_end at) bytes →
+    AllByRecursion IsUtf8 (split_all (is_end at) bytes)
 cut_parts at bytes behind utf8 (nowhere e) =
     let P : List ℕ × Option (List ℕ) → Type 0 = λ s. AllByRecursion IsUtf8 (s.0 ∷ pieces_of (is_end at) s.1) in
     let Q : List (List ℕ) → Type 0 = λ ps. AllByRecursion IsUtf8 ps in
@@ -82,12 +84,13 @@ cut_parts at bytes behind utf8 (here front rest b is whole e) =
     let shorter : length rest < length bytes = omega (arith, ap length whole, length-append front (b ∷ rest)) in
     subst Q (sym (cut_split (is_end at) bytes)) (subst P (sym e) (around.0, behind rest shorter around.1))
 
-cut_within : (at : Cut) (most : ℕ) (bytes : List ℕ) → length bytes < most → IsUtf8 bytes → AllByRecursion IsUtf8 (cut (is_end at) bytes)
+cut_within : (at : Delimiter) (most : ℕ) (bytes : List ℕ) → length bytes < most → IsUtf8 bytes → AllByRecursion IsUtf8 (split_all (is_end at) bytes)
 cut_within at zero bytes few utf8 = absurd (omega arith)
 cut_within at (suc most) bytes few utf8 = cut_parts at bytes (λ rest shorter u. cut_within at most rest (omega arith) u) utf8
     (is_split (is_end at) bytes)
 
-pub cut_utf8 : (at : Cut) (bytes : List ℕ) → IsUtf8 bytes → AllByRecursion IsUtf8 (cut (is_end at) bytes)
+-- All pieces of a text in UTF-8 between delimiters are UTF-8.
+pub cut_utf8 : (at : Delimiter) (bytes : List ℕ) → IsUtf8 bytes → AllByRecursion IsUtf8 (split_all (is_end at) bytes)
 cut_utf8 at bytes utf8 = cut_within at (suc (length bytes)) bytes (omega arith) utf8
 
 -- ---- texts
@@ -134,6 +137,7 @@ text_within bytes text (escaped front digits rest text' c all some spelled) utf8
       none_append front (encode c ++ text') (raw_none front all) (none_append (encode c) text' (encode_none c named.1) more.1),
     )
 
+-- The characters that a text in UTF-8 spells have no U+0000.
 pub characters_within : (bytes cs : List ℕ) → SpellsCharacters bytes cs → IsUtf8 bytes → is_text cs ≡ true
 characters_within bytes cs s utf8 =
     let text = text_within bytes s.text s.spelled utf8 in

@@ -18,7 +18,7 @@ use Rattle.osm_model.specs.Id.{is_id}
 use Rattle.osm_model.specs.Text.{has_zero, is_text}
 use Rattle.osm_model.specs.Escape as model
 use Rattle.osm_model.specs.Escape.{code_escape, escape_char, escape}
-use Rattle.osm_model.specs.Joined.{joined}
+use Rattle.osm_model.specs.Joined.{join_with}
 use Rattle.osm_model.specs.Decimal.{number_text, integer_text}
 use Rattle.osm_model.specs.Time.{time_text}
 use Rattle.osm_model.specs.Coordinate.{coordinate_text}
@@ -31,15 +31,15 @@ use Rattle.osm_model.specs.Valid.{IsInRange, IsVersion}
 use Rattle.osm_model.specs.Line.{tag_text, reference_text, member_text, list_text, visible_text, kind_fields, fields, line}
 use Rattle.osm_model.specs.Pairwise.{Pairwise}
 use Rattle.osm_model.proofs.EscapeLaws.{escape_char-raw, escape_char-other}
-use Rattle.opl_line.specs.declared.bytes.cut.Cut.TheVariants.{Blanks}
-use Rattle.opl_line.specs.Cut.{is_blank, is_end, is_line_end, cut}
-use Rattle.opl_line.specs.Field.{nothing_said}
+use Rattle.opl_line.specs.declared.bytes.cut.Delimiter.TheVariants.{Blanks}
+use Rattle.opl_line.specs.Delimiter.{is_blank, is_end, is_line_end, split_all}
+use Rattle.opl_line.specs.Field.{no_fields}
 use Rattle.opl_line.specs.Reading.{meta_of, reading_body, reading_line}
 use Rattle.opl_line.specs.Part as part
-use Rattle.opl_line.specs.Part.{Part, SpellsPart}
-use Rattle.opl_line.specs.Content.{SpellsNumber32, some_count, SpellsDeleted, visible_mark, deleted_mark, SpellsPlace, no_place, some_place}
+use Rattle.opl_line.specs.Part.{LinePart, SpellsPart}
+use Rattle.opl_line.specs.Content.{SpellsNumber32, some_count, SpellsDeleted, visible_mark, deleted_mark, SpellsOptionalCoordinate, no_place, some_place}
 use Rattle.opl_line.specs.Content.{SpellsObject}
-use Rattle.opl_line.specs.Spells.{is_full, said_by, Spells}
+use Rattle.opl_line.specs.Spells.{is_full, fields_of_parts, Spells}
 use Rattle.opl_line.specs.Canonical.{LineSpellsItsVersion, LineIsReadBack, LineStandsInOne}
 use Rattle.opl_line.proofs.ContentLaws.{all_weaker}
 use Rattle.opl_line.proofs.PartLaws.{Different, distinct}
@@ -92,11 +92,11 @@ unparted : (fs : List (List ℕ)) → AllByRecursion (λ f. list_all (λ b. ltb 
 unparted [] h = refl
 unparted (f ∷ fs) h = λ i. all_weaker (λ b. ltb 32 b) (λ b. not (is_blank b)) not_blank f h.0 i && unparted fs h.1 i
 
-line_parted : (v : VersionData) → cut (is_end Blanks) (line v) ≡ fields v
+line_parted : (v : VersionData) → split_all (is_end Blanks) (line v) ≡ fields v
 unfolding line
 line_parted v = cut_joined (is_end Blanks) 32 refl _ _ (unparted (fields v) (fields_above v))
 
--- ---- a canonical line stands in one line
+-- ---- a canonical line is one line
 weaker : (b : ℕ) → ltb 32 b ≡ true → ltb 31 b ≡ true
 weaker b e = grind (arith, nat_tests)
 
@@ -104,10 +104,10 @@ no_line_end : (b : ℕ) → ltb 31 b ≡ true → not (is_line_end b) ≡ true
 no_line_end b e = grind (arith, nat_tests)
 
 joined_above : (fs : List (List ℕ)) → AllByRecursion (λ f. list_all (λ b. ltb 32 b) f ≡ true) fs →
-    list_all (λ b. ltb 31 b) (joined 32 fs) ≡ true
+    list_all (λ b. ltb 31 b) (join_with 32 fs) ≡ true
 joined_above [] h = refl
 joined_above (f ∷ []) h = all_weaker (λ b. ltb 32 b) (λ b. ltb 31 b) weaker f h.0
-joined_above (f ∷ g ∷ fs) h = all_append (λ b. ltb 31 b) f (32 ∷ joined 32 (g ∷ fs))
+joined_above (f ∷ g ∷ fs) h = all_append (λ b. ltb 31 b) f (32 ∷ join_with 32 (g ∷ fs))
     (all_weaker (λ b. ltb 32 b) (λ b. ltb 31 b) weaker f h.0) (joined_above (g ∷ fs) h.1)
 
 no_comment : (k : Kind) → eqb (kind_letter k) 35 ≡ false
@@ -115,6 +115,7 @@ no_comment kind.Node = refl
 no_comment kind.Way = refl
 no_comment kind.Relation = refl
 
+-- A canonical line has no line end and isn't skipped.
 pub line_stands_in_one : LineStandsInOne
 unfolding line
 line_stands_in_one v = (
@@ -150,12 +151,12 @@ text_utf8 (c ∷ cs) h =
     let parts = and_parts (scalar c) (scalars cs) h in
     IsUtf8-append (escape_char c) (escape cs) (char_utf8 c parts.0) (text_utf8 cs parts.1)
 
-joined_utf8 : (fs : List (List ℕ)) → AllByRecursion IsUtf8 fs → IsUtf8 (joined 32 fs)
+joined_utf8 : (fs : List (List ℕ)) → AllByRecursion IsUtf8 fs → IsUtf8 (join_with 32 fs)
 unfolding encode
 joined_utf8 [] h = IsUtf8-nil
 joined_utf8 (f ∷ []) h = h.0
-joined_utf8 (f ∷ g ∷ fs) h = IsUtf8-append f (32 ∷ joined 32 (g ∷ fs)) h.0
-    (IsUtf8-append (32 ∷ []) (joined 32 (g ∷ fs)) (IsUtf8-encode 32 refl) (joined_utf8 (g ∷ fs) h.1))
+joined_utf8 (f ∷ g ∷ fs) h = IsUtf8-append f (32 ∷ join_with 32 (g ∷ fs)) h.0
+    (IsUtf8-append (32 ∷ []) (join_with 32 (g ∷ fs)) (IsUtf8-encode 32 refl) (joined_utf8 (g ∷ fs) h.1))
 
 line_utf8 : (v : VersionData) → list_all is_text (v.user ∷ texts_of v.body) ≡ true → IsUtf8 (line v)
 unfolding line
@@ -163,7 +164,7 @@ line_utf8 v all = joined_utf8 (fields v) (fields_have IsUtf8 IsUtf8-append graph
     (λ cs is. text_utf8 cs (and_parts (scalars cs) (not (has_zero cs)) is).0) v all)
 
 -- ---- the parts of a canonical line
-abbrev body_parts : Body → List Part
+abbrev body_parts : Body → List LinePart
 body_parts (Deleted kind.Node) = part.Longitude None ∷ part.Latitude None ∷ []
 body_parts (Deleted kind.Way) = part.References [] ∷ []
 body_parts (Deleted kind.Relation) = part.Members [] ∷ []
@@ -171,7 +172,7 @@ body_parts (Node lon lat tags) = part.Longitude (Some lon) ∷ part.Latitude (So
 body_parts (Way refs tags) = part.References refs ∷ []
 body_parts (Relation members tags) = part.Members members ∷ []
 
--- the fields behind the first
+-- the fields after the first
 abbrev others_of : VersionData → List (List ℕ)
 others_of v =
     (codes "v" ++ number_text v.number)
@@ -183,7 +184,7 @@ others_of v =
     ∷ (codes "T" ++ list_text tag_text (tags_of v.body))
     ∷ kind_fields v.body
 
-abbrev parts_of : VersionData → List Part
+abbrev parts_of : VersionData → List LinePart
 parts_of v =
     part.Number v.number ∷ part.Deleted (is_deleted v.body) ∷ part.Changeset v.changeset ∷ part.Time v.time ∷ part.UserId v.uid
     ∷ part.User v.user ∷ part.Tags (tags_of v.body) ∷ body_parts v.body
@@ -197,7 +198,7 @@ deleted_spelled (Node lon lat tags) = visible_mark
 deleted_spelled (Way refs tags) = visible_mark
 deleted_spelled (Relation members tags) = visible_mark
 
-coordinate_spelled : (units : ℤ) → FitsSigned w32 units → SpellsPlace (coordinate_text units) (Some units)
+coordinate_spelled : (units : ℤ) → FitsSigned w32 units → SpellsOptionalCoordinate (coordinate_text units) (Some units)
 coordinate_spelled units fits = some_place (coordinate_text units) units
     (coordinate_sound (coordinate_text units) units (coordinate_is_read_back units fits))
 
@@ -309,14 +310,14 @@ parts_spelled v is =
       ),
     )
 
-told_by : (number : ℕ) (deleted : Bool) (changeset : ℕ) (time : Option ℕ) (uid : ℕ) (user : List ℕ) (tags : List Tag) → List Part →
-    List Part
+told_by : (number : ℕ) (deleted : Bool) (changeset : ℕ) (time : Option ℕ) (uid : ℕ) (user : List ℕ) (tags : List Tag) → List LinePart →
+    List LinePart
 told_by number deleted changeset time uid user tags more =
     part.Number number ∷ part.Deleted deleted ∷ part.Changeset changeset ∷ part.Time time ∷ part.UserId uid ∷ part.User user
     ∷ part.Tags tags ∷ more
 
 all_different : (number : ℕ) (deleted : Bool) (changeset : ℕ) (time : Option ℕ) (uid : ℕ) (user : List ℕ) (tags : List Tag) (b : Body) →
-    Different nothing_said (told_by number deleted changeset time uid user tags (body_parts b))
+    Different no_fields (told_by number deleted changeset time uid user tags (body_parts b))
 unfolding told_by
 all_different number deleted changeset time uid user tags (Deleted kind.Node) =
     (refl, (refl, (refl, (refl, (refl, (refl, (refl, (refl, (refl, tt)))))))))
@@ -330,10 +331,10 @@ all_different number deleted changeset time uid user tags (Way refs ts) = (refl,
 all_different number deleted changeset time uid user tags (Relation members ts) =
     (refl, (refl, (refl, (refl, (refl, (refl, (refl, (refl, tt))))))))
 
--- the parts say the data again
-record Said (v : VersionData) (b : Body) (parts : List Part) : Type 0 where
-  has_body : reading_body (kind_of b) (said_by parts) ≡ Ok b
-  has_meta : meta_of (said_by parts) ≡ meta_of_version v
+-- the parts determine the data
+record Said (v : VersionData) (b : Body) (parts : List LinePart) : Type 0 where
+  has_body : reading_body (kind_of b) (fields_of_parts parts) ≡ Ok b
+  has_meta : meta_of (fields_of_parts parts) ≡ meta_of_version v
 
 said : (v : VersionData) (b : Body) → Said v b (told_by v.number (is_deleted b) v.changeset v.time v.uid v.user (tags_of b) (body_parts b))
 unfolding told_by
@@ -370,12 +371,13 @@ data_spelled v w is makes =
         fields = line_parted v;
         names = object_spelled v is;
         spelled = parts_spelled v is;
-        different = distinct nothing_said (parts_of v) (all_different v.number (is_deleted v.body) v.changeset v.time v.uid v.user
+        different = distinct no_fields (parts_of v) (all_different v.number (is_deleted v.body) v.changeset v.time v.uid v.user
             (tags_of v.body) v.body);
       };
       version = record { body = v.body; has_body = s.has_body; made = ap (λ m. version_or_fault v.id m v.body) s.has_meta ∙ makes };
     }
 
+-- The canonical line of data within its ranges is read as the version of the data.
 pub data_is_read : (v w : VersionData) → AreFieldsWithin v → version_or_fault v.id (meta_of_version v) v.body ≡ Ok w →
     reading_line (line v) ≡ Ok (Some w)
 data_is_read v w is makes = spelled_is_read (line v) w (data_spelled v w is makes)
@@ -383,8 +385,10 @@ data_is_read v w is makes = spelled_is_read (line v) w (data_spelled v w is make
 line_spelled : (v : VersionData) → IsVersion v → Spells (line v) v
 line_spelled v is = data_spelled v v (version_within v is) (version_made v is)
 
+-- The canonical line of a version spells it and no other.
 pub line_spells_its_version : LineSpellsItsVersion
 line_spells_its_version v is = let s = line_spelled v is in record { spelled = s; alone = λ w t. one_reading (line v) w v t s }
 
+-- The canonical line of a version is read as the version.
 pub line_is_read_back : LineIsReadBack
 line_is_read_back v is = spelled_is_read (line v) v (line_spelled v is)

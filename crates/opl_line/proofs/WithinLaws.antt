@@ -1,4 +1,4 @@
--- What a line in UTF-8 tells has no fault that data may have.
+-- The fields of a line in UTF-8 have no fault of data.
 use Rattle.std.proofs.Common.{◌≡◌, ℕ, ℤ, ◌==◌, true, false, eqb, ◌&&◌, List, None, unwrap_or, Ok, sym, ap, ◌∙◌, subst}
 use Rattle.std.specs.List.{AllByRecursion}
 use Rattle.std.specs.Str.{IsUtf8}
@@ -8,10 +8,10 @@ use Rattle.osm_model.specs.Id.{is_id}
 use Rattle.osm_model.specs.declared.meta.Meta.{Meta}
 use Rattle.osm_model.specs.Data.{version_of}
 use Rattle.osm_model.specs.New.{is_dated, first_fault}
-use Rattle.opl_line.specs.declared.bytes.cut.Cut.TheVariants.{Blanks}
+use Rattle.opl_line.specs.declared.bytes.cut.Delimiter.TheVariants.{Blanks}
 use Rattle.opl_line.specs.declared.general.field.Fields.{Fields}
-use Rattle.opl_line.specs.Cut.{is_end, split_first, pieces_of}
-use Rattle.opl_line.specs.Field.{nothing_said, reading_fields}
+use Rattle.opl_line.specs.Delimiter.{is_end, split_first, pieces_of}
+use Rattle.opl_line.specs.Field.{no_fields, reading_fields}
 use Rattle.opl_line.specs.Reading.{meta_of, reading_body, unless_fault, reading_whole}
 use Rattle.opl_line.specs.Within.{AreWithin}
 use Rattle.opl_line.proofs.CutLaws.{cut_split}
@@ -21,6 +21,7 @@ use Rattle.opl_line.proofs.RangeLaws.{line_within, body_within}
 use Rattle.opl_line.proofs.ReadingLaws.{whole_line}
 use Rattle.opl_line.proofs.Utf8Laws.{cut_utf8}
 
+-- What a line says makes data within its ranges.
 pub passes : (k : Kind) (id : ℤ) (fields : Fields) (b : Body) → is_id id ≡ true → AreWithin fields →
     eqb (unwrap_or fields.number 0) 0 ≡ false → is_dated (meta_of fields) ≡ true → reading_body k fields ≡ Ok b →
     Passes id (meta_of fields) b
@@ -40,6 +41,7 @@ pub record Sound (k : Kind) (id : ℤ) (fields : Fields) (meta : Meta) (b : Body
   pub fault : first_fault id meta b ≡ None
   pub whole : reading_whole k id fields ≡ Ok (version_of id meta b)
 
+-- What a line says makes data without a fault.
 pub sound : (k : Kind) (id : ℤ) (fields : Fields) (meta : Meta) (b : Body) → meta ≡ meta_of fields → is_id id ≡ true → AreWithin fields →
     (meta.version == 0) ≡ false → is_dated meta ≡ true → reading_body k fields ≡ Ok b → Sound k id fields meta b
 sound k id fields meta b same is h some dated read =
@@ -50,8 +52,9 @@ sound k id fields meta b same is h some dated read =
       whole = sym (whole_line k id fields meta b same some dated read) ∙ ap unless_fault (made id meta b p);
     }
 
+-- What the fields of a line in UTF-8 say is within its ranges.
 pub fields_within : (line : List ℕ) (k : Kind) (fields : Fields) → IsUtf8 line →
-    reading_fields k (pieces_of (is_end Blanks) (split_first (is_end Blanks) line).1) nothing_said ≡ Ok fields → AreWithin fields
+    reading_fields k (pieces_of (is_end Blanks) (split_first (is_end Blanks) line).1) no_fields ≡ Ok fields → AreWithin fields
 fields_within line k fields utf8 read =
     let pieces = pieces_of (is_end Blanks) (split_first (is_end Blanks) line).1 in
     let said = parts_of k pieces fields read in

@@ -1,14 +1,14 @@
--- Readings of texts, and what a call answers that needs memory for one.
+-- Readings of texts, and the results of calls that need memory for a reading.
 use Rattle.std.specs.Prelude.{◌≡◌, ◌⊎◌, Result, Ok, Err, MatchResult}
 use Rattle.opl_line.specs.declared.reason.OplReason.{OplReason}
 use Rattle.opl_line.specs.declared.reason.OplReason.TheVariants.{Memory}
 
--- the second reading, of what the first one read
+-- the second reading, of the result of the first one
 abbrev pub and_then : {X Y : Type 0} → Result X OplReason → (X → Result Y OplReason) → Result Y OplReason
 and_then (Ok x) next = next x
 and_then (Err reason) next = Err reason
 
--- what was read, as another value
+-- the value that was read, as another value
 abbrev pub as_value : {X Y : Type 0} → (X → Y) → Result X OplReason → Result Y OplReason
 as_value f (Ok x) = Ok (f x)
 as_value f (Err reason) = Err reason
@@ -18,6 +18,6 @@ abbrev pub with_reason : {X : Type 0} → (OplReason → OplReason) → Result X
 with_reason f (Ok x) = Ok x
 with_reason f (Err reason) = Err (f reason)
 
--- the answer is the reading, unless memory was wanting
-abbrev pub Answers : {X : Type 0} → Result X OplReason → Result X OplReason → Type 0
-Answers reading answer = MatchResult answer (λ x. reading ≡ Ok x) (λ reason. (reason ≡ Memory) ⊎ (reading ≡ Err reason))
+-- the result is the reading, or out of memory
+abbrev pub OplAnswers : {X : Type 0} → Result X OplReason → Result X OplReason → Type 0
+OplAnswers reading answer = MatchResult answer (λ x. reading ≡ Ok x) (λ reason. (reason ≡ Memory) ⊎ (reading ≡ Err reason))

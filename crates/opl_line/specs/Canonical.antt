@@ -15,7 +15,7 @@ use Rattle.osm_model.specs.Coordinate.{coordinate_text}
 use Rattle.osm_model.specs.Time.{time_text}
 use Rattle.osm_model.specs.Id.{is_id}
 use Rattle.osm_model.specs.Text.{is_text}
-use Rattle.opl_line.specs.Cut.{is_line_end}
+use Rattle.opl_line.specs.Delimiter.{is_line_end}
 use Rattle.opl_line.specs.Number.{reading_number, reading_id, reading_coordinate}
 use Rattle.opl_line.specs.Time.{reading_time}
 use Rattle.opl_line.specs.Content.{SpellsCharacters, SpellsTag, SpellsReference, SpellsMember, SpellsList}

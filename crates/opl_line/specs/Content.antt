@@ -1,5 +1,5 @@
--- What the contents of fields in OPL lines spell (the OPL manual; which characters stand for themselves, the limits of
--- an escape, that leading zeros are accepted, and the form of coordinates are own rules of this project).
+-- The contents of fields in OPL lines, and what they spell (the OPL manual; which characters are written as themselves,
+-- the limits of an escape, that leading zeros are accepted, and the form of coordinates are own rules of this project).
 use Rattle.std.specs.Prelude.{◌≡◌, ◌≤◌, ℕ, ℤ, pos, neg_ℤ, ◌+◌, ◌-◌, ◌*◌, ◌^◌, Bool, true, false, List, [], ◌∷◌, ◌++◌}
 use Rattle.std.specs.Prelude.{length, codes, encode_utf8, Option, None, Some}
 use Rattle.std.specs.List.{list_all}
@@ -11,8 +11,8 @@ use Rattle.osm_model.specs.Kind.{kind_letter}
 use Rattle.osm_model.specs.New.{is_time}
 use Rattle.osm_model.specs.Time.{time_text}
 use Rattle.osm_model.specs.Pairwise.{Pairwise}
-use Rattle.opl_line.specs.declared.bytes.cut.Cut.TheVariants.{Commas, Equals, Ats}
-use Rattle.opl_line.specs.Cut.{is_end, split_first, cut}
+use Rattle.opl_line.specs.declared.bytes.cut.Delimiter.TheVariants.{Commas, Equals, Ats}
+use Rattle.opl_line.specs.Delimiter.{is_end, split_first, split_all}
 use Rattle.opl_line.specs.Number.{is_numeral, decimal_value}
 use Rattle.opl_line.specs.Text.{stands_for_itself, scalar_of}
 
@@ -59,7 +59,7 @@ pub data SpellsDegrees : List ℕ → ℕ → Type 0 where
       SpellsNumeral decimals d → length decimals ≤ 7 →
       SpellsDegrees (digits ++ 46 ∷ decimals) (n * 10_000_000 + d * 10 ^ (7 - length decimals))
 
--- a coordinate: degrees after a minus sign or not, of which the units are a number of 32 bits
+-- a coordinate: degrees, with or without a minus sign, whose units are a number of 32 bits
 pub data SpellsCoordinate : List ℕ → ℤ → Type 0 where
   plain_degrees : (bytes : List ℕ) (units : ℕ) → SpellsDegrees bytes units → units ≤ 2_147_483_647 →
       SpellsCoordinate bytes (pos units)
@@ -67,11 +67,12 @@ pub data SpellsCoordinate : List ℕ → ℤ → Type 0 where
       SpellsCoordinate (45 ∷ bytes) (neg_ℤ (pos units))
 
 -- such a coordinate, or nothing
-pub data SpellsPlace : List ℕ → Option ℤ → Type 0 where
-  no_place : SpellsPlace [] None
-  some_place : (bytes : List ℕ) (units : ℤ) → SpellsCoordinate bytes units → SpellsPlace bytes (Some units)
+pub data SpellsOptionalCoordinate : List ℕ → Option ℤ → Type 0 where
+  no_place : SpellsOptionalCoordinate [] None
+  some_place : (bytes : List ℕ) (units : ℤ) → SpellsCoordinate bytes units → SpellsOptionalCoordinate bytes (Some units)
 
--- A text in UTF-8: bytes that stand for themselves; or such bytes, an escape, which is `%`, digits and `%`, and a text.
+-- A text in UTF-8: bytes that are written as themselves; or such bytes, an escape, which is `%`, digits and `%`, and a
+-- text.
 pub data SpellsText : List ℕ → List ℕ → Type 0 where
   raw : (text : List ℕ) → list_all stands_for_itself text ≡ true → SpellsText text text
   escaped : (front digits rest text : List ℕ) (c : ℕ) → list_all stands_for_itself front ≡ true →
@@ -88,7 +89,7 @@ pub record SpellsCharacters (bytes : List ℕ) (cs : List ℕ) : Type 0 where
 pub record SpellsTag (bytes : List ℕ) (tag : Tag) : Type 0 where
   pub key : List ℕ
   pub value : List ℕ
-  pub parted : cut (is_end Equals) bytes ≡ key ∷ value ∷ []
+  pub parted : split_all (is_end Equals) bytes ≡ key ∷ value ∷ []
   pub spells_key : SpellsCharacters key tag.key
   pub spells_value : SpellsCharacters value tag.value
 
@@ -104,7 +105,7 @@ pub record SpellsObject (bytes : List ℕ) (kind : Kind) (id : ℤ) : Type 0 whe
   pub lettered : bytes ≡ kind_letter kind ∷ digits
   pub spelled : SpellsId digits id
 
--- an object, and behind the first at sign a role
+-- an object, and a role after the first at sign
 pub record SpellsMember (bytes : List ℕ) (member : Member) : Type 0 where
   pub object : List ℕ
   pub role : List ℕ
@@ -112,7 +113,7 @@ pub record SpellsMember (bytes : List ℕ) (member : Member) : Type 0 where
   pub names : SpellsObject object member.kind member.id
   pub spells_role : SpellsCharacters role member.role
 
--- no text spells no item; another one is cut at its commas, and each piece spells an item
+-- an empty text spells no item; any other one is cut at its commas, and each piece spells an item
 abbrev pub SpellsList : {X : Type 0} → (List ℕ → X → Type 0) → List ℕ → List X → Type 0
 SpellsList Spells [] items = items ≡ []
-SpellsList Spells (b ∷ bs) items = Pairwise Spells (cut (is_end Commas) (b ∷ bs)) items
+SpellsList Spells (b ∷ bs) items = Pairwise Spells (split_all (is_end Commas) (b ∷ bs)) items

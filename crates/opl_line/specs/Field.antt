@@ -1,4 +1,4 @@
--- The fields of an OPL line (the OPL manual; that they stand in any order, that one may be empty, and that none is
+-- The fields of an OPL line (the OPL manual; that they may have any order, that one may be empty, and that none is
 -- repeated, are own rules of this project).
 use Rattle.std.specs.Prelude.{ℕ, Bool, true, false, ◌==◌, List, [], ◌∷◌, Option, Some, None, is_some, Result, Ok, Err}
 use Rattle.std.specs.Prelude.{if◌then◌else◌}
@@ -13,9 +13,9 @@ use Rattle.opl_line.specs.Time.{reading_time}
 use Rattle.opl_line.specs.Text.{reading_text}
 use Rattle.opl_line.specs.Item.{reading_list, reading_tag, reading_reference, reading_member}
 
--- what no field says
-abbrev pub nothing_said : Fields
-nothing_said = record {
+-- the contents of no field
+abbrev pub no_fields : Fields
+no_fields = record {
   number = None;
   deleted = None;
   changeset = None;
@@ -33,7 +33,7 @@ nothing_said = record {
 abbrev pub reading_number_32 : List ℕ → Result ℕ OplReason
 reading_number_32 = reading_number 4_294_967_295
 
--- a number of 32 bits, where an empty content is 0
+-- a number of 32 bits; an empty content is 0
 abbrev pub reading_count : List ℕ → Result ℕ OplReason
 reading_count [] = Ok 0
 reading_count (b ∷ bs) = reading_number_32 (b ∷ bs)
@@ -80,7 +80,7 @@ with_body_field Relation letter content fields =
     if letter == 77 then as_value (λ ms. record fields { members = Some ms }) (reading_list reading_member content)
     else Err UnknownField
 
--- what fields say together with one more, of which only the content is in doubt
+-- the fields with one more, of which only the content may be faulty
 abbrev pub with_field : Kind → ℕ → List ℕ → Fields → Result Fields OplReason
 with_field kind letter content fields =
     if letter == 118 then as_value (λ n. record fields { number = Some n }) (reading_number_32 content)
@@ -92,13 +92,13 @@ with_field kind letter content fields =
     else (if letter == 84 then as_value (λ ts. record fields { tags = Some ts }) (reading_list reading_tag content)
     else with_body_field kind letter content fields))))))
 
--- one more field; runs of blanks leave empty ones, which say nothing
+-- one more field; runs of blanks leave empty ones, which have no content
 abbrev pub reading_field : Kind → List ℕ → Fields → Result Fields OplReason
 reading_field kind [] fields = Ok fields
 reading_field kind (letter ∷ content) fields = if has_field fields letter then Err RepeatedField
     else with_field kind letter content fields
 
--- the fields one after the other; the first faulty one decides
+-- the fields in sequence; the first faulty one decides
 unfoldable pub reading_fields : Kind → List (List ℕ) → Fields → Result Fields OplReason
 reading_fields kind [] fields = Ok fields
 reading_fields kind (field ∷ more) fields = and_then (reading_field kind field fields) (reading_fields kind more)

@@ -1,28 +1,28 @@
--- The items of lists in OPL lines: tags, references and members (the OPL manual; which reason is told is an own rule of
--- this project).
+-- The items of lists in OPL lines: tags, references and members (the OPL manual; which reason is returned is an own
+-- rule of this project).
 use Rattle.std.specs.Prelude.{ℕ, ℤ, ◌==◌, List, [], ◌∷◌, drop, Option, Some, None, Result, Ok, Err, if◌then◌else◌}
 use Rattle.osm_model.specs.declared.kind.Kind.{Kind}
 use Rattle.osm_model.specs.declared.kind.Kind.TheVariants.{Node, Way, Relation}
 use Rattle.osm_model.specs.declared.tags.Tag.{Tag}
 use Rattle.osm_model.specs.declared.members.Member.{Member}
-use Rattle.opl_line.specs.declared.bytes.cut.Cut.TheVariants.{Commas, Equals, Ats}
+use Rattle.opl_line.specs.declared.bytes.cut.Delimiter.TheVariants.{Commas, Equals, Ats}
 use Rattle.opl_line.specs.declared.reason.OplReason.{OplReason}
 use Rattle.opl_line.specs.declared.reason.OplReason.TheVariants.{OutOfRange, BadList}
 use Rattle.opl_line.specs.Answer.{and_then, as_value, with_reason}
-use Rattle.opl_line.specs.Cut.{is_end, split_first, cut}
+use Rattle.opl_line.specs.Delimiter.{is_end, split_first, split_all}
 use Rattle.opl_line.specs.Number.{reading_id}
 use Rattle.opl_line.specs.Text.{reading_text}
 
--- the items one after the other; the first faulty one decides
+-- the items in sequence; the first faulty one decides
 unfoldable pub reading_items : {X : Type 0} → (List ℕ → Result X OplReason) → List (List ℕ) → Result (List X) OplReason
 reading_items reading [] = Ok []
 reading_items reading (piece ∷ pieces) = and_then (reading piece)
     (λ x. as_value (λ xs. x ∷ xs) (reading_items reading pieces))
 
--- no text is no item; another one is cut at its commas
+-- an empty text has no item; any other one is cut at its commas
 abbrev pub reading_list : {X : Type 0} → (List ℕ → Result X OplReason) → List ℕ → Result (List X) OplReason
 reading_list reading [] = Ok []
-reading_list reading (b ∷ bs) = reading_items reading (cut (is_end Commas) (b ∷ bs))
+reading_list reading (b ∷ bs) = reading_items reading (split_all (is_end Commas) (b ∷ bs))
 
 -- a key and a value, from the pieces between equals signs
 abbrev pub tag_of_pieces : List (List ℕ) → Result Tag OplReason
@@ -34,9 +34,9 @@ tag_of_pieces (key ∷ value ∷ other ∷ more) = Err BadList
 
 -- `key=value`
 abbrev pub reading_tag : List ℕ → Result Tag OplReason
-reading_tag text = tag_of_pieces (cut (is_end Equals) text)
+reading_tag text = tag_of_pieces (split_all (is_end Equals) text)
 
--- what is no integer makes no item
+-- a text that is no integer makes no item
 abbrev pub item_reason : OplReason → OplReason
 item_reason OutOfRange = OutOfRange
 item_reason _ = BadList

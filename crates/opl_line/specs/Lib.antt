@@ -1,6 +1,6 @@
 pub mod Reason
 pub mod Answer
-pub mod Cut
+pub mod Delimiter
 pub mod Scan
 pub mod Number
 pub mod Text
@@ -15,5 +15,5 @@ pub mod Within
 pub mod Canonical
 pub mod LineReason
 pub mod Uploaded
-pub mod Upload
+pub mod SharedAuthor
 pub mod Straight

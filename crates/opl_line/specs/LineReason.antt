@@ -1,5 +1,5 @@
--- Why an OPL line is refused. The manual has no reasons: which there are, and that the leftmost faulty field decides,
--- are own rules of this project.
+-- Why an OPL line is refused. The manual has no reasons: the set of reasons, and that the leftmost faulty field
+-- decides, are own rules of this project.
 use Rattle.std.specs.Prelude.{◌≡◌, ◌⊎◌, ℕ, ℤ, Bool, true, false, ◌==◌, List, [], ◌∷◌, ◌++◌, map, filter, nat_eq, codes}
 use Rattle.std.specs.Prelude.{unwrap_or, Some, None, Err}
 use Rattle.std.specs.List.{IsDistinct, list_any}
@@ -9,21 +9,21 @@ use Rattle.osm_model.specs.declared.kind.Kind.TheVariants.{Node, Way, Relation}
 use Rattle.osm_model.specs.Kind.{kind_letter}
 use Rattle.osm_model.specs.New.{is_dated}
 use Rattle.osm_model.specs.Pairwise.{Pairwise}
-use Rattle.opl_line.specs.declared.bytes.cut.Cut.TheVariants.{Blanks, Commas, Equals, Ats}
+use Rattle.opl_line.specs.declared.bytes.cut.Delimiter.TheVariants.{Blanks, Commas, Equals, Ats}
 use Rattle.opl_line.specs.declared.general.field.Fields.{Fields}
 use Rattle.opl_line.specs.declared.reason.OplReason.{OplReason}
 use Rattle.opl_line.specs.declared.reason.OplReason.TheVariants.{NotUtf8, UnknownKind, UnknownField, RepeatedField}
 use Rattle.opl_line.specs.declared.reason.OplReason.TheVariants.{BadText, BadList, NoVersion, NoTime, NoLocation}
 use Rattle.opl_line.specs.declared.reason.OplReason.TheVariants.{Memory}
-use Rattle.opl_line.specs.Cut.{is_end, split_first, cut}
+use Rattle.opl_line.specs.Delimiter.{is_end, split_first, split_all}
 use Rattle.opl_line.specs.Number.{reading_id, reading_coordinate}
 use Rattle.opl_line.specs.Time.{reading_time}
 use Rattle.opl_line.specs.Item.{item_reason}
 use Rattle.opl_line.specs.Field.{reading_number_32, reading_count, reading_deleted, reading_optional}
 use Rattle.opl_line.specs.Content.{SpellsCharacters, SpellsTag, SpellsReference, SpellsObject, SpellsMember}
-use Rattle.opl_line.specs.Part.{Part, letter_of, SpellsPart}
+use Rattle.opl_line.specs.Part.{LinePart, letter_of, SpellsPart}
 use Rattle.opl_line.specs.Reading.{is_skipped, meta_of, reading_line}
-use Rattle.opl_line.specs.Spells.{is_full, said_by, Tells, SpellsNothing}
+use Rattle.opl_line.specs.Spells.{is_full, fields_of_parts, SpellsParts, SpellsNothing}
 
 -- ---- contents
 
@@ -31,19 +31,19 @@ use Rattle.opl_line.specs.Spells.{is_full, said_by, Tells, SpellsNothing}
 abbrev pub SpellsNoText : List ℕ → Type 0
 SpellsNoText bytes = (cs : List ℕ) → SpellsCharacters bytes cs → ⊥
 
--- Why bytes name no object: they don't begin with the letter of a kind; or the id behind it is faulty, which a list
--- tells by another reason than the first field.
+-- Why bytes name no object: they don't begin with the letter of a kind; or the id after it is faulty, for which a list
+-- has another reason than the first field.
 pub data ObjectReason (other : OplReason) (of_id : OplReason → OplReason) : List ℕ → OplReason → Type 0 where
   no_kind : (bytes : List ℕ) → ((k : Kind) (digits : List ℕ) → bytes ≡ kind_letter k ∷ digits → ⊥) →
       ObjectReason other of_id bytes other
   no_id : (k : Kind) (digits : List ℕ) (reason : OplReason) → reading_id digits ≡ Err reason →
       ObjectReason other of_id (kind_letter k ∷ digits) (of_id reason)
 
--- Why bytes are no tag: they haven't exactly one equals sign; or the key or the value is no text.
+-- Why bytes are no tag: they don't have exactly one equals sign; or the key or the value is no text.
 pub data TagReason : List ℕ → OplReason → Type 0 where
-  uneven : (bytes : List ℕ) → ((key value : List ℕ) → cut (is_end Equals) bytes ≡ key ∷ value ∷ [] → ⊥) →
+  uneven : (bytes : List ℕ) → ((key value : List ℕ) → split_all (is_end Equals) bytes ≡ key ∷ value ∷ [] → ⊥) →
       TagReason bytes BadList
-  no_text : (bytes key value : List ℕ) → cut (is_end Equals) bytes ≡ key ∷ value ∷ [] →
+  no_text : (bytes key value : List ℕ) → split_all (is_end Equals) bytes ≡ key ∷ value ∷ [] →
       SpellsNoText key ⊎ SpellsNoText value → TagReason bytes BadText
 
 -- Why bytes are no reference: they don't begin with the letter of a node, or the id is faulty.
@@ -52,8 +52,8 @@ pub data ReferenceReason : List ℕ → OplReason → Type 0 where
   no_number : (digits : List ℕ) (reason : OplReason) → reading_id digits ≡ Err reason →
       ReferenceReason (110 ∷ digits) (item_reason reason)
 
--- Why bytes are no member: they have no at sign; what stands before the first one names no object; or what stands
--- behind it is no text.
+-- Why bytes are no member: they have no at sign; the text before the first one names no object; or the text after it is
+-- no text of OPL.
 pub data MemberReason : List ℕ → OplReason → Type 0 where
   no_at : (bytes object : List ℕ) → split_first (is_end Ats) bytes ≡ (object, None) → MemberReason bytes BadList
   no_name : (bytes object role : List ℕ) (reason : OplReason) → split_first (is_end Ats) bytes ≡ (object, Some role) →
@@ -61,7 +61,7 @@ pub data MemberReason : List ℕ → OplReason → Type 0 where
   no_role : (bytes object role : List ℕ) (k : Kind) (id : ℤ) → split_first (is_end Ats) bytes ≡ (object, Some role) →
       SpellsObject object k id → SpellsNoText role → MemberReason bytes BadText
 
--- of several pieces, the first that spells no item, and why it doesn't
+-- the first of several pieces that spells no item, and the reason
 pub record FirstReason {X : Type 0} (SpellsItem : List ℕ → X → Type 0) (ItemReason : List ℕ → OplReason → Type 0)
     (pieces : List (List ℕ)) (reason : OplReason) : Type 0 where
   pub front : List (List ℕ)
@@ -77,9 +77,9 @@ abbrev pub ListReason : {X : Type 0} → (List ℕ → X → Type 0) → (List �
     Type 0
 ListReason SpellsItem ItemReason [] reason = ⊥
 ListReason SpellsItem ItemReason (b ∷ bs) reason =
-    FirstReason SpellsItem ItemReason (cut (is_end Commas) (b ∷ bs)) reason
+    FirstReason SpellsItem ItemReason (split_all (is_end Commas) (b ∷ bs)) reason
 
--- why the content behind a letter is faulty
+-- why the content after a letter is faulty
 pub data ContentReason : ℕ → List ℕ → OplReason → Type 0 where
   number : (content : List ℕ) (reason : OplReason) → reading_number_32 content ≡ Err reason →
       ContentReason 118 content reason
@@ -104,7 +104,7 @@ pub data ContentReason : ℕ → List ℕ → OplReason → Type 0 where
 
 -- ---- fields
 
--- the letters of the fields that stand behind the object
+-- the letters of the fields after the object
 abbrev pub body_letters : Kind → List ℕ
 body_letters Node = codes "xy"
 body_letters Way = codes "N"
@@ -116,7 +116,7 @@ letters_of k = codes "vdctiuT" ++ body_letters k
 abbrev pub is_among : ℕ → List ℕ → Bool
 is_among letter letters = list_any (λ l. letter == l) letters
 
--- Why a field is faulty that stands behind fields of some letters: its letter is one of these; it is none of the kind;
+-- Why a field after fields of the letters `met` is faulty: its letter is one of these; its letter is none of the kind;
 -- or the content is faulty.
 pub data FieldReason (k : Kind) (met : List ℕ) : List ℕ → OplReason → Type 0 where
   repeated : (letter : ℕ) (content : List ℕ) → is_among letter met ≡ true →
@@ -127,10 +127,10 @@ pub data FieldReason (k : Kind) (met : List ℕ) : List ℕ → OplReason → Ty
       is_among letter (letters_of k) ≡ true → ContentReason letter content reason →
       FieldReason k met (letter ∷ content) reason
 
--- of the fields behind the object, the leftmost faulty one, and why it is
+-- the leftmost faulty one of the fields after the object, and its reason
 pub record FieldsReason (k : Kind) (fields : List (List ℕ)) (reason : OplReason) : Type 0 where
   pub front : List (List ℕ)
-  pub parts : List Part
+  pub parts : List LinePart
   pub fine : Pairwise (SpellsPart k) (filter is_full front) parts
   pub different : IsDistinct nat_eq (map letter_of parts)
   pub field : List ℕ
@@ -153,22 +153,22 @@ pub data WholeReason (k : Kind) (fields : Fields) : OplReason → Type 0 where
   no_location : (unwrap_or fields.number 0 ≡ 0 → ⊥) → is_dated (meta_of fields) ≡ true → LacksLocation k fields →
       WholeReason k fields NoLocation
 
--- Why a line is refused that isn't skipped: it isn't UTF-8; else its first field names no object; else the leftmost
--- faulty field decides; else what the fields say together.
+-- Why a line that isn't skipped is refused: it isn't UTF-8; else its first field names no object; else the leftmost
+-- faulty field decides; else all fields together.
 pub data LineReason : List ℕ → OplReason → Type 0 where
   not_utf8 : (line : List ℕ) → is_skipped line ≡ false → (IsUtf8 line → ⊥) → LineReason line NotUtf8
   no_object : (line object : List ℕ) (others : List (List ℕ)) (reason : OplReason) → is_skipped line ≡ false →
-      IsUtf8 line → cut (is_end Blanks) line ≡ object ∷ others → ObjectReason UnknownKind (λ r. r) object reason →
+      IsUtf8 line → split_all (is_end Blanks) line ≡ object ∷ others → ObjectReason UnknownKind (λ r. r) object reason →
       LineReason line reason
   faulty_field : (line object : List ℕ) (others : List (List ℕ)) (k : Kind) (id : ℤ) (reason : OplReason) →
-      is_skipped line ≡ false → IsUtf8 line → cut (is_end Blanks) line ≡ object ∷ others → SpellsObject object k id →
+      is_skipped line ≡ false → IsUtf8 line → split_all (is_end Blanks) line ≡ object ∷ others → SpellsObject object k id →
       FieldsReason k others reason → LineReason line reason
-  no_whole : (line : List ℕ) (k : Kind) (id : ℤ) (parts : List Part) (reason : OplReason) → Tells line k id parts →
-      WholeReason k (said_by parts) reason → LineReason line reason
+  no_whole : (line : List ℕ) (k : Kind) (id : ℤ) (parts : List LinePart) (reason : OplReason) → SpellsParts line k id parts →
+      WholeReason k (fields_of_parts parts) reason → LineReason line reason
 
 -- ---- laws
 
--- What has a reason is refused for it, and what is refused is refused for its reason.
+-- A line with a reason is refused for it, and a refused line is refused for its reason.
 abbrev pub ReasonIsTold : Type 0
 ReasonIsTold = (line : List ℕ) (reason : OplReason) → LineReason line reason → reading_line line ≡ Err reason
 
@@ -189,6 +189,6 @@ NeitherHasOneReason = (line : List ℕ) → SpellsNothing line → HasOneReason 
 abbrev pub ReasonSpellsNothing : Type 0
 ReasonSpellsNothing = (line : List ℕ) (reason : OplReason) → LineReason line reason → SpellsNothing line
 
--- Want of memory is no reason of a line.
+-- Out of memory is no reason of a line.
 abbrev pub MemoryIsNoReason : Type 0
 MemoryIsNoReason = (line : List ℕ) → LineReason line Memory → ⊥

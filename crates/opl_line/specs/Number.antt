@@ -7,13 +7,13 @@ use Rattle.std.specs.Char.{is_ascii_digit}
 use Rattle.opl_line.specs.declared.reason.OplReason.{OplReason}
 use Rattle.opl_line.specs.declared.reason.OplReason.TheVariants.{BadNumber, OutOfRange, BadCoordinate}
 use Rattle.opl_line.specs.Answer.{and_then, as_value}
-use Rattle.opl_line.specs.Cut.{split_first}
+use Rattle.opl_line.specs.Delimiter.{split_first}
 
 -- one decimal digit or more, and nothing else
 abbrev pub is_numeral : List ℕ → Bool
 is_numeral text = not (length text == 0) && list_all is_ascii_digit text
 
--- a further digit behind a number
+-- a further digit after a number
 abbrev pub with_digit : ℕ → ℕ → ℕ
 with_digit n digit = 10 * n + (digit - 48)
 
@@ -32,42 +32,42 @@ up_to most n = if nat_le n most then Ok n else Err OutOfRange
 abbrev pub reading_number : ℕ → List ℕ → Result ℕ OplReason
 reading_number most text = if is_numeral text then up_to most (decimal_value text) else Err BadNumber
 
--- a minus sign stands in front
+-- a minus sign at the front
 abbrev pub is_negative : List ℕ → Bool
 is_negative [] = false
 is_negative (b ∷ bs) = b == 45
 
--- what stands behind the minus sign, if there is one
+-- the text after the minus sign, if there is one
 abbrev pub without_sign : List ℕ → List ℕ
 without_sign [] = []
 without_sign (b ∷ bs) = if b == 45 then bs else (b ∷ bs)
 
-abbrev pub signed : Bool → ℕ → ℤ
-signed negative n = if negative then neg_ℤ (pos n) else pos n
+abbrev pub with_sign : Bool → ℕ → ℤ
+with_sign negative n = if negative then neg_ℤ (pos n) else pos n
 
 -- an id: an integer from -4611686018427387903 to 4611686018427387903
 abbrev pub reading_id : List ℕ → Result ℤ OplReason
-reading_id text = as_value (signed (is_negative text)) (reading_number 4_611_686_018_427_387_903 (without_sign text))
+reading_id text = as_value (with_sign (is_negative text)) (reading_number 4_611_686_018_427_387_903 (without_sign text))
 
--- digits, and so many at most
+-- digits, at most `most`
 abbrev pub reading_short_numeral : ℕ → List ℕ → Result ℕ OplReason
 reading_short_numeral most text = if is_numeral text && nat_le (length text) most then Ok (decimal_value text)
     else Err BadCoordinate
 
--- what decimals are in units of 10^-7 degree
+-- the value of decimals in units of 10^-7 degree
 abbrev pub decimals_value : List ℕ → ℕ → ℕ
 decimals_value decimals n = n * 10 ^ (7 - length decimals)
 
--- Units of 10^-7 degree: 1 to 3 digits of whole degrees, and 1 to 7 decimals where a point follows.
+-- Units of 10^-7 degree: 1 to 3 digits of whole degrees, and 1 to 7 decimals if a point follows.
 abbrev pub reading_degrees : List ℕ → Option (List ℕ) → Result ℕ OplReason
 reading_degrees whole None = as_value (λ n. n * 10_000_000) (reading_short_numeral 3 whole)
 reading_degrees whole (Some decimals) =
     and_then (reading_short_numeral 3 whole) (λ n.
     as_value (λ d. n * 10_000_000 + decimals_value decimals d) (reading_short_numeral 7 decimals))
 
--- the units with their sign, where their number has 32 bits
+-- the units with their sign, if their number has 32 bits
 abbrev pub reading_units : Bool → ℕ → Result ℤ OplReason
-reading_units negative n = if nat_le n (if negative then 2_147_483_648 else 2_147_483_647) then Ok (signed negative n)
+reading_units negative n = if nat_le n (if negative then 2_147_483_648 else 2_147_483_647) then Ok (with_sign negative n)
     else Err OutOfRange
 
 -- the whole degrees and the decimals of a coordinate without a sign

@@ -1,29 +1,29 @@
--- What the fields of an OPL line spell (the OPL manual).
+-- The fields of an OPL line, and what they spell (the OPL manual).
 use Rattle.std.specs.Prelude.{◌≡◌, ℕ, ℤ, Bool, List, ◌∷◌, Option, Some}
 use Rattle.osm_model.specs.declared.kind.Kind.{Kind}
 use Rattle.osm_model.specs.declared.kind.Kind.TheVariants as kind
 use Rattle.osm_model.specs.declared.tags.Tag.{Tag}
 use Rattle.osm_model.specs.declared.members.Member.{Member}
 use Rattle.opl_line.specs.declared.general.field.Fields.{Fields}
-use Rattle.opl_line.specs.Content.{SpellsNumber32, SpellsCount, SpellsDeleted, SpellsTime, SpellsPlace}
+use Rattle.opl_line.specs.Content.{SpellsNumber32, SpellsCount, SpellsDeleted, SpellsTime, SpellsOptionalCoordinate}
 use Rattle.opl_line.specs.Content.{SpellsCharacters, SpellsTag, SpellsReference, SpellsMember, SpellsList}
 
--- what one field says
-pub data Part : Type 0 where
-  Number : ℕ → Part
-  Deleted : Bool → Part
-  Changeset : ℕ → Part
-  Time : Option ℕ → Part
-  UserId : ℕ → Part
-  User : List ℕ → Part
-  Tags : List Tag → Part
-  Longitude : Option ℤ → Part
-  Latitude : Option ℤ → Part
-  References : List ℤ → Part
-  Members : List Member → Part
+-- the content of one field
+pub data LinePart : Type 0 where
+  Number : ℕ → LinePart
+  Deleted : Bool → LinePart
+  Changeset : ℕ → LinePart
+  Time : Option ℕ → LinePart
+  UserId : ℕ → LinePart
+  User : List ℕ → LinePart
+  Tags : List Tag → LinePart
+  Longitude : Option ℤ → LinePart
+  Latitude : Option ℤ → LinePart
+  References : List ℤ → LinePart
+  Members : List Member → LinePart
 
 -- the letter of its field
-abbrev pub letter_of : Part → ℕ
+abbrev pub letter_of : LinePart → ℕ
 letter_of (Number n) = 118
 letter_of (Deleted d) = 100
 letter_of (Changeset n) = 99
@@ -37,7 +37,7 @@ letter_of (References ids) = 78
 letter_of (Members ms) = 77
 
 -- the content of a field spells the part
-abbrev pub SpellsContent : List ℕ → Part → Type 0
+abbrev pub SpellsContent : List ℕ → LinePart → Type 0
 SpellsContent content (Number n) = SpellsNumber32 content n
 SpellsContent content (Deleted d) = SpellsDeleted content d
 SpellsContent content (Changeset n) = SpellsCount content n
@@ -45,13 +45,13 @@ SpellsContent content (Time t) = SpellsTime content t
 SpellsContent content (UserId n) = SpellsCount content n
 SpellsContent content (User t) = SpellsCharacters content t
 SpellsContent content (Tags ts) = SpellsList SpellsTag content ts
-SpellsContent content (Longitude x) = SpellsPlace content x
-SpellsContent content (Latitude y) = SpellsPlace content y
+SpellsContent content (Longitude x) = SpellsOptionalCoordinate content x
+SpellsContent content (Latitude y) = SpellsOptionalCoordinate content y
 SpellsContent content (References ids) = SpellsList SpellsReference content ids
 SpellsContent content (Members ms) = SpellsList SpellsMember content ms
 
 -- the kind of object has such fields
-abbrev pub IsPartOf : Kind → Part → Type 0
+abbrev pub IsPartOf : Kind → LinePart → Type 0
 IsPartOf k (Longitude x) = k ≡ kind.Node
 IsPartOf k (Latitude y) = k ≡ kind.Node
 IsPartOf k (References ids) = k ≡ kind.Way
@@ -59,14 +59,14 @@ IsPartOf k (Members ms) = k ≡ kind.Relation
 IsPartOf k _ = Unit {0}
 
 -- a field, which is a letter and a content, spells a part
-pub record SpellsPart (k : Kind) (field : List ℕ) (part : Part) : Type 0 where
+pub record SpellsPart (k : Kind) (field : List ℕ) (part : LinePart) : Type 0 where
   pub content : List ℕ
   pub lettered : field ≡ letter_of part ∷ content
   pub of_kind : IsPartOf k part
   pub spelled : SpellsContent content part
 
--- what is said together with one more part
-abbrev pub with_part : Fields → Part → Fields
+-- the fields with one more part
+abbrev pub with_part : Fields → LinePart → Fields
 with_part fields (Number n) = record fields { number = Some n }
 with_part fields (Deleted d) = record fields { deleted = Some d }
 with_part fields (Changeset n) = record fields { changeset = Some n }

@@ -12,23 +12,23 @@ use Rattle.osm_model.specs.declared.fault.ValueFault.{ValueFault}
 use Rattle.osm_model.specs.declared.fault.ValueFault.TheVariants as fault
 use Rattle.osm_model.specs.Data.{VersionData}
 use Rattle.osm_model.specs.New.{is_dated, version_or_fault}
-use Rattle.opl_line.specs.declared.bytes.cut.Cut.TheVariants.{Blanks}
+use Rattle.opl_line.specs.declared.bytes.cut.Delimiter.TheVariants.{Blanks}
 use Rattle.opl_line.specs.declared.general.field.Fields.{Fields}
 use Rattle.opl_line.specs.declared.reason.OplReason.{OplReason}
 use Rattle.opl_line.specs.declared.reason.OplReason.TheVariants.{NotUtf8, UnknownKind, OutOfRange, BadText, NoVersion}
 use Rattle.opl_line.specs.declared.reason.OplReason.TheVariants.{NoTime, NoLocation, Memory}
 use Rattle.opl_line.specs.Answer.{and_then, as_value}
-use Rattle.opl_line.specs.Cut.{is_end, split_first, pieces_of}
+use Rattle.opl_line.specs.Delimiter.{is_end, split_first, pieces_of}
 use Rattle.opl_line.specs.Number.{reading_id}
 use Rattle.opl_line.specs.Item.{first_kind}
-use Rattle.opl_line.specs.Field.{nothing_said, reading_fields}
+use Rattle.opl_line.specs.Field.{no_fields, reading_fields}
 
 -- an empty line, or a comment, which begins with `#`
 abbrev pub is_skipped : List ℕ → Bool
 is_skipped [] = true
 is_skipped (b ∷ bs) = b == 35
 
--- the id, where the letter is that of a kind
+-- the id, if the letter is that of a kind
 abbrev pub reading_kind_and_id : Option Kind → List ℕ → Result (Kind × ℤ) OplReason
 reading_kind_and_id None digits = Err UnknownKind
 reading_kind_and_id (Some kind) digits = as_value (λ id. (kind, id)) (reading_id digits)
@@ -37,7 +37,7 @@ reading_kind_and_id (Some kind) digits = as_value (λ id. (kind, id)) (reading_i
 abbrev pub reading_object : List ℕ → Result (Kind × ℤ) OplReason
 reading_object field = reading_kind_and_id (first_kind field) (drop 1 field)
 
--- what the fields say beside the body
+-- the metadata of the fields
 abbrev pub meta_of : Fields → Meta
 meta_of fields = record {
   version = unwrap_or fields.number 0;
@@ -59,7 +59,7 @@ reading_visible kind.Node fields = reading_location (unwrap_or fields.longitude 
 reading_visible kind.Way fields = Ok (Way (unwrap_or fields.references []) (unwrap_or fields.tags []))
 reading_visible kind.Relation fields = Ok (Relation (unwrap_or fields.members []) (unwrap_or fields.tags []))
 
--- a deleted object keeps its kind alone
+-- a deleted object keeps only its kind
 abbrev pub reading_body : Kind → Fields → Result Body OplReason
 reading_body kind fields = if unwrap_or fields.deleted false then Ok (Deleted kind) else reading_visible kind fields
 
@@ -77,7 +77,7 @@ abbrev pub unless_fault : Result VersionData ValueFault → Result VersionData O
 unless_fault (Ok v) = Ok v
 unless_fault (Err f) = Err (reason_of f)
 
--- the version of what all fields say
+-- the version of all fields
 abbrev pub reading_whole : Kind → ℤ → Fields → Result VersionData OplReason
 reading_whole kind id fields =
     if unwrap_or fields.number 0 == 0 then Err NoVersion
@@ -89,7 +89,7 @@ unfoldable pub reading_version : List ℕ → Result VersionData OplReason
 reading_version line =
     let parts = split_first (is_end Blanks) line in
     and_then (reading_object parts.0) (λ object.
-    and_then (reading_fields object.0 (pieces_of (is_end Blanks) parts.1) nothing_said)
+    and_then (reading_fields object.0 (pieces_of (is_end Blanks) parts.1) no_fields)
     (reading_whole object.0 object.1))
 
 -- the version of a line, or None for a line that is skipped

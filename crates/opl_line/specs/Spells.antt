@@ -1,5 +1,5 @@
--- Which version an OPL line spells (the OPL manual; the order of fields, and what a missing one means, are own rules of
--- this project).
+-- The version that an OPL line spells (the OPL manual; the order of fields, and the default of a missing one, are own
+-- rules of this project).
 use Rattle.std.specs.Prelude.{◌≡◌, ℕ, ℤ, Bool, true, false, List, [], ◌∷◌, map, fold, filter, nat_eq, Some, None, Ok}
 use Rattle.std.specs.Prelude.{Err}
 use Rattle.std.specs.List.{IsDistinct}
@@ -9,61 +9,61 @@ use Rattle.osm_model.specs.declared.body.Body.{Body}
 use Rattle.osm_model.specs.Data.{VersionData}
 use Rattle.osm_model.specs.New.{version_or_fault}
 use Rattle.osm_model.specs.Pairwise.{Pairwise}
-use Rattle.opl_line.specs.declared.bytes.cut.Cut.TheVariants.{Blanks}
+use Rattle.opl_line.specs.declared.bytes.cut.Delimiter.TheVariants.{Blanks}
 use Rattle.opl_line.specs.declared.general.field.Fields.{Fields}
 use Rattle.opl_line.specs.declared.reason.OplReason.{OplReason}
-use Rattle.opl_line.specs.Cut.{is_end, cut}
-use Rattle.opl_line.specs.Field.{nothing_said}
+use Rattle.opl_line.specs.Delimiter.{is_end, split_all}
+use Rattle.opl_line.specs.Field.{no_fields}
 use Rattle.opl_line.specs.Content.{SpellsObject}
-use Rattle.opl_line.specs.Part.{Part, letter_of, SpellsPart, with_part}
+use Rattle.opl_line.specs.Part.{LinePart, letter_of, SpellsPart, with_part}
 use Rattle.opl_line.specs.Reading.{is_skipped, meta_of, reading_body, reading_line}
 
--- a field between two blanks may be empty, and says nothing then
+-- a field between two blanks may be empty, and then has no part
 abbrev pub is_full : List ℕ → Bool
 is_full [] = false
 is_full (b ∷ bs) = true
 
--- the version of the id, of what the parts say, and of what is so where a part is missing; a deletion keeps no body
+-- the version of the id, of the parts, and of the defaults for missing parts; a deletion keeps no body
 pub record IsVersionOf (kind : Kind) (id : ℤ) (fields : Fields) (v : VersionData) : Type 0 where
   pub body : Body
   pub has_body : reading_body kind fields ≡ Ok body
   pub made : version_or_fault id (meta_of fields) body ≡ Ok v
 
--- what all parts say
-abbrev pub said_by : List Part → Fields
-said_by = fold with_part nothing_said
+-- the fields of all parts
+abbrev pub fields_of_parts : List LinePart → Fields
+fields_of_parts = fold with_part no_fields
 
--- A line tells an object and parts: it is UTF-8, isn't skipped, and is a list of fields parted by blanks, blanks at its
--- end being free. The first field spells the kind and the id. The others begin with different letters, all of the kind,
--- and each spells a part.
-pub record Tells (line : List ℕ) (kind : Kind) (id : ℤ) (parts : List Part) : Type 0 where
+-- A line consists of an object and parts: it is UTF-8, isn't skipped, and is a list of fields separated by blanks;
+-- blanks at its end are allowed. The first field spells the kind and the id. The others begin with different letters,
+-- all of the kind, and each spells a part.
+pub record SpellsParts (line : List ℕ) (kind : Kind) (id : ℤ) (parts : List LinePart) : Type 0 where
   pub utf8 : IsUtf8 line
   pub not_skipped : is_skipped line ≡ false
   pub object : List ℕ
   pub others : List (List ℕ)
-  pub fields : cut (is_end Blanks) line ≡ object ∷ others
+  pub fields : split_all (is_end Blanks) line ≡ object ∷ others
   pub names : SpellsObject object kind id
   pub spelled : Pairwise (SpellsPart kind) (filter is_full others) parts
   pub different : IsDistinct nat_eq (map letter_of parts)
 
--- A line spells the version of what it tells.
+-- A line spells the version of its object and parts.
 pub record Spells (line : List ℕ) (v : VersionData) : Type 0 where
   pub kind : Kind
   pub id : ℤ
-  pub parts : List Part
-  pub tells : Tells line kind id parts
-  pub version : IsVersionOf kind id (said_by parts) v
+  pub parts : List LinePart
+  pub tells : SpellsParts line kind id parts
+  pub version : IsVersionOf kind id (fields_of_parts parts) v
 
--- the line is none that is skipped, and spells no version
+-- the line isn't skipped, and spells no version
 pub record SpellsNothing (line : List ℕ) : Type 0 where
   pub kept : is_skipped line ≡ false
   pub none : (v : VersionData) → Spells line v → ⊥
 
--- What is read is spelled so.
+-- A line spells the version that is read from it.
 abbrev pub ReadIsSpelled : Type 0
 ReadIsSpelled = (line : List ℕ) (v : VersionData) → reading_line line ≡ Ok (Some v) → Spells line v
 
--- What is spelled so is read.
+-- A version that a line spells is read from it.
 abbrev pub SpelledIsRead : Type 0
 SpelledIsRead = (line : List ℕ) (v : VersionData) → Spells line v → reading_line line ≡ Ok (Some v)
 
@@ -71,7 +71,7 @@ SpelledIsRead = (line : List ℕ) (v : VersionData) → Spells line v → readin
 abbrev pub OneReading : Type 0
 OneReading = (line : List ℕ) (v w : VersionData) → Spells line v → Spells line w → v ≡ w
 
--- A line that is refused spells nothing, and neither does one that is skipped.
+-- A line that is refused or skipped spells nothing.
 abbrev pub RefusedSpellsNothing : Type 0
 RefusedSpellsNothing = (line : List ℕ) (reason : OplReason) (v : VersionData) → reading_line line ≡ Err reason →
     Spells line v → ⊥

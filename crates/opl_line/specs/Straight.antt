@@ -1,5 +1,5 @@
--- What the parts of a line of the usual form say (own definitions of this project, for the reader that reads such a
--- line from left to right).
+-- The parts of a line of the usual form (own definitions of this project, for the reader that reads such a line from
+-- left to right).
 use Rattle.std.specs.Prelude.{◌≡◌, ℕ, ℤ, Bool, true, List, ◌∷◌, ◌++◌, codes, encode_utf8_all, if◌then◌else◌}
 use Rattle.std.specs.List.{list_all}
 use Rattle.osm_model.specs.declared.kind.Kind.{Kind}
@@ -9,10 +9,10 @@ use Rattle.osm_model.specs.Kind.{kind_letter}
 use Rattle.osm_model.specs.Id.{is_id}
 use Rattle.osm_model.specs.Text.{is_text}
 use Rattle.osm_model.specs.New.{is_number}
-use Rattle.opl_line.specs.Uploaded.{upload_text, IsUploaded}
+use Rattle.opl_line.specs.Uploaded.{author_text, IsAuthorInRange}
 use Rattle.osm_model.specs.Decimal.{number_text, integer_text}
 use Rattle.osm_model.specs.Escape.{is_raw}
-use Rattle.osm_model.specs.Joined.{joined}
+use Rattle.osm_model.specs.Joined.{join_with}
 use Rattle.osm_model.specs.Data.{kind_of, is_deleted, tags_of, ids_of, texts_of}
 use Rattle.osm_model.specs.Line.{list_text, tag_text, kind_fields}
 
@@ -31,26 +31,26 @@ abbrev pub head_text : Kind → ℤ → Bool → Meta → List ℕ
 head_text kind id deleted meta =
     kind_letter kind
     ∷ (integer_text id ++ (codes " v" ++ (number_text meta.version
-    ++ (codes " d" ++ (deleted_text deleted ++ upload_text meta)))))
+    ++ (codes " d" ++ (deleted_text deleted ++ author_text meta)))))
 
 -- the fields from the tags on
 abbrev pub tail_text : Body → List ℕ
-tail_text b = codes " T" ++ (list_text tag_text (tags_of b) ++ 32 ∷ joined 32 (kind_fields b))
+tail_text b = codes " T" ++ (list_text tag_text (tags_of b) ++ 32 ∷ join_with 32 (kind_fields b))
 
--- what stands from the changeset to the user name is within its ranges
+-- the fields from the changeset to the user name are within their ranges
 pub record IsAuthored (text : List ℕ) (version : ℕ) (meta : Meta) (behind : List ℕ) : Type 0 where
-  pub spelled : text ≡ upload_text meta ++ behind
+  pub spelled : text ≡ author_text meta ++ behind
   pub number : meta.version ≡ version
-  pub range : IsUploaded meta
+  pub range : IsAuthorInRange meta
 
--- what stands before the tags is within its ranges
+-- the fields before the tags are within their ranges
 pub record IsHead (text : List ℕ) (kind : Kind) (id : ℤ) (deleted : Bool) (meta : Meta) (behind : List ℕ) : Type 0 where
   pub spelled : text ≡ head_text kind id deleted meta ++ behind
   pub object : is_id id ≡ true
   pub number : is_number meta.version ≡ true
-  pub upload : IsUploaded meta
+  pub upload : IsAuthorInRange meta
 
--- what stands from the tags on is within its ranges
+-- the fields from the tags on are within their ranges
 pub record IsTail (text : List ℕ) (kind : Kind) (deleted : Bool) (b : Body) : Type 0 where
   pub spelled : text ≡ tail_text b
   pub same_kind : kind_of b ≡ kind

@@ -1,5 +1,5 @@
--- Texts in OPL lines (the OPL manual; which characters stand for themselves, and the limits of an escape, are own rules
--- of this project).
+-- Texts in OPL lines (the OPL manual; which characters are written as themselves, and the limits of an escape, are own
+-- rules of this project).
 use Rattle.std.specs.Prelude.{ℕ, ◌+◌, ◌*◌, Bool, not, ◌&&◌, ◌||◌, ◌==◌, nat_lt, nat_le, List, [], ◌∷◌, ◌++◌, length}
 use Rattle.std.specs.Prelude.{fold, encode_utf8, Option, Some, None, Result, if◌then◌else◌}
 use Rattle.std.specs.Option.{option_map, option_and_then, ok_or}
@@ -7,13 +7,13 @@ use Rattle.std.specs.List.{list_all}
 use Rattle.std.specs.Char.{is_digit, digit_value}
 use Rattle.std.specs.Str.{chars}
 use lib.Utf8.{scalar}
-use Rattle.opl_line.specs.declared.bytes.cut.Cut.TheVariants.{Percents}
+use Rattle.opl_line.specs.declared.bytes.cut.Delimiter.TheVariants.{Percents}
 use Rattle.opl_line.specs.declared.reason.OplReason.{OplReason}
 use Rattle.opl_line.specs.declared.reason.OplReason.TheVariants.{BadText}
-use Rattle.opl_line.specs.Cut.{is_end, split_first, pieces_of}
+use Rattle.opl_line.specs.Delimiter.{is_end, split_first, pieces_of}
 
--- All but NUL, tab, LF, CR, space, percent sign, comma and equals sign stand for themselves. These are ASCII, so a text
--- in UTF-8 may be looked at byte by byte.
+-- All bytes but NUL, tab, LF, CR, space, percent sign, comma and equals sign are written as themselves. These are
+-- ASCII, so a text in UTF-8 may be looked at byte by byte.
 abbrev pub stands_for_itself : ℕ → Bool
 stands_for_itself b = not (b == 0 || b == 9 || b == 10 || b == 13 || b == 32 || b == 37 || b == 44 || b == 61)
 
@@ -36,12 +36,12 @@ abbrev pub scalar_of : List ℕ → Option ℕ
 scalar_of digits = if is_hex digits && (scalar (hex_value digits) && not (hex_value digits == 0))
     then Some (hex_value digits) else None
 
--- a further escape and what is raw behind it
+-- a further escape and the raw piece after it
 abbrev pub with_escape : List ℕ → List ℕ → Option ℕ → Option (List ℕ)
 with_escape done raw None = None
 with_escape done raw (Some c) = if list_all stands_for_itself raw then Some (done ++ encode_utf8 c ++ raw) else None
 
--- what was read so far, and behind it escapes and raw pieces in turn
+-- the text that was read already, and then escapes and raw pieces in turn
 unfoldable pub text_from : List ℕ → List (List ℕ) → Option (List ℕ)
 text_from done [] = Some done
 text_from done (escape ∷ []) = None

@@ -14,7 +14,7 @@ use Rattle.opl_line.specs.Number.{value_of}
 abbrev pub digit_of : ℕ → Option ℕ
 digit_of byte = if is_ascii_digit byte then Some (byte - 48) else None
 
--- so many digits from a place on
+-- `count` digits from an offset on
 abbrev pub digits_at : ℕ → ℕ → List ℕ → Option ℕ
 digits_at from count text = value_of (take count (drop from text))
 
@@ -34,7 +34,7 @@ abbrev pub second_of : ℕ → ℕ → ℕ → Option ℕ
 second_of hour minute second = if nat_lt hour 24 && nat_lt minute 60 && nat_lt second 60
     then Some (3_600 * hour + 60 * minute + second) else None
 
--- `Thh:mm:ssZ`, behind the date
+-- `Thh:mm:ssZ`, after the date
 abbrev pub reading_clock : List ℕ → Option ℕ
 reading_clock text =
     option_and_then (λ hour. option_and_then (λ minute. option_and_then (λ second.

@@ -8,20 +8,20 @@ use Rattle.osm_model.specs.Time.{time_text}
 use Rattle.osm_model.specs.Escape.{escape}
 
 -- the fields from the changeset to the user name
-abbrev pub upload_text : Meta → List ℕ
-upload_text meta =
+abbrev pub author_text : Meta → List ℕ
+author_text meta =
     codes " c" ++ (number_text meta.changeset
     ++ (codes " t" ++ (time_text meta.time
     ++ (codes " i" ++ (number_text meta.uid ++ (codes " u" ++ escape meta.user))))))
 
 -- changeset, time, user id and user name are within their ranges
-pub record IsUploaded (meta : Meta) : Type 0 where
+pub record IsAuthorInRange (meta : Meta) : Type 0 where
   pub changeset : is_number meta.changeset ≡ true
   pub time : is_time meta.time ≡ true
   pub uid : is_number meta.uid ≡ true
   pub user : is_text meta.user ≡ true
 
--- the fields of what is within its ranges
+-- the fields of metadata within its ranges
 pub record AreFieldsOf (meta : Meta) (fields : List ℕ) : Type 0 where
-  pub spelled : fields ≡ upload_text meta
-  pub range : IsUploaded meta
+  pub spelled : fields ≡ author_text meta
+  pub range : IsAuthorInRange meta

@@ -1,4 +1,4 @@
--- What the fields of a line say is within the ranges of versions (own rules of this project).
+-- The fields of a line are within the ranges of versions (own rules of this project).
 use Rattle.std.specs.Prelude.{◌≡◌, true, [], None, unwrap_or}
 use Rattle.std.specs.List.{list_all}
 use Rattle.osm_model.specs.Id.{is_id}

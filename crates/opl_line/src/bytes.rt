@@ -1,4 +1,4 @@
-//! Bytes of lines: where a line ends, where a text is cut, and whether a line is UTF-8.
+//! Bytes of lines: line ends, cuts of a text, and the test for UTF-8.
 pub(crate) mod cut;
 pub(crate) mod line_end;
 pub(crate) mod scan;

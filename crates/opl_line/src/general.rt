@@ -1,7 +1,7 @@
-//! The general reader: any line, field by field. It alone refuses lines.
+//! The general reader: any line, field by field. Only this reader refuses lines.
 ghost use Rattle.std.specs.Prelude.{◌≡◌, true};
 ghost use Rattle.osm_model.specs.Id.{is_id};
-ghost use Rattle.opl_line.specs.Answer.{Answers};
+ghost use Rattle.opl_line.specs.Answer.{OplAnswers};
 ghost use Rattle.opl_line.specs.Reading as spec;
 ghost use Rattle.opl_line.specs.Within.{AreWithin};
 
@@ -11,7 +11,7 @@ pub(crate) mod item;
 pub(crate) mod text;
 
 use crate::OplReason;
-use crate::bytes::cut::Cut;
+use crate::bytes::cut::Delimiter;
 use crate::number::read_id;
 use field::Fields;
 use item::split_kind;
@@ -28,11 +28,11 @@ pub(crate) fn read_version(
     spare: &mut Spare,
     line: &str,
 ) -> Result<Version, OplReason>
-    ensures { Answers (spec.reading_version line.now) result }
+    ensures { OplAnswers (spec.reading_version line.now) result }
 {
-    let (object, others) = Cut::Blanks.split(line);
+    let (object, others) = Delimiter::Blanks.split(line);
     let (kind, id) = read_object(object.as_bytes())?;
-    let mut fields = Fields::nothing_said();
+    let mut fields = Fields::no_fields();
     fields.read(alloc, kind, others)?;
     to_version(alloc, spare, kind, id, &mut fields)
 }
@@ -45,7 +45,7 @@ fn read_object(field: &[u8]) -> Result<(Kind, i64), OplReason>
     Ok((kind, read_id(digits)?))
 }
 
-/// The version of what the fields of a line say, which is within all ranges.
+/// The version of the fields of a line, if it is within all ranges.
 fn to_version(
     alloc: Global,
     spare: &mut Spare,
@@ -55,7 +55,7 @@ fn to_version(
 ) -> Result<Version, OplReason>
     requires id { is_id id ≡ true }
     requires within { AreWithin fields.old }
-    ensures { Answers (spec.reading_whole kind id fields.old) result }
+    ensures { OplAnswers (spec.reading_whole kind id fields.old) result }
 {
     let meta = to_meta(fields);
     if meta.version == 0 {
@@ -66,10 +66,10 @@ fn to_version(
     }
     let body = to_body(alloc, kind, fields)?;
     // The data has no fault, so only memory can be refused.
-    Ok(Version::of_sound_data(alloc, spare, id, meta, body)?)
+    Ok(Version::from_checked_data(alloc, spare, id, meta, body)?)
 }
 
-/// What the fields of a line say beside the body.
+/// The metadata of the fields of a line.
 fn to_meta(fields: &mut Fields) -> Meta
     ensures meta { result ≡ spec.meta_of fields.old }
     ensures rest { fields.new ≡ record fields.old { user = None } }
@@ -83,7 +83,7 @@ fn to_meta(fields: &mut Fields) -> Meta
     }
 }
 
-/// The body of what the fields of a line say.
+/// The body of the fields of a line.
 fn to_body(alloc: Global, kind: Kind, fields: &mut Fields) -> Result<Body, OplReason>
     ensures { result ≡ spec.reading_body kind fields.old }
 {

@@ -1,4 +1,4 @@
-//! Laws over the definitions, each the contract of a function with an empty body. Nothing is run to use them.
+//! Laws of the definitions, each the contract of a function with an empty body. They run no code.
 ghost use Rattle.opl_line.specs.Canonical.{NumberIsReadBack, IdIsReadBack, TextIsReadBack, TimeIsReadBack};
 ghost use Rattle.opl_line.specs.Canonical.{CoordinateIsReadBack};
 ghost use Rattle.opl_line.specs.Canonical.{ListsAreSpelled, LineSpellsItsVersion, LineIsReadBack, LineStandsInOne};
@@ -7,12 +7,12 @@ ghost use Rattle.opl_line.specs.LineReason.{MemoryIsNoReason};
 ghost use Rattle.opl_line.specs.Spells.{ReadIsSpelled, SpelledIsRead, OneReading, RefusedSpellsNothing};
 ghost use Rattle.opl_line.specs.Spells.{SkippedSpellsNothing};
 
-/// The version that is read from a line is spelled by it.
+/// A line spells the version that is read from it.
 pub fn read_is_spelled()
     ensures { ReadIsSpelled }
 {}
 
-/// The version that a line spells is read from it.
+/// A version that a line spells is read from it.
 pub fn spelled_is_read()
     ensures { SpelledIsRead }
 {}
@@ -37,7 +37,7 @@ pub fn reason_is_told()
     ensures { ReasonIsTold }
 {}
 
-/// A line that is refused is refused for its reason.
+/// The reason for which a line is refused is its reason.
 pub fn told_is_reason()
     ensures { ToldIsReason }
 {}
@@ -52,7 +52,7 @@ pub fn reason_spells_nothing()
     ensures { ReasonSpellsNothing }
 {}
 
-/// Want of memory is no reason of a line.
+/// Out of memory is no reason of a line.
 pub fn memory_is_no_reason()
     ensures { MemoryIsNoReason }
 {}
@@ -97,7 +97,7 @@ pub fn line_is_read_back()
     ensures { LineIsReadBack }
 {}
 
-/// A canonical line has no line end in it and isn't skipped.
+/// A canonical line contains no line end and isn't skipped.
 pub fn line_stands_in_one()
     ensures { LineStandsInOne }
 {}

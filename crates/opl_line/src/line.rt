@@ -1,8 +1,8 @@
 //! OPL lines, read and written.
 ghost use Rattle.std.specs.Prelude.{◌≡◌, ◌⊎◌, ◌++◌, true, IfOk, IfErr, OnOk, MatchOption};
-ghost use Rattle.osm_model.specs.Cursor.{still};
+ghost use Rattle.osm_model.specs.Cursor.{remaining_bytes};
 ghost use Rattle.osm_model.specs.Line.{line};
-ghost use Rattle.opl_line.specs.Answer.{Answers};
+ghost use Rattle.opl_line.specs.Answer.{OplAnswers};
 ghost use Rattle.opl_line.specs.Reading as spec;
 ghost use Rattle.opl_line.specs.Spells.{Spells, SpellsNothing};
 ghost use Rattle.opl_line.specs.LineReason.{LineReason};
@@ -12,7 +12,7 @@ use crate::OplReason;
 use crate::bytes::utf8::to_str;
 use crate::general::read_version;
 use crate::straight::read_straight;
-use crate::straight::upload::Upload;
+use crate::straight::upload::SharedAuthor;
 use osm_model::{LineBytes, Memory, Spare, Version};
 use std::alloc::Global;
 use std::marker::Model;
@@ -25,7 +25,7 @@ use std::marker::Model;
 /// `NotUtf8` if the line is not UTF-8; then the reason of its leftmost faulty field; then `NoVersion`, `NoTime` and
 /// `NoLocation`, in this order; `Memory` when out of memory.
 pub fn read_line(alloc: Global, line: &[u8]) -> Result<Option<Version>, OplReason>
-    ensures reading { Answers (spec.reading_line line.now) result }
+    ensures reading { OplAnswers (spec.reading_line line.now) result }
     ensures spelled { IfOk result (λ read. MatchOption read (spec.is_skipped line.now ≡ true) (Spells line.now)) }
     ensures refused { IfErr result (λ reason. (reason ≡ opl.Memory) ⊎ SpellsNothing line.now) }
     ensures reason { IfErr result (λ reason. (reason ≡ opl.Memory) ⊎ LineReason line.now reason) }
@@ -33,17 +33,17 @@ pub fn read_line(alloc: Global, line: &[u8]) -> Result<Option<Version>, OplReaso
     LineReader::new(alloc).read(line)
 }
 
-/// Reads lines one after the other, each by itself, and recycles versions that are not needed any more.
+/// Reads lines one by one, each independently, and recycles versions that are not needed any more.
 #[derive(Drop)]
 pub struct LineReader {
     alloc: Global,
-    /// Memory of versions that were given back; the next version is made in it.
+    /// The memory of versions that were given back; the next version is made in it.
     spare: Spare,
-    /// The changeset, time and user of the lines before, which the next line often has, too.
-    upload: Upload,
+    /// The changeset, time and user of earlier lines, which the next line often repeats.
+    upload: SharedAuthor,
 }
 
-/// A line is read as the same version by each reader, so contracts see nothing of one.
+/// Each reader reads a line as the same version, so contracts see nothing of a reader.
 impl Model for LineReader {
     ghost Value = { Unit {0} };
 
@@ -56,17 +56,18 @@ impl LineReader {
         LineReader {
             alloc,
             spare: Spare::new(alloc),
-            upload: Upload::new(alloc),
+            upload: SharedAuthor::new(alloc),
         }
     }
 
-    /// Reads a line as [`read_line`] does: straight on where its form is the usual one, and else by the general reader.
+    /// Reads a line as [`read_line`] does: the straight reader reads a line of the usual form, and the general reader
+    /// any other.
     ///
     /// # Errors
     ///
     /// As for [`read_line`].
     pub fn read(&mut self, line: &[u8]) -> Result<Option<Version>, OplReason>
-        ensures reading { Answers (spec.reading_line line.now) result }
+        ensures reading { OplAnswers (spec.reading_line line.now) result }
         ensures spelled { IfOk result (λ read. MatchOption read (spec.is_skipped line.now ≡ true) (Spells line.now)) }
         ensures refused { IfErr result (λ reason. (reason ≡ opl.Memory) ⊎ SpellsNothing line.now) }
         ensures reason { IfErr result (λ reason. (reason ≡ opl.Memory) ⊎ LineReason line.now reason) }
@@ -100,8 +101,7 @@ fn is_skipped(line: &[u8]) -> bool
     }
 }
 
-/// The canonical line of a version, without a line end. It is written by [`Version::line_bytes`], a run of bytes at a
-/// time;
+/// The canonical line of a version, without a line end. [`Version::line_bytes`] writes it, a run of bytes at a time;
 /// [`Version::append_line`] writes the same bytes faster.
 pub fn write_line(alloc: Global, version: &Version) -> Result<Vec<u8>, Memory>
     ensures { IfOk result (λ text. text.items ≡ line version.now) }
@@ -113,11 +113,11 @@ pub fn write_line(alloc: Global, version: &Version) -> Result<Vec<u8>, Memory>
 
 /// Appends the bytes that a cursor has not given yet.
 fn append_runs(mut bytes: LineBytes<'_>, out: &mut Vec<u8>) -> Result<(), Memory>
-    ensures { OnOk result (out.new.items ≡ out.old.items ++ still bytes.entry) }
+    ensures { OnOk result (out.new.items ≡ out.old.items ++ remaining_bytes bytes.entry) }
 {
-    out.extend_from_slice(bytes.run())?;
+    out.extend_from_slice(bytes.chunk())?;
     while bytes.advance() {
-        out.extend_from_slice(bytes.run())?;
+        out.extend_from_slice(bytes.chunk())?;
     }
     Ok(())
 }

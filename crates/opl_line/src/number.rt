@@ -5,7 +5,7 @@ ghost use Rattle.std.specs.Char.{is_ascii_digit};
 ghost use Rattle.opl_line.specs.Number as spec;
 
 use crate::OplReason;
-use crate::bytes::cut::Cut;
+use crate::bytes::cut::Delimiter;
 
 /// The greatest version number, changeset and user id.
 pub(crate) const GREATEST_NUMBER: u64 = (1 << 32) - 1;
@@ -40,7 +40,7 @@ pub(crate) fn read_number(digits: &[u8], most: u64) -> Result<u64, OplReason>
     up_to(most, number)
 }
 
-/// The number, where it is at most the bound.
+/// The number, if it is at most `most`.
 fn up_to(most: u64, number: u64) -> Result<u64, OplReason>
     ensures { result ≡ spec.up_to most number }
 {
@@ -69,11 +69,11 @@ fn value_of_few(digits: &[u8]) -> Option<u64>
     Some(number)
 }
 
-/// An id: a number, behind a minus sign or not, from -4611686018427387903 to 4611686018427387903.
+/// An id: a number with or without a minus sign, from -4611686018427387903 to 4611686018427387903.
 ///
 /// # Errors
 ///
-/// `BadNumber` where it is no integer, `OutOfRange` where it is no id.
+/// `BadNumber` if it is no integer, `OutOfRange` if it is no id.
 pub(crate) fn read_id(text: &[u8]) -> Result<i64, OplReason>
     ensures { result ≡ spec.reading_id text.now }
 {
@@ -83,7 +83,7 @@ pub(crate) fn read_id(text: &[u8]) -> Result<i64, OplReason>
     Ok(if is_negative { -id } else { id })
 }
 
-/// Whether there is a minus sign, and what stands behind it.
+/// Whether there is a minus sign, and the text after it.
 pub(crate) fn split_sign(text: &[u8]) -> (bool, &[u8])
     ensures sign { result.0 ≡ spec.is_negative text.now }
     ensures behind { result.1.now ≡ spec.without_sign text.now }
@@ -98,12 +98,12 @@ pub(crate) fn split_sign(text: &[u8]) -> (bool, &[u8])
 ///
 /// # Errors
 ///
-/// `BadCoordinate` where it is none, `OutOfRange` where it has more than 32 bits.
+/// `BadCoordinate` if it is none, `OutOfRange` if it has more than 32 bits.
 pub(crate) fn read_coordinate(text: &[u8]) -> Result<i32, OplReason>
     ensures { result ≡ spec.reading_coordinate text.now }
 {
     let (is_negative, magnitude) = split_sign(text);
-    let (whole, decimals) = Cut::Points.split_bytes(magnitude);
+    let (whole, decimals) = Delimiter::Points.split_bytes(magnitude);
     let units = read_degrees(whole, decimals)?;
     to_units(is_negative, units)
 }
@@ -131,7 +131,7 @@ fn read_degrees(whole: &[u8], decimals: Option<&[u8]>) -> Result<u64, OplReason>
     Ok(degrees + rest * scale(decimals.len()))
 }
 
-/// The value of digits, of which there is one at least and `most` at most.
+/// The value of 1 to `most` digits.
 fn read_short_numeral(digits: &[u8], most: usize) -> Result<u64, OplReason>
     requires { most ≤ 7 }
     ensures value { result ≡ spec.reading_short_numeral most digits.now }
@@ -144,7 +144,7 @@ fn read_short_numeral(digits: &[u8], most: usize) -> Result<u64, OplReason>
     value_of_few(digits).ok_or(OplReason::BadCoordinate)
 }
 
-/// What the last of so many decimals counts, in units of 10^-7 degree.
+/// The value of the last of `decimals` decimals, in units of 10^-7 degree.
 pub(crate) fn scale(decimals: usize) -> u64
     requires { decimals ≤ 7 }
     ensures value { result ≡ 10 ^ (7 - decimals) }
@@ -153,7 +153,7 @@ pub(crate) fn scale(decimals: usize) -> u64
     10u64.pow(7 - decimals as u32)
 }
 
-/// The number that the first digits of a text write, and how many digits they are. At most `most` digits are read.
+/// The number that the first digits of a text write, and the number of these digits. At most `most` digits are read.
 #[inline(always)]
 pub(crate) fn leading_digits(text: &[u8], most: usize) -> (u64, usize)
     requires { most ≤ 19 }
@@ -170,7 +170,7 @@ pub(crate) fn leading_digits(text: &[u8], most: usize) -> (u64, usize)
     }
 }
 
-/// The number that the first digits of a text write, up to the offset `end`, and how many digits they are.
+/// The number that the first digits of a text write, up to the offset `end`, and the number of these digits.
 #[inline(always)]
 fn digits_before(text: &[u8], end: usize) -> (u64, usize)
     requires few { end ≤ 19 }

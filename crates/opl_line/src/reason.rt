@@ -18,10 +18,10 @@ pub enum OplReason {
     /// A field has a letter that its kind of object doesn't have.
     #[error("unknown field")]
     UnknownField,
-    /// A field stands in the line twice.
+    /// The line has a field twice.
     #[error("repeated field")]
     RepeatedField,
-    /// A number isn't written in decimal digits alone.
+    /// A number contains other characters than decimal digits.
     #[error("ill-formed number")]
     BadNumber,
     /// A number, a time or a coordinate is outside its range.

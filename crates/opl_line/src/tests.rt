@@ -1,4 +1,4 @@
-//! Lines with their answers, worked out by hand from the rules of the format.
+//! Lines with their results, worked out by hand from the rules of the format.
 use crate::{LineReader, OplReason, find_line_end, read_line, read_time, write_line};
 use osm_model::{Body, Meta, Tags, Text, Version};
 use std::alloc::Global;
@@ -6,7 +6,7 @@ use std::process::Abort;
 use std::str;
 use std::test::Fail;
 
-/// Checks that `write_line` and `Version::append_line` both write this line of a version.
+/// Checks that `write_line` and `Version::append_line` both write `line` for a version.
 fn check_line(rt: &impl Abort, alloc: Global, version: &Version, line: &str) -> Result<(), Fail> {
     let text = write_line(alloc, version)?;
     assert_eq!(rt; str::from_utf8(&text)?, line);
@@ -16,7 +16,7 @@ fn check_line(rt: &impl Abort, alloc: Global, version: &Version, line: &str) -> 
     Ok(())
 }
 
-/// What a line is read as: its canonical line, the name of the reason, or `skipped`.
+/// Checks the result of reading a line: its canonical line, the name of the reason, or `skipped`.
 fn check(rt: &impl Abort, alloc: Global, line: &[u8], answer: &str) -> Result<(), Fail> {
     match read_line(alloc, line) {
         Ok(Some(version)) => check_line(rt, alloc, &version, answer)?,
@@ -26,7 +26,7 @@ fn check(rt: &impl Abort, alloc: Global, line: &[u8], answer: &str) -> Result<()
     Ok(())
 }
 
-/// Checks rows of a line and its answer.
+/// Checks rows of a line and its result.
 fn check_rows(rt: &impl Abort, alloc: Global, rows: &str) -> Result<(), Fail> {
     for row in rows.lines() {
         let (line, answer) = row.split_once(" => ").ok_or("no answer")?;

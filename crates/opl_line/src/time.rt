@@ -6,7 +6,7 @@ use crate::OplReason;
 use jiff::civil::Date;
 
 /// The days from 0000-01-01 to 1970-01-01.
-const DAYS_BEFORE_1970: i32 = 719_528;
+const DAYS_FROM_YEAR_0_TO_1970: i32 = 719_528;
 
 /// The seconds from 0000-01-01T00:00:00Z to 1970-01-01T00:00:00Z.
 const EPOCH: u64 = 62_167_219_200;
@@ -14,12 +14,12 @@ const EPOCH: u64 = 62_167_219_200;
 /// The seconds of a day.
 const DAY: u64 = 86_400;
 
-/// A time in seconds since 1970-01-01T00:00:00Z, from 1 to 4294967295. It stands as `yyyy-mm-ddThh:mm:ssZ`.
+/// A time in seconds since 1970-01-01T00:00:00Z, from 1 to 4294967295. Its form is `yyyy-mm-ddThh:mm:ssZ`.
 ///
 /// # Errors
 ///
-/// `BadTime` where it doesn't stand so, where the calendar lacks the day, or where the hour is above 23, or the minute
-/// or the second above 59; `OutOfRange` where it is before 1970-01-01T00:00:01Z or after 2106-02-07T06:28:15Z.
+/// `BadTime` if it doesn't have this form, if the calendar lacks the day, or if the hour is above 23, or the minute or
+/// the second above 59; `OutOfRange` if it is before 1970-01-01T00:00:01Z or after 2106-02-07T06:28:15Z.
 #[inline(never)]
 pub fn read_time(text: &[u8]) -> Result<u32, OplReason>
     ensures { result ≡ spec.reading_time text.now }
@@ -32,7 +32,7 @@ pub fn read_time(text: &[u8]) -> Result<u32, OplReason>
     to_moment(DAY * u64::from(days) + u64::from(second))
 }
 
-/// A moment in seconds since 1970, where it is one from 1 to 4294967295.
+/// A moment in seconds since 1970, if it is one from 1 to 4294967295.
 #[inline(always)]
 fn to_moment(seconds: u64) -> Result<u32, OplReason>
     ensures { result ≡ spec.reading_moment seconds }
@@ -76,7 +76,7 @@ fn read_clock(text: &[u8]) -> Option<u32>
     }
 }
 
-/// The second of the day, where there is such a time of day.
+/// The second of the day, if the day has this time.
 #[inline(always)]
 fn second_of(hour: u16, minute: u16, second: u16) -> Option<u32>
     ensures { result ≡ spec.second_of hour minute second }
@@ -88,7 +88,7 @@ fn second_of(hour: u16, minute: u16, second: u16) -> Option<u32>
     }
 }
 
-/// The number that four digits from a place on write.
+/// The number that four digits from `from` on write.
 #[inline(always)]
 fn four_digits_at(text: &[u8], from: usize) -> Option<u16>
     requires { from + 4 ≤ length text.now }
@@ -102,7 +102,7 @@ fn four_digits_at(text: &[u8], from: usize) -> Option<u16>
     Some(1_000 * thousands + 100 * hundreds + 10 * tens + ones)
 }
 
-/// The number that two digits from a place on write.
+/// The number that two digits from `from` on write.
 #[inline(always)]
 fn two_digits_at(text: &[u8], from: usize) -> Option<u16>
     requires { from + 2 ≤ length text.now }
@@ -127,7 +127,7 @@ fn digit_of(byte: u8) -> Option<u16>
     }
 }
 
-/// The days from 0000-01-01 to a date, where the calendar has it.
+/// The days from 0000-01-01 to a date, if the calendar has it.
 #[inline(always)]
 fn day_of(year: u16, month: u8, day: u8) -> Option<u32>
     requires year_in { year < 10_000 }
@@ -138,5 +138,5 @@ fn day_of(year: u16, month: u8, day: u8) -> Option<u32>
     let Ok(date) = Date::new(year as i16, month as i8, day as i8) else {
         return None;
     };
-    Some((date.to_plain().to_unix_epoch_day() + DAYS_BEFORE_1970) as u32)
+    Some((date.to_plain().to_unix_epoch_day() + DAYS_FROM_YEAR_0_TO_1970) as u32)
 }

@@ -1,4 +1,4 @@
--- Bytes behind a whole faulty unit change no verdict.
+-- Bytes after a whole faulty unit change no verdict.
 use Rattle.std.proofs.Common.{◌≡◌, ◌⊎◌, inl, inr, ℕ, zero, suc, ◌+◌, ◌-◌, ◌≤◌, ◌<◌, ◌^◌, true, false, cond, List, [], ◌∷◌, ◌++◌, length}
 use Rattle.std.proofs.Common.{drop, take, refl, sym, ap, ◌∙◌, arith, Option, Some, None, Ok, Err, length-drop, nat_lt, option_map}
 use Rattle.std.proofs.lemmas.List.{append-nil, drop-append-le}
@@ -7,12 +7,12 @@ use Rattle.std.proofs.lemmas.Bool.{cases_lt}
 use Rattle.osm_model.specs.Data.{VersionData}
 use Rattle.osm_files.specs.declared.reason.Reason.TheVariants.{Unsorted, ReadFault}
 use Rattle.osm_files.specs.Groups.{sorted_source}
-use Rattle.osm_files.specs.LoadLaws.{broken_behind}
+use Rattle.osm_files.specs.LoadLaws.{broken_after}
 use Rattle.osm_files.specs.Position.{fault_of}
 use Rattle.osm_files.specs.SourceLaws.{verdict_within, IsFaultyWithin, FaultyOrClosed, FaultyStays, MalformedStays}
-use Rattle.osm_files.specs.Stream.{Verdict, verdict_at, Placed, placed, Still, refused, front}
-use Rattle.osm_files.specs.Units.{Stand, InOpl, Found, FileUnit, unit_at, found_then, units, start_of}
-use Rattle.osm_files.specs.Verdict.{length_limit, too_long, file_units, verdict, is_below, sorted_verdict, verdict_sorted}
+use Rattle.osm_files.specs.Stream.{Verdict, verdict_at, Placed, new_placed, Still, end_refused, front}
+use Rattle.osm_files.specs.Units.{FileStateData, InOpl, UnitResult, FileUnit, unit_at, found_then, units, start_of}
+use Rattle.osm_files.specs.Verdict.{length_limit, too_long_verdict, file_units, verdict, is_below, sorted_verdict, verdict_sorted}
 use Rattle.osm_files.proofs.HoldLaws.{whole_source_is_held, broken_source_ends, long_source_ends}
 use Rattle.osm_files.proofs.StepLaws.{unit_sized, units_step, units_stop}
 use Rattle.osm_files.proofs.StayLaws.{unit_stays}
@@ -24,23 +24,23 @@ Units = Still Placed Verdict
 abbrev behind : List Placed → Units → Units
 behind us still = record { list = us ++ still.list; refusal = still.refusal }
 
--- none of the units that stand whole in these bytes is faulty
-record Closes (stand : Stand) (place : ℕ) (bytes : List ℕ) : Type 0 where
+-- none of the whole units in these bytes is faulty
+record Closes (stand : FileStateData) (place : ℕ) (bytes : List ℕ) : Type 0 where
   list : List Placed
   closes : (close : Verdict) → units (Some close) stand place bytes ≡ record { list = list; refusal = Some close }
   longer : (more : List ℕ) (close : Option Verdict) → (still : Units) × (units close stand place (bytes ++ more) ≡ behind list still)
 
 -- one of them is
-record Refuses (stand : Stand) (place : ℕ) (bytes : List ℕ) : Type 0 where
+record Refuses (stand : FileStateData) (place : ℕ) (bytes : List ℕ) : Type 0 where
   list : List Placed
   fault : Verdict
   faulty : (close : Verdict) → units (Some close) stand place bytes ≡ record { list = list; refusal = Some fault }
   stays : (more : List ℕ) (close : Option Verdict) → units close stand place (bytes ++ more) ≡ record { list = list; refusal = Some fault }
 
-abbrev Splits : Stand → ℕ → List ℕ → Type 0
+abbrev Splits : FileStateData → ℕ → List ℕ → Type 0
 Splits stand place bytes = Closes stand place bytes ⊎ Refuses stand place bytes
 
-none_whole : (stand : Stand) (place : ℕ) (bytes : List ℕ) → unit_at stand bytes ≡ None → Splits stand place bytes
+none_whole : (stand : FileStateData) (place : ℕ) (bytes : List ℕ) → unit_at stand bytes ≡ None → Splits stand place bytes
 none_whole stand place bytes none = inl (record {
   list = [];
   closes = λ close. units_stop (Some close) stand place bytes none;
@@ -48,7 +48,7 @@ none_whole stand place bytes none = inl (record {
 })
 
 -- the unit at the front is found to be faulty, or passed, or a version
-module _ (stand : Stand) (place : ℕ) (bytes : List ℕ) (u : FileUnit) (there : unit_at stand bytes ≡ Some u) where
+module _ (stand : FileStateData) (place : ℕ) (bytes : List ℕ) (u : FileUnit) (there : unit_at stand bytes ≡ Some u) where
   abbrev rest : List ℕ
   rest = drop u.size bytes
 
@@ -63,7 +63,7 @@ module _ (stand : Stand) (place : ℕ) (bytes : List ℕ) (u : FileUnit) (there 
       units_step close stand place (bytes ++ more) u (unit_stays stand bytes more u there)
       ∙ ap (λ bs. found_then place u.found (λ next. units close next (place + u.size) bs)) (drop-append-le u.size bytes more sized.within)
 
-  by_found : (found : Found) → u.found ≡ found → ((next : Stand) → Splits next (place + u.size) rest) → Splits stand place bytes
+  by_found : (found : UnitResult) → u.found ≡ found → ((next : FileStateData) → Splits next (place + u.size) rest) → Splits stand place bytes
   by_found (Err reason) e on = inr (record {
     list = [];
     fault = verdict_at place reason;
@@ -89,32 +89,32 @@ module _ (stand : Stand) (place : ℕ) (bytes : List ℕ) (u : FileUnit) (there 
   ]
   by_found (Ok (Some v, next)) e on = elim (on next) [
     | inl h ↦ inl (record {
-      list = placed place v ∷ h.list;
+      list = new_placed place v ∷ h.list;
       closes = λ close. here (Some close) ∙ ap (λ f. found_then place f (λ n. units (Some close) n (place + u.size) rest)) e
-          ∙ ap (front (placed place v)) (h.closes close);
+          ∙ ap (front (new_placed place v)) (h.closes close);
       longer = λ more close. (let k = h.longer more close in (
         k.0,
         further more close ∙ ap (λ f. found_then place f (λ n. units close n (place + u.size) (rest ++ more))) e
-            ∙ ap (front (placed place v)) k.1,
+            ∙ ap (front (new_placed place v)) k.1,
       ));
     })
     | inr h ↦ inr (record {
-      list = placed place v ∷ h.list;
+      list = new_placed place v ∷ h.list;
       fault = h.fault;
       faulty = λ close. here (Some close) ∙ ap (λ f. found_then place f (λ n. units (Some close) n (place + u.size) rest)) e
-          ∙ ap (front (placed place v)) (h.faulty close);
+          ∙ ap (front (new_placed place v)) (h.faulty close);
       stays = λ more close. further more close ∙ ap (λ f. found_then place f (λ n. units close n (place + u.size) (rest ++ more))) e
-          ∙ ap (front (placed place v)) (h.stays more close);
+          ∙ ap (front (new_placed place v)) (h.stays more close);
     })
   ]
 
-by_unit : (stand : Stand) (place : ℕ) (bytes : List ℕ) (found : Option FileUnit) → unit_at stand bytes ≡ found →
-    ((u : FileUnit) → unit_at stand bytes ≡ Some u → (next : Stand) → Splits next (place + u.size) (drop u.size bytes)) →
+by_unit : (stand : FileStateData) (place : ℕ) (bytes : List ℕ) (found : Option FileUnit) → unit_at stand bytes ≡ found →
+    ((u : FileUnit) → unit_at stand bytes ≡ Some u → (next : FileStateData) → Splits next (place + u.size) (drop u.size bytes)) →
     Splits stand place bytes
 by_unit stand place bytes None e on = none_whole stand place bytes e
 by_unit stand place bytes (Some u) e on = by_found stand place bytes u e u.found refl (on u e)
 
-splits : (n : ℕ) (stand : Stand) (place : ℕ) (bytes : List ℕ) → length bytes ≤ n → Splits stand place bytes
+splits : (n : ℕ) (stand : FileStateData) (place : ℕ) (bytes : List ℕ) → length bytes ≤ n → Splits stand place bytes
 splits zero stand place bytes few = by_unit stand place bytes (unit_at stand bytes) refl
     (λ u e. let sized = unit_sized stand bytes u e in absurd (omega (arith, sized.some, sized.within, few)))
 splits (suc n) stand place bytes few =
@@ -123,7 +123,7 @@ splits (suc n) stand place bytes few =
     splits n next (place + u.size) (drop u.size bytes) (omega (arith, length-drop u.size bytes, sized.some, sized.within, few)))
 
 -- ---- on their order
--- some version of these is below the one before it, or none is
+-- one version of these is below the one before it, or none is
 abbrev Orders : Option VersionData → List Placed → Type 0
 Orders before us =
     ((fault : Verdict) × ((close : Option Verdict) (others : List Placed) → sorted_verdict close before (us ++ others) ≡ Some fault))
@@ -151,7 +151,7 @@ orders before (u ∷ us) =
 of_units : Units → Option Verdict
 of_units still = sorted_verdict still.refusal None still.list
 
--- what the whole units of some bytes say, whatever is behind them
+-- the verdict of the whole units of some bytes, whatever follows them
 abbrev Says : List ℕ → Type 0
 Says bytes =
     ((fault : Verdict) × IsFaultyWithin bytes fault ×
@@ -189,6 +189,7 @@ says bytes = elim (splits (length bytes) (start_of bytes) 0 bytes (omega arith))
   | inr h ↦ says_refused bytes h (orders None h.list)
 ]
 
+-- The whole units of some bytes have a fault whatever closes them, or the fault is what closes them.
 pub faulty_or_closed : FaultyOrClosed
 faulty_or_closed bytes = elim (says bytes) [
   | inl h ↦ inl (h.0, h.1)
@@ -205,8 +206,8 @@ never_none bytes close e = elim (faulty_or_closed bytes) [
   | inr h ↦ absurd (let f : None ≡ Some close = sym e ∙ h close in cc)
 ]
 
--- where an error follows the bytes, their source is refused
-pub broken_is_refused : (input : ℕ) (bytes : List ℕ) → (sorted_source input (broken_behind bytes)).refusal ≡ None → ⊥
+-- if an error follows the bytes, their source is refused
+pub broken_is_refused : (input : ℕ) (bytes : List ℕ) → (sorted_source input (broken_after bytes)).refusal ≡ None → ⊥
 broken_is_refused input bytes e =
     elim (cases_lt (length bytes) (2 ^ 62)) [
       | inl short ↦ never_none bytes (verdict_at (length bytes) ReadFault)
@@ -235,17 +236,17 @@ file_begins bytes more short =
         close = None;
         others = more;
         same =
-            ap (λ t. cond t (units None (start_of all) 0 all) (units (Some too_long) (start_of all) 0 (take (2 ^ 62 - 1) all))) e;
+            ap (λ t. cond t (units None (start_of all) 0 all) (units (Some too_long_verdict) (start_of all) 0 (take (2 ^ 62 - 1) all))) e;
       }
       | false ↦ λ e. record {
-        close = Some too_long;
+        close = Some too_long_verdict;
         others = take few more;
-        same = ap (λ t. cond t (units None (start_of all) 0 all) (units (Some too_long) (start_of all) 0 (take (2 ^ 62 - 1) all))) e
-            ∙ ap (units (Some too_long) (start_of all) 0) front;
+        same = ap (λ t. cond t (units None (start_of all) 0 all) (units (Some too_long_verdict) (start_of all) 0 (take (2 ^ 62 - 1) all))) e
+            ∙ ap (units (Some too_long_verdict) (start_of all) 0) front;
       }
     ] refl
 
--- a verdict isn't what closes it for two different closings
+-- two different closings don't both have the verdict that closes them
 not_both : (fault : Verdict) → Some fault ≡ Some (verdict_at 0 ReadFault) → Some fault ≡ Some (verdict_at 1 ReadFault) → ⊥
 not_both fault e f =
     let place : verdict_at 0 ReadFault ≡ verdict_at 1 ReadFault =
@@ -257,7 +258,7 @@ nothing_in_nothing : unit_at InOpl [] ≡ None
 unfolding unit_at
 nothing_in_nothing = refl
 
-nothing_closes : (close : Verdict) → units (Some close) InOpl 0 [] ≡ refused close
+nothing_closes : (close : Verdict) → units (Some close) InOpl 0 [] ≡ end_refused close
 nothing_closes close = units_stop (Some close) InOpl 0 [] nothing_in_nothing
 
 module _ (fault : Verdict) where
@@ -269,8 +270,8 @@ module _ (fault : Verdict) where
       (sym (faulty (verdict_at 1 ReadFault)) ∙ closes (verdict_at 1 ReadFault)))
   sorted_stays bytes more short faulty (inl (v, within, stays)) same =
       let b = file_begins bytes more short in
-      ap of_units (b.same ∙ ap (λ s. units b.close s 0 (bytes ++ b.others)) same) ∙ stays b.others b.close ∙ sym (within too_long)
-      ∙ faulty too_long
+      ap of_units (b.same ∙ ap (λ s. units b.close s 0 (bytes ++ b.others)) same) ∙ stays b.others b.close ∙ sym (within too_long_verdict)
+      ∙ faulty too_long_verdict
 
   stays_whatever : (bytes more : List ℕ) → length bytes < 2 ^ 62 →
       ((close : Verdict) → (units (Some close) (start_of bytes) 0 bytes).refusal ≡ Some fault) → Splits (start_of bytes) 0 bytes →
@@ -282,8 +283,9 @@ module _ (fault : Verdict) where
   stays_whatever bytes more short faulty (inr h) same =
       let b = file_begins bytes more short in
       ap (λ s. s.refusal) (b.same ∙ ap (λ s. units b.close s 0 (bytes ++ b.others)) same ∙ h.stays b.others b.close)
-      ∙ sym (ap (λ s. s.refusal) (h.faulty too_long)) ∙ faulty too_long
+      ∙ sym (ap (λ s. s.refusal) (h.faulty too_long_verdict)) ∙ faulty too_long_verdict
 
+-- Bytes after a whole faulty unit don't change the verdict on order.
 pub faulty_stays : FaultyStays
 faulty_stays [] more fault short faulty =
     absurd (not_both fault
@@ -291,6 +293,7 @@ faulty_stays [] more fault short faulty =
     (sym (faulty (verdict_at 1 ReadFault)) ∙ ap (λ s. sorted_verdict s.refusal None s.list) (nothing_closes (verdict_at 1 ReadFault))))
 faulty_stays (b ∷ bytes) more fault short faulty = sorted_stays fault (b ∷ bytes) more short faulty (says (b ∷ bytes)) refl
 
+-- Bytes after a whole malformed unit don't change the verdict.
 pub malformed_stays : MalformedStays
 malformed_stays [] more fault short faulty =
     absurd (not_both fault

@@ -12,19 +12,19 @@ use Rattle.std.specs.List.Sorted.{IsStrictlySortedBy, IsSorted, IsPermutation}
 use Rattle.std.proofs.lemmas.List.Sorted.{IsPermutation-append_comm, IsPermutation-trans}
 use Rattle.osm_model.specs.Data.{VersionData}
 use Rattle.osm_model.specs.Order.{key_cmp, version_cmp, version_cmp_total}
-use Rattle.osm_model.specs.Sets.{listed, from_list}
-use Rattle.osm_model.proofs.SetLaws.{listed-from_list, listed-of_sorted, contains-listed, contains-from_list}
+use Rattle.osm_model.specs.Sets.{to_list, from_list}
+use Rattle.osm_model.proofs.SetLaws.{to_list-from_list, to_list-of_sorted, contains-listed, contains-from_list}
 use Rattle.osm_model.proofs.VersionLaws.{version_cmp-IsAntisymmetric}
 use Rattle.osm_files.specs.declared.fault.Fault.{Fault}
 use Rattle.osm_files.specs.declared.reason.Reason.TheVariants.{Unsorted}
 use Rattle.osm_files.specs.Fault.{memory_fault, failed_fault}
-use Rattle.osm_files.specs.Groups.{ascending, joins, follows, versions_then, groups, gathered, IsGroup, Gathers, Refuses}
+use Rattle.osm_files.specs.Groups.{to_ascending, is_in_group, is_after_group, versions_then, groups, still_with_ready, IsGroup, Gathers, RefusesGroup}
 use Rattle.osm_files.specs.Position.{Keeps, fault_of}
-use Rattle.osm_files.specs.Source.{Step}
-use Rattle.osm_files.specs.Stream.{verdict_at, Placed, Still, whole, refused, front}
+use Rattle.osm_files.specs.Source.{SourceStep}
+use Rattle.osm_files.specs.Stream.{verdict_at, Placed, Still, end_whole, end_refused, front}
 use Rattle.osm_files.proofs.FillLaws.{weaker, keeps_on}
 
--- what is said of what is kept
+-- a property of a known value that is unchanged
 pub from_kept : {A : Type 0} (before after : Option A) (P : A → Type 0) → Keeps before after → IfSome after P → IfSome before P
 from_kept None after P k h = tt
 from_kept {A} (Some x) after P k h = let Q : Option A → Type 0 = λ o. IfSome o P in subst Q k h
@@ -38,24 +38,28 @@ strict_one : (v : VersionData) → IsStrictlySortedBy version_cmp (v ∷ [])
 unfolding IsStrictlySortedBy
 strict_one v = (tt, tt)
 
-pub ascending_is : (versions : List VersionData) → ascending versions ≡ listed (from_list {R = version_cmp} versions)
-unfolding ascending
+-- The ascending list of some versions is the list of their set.
+pub ascending_is : (versions : List VersionData) → to_ascending versions ≡ to_list (from_list {R = version_cmp} versions)
+unfolding to_ascending
 ascending_is versions = refl
 
-pub ascending_strict : (versions : List VersionData) → IsStrictlySortedBy version_cmp versions → ascending versions ≡ versions
-ascending_strict versions h = ascending_is versions ∙ listed-from_list version_cmp_total version_cmp-IsAntisymmetric versions h
+pub ascending_strict : (versions : List VersionData) → IsStrictlySortedBy version_cmp versions → to_ascending versions ≡ versions
+ascending_strict versions h = ascending_is versions ∙ to_list-from_list version_cmp_total version_cmp-IsAntisymmetric versions h
 
-pub ascending_nil : ascending [] ≡ []
+-- The ascending list of no versions is empty.
+pub ascending_nil : to_ascending [] ≡ []
 ascending_nil = ascending_strict [] strict_nil
 
-pub ascending_one : (v : VersionData) → ascending (v ∷ []) ≡ v ∷ []
+-- The ascending list of one version is this version.
+pub ascending_one : (v : VersionData) → to_ascending (v ∷ []) ≡ v ∷ []
 ascending_one v = ascending_strict (v ∷ []) (strict_one v)
 
--- has the list a version that ties with this one?
+-- does the list have a version that ties with this one?
 abbrev pub has : VersionData → List VersionData → Bool
 has v versions = list_any (eq_by_cmp version_cmp v) versions
 
-pub has_ascending : (v : VersionData) (versions : List VersionData) → has v (ascending versions) ≡ has v versions
+-- The ascending list has the versions of the list.
+pub has_ascending : (v : VersionData) (versions : List VersionData) → has v (to_ascending versions) ≡ has v versions
 has_ascending v versions =
     ap (has v) (ascending_is versions) ∙ sym (contains-listed {R = version_cmp} (from_list versions) v)
     ∙ contains-from_list version_cmp_total versions v
@@ -63,7 +67,8 @@ has_ascending v versions =
 has_first : (v : VersionData) (versions : List VersionData) → has v (v ∷ versions) ≡ true
 has_first v versions = ap (λ o. is_eq o || has v versions) (tied_itself version_cmp_total v)
 
-pub ascending_some : (v : VersionData) (versions : List VersionData) → ascending (v ∷ versions) ≡ [] → ⊥
+-- The ascending list of a version and others isn't empty.
+pub ascending_some : (v : VersionData) (versions : List VersionData) → to_ascending (v ∷ versions) ≡ [] → ⊥
 ascending_some v versions e =
     let none : false ≡ true = sym (ap (has v) e) ∙ has_ascending v (v ∷ versions) ∙ has_first v versions in
     false≢true none
@@ -84,44 +89,44 @@ neither_joins Less h k = absurd (false≢true (sym h))
 neither_joins Equal h k = refl
 neither_joins Greater h k = absurd (false≢true (sym k))
 
--- ---- a unit, and what it makes of the group at hand
+-- ---- a unit, and its effect on the current group
 module _ (input : ℕ) where
-  joined : (before after : Option (Still Placed Fault)) (group : List VersionData) (u : Placed) → Step before (Ok (Some u)) after →
-      joins group u.version ≡ true → Keeps (gathered input before group []) (gathered input after (group ++ u.version ∷ []) [])
+  joined : (before after : Option (Still Placed Fault)) (group : List VersionData) (u : Placed) → SourceStep before (Ok (Some u)) after →
+      is_in_group group u.version ≡ true → Keeps (still_with_ready input before group []) (still_with_ready input after (group ++ u.version ∷ []) [])
   joined None after group u h j = tt
   joined (Some s) after group u h j =
-      let same : gathered input (Some (front u h.0)) group [] ≡ gathered input (Some h.0) (group ++ u.version ∷ []) [] = rw j refl in
-      ap (λ o. gathered input o (group ++ u.version ∷ []) []) h.2 ∙ sym same ∙ ap (λ x. gathered input (Some x) group []) (sym h.1)
+      let same : still_with_ready input (Some (front u h.0)) group [] ≡ still_with_ready input (Some h.0) (group ++ u.version ∷ []) [] = rw j refl in
+      ap (λ o. still_with_ready input o (group ++ u.version ∷ []) []) h.2 ∙ sym same ∙ ap (λ x. still_with_ready input (Some x) group []) (sym h.1)
 
-  followed : (before after : Option (Still Placed Fault)) (group : List VersionData) (u : Placed) → Step before (Ok (Some u)) after →
-      joins group u.version ≡ false → follows group u.version ≡ true
-      → Keeps (gathered input before group []) (gathered input after (u.version ∷ []) (ascending group))
+  followed : (before after : Option (Still Placed Fault)) (group : List VersionData) (u : Placed) → SourceStep before (Ok (Some u)) after →
+      is_in_group group u.version ≡ false → is_after_group group u.version ≡ true
+      → Keeps (still_with_ready input before group []) (still_with_ready input after (u.version ∷ []) (to_ascending group))
   followed None after group u h j f = tt
   followed (Some s) after group u h j f =
-      let same : gathered input (Some (front u h.0)) group [] ≡ gathered input (Some h.0) (u.version ∷ []) (ascending group) =
+      let same : still_with_ready input (Some (front u h.0)) group [] ≡ still_with_ready input (Some h.0) (u.version ∷ []) (to_ascending group) =
       rw (j, f) refl in
-      ap (λ o. gathered input o (u.version ∷ []) (ascending group)) h.2 ∙ sym same ∙ ap (λ x. gathered input (Some x) group []) (sym h.1)
+      ap (λ o. still_with_ready input o (u.version ∷ []) (to_ascending group)) h.2 ∙ sym same ∙ ap (λ x. still_with_ready input (Some x) group []) (sym h.1)
 
-  fell : (before after : Option (Still Placed Fault)) (group : List VersionData) (u : Placed) → Step before (Ok (Some u)) after →
-      joins group u.version ≡ false → follows group u.version ≡ false
-      → IfSome (gathered input before group []) (λ s. s ≡ refused (fault_of input (verdict_at u.place Unsorted)))
+  fell : (before after : Option (Still Placed Fault)) (group : List VersionData) (u : Placed) → SourceStep before (Ok (Some u)) after →
+      is_in_group group u.version ≡ false → is_after_group group u.version ≡ false
+      → IfSome (still_with_ready input before group []) (λ s. s ≡ end_refused (fault_of input (verdict_at u.place Unsorted)))
   fell None after group u h j f = tt
   fell (Some s) after group u h j f =
-      let same : versions_then [] (groups input h.0.refusal (u ∷ h.0.list) group) ≡ refused (fault_of input (verdict_at u.place Unsorted)) =
+      let same : versions_then [] (groups input h.0.refusal (u ∷ h.0.list) group) ≡ end_refused (fault_of input (verdict_at u.place Unsorted)) =
       rw (j, f) refl in
       ap (λ x. versions_then [] (groups input x.refusal x.list group)) h.1 ∙ same
 
-  finished : (before after : Option (Still Placed Fault)) (group : List VersionData) → Step before (Ok None) after →
-      Keeps (gathered input before group []) (gathered input after [] (ascending group))
+  finished : (before after : Option (Still Placed Fault)) (group : List VersionData) → SourceStep before (Ok None) after →
+      Keeps (still_with_ready input before group []) (still_with_ready input after [] (to_ascending group))
   finished None after group h = tt
   finished (Some s) after group h =
-      let same : gathered input (Some whole) group [] ≡ gathered input (Some whole) [] (ascending group) =
-      rw (ascending_nil, append-nil (ascending group)) refl in
-      ap (λ o. gathered input o [] (ascending group)) h.1 ∙ sym same ∙ ap (λ x. gathered input (Some x) group []) (sym h.0)
+      let same : still_with_ready input (Some end_whole) group [] ≡ still_with_ready input (Some end_whole) [] (to_ascending group) =
+      rw (ascending_nil, append-nil (to_ascending group)) refl in
+      ap (λ o. still_with_ready input o [] (to_ascending group)) h.1 ∙ sym same ∙ ap (λ x. still_with_ready input (Some x) group []) (sym h.0)
 
   broken_by : (before : Option (Still Placed Fault)) (group : List VersionData) (fault : Fault) →
-      (fault ≡ memory_fault) ⊎ IfSome before (λ s. s ≡ refused fault) →
-      (fault ≡ memory_fault) ⊎ IfSome (gathered input before group []) (λ s. s ≡ refused fault)
+      (fault ≡ memory_fault) ⊎ IfSome before (λ s. s ≡ end_refused fault) →
+      (fault ≡ memory_fault) ⊎ IfSome (still_with_ready input before group []) (λ s. s ≡ end_refused fault)
   broken_by before group fault (inl e) = inl e
   broken_by None group fault (inr h) = inr tt
   broken_by (Some s) group fault (inr h) = inr (ap (λ x. versions_then [] (groups input x.refusal x.list group)) h)
@@ -129,54 +134,59 @@ module _ (input : ℕ) where
   -- ---- a whole group
   module _ (start : Option (Still Placed Fault)) (begun : List VersionData) (before after : Option (Still Placed Fault))
       (first : VersionData) (others : List VersionData)
-      (keeps : Keeps (gathered input start (first ∷ begun) []) (gathered input before (first ∷ others) [])) where
-    pub joins_group : (u : Placed) → Step before (Ok (Some u)) after → is_lt (key_cmp first u.version) ≡ false →
+      (keeps : Keeps (still_with_ready input start (first ∷ begun) []) (still_with_ready input before (first ∷ others) [])) where
+    -- A version of the key of the group joins it.
+    pub joins_group : (u : Placed) → SourceStep before (Ok (Some u)) after → is_lt (key_cmp first u.version) ≡ false →
         is_gt (key_cmp first u.version) ≡ false
-        → Keeps (gathered input start (first ∷ begun) []) (gathered input after (first ∷ (others ++ u.version ∷ [])) [])
+        → Keeps (still_with_ready input start (first ∷ begun) []) (still_with_ready input after (first ∷ (others ++ u.version ∷ [])) [])
     joins_group u h less greater =
-        keeps_on (gathered input start (first ∷ begun) []) (gathered input before (first ∷ others) [])
-        (gathered input after (first ∷ (others ++ u.version ∷ [])) []) keeps
+        keeps_on (still_with_ready input start (first ∷ begun) []) (still_with_ready input before (first ∷ others) [])
+        (still_with_ready input after (first ∷ (others ++ u.version ∷ [])) []) keeps
         (joined before after (first ∷ others) u h (ap is_eq (neither_joins (key_cmp first u.version) less greater)))
 
-    pub ends_group : IsGroup first others → Step before (Ok None) after → Gathers input start begun after first others None
+    -- At the end of the units the group is complete.
+    pub ends_group : IsGroup first others → SourceStep before (Ok None) after → Gathers input start begun after first others None
     ends_group group h = record {
-      keeps = keeps_on (gathered input start (first ∷ begun) []) (gathered input before (first ∷ others) [])
-          (gathered input after [] (ascending (first ∷ others))) keeps (finished before after (first ∷ others) h);
+      keeps = keeps_on (still_with_ready input start (first ∷ begun) []) (still_with_ready input before (first ∷ others) [])
+          (still_with_ready input after [] (to_ascending (first ∷ others))) keeps (finished before after (first ∷ others) h);
       group = group;
       above = tt;
       end = λ e. h.1;
     }
 
-    pub begins_next : IsGroup first others → (u : Placed) → Step before (Ok (Some u)) after → is_lt (key_cmp first u.version) ≡ true →
+    -- A version of a greater key completes the group and begins the next one.
+    pub begins_next : IsGroup first others → (u : Placed) → SourceStep before (Ok (Some u)) after → is_lt (key_cmp first u.version) ≡ true →
         Gathers input start begun after first others (Some u.version)
     begins_next group u h less = record {
       keeps =
-          keeps_on (gathered input start (first ∷ begun) []) (gathered input before (first ∷ others) [])
-          (gathered input after (u.version ∷ []) (ascending (first ∷ others))) keeps
+          keeps_on (still_with_ready input start (first ∷ begun) []) (still_with_ready input before (first ∷ others) [])
+          (still_with_ready input after (u.version ∷ []) (to_ascending (first ∷ others))) keeps
           (followed before after (first ∷ others) u h (less_follows (key_cmp first u.version) less) less);
       group = group;
       above = less;
       end = λ e. absurd (let f : Some u.version ≡ None = e in cc);
     }
 
-    told : (P : Still VersionData Fault → Type 0) → IfSome (gathered input before (first ∷ others) []) P →
-        IfSome (gathered input start (first ∷ begun) []) P
-    told P h = from_kept (gathered input start (first ∷ begun) []) (gathered input before (first ∷ others) []) P keeps h
+    told : (P : Still VersionData Fault → Type 0) → IfSome (still_with_ready input before (first ∷ others) []) P →
+        IfSome (still_with_ready input start (first ∷ begun) []) P
+    told P h = from_kept (still_with_ready input start (first ∷ begun) []) (still_with_ready input before (first ∷ others) []) P keeps h
 
-    told_or : (fault : Fault) → (fault ≡ memory_fault) ⊎ IfSome (gathered input before (first ∷ others) []) (λ s. s ≡ refused fault) →
-        (fault ≡ memory_fault) ⊎ IfSome (gathered input start (first ∷ begun) []) (λ s. s ≡ refused fault)
+    told_or : (fault : Fault) → (fault ≡ memory_fault) ⊎ IfSome (still_with_ready input before (first ∷ others) []) (λ s. s ≡ end_refused fault) →
+        (fault ≡ memory_fault) ⊎ IfSome (still_with_ready input start (first ∷ begun) []) (λ s. s ≡ end_refused fault)
     told_or fault (inl e) = inl e
-    told_or fault (inr h) = inr (told (λ s. s ≡ refused fault) h)
+    told_or fault (inr h) = inr (told (λ s. s ≡ end_refused fault) h)
 
-    pub refuses_read : (fault : Fault) → Step before (Err fault) after → Refuses (gathered input start (first ∷ begun) []) fault after
+    -- A unit that can't be read refuses the group.
+    pub refuses_read : (fault : Fault) → SourceStep before (Err fault) after → RefusesGroup (still_with_ready input start (first ∷ begun) []) fault after
     refuses_read fault h = (told_or fault (broken_by before (first ∷ others) fault h.0), h.1)
 
+    -- A version of a lesser key refuses the group as Unsorted.
     pub refuses_unsorted : (u : Placed) (fault : Fault) (failed : Option (Still Placed Fault)) (number : ℕ) →
-        Step before (Ok (Some u)) after → is_gt (key_cmp first u.version) ≡ true → fault ≡ fault_of input (verdict_at u.place Unsorted)
-        → failed ≡ Some (refused (failed_fault number)) → Refuses (gathered input start (first ∷ begun) []) fault failed
+        SourceStep before (Ok (Some u)) after → is_gt (key_cmp first u.version) ≡ true → fault ≡ fault_of input (verdict_at u.place Unsorted)
+        → failed ≡ Some (end_refused (failed_fault number)) → RefusesGroup (still_with_ready input start (first ∷ begun) []) fault failed
     refuses_unsorted u fault failed number h greater is e =
         let falls = greater_falls (key_cmp first u.version) greater in (
-          inr (told (λ s. s ≡ refused fault) (weaker (gathered input before (first ∷ others) []) _ _ (λ s k. k ∙ ap refused (sym is))
+          inr (told (λ s. s ≡ end_refused fault) (weaker (still_with_ready input before (first ∷ others) []) _ _ (λ s k. k ∙ ap end_refused (sym is))
               (fell before after (first ∷ others) u h falls.0 falls.1))),
           (number, e),
         )
@@ -186,78 +196,86 @@ group_on : (P : VersionData → Type 0) (others : List VersionData) (v : Version
 group_on P [] v h k = (k, tt)
 group_on P (w ∷ others) v h k = (h.0, group_on P others v h.1 k)
 
+-- A version of the key of a group makes a group with it.
 pub group_joined : (first : VersionData) (others : List VersionData) (v : VersionData) → IsGroup first others →
     is_lt (key_cmp first v) ≡ false → is_gt (key_cmp first v) ≡ false → IsGroup first (others ++ v ∷ [])
 group_joined first others v h less greater = group_on (λ w. key_cmp first w ≡ Equal) others v h
     (neither_joins (key_cmp first v) less greater)
 
 -- ---- the first group begins, or there is none
-pub first_begins : (input : ℕ) (before after : Option (Still Placed Fault)) (u : Placed) → Step before (Ok (Some u)) after →
-    Keeps (gathered input before [] []) (gathered input after (u.version ∷ []) [])
+pub first_begins : (input : ℕ) (before after : Option (Still Placed Fault)) (u : Placed) → SourceStep before (Ok (Some u)) after →
+    Keeps (still_with_ready input before [] []) (still_with_ready input after (u.version ∷ []) [])
 first_begins input before after u h = joined input before after [] u h refl
 
-no_more : (input : ℕ) → gathered input (Some whole) [] [] ≡ Some whole
+no_more : (input : ℕ) → still_with_ready input (Some end_whole) [] [] ≡ Some end_whole
 no_more input = rw ascending_nil refl
 
-pub none_begins : (input : ℕ) (before after : Option (Still Placed Fault)) → Step before (Ok None) after →
-    Step (gathered input before [] []) (Ok None) (gathered input after [] [])
-none_begins input None after h = (tt, ap (λ o. gathered input o [] []) h.1 ∙ no_more input)
+-- No group begins at the end of the units.
+pub none_begins : (input : ℕ) (before after : Option (Still Placed Fault)) → SourceStep before (Ok None) after →
+    SourceStep (still_with_ready input before [] []) (Ok None) (still_with_ready input after [] [])
+none_begins input None after h = (tt, ap (λ o. still_with_ready input o [] []) h.1 ∙ no_more input)
 none_begins input (Some s) after h = (
-  (let e : Some (versions_then [] (groups input s.refusal s.list [])) ≡ Some whole = ap (λ x. gathered input (Some x) [] []) h.0
+  (let e : Some (versions_then [] (groups input s.refusal s.list [])) ≡ Some end_whole = ap (λ x. still_with_ready input (Some x) [] []) h.0
       ∙ no_more input in cc),
-  ap (λ o. gathered input o [] []) h.1 ∙ no_more input,
+  ap (λ o. still_with_ready input o [] []) h.1 ∙ no_more input,
 )
 
-pub refused_begins : (input : ℕ) (before after : Option (Still Placed Fault)) (fault : Fault) → Step {A = Placed} before (Err fault) after →
-    Refuses (gathered input before [] []) fault after
+-- No group begins at a unit that can't be read.
+pub refused_begins : (input : ℕ) (before after : Option (Still Placed Fault)) (fault : Fault) → SourceStep {A = Placed} before (Err fault) after →
+    RefusesGroup (still_with_ready input before [] []) fault after
 refused_begins input before after fault h = (broken_by input before [] fault h.0, h.1)
 
--- ---- what was made ready is given one by one
+-- ---- the ready versions are given one by one
 first_of : (input : ℕ) (after : Option (Still Placed Fault)) (group ready : List VersionData) (v : VersionData)
-    (s : Still VersionData Fault) → gathered input after group (v ∷ ready) ≡ Some s
-    → (t : Still VersionData Fault) × (s ≡ front v t) × (gathered input after group ready ≡ Some t)
+    (s : Still VersionData Fault) → still_with_ready input after group (v ∷ ready) ≡ Some s
+    → (t : Still VersionData Fault) × (s ≡ front v t) × (still_with_ready input after group ready ≡ Some t)
 first_of input None group ready v s e = absurd (let f : None ≡ Some s = e in cc)
 first_of input (Some w) group ready v s e =
     let t : Still VersionData Fault = versions_then ready (groups input w.refusal w.list group) in
     (t, (let f : Some (front v t) ≡ Some s = e in cc), refl)
 
+-- A version that is ready is given first.
 pub gives_ready : (input : ℕ) (units : Option (Still Placed Fault)) (group ready : List VersionData) (v : VersionData) →
-    Step (gathered input units group (v ∷ ready)) (Ok (Some v)) (gathered input units group ready)
+    SourceStep (still_with_ready input units group (v ∷ ready)) (Ok (Some v)) (still_with_ready input units group ready)
 gives_ready input None group ready v = tt
 gives_ready input (Some w) group ready v = (versions_then ready (groups input w.refusal w.list group), refl, refl)
 
+-- The first version of a complete group is given, and the others are ready.
 pub gives_first : (input : ℕ) (before : Option (Still Placed Fault)) (begun : List VersionData) (after : Option (Still Placed Fault))
     (first : VersionData) (others : List VersionData) (next : Option VersionData) (v : VersionData) (ready : List VersionData)
-    → Gathers input before begun after first others next → ascending (first ∷ others) ≡ v ∷ ready →
-    Step (gathered input before (first ∷ begun) []) (Ok (Some v)) (gathered input after (option_to_list next) ready)
+    → Gathers input before begun after first others next → to_ascending (first ∷ others) ≡ v ∷ ready →
+    SourceStep (still_with_ready input before (first ∷ begun) []) (Ok (Some v)) (still_with_ready input after (option_to_list next) ready)
 gives_first input before begun after first others next v ready h e =
-    weaker (gathered input before (first ∷ begun) []) _ _
-    (λ s k. first_of input after (option_to_list next) ready v s (ap (gathered input after (option_to_list next)) (sym e) ∙ k)) h.keeps
+    weaker (still_with_ready input before (first ∷ begun) []) _ _
+    (λ s k. first_of input after (option_to_list next) ready v s (ap (still_with_ready input after (option_to_list next)) (sym e) ∙ k)) h.keeps
 
--- ---- the answer of a call, behind what was kept
+-- ---- the result of a call, from an unchanged rest
 pub step_on : {A : Type 0} (start before after : Option (Still A Fault)) (r : Result (Option A) Fault) → Keeps start before →
-    Step before r after → Step start r after
+    SourceStep before r after → SourceStep start r after
 step_on start before after (Ok (Some x)) k h = from_kept start before _ k h
 step_on start before after (Ok None) k h = (from_kept start before _ k h.0, h.1)
 step_on start before after (Err fault) k (inl e, a) = (inl e, a)
 step_on start before after (Err fault) k (inr h, a) = (inr (from_kept start before _ k h), a)
 
+-- A refused group is a refused step of the source.
 pub refused_step : (input : ℕ) (before : Option (Still VersionData Fault)) (after : Option (Still Placed Fault)) (group : List VersionData)
-    (fault : Fault) → Refuses before fault after → Step before (Err fault) (gathered input after group [])
-refused_step input before after group fault (h, (number, a)) = (h, (number, ap (λ o. gathered input o group []) a))
+    (fault : Fault) → RefusesGroup before fault after → SourceStep before (Err fault) (still_with_ready input after group [])
+refused_step input before after group fault (h, (number, a)) = (h, (number, ap (λ o. still_with_ready input o group []) a))
 
--- ---- what a sort and a `dedup` make of a group
+-- ---- the result of a sort and a `dedup` of a group
 pub sorted_group : (first : VersionData) (others sorted : List VersionData) → IsPermutation (others ++ first ∷ []) sorted →
-    IsSorted version_cmp sorted → dedup (eq_by_cmp version_cmp) sorted ≡ ascending (first ∷ others)
+    IsSorted version_cmp sorted → dedup (eq_by_cmp version_cmp) sorted ≡ to_ascending (first ∷ others)
 sorted_group first others sorted moved up =
-    listed-of_sorted version_cmp_total version_cmp-IsAntisymmetric (first ∷ others) sorted
+    to_list-of_sorted version_cmp_total version_cmp-IsAntisymmetric (first ∷ others) sorted
     (IsPermutation-trans (first ∷ others) (others ++ first ∷ []) sorted (IsPermutation-append_comm (first ∷ []) others) moved) up
     ∙ sym (ascending_is (first ∷ others))
 
+-- An option with a value is a list of one item.
 pub one_in : {A : Type 0} (o : Option A) → is_some o ≡ true → length (option_to_list o) ≡ 1
 one_in None h = absurd (false≢true h)
 one_in (Some x) h = refl
 
+-- An option that isn't None has a value.
 pub some_from : {A : Type 0} (o : Option A) → (o ≡ None → ⊥) → is_some o ≡ true
 some_from None h = absurd (h refl)
 some_from (Some x) h = refl

@@ -1,4 +1,5 @@
--- What a source of a whole file gives: its refusal is the file's verdict, and without one the list is that of the set held.
+-- The versions of a source of a whole file: its refusal is the file's verdict, and without one the list is that of the
+-- set held.
 use Rattle.std.proofs.Common.{◌≡◌, ℕ, ◌+◌, ◌-◌, ◌<◌, ◌≤◌, ◌^◌, Bool, true, false, ◌||◌, cond, List, [], ◌∷◌, ◌++◌, length, take, refl, ap}
 use Rattle.std.proofs.Common.{sym, ◌∙◌, subst, arith, Option, Some, None, option_map, append_assoc, nat_lt}
 use Rattle.std.proofs.lemmas.Bool.{lt-ltb}
@@ -11,20 +12,20 @@ use Rattle.std.specs.Ordering.{eq_by_cmp, is_lt, ordering_reverse}
 use Rattle.std.specs.List.Sorted.{IsSorted, IsStrictlySortedBy}
 use Rattle.osm_model.specs.Data.{VersionData}
 use Rattle.osm_model.specs.Order.{key_cmp, key_cmp_total, version_cmp, version_cmp_total}
-use Rattle.osm_model.specs.Sets.{listed, from_list}
+use Rattle.osm_model.specs.Sets.{to_list, from_list}
 use Rattle.osm_model.specs.VersionSet.{VersionSet}
-use Rattle.osm_model.proofs.SetLaws.{listed-from_list, same_set, contains-from_list, contains-listed}
+use Rattle.osm_model.proofs.SetLaws.{to_list-from_list, same_set, contains-from_list, contains-listed}
 use Rattle.osm_model.proofs.VersionLaws.{version_cmp-IsAntisymmetric}
 use Rattle.osm_files.specs.declared.fault.Fault.{Fault}
 use Rattle.osm_files.specs.declared.reason.Reason.TheVariants.{Unsorted, ReadFault}
-use Rattle.osm_files.specs.Groups.{ascending, last_group, groups, sorted_source}
+use Rattle.osm_files.specs.Groups.{to_ascending, last_group, groups, sorted_source}
 use Rattle.osm_files.specs.Held.{IsFile, HoldsSorted}
-use Rattle.osm_files.specs.Input.{Coming, whole as all_of}
+use Rattle.osm_files.specs.Input.{Coming, whole_input as all_of}
 use Rattle.osm_files.specs.Position.{units_from, fault_of}
-use Rattle.osm_files.specs.Stream.{Verdict, verdict_at, Placed, Still, whole}
+use Rattle.osm_files.specs.Stream.{Verdict, verdict_at, Placed, Still, end_whole}
 use Rattle.osm_files.specs.Units.{units, start_of}
-use Rattle.osm_files.specs.Verdict.{length_limit, too_long, file_units, versions_of, is_below, sorted_verdict, verdict_sorted}
-use Rattle.osm_files.specs.LoadLaws.{broken_behind}
+use Rattle.osm_files.specs.Verdict.{length_limit, too_long_verdict, file_units, versions_of, is_below, sorted_verdict, verdict_sorted}
+use Rattle.osm_files.specs.LoadLaws.{broken_after}
 use Rattle.osm_files.specs.SourceLaws.{SourceGivesHeld, WholeSourceIsHeld, BrokenSourceEnds, LongSourceEnds}
 use Rattle.osm_files.proofs.FileLaws.{files_are_read, sorted_files_are_read, accepted_without_verdict, sorted_without_verdict}
 use Rattle.osm_files.proofs.GroupLaws.{has, has_ascending}
@@ -69,6 +70,7 @@ module _ (input : ℕ) where
       ≡ as_fault (let us = units_from None 0 c in sorted_verdict us.refusal None us.list)
   source_refusal c = ap (λ s. s.refusal) (source_is input c) ∙ (let us = units_from None 0 c in groups_refusal us.refusal us.list)
 
+-- The refusal of a whole file's source is the file's verdict on order.
 pub whole_refusal : (input : ℕ) (bytes : List ℕ) →
     (sorted_source input (all_of bytes)).refusal ≡ option_map (fault_of input) (verdict_sorted bytes)
 whole_refusal input bytes =
@@ -78,10 +80,10 @@ whole_refusal input bytes =
 -- ---- the list
 -- a list that ascends, and has the members of another
 pub members_are : (versions others : List VersionData) → IsStrictlySortedBy version_cmp versions →
-    ((v : VersionData) → has v versions ≡ has v others) → versions ≡ listed (from_list {R = version_cmp} others)
+    ((v : VersionData) → has v versions ≡ has v others) → versions ≡ to_list (from_list {R = version_cmp} others)
 members_are versions others up same =
-    sym (listed-from_list version_cmp_total version_cmp-IsAntisymmetric versions up)
-    ∙ ap listed (same_set version_cmp_total version_cmp-IsAntisymmetric (from_list versions) (from_list others)
+    sym (to_list-from_list version_cmp_total version_cmp-IsAntisymmetric versions up)
+    ∙ ap to_list (same_set version_cmp_total version_cmp-IsAntisymmetric (from_list versions) (from_list others)
     (λ v. contains-from_list version_cmp_total versions v ∙ same v ∙ sym (contains-from_list version_cmp_total others v)))
 
 module _ (input : ℕ) (v : VersionData) where
@@ -93,7 +95,7 @@ module _ (input : ℕ) (v : VersionData) where
       elim (key_cmp first u.version) as (λ o. key_cmp first u.version ≡ o → (groups input None (u ∷ us) (first ∷ others)).refusal ≡ None →
       has v (groups input None (u ∷ us) (first ∷ others)).list ≡ has v ((first ∷ others) ++ versions_of (u ∷ us))) [
         | Less ↦ λ e. rw e (λ n.
-            list_any-append (eq_by_cmp version_cmp v) (ascending (first ∷ others)) (groups input None us (u.version ∷ [])).list
+            list_any-append (eq_by_cmp version_cmp v) (to_ascending (first ∷ others)) (groups input None us (u.version ∷ [])).list
             ∙ (λ i. has_ascending v (first ∷ others) i || group_members us u.version [] n i)
             ∙ sym (list_any-append (eq_by_cmp version_cmp v) (first ∷ others) (u.version ∷ versions_of us)))
         | Equal ↦ λ e. rw e (λ n. group_members us first (others ++ u.version ∷ []) n
@@ -107,15 +109,15 @@ module _ (input : ℕ) (v : VersionData) where
   groups_members (u ∷ us) none = group_members us u.version [] none
 
 groups_listed : (input : ℕ) (close : Option Fault) (us : List Placed) → close ≡ None → (groups input close us []).refusal ≡ None →
-    (groups input close us []).list ≡ listed (from_list {R = version_cmp} (versions_of us))
+    (groups input close us []).list ≡ to_list (from_list {R = version_cmp} (versions_of us))
 groups_listed input (Some fault) us closed none = absurd (let f : Some fault ≡ None = closed in cc)
 groups_listed input None us closed none = members_are (groups input None us []).list (versions_of us) (groups_rise input None us)
     (λ v. groups_members input v us none)
 
 -- the set of the list of a set is the set
-set_listed : (s : VersionSet) → from_list {R = version_cmp} (listed s) ≡ s
-set_listed s = same_set version_cmp_total version_cmp-IsAntisymmetric (from_list (listed s)) s
-    (λ v. contains-from_list version_cmp_total (listed s) v ∙ sym (contains-listed {R = version_cmp} s v))
+set_listed : (s : VersionSet) → from_list {R = version_cmp} (to_list s) ≡ s
+set_listed s = same_set version_cmp_total version_cmp-IsAntisymmetric (from_list (to_list s)) s
+    (λ v. contains-from_list version_cmp_total (to_list s) v ∙ sym (contains-listed {R = version_cmp} s v))
 
 -- the source of a file by its units
 source_whole : (input : ℕ) (bytes : List ℕ) → sorted_source input (all_of bytes)
@@ -125,21 +127,22 @@ source_whole input bytes =
     (whole_units bytes)
 
 source_listed : (input : ℕ) (bytes : List ℕ) → verdict_sorted bytes ≡ None →
-    (sorted_source input (all_of bytes)).list ≡ listed (from_list {R = version_cmp} (versions_of (file_units bytes).list))
+    (sorted_source input (all_of bytes)).list ≡ to_list (from_list {R = version_cmp} (versions_of (file_units bytes).list))
 source_listed input bytes none =
     let us = file_units bytes in
     let accepted = sorted_without_verdict bytes none in
-    let whole : (groups input (option_map (fault_of input) us.refusal) us.list []).refusal ≡ None = groups_refusal input us.refusal us.list
+    let end_whole : (groups input (option_map (fault_of input) us.refusal) us.list []).refusal ≡ None = groups_refusal input us.refusal us.list
     ∙ ap (option_map (fault_of input)) none in
     ap (λ s. s.list) (source_whole input bytes) ∙ groups_listed input (option_map (fault_of input) us.refusal) us.list
-    (ap (option_map (fault_of input)) accepted.0) whole
+    (ap (option_map (fault_of input)) accepted.0) end_whole
 
+-- The source of a sorted file gives the set that the file holds.
 pub source_gives_held : SourceGivesHeld
 source_gives_held input bytes held h =
     let none = sorted_files_are_read bytes h.versions h.short h.file h.sorted in
     let read = files_are_read bytes h.versions h.short h.file in
-    let list : (sorted_source input (all_of bytes)).list ≡ listed held = source_listed input bytes none
-    ∙ ap (λ vs. listed (from_list {R = version_cmp} vs)) read.1 ∙ ap listed (sym h.members) in
+    let list : (sorted_source input (all_of bytes)).list ≡ to_list held = source_listed input bytes none
+    ∙ ap (λ vs. to_list (from_list {R = version_cmp} vs)) read.1 ∙ ap to_list (sym h.members) in
     let refusal : (sorted_source input (all_of bytes)).refusal ≡ None = whole_refusal input bytes ∙ ap (option_map (fault_of input)) none in
     (λ i. record { list = list i; refusal = refusal i })
 
@@ -147,7 +150,7 @@ no_fault : (input : ℕ) (v : Option Verdict) → option_map (fault_of input) v 
 no_fault input None e = refl
 no_fault input (Some v) e = absurd (let f : Some (fault_of input v) ≡ None = e in cc)
 
--- what is read is what a sorted file holds
+-- the versions read are those that a sorted file holds
 sorted_file : (bytes : List ℕ) (versions : List VersionData) → verdict_sorted bytes ≡ None →
     versions ≡ versions_of (file_units bytes).list → HoldsSorted bytes (from_list {R = version_cmp} versions)
 sorted_file bytes versions none is =
@@ -161,42 +164,45 @@ sorted_file bytes versions none is =
       members = refl;
     }
 
+-- Bytes whose source is whole are a sorted file that holds what the source gives.
 pub whole_source_is_held : WholeSourceIsHeld
-whole_source_is_held input bytes whole =
-    let none = no_fault input (verdict_sorted bytes) (sym (whole_refusal input bytes) ∙ whole) in
+whole_source_is_held input bytes end_whole =
+    let none = no_fault input (verdict_sorted bytes) (sym (whole_refusal input bytes) ∙ end_whole) in
     let us = file_units bytes in
     let same : from_list {R = version_cmp} (versions_of us.list) ≡ from_list (sorted_source input (all_of bytes)).list =
     sym (set_listed (from_list (versions_of us.list)))
     ∙ ap (λ vs. from_list {R = version_cmp} vs) (sym (source_listed input bytes none)) in
     subst (HoldsSorted bytes) same (sorted_file bytes (versions_of us.list) none refl)
 
--- ---- an error behind the bytes
+-- ---- an error after the bytes
 broken_units : (bytes : List ℕ) → length bytes < 2 ^ 62 →
-    units_from None 0 (broken_behind bytes) ≡ units (Some (verdict_at (length bytes) ReadFault)) (start_of bytes) 0 bytes
+    units_from None 0 (broken_after bytes) ≡ units (Some (verdict_at (length bytes) ReadFault)) (start_of bytes) 0 bytes
 unfolding units_from length_limit
 broken_units bytes short =
     let long : 0 + length bytes ≡ length bytes = omega arith in
-    (λ i. units (cond (nat_lt (long i) (2 ^ 62)) (Some (verdict_at (long i) ReadFault)) (Some too_long)) (start_of bytes) 0
+    (λ i. units (cond (nat_lt (long i) (2 ^ 62)) (Some (verdict_at (long i) ReadFault)) (Some too_long_verdict)) (start_of bytes) 0
     (cond (nat_lt (long i) (2 ^ 62)) bytes (take (2 ^ 62 - 1 - 0) bytes)))
-    ∙ ap (λ t. units (cond t (Some (verdict_at (length bytes) ReadFault)) (Some too_long)) (start_of bytes) 0
+    ∙ ap (λ t. units (cond t (Some (verdict_at (length bytes) ReadFault)) (Some too_long_verdict)) (start_of bytes) 0
     (cond t bytes (take (2 ^ 62 - 1 - 0) bytes))) (lt-ltb (length bytes) (2 ^ 62) short)
 
+-- A source whose input fails ends with the verdict of its whole units, or ReadFault.
 pub broken_source_ends : BrokenSourceEnds
 broken_source_ends input bytes short =
-    source_refusal input (broken_behind bytes) ∙ ap (λ (s : Still Placed Verdict).
+    source_refusal input (broken_after bytes) ∙ ap (λ (s : Still Placed Verdict).
     option_map (fault_of input) (sorted_verdict s.refusal None s.list)) (broken_units bytes short)
 
 long_units : (bytes : List ℕ) (broken : Bool) → 2 ^ 62 ≤ length bytes →
-    units_from None 0 (record { bytes = bytes; broken = broken }) ≡ units (Some too_long) (start_of bytes) 0 (take (2 ^ 62 - 1 - 0) bytes)
+    units_from None 0 (record { bytes = bytes; broken = broken }) ≡ units (Some too_long_verdict) (start_of bytes) 0 (take (2 ^ 62 - 1 - 0) bytes)
 unfolding units_from length_limit
 long_units bytes broken many =
     let above : nat_lt (0 + length bytes) (2 ^ 62) ≡ false = grind (arith, nat_tests) in
-    ap (λ t. units (cond t (cond broken (Some (verdict_at (0 + length bytes) ReadFault)) None) (Some too_long)) (start_of bytes) 0
+    ap (λ t. units (cond t (cond broken (Some (verdict_at (0 + length bytes) ReadFault)) None) (Some too_long_verdict)) (start_of bytes) 0
     (cond t bytes (take (2 ^ 62 - 1 - 0) bytes))) above
 
+-- A source of 2^62 bytes or more gives the same, whatever follows them.
 pub long_source_ends : LongSourceEnds
 long_source_ends input bytes many =
-    source_is input (broken_behind bytes)
+    source_is input (broken_after bytes)
     ∙ ap (λ (s : Still Placed Verdict). groups input (option_map (fault_of input) s.refusal) s.list [])
     (long_units bytes true many ∙ sym (long_units bytes false many))
     ∙ sym (source_is input (all_of bytes))

@@ -28,3 +28,6 @@ pub mod SpellLaws
 mod SplitLaws
 pub mod RangeLaws
 pub mod LineLists
+mod LineStarts
+pub mod FirstLaws
+mod WholeLinesLaws

@@ -1,4 +1,4 @@
--- How inputs are refused: by the first faulty unit that stands whole, or else by what closes their bytes.
+-- The refusals of inputs: by the first whole faulty unit, or else by the close of their bytes.
 use Rattle.std.proofs.Common.{◌≡◌, ◌⊎◌, inl, inr, ⊎_elim, ℕ, zero, suc, ◌+◌, ◌-◌, ◌≤◌, ◌<◌, ◌==◌, ◌^◌, Bool, true, false, cond, List, []}
 use Rattle.std.proofs.Common.{◌∷◌, ◌++◌, length, drop, take, refl, sym, ap, ◌∙◌, arith, Option, Some, None, option_map, IfSome, IfErr}
 use Rattle.std.proofs.Common.{Result, Ok, Err, length-append, length-drop, nat_lt, nat_le}
@@ -17,7 +17,7 @@ use Rattle.o5_codec.proofs.RefusalLaws.{set_refused}
 use Rattle.opl_line.proofs.LineReasonLaws.{told_is_reason}
 use Rattle.opl_line.proofs.MemoryLaws.{memory_is_no_reason}
 use Rattle.o5_codec.specs.Decoder.{new_segment}
-use Rattle.opl_line.specs.Cut.{is_line_end, split_first}
+use Rattle.opl_line.specs.Delimiter.{is_line_end, split_first}
 use Rattle.opl_line.specs.Reading.{reading_line}
 use Rattle.opl_line.specs.declared.reason.OplReason.{OplReason}
 use Rattle.opl_line.specs.declared.reason.OplReason.TheVariants as opl
@@ -27,13 +27,13 @@ use Rattle.o5_codec.specs.declared.segment.Segment.{Segment}
 use Rattle.osm_files.specs.declared.reason.Reason.TheVariants.{BadHeader, Unsorted, ReadFault}
 use Rattle.osm_files.specs.Reason.{of_line, of_data_set}
 use Rattle.osm_files.specs.O5.{end_byte, reset_byte, is_lone, kind_of_type}
-use Rattle.osm_files.specs.Stream.{Verdict, verdict_at, Placed, Still, whole}
-use Rattle.osm_files.specs.Units.{Stand, InOpl, BeforeHeader, InSegment, BehindEnd, Found, FileUnit, unit, passes, line_found, line_unit}
+use Rattle.osm_files.specs.Stream.{Verdict, verdict_at, Placed, Still, end_whole}
+use Rattle.osm_files.specs.Units.{FileStateData, InOpl, BeforeHeader, InSegment, BehindEnd, UnitResult, FileUnit, unit, no_version, line_found, line_unit}
 use Rattle.osm_files.specs.Units.{is_header, set_found, content_found, sized_unit, is_ended, length_at, unit_at, last_at, found_then}
-use Rattle.osm_files.specs.Units.{closed, unit_then, units_within, units, start_of}
-use Rattle.osm_files.specs.Verdict.{length_limit, too_long, file_units, verdict, is_below, sorted_verdict, verdict_sorted}
+use Rattle.osm_files.specs.Units.{final_units, unit_then, units_within, units, start_of}
+use Rattle.osm_files.specs.Verdict.{length_limit, too_long_verdict, file_units, verdict, is_below, sorted_verdict, verdict_sorted}
 use Rattle.osm_files.specs.Position.{units_from, fault_of}
-use Rattle.osm_files.specs.LoadLaws.{InputsAreFiles, IsFaultyWhole, NoneFaultyWhole, broken_behind, BrokenInputsAreRefused}
+use Rattle.osm_files.specs.LoadLaws.{InputsAreFiles, IsFaultyWhole, NoneFaultyWhole, broken_after, BrokenInputsAreRefused}
 use Rattle.osm_files.specs.LoadLaws.{is_verdict_reason, ReasonsOfVerdicts}
 use Rattle.osm_files.proofs.FileLaws.{short_units}
 use Rattle.osm_files.proofs.StepLaws.{unit_sized}
@@ -41,25 +41,26 @@ use Rattle.osm_files.proofs.StayLaws.{unit_stays}
 use Rattle.osm_files.proofs.PositionLaws.{from_is, known, none_in_nothing}
 use Rattle.osm_files.proofs.LoadLaws.{whole_units}
 
+-- An input that ends has the units of its bytes, and their verdict as its refusal.
 pub inputs_are_files : InputsAreFiles
 inputs_are_files input bytes = (
   whole_units bytes,
   ap (λ (s : Still Placed Verdict). option_map (fault_of input) s.refusal) (whole_units bytes),
 )
 
--- ---- the units that stand whole in bytes that are closed by a verdict
-abbrev Faulty : ℕ → Stand → ℕ → List ℕ → Verdict → Type 0
+-- ---- the whole units in bytes that a verdict closes
+abbrev Faulty : ℕ → FileStateData → ℕ → List ℕ → Verdict → Type 0
 Faulty n stand place bytes v = (close : Verdict) → (units_within n (Some close) stand place bytes).refusal ≡ Some v
 
-abbrev Fine : ℕ → Stand → ℕ → List ℕ → Type 0
+abbrev Fine : ℕ → FileStateData → ℕ → List ℕ → Type 0
 Fine n stand place bytes = (close : Verdict) → (units_within n (Some close) stand place bytes).refusal ≡ Some close
 
 -- one is faulty, whatever closes the bytes, or none is
-abbrev Tells : ℕ → Stand → ℕ → List ℕ → Type 0
+abbrev Tells : ℕ → FileStateData → ℕ → List ℕ → Type 0
 Tells n stand place bytes = ((v : Verdict) × Faulty n stand place bytes v × ((units_within n None stand place bytes).refusal ≡ Some v))
     ⊎ Fine n stand place bytes
 
-found_tells : (n place at : ℕ) (rest : List ℕ) (found : Found) → ((next : Stand) → Tells n next at rest)
+found_tells : (n place at : ℕ) (rest : List ℕ) (found : UnitResult) → ((next : FileStateData) → Tells n next at rest)
     → ((v : Verdict) × ((close : Verdict) → (found_then place found (λ next. units_within n (Some close) next at rest)).refusal ≡ Some v)
     × ((found_then place found (λ next. units_within n None next at rest)).refusal ≡ Some v))
     ⊎ ((close : Verdict) → (found_then place found (λ next. units_within n (Some close) next at rest)).refusal ≡ Some close)
@@ -67,19 +68,19 @@ found_tells n place at rest (Err reason) on = inl (verdict_at place reason, λ c
 found_tells n place at rest (Ok (None, next)) on = on next
 found_tells n place at rest (Ok (Some v, next)) on = on next
 
-abbrev ThenTells : ℕ → Stand → ℕ → List ℕ → Option FileUnit → Type 0
+abbrev ThenTells : ℕ → FileStateData → ℕ → List ℕ → Option FileUnit → Type 0
 ThenTells n stand place bytes u =
     ((v : Verdict) × ((close : Verdict) → (unit_then (Some close) stand place bytes (units_within n (Some close)) u).refusal ≡ Some v)
     × ((unit_then None stand place bytes (units_within n None) u).refusal ≡ Some v))
     ⊎ ((close : Verdict) → (unit_then (Some close) stand place bytes (units_within n (Some close)) u).refusal ≡ Some close)
 
-unit_tells : (n : ℕ) (stand : Stand) (place : ℕ) (bytes : List ℕ) → ((next : Stand) (at : ℕ) (rest : List ℕ) → Tells n next at rest) →
+unit_tells : (n : ℕ) (stand : FileStateData) (place : ℕ) (bytes : List ℕ) → ((next : FileStateData) (at : ℕ) (rest : List ℕ) → Tells n next at rest) →
     (u : Option FileUnit) → ThenTells n stand place bytes u
 unit_tells n stand place bytes on None = inr (λ close. refl)
 unit_tells n stand place bytes on (Some u) = found_tells n place (place + u.size) (drop u.size bytes) u.found
     (λ next. on next (place + u.size) (drop u.size bytes))
 
-tells : (n : ℕ) (stand : Stand) (place : ℕ) (bytes : List ℕ) → Tells n stand place bytes
+tells : (n : ℕ) (stand : FileStateData) (place : ℕ) (bytes : List ℕ) → Tells n stand place bytes
 tells zero stand place bytes = inr (λ close. refl)
 tells (suc n) stand place bytes = unit_tells n stand place bytes (tells n) (unit_at stand bytes)
 
@@ -88,27 +89,27 @@ whole_tells : (bytes : List ℕ) → ((v : Verdict) × IsFaultyWhole bytes v × 
 unfolding units
 whole_tells bytes = tells (length bytes) (start_of bytes) 0 bytes
 
--- ---- an error behind the bytes
+-- ---- an error after the bytes
 broken_units : (bytes : List ℕ) → length bytes < 2 ^ 62 →
-    units_from None 0 (broken_behind bytes) ≡ units (Some (verdict_at (length bytes) ReadFault)) (start_of bytes) 0 bytes
+    units_from None 0 (broken_after bytes) ≡ units (Some (verdict_at (length bytes) ReadFault)) (start_of bytes) 0 bytes
 unfolding length_limit
 broken_units bytes short =
     let all : 0 + length bytes ≡ length bytes = omega arith in
     let below : nat_lt (0 + length bytes) (2 ^ 62) ≡ true = lt-ltb (0 + length bytes) (2 ^ 62) (omega (arith, short)) in
-    from_is None 0 (broken_behind bytes)
-    ∙ (λ i. units (cond (below i) (Some (verdict_at (all i) ReadFault)) (Some too_long)) (start_of bytes) 0
+    from_is None 0 (broken_after bytes)
+    ∙ (λ i. units (cond (below i) (Some (verdict_at (all i) ReadFault)) (Some too_long_verdict)) (start_of bytes) 0
     (cond (below i) bytes (take (2 ^ 62 - 1 - 0) bytes)))
 
-long_units : (bytes : List ℕ) → nat_lt (length bytes) length_limit ≡ false → units_from None 0 (broken_behind bytes) ≡ file_units bytes
+long_units : (bytes : List ℕ) → nat_lt (length bytes) length_limit ≡ false → units_from None 0 (broken_after bytes) ≡ file_units bytes
 unfolding file_units
 long_units bytes long =
     let all : 0 + length bytes ≡ length bytes = omega arith in
     let room : length_limit - 1 - 0 ≡ length_limit - 1 = omega arith in
     let above : nat_lt (0 + length bytes) length_limit ≡ false = ap (λ n. nat_lt n length_limit) all ∙ long in
-    from_is None 0 (broken_behind bytes)
-    ∙ (λ i. units (cond (above i) (Some (verdict_at (0 + length bytes) ReadFault)) (Some too_long)) (start_of bytes) 0
+    from_is None 0 (broken_after bytes)
+    ∙ (λ i. units (cond (above i) (Some (verdict_at (0 + length bytes) ReadFault)) (Some too_long_verdict)) (start_of bytes) 0
     (cond (above i) bytes (take (room i) bytes)))
-    ∙ ap (λ t. cond t (units None (start_of bytes) 0 bytes) (units (Some too_long) (start_of bytes) 0 (take (length_limit - 1) bytes)))
+    ∙ ap (λ t. cond t (units None (start_of bytes) 0 bytes) (units (Some too_long_verdict) (start_of bytes) 0 (take (length_limit - 1) bytes)))
     (sym long)
 
 abbrev refusal_of : Still Placed Verdict → Option Verdict
@@ -116,12 +117,12 @@ refusal_of s = s.refusal
 
 short_refused : (bytes : List ℕ) → length bytes < 2 ^ 62
     → ((v : Verdict) × length bytes < 2 ^ 62 × IsFaultyWhole bytes v × (verdict bytes ≡ Some v)
-    × ((units_from None 0 (broken_behind bytes)).refusal ≡ Some v))
+    × ((units_from None 0 (broken_after bytes)).refusal ≡ Some v))
     ⊎ (length bytes < 2 ^ 62 × NoneFaultyWhole bytes
-    × ((units_from None 0 (broken_behind bytes)).refusal ≡ Some (verdict_at (length bytes) ReadFault)))
+    × ((units_from None 0 (broken_after bytes)).refusal ≡ Some (verdict_at (length bytes) ReadFault)))
 short_refused bytes short =
     let close : Verdict = verdict_at (length bytes) ReadFault in
-    let same : (units_from None 0 (broken_behind bytes)).refusal ≡ (units (Some close) (start_of bytes) 0 bytes).refusal =
+    let same : (units_from None 0 (broken_after bytes)).refusal ≡ (units (Some close) (start_of bytes) 0 bytes).refusal =
     ap refusal_of (broken_units bytes short) in
     ⊎_elim (λ h. inl (h.0, short, h.1, ap refusal_of (short_units bytes short) ∙ h.2, same ∙ h.1 close))
     (λ h. inr (short, h, same ∙ h close)) (whole_tells bytes)
@@ -130,14 +131,15 @@ limit_is : length_limit ≡ 2 ^ 62
 unfolding length_limit
 limit_is = refl
 
+-- An input that fails has the verdict of its whole units or of its length as its refusal, or else ReadFault.
 pub broken_inputs : BrokenInputsAreRefused
 broken_inputs bytes =
     elim (nat_lt (length bytes) length_limit) as (λ t. nat_lt (length bytes) length_limit ≡ t →
-    (2 ^ 62 ≤ length bytes × ((units_from None 0 (broken_behind bytes)).refusal ≡ verdict bytes))
+    (2 ^ 62 ≤ length bytes × ((units_from None 0 (broken_after bytes)).refusal ≡ verdict bytes))
     ⊎ ((v : Verdict) × length bytes < 2 ^ 62 × IsFaultyWhole bytes v × (verdict bytes ≡ Some v)
-    × ((units_from None 0 (broken_behind bytes)).refusal ≡ Some v))
+    × ((units_from None 0 (broken_after bytes)).refusal ≡ Some v))
     ⊎ (length bytes < 2 ^ 62 × NoneFaultyWhole bytes
-    × ((units_from None 0 (broken_behind bytes)).refusal ≡ Some (verdict_at (length bytes) ReadFault)))) [
+    × ((units_from None 0 (broken_after bytes)).refusal ≡ Some (verdict_at (length bytes) ReadFault)))) [
       | true ↦ λ is. inr (short_refused bytes (let below = ltb-true (length bytes) length_limit is in omega (arith, limit_is, below)))
       | false ↦ λ is. inl (
         let above = ltb-false (length bytes) length_limit is in
@@ -147,7 +149,7 @@ broken_inputs bytes =
     ] refl
 
 -- ---- whatever follows
--- no verdict is each one
+-- no verdict equals every close
 not_each : (v : Verdict) → ((close : Verdict) → Some close ≡ Some v) → ⊥
 not_each v each =
     let same : suc v.place ≡ v.place = (let e : Some (verdict_at (suc v.place) ReadFault) ≡ Some v =
@@ -156,18 +158,18 @@ not_each v each =
     omega (arith, same)
 
 abbrev Stays : ℕ → ℕ → Option Verdict → Verdict → Type 0
-Stays n m close v = (stand : Stand) (place : ℕ) (bytes more : List ℕ) → length (bytes ++ more) ≤ m → Faulty n stand place bytes v →
+Stays n m close v = (stand : FileStateData) (place : ℕ) (bytes more : List ℕ) → length (bytes ++ more) ≤ m → Faulty n stand place bytes v →
     (units_within m close stand place (bytes ++ more)).refusal ≡ Some v
 
 found_stays : (n m : ℕ) (close : Option Verdict) (v : Verdict) → Stays n m close v → (place at : ℕ) (rest more : List ℕ) →
-    length (rest ++ more) ≤ m → (found : Found) → ((c : Verdict) →
+    length (rest ++ more) ≤ m → (found : UnitResult) → ((c : Verdict) →
     (found_then place found (λ next. units_within n (Some c) next at rest)).refusal ≡ Some v)
     → (found_then place found (λ next. units_within m close next at (rest ++ more))).refusal ≡ Some v
 found_stays n m close v on place at rest more fits (Err reason) h = h v
 found_stays n m close v on place at rest more fits (Ok (None, next)) h = on next at rest more fits h
 found_stays n m close v on place at rest more fits (Ok (Some w, next)) h = on next at rest more fits h
 
-unit_then_stays : (n m : ℕ) (close : Option Verdict) (v : Verdict) → Stays n m close v → (stand : Stand) (place : ℕ) (bytes more : List ℕ) →
+unit_then_stays : (n m : ℕ) (close : Option Verdict) (v : Verdict) → Stays n m close v → (stand : FileStateData) (place : ℕ) (bytes more : List ℕ) →
     length (bytes ++ more) ≤ suc m → (u : Option FileUnit) → unit_at stand bytes ≡ u
     → ((c : Verdict) → (unit_then (Some c) stand place bytes (units_within n (Some c)) u).refusal ≡ Some v) →
     (unit_then close stand place (bytes ++ more) (units_within m close) (unit_at stand (bytes ++ more))).refusal ≡ Some v
@@ -237,14 +239,14 @@ of_data_set_fine o5.Truncated h = refl
 of_data_set_fine o5.Memory h = absurd (false≢true h)
 of_data_set_fine o5.Failed h = absurd (false≢true h)
 
-abbrev FineFound : Found → Type 0
+abbrev FineFound : UnitResult → Type 0
 FineFound (Ok found) = Unit {0}
 FineFound (Err reason) = is_verdict_reason reason ≡ true
 
 abbrev FineUnit : Option FileUnit → Type 0
 FineUnit u = IfSome u (λ x. FineFound x.found)
 
--- where a reading is refused, for a reason of the steps
+-- if a reading is refused, the reason is one of the steps
 abbrev StepReason : {X : Type 0} → Result X O5Reason → Type 0
 StepReason r = IfErr r (λ reason. is_step_reason reason ≡ true)
 
@@ -284,7 +286,7 @@ length_step bytes = elim (is_ended bytes) as (λ t. IfSome (cond t (Some (number
   | false ↦ tt
 ]
 
-header_fine : (short is : Bool) → FineUnit (cond short None (Some (unit 7 (cond is (passes (InSegment new_segment)) (Err BadHeader)))))
+header_fine : (short is : Bool) → FineUnit (cond short None (Some (unit 7 (cond is (no_version (InSegment new_segment)) (Err BadHeader)))))
 header_fine true is = tt
 header_fine false true = tt
 header_fine false false = refl
@@ -309,14 +311,14 @@ sized_fine s b bytes (Some (Ok (size, behind))) h =
     ]
 
 by_type : (s : Segment) (end reset lone : Bool) (sized : Option FileUnit) → FineUnit sized →
-    FineUnit (cond end (Some (unit 1 (passes BehindEnd)))
-    (cond reset (Some (unit 1 (passes (InSegment new_segment)))) (cond lone (Some (unit 1 (passes (InSegment s)))) sized)))
+    FineUnit (cond end (Some (unit 1 (no_version BehindEnd)))
+    (cond reset (Some (unit 1 (no_version (InSegment new_segment)))) (cond lone (Some (unit 1 (no_version (InSegment s)))) sized)))
 by_type s true reset lone sized h = tt
 by_type s false true lone sized h = tt
 by_type s false false true sized h = tt
 by_type s false false false sized h = h
 
-unit_fine : (stand : Stand) (bytes : List ℕ) → FineUnit (unit_at stand bytes)
+unit_fine : (stand : FileStateData) (bytes : List ℕ) → FineUnit (unit_at stand bytes)
 unfolding unit_at
 unit_fine InOpl bytes = line_unit_fine (split_first is_line_end bytes)
 unit_fine BeforeHeader bytes = header_fine (nat_lt (length bytes) 7) (is_header (take 7 bytes))
@@ -326,7 +328,7 @@ unit_fine (InSegment s) (b ∷ bytes) = by_type s (b == end_byte) (b == reset_by
 unit_fine BehindEnd [] = tt
 unit_fine BehindEnd (b ∷ bytes) = refl
 
-last_fine : (stand : Stand) (bytes : List ℕ) → FineFound (last_at stand bytes)
+last_fine : (stand : FileStateData) (bytes : List ℕ) → FineFound (last_at stand bytes)
 unfolding last_at
 last_fine InOpl bytes = line_found_fine bytes
 last_fine BeforeHeader bytes = refl
@@ -337,26 +339,26 @@ last_fine BehindEnd bytes = tt
 abbrev FineRefusal : Option Verdict → Type 0
 FineRefusal r = IfSome r (λ v. is_verdict_reason v.reason ≡ true)
 
-found_fine : (place : ℕ) (found : Found) (more : Stand → Still Placed Verdict) → FineFound found →
-    ((next : Stand) → FineRefusal (more next).refusal) → FineRefusal (found_then place found more).refusal
+found_fine : (place : ℕ) (found : UnitResult) (more : FileStateData → Still Placed Verdict) → FineFound found →
+    ((next : FileStateData) → FineRefusal (more next).refusal) → FineRefusal (found_then place found more).refusal
 found_fine place (Err reason) more h on = h
 found_fine place (Ok (None, next)) more h on = on next
 found_fine place (Ok (Some v, next)) more h on = on next
 
-closed_fine : (close : Option Verdict) → FineRefusal close → (stand : Stand) (place : ℕ) (bytes : List ℕ) →
-    FineRefusal (closed close place (last_at stand bytes)).refusal
-closed_fine None h stand place bytes = found_fine place (last_at stand bytes) (λ next. whole) (last_fine stand bytes) (λ next. tt)
+closed_fine : (close : Option Verdict) → FineRefusal close → (stand : FileStateData) (place : ℕ) (bytes : List ℕ) →
+    FineRefusal (final_units close place (last_at stand bytes)).refusal
+closed_fine None h stand place bytes = found_fine place (last_at stand bytes) (λ next. end_whole) (last_fine stand bytes) (λ next. tt)
 closed_fine (Some end) h stand place bytes = h
 
 then_fine : (n : ℕ) (close : Option Verdict) → FineRefusal close →
-    ((stand : Stand) (place : ℕ) (bytes : List ℕ) → FineRefusal (units_within n close stand place bytes).refusal) →
-    (stand : Stand) (place : ℕ) (bytes : List ℕ) (u : Option FileUnit) → FineUnit u
+    ((stand : FileStateData) (place : ℕ) (bytes : List ℕ) → FineRefusal (units_within n close stand place bytes).refusal) →
+    (stand : FileStateData) (place : ℕ) (bytes : List ℕ) (u : Option FileUnit) → FineUnit u
     → FineRefusal (unit_then close stand place bytes (units_within n close) u).refusal
 then_fine n close h on stand place bytes None fine = closed_fine close h stand place bytes
 then_fine n close h on stand place bytes (Some u) fine =
     found_fine place u.found _ fine (λ next. on next (place + u.size) (drop u.size bytes))
 
-units_fine : (n : ℕ) (close : Option Verdict) → FineRefusal close → (stand : Stand) (place : ℕ) (bytes : List ℕ) →
+units_fine : (n : ℕ) (close : Option Verdict) → FineRefusal close → (stand : FileStateData) (place : ℕ) (bytes : List ℕ) →
     FineRefusal (units_within n close stand place bytes).refusal
 units_fine zero close h stand place bytes = closed_fine close h stand place bytes
 units_fine (suc n) close h stand place bytes = then_fine n close h (units_fine n close h) stand place bytes (unit_at stand bytes)
@@ -367,9 +369,9 @@ unfolding file_units units
 verdict_fine bytes =
     let front : List ℕ = take (length_limit - 1) bytes in
     elim (nat_lt (length bytes) length_limit) as (λ t.
-    FineRefusal (cond t (units None (start_of bytes) 0 bytes) (units (Some too_long) (start_of bytes) 0 front)).refusal) [
+    FineRefusal (cond t (units None (start_of bytes) 0 bytes) (units (Some too_long_verdict) (start_of bytes) 0 front)).refusal) [
       | true ↦ units_fine (length bytes) None tt (start_of bytes) 0 bytes
-      | false ↦ units_fine (length front) (Some too_long) refl (start_of bytes) 0 front
+      | false ↦ units_fine (length front) (Some too_long_verdict) refl (start_of bytes) 0 front
     ]
 
 abbrev FineOrder : Option Verdict → Type 0
@@ -386,6 +388,7 @@ order_fine close h before (unit ∷ units) =
       | false ↦ order_fine close h (Some unit.version) units
     ]
 
+-- A verdict is never Memory, Failed, ReadFault or WriteFault; only a verdict on order may be Unsorted.
 pub reasons_of_verdicts : ReasonsOfVerdicts
 reasons_of_verdicts bytes v = (
   λ is. known (verdict bytes) _ v is (verdict_fine bytes),

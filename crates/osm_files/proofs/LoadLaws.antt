@@ -18,14 +18,14 @@ use Rattle.osm_files.specs.declared.format.Format.{Format}
 use Rattle.osm_files.specs.declared.load.Loaded.{Loaded}
 use Rattle.osm_files.specs.declared.reason.Reason.TheVariants.{ReadFault}
 use Rattle.osm_files.specs.Fault.{memory_fault}
-use Rattle.osm_files.specs.Input.{Coming, whole as all_of}
+use Rattle.osm_files.specs.Input.{Coming, whole_input as all_of}
 use Rattle.osm_files.specs.Stream.{Verdict, verdict_at, Placed, Still}
-use Rattle.osm_files.specs.Source.{Step}
+use Rattle.osm_files.specs.Source.{SourceStep}
 use Rattle.osm_files.specs.O5.{reset_byte}
 use Rattle.osm_files.specs.Units.{InOpl, unit_at, units, start_of}
-use Rattle.osm_files.specs.Verdict.{length_limit, too_long, file_units, versions_of, verdict, is_below, is_below_last}
+use Rattle.osm_files.specs.Verdict.{length_limit, too_long_verdict, file_units, versions_of, verdict, is_below, is_below_last}
 use Rattle.osm_files.specs.Held.{IsFile, Holds, HoldsSorted}
-use Rattle.osm_files.specs.Position.{Told, at_start, ahead, units_from, named, to_come, still_to_come, ReadsOn, GoesOn, stand_at, stand_in}
+use Rattle.osm_files.specs.Position.{KnownPosition, at_start, bytes_ahead, units_from, with_input, units_ahead, units_or_failed, ReadsOn, GoesOn, state_at, state_or_start}
 use Rattle.osm_files.specs.Position.{fault_of, StopsFilling}
 use Rattle.osm_files.specs.Load.{format_of, tells_format, IsRead, Loads, StopsLoading}
 use Rattle.osm_files.proofs.UnitLaws.{some_is_not_none}
@@ -36,7 +36,7 @@ use Rattle.osm_files.proofs.ReadingLaws.{keeps_still, refusal_step, come_still}
 use Rattle.osm_files.proofs.GroupLaws.{step_on}
 
 -- ---- the format
--- bytes that don't tell the format hold no unit whole
+-- bytes that don't determine the format hold no whole unit
 untold_unit : (b : ℕ) (held : List ℕ) → b == reset_byte ≡ true → length (b ∷ held) < 7 → unit_at (start_of (b ∷ held)) (b ∷ held) ≡ None
 unfolding unit_at
 untold_unit b held first short =
@@ -53,25 +53,26 @@ untold (b ∷ held) tells =
       | false ↦ λ other long. absurd (false≢true (sym long))
     ] refl tells
 
--- where no more can be read of a file whose format isn't told
-pub format_refused : (p m q : Told) → ReadsOn p m → p.place ≡ 0 → p.stand ≡ None → p.failed ≡ false → tells_format m.held ≡ false →
-    (fault : Fault) → StopsFilling m fault → q.failed ≡ true → Step {A = Placed} (still_to_come p) (Err fault) (still_to_come q)
+-- if no more can be read of a file whose format isn't determined
+pub format_refused : (p m q : KnownPosition) → ReadsOn p m → p.place ≡ 0 → p.stand ≡ None → p.failed ≡ false → tells_format m.held ≡ false →
+    (fault : Fault) → StopsFilling m fault → q.failed ≡ true → SourceStep {A = Placed} (units_or_failed p) (Err fault) (units_or_failed q)
 format_refused p m q on first unseen fine tells fault stops failed =
     let k = untold m.held tells in
-    let nothing : unit_at (stand_at m) m.held ≡ None = ap (λ s. unit_at (stand_in s m.held) m.held) (on.stand ∙ unseen) ∙ k.0 in
+    let nothing : unit_at (state_at m) m.held ≡ None = ap (λ s. unit_at (state_or_start s m.held) m.held) (on.stand ∙ unseen) ∙ k.0 in
     let bound : m.place + length m.held < 2 ^ 62 = omega (arith, on.place, first, k.1) in
-    step_on (still_to_come p) (still_to_come m) (still_to_come q) (Err fault) (keeps_still p m (reads_go_on p m on) fine)
+    step_on (units_or_failed p) (units_or_failed m) (units_or_failed q) (Err fault) (keeps_still p m (reads_go_on p m on) fine)
     (refusal_step m q fault (on.failed ∙ fine) failed (stopped m nothing bound fault stops))
 
 -- ---- the versions
--- the versions so far of what was to come, and what is still to come
+-- the versions so far, and the rest
 abbrev pub LoadsOn : Option (Still Placed Fault) → List VersionData → Option (Still Placed Fault) → Type 0
 LoadsOn all versions now = IfSome all (λ s. (t : Still Placed Fault) × (now ≡ Some t)
     × (versions_of s.list ≡ versions ++ versions_of t.list) × (s.refusal ≡ t.refusal))
 
 module _ (all : Option (Still Placed Fault)) (versions : List VersionData) (now after : Option (Still Placed Fault))
     (on : LoadsOn all versions now) where
-  pub load_step : (u : Placed) → Step now (Ok (Some u)) after → LoadsOn all (versions ++ u.version ∷ []) after
+  -- One more version was loaded.
+  pub load_step : (u : Placed) → SourceStep now (Ok (Some u)) after → LoadsOn all (versions ++ u.version ∷ []) after
   load_step u step = weaker all _ _ (λ s h. (
       let k = known now _ h.0 h.1 step in (
         k.0,
@@ -82,7 +83,8 @@ module _ (all : Option (Still Placed Fault)) (versions : List VersionData) (now 
       )))
       on
 
-  pub load_ends : Step {A = Placed} now (Ok None) after → IfSome all (λ s. (s.refusal ≡ None) × (versions_of s.list ≡ versions))
+  -- At the end all versions were loaded.
+  pub load_ends : SourceStep {A = Placed} now (Ok None) after → IfSome all (λ s. (s.refusal ≡ None) × (versions_of s.list ≡ versions))
   load_ends step = weaker all _ _ (λ s h. (
       let k = known now _ h.0 h.1 step.0 in (
         h.3 ∙ ap (λ (x : Still Placed Fault). x.refusal) k,
@@ -90,19 +92,20 @@ module _ (all : Option (Still Placed Fault)) (versions : List VersionData) (now 
             ∙ append-nil versions,
       ))) on
 
-  pub load_stops : (fault : Fault) → Step {A = Placed} now (Err fault) after →
+  -- A unit that can't be read stops the load.
+  pub load_stops : (fault : Fault) → SourceStep {A = Placed} now (Err fault) after →
       (fault ≡ memory_fault) ⊎ IfSome all (λ s. s.refusal ≡ Some fault)
   load_stops fault step = ⊎_elim (λ e. inl e) (λ k.
       inr (weaker all _ _ (λ s h. h.3 ∙ ap (λ (x : Still Placed Fault). x.refusal) (known now _ h.0 h.1 k)) on)) step.0
 
--- of which none was gone over yet
-pub loads_begin : (p q : Told) → GoesOn p q → p.failed ≡ false → LoadsOn (still_to_come p) [] (still_to_come q)
+-- before any unit was passed
+pub loads_begin : (p q : KnownPosition) → GoesOn p q → p.failed ≡ false → LoadsOn (units_or_failed p) [] (units_or_failed q)
 loads_begin p q on fine =
-    subst (λ (o : Option (Still Placed Fault)). LoadsOn o [] (still_to_come q)) (sym (come_still p fine))
-    (weaker (to_come p) _ _ (λ s e. (s, come_still q (on.failed ∙ fine) ∙ e, refl, refl)) on.keeps)
+    subst (λ (o : Option (Still Placed Fault)). LoadsOn o [] (units_or_failed q)) (sym (come_still p fine))
+    (weaker (units_ahead p) _ _ (λ s e. (s, come_still q (on.failed ∙ fine) ∙ e, refl, refl)) on.keeps)
 
--- of which none was read yet
-pub stops_at_once : (now after : Option (Still Placed Fault)) (fault : Fault) → Step {A = Placed} now (Err fault) after →
+-- before any unit was read
+pub stops_at_once : (now after : Option (Still Placed Fault)) (fault : Fault) → SourceStep {A = Placed} now (Err fault) after →
     (fault ≡ memory_fault) ⊎ IfSome now (λ s. s.refusal ≡ Some fault)
 stops_at_once now after fault step = ⊎_elim (λ e. inl e)
     (λ k. inr (weaker now _ _ (λ s e. ap (λ (x : Still Placed Fault). x.refusal) e) k)) step.0
@@ -150,6 +153,7 @@ module _ (versions : List VersionData) (v : VersionData) where
   rises_on true is true e = (λ t. absurd (false≢true t), λ s. sym (last_rises s) ∙ e)
   rises_on false is below e = (λ t. absurd (false≢true t), λ s. absurd (false≢true (is.1 (front_sorted s))))
 
+  -- The versions stay sorted if the next one isn't below the last.
   pub sorted_on : (sorted after : Bool) → IsTrue sorted ↔ IsSorted key_cmp versions → after ≡ (sorted && not (is_below_last v versions)) →
       IsTrue after ↔ IsSorted key_cmp (versions ++ v ∷ [])
   sorted_on sorted after is e = subst (λ (b : Bool). IsTrue b ↔ IsSorted key_cmp (versions ++ v ∷ [])) (sym e)
@@ -163,27 +167,27 @@ whole_units bytes =
     let all : 0 + length bytes ≡ length bytes = omega arith in
     let room : length_limit - 1 - 0 ≡ length_limit - 1 = omega arith in
     from_is None 0 (all_of bytes)
-    ∙ (λ i. units (cond (nat_lt (all i) length_limit) None (Some too_long)) (start_of bytes) 0
+    ∙ (λ i. units (cond (nat_lt (all i) length_limit) None (Some too_long_verdict)) (start_of bytes) 0
     (cond (nat_lt (all i) length_limit) bytes (take (room i) bytes)))
     ∙ (elim (nat_lt (length bytes) length_limit) as (λ t.
-    units (cond t None (Some too_long)) (start_of bytes) 0 (cond t bytes (take (length_limit - 1) bytes))
-    ≡ cond t (units None (start_of bytes) 0 bytes) (units (Some too_long) (start_of bytes) 0 (take (length_limit - 1) bytes))) [
+    units (cond t None (Some too_long_verdict)) (start_of bytes) 0 (cond t bytes (take (length_limit - 1) bytes))
+    ≡ cond t (units None (start_of bytes) 0 bytes) (units (Some too_long_verdict) (start_of bytes) 0 (take (length_limit - 1) bytes))) [
       | true ↦ refl
       | false ↦ refl
     ])
 
--- what is closed otherwise than by its end is refused
+-- a file that closes otherwise than by its end is refused
 unbroken : (c : Coming) → (units_from None 0 c).refusal ≡ None → c.broken ≡ false
 unbroken c none =
     let below : Bool = nat_lt (0 + length c.bytes) length_limit in
     let at_all : Verdict = verdict_at (0 + length c.bytes) ReadFault in
     let bytes : List ℕ = cond below c.bytes (take (length_limit - 1 - 0) c.bytes) in
-    let closes : (b : Bool) → (units (cond b (Some at_all) (Some too_long)) (start_of c.bytes) 0 bytes).refusal ≡ None → ⊥ =
-    λ b. elim b as (λ t. (units (cond t (Some at_all) (Some too_long)) (start_of c.bytes) 0 bytes).refusal ≡ None → ⊥) [
+    let closes : (b : Bool) → (units (cond b (Some at_all) (Some too_long_verdict)) (start_of c.bytes) 0 bytes).refusal ≡ None → ⊥ =
+    λ b. elim b as (λ t. (units (cond t (Some at_all) (Some too_long_verdict)) (start_of c.bytes) 0 bytes).refusal ≡ None → ⊥) [
       | true ↦ units_closed at_all (start_of c.bytes) 0 bytes
-      | false ↦ units_closed too_long (start_of c.bytes) 0 bytes
+      | false ↦ units_closed too_long_verdict (start_of c.bytes) 0 bytes
     ] in
-    elim c.broken as (λ t. (units (cond below (cond t (Some at_all) None) (Some too_long)) (start_of c.bytes) 0 bytes).refusal ≡ None →
+    elim c.broken as (λ t. (units (cond below (cond t (Some at_all) None) (Some too_long_verdict)) (start_of c.bytes) 0 bytes).refusal ≡ None →
     t ≡ false) [
       | true ↦ λ e. absurd (closes below e)
       | false ↦ λ e. refl
@@ -194,8 +198,8 @@ unnamed input None e = refl
 unnamed input (Some v) e = absurd (some_is_not_none (fault_of input v) e)
 
 -- the units of an input that are its versions, with no refusal
-module _ (input : ℕ) (c : Coming) (versions : List VersionData) (none : (named input (units_from None 0 c)).refusal ≡ None)
-    (all : versions_of (named input (units_from None 0 c)).list ≡ versions) where
+module _ (input : ℕ) (c : Coming) (versions : List VersionData) (none : (with_input input (units_from None 0 c)).refusal ≡ None)
+    (all : versions_of (with_input input (units_from None 0 c)).list ≡ versions) where
   ends : c.broken ≡ false
   ends = unbroken c (unnamed input (units_from None 0 c).refusal none)
 
@@ -211,6 +215,7 @@ module _ (input : ℕ) (c : Coming) (versions : List VersionData) (none : (named
   is_file : IsFile c.bytes versions
   is_file = subst (IsFile c.bytes) file_versions (accepted_without_verdict c.bytes no_verdict).1
 
+  -- An input that was read to its end gave a file.
   pub gives_file : (c.broken ≡ false) × Holds c.bytes (from_list {R = version_cmp} versions)
   gives_file = (
     ends,
@@ -245,23 +250,26 @@ module _ (input : ℕ) (c : Coming) (versions : List VersionData) (none : (named
     sorted = (λ t. loads_sorted (is.0 t), λ h. is.1 (sorted_loads h));
   }
 
--- an input of which nothing was read
-abbrev pub fresh : ℕ → Option Coming → Told
+-- an input before its first byte
+abbrev pub fresh : ℕ → Option Coming → KnownPosition
 fresh = at_start
 
 module _ (input : ℕ) where
+  -- An input that was read to its end has these versions, this format and this order.
   pub is_read : (c : Coming) (format : Format) (versions : List VersionData) (sorted : Bool) →
-      IfSome (ahead (fresh input (Some c))) (λ c. format ≡ format_of c.bytes) → IsTrue sorted ↔ IsSorted key_cmp versions
-      → IfSome (still_to_come (fresh input (Some c))) (λ s. (s.refusal ≡ None) × (versions_of s.list ≡ versions)) →
+      IfSome (bytes_ahead (fresh input (Some c))) (λ c. format ≡ format_of c.bytes) → IsTrue sorted ↔ IsSorted key_cmp versions
+      → IfSome (units_or_failed (fresh input (Some c))) (λ s. (s.refusal ≡ None) × (versions_of s.list ≡ versions)) →
       IsRead input c versions format sorted
   is_read c format versions sorted tells is all = record { unrefused = all.0; all = all.1; tells = tells; rises = is }
 
+  -- An input that was read is loaded as what its file holds.
   pub loads : (c : Coming) (format : Format) (versions : List VersionData) (sorted : Bool) (loaded : Loaded) →
       IsRead input c versions format sorted
       → loaded ≡ record { history = from_list {R = version_cmp} versions; format = format; sorted = sorted } → Loads c loaded
   loads c format versions sorted loaded read gathered =
       subst (Loads c) (sym gathered) (loads_all input c versions read.unrefused read.all format sorted read.tells read.rises)
 
+  -- An input that can't be read isn't loaded.
   pub stops : (c : Coming) (fault : Fault) → (fault ≡ memory_fault)
-      ⊎ IfSome (still_to_come (fresh input (Some c))) (λ s. s.refusal ≡ Some fault) → StopsLoading input c fault
+      ⊎ IfSome (units_or_failed (fresh input (Some c))) (λ s. s.refusal ≡ Some fault) → StopsLoading input c fault
   stops c fault h = h

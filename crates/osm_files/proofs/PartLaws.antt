@@ -15,28 +15,28 @@ use Rattle.o5_codec.specs.Decoder.{new_segment}
 use Rattle.o5_codec.specs.Body.{set_at}
 use Rattle.o5_codec.proofs.NumberLaws.{number_found, number_only}
 use Rattle.o5_codec.proofs.StepLaws.{set_found, set_only}
-use Rattle.osm_files.specs.Stream.{Verdict, Placed, placed, Still, refused, front}
-use Rattle.osm_files.specs.O5.{end_byte, reset_byte, type_byte, kind_of_type, is_lone, IsOtherType, Part, Reset, Lone, Skipped, Object}
+use Rattle.osm_files.specs.Stream.{Verdict, Placed, new_placed, Still, end_refused, front}
+use Rattle.osm_files.specs.O5.{end_byte, reset_byte, type_byte, kind_of_type, is_lone, IsOtherType, FilePart, Reset, Lone, Skipped, Object}
 use Rattle.osm_files.specs.O5.{part_bytes, PartsSpell}
 use Rattle.o5_codec.specs.declared.reason.O5Reason.TheVariants as o5
 use Rattle.osm_files.specs.declared.reason.Reason.TheVariants.{NoEnd, O5}
-use Rattle.osm_files.specs.Units.{InSegment, BehindEnd, FileUnit, unit, passes, closed, unit_then, unit_at, last_at, units_within}
-use Rattle.osm_files.specs.Units.{segment_unit, behind_unit, sized_unit, content_found, set_found as found_of, is_last, is_ended, length_at}
+use Rattle.osm_files.specs.Units.{InSegment, BehindEnd, FileUnit, unit, no_version, final_units, unit_then, unit_at, last_at, units_within}
+use Rattle.osm_files.specs.Units.{segment_unit, unit_after_end, sized_unit, content_found, set_found as found_of, is_last, is_ended, length_at}
 use Rattle.osm_files.specs.Verdict.{versions_of}
 use Rattle.std.proofs.lemmas.Bool.Decides.{nat_tests}
 use Rattle.osm_files.proofs.UnitLaws.{ReadsAs, some_is_not_none}
 
 -- bytes that are parts and the end byte
 abbrev pub PartsFile : Segment → List ℕ → List VersionData → Type 0
-PartsFile s bytes versions = (parts : List Part) × (bytes ≡ flat_map part_bytes parts ++ end_byte ∷ []) × PartsSpell s parts versions
+PartsFile s bytes versions = (parts : List FilePart) × (bytes ≡ flat_map part_bytes parts ++ end_byte ∷ []) × PartsSpell s parts versions
 
--- a size, so many bytes, and what is behind them
+-- a size, `content` of that size, and the bytes after it
 pub record Sized (bytes : List ℕ) (content rest : List ℕ) : Type 0 where
   pub size : List ℕ
   pub spelled : SpellsNumber size (length content)
   pub split : bytes ≡ size ++ (content ++ rest)
 
--- what the first part may be
+-- the possible first parts
 abbrev pub EndFirst : ℕ → List ℕ → List VersionData → Type 0
 EndFirst b bytes versions = ((b == end_byte) ≡ true) × (bytes ≡ []) × ([] ≡ versions)
 
@@ -64,8 +64,8 @@ FirstPart s b bytes versions = EndFirst b bytes versions ⊎ ResetFirst b bytes 
 lone_is_no_end : (b : ℕ) → is_lone b ≡ true → ((b == end_byte) ≡ false) × ((b == reset_byte) ≡ false)
 lone_is_no_end b e = (grind (arith, nat_tests, e), grind (arith, nat_tests, e))
 
--- the first part of what is parts and the end byte
-pub first_part : (s : Segment) (b : ℕ) (bytes : List ℕ) (parts : List Part) (versions : List VersionData) →
+-- the first part of parts and the end byte
+pub first_part : (s : Segment) (b : ℕ) (bytes : List ℕ) (parts : List FilePart) (versions : List VersionData) →
     b ∷ bytes ≡ flat_map part_bytes parts ++ end_byte ∷ [] → PartsSpell s parts versions → FirstPart s b bytes versions
 first_part s b bytes [] versions e spelled = inl (rw (let f : b ≡ end_byte = cc in f) refl, (let f : bytes ≡ [] = cc in f), sym spelled)
 first_part s b bytes (Reset ∷ parts) versions e spelled =
@@ -117,7 +117,7 @@ groups_ended (b ∷ []) rest n groups = rw (lt-ltb b 128 groups.0) refl
 groups_ended (b ∷ c ∷ size) rest n groups = ap (λ t. nat_lt b 128 || t) (groups_ended (c ∷ size) rest groups.1.0 groups.1.2)
     ∙ or_true (nat_lt b 128)
 
--- the size of a data set is read where it is spelled
+-- the size of a data set is read if it is spelled
 pub length_read : (bytes content rest : List ℕ) → Sized bytes content rest → length_at bytes ≡ Some (Ok (length content, content ++ rest))
 length_read bytes content rest h =
     let behind : List ℕ = content ++ rest in
@@ -136,13 +136,14 @@ drop_front : (first rest : List ℕ) (n : ℕ) → drop (length first + n) (firs
 drop_front [] rest n = let e : 0 + n ≡ n = omega arith in rw e refl
 drop_front (a ∷ first) rest n = let e : length (a ∷ first) + n ≡ suc (length first + n) = omega arith in rw e (drop_front first rest n)
 
--- and where it is read it is spelled
+-- and if it is read it is spelled
 pub record LengthFound (b : ℕ) (bytes : List ℕ) (n : ℕ) (behind : List ℕ) : Type 0 where
   pub size : List ℕ
   pub spelled : SpellsNumber size n
   pub split : bytes ≡ size ++ behind
   pub rest : drop (1 + (length bytes - length behind) + n) (b ∷ bytes) ≡ drop n behind
 
+-- A length that is found is spelled at the front.
 pub length_found : (b : ℕ) (bytes : List ℕ) (n : ℕ) (behind : List ℕ) → length_at bytes ≡ Some (Ok (n, behind)) →
     LengthFound b bytes n behind
 length_found b bytes n behind e =
@@ -156,7 +157,7 @@ length_found b bytes n behind e =
       rest = rw far (ap (drop (length found.0 + n)) found.2 ∙ drop_front found.0 behind n);
     }
 
--- the content is what the size says
+-- the content has the size that is spelled
 pub content_sized : (bytes : List ℕ) (n : ℕ) (behind : List ℕ) (b : ℕ) → n ≤ length behind → LengthFound b bytes n behind →
     Sized bytes (take n behind) (drop n behind)
 content_sized bytes n behind b fits found =
@@ -167,7 +168,7 @@ content_sized bytes n behind b fits found =
       split = found.split ∙ ap (λ x. found.size ++ x) (sym (take-append-drop n behind));
     }
 
--- what is sized in another way is the same
+-- another content of this size is the same
 pub record SameSize (n : ℕ) (behind content rest : List ℕ) : Type 0 where
   pub within : n ≤ length behind
   pub content_is : take n behind ≡ content
@@ -206,8 +207,8 @@ same_size bytes n behind content rest e sized =
       rest_is = (λ i. drop (m i) (g i)) ∙ drop_all_of content rest;
     }
 
--- a part in front
-with_part : (s : Segment) (bytes : List ℕ) (p : Part) (rest : List ℕ) (versions : List VersionData) (parts : List Part) →
+-- a part at the front
+with_part : (s : Segment) (bytes : List ℕ) (p : FilePart) (rest : List ℕ) (versions : List VersionData) (parts : List FilePart) →
     rest ≡ flat_map part_bytes parts ++ end_byte ∷ [] → bytes ≡ part_bytes p ++ rest →
     bytes ≡ flat_map part_bytes (p ∷ parts) ++ end_byte ∷ []
 with_part s bytes p rest versions parts e split = split ∙ ap (λ x. part_bytes p ++ x) e
@@ -233,17 +234,18 @@ object_in_front s k b bytes content rest versions is sized h =
       (sized.spelled, (h.0, h.1, h.2, h.3, h.4, h.5.2)),
     )
 
--- what is read as one thing is read as another that is the same
+-- a reading as one property is a reading as an equivalent one
 pub through : (still : Still Placed Verdict) (S T : List VersionData → Type 0) → ((versions : List VersionData) → T versions → S versions) →
     ((versions : List VersionData) → S versions → T versions) → ReadsAs still S → ReadsAs still T
 through still S T f g h = record { read = λ versions t. h.read versions (f versions t); back = λ none. g _ (h.back none) }
 
+-- A refusal reads as what nothing spells.
 pub nothing_reads : (verdict : Verdict) (S : List VersionData → Type 0) → ((versions : List VersionData) → S versions → ⊥) →
-    ReadsAs (refused verdict) S
+    ReadsAs (end_refused verdict) S
 nothing_reads verdict S never = record { read = λ versions s. absurd (never versions s); back = λ none. absurd (some_is_not_none _ none) }
 
 version_reads : (place : ℕ) (v : VersionData) (still : Still Placed Verdict) (S : List VersionData → Type 0) → ReadsAs still S →
-    ReadsAs (front (placed place v) still) (λ versions. (others : List VersionData) × (versions ≡ v ∷ others) × S others)
+    ReadsAs (front (new_placed place v) still) (λ versions. (others : List VersionData) × (versions ≡ v ∷ others) × S others)
 version_reads place v still S h = record {
   read = λ versions t. (let r = h.read t.0 t.2 in (r.0, ap (λ x. v ∷ x) r.1 ∙ sym t.1));
   back = λ none. (versions_of still.list, refl, h.back none);
@@ -354,11 +356,11 @@ unit_in_segment : (s : Segment) (bytes : List ℕ) → unit_at (InSegment s) byt
 unfolding unit_at
 unit_in_segment s bytes = refl
 
-unit_behind : (bytes : List ℕ) → unit_at BehindEnd bytes ≡ behind_unit bytes
+unit_behind : (bytes : List ℕ) → unit_at BehindEnd bytes ≡ unit_after_end bytes
 unfolding unit_at
 unit_behind bytes = refl
 
--- behind the end byte nothing stands
+-- nothing comes after the end byte
 abbrev Nothing : List ℕ → List VersionData → Type 0
 Nothing bytes versions = (bytes ≡ []) × ([] ≡ versions)
 
@@ -387,7 +389,7 @@ module _ (n : ℕ) (on : ReadsParts n) (s : Segment) (b : ℕ) (bytes : List ℕ
   first_of : (versions : List VersionData) → T versions → FirstPart s b bytes versions
   first_of versions h = first_part s b bytes h.0 versions h.1 h.2
 
-  end_step : (b == end_byte) ≡ true → Step (Some (unit 1 (passes BehindEnd)))
+  end_step : (b == end_byte) ≡ true → Step (Some (unit 1 (no_version BehindEnd)))
   end_step is =
       let same : b ≡ end_byte = eqb-true b end_byte is in
       through (units_within n None BehindEnd (place + 1) bytes) (Nothing bytes) T
@@ -395,7 +397,7 @@ module _ (n : ℕ) (on : ReadsParts n) (s : Segment) (b : ℕ) (bytes : List ℕ
       (λ versions h. ([], (λ i. same i ∷ h.0 i), sym h.1))
       (end_reads n (place + 1) bytes fits)
 
-  reset_step : (b == end_byte) ≡ false → (b == reset_byte) ≡ true → Step (Some (unit 1 (passes (InSegment new_segment))))
+  reset_step : (b == end_byte) ≡ false → (b == reset_byte) ≡ true → Step (Some (unit 1 (no_version (InSegment new_segment))))
   reset_step not_end is =
       let same : b ≡ reset_byte = eqb-true b reset_byte is in
       through (units_within n None (InSegment new_segment) (place + 1) bytes) (PartsFile new_segment bytes) T
@@ -403,7 +405,7 @@ module _ (n : ℕ) (on : ReadsParts n) (s : Segment) (b : ℕ) (bytes : List ℕ
       (λ versions h. (Reset ∷ h.0, with_part s (b ∷ bytes) Reset bytes versions h.0 h.1 (ap (λ x. x ∷ bytes) same), h.2))
       (on new_segment bytes (place + 1) fits)
 
-  lone_step : (b == end_byte) ≡ false → (b == reset_byte) ≡ false → is_lone b ≡ true → Step (Some (unit 1 (passes (InSegment s))))
+  lone_step : (b == end_byte) ≡ false → (b == reset_byte) ≡ false → is_lone b ≡ true → Step (Some (unit 1 (no_version (InSegment s))))
   lone_step not_end not_reset is =
       through (units_within n None (InSegment s) (place + 1) bytes) (PartsFile s bytes) T
       (λ versions h. lone_only s b bytes versions (first_of versions h) not_end not_reset is)
@@ -450,7 +452,7 @@ module _ (n : ℕ) (on : ReadsParts n) (s : Segment) (b : ℕ) (bytes : List ℕ
         let same = same_size bytes m behind k.0 k.1 is_size k.2 in
         omega (arith, short, same.within)
 
-    skipped_step : m ≤ length behind → kind_of_type b ≡ None → Step (Some (unit size (passes (InSegment s))))
+    skipped_step : m ≤ length behind → kind_of_type b ≡ None → Step (Some (unit size (no_version (InSegment s))))
     skipped_step within is =
         let other : IsOtherType b = (not_end, not_reset, not_lone, is) in
         through (units_within n None (InSegment s) (place + size) (drop size (b ∷ bytes))) (PartsFile s rest) T
@@ -476,7 +478,7 @@ module _ (n : ℕ) (on : ReadsParts n) (s : Segment) (b : ℕ) (bytes : List ℕ
         let o = object_of k is versions h in
         let f : Ok (o.0, o.1) ≡ Err reason = sym (set_only k s content (o.0, o.1) o.4) ∙ e in cc))
     object_step within k is is_byte (Ok (v, next)) e =
-        through (front (placed place v) (units_within n None (InSegment next) (place + size) (drop size (b ∷ bytes))))
+        through (front (new_placed place v) (units_within n None (InSegment next) (place + size) (drop size (b ∷ bytes))))
         (λ versions. (others : List VersionData) × (versions ≡ v ∷ others) × PartsFile next rest others) T
         (λ versions h. (
         let o = object_of k is versions h in
@@ -512,25 +514,26 @@ module _ (n : ℕ) (on : ReadsParts n) (s : Segment) (b : ℕ) (bytes : List ℕ
   pub first_step : Step (segment_unit s (b ∷ bytes))
   first_step =
       elim (b == end_byte) as (λ t. (b == end_byte) ≡ t →
-      Step (cond t (Some (unit 1 (passes BehindEnd)))
-      (cond (b == reset_byte) (Some (unit 1 (passes (InSegment new_segment))))
-      (cond (is_lone b) (Some (unit 1 (passes (InSegment s)))) (sized_unit s b bytes (length_at bytes)))))) [
+      Step (cond t (Some (unit 1 (no_version BehindEnd)))
+      (cond (b == reset_byte) (Some (unit 1 (no_version (InSegment new_segment))))
+      (cond (is_lone b) (Some (unit 1 (no_version (InSegment s)))) (sized_unit s b bytes (length_at bytes)))))) [
         | true ↦ λ is. end_step is
         | false ↦ λ not_end. elim (b == reset_byte) as (λ t. (b == reset_byte) ≡ t →
-            Step (cond t (Some (unit 1 (passes (InSegment new_segment))))
-            (cond (is_lone b) (Some (unit 1 (passes (InSegment s)))) (sized_unit s b bytes (length_at bytes))))) [
+            Step (cond t (Some (unit 1 (no_version (InSegment new_segment))))
+            (cond (is_lone b) (Some (unit 1 (no_version (InSegment s)))) (sized_unit s b bytes (length_at bytes))))) [
               | true ↦ λ is. reset_step not_end is
               | false ↦ λ not_reset. elim (is_lone b) as (λ t. is_lone b ≡ t →
-                  Step (cond t (Some (unit 1 (passes (InSegment s)))) (sized_unit s b bytes (length_at bytes)))) [
+                  Step (cond t (Some (unit 1 (no_version (InSegment s)))) (sized_unit s b bytes (length_at bytes)))) [
                     | true ↦ λ is. lone_step not_end not_reset is
                     | false ↦ λ not_lone. length_step not_end not_reset not_lone (length_at bytes) refl
                   ] refl
             ] refl
       ] refl
 
-none_in_segment : (s : Segment) (place : ℕ) → ReadsAs (closed None place (last_at (InSegment s) [])) (PartsFile s [])
+none_in_segment : (s : Segment) (place : ℕ) → ReadsAs (final_units None place (last_at (InSegment s) [])) (PartsFile s [])
 none_in_segment s place = rw (last_in_segment s) (nothing_reads _ (PartsFile s []) (no_parts s))
 
+-- The units of an o5 file read as its parts.
 pub reads_parts : (n : ℕ) → ReadsParts n
 reads_parts zero s [] place fits = none_in_segment s place
 reads_parts zero s (b ∷ bytes) place fits = absurd (omega (arith, fits))

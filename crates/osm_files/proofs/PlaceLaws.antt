@@ -1,17 +1,17 @@
--- The places of units: each unit begins after the one before it, and what refuses them comes after them all.
+-- The offsets of units: each unit begins after the one before it, and a refusal comes after them all.
 use Rattle.std.proofs.Common.{◌≡◌, ℕ, zero, suc, ◌+◌, ◌-◌, ◌≤◌, true, false, cond, List, [], ◌∷◌, length, take, drop, refl, sym, subst}
 use Rattle.std.proofs.Common.{arith, Option, Some, None, IfSome, Ok, Err, length-drop, length-take, nat_lt}
 use Rattle.osm_files.specs.declared.reason.Reason.TheVariants.{ReadFault}
 use Rattle.osm_files.specs.Input.{Coming}
-use Rattle.osm_files.specs.Position.{closing, stand_in, units_from, window}
+use Rattle.osm_files.specs.Position.{closing_verdict, state_or_start, units_from, window}
 use Rattle.osm_files.specs.Stream.{Placed, Still, Verdict, verdict_at}
-use Rattle.osm_files.specs.Units.{FileUnit, Found, Stand, closed, found_then, last_at, unit_at, unit_then, units, units_within}
-use Rattle.osm_files.specs.Verdict.{length_limit, too_long}
+use Rattle.osm_files.specs.Units.{FileUnit, UnitResult, FileStateData, final_units, found_then, last_at, unit_at, unit_then, units, units_within}
+use Rattle.osm_files.specs.Verdict.{length_limit, too_long_verdict}
 use Rattle.osm_files.proofs.FillLaws.{weaker}
 use Rattle.osm_files.proofs.PositionLaws.{from_is}
 use Rattle.osm_files.proofs.StepLaws.{unit_sized}
 
--- the first unit begins at this place or later
+-- the first unit begins at this offset or later
 abbrev pub Follow : ℕ → List Placed → Option Verdict → Type 0
 Follow from [] None = Unit {0}
 Follow from [] (Some v) = from ≤ v.place
@@ -25,21 +25,21 @@ follow_earlier from to [] None le h = tt
 follow_earlier from to [] (Some v) le h = omega (arith, le, h)
 follow_earlier from to (u ∷ us) refusal le h = (omega (arith, le, h.0), h.1)
 
--- what closes a file, if anything does, has this place or a later one
+-- the close of a file, if there is one, has this offset or a later one
 abbrev ClosesFrom : ℕ → Option Verdict → Type 0
 ClosesFrom from close = IfSome close (λ v. from ≤ v.place)
 
 closes_earlier : (from to : ℕ) (close : Option Verdict) → from ≤ to → ClosesFrom to close → ClosesFrom from close
 closes_earlier from to close le h = weaker close _ _ (λ v k. omega (arith, le, k)) h
 
-closed_follows : (close : Option Verdict) (place : ℕ) (last : Found) → ClosesFrom place close → Follows place (closed close place last)
+closed_follows : (close : Option Verdict) (place : ℕ) (last : UnitResult) → ClosesFrom place close → Follows place (final_units close place last)
 closed_follows None place (Err reason) h = omega arith
 closed_follows None place (Ok (None, next)) h = tt
 closed_follows None place (Ok (Some v, next)) h = (omega arith, tt)
 closed_follows (Some verdict) place last h = h
 
-found_follows : (place size : ℕ) (found : Found) (more : Stand → Still Placed Verdict) → 1 ≤ size
-    → ((next : Stand) → Follows (place + size) (more next)) → Follows place (found_then place found more)
+found_follows : (place size : ℕ) (found : UnitResult) (more : FileStateData → Still Placed Verdict) → 1 ≤ size
+    → ((next : FileStateData) → Follows (place + size) (more next)) → Follows place (found_then place found more)
 found_follows place size (Err reason) more some on = omega arith
 found_follows place size (Ok (None, next)) more some on =
     follow_earlier place (place + size) (more next).list (more next).refusal (omega arith) (on next)
@@ -49,10 +49,10 @@ found_follows place size (Ok (Some v, next)) more some on =
 module _ (close : Option Verdict) where
   abbrev WithinFollow : ℕ → Type 0
   WithinFollow n =
-      (stand : Stand) (place : ℕ) (bytes : List ℕ) → ClosesFrom (place + length bytes) close
+      (stand : FileStateData) (place : ℕ) (bytes : List ℕ) → ClosesFrom (place + length bytes) close
       → Follows place (units_within n close stand place bytes)
 
-  unit_follows : (n : ℕ) → WithinFollow n → (stand : Stand) (place : ℕ) (bytes : List ℕ) → ClosesFrom (place + length bytes) close
+  unit_follows : (n : ℕ) → WithinFollow n → (stand : FileStateData) (place : ℕ) (bytes : List ℕ) → ClosesFrom (place + length bytes) close
       → (found : Option FileUnit) → unit_at stand bytes ≡ found
       → Follows place (unit_then close stand place bytes (units_within n close) found)
   unit_follows n on stand place bytes h None e =
@@ -69,18 +69,18 @@ module _ (close : Option Verdict) where
       closed_follows close place (last_at stand bytes) (closes_earlier place (place + length bytes) close (omega arith) h)
   within_follow (suc n) stand place bytes h = unit_follows n (within_follow n) stand place bytes h (unit_at stand bytes) refl
 
-  units_follow : (stand : Stand) (place : ℕ) (bytes : List ℕ) → ClosesFrom (place + length bytes) close
+  units_follow : (stand : FileStateData) (place : ℕ) (bytes : List ℕ) → ClosesFrom (place + length bytes) close
       → Follows place (units close stand place bytes)
   unfolding units
   units_follow stand place bytes h = within_follow (length bytes) stand place bytes h
 
 -- an error comes after the last byte, and the limit after all bytes that count
-window_closes : (c : Coming) → ClosesFrom (0 + length (window 0 c)) (closing 0 c)
+window_closes : (c : Coming) → ClosesFrom (0 + length (window 0 c)) (closing_verdict 0 c)
 window_closes c =
     let error : Verdict = verdict_at (0 + length c.bytes) ReadFault in
     let front : List ℕ = take (length_limit - 1 - 0) c.bytes in
     elim (nat_lt (0 + length c.bytes) length_limit) as (λ t.
-    ClosesFrom (0 + length (cond t c.bytes front)) (cond t (cond c.broken (Some error) None) (Some too_long))) [
+    ClosesFrom (0 + length (cond t c.bytes front)) (cond t (cond c.broken (Some error) None) (Some too_long_verdict))) [
       | true ↦ elim c.broken as (λ b. ClosesFrom (0 + length c.bytes) (cond b (Some error) None)) [
         | true ↦ omega arith
         | false ↦ tt
@@ -88,7 +88,8 @@ window_closes c =
       | false ↦ omega (arith, length-take (length_limit - 1 - 0) c.bytes)
     ]
 
+-- The units of an input are at rising offsets, and its refusal comes after them.
 pub input_follows : (c : Coming) → Follows 0 (units_from None 0 c)
 input_follows c =
     subst (Follows 0) (sym (from_is None 0 c))
-    (units_follow (closing 0 c) (stand_in None c.bytes) 0 (window 0 c) (window_closes c))
+    (units_follow (closing_verdict 0 c) (state_or_start None c.bytes) 0 (window 0 c) (window_closes c))

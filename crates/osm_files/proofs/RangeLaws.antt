@@ -1,4 +1,4 @@
--- What a file spells is within the ranges of versions.
+-- The versions that a file spells are within the ranges of versions.
 use Rattle.std.proofs.Common.{◌≡◌, ℕ, ℤ, zero, suc, ◌≤◌, true, false, cond, List, [], ◌∷◌, ◌++◌, filter, fold, append_assoc, refl, sym}
 use Rattle.std.proofs.Common.{subst, arith, Option, Some, None, Ok, unwrap_or, FitsSigned, w32}
 use Rattle.std.specs.List.{All, AllByRecursion}
@@ -17,11 +17,11 @@ use Rattle.osm_model.specs.New.{first_fault, unless_faulty}
 use Rattle.osm_model.specs.Valid.{IsVersion, IsInRange}
 use Rattle.osm_model.specs.Pairwise.{Pairwise}
 use Rattle.osm_model.proofs.ValidLaws.{valid_version}
-use Rattle.opl_line.specs.Number.{signed}
-use Rattle.opl_line.specs.Field.{nothing_said}
-use Rattle.opl_line.specs.Content.{SpellsCoordinate, plain_degrees, minus_degrees, SpellsPlace, no_place, some_place}
+use Rattle.opl_line.specs.Number.{with_sign}
+use Rattle.opl_line.specs.Field.{no_fields}
+use Rattle.opl_line.specs.Content.{SpellsCoordinate, plain_degrees, minus_degrees, SpellsOptionalCoordinate, no_place, some_place}
 use Rattle.opl_line.specs.Part as part
-use Rattle.opl_line.specs.Part.{Part, SpellsPart, with_part}
+use Rattle.opl_line.specs.Part.{LinePart, SpellsPart, with_part}
 use Rattle.opl_line.specs.Reading.{meta_of, reading_location, reading_visible, reading_body}
 use Rattle.opl_line.specs.Spells.{is_full, Spells}
 use Rattle.o5_codec.specs.declared.segment.Segment.{Segment}
@@ -29,8 +29,8 @@ use Rattle.o5_codec.specs.Sound.{is_sound}
 use Rattle.o5_codec.specs.Decoder.{new_segment}
 use Rattle.o5_codec.proofs.StepLaws.{set_only}
 use Rattle.o5_codec.proofs.SoundSets.{set_version}
-use Rattle.osm_files.specs.O5.{Part as FilePart, Reset, Lone, Skipped, Object, PartsSpell}
-use Rattle.osm_files.specs.Units.{Stand, InOpl, BeforeHeader, InSegment, BehindEnd, start_of}
+use Rattle.osm_files.specs.O5.{FilePart, Reset, Lone, Skipped, Object, PartsSpell}
+use Rattle.osm_files.specs.Units.{FileStateData, InOpl, BeforeHeader, InSegment, BehindEnd, start_of}
 use Rattle.osm_files.specs.Held.{IsFile, IsFileOf}
 
 -- ---- coordinates of lines
@@ -41,7 +41,7 @@ abbrev OptionFits : Option ℤ → Type 0
 OptionFits None = Unit {0}
 OptionFits (Some z) = Fits z
 
-negated_fits : (n : ℕ) → n ≤ 2_147_483_648 → Fits (signed true n)
+negated_fits : (n : ℕ) → n ≤ 2_147_483_648 → Fits (with_sign true n)
 negated_fits zero h = omega arith
 negated_fits (suc n) h = omega (arith, h)
 
@@ -49,37 +49,37 @@ coordinate_fits : (text : List ℕ) (z : ℤ) → SpellsCoordinate text z → Fi
 coordinate_fits text z (plain_degrees bytes n s few) = omega (arith, few)
 coordinate_fits text z (minus_degrees bytes n s few) = negated_fits n few
 
-optional_fits : (content : List ℕ) (x : Option ℤ) → SpellsPlace content x → OptionFits x
+optional_fits : (content : List ℕ) (x : Option ℤ) → SpellsOptionalCoordinate content x → OptionFits x
 optional_fits content x no_place = tt
 optional_fits content x (some_place bytes z s) = coordinate_fits bytes z s
 
 -- ---- the fields of a line
-abbrev PartFits : Part → Type 0
+abbrev PartFits : LinePart → Type 0
 PartFits (part.Longitude x) = OptionFits x
 PartFits (part.Latitude y) = OptionFits y
 PartFits _ = Unit {0}
 
-part_fits : (k : Kind) (field : List ℕ) (p : Part) → SpellsPart k field p → PartFits p
+part_fits : (k : Kind) (field : List ℕ) (p : LinePart) → SpellsPart k field p → PartFits p
 part_fits k field (part.Longitude x) s = optional_fits s.content x s.spelled
 part_fits k field (part.Latitude y) s = optional_fits s.content y s.spelled
 part_fits k field _ s = tt
 
-parts_fit : (k : Kind) (fields : List (List ℕ)) (parts : List Part) → Pairwise (SpellsPart k) fields parts → AllByRecursion PartFits parts
+parts_fit : (k : Kind) (fields : List (List ℕ)) (parts : List LinePart) → Pairwise (SpellsPart k) fields parts → AllByRecursion PartFits parts
 parts_fit k [] [] s = tt
 parts_fit k [] (p ∷ parts) s = absurd s
 parts_fit k (field ∷ fields) [] s = tt
 parts_fit k (field ∷ fields) (p ∷ parts) s = (part_fits k field p s.0, parts_fit k fields parts s.1)
 
-abbrev AreFit : List Part → Type 0
-AreFit parts = OptionFits (unwrap_or (fold with_part nothing_said parts).longitude None)
-    × OptionFits (unwrap_or (fold with_part nothing_said parts).latitude None)
+abbrev AreFit : List LinePart → Type 0
+AreFit parts = OptionFits (unwrap_or (fold with_part no_fields parts).longitude None)
+    × OptionFits (unwrap_or (fold with_part no_fields parts).latitude None)
 
-with_fits : (front : List Part) (p : Part) → AreFit front → PartFits p → AreFit (front ++ p ∷ [])
-with_fits front (part.Longitude x) h w = rw (fold-append with_part nothing_said front (part.Longitude x ∷ [])) (w, h.1)
-with_fits front (part.Latitude y) h w = rw (fold-append with_part nothing_said front (part.Latitude y ∷ [])) (h.0, w)
-with_fits front p h w = rw (fold-append with_part nothing_said front (p ∷ [])) h
+with_fits : (front : List LinePart) (p : LinePart) → AreFit front → PartFits p → AreFit (front ++ p ∷ [])
+with_fits front (part.Longitude x) h w = rw (fold-append with_part no_fields front (part.Longitude x ∷ [])) (w, h.1)
+with_fits front (part.Latitude y) h w = rw (fold-append with_part no_fields front (part.Latitude y ∷ [])) (h.0, w)
+with_fits front p h w = rw (fold-append with_part no_fields front (p ∷ [])) h
 
-said_fits : (front parts : List Part) → AreFit front → AllByRecursion PartFits parts → AreFit (front ++ parts)
+said_fits : (front parts : List LinePart) → AreFit front → AllByRecursion PartFits parts → AreFit (front ++ parts)
 said_fits front [] h ws = subst AreFit (sym (append-nil front)) h
 said_fits front (p ∷ parts) h ws = subst AreFit (append_assoc front (p ∷ []) parts)
     (said_fits (front ++ p ∷ []) parts (with_fits front p h ws.0) ws.1)
@@ -93,22 +93,22 @@ location_fits None lat tags b f g e = cc
 location_fits (Some lon) None tags b f g e = cc
 location_fits (Some lon) (Some lat) tags b f g e = let same : Node lon lat tags ≡ b = cc in subst BodyFits same (f, g)
 
-visible_fits : (k : Kind) (parts : List Part) (b : Body) → AreFit parts → reading_visible k (fold with_part nothing_said parts) ≡ Ok b →
+visible_fits : (k : Kind) (parts : List LinePart) (b : Body) → AreFit parts → reading_visible k (fold with_part no_fields parts) ≡ Ok b →
     BodyFits b
 visible_fits kind.Node parts b h e =
-    let fields = fold with_part nothing_said parts in
+    let fields = fold with_part no_fields parts in
     location_fits (unwrap_or fields.longitude None) (unwrap_or fields.latitude None) (unwrap_or fields.tags []) b h.0 h.1 e
 visible_fits kind.Way parts b h e =
-    let fields = fold with_part nothing_said parts in
+    let fields = fold with_part no_fields parts in
     let same : Way (unwrap_or fields.references []) (unwrap_or fields.tags []) ≡ b = cc in subst BodyFits same tt
 visible_fits kind.Relation parts b h e =
-    let fields = fold with_part nothing_said parts in
+    let fields = fold with_part no_fields parts in
     let same : Relation (unwrap_or fields.members []) (unwrap_or fields.tags []) ≡ b = cc in subst BodyFits same tt
 
-body_fits : (k : Kind) (parts : List Part) (b : Body) → AreFit parts → reading_body k (fold with_part nothing_said parts) ≡ Ok b →
+body_fits : (k : Kind) (parts : List LinePart) (b : Body) → AreFit parts → reading_body k (fold with_part no_fields parts) ≡ Ok b →
     BodyFits b
 body_fits k parts b h =
-    let fields = fold with_part nothing_said parts in
+    let fields = fold with_part no_fields parts in
     elim (unwrap_or fields.deleted false) as (λ t. cond t (Ok (Deleted k)) (reading_visible k fields) ≡ Ok b → BodyFits b) [
       | true ↦ λ e. let same : Deleted k ≡ b = cc in subst BodyFits same tt
       | false ↦ λ e. visible_fits k parts b h e
@@ -120,10 +120,10 @@ made_is_version id meta b v None none fits e = let same : version_of id meta b �
     subst (λ (w : VersionData). IsVersion w) same (valid_version id meta b none fits)
 made_is_version id meta b v (Some f) some fits e = cc
 
--- what a line spells is a version
+-- a line spells a version
 pub line_is_version : (line : List ℕ) (v : VersionData) → Spells line v → IsVersion v
 line_is_version line v s =
-    let meta : Meta = meta_of (fold with_part nothing_said s.parts) in
+    let meta : Meta = meta_of (fold with_part no_fields s.parts) in
     let fit : AreFit s.parts = said_fits [] s.parts (tt, tt) (parts_fit s.kind (filter is_full s.tells.others) s.parts s.tells.spelled) in
     let body : Body = s.version.body in
     made_is_version s.id meta body v (first_fault s.id meta body) refl (body_fits s.kind s.parts body fit s.version.has_body) s.version.made
@@ -148,11 +148,12 @@ parts_are_versions (Object k size content ∷ parts) s versions sound (spelled, 
     (All-cons IsVersion v others one.0 (parts_are_versions parts next others one.1 more))
 
 -- ---- files
-file_of_versions : (stand : Stand) (bytes : List ℕ) (versions : List VersionData) → IsFileOf stand bytes versions → All IsVersion versions
+file_of_versions : (stand : FileStateData) (bytes : List ℕ) (versions : List VersionData) → IsFileOf stand bytes versions → All IsVersion versions
 file_of_versions InOpl bytes versions h = lines_are_versions _ versions h
 file_of_versions BeforeHeader bytes versions h = parts_are_versions h.parts new_segment versions refl h.spelled
 file_of_versions (InSegment s) bytes versions h = absurd h
 file_of_versions BehindEnd bytes versions h = absurd h
 
+-- The versions that a file spells are within their ranges.
 pub files_hold_versions : (bytes : List ℕ) (versions : List VersionData) → IsFile bytes versions → All IsVersion versions
 files_hold_versions bytes versions h = file_of_versions (start_of bytes) bytes versions h

@@ -1,4 +1,5 @@
--- What a reading does, of what its reader can give: each law is one of what is told, at what was to come and what is.
+-- The steps of a reading, over all that its reader can give: each law is one of positions with their rests, before and
+-- after.
 use Rattle.std.proofs.Common.{◌≡◌, ◌⊎◌, inl, inr, ℕ, ◌+◌, ◌-◌, ◌≤◌, ◌<◌, ◌^◌, true, false, cond, List, [], ◌++◌, length, drop, refl, sym}
 use Rattle.std.proofs.Common.{ap, ◌∙◌, subst, arith, Option, Some, None, option_map, IfSome, Result, Ok, Err, length-drop}
 use Rattle.std.proofs.lemmas.List.{append-nil, nil_from_length}
@@ -6,13 +7,13 @@ use Rattle.osm_files.specs.declared.fault.Fault.{Fault}
 use Rattle.osm_files.specs.declared.reason.Reason.{Reason}
 use Rattle.osm_files.specs.declared.reason.Reason.TheVariants.{Memory, ReadFault}
 use Rattle.osm_files.specs.Fault.{memory_fault, too_long_fault, fault_at}
-use Rattle.osm_files.specs.Input.{Coming, whole, breaks, preceded_by}
-use Rattle.osm_files.specs.Stream.{Placed, placed, refused}
+use Rattle.osm_files.specs.Input.{Coming, whole_input, broken_input, with_front}
+use Rattle.osm_files.specs.Stream.{Placed, new_placed, end_refused}
 use Rattle.osm_files.specs.Units.{unit_at}
 use Rattle.osm_files.specs.declared.unit.ReadUnit.{ReadUnit}
-use Rattle.osm_files.specs.Source.{Step, StepsOn}
-use Rattle.osm_files.specs.Position.{Position, Told, telling, Between, ahead, to_come, still_to_come, units_left, GoesOn, ReadsOn, HasRead}
-use Rattle.osm_files.specs.Position.{Halts, StopsAt, stand_at, FindsHeld}
+use Rattle.osm_files.specs.Source.{SourceStep, StepsOn}
+use Rattle.osm_files.specs.Position.{Position, KnownPosition, with_coming, Between, bytes_ahead, units_ahead, units_or_failed, units_left, GoesOn, ReadsOn, HasRead}
+use Rattle.osm_files.specs.Position.{Halts, StopsAt, state_at, FindsHeld}
 use Rattle.osm_files.specs.Load.{tells_format}
 use Rattle.osm_files.proofs.FillLaws.{ahead_open, fill_full, kept, keeps_on}
 use Rattle.osm_files.proofs.GroupLaws.{step_on}
@@ -21,59 +22,61 @@ use Rattle.osm_files.proofs.PositionLaws.{goes_on, goes_further, reads_go_on, en
 use Rattle.osm_files.proofs.ReadingLaws.{GoesOver, telling_found, none_goes_on, held_size, held_goes_over, held_refuses, over_gives}
 use Rattle.osm_files.proofs.ReadingLaws.{over_passes, refusal_step, keeps_still}
 
--- nothing was given, and what was known to come still is
+-- nothing was given, and a known rest is unchanged
 pub record HasGone {R : Type 0} (can : R → Coming → Type 0) (p q : Position R) : Type 0 where
   pub input : q.input ≡ p.input
   pub place : p.place ≤ q.place
   pub failed : q.failed ≡ p.failed
   pub goes : Between can p q GoesOn
 
--- what is left to be gone over and to be read
+-- the number of bytes still to be passed or read
 abbrev pub left_over : {R : Type 0} → Position R → ℕ
 left_over p = units_left p + cond p.ended 0 (1 + (2 ^ 62 - (p.place + length p.held)))
 
-reads_on : (p : Told) → ReadsOn p p
-reads_on p = record { input = refl; place = refl; stand = refl; failed = refl; ahead = kept (ahead p) }
+reads_on : (p : KnownPosition) → ReadsOn p p
+reads_on p = record { input = refl; place = refl; stand = refl; failed = refl; ahead = kept (bytes_ahead p) }
 
-reads_further : (p m q : Told) → ReadsOn p m → ReadsOn m q → ReadsOn p q
+reads_further : (p m q : KnownPosition) → ReadsOn p m → ReadsOn m q → ReadsOn p q
 reads_further p m q a b = record {
   input = b.input ∙ a.input;
   place = b.place ∙ a.place;
   stand = b.stand ∙ a.stand;
   failed = b.failed ∙ a.failed;
-  ahead = keeps_on (ahead p) (ahead m) (ahead q) a.ahead b.ahead;
+  ahead = keeps_on (bytes_ahead p) (bytes_ahead m) (bytes_ahead q) a.ahead b.ahead;
 }
 
 module _ {R : Type 0} (can : R → Coming → Type 0) where
-  -- ---- steps one after the other
-  pub then_on : (p m q : Position R) (P Q S : Told → Told → Type 0) → ((a b c : Told) → P a b → Q b c → S a c) → Between can p m P
+  -- ---- steps in sequence
+  pub then_on : (p m q : Position R) (P Q S : KnownPosition → KnownPosition → Type 0) → ((a b c : KnownPosition) → P a b → Q b c → S a c) → Between can p m P
       → Between can m q Q → Between can p q S
   then_on p m q P Q S law first second later g =
       let y = second later g in
       let x = first y.0 y.1 in
-      (x.0, x.1, law (telling p x.0) (telling m y.0) (telling q later) x.2 y.2)
+      (x.0, x.1, law (with_coming p x.0) (with_coming m y.0) (with_coming q later) x.2 y.2)
 
-  -- what is said of both ends of a step
-  pub weaker_step : (p q : Position R) (P Q : Told → Told → Type 0) → ((a b : Told) → P a b → Q a b) → Between can p q P → Between can p q Q
+  -- a consequence of a step for both of its ends
+  pub weaker_step : (p q : Position R) (P Q : KnownPosition → KnownPosition → Type 0) → ((a b : KnownPosition) → P a b → Q a b) → Between can p q P → Between can p q Q
   weaker_step p q P Q law step later g =
       let x = step later g in
-      (x.0, x.1, law (telling p x.0) (telling q later) x.2)
+      (x.0, x.1, law (with_coming p x.0) (with_coming q later) x.2)
 
   -- nothing was read
-  pub unread : (p q : Position R) (P : Told → Told → Type 0) → q.coming ≡ p.coming → ((c : Coming) → P (telling p c) (telling q c))
+  pub unread : (p q : Position R) (P : KnownPosition → KnownPosition → Type 0) → q.coming ≡ p.coming → ((c : Coming) → P (with_coming p c) (with_coming q c))
       → Between can p q P
   unread p q P same steps later g = (later, subst (λ r. can r later) same g, steps later)
 
+  -- A position has gone over nothing to itself.
   pub has_gone : (p : Position R) → HasGone can p p
-  has_gone p = record { input = refl; place = omega arith; failed = refl; goes = unread p p GoesOn refl (λ c. goes_on (telling p c)) }
+  has_gone p = record { input = refl; place = omega arith; failed = refl; goes = unread p p GoesOn refl (λ c. goes_on (with_coming p c)) }
 
   -- nothing was read since
-  pub gone_then : (p m q : Position R) (P : Told → Told → Type 0) → HasGone can p m → q.coming ≡ m.coming
-      → ((a : Told) (c : Coming) → GoesOn a (telling m c) → P a (telling q c)) → Between can p q P
+  pub gone_then : (p m q : Position R) (P : KnownPosition → KnownPosition → Type 0) → HasGone can p m → q.coming ≡ m.coming
+      → ((a : KnownPosition) (c : Coming) → GoesOn a (with_coming m c) → P a (with_coming q c)) → Between can p q P
   gone_then p m q P on same law later g =
       let x = on.goes later (subst (λ r. can r later) same g) in
-      (x.0, x.1, law (telling p x.0) later x.2)
+      (x.0, x.1, law (with_coming p x.0) later x.2)
 
+  -- Where no unit is whole, nothing was gone over.
   pub gone_none : (p m q : Position R) → HasGone can p m → FindsHeld m (Ok None) q → q.coming ≡ m.coming → q.input ≡ m.input
       → q.place ≡ m.place → q.failed ≡ m.failed → HasGone can p q
   gone_none p m q on found same input place failed = record {
@@ -82,10 +85,11 @@ module _ {R : Type 0} (can : R → Coming → Type 0) where
     failed = failed ∙ on.failed;
     goes =
         gone_then p m q GoesOn on same
-        (λ a c goes. goes_further a (telling m c) (telling q c) goes
-        (none_goes_on (telling m c) (telling q c) (telling_found m q (Ok None) c found)));
+        (λ a c goes. goes_further a (with_coming m c) (with_coming q c) goes
+        (none_goes_on (with_coming m c) (with_coming q c) (telling_found m q (Ok None) c found)));
   }
 
+  -- To read on is to go over nothing.
   pub gone_read : (p m q : Position R) → HasGone can p m → HasRead can m q → q.input ≡ m.input → HasGone can p q
   gone_read p m q on read input = record {
     input = input ∙ on.input;
@@ -98,7 +102,7 @@ module _ {R : Type 0} (can : R → Coming → Type 0) where
   -- the end of the input was found
   pub fill_ended : (p q : Position R) (front : List ℕ) → p.ended ≡ false → q.ended ≡ true → q.input ≡ p.input → q.place ≡ p.place
       → q.stand ≡ p.stand → q.failed ≡ p.failed → q.held ≡ p.held ++ front → length front ≡ 0
-      → can p.coming (whole []) → HasRead can p q
+      → can p.coming (whole_input []) → HasRead can p q
   fill_ended p q front unended ended input place stand failed held none ends =
       let same : q.held ≡ p.held ++ [] = held ∙ ap (λ xs. p.held ++ xs) (nil_from_length front none) in
       record {
@@ -106,7 +110,7 @@ module _ {R : Type 0} (can : R → Coming → Type 0) where
         stand = stand;
         failed = failed;
         reads = λ later g. (
-          whole [],
+          whole_input [],
           ends,
           record {
             input = input;
@@ -114,36 +118,38 @@ module _ {R : Type 0} (can : R → Coming → Type 0) where
             stand = stand;
             failed = failed;
             ahead =
-                subst (λ (o : Option Coming). IfSome o (λ x. ahead (telling q later) ≡ Some x))
-                (sym (ahead_open (telling p (whole [])) unended)) (ended_ahead (telling q later) ended ∙ ap (λ xs. Some (whole xs)) same);
+                subst (λ (o : Option Coming). IfSome o (λ x. bytes_ahead (with_coming q later) ≡ Some x))
+                (sym (ahead_open (with_coming p (whole_input [])) unended)) (ended_ahead (with_coming q later) ended ∙ ap (λ xs. Some (whole_input xs)) same);
           },
         );
       }
 
-  -- memory was refused, or the input failed
+  -- memory ran out, or the input failed
   pub fill_stopped : (p : Position R) (one : Coming) (reason : Reason) (fault : Fault) → can p.coming one
-      → (reason ≡ Memory) ⊎ (reason ≡ ReadFault) → (reason ≡ ReadFault → can p.coming (breaks [])) → p.ended ≡ false
+      → (reason ≡ Memory) ⊎ (reason ≡ ReadFault) → (reason ≡ ReadFault → can p.coming (broken_input [])) → p.ended ≡ false
       → fault ≡ fault_at p.input (p.place + length p.held) reason → StopsAt can p fault
   fill_stopped p one reason fault possible (inl e) broken unended is =
       (one, possible, inl (is ∙ ap (fault_at p.input (p.place + length p.held)) e))
   fill_stopped p one reason fault possible (inr e) broken unended is = (
-    breaks [],
+    broken_input [],
     broken e,
-    inr (subst (λ (o : Option Coming). IfSome o (λ c. Halts (telling p (breaks [])) c fault))
-        (sym (ahead_open (telling p (breaks [])) unended))
-        (inl (ap (λ xs. breaks xs) (append-nil p.held), is ∙ ap (fault_at p.input (p.place + length p.held)) e))),
+    inr (subst (λ (o : Option Coming). IfSome o (λ c. Halts (with_coming p (broken_input [])) c fault))
+        (sym (ahead_open (with_coming p (broken_input [])) unended))
+        (inl (ap (λ xs. broken_input xs) (append-nil p.held), is ∙ ap (fault_at p.input (p.place + length p.held)) e))),
   )
 
-  -- one byte came behind as many as a file may have
+  -- one byte came after as many as a file may have
   pub fill_limit : (p : Position R) (later earlier : Coming) (front : List ℕ) (fault : Fault) → can p.coming earlier
-      → earlier ≡ preceded_by front later → 0 < length front → p.ended ≡ false → p.place + length p.held + 1 ≡ 2 ^ 62
+      → earlier ≡ with_front front later → 0 < length front → p.ended ≡ false → p.place + length p.held + 1 ≡ 2 ^ 62
       → fault ≡ too_long_fault p.input → StopsAt can p fault
   fill_limit p later earlier front fault possible is some unended full fault_is =
-      (earlier, possible, fill_full (telling p earlier) (Some later) front fault unended (ap Some is) some full fault_is)
+      (earlier, possible, fill_full (with_coming p earlier) (Some later) front fault unended (ap Some is) some full fault_is)
 
+  -- A position has read nothing to itself.
   pub has_read : (p : Position R) → HasRead can p p
-  has_read p = record { place = refl; stand = refl; failed = refl; reads = unread p p ReadsOn refl (λ c. reads_on (telling p c)) }
+  has_read p = record { place = refl; stand = refl; failed = refl; reads = unread p p ReadsOn refl (λ c. reads_on (with_coming p c)) }
 
+  -- To read on twice is to read on.
   pub read_further : (p m q : Position R) → HasRead can p m → HasRead can m q → HasRead can p q
   read_further p m q first second = record {
     place = second.place ∙ first.place;
@@ -158,22 +164,23 @@ module _ {R : Type 0} (can : R → Coming → Type 0) where
       → (fault : Fault) → StopsAt can m fault → q.failed ≡ true → StepsOn can p (Err fault) q
   format_stops p m q on first unseen fine tells fault stops failed later g =
       let x = on.reads stops.0 stops.1 in
-      (x.0, x.1, format_refused (telling p x.0) (telling m stops.0) (telling q later) x.2 first unseen fine tells fault stops.2 failed)
+      (x.0, x.1, format_refused (with_coming p x.0) (with_coming m stops.0) (with_coming q later) x.2 first unseen fine tells fault stops.2 failed)
 
   -- ---- the next version
-  -- what a step did after steps that gave nothing
+  -- the effect of a step after steps that gave nothing
   pub steps_from : (p m q : Position R) (r : Result (Option Placed) Fault) → HasGone can p m → p.failed ≡ false → StepsOn can m r q
       → StepsOn can p r q
   steps_from p m q r on fine step later g =
       let y = step later g in
       let x = on.goes y.0 y.1 in
-      let before = still_to_come (telling p x.0) in (
+      let before = units_or_failed (with_coming p x.0) in (
         x.0,
         x.1,
-        step_on before (still_to_come (telling m y.0)) (still_to_come (telling q later)) r
-            (keeps_still (telling p x.0) (telling m y.0) x.2 fine) y.2,
+        step_on before (units_or_failed (with_coming m y.0)) (units_or_failed (with_coming q later)) r
+            (keeps_still (with_coming p x.0) (with_coming m y.0) x.2 fine) y.2,
       )
 
+  -- To go over units twice is to go over them.
   pub gone_further : (p m q : Position R) → HasGone can p m → HasGone can m q → HasGone can p q
   gone_further p m q a b = record {
     input = b.input ∙ a.input;
@@ -182,7 +189,7 @@ module _ {R : Type 0} (can : R → Coming → Type 0) where
     goes = then_on p m q GoesOn GoesOn GoesOn goes_further a.goes b.goes;
   }
 
-  -- a unit of the bytes held was gone over
+  -- a unit of the bytes held was passed
   module _ (m q r : Position R) (u : ReadUnit) (bound : m.place + length m.held < 2 ^ 62) (found : FindsHeld m (Ok (Some u)) q)
       (gone : r ≡ record q { place = q.place + u.size; held = drop u.size q.held }) where
     same_input : r.input ≡ m.input
@@ -194,9 +201,11 @@ module _ {R : Type 0} (can : R → Coming → Type 0) where
     same_failed : r.failed ≡ m.failed
     same_failed = ap (λ v. v.failed) gone ∙ (held_size m q u found).4
 
+    -- A unit leads to a later offset.
     pub unit_further : m.place < r.place
     unit_further = let size = held_size m q u found in omega (arith, size.0, size.2, ap (λ v. v.place) gone)
 
+    -- After a unit less is left.
     pub unit_lessens : left_over r < left_over m
     unit_lessens =
         let size = held_size m q u found in
@@ -212,33 +221,35 @@ module _ {R : Type 0} (can : R → Coming → Type 0) where
           | false ↦ omega (arith, size.0, place, held, within, bound)
         ])
 
-    over : (c : Coming) (given : Option Placed) → given ≡ option_map (placed q.place) u.version → GoesOver (telling m c) given (telling r c)
+    over : (c : Coming) (given : Option Placed) → given ≡ option_map (new_placed q.place) u.version → GoesOver (with_coming m c) given (with_coming r c)
     over c given is =
-        held_goes_over (telling m c) (telling q c) (telling r c) u given bound (telling_found m q (Ok (Some u)) c found) is
-        (ap (λ v. telling v c) gone)
+        held_goes_over (with_coming m c) (with_coming q c) (with_coming r c) u given bound (telling_found m q (Ok (Some u)) c found) is
+        (ap (λ v. with_coming v c) gone)
 
-    pub unit_gives : m.failed ≡ false → (given : Placed) → Some given ≡ option_map (placed q.place) u.version
+    -- A unit with a version is a step that gives it.
+    pub unit_gives : m.failed ≡ false → (given : Placed) → Some given ≡ option_map (new_placed q.place) u.version
         → StepsOn can m (Ok (Some given)) r
     unit_gives fine given is =
-        unread m r (λ a b. Step (still_to_come a) (Ok (Some given)) (still_to_come b)) same_coming
-        (λ c. over_gives (telling m c) (telling r c) given fine same_failed (over c (Some given) is))
+        unread m r (λ a b. SourceStep (units_or_failed a) (Ok (Some given)) (units_or_failed b)) same_coming
+        (λ c. over_gives (with_coming m c) (with_coming r c) given fine same_failed (over c (Some given) is))
 
-    pub unit_passes : None ≡ option_map (placed q.place) u.version → HasGone can m r
+    -- A unit without a version is gone over.
+    pub unit_passes : None ≡ option_map (new_placed q.place) u.version → HasGone can m r
     unit_passes is = record {
       input = same_input;
       place = omega (arith, unit_further);
       failed = same_failed;
       goes =
           unread m r GoesOn same_coming
-          (λ c. over_passes (telling m c) (telling r c) same_input (omega (arith, unit_further)) same_failed (over c None is));
+          (λ c. over_passes (with_coming m c) (with_coming r c) same_input (omega (arith, unit_further)) same_failed (over c None is));
     }
 
   -- ---- refusals
   -- the reading is refused, now and ever after
   pub refused_ever : (m r : Position R) (fault : Fault) (one : Coming) → can m.coming one → m.failed ≡ false → r.failed ≡ true
-      → (fault ≡ memory_fault) ⊎ IfSome (to_come (telling m one)) (λ s. s ≡ refused fault) → StepsOn can m (Err fault) r
+      → (fault ≡ memory_fault) ⊎ IfSome (units_ahead (with_coming m one)) (λ s. s ≡ end_refused fault) → StepsOn can m (Err fault) r
   refused_ever m r fault one possible fine failed refuses later g =
-      (one, possible, refusal_step (telling m one) (telling r later) fault fine failed refuses)
+      (one, possible, refusal_step (with_coming m one) (with_coming r later) fault fine failed refuses)
 
   -- for a unit that is held
   pub unit_refused : (m q r : Position R) (reason : Reason) (fault : Fault) (one : Coming) → can m.coming one → m.failed ≡ false
@@ -246,10 +257,10 @@ module _ {R : Type 0} (can : R → Coming → Type 0) where
       → StepsOn can m (Err fault) r
   unit_refused m q r reason fault one possible fine failed bound found is =
       refused_ever m r fault one possible fine failed
-      (held_refuses (telling m one) (telling q one) reason fault bound (telling_found m q (Err reason) one found) is)
+      (held_refuses (with_coming m one) (with_coming q one) reason fault bound (telling_found m q (Err reason) one found) is)
 
-  -- since no more can be read
-  pub fill_refused : (m r : Position R) (fault : Fault) → m.failed ≡ false → r.failed ≡ true → unit_at (stand_at m) m.held ≡ None
+  -- because no more can be read
+  pub fill_refused : (m r : Position R) (fault : Fault) → m.failed ≡ false → r.failed ≡ true → unit_at (state_at m) m.held ≡ None
       → m.place + length m.held < 2 ^ 62 → StopsAt can m fault → StepsOn can m (Err fault) r
   fill_refused m r fault fine failed nothing bound stops =
-      refused_ever m r fault stops.0 stops.1 fine failed (stopped (telling m stops.0) nothing bound fault stops.2)
+      refused_ever m r fault stops.0 stops.1 fine failed (stopped (with_coming m stops.0) nothing bound fault stops.2)

@@ -1,4 +1,4 @@
--- What the calls of a reading do, step by step.
+-- The calls of a reading, step by step.
 use Rattle.std.proofs.Common.{◌≡◌, ◌⊎◌, inl, inr, ⊎_elim, ℕ, ◌+◌, ◌≤◌, ◌<◌, ◌^◌, true, false, cond, List, [], ◌∷◌, length, take, drop, refl}
 use Rattle.std.proofs.Common.{sym, ap, ◌∙◌, subst, arith, Option, Some, None, option_map, IfSome, is_some, Result, Ok, Err, slice_get}
 use Rattle.std.proofs.Common.{nat_lt}
@@ -10,23 +10,23 @@ use Rattle.osm_files.specs.declared.reason.Reason.{Reason}
 use Rattle.osm_files.specs.declared.reason.Reason.TheVariants.{Memory, Unsorted, Opl, O5, BadHeader, NoEnd, AfterEnd, TooLong, ReadFault}
 use Rattle.osm_files.specs.declared.reason.Reason.TheVariants.{WriteFault, Failed}
 use Rattle.osm_files.specs.declared.unit.ReadUnit.{ReadUnit}
-use Rattle.osm_files.specs.declared.unit.Stage.{Stage}
+use Rattle.osm_files.specs.declared.unit.FileState.{FileState}
 use Rattle.osm_files.specs.Fault.{memory_fault, failed_fault, fault_at}
 use Rattle.osm_files.specs.Input.{Coming}
-use Rattle.osm_files.specs.Stream.{verdict_at, Placed, placed, Still, whole, refused, front}
-use Rattle.osm_files.specs.Source.{Step}
-use Rattle.opl_line.specs.Cut.{is_line_end, split_first}
-use Rattle.osm_files.specs.Units.{Stand, InOpl, BeforeHeader, InSegment, BehindEnd, Found, unit, unit_at, line_unit, last_at, found_then}
+use Rattle.osm_files.specs.Stream.{verdict_at, Placed, new_placed, Still, end_whole, end_refused, front}
+use Rattle.osm_files.specs.Source.{SourceStep}
+use Rattle.opl_line.specs.Delimiter.{is_line_end, split_first}
+use Rattle.osm_files.specs.Units.{FileStateData, InOpl, BeforeHeader, InSegment, BehindEnd, UnitResult, unit, unit_at, line_unit, last_at, found_then}
 use Rattle.osm_files.specs.Units.{units}
-use Rattle.osm_files.specs.Reading.{Finds, FindsLast, stand_of, without_stand}
-use Rattle.osm_files.specs.Position.{Position, Told, telling, ahead, stand_in, closing, window, units_from, fault_of, named, to_come}
-use Rattle.osm_files.specs.Position.{still_to_come, Keeps, GoesOn, stand_at, seen, FindsHeld}
+use Rattle.osm_files.specs.Reading.{Finds, FindsLast, state_data_of, version_of_unit}
+use Rattle.osm_files.specs.Position.{Position, KnownPosition, with_coming, bytes_ahead, state_or_start, closing_verdict, window, units_from, fault_of, with_input, units_ahead}
+use Rattle.osm_files.specs.Position.{units_or_failed, Keeps, GoesOn, state_at, with_state, FindsHeld}
 use Rattle.osm_files.proofs.FillLaws.{weaker, mapped}
 use Rattle.osm_files.proofs.StepLaws.{unit_sized}
 use Rattle.osm_files.proofs.PositionLaws.{from_is, behind, same_stand, with_each, gone_over, gone_passed, gone_gave, gone_refused}
 use Rattle.osm_files.proofs.PositionLaws.{none_in_nothing, at_the_end, goes_on}
 
--- the fault of a reason at a place
+-- the fault of a reason at an offset
 fault_is : (input place : ℕ) (reason : Reason)
     → (fault_at input place reason ≡ memory_fault) ⊎ (fault_at input place reason ≡ fault_of input (verdict_at place reason))
 fault_is input place Memory = inl refl
@@ -43,10 +43,10 @@ fault_is input place Failed = inr refl
 
 -- ---- the first byte
 seen_by : {C : Type 0} (p : Position C) (P : Position C → Type 0)
-    → (is_some (slice_get p.held 0) ≡ true → P (record p { stand = Some (stand_at p) })) → (is_some (slice_get p.held 0) ≡ false → P p)
-    → P (seen p)
+    → (is_some (slice_get p.held 0) ≡ true → P (record p { stand = Some (state_at p) })) → (is_some (slice_get p.held 0) ≡ false → P p)
+    → P (with_state p)
 seen_by p P there not_there =
-    elim (is_some (slice_get p.held 0)) as (λ t. is_some (slice_get p.held 0) ≡ t → P (cond t (record p { stand = Some (stand_at p) }) p))
+    elim (is_some (slice_get p.held 0)) as (λ t. is_some (slice_get p.held 0) ≡ t → P (cond t (record p { stand = Some (state_at p) }) p))
     [ true ↦ there | false ↦ not_there ] refl
 
 none_held : (held : List ℕ) → is_some (slice_get held 0) ≡ false → held ≡ []
@@ -57,96 +57,103 @@ pub some_held : (held : List ℕ) → is_some (slice_get held 0) ≡ true → 0 
 some_held [] e = absurd (false≢true e)
 some_held (b ∷ held) e = omega arith
 
-pub seen_held : {C : Type 0} (p : Position C) → (seen p).held ≡ p.held
+pub seen_held : {C : Type 0} (p : Position C) → (with_state p).held ≡ p.held
 seen_held p = seen_by p (λ q. q.held ≡ p.held) (λ e. refl) (λ e. refl)
 
-stand_is : (stand : Option Stand) (held : List ℕ) (s : Stand) → stand ≡ Some s → stand_in stand held ≡ s
+stand_is : (stand : Option FileStateData) (held : List ℕ) (s : FileStateData) → stand ≡ Some s → state_or_start stand held ≡ s
 stand_is None held s e = absurd (let f : None ≡ Some s = e in cc)
 stand_is (Some t) held s e = cc
 
-seen_stand : {C : Type 0} (p : Position C) (s : Stand) → (seen p).stand ≡ Some s → stand_at p ≡ s
+seen_stand : {C : Type 0} (p : Position C) (s : FileStateData) → (with_state p).stand ≡ Some s → state_at p ≡ s
 seen_stand p s =
-    seen_by p (λ q. q.stand ≡ Some s → stand_at p ≡ s) (λ e f. (let g : Some (stand_at p) ≡ Some s = f in cc))
+    seen_by p (λ q. q.stand ≡ Some s → state_at p ≡ s) (λ e f. (let g : Some (state_at p) ≡ Some s = f in cc))
     (λ e f. stand_is p.stand p.held s f)
 
-pub seen_none : {C : Type 0} (p : Position C) → (seen p).stand ≡ None → p.held ≡ []
+pub seen_none : {C : Type 0} (p : Position C) → (with_state p).stand ≡ None → p.held ≡ []
 seen_none p =
-    seen_by p (λ q. q.stand ≡ None → p.held ≡ []) (λ e f. absurd (let g : Some (stand_at p) ≡ None = f in cc)) (λ e f. none_held p.held e)
+    seen_by p (λ q. q.stand ≡ None → p.held ≡ []) (λ e f. absurd (let g : Some (state_at p) ≡ None = f in cc)) (λ e f. none_held p.held e)
 
-seen_stands : {C : Type 0} (p : Position C) (s : Stand) → record (seen p) { stand = Some s } ≡ record p { stand = Some s }
+seen_stands : {C : Type 0} (p : Position C) (s : FileStateData) → record (with_state p) { stand = Some s } ≡ record p { stand = Some s }
 seen_stands p s = seen_by p (λ q. record q { stand = Some s } ≡ record p { stand = Some s }) (λ e. refl) (λ e. refl)
 
-stands_there : (p : Told) (s : Stand) → is_some (slice_get p.held 0) ≡ true → stand_at p ≡ s → GoesOn p (record p { stand = Some s })
+stands_there : (p : KnownPosition) (s : FileStateData) → is_some (slice_get p.held 0) ≡ true → state_at p ≡ s → GoesOn p (record p { stand = Some s })
 stands_there p s e is = record {
   input = refl;
   place = omega arith;
   failed = refl;
   keeps =
-      mapped (ahead p) _ (λ x. to_come (record p { stand = Some s }) ≡ Some x) (with_each (ahead p) _ (λ c at. (
+      mapped (bytes_ahead p) _ (λ x. units_ahead (record p { stand = Some s }) ≡ Some x) (with_each (bytes_ahead p) _ (λ c at. (
       let b = behind p c at in
-      let in_there : stand_in p.stand c.bytes ≡ s =
-      ap (λ (d : Coming). stand_in p.stand d.bytes) b.here ∙ same_stand p.stand p.held b.more (some_held p.held e) ∙ is in
+      let in_there : state_or_start p.stand c.bytes ≡ s =
+      ap (λ (d : Coming). state_or_start p.stand d.bytes) b.here ∙ same_stand p.stand p.held b.more (some_held p.held e) ∙ is in
       let same : units_from (Some s) p.place c ≡ units_from p.stand p.place c =
-      from_is (Some s) p.place c ∙ ap (λ x. units (closing p.place c) x p.place (window p.place c)) (sym in_there)
+      from_is (Some s) p.place c ∙ ap (λ x. units (closing_verdict p.place c) x p.place (window p.place c)) (sym in_there)
       ∙ sym (from_is p.stand p.place c) in
-      ap (option_map (λ x. named p.input (units_from (Some s) p.place x))) at ∙ ap (λ x. Some (named p.input x)) same)));
+      ap (option_map (λ x. with_input p.input (units_from (Some s) p.place x))) at ∙ ap (λ x. Some (with_input p.input x)) same)));
 }
 
-pub seen_goes_on : (p : Told) → GoesOn p (seen p)
-seen_goes_on p = seen_by p (GoesOn p) (λ e. stands_there p (stand_at p) e refl) (λ e. goes_on p)
+pub seen_goes_on : (p : KnownPosition) → GoesOn p (with_state p)
+seen_goes_on p = seen_by p (GoesOn p) (λ e. stands_there p (state_at p) e refl) (λ e. goes_on p)
 
 seen_same : {C : Type 0} (p : Position C)
-    → ((seen p).coming ≡ p.coming) × ((seen p).input ≡ p.input) × ((seen p).place ≡ p.place) × ((seen p).failed ≡ p.failed)
+    → ((with_state p).coming ≡ p.coming) × ((with_state p).input ≡ p.input) × ((with_state p).place ≡ p.place) × ((with_state p).failed ≡ p.failed)
 seen_same p =
     seen_by p (λ q. (q.coming ≡ p.coming) × (q.input ≡ p.input) × (q.place ≡ p.place) × (q.failed ≡ p.failed))
     (λ e. (refl, refl, refl, refl)) (λ e. (refl, refl, refl, refl))
 
 -- ---- the unit at the front of the bytes held
-pub nothing_held : {C : Type 0} (p m : Position C) → m ≡ seen p → m.stand ≡ None → FindsHeld p (Ok None) m
+pub nothing_held : {C : Type 0} (p m : Position C) → m ≡ with_state p → m.stand ≡ None → FindsHeld p (Ok None) m
 nothing_held p m is none =
     let empty : p.held ≡ [] = seen_none p (ap (λ q. q.stand) (sym is) ∙ none) in
-    (ap (unit_at (stand_at p)) empty ∙ none_in_nothing (stand_at p), is)
+    (ap (unit_at (state_at p)) empty ∙ none_in_nothing (state_at p), is)
 
 abbrev pub answers : Option ReadUnit → Result (Option ReadUnit) Reason
 answers unit = Ok unit
 
-module _ {C : Type 0} (p m : Position C) (at : Stage) (bytes : List ℕ) (is : m ≡ seen p) (stands : m.stand ≡ Some (stand_of at))
+module _ {C : Type 0} (p m : Position C) (at : FileState) (bytes : List ℕ) (is : m ≡ with_state p) (stands : m.stand ≡ Some (state_data_of at))
     (held : bytes ≡ m.held) where
-  there : stand_at p ≡ stand_of at
-  there = seen_stand p (stand_of at) (ap (λ q. q.stand) (sym is) ∙ stands)
+  there : state_at p ≡ state_data_of at
+  there = seen_stand p (state_data_of at) (ap (λ q. q.stand) (sym is) ∙ stands)
 
-  same_unit : unit_at (stand_of at) bytes ≡ unit_at (stand_at p) p.held
+  same_unit : unit_at (state_data_of at) bytes ≡ unit_at (state_at p) p.held
   same_unit = (λ i. unit_at (sym there i) ((held ∙ ap (λ q. q.held) is ∙ seen_held p) i))
 
-  pub found_held : (answer : Option ReadUnit) (next : Stand) → Finds (unit_at (stand_of at) bytes) (Ok answer) next
-      → (answers answer ≡ answers None → next ≡ stand_of at) → FindsHeld p (Ok answer) (record m { stand = Some next })
+  -- A unit that is found at the front is the unit held.
+  pub found_held : (answer : Option ReadUnit) (next : FileStateData) → Finds (unit_at (state_data_of at) bytes) (Ok answer) next
+      → (answers answer ≡ answers None → next ≡ state_data_of at) → FindsHeld p (Ok answer) (record m { stand = Some next })
   found_held None next h unmoved =
       (sym same_unit ∙ h, (λ i. record m { stand = Some (unmoved refl i) }) ∙ (λ i. record m { stand = sym stands i }) ∙ is)
   found_held (Some u) next h unmoved = (next, sym same_unit ∙ h, (λ i. record (is i) { stand = Some next }) ∙ seen_stands p next)
 
-  pub refused_held : (reason : Reason) (next : Stand) (q : Position C) → Finds (unit_at (stand_of at) bytes) (Err reason) next
+  -- A unit that can't be read is refused at the front.
+  pub refused_held : (reason : Reason) (next : FileStateData) (q : Position C) → Finds (unit_at (state_data_of at) bytes) (Err reason) next
       → FindsHeld p (Err reason) q
   refused_held reason next q (inl e) = inl e
   refused_held reason next q (inr h) = inr (h.0, sym same_unit ∙ h.1)
 
+-- A unit that is returned was found.
 pub some_found : {C : Type 0} (m q : Position C) (u : ReadUnit) (answer : Option ReadUnit) → answer ≡ Some u → FindsHeld m (Ok answer) q
     → FindsHeld m (Ok (Some u)) q
 some_found m q u answer is h = subst (λ (o : Option ReadUnit). FindsHeld m (Ok o) q) is h
 
+-- Where no unit is returned, none was found.
 pub none_found : {C : Type 0} (m q : Position C) (answer : Option ReadUnit) → answer ≡ None → FindsHeld m (Ok answer) q
     → FindsHeld m (Ok None) q
 none_found m q answer is h = subst (λ (o : Option ReadUnit). FindsHeld m (Ok o) q) is h
 
-seen_stand_at : {C : Type 0} (p : Position C) → stand_at (seen p) ≡ stand_at p
-seen_stand_at p = seen_by p (λ q. stand_at q ≡ stand_at p) (λ e. refl) (λ e. refl)
+seen_stand_at : {C : Type 0} (p : Position C) → state_at (with_state p) ≡ state_at p
+seen_stand_at p = seen_by p (λ q. state_at q ≡ state_at p) (λ e. refl) (λ e. refl)
 
-pub none_goes_on : (m q : Told) → FindsHeld m (Ok None) q → GoesOn m q
-none_goes_on m q h = subst (λ (x : Told). GoesOn m x) (sym h.1) (seen_goes_on m)
+-- Where no unit was found, the units ahead stay as they are.
+pub none_goes_on : (m q : KnownPosition) → FindsHeld m (Ok None) q → GoesOn m q
+none_goes_on m q h = subst (λ (x : KnownPosition). GoesOn m x) (sym h.1) (seen_goes_on m)
 
 module _ {C : Type 0} (m q : Position C) (h : FindsHeld m (Ok None) q) where
-  pub none_there : unit_at (stand_at q) q.held ≡ None
-  none_there = (λ i. unit_at (stand_at (h.1 i)) ((h.1 i).held)) ∙ (λ i. unit_at (seen_stand_at m i) (seen_held m i)) ∙ h.0
+  -- Where no unit was found, none is whole in the bytes held.
+  pub none_there : unit_at (state_at q) q.held ≡ None
+  none_there = (λ i. unit_at (state_at (h.1 i)) ((h.1 i).held)) ∙ (λ i. unit_at (seen_stand_at m i) (seen_held m i)) ∙ h.0
 
+  -- Where no unit was found, the position stays as it is.
   pub none_same : (q.coming ≡ m.coming) × (q.input ≡ m.input) × (q.place ≡ m.place) × (q.failed ≡ m.failed)
   none_same =
       let same = seen_same m in
@@ -155,71 +162,76 @@ module _ {C : Type 0} (m q : Position C) (h : FindsHeld m (Ok None) q) where
   pub none_known : q.stand ≡ None → q.held ≡ []
   none_known e = ap (λ x. x.held) h.1 ∙ seen_held m ∙ seen_none m (ap (λ x. x.stand) (sym h.1) ∙ e)
 
--- where no unit stood whole in the bytes held, none does in these once more are held
-none_among : (stand : Option Stand) (held more : List ℕ) → (stand ≡ None → held ≡ []) → unit_at (stand_in stand held) held ≡ None
-    → unit_at (stand_in stand more) held ≡ None
-none_among None held more empty none = ap (unit_at (stand_in None more)) (empty refl) ∙ none_in_nothing (stand_in None more)
+-- if no unit was whole in the bytes held, none is in these after more are held
+none_among : (stand : Option FileStateData) (held more : List ℕ) → (stand ≡ None → held ≡ []) → unit_at (state_or_start stand held) held ≡ None
+    → unit_at (state_or_start stand more) held ≡ None
+none_among None held more empty none = ap (unit_at (state_or_start None more)) (empty refl) ∙ none_in_nothing (state_or_start None more)
 none_among (Some s) held more empty none = none
 
+-- No unit is whole in the bytes that were searched, whatever was read after them.
 pub none_still : {C : Type 0} (m q r : Position C) → FindsHeld m (Ok None) q → r.stand ≡ q.stand → take (length q.held) r.held ≡ q.held
-    → unit_at (stand_at r) (take (length q.held) r.held) ≡ None
+    → unit_at (state_at r) (take (length q.held) r.held) ≡ None
 none_still m q r h stand kept =
-    (λ i. unit_at (stand_in (stand i) r.held) (kept i)) ∙ none_among q.stand q.held r.held (none_known m q h) (none_there m q h)
+    (λ i. unit_at (state_or_start (stand i) r.held) (kept i)) ∙ none_among q.stand q.held r.held (none_known m q h) (none_there m q h)
 
--- what is found doesn't rest on what is to come
-telling_seen : {R : Type 0} (p : Position R) (c : Coming) → telling (seen p) c ≡ seen (telling p c)
+-- the finding doesn't depend on the rest
+telling_seen : {R : Type 0} (p : Position R) (c : Coming) → with_coming (with_state p) c ≡ with_state (with_coming p c)
 telling_seen p c =
     elim (is_some (slice_get p.held 0)) as
-    (λ t. telling (cond t (record p { stand = Some (stand_at p) }) p) c ≡ cond t (record (telling p c) { stand = Some (stand_at p) })
-    (telling p c)) [ true ↦ refl | false ↦ refl ]
+    (λ t. with_coming (cond t (record p { stand = Some (state_at p) }) p) c ≡ cond t (record (with_coming p c) { stand = Some (state_at p) })
+    (with_coming p c)) [ true ↦ refl | false ↦ refl ]
 
+-- A unit is found whatever the reader gives.
 pub telling_found : {R : Type 0} (p q : Position R) (answer : Result (Option ReadUnit) Reason) (c : Coming) → FindsHeld p answer q
-    → FindsHeld (telling p c) answer (telling q c)
-telling_found p q (Ok None) c h = (h.0, ap (λ x. telling x c) h.1 ∙ telling_seen p c)
-telling_found p q (Ok (Some u)) c h = (h.0, h.1, ap (λ x. telling x c) h.2)
+    → FindsHeld (with_coming p c) answer (with_coming q c)
+telling_found p q (Ok None) c h = (h.0, ap (λ x. with_coming x c) h.1 ∙ telling_seen p c)
+telling_found p q (Ok (Some u)) c h = (h.0, h.1, ap (λ x. with_coming x c) h.2)
 telling_found p q (Err reason) c h = h
 
 -- ---- one unit further
--- a fault of this reason, where what was to come was refused for it
-pub refuses : (m : Told) (reason : Reason) (fault : Fault) → fault ≡ fault_at m.input m.place reason
-    → (reason ≡ Memory) ⊎ IfSome (to_come m) (λ s. s ≡ refused (fault_of m.input (verdict_at m.place reason)))
-    → (fault ≡ memory_fault) ⊎ IfSome (to_come m) (λ s. s ≡ refused fault)
+-- a fault of this reason, if the rest was refused for it
+pub refuses : (m : KnownPosition) (reason : Reason) (fault : Fault) → fault ≡ fault_at m.input m.place reason
+    → (reason ≡ Memory) ⊎ IfSome (units_ahead m) (λ s. s ≡ end_refused (fault_of m.input (verdict_at m.place reason)))
+    → (fault ≡ memory_fault) ⊎ IfSome (units_ahead m) (λ s. s ≡ end_refused fault)
 refuses m reason fault is (inl e) = inl (is ∙ ap (fault_at m.input m.place) e)
 refuses m reason fault is (inr h) =
-    ⊎_elim (λ k. inl (is ∙ k)) (λ k. inr (weaker (to_come m) _ _ (λ s e. e ∙ ap refused (sym (is ∙ k))) h))
+    ⊎_elim (λ k. inl (is ∙ k)) (λ k. inr (weaker (units_ahead m) _ _ (λ s e. e ∙ ap end_refused (sym (is ∙ k))) h))
     (fault_is m.input m.place reason)
 
-pub held_refuses : (m q : Told) (reason : Reason) (fault : Fault) → m.place + length m.held < 2 ^ 62 → FindsHeld m (Err reason) q
-    → fault ≡ fault_at m.input m.place reason → (fault ≡ memory_fault) ⊎ IfSome (to_come m) (λ s. s ≡ refused fault)
+-- A unit that is refused at the front refuses the units ahead.
+pub held_refuses : (m q : KnownPosition) (reason : Reason) (fault : Fault) → m.place + length m.held < 2 ^ 62 → FindsHeld m (Err reason) q
+    → fault ≡ fault_at m.input m.place reason → (fault ≡ memory_fault) ⊎ IfSome (units_ahead m) (λ s. s ≡ end_refused fault)
 held_refuses m q reason fault bound (inl e) is = refuses m reason fault is (inl e)
 held_refuses m q reason fault bound (inr h) is =
     refuses m reason fault is (inr (gone_refused m (unit h.0 (Err reason)) h.1 bound reason refl))
 
--- a unit was gone over, which gave this version, or none
-abbrev pub GoesOver : Told → Option Placed → Told → Type 0
-GoesOver m None q = Keeps (to_come m) (to_come q)
-GoesOver m (Some u) q = IfSome (to_come m) (λ s. (t : Still Placed Fault) × (s ≡ front u t) × (to_come q ≡ Some t))
+-- a unit was passed, which gave this version, or none
+abbrev pub GoesOver : KnownPosition → Option Placed → KnownPosition → Type 0
+GoesOver m None q = Keeps (units_ahead m) (units_ahead q)
+GoesOver m (Some u) q = IfSome (units_ahead m) (λ s. (t : Still Placed Fault) × (s ≡ front u t) × (units_ahead q ≡ Some t))
 
-goes_over : (m : Told) (size : ℕ) (version : Option VersionData) (next : Stand)
-    → unit_at (stand_at m) m.held ≡ Some (unit size (Ok (version, next))) → m.place + length m.held < 2 ^ 62
-    → GoesOver m (option_map (placed m.place) version) (gone_over m size next)
+goes_over : (m : KnownPosition) (size : ℕ) (version : Option VersionData) (next : FileStateData)
+    → unit_at (state_at m) m.held ≡ Some (unit size (Ok (version, next))) → m.place + length m.held < 2 ^ 62
+    → GoesOver m (option_map (new_placed m.place) version) (gone_over m size next)
 goes_over m size None next e bound = gone_passed m (unit size (Ok (None, next))) e bound next refl
 goes_over m size (Some v) next e bound = gone_gave m (unit size (Ok (Some v, next))) e bound v next refl
 
-pub held_goes_over : (m q r : Told) (u : ReadUnit) (given : Option Placed) → m.place + length m.held < 2 ^ 62 → FindsHeld m (Ok (Some u)) q
-    → given ≡ option_map (placed q.place) u.version
+-- A unit that is found at the front is gone over.
+pub held_goes_over : (m q r : KnownPosition) (u : ReadUnit) (given : Option Placed) → m.place + length m.held < 2 ^ 62 → FindsHeld m (Ok (Some u)) q
+    → given ≡ option_map (new_placed q.place) u.version
     → r ≡ record q { place = q.place + u.size; held = drop u.size q.held } → GoesOver m given r
 held_goes_over m q r u given bound h is gone =
     let same : r ≡ gone_over m u.size h.0 =
     gone ∙ (λ i. record (h.2 i) { place = (h.2 i).place + u.size; held = drop u.size (h.2 i).held }) in
-    subst (λ (x : Told). GoesOver m given x) (sym same)
+    subst (λ (x : KnownPosition). GoesOver m given x) (sym same)
     (subst (λ (g : Option Placed). GoesOver m g (gone_over m u.size h.0))
-    (sym (is ∙ ap (λ (x : Told). option_map (placed x.place) u.version) h.2)) (goes_over m u.size u.version h.0 h.1 bound))
+    (sym (is ∙ ap (λ (x : KnownPosition). option_map (new_placed x.place) u.version) h.2)) (goes_over m u.size u.version h.0 h.1 bound))
 
+-- A unit that is found has a byte at least, and no more than are held.
 pub held_size : {C : Type 0} (m q : Position C) (u : ReadUnit) → FindsHeld m (Ok (Some u)) q
     → (1 ≤ u.size) × (u.size ≤ length q.held) × (q.place ≡ m.place) × (q.input ≡ m.input) × (q.failed ≡ m.failed)
 held_size m q u h =
-    let sized = unit_sized (stand_at m) m.held (unit u.size (Ok (u.version, h.0))) h.1 in (
+    let sized = unit_sized (state_at m) m.held (unit u.size (Ok (u.version, h.0))) h.1 in (
       sized.some,
       subst (λ xs. u.size ≤ length xs) (ap (λ x. x.held) (sym h.2)) sized.within,
       ap (λ x. x.place) h.2,
@@ -227,76 +239,78 @@ held_size m q u h =
       ap (λ x. x.failed) h.2,
     )
 
--- why it can't be read
+-- why a unit can't be read
 pub refused_line : {C : Type 0} (p : Position C) (reason : Reason) → p.stand ≡ Some InOpl
     → Finds (line_unit (split_first is_line_end p.held)) (Err reason) InOpl → FindsHeld p (Err reason) p
 unfolding unit_at
 refused_line p reason in_opl (inl e) = inl e
-refused_line p reason in_opl (inr h) = inr (h.0, (λ i. unit_at (stand_in (in_opl i) p.held) p.held) ∙ h.1)
+refused_line p reason in_opl (inr h) = inr (h.0, (λ i. unit_at (state_or_start (in_opl i) p.held) p.held) ∙ h.1)
 
--- ---- where no call was refused
-pub come_still : (p : Told) → p.failed ≡ false → still_to_come p ≡ to_come p
-come_still p fine = ap (λ b. cond b (Some (refused (failed_fault p.input))) (to_come p)) fine
+-- ---- if no call was refused
+pub come_still : (p : KnownPosition) → p.failed ≡ false → units_or_failed p ≡ units_ahead p
+come_still p fine = ap (λ b. cond b (Some (end_refused (failed_fault p.input))) (units_ahead p)) fine
 
-come_failed : (p : Told) → p.failed ≡ true → still_to_come p ≡ Some (refused (failed_fault p.input))
-come_failed p bad = ap (λ b. cond b (Some (refused (failed_fault p.input))) (to_come p)) bad
+come_failed : (p : KnownPosition) → p.failed ≡ true → units_or_failed p ≡ Some (end_refused (failed_fault p.input))
+come_failed p bad = ap (λ b. cond b (Some (end_refused (failed_fault p.input))) (units_ahead p)) bad
 
-pub still_step : (p q : Told) (r : Result (Option Placed) Fault) → p.failed ≡ false → q.failed ≡ false → Step (to_come p) r (to_come q)
-    → Step (still_to_come p) r (still_to_come q)
+pub still_step : (p q : KnownPosition) (r : Result (Option Placed) Fault) → p.failed ≡ false → q.failed ≡ false → SourceStep (units_ahead p) r (units_ahead q)
+    → SourceStep (units_or_failed p) r (units_or_failed q)
 still_step p q r fine good h =
-    subst (λ (o : Option (Still Placed Fault)). Step o r (still_to_come q)) (sym (come_still p fine))
-    (subst (λ (o : Option (Still Placed Fault)). Step (to_come p) r o) (sym (come_still q good)) h)
+    subst (λ (o : Option (Still Placed Fault)). SourceStep o r (units_or_failed q)) (sym (come_still p fine))
+    (subst (λ (o : Option (Still Placed Fault)). SourceStep (units_ahead p) r o) (sym (come_still q good)) h)
 
--- a version was given, or a unit without one was gone over
-pub over_gives : (m q : Told) (u : Placed) → m.failed ≡ false → q.failed ≡ m.failed → GoesOver m (Some u) q
-    → Step (still_to_come m) (Ok (Some u)) (still_to_come q)
+-- a version was given, or a unit without one was passed
+pub over_gives : (m q : KnownPosition) (u : Placed) → m.failed ≡ false → q.failed ≡ m.failed → GoesOver m (Some u) q
+    → SourceStep (units_or_failed m) (Ok (Some u)) (units_or_failed q)
 over_gives m q u fine same h = still_step m q (Ok (Some u)) fine (same ∙ fine) h
 
-pub over_passes : (m q : Told) → q.input ≡ m.input → m.place ≤ q.place → q.failed ≡ m.failed → GoesOver m None q → GoesOn m q
+-- To go over a unit without a version is to go on.
+pub over_passes : (m q : KnownPosition) → q.input ≡ m.input → m.place ≤ q.place → q.failed ≡ m.failed → GoesOver m None q → GoesOn m q
 over_passes m q input place failed h = record { input = input; place = place; failed = failed; keeps = h }
 
 -- the reading was refused, now and ever after
-pub refusal_step : (m q : Told) (fault : Fault) → m.failed ≡ false → q.failed ≡ true
-    → (fault ≡ memory_fault) ⊎ IfSome (to_come m) (λ s. s ≡ refused fault) →
-    Step {A = Placed} (still_to_come m) (Err fault) (still_to_come q)
+pub refusal_step : (m q : KnownPosition) (fault : Fault) → m.failed ≡ false → q.failed ≡ true
+    → (fault ≡ memory_fault) ⊎ IfSome (units_ahead m) (λ s. s ≡ end_refused fault) →
+    SourceStep {A = Placed} (units_or_failed m) (Err fault) (units_or_failed q)
 refusal_step m q fault fine failed h =
-    subst (λ (o : Option (Still Placed Fault)). Step {A = Placed} o (Err fault) (still_to_come q)) (sym (come_still m fine))
+    subst (λ (o : Option (Still Placed Fault)). SourceStep {A = Placed} o (Err fault) (units_or_failed q)) (sym (come_still m fine))
     (h, (q.input, come_failed q failed))
 
-pub keeps_still : (p m : Told) → GoesOn p m → p.failed ≡ false → Keeps (still_to_come p) (still_to_come m)
+-- Where a position that wasn't refused goes on, its units stay known.
+pub keeps_still : (p m : KnownPosition) → GoesOn p m → p.failed ≡ false → Keeps (units_or_failed p) (units_or_failed m)
 keeps_still p m on fine =
-    subst (λ (o : Option (Still Placed Fault)). Keeps o (still_to_come m)) (sym (come_still p fine))
-    (subst (λ (o : Option (Still Placed Fault)). Keeps (to_come p) o) (sym (come_still m (on.failed ∙ fine))) on.keeps)
+    subst (λ (o : Option (Still Placed Fault)). Keeps o (units_or_failed m)) (sym (come_still p fine))
+    (subst (λ (o : Option (Still Placed Fault)). Keeps (units_ahead p) o) (sym (come_still m (on.failed ∙ fine))) on.keeps)
 
 -- ---- the last bytes of an ended input
-last_nothing : (stand : Stand) (bytes : List ℕ) (version : Option VersionData) → without_stand (last_at stand bytes) ≡ Ok version
-    → without_stand (last_at stand []) ≡ Ok None
+last_nothing : (stand : FileStateData) (bytes : List ℕ) (version : Option VersionData) → version_of_unit (last_at stand bytes) ≡ Ok version
+    → version_of_unit (last_at stand []) ≡ Ok None
 unfolding last_at
 last_nothing InOpl bytes version e = refl
 last_nothing BeforeHeader bytes version e = cc
 last_nothing (InSegment s) bytes version e = cc
 last_nothing BehindEnd bytes version e = refl
 
-opl_nothing : without_stand (last_at InOpl []) ≡ Ok None
+opl_nothing : version_of_unit (last_at InOpl []) ≡ Ok None
 unfolding last_at
 opl_nothing = refl
 
-stand_nothing : (stand : Option Stand) (held : List ℕ) (version : Option VersionData)
-    → without_stand (last_at (stand_in stand held) held) ≡ Ok version → without_stand (last_at (stand_in stand []) []) ≡ Ok None
+stand_nothing : (stand : Option FileStateData) (held : List ℕ) (version : Option VersionData)
+    → version_of_unit (last_at (state_or_start stand held) held) ≡ Ok version → version_of_unit (last_at (state_or_start stand []) []) ≡ Ok None
 stand_nothing None held version e = opl_nothing
 stand_nothing (Some s) held version e = last_nothing s held version e
 
--- what is found by its version alone
-found_by : (place : ℕ) (found : Found) (version : Option VersionData) → without_stand found ≡ Ok version
-    → found_then place found (λ next. whole) ≡ found_then place (Ok (version, InOpl)) (λ next. whole)
-found_by place (Ok (None, next)) version e = let f : None ≡ version = cc in ap (λ v. found_then place (Ok (v, InOpl)) (λ next. whole)) f
-found_by place (Ok (Some v, next)) version e = let f : Some v ≡ version = cc in ap (λ w. found_then place (Ok (w, InOpl)) (λ next. whole)) f
+-- the finding by its version only
+found_by : (place : ℕ) (found : UnitResult) (version : Option VersionData) → version_of_unit found ≡ Ok version
+    → found_then place found (λ next. end_whole) ≡ found_then place (Ok (version, InOpl)) (λ next. end_whole)
+found_by place (Ok (None, next)) version e = let f : None ≡ version = cc in ap (λ v. found_then place (Ok (v, InOpl)) (λ next. end_whole)) f
+found_by place (Ok (Some v, next)) version e = let f : Some v ≡ version = cc in ap (λ w. found_then place (Ok (w, InOpl)) (λ next. end_whole)) f
 found_by place (Err reason) version e = absurd (let f : Err reason ≡ Ok version = e in cc)
 
-refused_by : (place : ℕ) (found : Found) (reason : Reason) → without_stand found ≡ Err reason
-    → found_then place found (λ next. whole) ≡ refused (verdict_at place reason)
+refused_by : (place : ℕ) (found : UnitResult) (reason : Reason) → version_of_unit found ≡ Err reason
+    → found_then place found (λ next. end_whole) ≡ end_refused (verdict_at place reason)
 refused_by place (Ok found) reason e = absurd (let f : Ok found.0 ≡ Err reason = e in cc)
-refused_by place (Err other) reason e = let f : other ≡ reason = cc in ap (λ r. refused (verdict_at place r)) f
+refused_by place (Err other) reason e = let f : other ≡ reason = cc in ap (λ r. end_refused (verdict_at place r)) f
 
 nil_of : (xs : List ℕ) → length xs ≡ 0 → xs ≡ []
 nil_of [] e = refl
@@ -306,16 +320,16 @@ drop_all : (xs : List ℕ) → drop (length xs) xs ≡ []
 drop_all [] = refl
 drop_all (x ∷ xs) = drop_all xs
 
-module _ (m : Told) (nothing : unit_at (stand_at m) m.held ≡ None) (bound : m.place + length m.held < 2 ^ 62) (ended : m.ended ≡ true) where
-  abbrev last_found : Found
-  last_found = last_at (stand_at m) m.held
+module _ (m : KnownPosition) (nothing : unit_at (state_at m) m.held ≡ None) (bound : m.place + length m.held < 2 ^ 62) (ended : m.ended ≡ true) where
+  abbrev last_found : UnitResult
+  last_found = last_at (state_at m) m.held
 
-  comes : (version : Option VersionData) → without_stand last_found ≡ Ok version
-      → to_come m ≡ Some (named m.input (found_then m.place (Ok (version, InOpl)) (λ next. whole)))
-  comes version e = at_the_end m nothing bound ended ∙ ap (λ s. Some (named m.input s)) (found_by m.place last_found version e)
+  comes : (version : Option VersionData) → version_of_unit last_found ≡ Ok version
+      → units_ahead m ≡ Some (with_input m.input (found_then m.place (Ok (version, InOpl)) (λ next. end_whole)))
+  comes version e = at_the_end m nothing bound ended ∙ ap (λ s. Some (with_input m.input s)) (found_by m.place last_found version e)
 
   -- a version has bytes
-  last_some : (v : VersionData) → without_stand last_found ≡ Ok (Some v) → 0 < length m.held
+  last_some : (v : VersionData) → version_of_unit last_found ≡ Ok (Some v) → 0 < length m.held
   last_some v e =
       elim (nat_lt 0 (length m.held)) as (λ t. nat_lt 0 (length m.held) ≡ t → 0 < length m.held) [
         | true ↦ λ is. grind (arith, nat_tests)
@@ -323,64 +337,68 @@ module _ (m : Told) (nothing : unit_at (stand_at m) m.held ≡ None) (bound : m.
             let empty : length m.held ≡ 0 = grind (arith, nat_tests) in
             let is_nil : m.held ≡ [] = nil_of m.held empty in
             let none : Ok (Some v) ≡ Ok None =
-            sym e ∙ (λ i. without_stand (last_at (stand_in m.stand (is_nil i)) (is_nil i))) ∙ stand_nothing m.stand m.held (Some v) e in
+            sym e ∙ (λ i. version_of_unit (last_at (state_or_start m.stand (is_nil i)) (is_nil i))) ∙ stand_nothing m.stand m.held (Some v) e in
             absurd cc)
       ] refl
 
-  -- behind them nothing is to come
-  abbrev behind_last : Told
+  -- nothing comes after them
+  abbrev behind_last : KnownPosition
   behind_last = record m { place = m.place + length m.held; held = drop (length m.held) m.held }
 
-  no_more : (version : Option VersionData) → without_stand last_found ≡ Ok version → to_come behind_last ≡ Some whole
+  no_more : (version : Option VersionData) → version_of_unit last_found ≡ Ok version → units_ahead behind_last ≡ Some end_whole
   no_more version e =
-      let q : Told = record m { place = m.place + length m.held; held = [] } in
+      let q : KnownPosition = record m { place = m.place + length m.held; held = [] } in
       let same : behind_last ≡ q = (λ i. record m { place = m.place + length m.held; held = drop_all m.held i }) in
-      let found : without_stand (last_at (stand_at q) []) ≡ Ok None = stand_nothing m.stand m.held version e in
-      ap to_come same ∙ at_the_end q (none_in_nothing (stand_at q)) (omega (arith, bound)) ended
-      ∙ ap (λ s. Some (named m.input s)) (found_by q.place (last_at (stand_at q) []) None found)
+      let found : version_of_unit (last_at (state_at q) []) ≡ Ok None = stand_nothing m.stand m.held version e in
+      ap units_ahead same ∙ at_the_end q (none_in_nothing (state_at q)) (omega (arith, bound)) ended
+      ∙ ap (λ s. Some (with_input m.input s)) (found_by q.place (last_at (state_at q) []) None found)
 
-  given_last : (version : Option VersionData) → without_stand last_found ≡ Ok version
-      → Step (to_come m) (Ok (option_map (placed m.place) version)) (to_come behind_last)
-  given_last None e = (subst (λ (o : Option (Still Placed Fault)). IfSome o (λ s. s ≡ whole)) (sym (comes None e)) refl, no_more None e)
+  given_last : (version : Option VersionData) → version_of_unit last_found ≡ Ok version
+      → SourceStep (units_ahead m) (Ok (option_map (new_placed m.place) version)) (units_ahead behind_last)
+  given_last None e = (subst (λ (o : Option (Still Placed Fault)). IfSome o (λ s. s ≡ end_whole)) (sym (comes None e)) refl, no_more None e)
   given_last (Some v) e =
       subst (λ (o : Option (Still Placed Fault)). IfSome o
-      (λ s. (t : Still Placed Fault) × (s ≡ front (placed m.place v) t) × (to_come behind_last ≡ Some t))) (sym (comes (Some v) e)) (
-        whole,
+      (λ s. (t : Still Placed Fault) × (s ≡ front (new_placed m.place v) t) × (units_ahead behind_last ≡ Some t))) (sym (comes (Some v) e)) (
+        end_whole,
         refl,
         no_more (Some v) e,
       )
 
-  pub last_gives : m.failed ≡ false → (version : Option VersionData) (size : ℕ) (given : Option Placed) (q : Told)
-      → FindsLast last_found (Ok version) → size ≡ length m.held → given ≡ option_map (placed m.place) version
-      → q ≡ record m { place = m.place + size; held = drop size m.held } → Step (still_to_come m) (Ok given) (still_to_come q)
+  -- The last bytes of a file are the last step of the reading.
+  pub last_gives : m.failed ≡ false → (version : Option VersionData) (size : ℕ) (given : Option Placed) (q : KnownPosition)
+      → FindsLast last_found (Ok version) → size ≡ length m.held → given ≡ option_map (new_placed m.place) version
+      → q ≡ record m { place = m.place + size; held = drop size m.held } → SourceStep (units_or_failed m) (Ok given) (units_or_failed q)
   last_gives fine version size given q e long is gone =
       let same : q ≡ behind_last = gone ∙ (λ i. record m { place = m.place + long i; held = drop (long i) m.held }) in
-      subst (λ (x : Told). Step (still_to_come m) (Ok given) (still_to_come x)) (sym same)
-      (subst (λ (g : Option Placed). Step (still_to_come m) (Ok g) (still_to_come behind_last)) (sym is)
-      (still_step m behind_last (Ok (option_map (placed m.place) version)) fine fine (given_last version e)))
+      subst (λ (x : KnownPosition). SourceStep (units_or_failed m) (Ok given) (units_or_failed x)) (sym same)
+      (subst (λ (g : Option Placed). SourceStep (units_or_failed m) (Ok g) (units_or_failed behind_last)) (sym is)
+      (still_step m behind_last (Ok (option_map (new_placed m.place) version)) fine fine (given_last version e)))
 
+  -- The last bytes that hold a version are one at least.
   pub last_further : (version : Option VersionData) (size : ℕ) (given : Option Placed) → FindsLast last_found (Ok version)
-      → size ≡ length m.held → given ≡ option_map (placed m.place) version → is_some given ≡ true → 0 < size
+      → size ≡ length m.held → given ≡ option_map (new_placed m.place) version → is_some given ≡ true → 0 < size
   last_further None size given e long is some = absurd (false≢true (sym (ap is_some is) ∙ some))
   last_further (Some v) size given e long is some = omega (arith, long, last_some v e)
 
+  -- Last bytes that are no unit refuse the units ahead.
   pub last_refuses : (reason : Reason) (fault : Fault) → FindsLast last_found (Err reason) → fault ≡ fault_at m.input m.place reason
-      → (fault ≡ memory_fault) ⊎ IfSome (to_come m) (λ s. s ≡ refused fault)
+      → (fault ≡ memory_fault) ⊎ IfSome (units_ahead m) (λ s. s ≡ end_refused fault)
   last_refuses reason fault (inl e) is = refuses m reason fault is (inl e)
   last_refuses reason fault (inr e) is =
-      let at : to_come m ≡ Some (refused (fault_of m.input (verdict_at m.place reason))) =
-      at_the_end m nothing bound ended ∙ ap (λ s. Some (named m.input s)) (refused_by m.place last_found reason e) in
+      let at : units_ahead m ≡ Some (end_refused (fault_of m.input (verdict_at m.place reason))) =
+      at_the_end m nothing bound ended ∙ ap (λ s. Some (with_input m.input s)) (refused_by m.place last_found reason e) in
       refuses m reason fault is
-      (inr (subst (λ (o : Option (Still Placed Fault)). IfSome o (λ s. s ≡ refused (fault_of m.input (verdict_at m.place reason)))) (sym at)
+      (inr (subst (λ (o : Option (Still Placed Fault)). IfSome o (λ s. s ≡ end_refused (fault_of m.input (verdict_at m.place reason)))) (sym at)
       refl))
 
-pub failed_already : (p : Told) (fault : Fault) → p.failed ≡ true → fault ≡ failed_fault p.input
-    → Step {A = Placed} (still_to_come p) (Err fault) (still_to_come p)
+-- A reading that was refused is refused again as Failed.
+pub failed_already : (p : KnownPosition) (fault : Fault) → p.failed ≡ true → fault ≡ failed_fault p.input
+    → SourceStep {A = Placed} (units_or_failed p) (Err fault) (units_or_failed p)
 failed_already p fault bad is = (
-  inr (subst (λ (o : Option (Still Placed Fault)). IfSome o (λ s. s ≡ refused fault)) (sym (come_failed p bad)) (ap refused (sym is))),
+  inr (subst (λ (o : Option (Still Placed Fault)). IfSome o (λ s. s ≡ end_refused fault)) (sym (come_failed p bad)) (ap end_refused (sym is))),
   (p.input, come_failed p bad),
 )
 
 -- before the first byte nothing is held
-pub nothing_read : {C : Type 0} (p : Position C) → p.stand ≡ None → p.held ≡ [] → without_stand (last_at (stand_at p) p.held) ≡ Ok None
-nothing_read p none empty = (λ i. without_stand (last_at (stand_in (none i) (empty i)) (empty i))) ∙ opl_nothing
+pub nothing_read : {C : Type 0} (p : Position C) → p.stand ≡ None → p.held ≡ [] → version_of_unit (last_at (state_at p) p.held) ≡ Ok None
+nothing_read p none empty = (λ i. version_of_unit (last_at (state_or_start (none i) (empty i)) (empty i))) ∙ opl_nothing

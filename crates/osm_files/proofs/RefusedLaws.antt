@@ -1,4 +1,4 @@
--- What a refused source gives: the key groups before the last one that began before the fault.
+-- The versions of a refused source: the key groups before the last one that began before the fault.
 use Rattle.std.proofs.Common.{◌≡◌, ℕ, ◌+◌, ◌-◌, ◌≤◌, Bool, true, false, ◌||◌, ◌&&◌, cond, List, [], ◌∷◌, ◌++◌, length, filter, slice_get}
 use Rattle.std.proofs.Common.{refl, ap, sym, ◌∙◌, arith, Option, Some, None, option_map, append-nil, append_assoc, nat_lt}
 use Rattle.std.proofs.lemmas.Bool.{false≢true, and_right, le-ltb, lt-ltb}
@@ -15,12 +15,12 @@ use Rattle.osm_model.specs.Order.{key_cmp, key_cmp_total, version_cmp}
 use Rattle.osm_model.proofs.VersionLaws.{version_cmp-IsAntisymmetric}
 use Rattle.osm_files.specs.declared.fault.Fault.{Fault}
 use Rattle.osm_files.specs.declared.reason.Reason.TheVariants.{Unsorted}
-use Rattle.osm_files.specs.Groups.{IsGroup, ascending, given_at, groups, last_group, opened_file, sorted_source, versions_then}
+use Rattle.osm_files.specs.Groups.{IsGroup, to_ascending, given_at, groups, last_group, new_source, sorted_source, versions_then}
 use Rattle.osm_files.specs.Input.{Coming}
-use Rattle.osm_files.specs.Position.{fault_of, telling, units_from}
+use Rattle.osm_files.specs.Position.{fault_of, with_coming, units_from}
 use Rattle.osm_files.specs.SourceLaws.{FaultyInputGivesTheGroupsBefore, RefusedSourceGivesTheGroupsBefore, groups_before}
 use Rattle.osm_files.specs.SourceLaws.{groups_before_last, input_verdict}
-use Rattle.osm_files.specs.Stream.{Placed, Still, Verdict, refused, verdict_at}
+use Rattle.osm_files.specs.Stream.{Placed, Still, Verdict, end_refused, verdict_at}
 use Rattle.osm_files.specs.Verdict.{is_below, is_below_last, sorted_verdict, versions_of}
 use Rattle.osm_files.proofs.GroupLaws.{ascending_is, group_joined, has, has_ascending}
 use Rattle.osm_files.proofs.HoldLaws.{below_first, members_are, source_refusal}
@@ -94,7 +94,7 @@ module _ (v first : VersionData) (others : List VersionData) (group : IsGroup fi
         | false ↦ λ e. and_right (is_below_last v (first ∷ others)) false refl
       ] refl
 
-  -- a group is given where versions with greater keys come after it
+  -- a group is given if versions with greater keys come after it
   group_given : (next : VersionData) (later : List VersionData) → key_cmp first next ≡ Less
       → is_gt (key_cmp next (last_of next later)) ≡ false
       → has v (first ∷ others) || is_given v (next ∷ later) ≡ is_given v ((first ∷ others) ++ next ∷ later)
@@ -128,7 +128,7 @@ module _ (fault : Verdict) where
       ∙ none_early (u.place + 1) us refusal h.1 (omega (arith, le, h.0))
 
   module _ (close : Option Verdict) where
-    -- the units from this place on meet the fault, where this version is before them
+    -- the units from this offset on meet the fault, if this version is before them
     abbrev Meets : Option VersionData → ℕ → List Placed → Type 0
     Meets before from us = Follow from us close × (sorted_verdict close before us ≡ Some fault)
 
@@ -179,7 +179,7 @@ module _ (fault : Verdict) where
               ap P on.0 ∙ upto key_cmp_total v u.version (last_of u.version (early us)) (not_below v u.version e) up)
         ] refl
 
-    -- ---- what the groups give
+    -- ---- the versions that the groups give
     module _ (input : ℕ) where
       abbrev still : List Placed → List VersionData → Still VersionData Fault
       still us group = groups input (option_map (fault_of input) close) us group
@@ -188,8 +188,8 @@ module _ (fault : Verdict) where
       abbrev still_by : VersionData → List VersionData → Placed → List Placed → Ordering → Still VersionData Fault
       still_by first others u us o =
           cond (is_eq o) (still us (first ∷ (others ++ u.version ∷ [])))
-          (cond (is_lt o) (versions_then (ascending (first ∷ others)) (still us (u.version ∷ [])))
-          (refused (fault_of input (verdict_at u.place Unsorted))))
+          (cond (is_lt o) (versions_then (to_ascending (first ∷ others)) (still us (u.version ∷ [])))
+          (end_refused (fault_of input (verdict_at u.place Unsorted))))
 
       module _ (v : VersionData) where
         abbrev Gives : List Placed → VersionData → List VersionData → Type 0
@@ -209,9 +209,9 @@ module _ (fault : Verdict) where
 
           next_given : (u : Placed) (us : List Placed) → (early (u ∷ us) ≡ u.version ∷ early us) × Meets (Some u.version) (u.place + 1) us
               → key_cmp first u.version ≡ Less → Gives us u.version []
-              → has v (ascending (first ∷ others) ++ (still us (u.version ∷ [])).list) ≡ is_given v ((first ∷ others) ++ early (u ∷ us))
+              → has v (to_ascending (first ∷ others) ++ (still us (u.version ∷ [])).list) ≡ is_given v ((first ∷ others) ++ early (u ∷ us))
           next_given u us on less rest =
-              list_any-append (eq_by_cmp version_cmp v) (ascending (first ∷ others)) (still us (u.version ∷ [])).list
+              list_any-append (eq_by_cmp version_cmp v) (to_ascending (first ∷ others)) (still us (u.version ∷ [])).list
               ∙ (λ i. has_ascending v (first ∷ others) i || rest i)
               ∙ group_given v first others group u.version (early us) less (last_up (u.place + 1) us u.version on.1)
               ∙ ap (λ vs. is_given v ((first ∷ others) ++ vs)) (sym on.0)
@@ -249,7 +249,7 @@ module _ (fault : Verdict) where
             group_gives us u.version [] u.version (u.place + 1) tt (tied_itself key_cmp_total u.version) on.1
             ∙ ap (is_given v) (sym on.0)
 
-      groups_given : (us : List Placed) → Meets None 0 us → (still us []).list ≡ ascending (groups_before_last (early us))
+      groups_given : (us : List Placed) → Meets None 0 us → (still us []).list ≡ to_ascending (groups_before_last (early us))
       groups_given us m =
           members_are (still us []).list (groups_before_last (early us)) (groups_rise input (option_map (fault_of input) close) us)
           (λ v. all_given v us m ∙ sym (kept v (early us)))
@@ -273,9 +273,10 @@ refused_by input c fault (Some v) e is =
     ∙ ap (λ (f : Fault). groups_before f.place c) (same_Some (fault_of input v) fault is)
 
 -- ---- an opened source
-opened_gives : {R : Type 0} (input : ℕ) (reader : R) (c : Coming) → given_at (opened_file input reader) c ≡ Some (sorted_source input c)
-opened_gives input reader c = source_begins_told (telling (opened_file input reader).units c) [] input (Some c) refl refl
+opened_gives : {R : Type 0} (input : ℕ) (reader : R) (c : Coming) → given_at (new_source input reader) c ≡ Some (sorted_source input c)
+opened_gives input reader c = source_begins_told (with_coming (new_source input reader).units c) [] input (Some c) refl refl
 
+-- A refused source gives the key groups before the last one that began before the fault.
 pub refused_source_gives : {R : Type 0} (can : R → Coming → Type 0) → RefusedSourceGivesTheGroupsBefore can
 refused_source_gives can input reader versions fault =
     let still : Still VersionData Fault = record { list = versions; refusal = Some fault } in (

@@ -1,4 +1,4 @@
--- What groups give ascends, whatever was known before.
+-- The versions that groups give ascend, whatever was known before.
 use Rattle.std.proofs.Common.{◌≡◌, ◌⊎◌, ⊎_elim, inl, inr, ℕ, Bool, true, false, cond, ◌||◌, List, [], ◌∷◌, ◌++◌, refl, ap, sym, ◌∙◌, subst}
 use Rattle.std.proofs.Common.{Option, Some, None, option_map, option_to_list, IfSome, Result, Ok, Err}
 use Rattle.std.proofs.lemmas.Bool.{false≢true}
@@ -12,17 +12,17 @@ use Rattle.std.specs.List.Sorted.{IsStrictlySortedBy}
 use Rattle.osm_model.specs.Data.{VersionData}
 use Rattle.osm_model.specs.Order.{key_cmp, key_cmp_total, version_cmp, version_cmp_total}
 use Rattle.osm_model.specs.Sets.{from_list}
-use Rattle.osm_model.proofs.SetLaws.{strict-listed, listed-from_list}
+use Rattle.osm_model.proofs.SetLaws.{strict-listed, to_list-from_list}
 use Rattle.osm_model.proofs.VersionLaws.{version_cmp-IsAntisymmetric, less_by_key}
 use Rattle.osm_files.specs.declared.fault.Fault.{Fault}
 use Rattle.osm_files.specs.Fault.{memory_fault, failed_fault}
-use Rattle.osm_files.specs.Groups.{ascending, last_group, groups, sorted_source, gathered, IsGroup, Gathers, StillSet, as_set, still_given}
-use Rattle.osm_files.specs.Groups.{FileStand, FileCanGive, FileSteps, FileAscends, gathered_at, given_at, IsKnown, known_or_whole}
+use Rattle.osm_files.specs.Groups.{to_ascending, last_group, groups, sorted_source, still_with_ready, IsGroup, Gathers, StillSet, as_set, still_given}
+use Rattle.osm_files.specs.Groups.{FileSourceData, FileCanGive, FileSteps, FileAscends, still_at, given_at, IsKnown, known_or_whole}
 use Rattle.osm_files.specs.Groups.{one_given}
 use Rattle.osm_files.specs.Input.{Coming}
-use Rattle.osm_files.specs.Position.{Told, named, units_from, to_come, still_to_come, GoesOn}
-use Rattle.osm_files.specs.Source.{Ascends, Step, Steps}
-use Rattle.osm_files.specs.Stream.{Placed, Still, whole, refused, front}
+use Rattle.osm_files.specs.Position.{KnownPosition, with_input, units_from, units_ahead, units_or_failed, GoesOn}
+use Rattle.osm_files.specs.Source.{Ascends, SourceStep, SourceSteps}
+use Rattle.osm_files.specs.Stream.{Placed, Still, end_whole, end_refused, front}
 use Rattle.osm_files.proofs.FillLaws.{weaker}
 use Rattle.osm_files.proofs.GroupLaws.{has, has_ascending, ascending_is, ascending_nil}
 
@@ -68,6 +68,7 @@ all_members P (v ∷ versions) f = (
   all_members P versions (λ w h. f w (or_right (eq_by_cmp version_cmp w v) _ h)),
 )
 
+-- What holds of all versions holds of each that is among them.
 pub member : (P : VersionData → Type 0) (versions : List VersionData) → AllByRecursion P versions → (w : VersionData) →
     has w versions ≡ true → P w
 member P [] h w e = absurd (false≢true e)
@@ -77,11 +78,11 @@ member P (v ∷ versions) h w e =
       | false ↦ λ k l. member P versions h.1 w l
     ] refl e
 
--- what is said of each version of a group is said of each that is given of it
-all_ascending : (P : VersionData → Type 0) (versions : List VersionData) → AllByRecursion P versions → AllByRecursion P (ascending versions)
-all_ascending P versions h = all_members P (ascending versions) (λ v e. member P versions h v (sym (has_ascending v versions) ∙ e))
+-- a property of each version of a group is one of each that is given of it
+all_ascending : (P : VersionData → Type 0) (versions : List VersionData) → AllByRecursion P versions → AllByRecursion P (to_ascending versions)
+all_ascending P versions h = all_members P (to_ascending versions) (λ v e. member P versions h v (sym (has_ascending v versions) ∙ e))
 
-ascending_rises : (versions : List VersionData) → IsStrictlySortedBy version_cmp (ascending versions)
+ascending_rises : (versions : List VersionData) → IsStrictlySortedBy version_cmp (to_ascending versions)
 ascending_rises versions = subst (IsStrictlySortedBy version_cmp) (sym (ascending_is versions))
     (strict-listed (from_list {R = version_cmp} versions))
 
@@ -96,41 +97,42 @@ unfolding IsStrictlySortedBy
 strict_append [] others h k below = k
 strict_append (v ∷ versions) others h k below = (all_append _ versions others h.0 below.0, strict_append versions others h.1 k below.1)
 
+-- A strictly ascending list ascends strictly without its first version.
 pub strict_rest : (v : VersionData) (versions : List VersionData) → IsStrictlySortedBy version_cmp (v ∷ versions) →
     IsStrictlySortedBy version_cmp versions
 unfolding IsStrictlySortedBy
 strict_rest v versions h = h.1
 
 -- ---- groups
--- each has a key above
+-- each has a greater key
 abbrev Above : VersionData → List VersionData → Type 0
 Above v versions = AllByRecursion (λ w. key_cmp v w ≡ Less) versions
 
--- what comes behind a group of the key of this version: it ascends, and is above what the version is above
+-- the versions after a group of the key of this version: they ascend, and are above all that the version is above
 record Rises (first : VersionData) (versions : List VersionData) : Type 0 where
   strict : IsStrictlySortedBy version_cmp versions
   above : (v : VersionData) → key_cmp v first ≡ Less → Above v versions
 
 group_above : (first v : VersionData) (others : List VersionData) → key_cmp v first ≡ Less → IsGroup first others →
-    Above v (ascending (first ∷ others))
+    Above v (to_ascending (first ∷ others))
 group_above first v others less group = all_ascending (λ w. key_cmp v w ≡ Less) (first ∷ others)
     (less, all_weaker _ _ others (λ w same. less_on v first w less same) group)
 
 of_group : (first : VersionData) (others : List VersionData) → IsGroup first others →
-    AllByRecursion (λ v. key_cmp first v ≡ Equal) (ascending (first ∷ others))
+    AllByRecursion (λ v. key_cmp first v ≡ Equal) (to_ascending (first ∷ others))
 of_group first others group = all_ascending (λ v. key_cmp first v ≡ Equal) (first ∷ others) (tied_itself key_cmp_total first, group)
 
--- a group, and what is above it
+-- a group, and the versions above it
 group_then : (first next : VersionData) (others versions : List VersionData) → IsGroup first others → key_cmp first next ≡ Less →
-    Rises next versions → Rises first (ascending (first ∷ others) ++ versions)
+    Rises next versions → Rises first (to_ascending (first ∷ others) ++ versions)
 group_then first next others versions group less rest = record {
   strict =
-      strict_append (ascending (first ∷ others)) versions (ascending_rises (first ∷ others)) rest.strict
-      (all_weaker _ _ (ascending (first ∷ others)) (λ v same.
+      strict_append (to_ascending (first ∷ others)) versions (ascending_rises (first ∷ others)) rest.strict
+      (all_weaker _ _ (to_ascending (first ∷ others)) (λ v same.
       all_weaker _ _ versions (λ w e. less_by_key v w e) (rest.above v (less_from first v next less same)))
       (of_group first others group));
   above =
-      λ v e. all_append (λ w. key_cmp v w ≡ Less) (ascending (first ∷ others)) versions (group_above first v others e group)
+      λ v e. all_append (λ w. key_cmp v w ≡ Less) (to_ascending (first ∷ others)) versions (group_above first v others e group)
       (rest.above v (key_cmp_total.trans v first next e less));
 }
 
@@ -163,55 +165,57 @@ end_rises : (close : Option Fault) → IsStrictlySortedBy version_cmp (last_grou
 end_rises None = ascending_rises []
 end_rises (Some fault) = nothing_rises
 
+-- What groups give ascends strictly.
 pub groups_rise : (input : ℕ) (close : Option Fault) (us : List Placed) → IsStrictlySortedBy version_cmp (groups input close us []).list
 groups_rise input close [] = end_rises close
 groups_rise input close (u ∷ us) = (rises input close us u.version [] tt).strict
 
--- ---- what a source gives
+-- ---- the versions that a source gives
 module _ (input : ℕ) (first : VersionData) (others : List VersionData) (group : IsGroup first others) where
   next_rises : (after : Option (Still Placed Fault)) (v : VersionData) → key_cmp first v ≡ Less →
-      IfSome (gathered input after (v ∷ []) (ascending (first ∷ others))) Ascends
+      IfSome (still_with_ready input after (v ∷ []) (to_ascending (first ∷ others))) Ascends
   next_rises None v less = tt
   next_rises (Some s) v less = (group_then first v others (groups input s.refusal s.list (v ∷ [])).list group less
       (rises input s.refusal s.list v [] tt)).strict
 
-  end_given : IsStrictlySortedBy version_cmp (ascending (first ∷ others) ++ ascending [])
-  end_given = rw (ascending_nil, append-nil (ascending (first ∷ others))) (ascending_rises (first ∷ others))
+  end_given : IsStrictlySortedBy version_cmp (to_ascending (first ∷ others) ++ to_ascending [])
+  end_given = rw (ascending_nil, append-nil (to_ascending (first ∷ others))) (ascending_rises (first ∷ others))
 
 less_is : (o : Ordering) → is_lt o ≡ true → o ≡ Less
 less_is Less h = refl
 less_is Equal h = absurd (false≢true h)
 less_is Greater h = absurd (false≢true h)
 
--- groups rise behind a group of one key, also where nothing was known before
+-- groups rise after a group of one key, even if nothing was known before
 pub gathers_rise : (input : ℕ) (before : Option (Still Placed Fault)) (begun : List VersionData) (after : Option (Still Placed Fault))
     (first : VersionData) (others : List VersionData) (next : Option VersionData) → Gathers input before begun after first others next
-    → IfSome (gathered input after (option_to_list next) (ascending (first ∷ others))) Ascends
+    → IfSome (still_with_ready input after (option_to_list next) (to_ascending (first ∷ others))) Ascends
 gathers_rise input before begun after first others None h =
-    let P : Option (Still Placed Fault) → Type 0 = λ o. IfSome (gathered input o [] (ascending (first ∷ others))) Ascends in
+    let P : Option (Still Placed Fault) → Type 0 = λ o. IfSome (still_with_ready input o [] (to_ascending (first ∷ others))) Ascends in
     subst P (sym (h.end refl)) (end_given input first others h.group)
 gathers_rise input before begun after first others (Some v) h =
     next_rises input first others h.group after v (less_is (key_cmp first v) h.above)
 
+-- What is still to come ascends strictly without its first version.
 pub ready_rises : (input : ℕ) (units : Option (Still Placed Fault)) (group ready : List VersionData) (v : VersionData) →
-    IfSome (gathered input units group (v ∷ ready)) Ascends → IfSome (gathered input units group ready) Ascends
+    IfSome (still_with_ready input units group (v ∷ ready)) Ascends → IfSome (still_with_ready input units group ready) Ascends
 ready_rises input None group ready v h = tt
 ready_rises input (Some s) group ready v h = strict_rest v (ready ++ (groups input s.refusal s.list group).list) h
 
--- where nothing is ready, and one version at most was read of the next group
+-- if nothing is ready, and at most one version was read of the next group
 pub pending_rises : (input : ℕ) (units : Option (Still Placed Fault)) (pending : Option VersionData) →
-    IfSome (gathered input units (option_to_list pending) []) Ascends
+    IfSome (still_with_ready input units (option_to_list pending) []) Ascends
 pending_rises input None pending = tt
 pending_rises input (Some s) None = groups_rise input s.refusal s.list
 pending_rises input (Some s) (Some v) = (rises input s.refusal s.list v [] tt).strict
 
-whole_rises : (known : Option (Still VersionData Fault)) → known ≡ Some whole → IfSome known Ascends
+whole_rises : (known : Option (Still VersionData Fault)) → known ≡ Some end_whole → IfSome known Ascends
 whole_rises known e = let P : Option (Still VersionData Fault) → Type 0 = λ o. IfSome o Ascends in subst P (sym e) nothing_rises
 
--- behind the first of what is ready
+-- after the first of the ready versions
 pub rest_rises : (input : ℕ) (units : Option (Still Placed Fault)) (group : List VersionData) (given : Option VersionData)
-    (ready : List VersionData) → IfSome (gathered input units group (option_to_list given ++ ready)) Ascends →
-    IfSome (gathered input units group ready) Ascends
+    (ready : List VersionData) → IfSome (still_with_ready input units group (option_to_list given ++ ready)) Ascends →
+    IfSome (still_with_ready input units group ready) Ascends
 rest_rises input units group None ready h = h
 rest_rises input units group (Some v) ready h = ready_rises input units group ready v h
 
@@ -220,24 +224,25 @@ pub told_as_set : (known : Option (Still VersionData Fault)) → IfSome known As
 told_as_set None h = refl
 told_as_set (Some s) h =
     ap (λ vs. let t : Still VersionData Fault = record { list = vs; refusal = s.refusal } in Some t)
-    (listed-from_list version_cmp_total version_cmp-IsAntisymmetric s.list h)
+    (to_list-from_list version_cmp_total version_cmp-IsAntisymmetric s.list h)
 
--- ---- at the begin of an input
+-- ---- at the beginning of an input
 pub source_is : (input : ℕ) (c : Coming) → sorted_source input c
-    ≡ (let units = named input (units_from None 0 c) in groups input units.refusal units.list [])
+    ≡ (let units = with_input input (units_from None 0 c) in groups input units.refusal units.list [])
 unfolding sorted_source
 source_is input c = refl
 
+-- What a sorted file's source gives ascends strictly.
 pub source_rises : (input : ℕ) (c : Coming) → Ascends (sorted_source input c)
 source_rises input c =
-    subst Ascends (sym (source_is input c)) (let units = named input (units_from None 0 c) in groups_rise input units.refusal units.list)
+    subst Ascends (sym (source_is input c)) (let units = with_input input (units_from None 0 c) in groups_rise input units.refusal units.list)
 
--- a reading at its begin
-abbrev pub beginning : ℕ → Option Coming → Told
+-- a reading at its beginning
+abbrev pub beginning : ℕ → Option Coming → KnownPosition
 beginning input coming = record { input = input; place = 0; held = []; coming = coming; stand = None; ended = false; failed = false }
 
 begins_so : (input : ℕ) (coming : Option Coming) →
-    gathered input (still_to_come (beginning input coming)) [] [] ≡ option_map (sorted_source input) coming
+    still_with_ready input (units_or_failed (beginning input coming)) [] [] ≡ option_map (sorted_source input) coming
 begins_so input None = refl
 begins_so input (Some c) = ap Some (sym (source_is input c))
 
@@ -245,63 +250,66 @@ begins_rising : (input : ℕ) (coming : Option Coming) → IfSome (option_map (s
 begins_rising input None = tt
 begins_rising input (Some c) = source_rises input c
 
-module _ (p : Told) (ready : List VersionData) (input : ℕ) (coming : Option Coming) (begins : p ≡ beginning input coming)
+module _ (p : KnownPosition) (ready : List VersionData) (input : ℕ) (coming : Option Coming) (begins : p ≡ beginning input coming)
     (nothing : ready ≡ []) where
-  pub source_begins : gathered p.input (still_to_come p) [] ready ≡ option_map (sorted_source input) coming
-  source_begins = (λ i. gathered (begins i).input (still_to_come (begins i)) [] (nothing i)) ∙ begins_so input coming
+  pub source_begins : still_with_ready p.input (units_or_failed p) [] ready ≡ option_map (sorted_source input) coming
+  source_begins = (λ i. still_with_ready (begins i).input (units_or_failed (begins i)) [] (nothing i)) ∙ begins_so input coming
 
-  pub source_begins_rising : IfSome (gathered p.input (still_to_come p) [] ready) Ascends
+  pub source_begins_rising : IfSome (still_with_ready p.input (units_or_failed p) [] ready) Ascends
   source_begins_rising = subst (λ (o : Option (Still VersionData Fault)). IfSome o Ascends) (sym source_begins) (begins_rising input coming)
 
-  pub source_begins_told : still_given (option_map as_set (gathered p.input (still_to_come p) [] ready))
+  -- A source of which nothing was read gives what the sorted file's source gives.
+  pub source_begins_told : still_given (option_map as_set (still_with_ready p.input (units_or_failed p) [] ready))
       ≡ option_map (sorted_source input) coming
-  source_begins_told = told_as_set (gathered p.input (still_to_come p) [] ready) source_begins_rising ∙ source_begins
+  source_begins_told = told_as_set (still_with_ready p.input (units_or_failed p) [] ready) source_begins_rising ∙ source_begins
 
--- a reading that read on before it gave anything
-opens_so : (input : ℕ) (coming : Option Coming) (q : Told) → GoesOn (beginning input coming) q →
-    IfSome coming (λ c. gathered q.input (still_to_come q) [] [] ≡ Some (sorted_source input c))
+-- a reading that read bytes before it gave anything
+opens_so : (input : ℕ) (coming : Option Coming) (q : KnownPosition) → GoesOn (beginning input coming) q →
+    IfSome coming (λ c. still_with_ready q.input (units_or_failed q) [] [] ≡ Some (sorted_source input c))
 opens_so input None q on = tt
 opens_so input (Some c) q on =
-    let fine : still_to_come q ≡ to_come q = ap (λ b. cond b (Some (refused (failed_fault q.input))) (to_come q)) on.failed in
-    (λ i. gathered (on.input i) ((fine ∙ on.keeps) i) [] []) ∙ ap Some (sym (source_is input c))
+    let fine : units_or_failed q ≡ units_ahead q = ap (λ b. cond b (Some (end_refused (failed_fault q.input))) (units_ahead q)) on.failed in
+    (λ i. still_with_ready (on.input i) ((fine ∙ on.keeps) i) [] []) ∙ ap Some (sym (source_is input c))
 
-pub source_opens_told : (p q : Told) (ready : List VersionData) (input : ℕ) (coming : Option Coming) → p ≡ beginning input coming →
-    GoesOn p q → ready ≡ [] → IfSome coming (λ c. still_given (option_map as_set (gathered q.input (still_to_come q) [] ready))
+-- A source that was opened gives what the sorted file's source gives.
+pub source_opens_told : (p q : KnownPosition) (ready : List VersionData) (input : ℕ) (coming : Option Coming) → p ≡ beginning input coming →
+    GoesOn p q → ready ≡ [] → IfSome coming (λ c. still_given (option_map as_set (still_with_ready q.input (units_or_failed q) [] ready))
     ≡ Some (sorted_source input c))
 source_opens_told p q ready input coming begins on nothing =
-    let rises : IfSome (gathered q.input (still_to_come q) [] ready) Ascends =
-    subst (λ (xs : List VersionData). IfSome (gathered q.input (still_to_come q) [] xs) Ascends) (sym nothing)
-    (pending_rises q.input (still_to_come q) None) in
-    weaker coming _ _ (λ c e. told_as_set (gathered q.input (still_to_come q) [] ready) rises
-    ∙ (λ i. gathered q.input (still_to_come q) [] (nothing i)) ∙ e)
-    (opens_so input coming q (subst (λ (x : Told). GoesOn x q) begins on))
+    let rises : IfSome (still_with_ready q.input (units_or_failed q) [] ready) Ascends =
+    subst (λ (xs : List VersionData). IfSome (still_with_ready q.input (units_or_failed q) [] xs) Ascends) (sym nothing)
+    (pending_rises q.input (units_or_failed q) None) in
+    weaker coming _ _ (λ c e. told_as_set (still_with_ready q.input (units_or_failed q) [] ready) rises
+    ∙ (λ i. still_with_ready q.input (units_or_failed q) [] (nothing i)) ∙ e)
+    (opens_so input coming q (subst (λ (x : KnownPosition). GoesOn x q) begins on))
 
+-- A source that can't be opened is refused as the sorted file's source is, or for Memory.
 pub opens_refused : (input : ℕ) (coming : Option Coming) (fault : Fault) (after : Option (Still Placed Fault)) →
-    Step {A = Placed} (still_to_come (beginning input coming)) (Err fault) after
+    SourceStep {A = Placed} (units_or_failed (beginning input coming)) (Err fault) after
     → (fault ≡ memory_fault) ⊎ IfSome coming (λ c. (sorted_source input c).refusal ≡ Some fault)
 opens_refused input None fault after step = ⊎_elim (λ e. inl e) (λ k. inr tt) step.0
 opens_refused input (Some c) fault after step =
     ⊎_elim (λ e. inl e) (λ k. inr (ap (λ (s : Still VersionData Fault). s.refusal) (source_is input c)
     ∙ ap (λ (s : Still Placed Fault). (groups input s.refusal s.list []).refusal) k)) step.0
 
--- a call, told of sets
+-- a call, in terms of sets
 pub step_told : (value : Option StillSet) (before after : Option (Still VersionData Fault)) (r : Result (Option VersionData) Fault) →
-    option_map as_set before ≡ value → IfSome before Ascends → IfSome after Ascends → Step before r after
-    → Step (still_given value) r (still_given (option_map as_set after))
+    option_map as_set before ≡ value → IfSome before Ascends → IfSome after Ascends → SourceStep before r after
+    → SourceStep (still_given value) r (still_given (option_map as_set after))
 step_told value before after r is up on h =
     let first : before ≡ still_given value = sym (told_as_set before up) ∙ ap still_given is in
-    subst (λ (o : Option (Still VersionData Fault)). Step o r (still_given (option_map as_set after))) first
-    (subst (λ (o : Option (Still VersionData Fault)). Step before r o) (sym (told_as_set after on)) h)
+    subst (λ (o : Option (Still VersionData Fault)). SourceStep o r (still_given (option_map as_set after))) first
+    (subst (λ (o : Option (Still VersionData Fault)). SourceStep before r o) (sym (told_as_set after on)) h)
 
--- what was known is known
+-- a rest that was known is known
 known_by : (o : Option (Still VersionData Fault)) (still : Still VersionData Fault) → still_given (option_map as_set o) ≡ Some still →
     IsKnown o
 known_by None still e = absurd (let f : None ≡ Some still = e in cc)
 known_by (Some s) still e = tt
 
--- where a step leads to ascends, where it was known what was to come
+-- the rest after a step ascends, if the rest before was known
 step_rises : (before after : Option (Still VersionData Fault)) (r : Result (Option VersionData) Fault) → IsKnown before →
-    IfSome before Ascends → Step before r after → IfSome after Ascends
+    IfSome before Ascends → SourceStep before r after → IfSome after Ascends
 step_rises None after r known up h = absurd known
 step_rises (Some s) after (Ok (Some v)) known up h =
     let P : Option (Still VersionData Fault) → Type 0 = λ o. IfSome o Ascends in
@@ -311,21 +319,21 @@ step_rises (Some s) after (Ok None) known up h = whole_rises after h.1
 step_rises (Some s) after (Err fault) known up h = let P : Option (Still VersionData Fault) → Type 0 = λ o. IfSome o Ascends in
     subst P (sym h.1.1) nothing_rises
 
--- a call of a source, of what its reader can give
-pub file_step : {R : Type 0} (can : R → Coming → Type 0) (s t : FileStand R) (r : Result (Option VersionData) Fault) → FileAscends can s →
+-- a call of a source, over all that its reader can give
+pub file_step : {R : Type 0} (can : R → Coming → Type 0) (s t : FileSourceData R) (r : Result (Option VersionData) Fault) → FileAscends can s →
     t.units.input ≡ s.units.input → FileSteps can s r t
-    → Steps (FileCanGive can) s r t
+    → SourceSteps (FileCanGive can) s r t
 file_step can s t r up same steps later h =
     let x = steps h.0 h.1 in
-    let after : still_given (option_map as_set (gathered_at s.units.input t h.0)) ≡ Some later =
-    (λ i. still_given (option_map as_set (gathered_at (sym same i) t h.0))) ∙ h.2 in
-    let from = gathered_at s.units.input s x.0 in
-    let rises = step_rises from (gathered_at s.units.input t h.0) r (known_by from (known_or_whole (given_at s x.0)) (one_given s x.0))
+    let after : still_given (option_map as_set (still_at s.units.input t h.0)) ≡ Some later =
+    (λ i. still_given (option_map as_set (still_at (sym same i) t h.0))) ∙ h.2 in
+    let from = still_at s.units.input s x.0 in
+    let rises = step_rises from (still_at s.units.input t h.0) r (known_by from (known_or_whole (given_at s x.0)) (one_given s x.0))
     (up x.0 x.1) x.2 in
-    let told = step_told (option_map as_set (gathered_at s.units.input s x.0)) (gathered_at s.units.input s x.0)
-    (gathered_at s.units.input t h.0) r refl (up x.0 x.1) rises x.2 in (
+    let told = step_told (option_map as_set (still_at s.units.input s x.0)) (still_at s.units.input s x.0)
+    (still_at s.units.input t h.0) r refl (up x.0 x.1) rises x.2 in (
       known_or_whole (given_at s x.0),
       (x.0, x.1, one_given s x.0),
-      subst (λ (o : Option (Still VersionData Fault)). Step o r (Some later)) (one_given s x.0)
-          (subst (λ (o : Option (Still VersionData Fault)). Step (given_at s x.0) r o) after told),
+      subst (λ (o : Option (Still VersionData Fault)). SourceStep o r (Some later)) (one_given s x.0)
+          (subst (λ (o : Option (Still VersionData Fault)). SourceStep (given_at s x.0) r o) after told),
     )

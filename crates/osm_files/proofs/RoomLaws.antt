@@ -1,10 +1,10 @@
--- The bytes of a room from a place on and before another.
+-- The bytes of a room from one offset on and before another.
 use Rattle.std.proofs.Common.{◌≡◌, ℕ, ◌+◌, ◌-◌, ◌≤◌, List, ◌++◌, length, take, drop, sym, ap, ◌∙◌, arith, drop-drop, take-take}
 use Rattle.std.proofs.lemmas.List.{drop-take, drop-append-le, take-append-le, length-take-le}
 use Rattle.std.proofs.Math.Seq.{take-append-add}
 
 module _ (from end : ℕ) (room : List ℕ) (ordered : from ≤ end) where
-  -- they stand behind those before the first place
+  -- they come after those before the first offset
   pub held_behind : take (end - from) (drop from room) ≡ drop from (take end room)
   held_behind = sym (ap (λ n. drop from (take n room)) (let sum : end ≡ from + (end - from) = omega (arith, ordered) in sum)
       ∙ drop-take from (end - from) room)
@@ -17,7 +17,7 @@ module _ (from end : ℕ) (room : List ℕ) (ordered : from ≤ end) where
       ap (λ xs. take (end - (from + count)) xs) (sym (drop-drop count from room))
       ∙ sym (ap (λ n. drop count (take n (drop from room))) size ∙ drop-take count (end - (from + count)) (drop from room))
 
-  -- another room has the same bytes up to the end, and others behind it
+  -- another room has the same bytes up to the end, and others after it
   pub held_kept : (other : List ℕ) → take end other ≡ take end room →
       take (end - from) (drop from other) ≡ take (end - from) (drop from room)
   held_kept other same =
@@ -25,7 +25,7 @@ module _ (from end : ℕ) (room : List ℕ) (ordered : from ≤ end) where
       ∙ drop-take from (end - from) other)
       ∙ ap (drop from) same ∙ sym held_behind
 
--- so many more bytes came
+-- `count` more bytes came
 pub held_grown : (from end : ℕ) (room : List ℕ) → from ≤ end → (count : ℕ) (other front : List ℕ) → end ≤ length room →
     take (end + count) other ≡ take end room ++ front →
     take (end + count - from) (drop from other) ≡ take (end - from) (drop from room) ++ front
@@ -34,7 +34,7 @@ held_grown from end room ordered count other front within came =
     ∙ drop-append-le from (take end room) front (omega (arith, ordered, length-take-le end room within))
     ∙ ap (λ xs. xs ++ front) (sym (held_behind from end room ordered))
 
--- so many bytes were read behind others
+-- `count` bytes were read after others
 pub came_behind : (end count : ℕ) (room came behind : List ℕ) → end ≤ length room → count ≤ length came →
     take (end + count) (take end room ++ (came ++ behind)) ≡ take end room ++ take count came
 came_behind end count room came behind within some =

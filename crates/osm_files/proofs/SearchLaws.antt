@@ -1,15 +1,15 @@
--- A search that goes on behind the bytes that were searched before.
+-- A search that continues after the bytes that were searched before.
 use Rattle.std.proofs.Common.{◌≡◌, ℕ, zero, suc, ◌+◌, ◌-◌, ◌<◌, ◌≤◌, Bool, true, false, not, cond, List, [], ◌∷◌, length, take, drop, refl}
 use Rattle.std.proofs.Common.{sym, ap, ◌∙◌, arith, length-drop, length-take, Some, None, position, ltb}
 use Rattle.std.proofs.lemmas.Bool.{ltb-true, ltb-false, lt-ltb, le-ltb}
 use Rattle.std.proofs.lemmas.List.{take_rest}
 use Rattle.std.specs.List.{position_or_len}
-use Rattle.opl_line.specs.Cut.{is_line_end, split_first}
+use Rattle.opl_line.specs.Delimiter.{is_line_end, split_first}
 use Rattle.opl_line.proofs.CutLaws.{split_at}
 use Rattle.osm_files.specs.Units.{line_unit}
 
 module _ (p : ℕ → Bool) where
-  nowhere : (xs : List ℕ) → position p xs ≡ None → length xs ≤ position_or_len p xs
+  pub nowhere : (xs : List ℕ) → position p xs ≡ None → length xs ≤ position_or_len p xs
   nowhere xs none =
       let at = position_or_len p xs in
       elim (ltb at (length xs)) as (λ t. ltb at (length xs) ≡ t → cond t (Some at) None ≡ None → length xs ≤ at) [
@@ -17,7 +17,7 @@ module _ (p : ℕ → Bool) where
         | false ↦ λ e f. ltb-false _ _ e
       ] refl none
 
-  somewhere : (xs : List ℕ) (k : ℕ) → position p xs ≡ Some k → (position_or_len p xs ≡ k) × (k < length xs)
+  pub somewhere : (xs : List ℕ) (k : ℕ) → position p xs ≡ Some k → (position_or_len p xs ≡ k) × (k < length xs)
   somewhere xs k found =
       let at = position_or_len p xs in
       elim (ltb at (length xs)) as (λ t. ltb at (length xs) ≡ t → cond t (Some at) None ≡ Some k → (at ≡ k) × (k < length xs)) [
@@ -25,7 +25,7 @@ module _ (p : ℕ → Bool) where
         | false ↦ λ e f. cc
       ] refl found
 
-  -- where none of the first passes, the others are counted behind them
+  -- if none of the first passes, the others are counted after them
   counted : (xs : List ℕ) (n : ℕ) → n ≤ length xs → n ≤ position_or_len p (take n xs) →
       position_or_len p xs ≡ n + position_or_len p (drop n xs)
   counted xs zero within none = omega arith
@@ -48,18 +48,20 @@ module _ (p : ℕ → Bool) where
     rest_is : position p (drop n xs) ≡ position p rest
     rest_is = ap (position p) (sym (take_rest xs n))
 
+    -- A search that finds nothing in the rest finds nothing.
     pub none_behind : position p rest ≡ None → None ≡ position p xs
     none_behind e =
         let far : length xs ≤ n + position_or_len p (drop n xs) = omega (arith, nowhere (drop n xs) (rest_is ∙ e), length-drop n xs) in
         rw (behind, le-ltb _ _ far) refl
 
+    -- A search that finds something in the rest finds it that much later.
     pub some_behind : (k : ℕ) → position p rest ≡ Some k → Some (n + k) ≡ position p xs
     some_behind k e =
         let found = somewhere (drop n xs) k (rest_is ∙ e) in
         let near : n + k < length xs = omega (arith, found.1, length-drop n xs) in
         rw (behind, found.0, lt-ltb _ _ near) refl
 
--- where no line stands whole, none ends
+-- if no line is whole, none ends
 pub no_end : (bytes : List ℕ) → line_unit (split_first is_line_end bytes) ≡ None → position is_line_end bytes ≡ None
 no_end bytes none =
     elim (position is_line_end bytes) as (λ o. position is_line_end bytes ≡ o → o ≡ None) [

@@ -1,4 +1,5 @@
--- What the calls of a source do, of what its reader can give: each law is one of what is told, at what was to come and what is.
+-- The calls of a source, over all that its reader can give: each law is one of positions with their rests, before and
+-- after.
 use Rattle.std.proofs.Common.{◌≡◌, inl, ℕ, true, false, List, [], ◌∷◌, ◌++◌, refl, ap, sym, ◌∙◌, subst, Option, Some, None, option_to_list}
 use Rattle.std.proofs.Common.{is_some, IfSome, Result, Ok, Err}
 use Rattle.std.proofs.lemmas.Bool.{false≢true}
@@ -9,11 +10,11 @@ use Rattle.osm_files.specs.declared.fault.Fault.{Fault}
 use Rattle.osm_files.specs.declared.group.Group.{Group}
 use Rattle.osm_files.specs.declared.reason.Reason.TheVariants.{Unsorted}
 use Rattle.osm_files.specs.Fault.{memory_fault, fault_at}
-use Rattle.osm_files.specs.Groups.{ascending, list_of, gathered, gathered_at, FileStand, standing, FileSteps, IsOpenSource, Gathers}
-use Rattle.osm_files.specs.Groups.{Refuses, BeginsOn, GathersOn, RefusesOn}
+use Rattle.osm_files.specs.Groups.{to_ascending, list_of, still_with_ready, still_at, FileSourceData, source_data, FileSteps, IsOpenSource, Gathers}
+use Rattle.osm_files.specs.Groups.{RefusesGroup, BeginsOn, GathersOn, RefusesOn}
 use Rattle.osm_files.specs.Input.{Coming}
-use Rattle.osm_files.specs.Position.{Position, Told, telling, Between, still_to_come, Keeps}
-use Rattle.osm_files.specs.Source.{Ascends, Step, StepsOn}
+use Rattle.osm_files.specs.Position.{Position, KnownPosition, with_coming, Between, units_or_failed, Keeps}
+use Rattle.osm_files.specs.Source.{Ascends, SourceStep, StepsOn}
 use Rattle.osm_files.specs.Stream.{Placed, Still}
 use Rattle.osm_files.proofs.FillLaws.{kept, keeps_on}
 use Rattle.osm_files.proofs.GroupLaws.{step_on, refused_step, gives_first, ascending_one, ends_group, begins_next, joins_group}
@@ -22,19 +23,19 @@ use Rattle.osm_files.proofs.ReaderLaws.{unread}
 use Rattle.osm_files.proofs.RiseLaws.{pending_rises, rest_rises, gathers_rise}
 
 -- a call that is refused, after which nothing is ready
-refused_at : (input : ℕ) (before : Option (Still VersionData Fault)) (p : Told) (group ready : List VersionData) (fault : Fault) →
-    ready ≡ [] → Refuses before fault (still_to_come p) → Step before (Err fault) (gathered input (still_to_come p) group ready)
+refused_at : (input : ℕ) (before : Option (Still VersionData Fault)) (p : KnownPosition) (group ready : List VersionData) (fault : Fault) →
+    ready ≡ [] → RefusesGroup before fault (units_or_failed p) → SourceStep before (Err fault) (still_with_ready input (units_or_failed p) group ready)
 refused_at input before p group ready fault none refuses =
-    subst (λ (xs : List VersionData). Step before (Err fault) (gathered input (still_to_come p) group xs)) (sym none)
-    (refused_step input before (still_to_come p) group fault refuses)
+    subst (λ (xs : List VersionData). SourceStep before (Err fault) (still_with_ready input (units_or_failed p) group xs)) (sym none)
+    (refused_step input before (units_or_failed p) group fault refuses)
 
 module _ {R : Type 0} (can : R → Coming → Type 0) where
-  -- where nothing is ready, and one version at most was read of the next group
+  -- if nothing is ready, and at most one version was read of the next group
   pub open_source : (units : Position R) (pending : Option VersionData) (ready : List VersionData) → ready ≡ [] →
-      IsOpenSource can (standing units (option_to_list pending) ready)
+      IsOpenSource can (source_data units (option_to_list pending) ready)
   open_source units pending ready none = (
-    λ c k. subst (λ (xs : List VersionData). IfSome (gathered units.input (still_to_come (telling units c)) (option_to_list pending) xs)
-        Ascends) (sym none) (pending_rises units.input (still_to_come (telling units c)) pending),
+    λ c k. subst (λ (xs : List VersionData). IfSome (still_with_ready units.input (units_or_failed (with_coming units c)) (option_to_list pending) xs)
+        Ascends) (sym none) (pending_rises units.input (units_or_failed (with_coming units c)) pending),
     λ failed. none,
   )
 
@@ -43,180 +44,189 @@ module _ {R : Type 0} (can : R → Coming → Type 0) where
       BeginsOn can p (option_to_list pending) (Ok (Some first)) p
   begins_held p pending first is =
       subst (λ (o : Option VersionData). BeginsOn can p (option_to_list o) (Ok (Some first)) p) (sym is)
-      (unread can p p (λ a b. Keeps (gathered p.input (still_to_come a) (first ∷ []) [])
-      (gathered p.input (still_to_come b) (first ∷ []) [])) refl
-      (λ c. kept (gathered p.input (still_to_come (telling p c)) (first ∷ []) [])))
+      (unread can p p (λ a b. Keeps (still_with_ready p.input (units_or_failed a) (first ∷ []) [])
+      (still_with_ready p.input (units_or_failed b) (first ∷ []) [])) refl
+      (λ c. kept (still_with_ready p.input (units_or_failed (with_coming p c)) (first ∷ []) [])))
 
-  -- memory was refused
-  pub memory_step : (s t : FileStand R) (fault : Fault) → fault ≡ memory_fault → t.units ≡ record s.units { failed = true } → t.ready ≡ [] →
+  -- memory ran out
+  pub memory_step : (s t : FileSourceData R) (fault : Fault) → fault ≡ memory_fault → t.units ≡ record s.units { failed = true } → t.ready ≡ [] →
       FileSteps can s (Err fault) t
   memory_step s t fault is failed none later k = (
     later,
     subst (λ r. can r later) (ap (λ v. v.coming) failed) k,
-    refused_at s.units.input (gathered_at s.units.input s later) (telling t.units later) t.group t.ready fault none
-        (inl is, (s.units.input, ap (λ (v : Position R). still_to_come (telling v later)) failed)),
+    refused_at s.units.input (still_at s.units.input s later) (with_coming t.units later) t.group t.ready fault none
+        (inl is, (s.units.input, ap (λ (v : Position R). units_or_failed (with_coming v later)) failed)),
   )
 
   -- the rest of a group can't be read
-  pub gather_refused : (p : Position R) (group : List VersionData) (fault : Fault) (t : FileStand R) → t.ready ≡ [] →
-      RefusesOn can p group fault t.units → FileSteps can (standing p group []) (Err fault) t
+  pub gather_refused : (p : Position R) (group : List VersionData) (fault : Fault) (t : FileSourceData R) → t.ready ≡ [] →
+      RefusesOn can p group fault t.units → FileSteps can (source_data p group []) (Err fault) t
   gather_refused p group fault t none refuses later k =
       let y = refuses later k in (
         y.0,
         y.1,
-        refused_at p.input (gathered p.input (still_to_come (telling p y.0)) group [])
-            (telling t.units later) t.group t.ready fault none y.2,
+        refused_at p.input (still_with_ready p.input (units_or_failed (with_coming p y.0)) group [])
+            (with_coming t.units later) t.group t.ready fault none y.2,
       )
 
   -- no group begins
-  pub begin_refused : (s : FileStand R) (fault : Fault) (t : FileStand R) → s.ready ≡ [] → t.ready ≡ [] →
+  pub begin_refused : (s : FileSourceData R) (fault : Fault) (t : FileSourceData R) → s.ready ≡ [] → t.ready ≡ [] →
       BeginsOn can s.units s.group (Err fault) t.units → FileSteps can s (Err fault) t
   begin_refused s fault t nothing none begins =
-      subst (λ (xs : List VersionData). FileSteps can (standing s.units s.group xs) (Err fault) t) (sym nothing)
+      subst (λ (xs : List VersionData). FileSteps can (source_data s.units s.group xs) (Err fault) t) (sym nothing)
       (gather_refused s.units s.group fault t none begins)
 
-  pub begin_ended : (s t : FileStand R) → s.ready ≡ [] → t.group ≡ [] → t.ready ≡ [] → BeginsOn can s.units s.group (Ok None) t.units →
+  -- A source without another group is at its end.
+  pub begin_ended : (s t : FileSourceData R) → s.ready ≡ [] → t.group ≡ [] → t.ready ≡ [] → BeginsOn can s.units s.group (Ok None) t.units →
       FileSteps can s (Ok None) t
   begin_ended s t nothing ends none begins =
-      subst (λ (xs : List VersionData). FileSteps can (standing s.units s.group xs) (Ok None) t) (sym nothing)
-      (subst (λ (xs : List VersionData). FileSteps can (standing s.units s.group []) (Ok None) (standing t.units xs t.ready)) (sym ends)
-      (subst (λ (xs : List VersionData). FileSteps can (standing s.units s.group []) (Ok None) (standing t.units [] xs)) (sym none) begins))
+      subst (λ (xs : List VersionData). FileSteps can (source_data s.units s.group xs) (Ok None) t) (sym nothing)
+      (subst (λ (xs : List VersionData). FileSteps can (source_data s.units s.group []) (Ok None) (source_data t.units xs t.ready)) (sym ends)
+      (subst (λ (xs : List VersionData). FileSteps can (source_data s.units s.group []) (Ok None) (source_data t.units [] xs)) (sym none) begins))
 
-  -- a group was read, and the version behind it
+  -- a group was read, and the version after it
   module _ (p : Position R) (begun : Group) (q : Position R) (group : Group) (next : Option VersionData)
       (gathers : GathersOn can p begun q group next) where
+    -- A group that can't be listed is refused for Memory.
     pub gathered_memory : (fault : Fault) (r : Position R) (ready : List VersionData) → fault ≡ memory_fault →
-        r ≡ record q { failed = true } → ready ≡ [] → FileSteps can (standing p (list_of begun) []) (Err fault)
-        (standing r (option_to_list next) ready)
+        r ≡ record q { failed = true } → ready ≡ [] → FileSteps can (source_data p (list_of begun) []) (Err fault)
+        (source_data r (option_to_list next) ready)
     gathered_memory fault r ready is failed none later k =
         let y = gathers later (subst (λ c. can c later) (ap (λ v. v.coming) failed) k) in (
           y.0,
           y.1,
-          refused_at p.input (gathered p.input (still_to_come (telling p y.0)) (list_of begun) []) (telling r later)
+          refused_at p.input (still_with_ready p.input (units_or_failed (with_coming p y.0)) (list_of begun) []) (with_coming r later)
               (option_to_list next) ready fault none
-              (inl is, (q.input, ap (λ (v : Position R). still_to_come (telling v later)) failed)),
+              (inl is, (q.input, ap (λ (v : Position R). units_or_failed (with_coming v later)) failed)),
         )
 
     gives : (before after : Option (Still Placed Fault)) (o : Option VersionData) (ready : List VersionData) →
-        ascending (begun.first ∷ group.others.items) ≡ option_to_list o ++ ready → is_some o ≡ true →
+        to_ascending (begun.first ∷ group.others.items) ≡ option_to_list o ++ ready → is_some o ≡ true →
         Gathers p.input before begun.others.items after begun.first group.others.items next
-        → Step (gathered p.input before (list_of begun) []) (Ok o) (gathered p.input after (option_to_list next) ready)
+        → SourceStep (still_with_ready p.input before (list_of begun) []) (Ok o) (still_with_ready p.input after (option_to_list next) ready)
     gives before after None ready e some h = absurd (false≢true some)
     gives before after (Some v) ready e some h = gives_first p.input before begun.others.items after begun.first group.others.items next v
         ready h e
 
     module _ (given : Option VersionData) (ready : List VersionData)
-        (all : ascending (begun.first ∷ group.others.items) ≡ option_to_list given ++ ready) where
-      pub gathered_given : is_some given ≡ true → FileSteps can (standing p (list_of begun) []) (Ok given)
-          (standing q (option_to_list next) ready)
+        (all : to_ascending (begun.first ∷ group.others.items) ≡ option_to_list given ++ ready) where
+      -- The first version of a group that was gathered is given.
+      pub gathered_given : is_some given ≡ true → FileSteps can (source_data p (list_of begun) []) (Ok given)
+          (source_data q (option_to_list next) ready)
       gathered_given some later k =
           let y = gathers later k in
-          (y.0, y.1, gives (still_to_come (telling p y.0)) (still_to_come (telling q later)) given ready all some y.2)
+          (y.0, y.1, gives (units_or_failed (with_coming p y.0)) (units_or_failed (with_coming q later)) given ready all some y.2)
 
-      pub gathered_open : q.input ≡ p.input → q.failed ≡ false → IsOpenSource can (standing q (option_to_list next) ready)
+      -- A source stays open after a group was gathered.
+      pub gathered_open : q.input ≡ p.input → q.failed ≡ false → IsOpenSource can (source_data q (option_to_list next) ready)
       gathered_open number fine = (
         λ later k.
             let y = gathers later k in
-            let up = gathers_rise p.input (still_to_come (telling p y.0)) begun.others.items
-            (still_to_come (telling q later)) begun.first group.others.items next y.2 in
-            let at_q = subst (λ (i : ℕ). IfSome (gathered i (still_to_come (telling q later)) (option_to_list next)
-            (ascending (begun.first ∷ group.others.items))) Ascends) (sym number) up in
-            rest_rises q.input (still_to_come (telling q later)) (option_to_list next) given ready
-            (subst (λ (xs : List VersionData). IfSome (gathered q.input (still_to_come (telling q later)) (option_to_list next) xs)
+            let up = gathers_rise p.input (units_or_failed (with_coming p y.0)) begun.others.items
+            (units_or_failed (with_coming q later)) begun.first group.others.items next y.2 in
+            let at_q = subst (λ (i : ℕ). IfSome (still_with_ready i (units_or_failed (with_coming q later)) (option_to_list next)
+            (to_ascending (begun.first ∷ group.others.items))) Ascends) (sym number) up in
+            rest_rises q.input (units_or_failed (with_coming q later)) (option_to_list next) given ready
+            (subst (λ (xs : List VersionData). IfSome (still_with_ready q.input (units_or_failed (with_coming q later)) (option_to_list next) xs)
             Ascends) all at_q),
         λ failed. absurd (false≢true (sym fine ∙ failed)),
       )
 
-  -- ---- the second version, behind the first of a group
-  module _ (s : FileStand R) (nothing : s.ready ≡ []) (b : Position R) (first : VersionData)
+  -- ---- the second version, after the first of a group
+  module _ (s : FileSourceData R) (nothing : s.ready ≡ []) (b : Position R) (first : VersionData)
       (begins : BeginsOn can s.units s.group (Ok (Some first)) b) where
     abbrev start : Coming → Option (Still VersionData Fault)
-    start c = gathered_at s.units.input s c
+    start c = still_at s.units.input s c
 
-    abbrev given_from : Told → List VersionData → Option (Still VersionData Fault)
-    given_from p group = gathered s.units.input (still_to_come p) group []
+    abbrev given_from : KnownPosition → List VersionData → Option (Still VersionData Fault)
+    given_from p group = still_with_ready s.units.input (units_or_failed p) group []
 
-    -- what a call does behind the first, it does from where the source stood
-    behind_first : (t : FileStand R) (r : Result (Option VersionData) Fault) (P : Told → Told → Type 0) → Between can b t.units P
-        → ((p q : Told) → P p q → Step (given_from p (first ∷ [])) r (gathered s.units.input (still_to_come q) t.group t.ready)) →
+    -- a call after the first version is one from the state of the source before it
+    behind_first : (t : FileSourceData R) (r : Result (Option VersionData) Fault) (P : KnownPosition → KnownPosition → Type 0) → Between can b t.units P
+        → ((p q : KnownPosition) → P p q → SourceStep (given_from p (first ∷ [])) r (still_with_ready s.units.input (units_or_failed q) t.group t.ready)) →
         FileSteps can s r t
     behind_first t r P step law later k =
         let y = step later k in
         let x = begins y.0 y.1 in
-        let before = given_from (telling b y.0) (first ∷ []) in
+        let before = given_from (with_coming b y.0) (first ∷ []) in
         let keeps = subst (λ (xs : List VersionData). Keeps
-        (gathered s.units.input (still_to_come (telling s.units x.0)) s.group xs) before) (sym nothing) x.2 in
-        (x.0, x.1, step_on (start x.0) before (gathered_at s.units.input t later) r keeps (law (telling b y.0) (telling t.units later) y.2))
+        (still_with_ready s.units.input (units_or_failed (with_coming s.units x.0)) s.group xs) before) (sym nothing) x.2 in
+        (x.0, x.1, step_on (start x.0) before (still_at s.units.input t later) r keeps (law (with_coming b y.0) (with_coming t.units later) y.2))
 
-    pub second_refused : (fault : Fault) (t : FileStand R) → t.ready ≡ [] → StepsOn can b (Err fault) t.units →
+    -- A unit after the first version of a group that can't be read refuses the source.
+    pub second_refused : (fault : Fault) (t : FileSourceData R) → t.ready ≡ [] → StepsOn can b (Err fault) t.units →
         FileSteps can s (Err fault) t
     second_refused fault t none step =
-        behind_first t (Err fault) (λ p q. Step {A = Placed} (still_to_come p) (Err fault) (still_to_come q)) step
+        behind_first t (Err fault) (λ p q. SourceStep {A = Placed} (units_or_failed p) (Err fault) (units_or_failed q)) step
         (λ p q h.
         refused_at s.units.input (given_from p (first ∷ [])) q t.group t.ready fault none
-        (refuses_read s.units.input (still_to_come p) [] (still_to_come p) (still_to_come q) first []
+        (refuses_read s.units.input (units_or_failed p) [] (units_or_failed p) (units_or_failed q) first []
         (kept (given_from p (first ∷ []))) fault h))
 
-    -- the first is alone in its group
-    alone : (p q : Told) (next : Option VersionData) (group ready : List VersionData) → group ≡ option_to_list next → ready ≡ [] →
-        Gathers s.units.input (still_to_come p) [] (still_to_come q) first [] next
-        → Step (given_from p (first ∷ [])) (Ok (Some first)) (gathered s.units.input (still_to_come q) group ready)
+    -- the first is the only one in its group
+    alone : (p q : KnownPosition) (next : Option VersionData) (group ready : List VersionData) → group ≡ option_to_list next → ready ≡ [] →
+        Gathers s.units.input (units_or_failed p) [] (units_or_failed q) first [] next
+        → SourceStep (given_from p (first ∷ [])) (Ok (Some first)) (still_with_ready s.units.input (units_or_failed q) group ready)
     alone p q next group ready is none h =
-        subst (λ (xs : List VersionData). Step (given_from p (first ∷ [])) (Ok (Some first))
-        (gathered s.units.input (still_to_come q) group xs)) (sym none)
-        (subst (λ (xs : List VersionData). Step (given_from p (first ∷ [])) (Ok (Some first))
-        (gathered s.units.input (still_to_come q) xs [])) (sym is)
-        (gives_first s.units.input (still_to_come p) [] (still_to_come q) first [] next first [] h (ascending_one first)))
+        subst (λ (xs : List VersionData). SourceStep (given_from p (first ∷ [])) (Ok (Some first))
+        (still_with_ready s.units.input (units_or_failed q) group xs)) (sym none)
+        (subst (λ (xs : List VersionData). SourceStep (given_from p (first ∷ [])) (Ok (Some first))
+        (still_with_ready s.units.input (units_or_failed q) xs [])) (sym is)
+        (gives_first s.units.input (units_or_failed p) [] (units_or_failed q) first [] next first [] h (ascending_one first)))
 
-    pub second_ends : (t : FileStand R) → t.group ≡ [] → t.ready ≡ [] → StepsOn can b (Ok None) t.units →
+    -- A version that is the last of the file is a group.
+    pub second_ends : (t : FileSourceData R) → t.group ≡ [] → t.ready ≡ [] → StepsOn can b (Ok None) t.units →
         FileSteps can s (Ok (Some first)) t
     second_ends t ends none step =
-        behind_first t (Ok (Some first)) (λ p q. Step {A = Placed} (still_to_come p) (Ok None) (still_to_come q)) step
+        behind_first t (Ok (Some first)) (λ p q. SourceStep {A = Placed} (units_or_failed p) (Ok None) (units_or_failed q)) step
         (λ p q h. alone p q None t.group t.ready ends none
-        (ends_group s.units.input (still_to_come p) [] (still_to_come p) (still_to_come q) first []
+        (ends_group s.units.input (units_or_failed p) [] (units_or_failed p) (units_or_failed q) first []
         (kept (given_from p (first ∷ []))) tt h))
 
     -- by the order of its key
     module _ (u : Placed) (n : Position R) (step : StepsOn can b (Ok (Some u)) n) where
-      pub second_follows : (t : FileStand R) → t.units ≡ n → t.group ≡ u.version ∷ [] → t.ready ≡ [] →
+      -- A version before one of a greater key is a group.
+      pub second_follows : (t : FileSourceData R) → t.units ≡ n → t.group ≡ u.version ∷ [] → t.ready ≡ [] →
           is_lt (key_cmp first u.version) ≡ true → FileSteps can s (Ok (Some first)) t
       second_follows t same group none less =
-          behind_first t (Ok (Some first)) (λ p q. Step {A = Placed} (still_to_come p) (Ok (Some u)) (still_to_come q))
+          behind_first t (Ok (Some first)) (λ p q. SourceStep {A = Placed} (units_or_failed p) (Ok (Some u)) (units_or_failed q))
           (subst (λ (v : Position R). StepsOn can b (Ok (Some u)) v) (sym same) step)
           (λ p q h. alone p q (Some u.version) t.group t.ready group none
-          (begins_next s.units.input (still_to_come p) [] (still_to_come p) (still_to_come q) first []
+          (begins_next s.units.input (units_or_failed p) [] (units_or_failed p) (units_or_failed q) first []
           (kept (given_from p (first ∷ []))) tt u h less))
 
-      -- the step to where every call is refused
-      abbrev Fails : Told → Told → Type 0
-      Fails p q = (m : Told) × Step {A = Placed} (still_to_come p) (Ok (Some u)) (still_to_come m) × (q ≡ record m { failed = true })
+      -- the step to the state in which every call is refused
+      abbrev Fails : KnownPosition → KnownPosition → Type 0
+      Fails p q = (m : KnownPosition) × SourceStep {A = Placed} (units_or_failed p) (Ok (Some u)) (units_or_failed m) × (q ≡ record m { failed = true })
 
       fails : (r : Position R) → r ≡ record n { failed = true } → Between can b r Fails
       fails r failed later k =
           let y = step later (subst (λ c. can c later) (ap (λ v. v.coming) failed) k) in
-          (y.0, y.1, (telling n later, y.2, ap (λ (v : Position R). telling v later) failed))
+          (y.0, y.1, (with_coming n later, y.2, ap (λ (v : Position R). with_coming v later) failed))
 
-      pub second_falls : (fault : Fault) (t : FileStand R) → t.units ≡ record n { failed = true } → t.ready ≡ [] →
+      -- A version before one of a lesser key is refused as Unsorted.
+      pub second_falls : (fault : Fault) (t : FileSourceData R) → t.units ≡ record n { failed = true } → t.ready ≡ [] →
           is_gt (key_cmp first u.version) ≡ true → fault ≡ fault_at s.units.input u.place Unsorted → FileSteps can s (Err fault) t
       second_falls fault t failed none greater is =
           behind_first t (Err fault) Fails (fails t.units failed) (λ p q (m, h, e).
           refused_at s.units.input (given_from p (first ∷ [])) q t.group t.ready fault none
-          (refuses_unsorted s.units.input (still_to_come p) [] (still_to_come p) (still_to_come m) first []
-          (kept (given_from p (first ∷ []))) u fault (still_to_come q) m.input h greater is (ap still_to_come e)))
+          (refuses_unsorted s.units.input (units_or_failed p) [] (units_or_failed p) (units_or_failed m) first []
+          (kept (given_from p (first ∷ []))) u fault (units_or_failed q) m.input h greater is (ap units_or_failed e)))
 
-      pub second_joins : (r : Result (Option VersionData) Fault) (t : FileStand R) → n.input ≡ s.units.input →
+      -- A version before one of its own key begins a group of several.
+      pub second_joins : (r : Result (Option VersionData) Fault) (t : FileSourceData R) → n.input ≡ s.units.input →
           is_lt (key_cmp first u.version) ≡ false → is_gt (key_cmp first u.version) ≡ false →
-          FileSteps can (standing n (first ∷ u.version ∷ []) []) r t → FileSteps can s r t
+          FileSteps can (source_data n (first ∷ u.version ∷ []) []) r t → FileSteps can s r t
       second_joins r t number less greater many later k =
           let z = many later k in
           let y = step z.0 z.1 in
           let x = begins y.0 y.1 in
-          let before = given_from (telling b y.0) (first ∷ []) in
-          let after = given_from (telling n z.0) (first ∷ u.version ∷ []) in
-          let joins = joins_group s.units.input (still_to_come (telling b y.0)) [] (still_to_come (telling b y.0))
-          (still_to_come (telling n z.0)) first [] (kept before) u y.2 less greater in
+          let before = given_from (with_coming b y.0) (first ∷ []) in
+          let after = given_from (with_coming n z.0) (first ∷ u.version ∷ []) in
+          let joins = joins_group s.units.input (units_or_failed (with_coming b y.0)) [] (units_or_failed (with_coming b y.0))
+          (units_or_failed (with_coming n z.0)) first [] (kept before) u y.2 less greater in
           let keeps = subst (λ (xs : List VersionData). Keeps
-          (gathered s.units.input (still_to_come (telling s.units x.0)) s.group xs) before) (sym nothing) x.2 in
-          let given = subst (λ (i : ℕ). Step (gathered i (still_to_come (telling n z.0)) (first ∷ u.version ∷ []) []) r
-          (gathered_at i t later)) number z.2 in
-          (x.0, x.1, step_on (start x.0) after (gathered_at s.units.input t later) r (keeps_on (start x.0) before after keeps joins) given)
+          (still_with_ready s.units.input (units_or_failed (with_coming s.units x.0)) s.group xs) before) (sym nothing) x.2 in
+          let given = subst (λ (i : ℕ). SourceStep (still_with_ready i (units_or_failed (with_coming n z.0)) (first ∷ u.version ∷ []) []) r
+          (still_at i t later)) number z.2 in
+          (x.0, x.1, step_on (start x.0) after (still_at s.units.input t later) r (keeps_on (start x.0) before after keeps joins) given)

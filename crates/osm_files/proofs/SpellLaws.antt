@@ -19,26 +19,26 @@ use Rattle.osm_model.specs.Line.{line}
 use Rattle.osm_model.specs.Order.{version_cmp, version_cmp_total, key_cmp, key_cmp_total}
 use Rattle.osm_model.specs.Valid.{IsVersion}
 use Rattle.osm_model.specs.VersionSet.{VersionSet}
-use Rattle.osm_model.specs.Sets.{listed, from_list, union, empty, contains}
+use Rattle.osm_model.specs.Sets.{to_list, from_list, union, empty, contains}
 use Rattle.osm_model.specs.Pairwise.{Pairwise}
 use Rattle.osm_model.proofs.SetLaws.{contains-listed, contains-from_list, contains-union, same_set, strict-listed}
-use Rattle.osm_model.proofs.VersionLaws.{version_cmp-IsAntisymmetric, listed-view}
-use Rattle.opl_line.specs.Cut.{cut, is_line_end, pieces_of, split_first}
+use Rattle.osm_model.proofs.VersionLaws.{version_cmp-IsAntisymmetric, to_list-view}
+use Rattle.opl_line.specs.Delimiter.{split_all, is_line_end, pieces_of, split_first}
 use Rattle.opl_line.specs.Spells.{Spells}
 use Rattle.opl_line.proofs.CutLaws.{cut_split, split_front}
 use Rattle.opl_line.proofs.WholeLineLaws.{line_stands_in_one, line_spells_its_version}
 use Rattle.o5_codec.specs.declared.segment.Segment.{Segment}
 use Rattle.o5_codec.specs.Decoder.{new_segment}
-use Rattle.o5_codec.specs.Encoder.{Written, nothing_written, reset_before, type_byte as set_type, written_after, spelled_set}
+use Rattle.o5_codec.specs.Encoder.{Written, initial_written, reset_before, type_byte as set_type, written_after, spelled_set}
 use Rattle.o5_codec.specs.WritingLaws.{segment_for, SetsStand, spelled_sets}
 use Rattle.o5_codec.proofs.WrittenLists.{lists_read}
 use Rattle.osm_files.specs.declared.format.Format.{Format}
 use Rattle.osm_files.specs.declared.format.Format.TheVariants.{Opl, O5m, O5c}
 use Rattle.osm_files.specs.Opl.{is_read, OplFile}
-use Rattle.osm_files.specs.O5.{o5m_header, o5c_header, end_byte, reset_byte, type_byte, Part, Reset, Object, part_bytes, PartsSpell, O5File}
-use Rattle.osm_files.specs.Units.{Stand, InOpl, BeforeHeader, start_of}
+use Rattle.osm_files.specs.O5.{o5m_header, o5c_header, end_byte, reset_byte, type_byte, FilePart, Reset, Object, part_bytes, PartsSpell, O5File}
+use Rattle.osm_files.specs.Units.{FileStateData, InOpl, BeforeHeader, start_of}
 use Rattle.osm_files.specs.Held.{IsFile, IsFileOf, Holds}
-use Rattle.osm_files.specs.Spell.{behind, behind_all, ended, spelled_versions, spell_list, spell}
+use Rattle.osm_files.specs.Spell.{written_with, written_with_all, file_end, versions_bytes, spell_list, spell}
 use Rattle.osm_files.specs.Sink.{MayFollow}
 use Rattle.osm_files.specs.Verdict.{file_units, versions_of, held_by, verdict}
 use Rattle.osm_files.specs.SpellLaws.{AreVersions, SpellHoldsItsSet, HeldWithoutVerdict, SpellHasNoVerdict, HeldIsOneSet, SpelledIsHeld}
@@ -50,23 +50,23 @@ use Rattle.osm_files.proofs.SpellSteps.{first_so, then_greater, may_follow, list
 
 -- ---- lines
 cut_line : (front rest : List ℕ) → list_all (λ b. not (is_line_end b)) front ≡ true →
-    cut is_line_end (front ++ 10 ∷ rest) ≡ front ∷ cut is_line_end rest
+    split_all is_line_end (front ++ 10 ∷ rest) ≡ front ∷ split_all is_line_end rest
 cut_line front rest none =
     let split : split_first is_line_end (front ++ 10 ∷ rest) ≡ (front, Some rest) = split_front is_line_end front rest 10 none refl in
     cut_split is_line_end (front ++ 10 ∷ rest) ∙ ap (λ s. s.0 ∷ pieces_of is_line_end s.1) split
 
-lines_file : (w : Written) (versions : List VersionData) → All IsVersion versions → OplFile (spelled_versions Opl w versions) versions
+lines_file : (w : Written) (versions : List VersionData) → All IsVersion versions → OplFile (versions_bytes Opl w versions) versions
 lines_file w [] valid = tt
 lines_file w (v ∷ versions) valid =
-    let rest : List ℕ = spelled_versions Opl (behind Opl w v) versions in
+    let rest : List ℕ = versions_bytes Opl (written_with Opl w v) versions in
     let alone = line_stands_in_one v in
-    let pieces : cut is_line_end ((line v ++ 10 ∷ []) ++ rest) ≡ line v ∷ cut is_line_end rest =
-    ap (cut is_line_end) (append_assoc (line v) (10 ∷ []) rest) ∙ cut_line (line v) rest alone.0 in
-    let kept : filter is_read (line v ∷ cut is_line_end rest) ≡ line v ∷ filter is_read (cut is_line_end rest) = rw alone.1 refl in
+    let pieces : split_all is_line_end ((line v ++ 10 ∷ []) ++ rest) ≡ line v ∷ split_all is_line_end rest =
+    ap (split_all is_line_end) (append_assoc (line v) (10 ∷ []) rest) ∙ cut_line (line v) rest alone.0 in
+    let kept : filter is_read (line v ∷ split_all is_line_end rest) ≡ line v ∷ filter is_read (split_all is_line_end rest) = rw alone.1 refl in
     let P : List (List ℕ) → Type 0 = λ ls. Pairwise Spells ls (v ∷ versions) in
     subst P (sym (ap (filter is_read) pieces ∙ kept)) (
       (line_spells_its_version v (valid 0 v (omega arith))).spelled,
-      lines_file (behind Opl w v) versions (λ k d inside. valid (suc k) d (omega (arith, inside))),
+      lines_file (written_with Opl w v) versions (λ k d inside. valid (suc k) d (omega (arith, inside))),
     )
 
 -- ---- data sets
@@ -76,7 +76,7 @@ same_type kind.Way = refl
 same_type kind.Relation = refl
 
 abbrev PartsOf : Segment → List ℕ → List VersionData → Type 0
-PartsOf s bytes versions = (parts : List Part) × (bytes ≡ flat_map part_bytes parts) × PartsSpell s parts versions
+PartsOf s bytes versions = (parts : List FilePart) × (bytes ≡ flat_map part_bytes parts) × PartsSpell s parts versions
 
 with_reset : (begins : Bool) (s : Segment) (bytes : List ℕ) (versions : List VersionData) → PartsOf (segment_for begins s) bytes versions →
     PartsOf s (reset_before begins ++ bytes) versions
@@ -96,25 +96,25 @@ parts_of (v ∷ versions) s bytes (begins, set, x, after, is, section, spells, m
     (Object k size x.0 ∷ later.0, whole, (section.1, (v, after, versions, refl, spells, later.2))) in
     subst (λ (y : List ℕ). PartsOf s y (v ∷ versions)) (sym is) (with_reset begins s (set_type k ∷ set) (v ∷ versions) here)
 
-same_sets : (w : Written) (versions : List VersionData) → spelled_versions O5m w versions ≡ spelled_sets w versions
+same_sets : (w : Written) (versions : List VersionData) → versions_bytes O5m w versions ≡ spelled_sets w versions
 same_sets w [] = refl
 same_sets w (v ∷ versions) = ap (λ x. spelled_set w v ++ x) (same_sets (written_after w v) versions)
 
-same_in_both : (w : Written) (versions : List VersionData) → spelled_versions O5c w versions ≡ spelled_versions O5m w versions
+same_in_both : (w : Written) (versions : List VersionData) → versions_bytes O5c w versions ≡ versions_bytes O5m w versions
 same_in_both w [] = refl
 same_in_both w (v ∷ versions) = ap (λ x. spelled_set w v ++ x) (same_in_both (written_after w v) versions)
 
 -- ---- whole files
 sets_file : (header : List ℕ) (versions : List VersionData) → (header ≡ o5m_header) ⊎ (header ≡ o5c_header) → All IsVersion versions →
-    length (spelled_sets nothing_written versions) < 2 ^ 64
-    → O5File ((header ++ spelled_sets nothing_written versions) ++ end_byte ∷ []) versions
+    length (spelled_sets initial_written versions) < 2 ^ 64
+    → O5File ((header ++ spelled_sets initial_written versions) ++ end_byte ∷ []) versions
 sets_file header versions begins valid small =
-    let h = parts_of versions new_segment (spelled_sets nothing_written versions) (lists_read versions valid small).0 in
+    let h = parts_of versions new_segment (spelled_sets initial_written versions) (lists_read versions valid small).0 in
     record {
       header = header;
       parts = h.0;
       begins = begins;
-      whole = append_assoc header (spelled_sets nothing_written versions) (end_byte ∷ []) ∙ ap (λ x. header ++ (x ++ end_byte ∷ [])) h.1;
+      whole = append_assoc header (spelled_sets initial_written versions) (end_byte ∷ []) ∙ ap (λ x. header ++ (x ++ end_byte ∷ [])) h.1;
       spelled = h.2;
     }
 
@@ -123,7 +123,7 @@ letter_is_no_reset kind.Node = refl
 letter_is_no_reset kind.Way = refl
 letter_is_no_reset kind.Relation = refl
 
-lines_start : (w : Written) (versions : List VersionData) → start_of (spelled_versions Opl w versions) ≡ InOpl
+lines_start : (w : Written) (versions : List VersionData) → start_of (versions_bytes Opl w versions) ≡ InOpl
 unfolding line
 lines_start w [] = refl
 lines_start w (v ∷ versions) = ap (λ t. cond t BeforeHeader InOpl) (letter_is_no_reset (kind_of v.body))
@@ -134,20 +134,20 @@ small_sets header sets short = omega (arith, short, length-append (header ++ set
 spelled_file : (f : Format) (versions : List VersionData) → All IsVersion versions → length (spell_list f versions) < 2 ^ 62 →
     IsFile (spell_list f versions) versions
 spelled_file Opl versions valid short =
-    let lines : List ℕ = spelled_versions Opl nothing_written versions in
-    let file : IsFile lines versions = subst (λ (stand : Stand). IsFileOf stand lines versions) (sym (lines_start nothing_written versions))
-    (lines_file nothing_written versions valid) in
+    let lines : List ℕ = versions_bytes Opl initial_written versions in
+    let file : IsFile lines versions = subst (λ (stand : FileStateData). IsFileOf stand lines versions) (sym (lines_start initial_written versions))
+    (lines_file initial_written versions valid) in
     subst (λ (bytes : List ℕ). IsFile bytes versions) (sym (append-nil lines)) file
 spelled_file O5m versions valid short =
-    let same = same_sets nothing_written versions in
+    let same = same_sets initial_written versions in
     let small = subst (λ (sets : List ℕ). length sets < 2 ^ 64) same
-    (small_sets o5m_header (spelled_versions O5m nothing_written versions) short) in
+    (small_sets o5m_header (versions_bytes O5m initial_written versions) short) in
     subst (λ (sets : List ℕ). O5File ((o5m_header ++ sets) ++ end_byte ∷ []) versions) (sym same)
     (sets_file o5m_header versions (inl refl) valid small)
 spelled_file O5c versions valid short =
-    let same = same_in_both nothing_written versions ∙ same_sets nothing_written versions in
+    let same = same_in_both initial_written versions ∙ same_sets initial_written versions in
     let small = subst (λ (sets : List ℕ). length sets < 2 ^ 64) same
-    (small_sets o5c_header (spelled_versions O5c nothing_written versions) short) in
+    (small_sets o5c_header (versions_bytes O5c initial_written versions) short) in
     subst (λ (sets : List ℕ). O5File ((o5c_header ++ sets) ++ end_byte ∷ []) versions) (sym same)
     (sets_file o5c_header versions (inr refl) valid small)
 
@@ -164,19 +164,22 @@ keys_rise : (xs : List VersionData) → IsStrictlySortedBy version_cmp xs → Is
 keys_rise xs h = λ k d low high. key_not_below (get_or xs k d) (get_or xs (k + 1) d)
     (Less-from_sorted version_cmp xs k (k + 1) d h (omega arith) high)
 
-pub listed_members : (s : VersionSet) → s ≡ from_list (listed s)
-listed_members s = same_set version_cmp_total version_cmp-IsAntisymmetric s (from_list (listed s))
-    (λ q. contains-listed s q ∙ sym (contains-from_list version_cmp_total (listed s) q))
+-- A set is the set of its list.
+pub listed_members : (s : VersionSet) → s ≡ from_list (to_list s)
+listed_members s = same_set version_cmp_total version_cmp-IsAntisymmetric s (from_list (to_list s))
+    (λ q. contains-listed s q ∙ sym (contains-from_list version_cmp_total (to_list s) q))
 
+-- The file of a set of versions, if it is below 2^62 bytes, is sorted and holds the set.
 pub spell_holds : SpellHoldsItsSet
 spell_holds f s valid short = record {
   short = short;
-  versions = listed s;
-  file = spelled_file f (listed s) valid short;
-  sorted = keys_rise (listed s) (strict-listed s);
+  versions = to_list s;
+  file = spelled_file f (to_list s) valid short;
+  sorted = keys_rise (to_list s) (strict-listed s);
   members = listed_members s;
 }
 
+-- A file holds one set.
 pub held_is_one_set : HeldIsOneSet
 held_is_one_set bytes one other h g = h.members ∙ ap (λ xs. from_list {R = version_cmp} xs)
     (one_list bytes h.versions g.versions h.file g.file) ∙ sym g.members
@@ -205,6 +208,7 @@ in_both s t q = contains-union version_cmp_total s t q
 equal_sets : (s t : VersionSet) → ((q : VersionData) → contains s q ≡ contains t q) → s ≡ t
 equal_sets s t h = same_set version_cmp_total version_cmp-IsAntisymmetric s t h
 
+-- The file of a union doesn't depend on the order of the sets.
 pub join_in_any_order : JoinInAnyOrder
 join_in_any_order f a b = ap (spell f) (equal_sets (union a b) (union b a)
     (λ q. in_both a b q ∙ or_turned (holds_one a q) (holds_one b q) ∙ sym (in_both b a q)))
@@ -212,6 +216,7 @@ join_in_any_order f a b = ap (spell f) (equal_sets (union a b) (union b a)
 none_in_empty : (q : VersionData) → holds_one empty q ≡ false
 none_in_empty q = ap is_some (get-empty version_cmp q)
 
+-- The union of a set with itself has the file of its union with the empty set.
 pub join_repeated : JoinRepeated
 join_repeated f a = ap (spell f) (equal_sets (union a a) (union a empty)
     (λ q. in_both a a q ∙ or_repeated (holds_one a q) ∙ ap (λ (b : Bool). holds_one a q || b) (sym (none_in_empty q))
@@ -231,21 +236,23 @@ member_of_list xs q valid h =
     subst (λ (v : VersionData). IsVersion v) (a.3 ∙ sym is) (valid (a.0) (a.1) a.2)
 
 member_is : (s : VersionSet) (q : VersionData) → AreVersions s → contains s q ≡ true → IsVersion q
-member_is s q valid h = member_of_list (listed s) q valid (sym (contains-listed s q) ∙ h)
+member_is s q valid h = member_of_list (to_list s) q valid (sym (contains-listed s q) ∙ h)
 
-contains_itself : (s : VersionSet) (k : ℕ) (d : VersionData) → k < length (listed s) → contains s (get_or (listed s) k d) ≡ true
+contains_itself : (s : VersionSet) (k : ℕ) (d : VersionData) → k < length (to_list s) → contains s (get_or (to_list s) k d) ≡ true
 contains_itself s k d within =
-    let x : VersionData = get_or (listed s) k d in
+    let x : VersionData = get_or (to_list s) k d in
     let tied : eq_by_cmp version_cmp x x ≡ true = ap is_eq (tied_itself version_cmp_total x) in
-    contains-listed s x ∙ list_any_at (eq_by_cmp version_cmp x) (listed s) k d within tied
+    contains-listed s x ∙ list_any_at (eq_by_cmp version_cmp x) (to_list s) k d within tied
 
+-- A set whose members are versions is a set of versions.
 pub are_versions : (s : VersionSet) → ((q : VersionData) → contains s q ≡ true → IsVersion q) → AreVersions s
-are_versions s members = λ k d within. members (get_or (listed s) k d) (contains_itself s k d within)
+are_versions s members = λ k d within. members (get_or (to_list s) k d) (contains_itself s k d within)
 
 either : (a b : Bool) → (a || b) ≡ true → (a ≡ true) ⊎ (b ≡ true)
 either true b h = inl refl
 either false b h = inr h
 
+-- The union of two sets of versions is a set of versions.
 pub unions_are_versions : UnionsAreVersions
 unions_are_versions a b valid others =
     are_versions (union a b) (λ x h. elim (either (holds_one a x) (holds_one b x)
@@ -255,12 +262,14 @@ unions_are_versions a b valid others =
 pub are_fewer : (a b : VersionSet) → AreVersions a → ((q : VersionData) → contains b q ≡ true → contains a q ≡ true) → AreVersions b
 are_fewer a b valid part = are_versions b (λ x h. member_is a x valid (part x h))
 
+-- A file holds a set of versions.
 pub held_are_versions : HeldAreVersions
 held_are_versions bytes s h =
     are_versions s (λ x has.
     member_of_list h.versions x (files_hold_versions bytes h.versions h.file)
     (sym (contains-from_list version_cmp_total h.versions x) ∙ ap (λ t. contains t x) (sym h.members) ∙ has))
 
+-- The file of a set of versions holds no other set.
 pub spelled_is_held : SpelledIsHeld
 spelled_is_held f set held valid h =
     let own = spell_holds f set valid h.short in
@@ -269,32 +278,36 @@ spelled_is_held f set held valid h =
 is_union : (f : Format) (a b held : VersionSet) → AreVersions a → AreVersions b → Holds (joined_file f a b) held → held ≡ union a b
 is_union f a b held valid others h = spelled_is_held f (union a b) held (unions_are_versions a b valid others) h
 
+-- Three sets make one file of their union, whichever two are joined and written first.
 pub join_in_any_grouping : JoinInAnyGrouping
 join_in_any_grouping f g h a b c ab bc valid_a valid_b valid_c left right =
     ap (λ (s : VersionSet). spell f (union s c)) (is_union g a b ab valid_a valid_b left)
     ∙ ap (spell f) (grouped a b c)
     ∙ ap (λ (s : VersionSet). spell f (union a s)) (sym (is_union h b c bc valid_b valid_c right))
 
--- ---- what is put one after the other
+-- ---- versions put in sequence
 pub each_may_follow : EachMayFollow
 each_may_follow f versions others v sorted =
     let xs = versions ++ v ∷ others in
     let within : length versions < length xs = omega (arith, length-append versions (v ∷ others)) in
     let at : get_or xs (length versions) v ≡ v = get_or-append_seam versions v others v in
     let front : take (length versions) xs ≡ versions = take-append_seam versions (v ∷ others) in
-    let P : VersionData → List VersionData → Type 0 = λ x ys. MayFollow x (behind_all f nothing_written ys) in
+    let P : VersionData → List VersionData → Type 0 = λ x ys. MayFollow x (written_with_all f initial_written ys) in
     subst (λ (ys : List VersionData). P v ys) front (subst (λ (x : VersionData). P x (take (length versions) xs)) at
     (may_follow f xs (length versions) v sorted within))
 
+-- The file of a strictly ascending list is the file of its set.
 pub list_spelled : ListIsSpelledAsItsSet
-list_spelled f versions sorted = ap (spell_list f) (sym (listed-view versions sorted))
+list_spelled f versions sorted = ap (spell_list f) (sym (to_list-view versions sorted))
 
+-- The file of the first versions of a list is a front of the list's file, without the mark of its end.
 pub first_in_front : FirstVersionsStandInFront
 first_in_front f versions others = (
-  spelled_versions f (behind_all f nothing_written versions) others ++ ended f,
+  versions_bytes f (written_with_all f initial_written versions) others ++ file_end f,
   list_split f versions others,
 )
 
+-- Three files make one file of their union, whichever two are joined first.
 pub files_join : FilesJoinInAnyGrouping
 files_join f g h first second third a b c ab bc one two three =
     join_in_any_grouping f g h a b c ab bc (held_are_versions first a one) (held_are_versions second b two)
@@ -311,9 +324,11 @@ reading_holds bytes s h =
     let file = accepted_without_verdict bytes h.0 in
     record { short = file.0; versions = versions_of (file_units bytes).list; file = file.1; members = h.1 }
 
+-- Bytes hold a set if and only if they have no verdict and it is the set of their units.
 pub held_without_verdict : HeldWithoutVerdict
 held_without_verdict bytes s = (holds_reading bytes s, reading_holds bytes s)
 
+-- The file of a set of versions, if it is below 2^62 bytes, has no verdict.
 pub spell_has_no_verdict : SpellHasNoVerdict
 spell_has_no_verdict f s valid short =
     let own = spell_holds f s valid short in

@@ -4,7 +4,7 @@ use Rattle.std.proofs.Common.{◌++◌, length, map, take, drop, slice_get, refl
 use Rattle.std.proofs.Common.{append-nil, append_assoc, nat_lt}
 use Rattle.std.proofs.lemmas.Bool.{false≢true, true≢false, and_parts, ltb-true, eqb-true, not-true}
 use Rattle.std.proofs.lemmas.List.{drop-drop, map-append, take_all}
-use Rattle.opl_line.specs.Cut.{is_line_end}
+use Rattle.opl_line.specs.Delimiter.{is_line_end}
 use Rattle.osm_files.specs.declared.sorted_run.BytesAtSplit.{BytesAtSplit}
 use Rattle.osm_files.specs.declared.sorted_run.SortedRun.{SortedRun}
 use Rattle.osm_files.specs.O5.{o5m_header, end_byte, reset_byte}
@@ -32,7 +32,7 @@ take_one [] i b e = absurd (let f : None ≡ Some b = e in cc)
 take_one (x ∷ xs) zero b e = let is : x ≡ b = cc in ap (λ y. y ∷ []) is
 take_one (x ∷ xs) (suc i) b e = ap (λ ys. x ∷ ys) (take_one xs i b e)
 
--- ---- what the first bytes tell
+-- ---- consequences of the first bytes
 some_end : (o : Option ℕ) → ends_line o ≡ true → (b : ℕ) × (o ≡ Some b) × (is_line_end b ≡ true)
 some_end None e = absurd (false≢true e)
 some_end (Some b) e = (b, refl, e)
@@ -157,6 +157,7 @@ module _ (run : SortedRun) (offset : ℕ) (bytes : BytesAtSplit) (file : List �
   either some true is can = inr (o5 is can)
   either some false is can = inl (opl some is can)
 
+-- A run that can be split is split into two.
 pub splits : (run : SortedRun) (offset : ℕ) (bytes : BytesAtSplit) (file : List ℕ)
     → HasBytes file run.start offset bytes → can_split run offset bytes ≡ true
     → IsSplit (run_bytes (front_run (is_o5_run run bytes) run offset) file) (run_bytes (rest_run (is_o5_run run bytes) run offset) file)
@@ -182,6 +183,7 @@ module _ (file : List ℕ) where
   abbrev of : SortedRun → List ℕ
   of run = run_bytes run file
 
+  -- Runs whose last one is split are runs of the file.
   pub split_rest : (fronts : List SortedRun) (last front rest : SortedRun) → IsSplit (of front) (of rest) (of last)
       → IsSplitIntoRuns file (fronts ++ last ∷ []) → IsSplitIntoRuns file ((fronts ++ front ∷ []) ++ rest ∷ [])
   split_rest fronts last front rest split is =
@@ -191,5 +193,6 @@ module _ (file : List ℕ) where
       let before : IsSplitInto file (map of fronts ++ of last ∷ []) = subst (λ files. IsSplitInto file files) old is in
       subst (λ files. IsSplitInto file files) (sym new) (split_last file (map of fronts) (of last) (of front) (of rest) split before)
 
+-- The whole run of a file has the file's bytes.
 pub whole_file : (file : List ℕ) → length file < 2 ^ 64 → take (2 ^ 64 - 1) file ++ [] ≡ file
 whole_file file short = append-nil (take (2 ^ 64 - 1) file) ∙ take_all (2 ^ 64 - 1) file (omega (arith, short))

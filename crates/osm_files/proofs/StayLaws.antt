@@ -1,4 +1,4 @@
--- A unit that stands whole stays the same, whatever follows it.
+-- A whole unit is the same, whatever follows it.
 use Rattle.std.proofs.Common.{◌≡◌, ◌⊎◌, inl, inr, ⊎_elim, ℕ, zero, suc, ◌+◌, ◌-◌, ◌≤◌, ◌<◌, ◌==◌, ◌||◌, ◌^◌, Bool, true, false, cond, List}
 use Rattle.std.proofs.Common.{[], ◌∷◌, ◌++◌, length, take, refl, sym, ap, ◌∙◌, arith, Option, Some, None, Result, Ok, Err, length-append}
 use Rattle.std.proofs.Common.{nat_lt, nat_le}
@@ -6,7 +6,7 @@ use Rattle.std.specs.List.{list_any}
 use Rattle.std.proofs.lemmas.Bool.{false≢true, ltb-true, ltb-false, leb-true, lt-ltb}
 use Rattle.std.proofs.lemmas.Bool.Decides.{nat_tests}
 use Rattle.std.proofs.lemmas.List.{take-append-le}
-use Rattle.opl_line.specs.Cut.{is_line_end, lengthened, split_first}
+use Rattle.opl_line.specs.Delimiter.{is_line_end, with_byte, split_first}
 use Rattle.o5_codec.specs.declared.reason.O5Reason.{O5Reason}
 use Rattle.o5_codec.specs.declared.reason.O5Reason.TheVariants.{BadNumber}
 use Rattle.o5_codec.specs.declared.segment.Segment.{Segment}
@@ -15,8 +15,8 @@ use Rattle.o5_codec.specs.Number.{groups_at, number_at, with_low, within_word}
 use Rattle.o5_codec.specs.Decoder.{new_segment}
 use Rattle.osm_files.specs.declared.reason.Reason.TheVariants.{BadHeader}
 use Rattle.osm_files.specs.O5.{end_byte, reset_byte, is_lone, kind_of_type}
-use Rattle.osm_files.specs.Units.{Stand, InOpl, BeforeHeader, InSegment, BehindEnd, FileUnit, unit, passes, line_unit, header_unit}
-use Rattle.osm_files.specs.Units.{is_header, content_found, is_last, is_ended, length_at, sized_unit, segment_unit, behind_unit, unit_at}
+use Rattle.osm_files.specs.Units.{FileStateData, InOpl, BeforeHeader, InSegment, BehindEnd, FileUnit, unit, no_version, line_unit, header_unit}
+use Rattle.osm_files.specs.Units.{is_header, content_found, is_last, is_ended, length_at, sized_unit, segment_unit, unit_after_end, unit_at}
 use Rattle.osm_files.proofs.UnitLaws.{some_is_not_none}
 use Rattle.osm_files.proofs.PartLaws.{length_found}
 
@@ -26,16 +26,16 @@ Split = List ℕ × Option (List ℕ)
 module _ (p : ℕ → Bool) where
   -- the second part of a split decides
   longer_split : (b : ℕ) (s t : Split) (more behind : List ℕ) → ((behind : List ℕ) → s.1 ≡ Some behind → t ≡ (s.0, Some (behind ++ more))) →
-      (lengthened b s).1 ≡ Some behind → lengthened b t ≡ ((lengthened b s).0, Some (behind ++ more))
-  longer_split b s t more behind on e = ap (lengthened b) (on behind e)
+      (with_byte b s).1 ≡ Some behind → with_byte b t ≡ ((with_byte b s).0, Some (behind ++ more))
+  longer_split b s t more behind on e = ap (with_byte b) (on behind e)
 
   split_more : (bytes more behind : List ℕ) → (split_first p bytes).1 ≡ Some behind →
       split_first p (bytes ++ more) ≡ ((split_first p bytes).0, Some (behind ++ more))
   split_more [] more behind e = absurd (some_is_not_none behind (sym e))
   split_more (b ∷ bytes) more behind f =
-      elim (p b) as (λ t. (cond t ([], Some bytes) (lengthened b (split_first p bytes))).1 ≡ Some behind →
-      cond t ([], Some (bytes ++ more)) (lengthened b (split_first p (bytes ++ more)))
-      ≡ ((cond t ([], Some bytes) (lengthened b (split_first p bytes))).0, Some (behind ++ more))) [
+      elim (p b) as (λ t. (cond t ([], Some bytes) (with_byte b (split_first p bytes))).1 ≡ Some behind →
+      cond t ([], Some (bytes ++ more)) (with_byte b (split_first p (bytes ++ more)))
+      ≡ ((cond t ([], Some bytes) (with_byte b (split_first p bytes))).0, Some (behind ++ more))) [
         | true ↦ λ e. let same : bytes ≡ behind = cc in ap (λ x. ([], Some (x ++ more))) same
         | false ↦ λ e. longer_split b (split_first p bytes) (split_first p (bytes ++ more)) more behind (split_more bytes more) e
       ] f
@@ -55,7 +55,7 @@ line_stays bytes more u = by_split (split_first is_line_end bytes) (split_first 
 header_stays : (bytes more : List ℕ) → Stays header_unit bytes more
 header_stays bytes more u =
     elim (nat_lt (length bytes) 7) as (λ t. nat_lt (length bytes) 7 ≡ t →
-    cond t None (Some (unit 7 (cond (is_header (take 7 bytes)) (passes (InSegment new_segment)) (Err BadHeader)))) ≡ Some u →
+    cond t None (Some (unit 7 (cond (is_header (take 7 bytes)) (no_version (InSegment new_segment)) (Err BadHeader)))) ≡ Some u →
     header_unit (bytes ++ more) ≡ Some u) [
       | true ↦ λ is e. absurd (some_is_not_none u (sym e))
       | false ↦ λ is e. (
@@ -69,7 +69,7 @@ header_stays bytes more u =
 abbrev Number : Type 0
 Number = Result (ℕ × List ℕ) O5Reason
 
--- a number that was read, with more bytes behind it
+-- a number that was read, with more bytes after it
 abbrev pub and_more : List ℕ → Number → Number
 and_more more (Ok x) = Ok (x.0, x.1 ++ more)
 and_more more (Err reason) = Err reason
@@ -86,7 +86,7 @@ word_more more (Ok x) =
       | false ↦ refl
     ]
 
--- a number that is ended, or has too many bytes, is read alike whatever follows
+-- a number that is ended, or has too many bytes, is read in the same way whatever follows
 behind_first : (b : ℕ) (bytes : List ℕ) (room : ℕ) → nat_lt b 128 ≡ false →
     (suc room < length (b ∷ bytes)) ⊎ (list_any is_last (b ∷ bytes) ≡ true) → (room < length bytes) ⊎ (list_any is_last bytes ≡ true)
 behind_first b bytes room is (inl h) = inl (omega (arith, h))
@@ -174,20 +174,20 @@ segment_stays : (s : Segment) (bytes more : List ℕ) → Stays (segment_unit s)
 segment_stays s [] more u e = absurd (some_is_not_none u (sym e))
 segment_stays s (b ∷ bytes) more u e =
     let set = set_by s b bytes more u (is_ended bytes) refl in
-    elim (b == end_byte) as (λ t. cond t (Some (unit 1 (passes BehindEnd)))
-    (cond (b == reset_byte) (Some (unit 1 (passes (InSegment new_segment))))
-    (cond (is_lone b) (Some (unit 1 (passes (InSegment s)))) (sized_unit s b bytes (length_at bytes)))) ≡ Some u
-    → cond t (Some (unit 1 (passes BehindEnd))) (cond (b == reset_byte) (Some (unit 1 (passes (InSegment new_segment))))
-    (cond (is_lone b) (Some (unit 1 (passes (InSegment s)))) (sized_unit s b (bytes ++ more) (length_at (bytes ++ more))))) ≡ Some u) [
+    elim (b == end_byte) as (λ t. cond t (Some (unit 1 (no_version BehindEnd)))
+    (cond (b == reset_byte) (Some (unit 1 (no_version (InSegment new_segment))))
+    (cond (is_lone b) (Some (unit 1 (no_version (InSegment s)))) (sized_unit s b bytes (length_at bytes)))) ≡ Some u
+    → cond t (Some (unit 1 (no_version BehindEnd))) (cond (b == reset_byte) (Some (unit 1 (no_version (InSegment new_segment))))
+    (cond (is_lone b) (Some (unit 1 (no_version (InSegment s)))) (sized_unit s b (bytes ++ more) (length_at (bytes ++ more))))) ≡ Some u) [
       | true ↦ λ f. f
-      | false ↦ elim (b == reset_byte) as (λ t. cond t (Some (unit 1 (passes (InSegment new_segment))))
-          (cond (is_lone b) (Some (unit 1 (passes (InSegment s)))) (sized_unit s b bytes (length_at bytes))) ≡ Some u
-          → cond t (Some (unit 1 (passes (InSegment new_segment))))
-          (cond (is_lone b) (Some (unit 1 (passes (InSegment s)))) (sized_unit s b (bytes ++ more) (length_at (bytes ++ more))))
+      | false ↦ elim (b == reset_byte) as (λ t. cond t (Some (unit 1 (no_version (InSegment new_segment))))
+          (cond (is_lone b) (Some (unit 1 (no_version (InSegment s)))) (sized_unit s b bytes (length_at bytes))) ≡ Some u
+          → cond t (Some (unit 1 (no_version (InSegment new_segment))))
+          (cond (is_lone b) (Some (unit 1 (no_version (InSegment s)))) (sized_unit s b (bytes ++ more) (length_at (bytes ++ more))))
           ≡ Some u) [
             | true ↦ λ f. f
-            | false ↦ elim (is_lone b) as (λ t. cond t (Some (unit 1 (passes (InSegment s)))) (sized_unit s b bytes (length_at bytes))
-                ≡ Some u → cond t (Some (unit 1 (passes (InSegment s)))) (sized_unit s b (bytes ++ more) (length_at (bytes ++ more)))
+            | false ↦ elim (is_lone b) as (λ t. cond t (Some (unit 1 (no_version (InSegment s)))) (sized_unit s b bytes (length_at bytes))
+                ≡ Some u → cond t (Some (unit 1 (no_version (InSegment s)))) (sized_unit s b (bytes ++ more) (length_at (bytes ++ more)))
                 ≡ Some u) [
                   | true ↦ λ f. f
                   | false ↦ set
@@ -195,11 +195,12 @@ segment_stays s (b ∷ bytes) more u e =
           ]
     ] e
 
-behind_stays : (bytes more : List ℕ) → Stays behind_unit bytes more
+behind_stays : (bytes more : List ℕ) → Stays unit_after_end bytes more
 behind_stays [] more u e = absurd (some_is_not_none u (sym e))
 behind_stays (b ∷ bytes) more u e = e
 
-pub unit_stays : (stand : Stand) (bytes more : List ℕ) → Stays (unit_at stand) bytes more
+-- A whole unit stays the same, whatever bytes follow it.
+pub unit_stays : (stand : FileStateData) (bytes more : List ℕ) → Stays (unit_at stand) bytes more
 unfolding unit_at
 unit_stays InOpl bytes more = line_stays bytes more
 unit_stays BeforeHeader bytes more = header_stays bytes more

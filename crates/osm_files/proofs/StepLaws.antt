@@ -1,8 +1,8 @@
--- Units one at a time: the unit at the front, and those behind it.
+-- Units one at a time: the unit at the front, and those after it.
 use Rattle.std.proofs.Common.{◌≡◌, ℕ, zero, suc, ◌+◌, ◌-◌, ◌≤◌, ◌==◌, true, false, cond, List, [], ◌∷◌, length, drop, take, refl, sym, ap}
 use Rattle.std.proofs.Common.{◌∙◌, subst, arith, Option, Some, None, Result, Ok, Err, length-drop, length-append, nat_lt, nat_le}
 use Rattle.std.proofs.lemmas.Bool.{ltb-false, leb-true}
-use Rattle.opl_line.specs.Cut.{is_line_end, split_first}
+use Rattle.opl_line.specs.Delimiter.{is_line_end, split_first}
 use Rattle.opl_line.specs.Reading.{reading_line}
 use Rattle.o5_codec.specs.declared.reason.O5Reason.{O5Reason}
 use Rattle.o5_codec.specs.declared.segment.Segment.{Segment}
@@ -10,13 +10,13 @@ use Rattle.o5_codec.specs.Decoder.{new_segment}
 use Rattle.osm_files.specs.declared.reason.Reason.TheVariants.{BadHeader}
 use Rattle.osm_files.specs.Stream.{Verdict, Placed, Still}
 use Rattle.osm_files.specs.O5.{end_byte, reset_byte, is_lone, kind_of_type}
-use Rattle.osm_files.specs.Units.{Stand, InOpl, BeforeHeader, InSegment, BehindEnd, Found, FileUnit, unit, passes, line_unit, line_found}
-use Rattle.osm_files.specs.Units.{header_unit, is_header, content_found, length_at, sized_unit, segment_unit, behind_unit, unit_at, last_at}
-use Rattle.osm_files.specs.Units.{found_then, closed, unit_then, units_within, units}
+use Rattle.osm_files.specs.Units.{FileStateData, InOpl, BeforeHeader, InSegment, BehindEnd, UnitResult, FileUnit, unit, no_version, line_unit, line_found}
+use Rattle.osm_files.specs.Units.{header_unit, is_header, content_found, length_at, sized_unit, segment_unit, unit_after_end, unit_at, last_at}
+use Rattle.osm_files.specs.Units.{found_then, final_units, unit_then, units_within, units}
 use Rattle.osm_files.proofs.UnitLaws.{splits, SplitsAs, some_is_not_none}
 use Rattle.osm_files.proofs.PartLaws.{length_found}
 
--- a unit has a byte at least, and no more than there are
+-- a unit has at least one byte, and no more than there are
 pub record IsSized (u : FileUnit) (bytes : List ℕ) : Type 0 where
   pub some : 1 ≤ u.size
   pub within : u.size ≤ length bytes
@@ -27,7 +27,7 @@ Sizes bytes found = (u : FileUnit) → found ≡ Some u → IsSized u bytes
 none_sized : (bytes : List ℕ) → Sizes bytes None
 none_sized bytes = λ u e. absurd (some_is_not_none u (sym e))
 
-some_sized : (bytes : List ℕ) (size : ℕ) (found : Found) → 1 ≤ size → size ≤ length bytes → Sizes bytes (Some (unit size found))
+some_sized : (bytes : List ℕ) (size : ℕ) (found : UnitResult) → 1 ≤ size → size ≤ length bytes → Sizes bytes (Some (unit size found))
 some_sized bytes size found some within = λ u e.
     let same : unit size found ≡ u = (let f : Some (unit size found) ≡ Some u = e in cc) in
     subst (λ (x : FileUnit). IsSized x bytes) same (record { some = some; within = within })
@@ -41,7 +41,7 @@ line_sized bytes (line, Some behind) h =
 header_sized : (bytes : List ℕ) → Sizes bytes (header_unit bytes)
 header_sized bytes =
     elim (nat_lt (length bytes) 7) as (λ t. nat_lt (length bytes) 7 ≡ t →
-    Sizes bytes (cond t None (Some (unit 7 (cond (is_header (take 7 bytes)) (passes (InSegment new_segment)) (Err BadHeader)))))) [
+    Sizes bytes (cond t None (Some (unit 7 (cond (is_header (take 7 bytes)) (no_version (InSegment new_segment)) (Err BadHeader)))))) [
       | true ↦ λ is. none_sized bytes
       | false ↦ λ is. some_sized bytes 7 _ (omega arith) (ltb-false (length bytes) 7 is)
     ] refl
@@ -63,34 +63,36 @@ set_sized s b bytes (Some (Ok (size, behind))) e =
 segment_sized : (s : Segment) (bytes : List ℕ) → Sizes bytes (segment_unit s bytes)
 segment_sized s [] = none_sized []
 segment_sized s (b ∷ bytes) =
-    elim (b == end_byte) as (λ t. Sizes (b ∷ bytes) (cond t (Some (unit 1 (passes BehindEnd)))
-    (cond (b == reset_byte) (Some (unit 1 (passes (InSegment new_segment))))
-    (cond (is_lone b) (Some (unit 1 (passes (InSegment s)))) (sized_unit s b bytes (length_at bytes)))))) [
+    elim (b == end_byte) as (λ t. Sizes (b ∷ bytes) (cond t (Some (unit 1 (no_version BehindEnd)))
+    (cond (b == reset_byte) (Some (unit 1 (no_version (InSegment new_segment))))
+    (cond (is_lone b) (Some (unit 1 (no_version (InSegment s)))) (sized_unit s b bytes (length_at bytes)))))) [
       | true ↦ some_sized (b ∷ bytes) 1 _ (omega arith) (omega arith)
       | false ↦ elim (b == reset_byte) as (λ t. Sizes (b ∷ bytes)
-          (cond t (Some (unit 1 (passes (InSegment new_segment))))
-          (cond (is_lone b) (Some (unit 1 (passes (InSegment s)))) (sized_unit s b bytes (length_at bytes))))) [
+          (cond t (Some (unit 1 (no_version (InSegment new_segment))))
+          (cond (is_lone b) (Some (unit 1 (no_version (InSegment s)))) (sized_unit s b bytes (length_at bytes))))) [
             | true ↦ some_sized (b ∷ bytes) 1 _ (omega arith) (omega arith)
             | false ↦ elim (is_lone b) as (λ t. Sizes (b ∷ bytes)
-                (cond t (Some (unit 1 (passes (InSegment s)))) (sized_unit s b bytes (length_at bytes)))) [
+                (cond t (Some (unit 1 (no_version (InSegment s)))) (sized_unit s b bytes (length_at bytes)))) [
                   | true ↦ some_sized (b ∷ bytes) 1 _ (omega arith) (omega arith)
                   | false ↦ set_sized s b bytes (length_at bytes) refl
                 ]
           ]
     ]
 
-behind_sized : (bytes : List ℕ) → Sizes bytes (behind_unit bytes)
+behind_sized : (bytes : List ℕ) → Sizes bytes (unit_after_end bytes)
 behind_sized [] = none_sized []
 behind_sized (b ∷ bytes) = some_sized (b ∷ bytes) 1 _ (omega arith) (omega arith)
 
-pub unit_sized : (stand : Stand) (bytes : List ℕ) → Sizes bytes (unit_at stand bytes)
+-- A whole unit has a byte at least, and no more than there are.
+pub unit_sized : (stand : FileStateData) (bytes : List ℕ) → Sizes bytes (unit_at stand bytes)
 unfolding unit_at
 unit_sized InOpl bytes = line_sized bytes (split_first is_line_end bytes) (splits is_line_end bytes)
 unit_sized BeforeHeader bytes = header_sized bytes
 unit_sized (InSegment s) bytes = segment_sized s bytes
 unit_sized BehindEnd bytes = behind_sized bytes
 
-pub found_same : (place : ℕ) (found : Found) (more others : Stand → Still Placed Verdict) → ((next : Stand) → more next ≡ others next) →
+-- What follows a unit may be replaced by its equal.
+pub found_same : (place : ℕ) (found : UnitResult) (more others : FileStateData → Still Placed Verdict) → ((next : FileStateData) → more next ≡ others next) →
     found_then place found more ≡ found_then place found others
 found_same place (Err reason) more others same = refl
 found_same place (Ok (None, next)) more others same = same next
@@ -99,11 +101,11 @@ found_same place (Ok (Some v, next)) more others same =
 
 module _ (close : Option Verdict) where
   abbrev Same : ℕ → ℕ → Type 0
-  Same n m = (stand : Stand) (place : ℕ) (bytes : List ℕ) → length bytes ≤ n → length bytes ≤ m →
+  Same n m = (stand : FileStateData) (place : ℕ) (bytes : List ℕ) → length bytes ≤ n → length bytes ≤ m →
       units_within n close stand place bytes ≡ units_within m close stand place bytes
 
-  -- so many units are enough
-  then_same : (n m : ℕ) → Same n m → (stand : Stand) (place : ℕ) (bytes : List ℕ) → length bytes ≤ suc n → length bytes ≤ suc m →
+  -- a bound on the number of units that is enough
+  then_same : (n m : ℕ) → Same n m → (stand : FileStateData) (place : ℕ) (bytes : List ℕ) → length bytes ≤ suc n → length bytes ≤ suc m →
       (found : Option FileUnit) → unit_at stand bytes ≡ found
       → unit_then close stand place bytes (units_within n close) found ≡ unit_then close stand place bytes (units_within m close) found
   then_same n m on stand place bytes few less None e = refl
@@ -113,8 +115,8 @@ module _ (close : Option Verdict) where
       let shorter : length (drop u.size bytes) ≤ m = omega (arith, length-drop u.size bytes, sized.some, sized.within, less) in
       found_same place u.found _ _ (λ next. on next (place + u.size) (drop u.size bytes) short shorter)
 
-  nothing_there : (stand : Stand) (place : ℕ) (m : ℕ) (found : Option FileUnit) → unit_at stand [] ≡ found →
-      unit_then close stand place [] (units_within m close) found ≡ closed close place (last_at stand [])
+  nothing_there : (stand : FileStateData) (place : ℕ) (m : ℕ) (found : Option FileUnit) → unit_at stand [] ≡ found →
+      unit_then close stand place [] (units_within m close) found ≡ final_units close place (last_at stand [])
   nothing_there stand place m None e = refl
   nothing_there stand place m (Some u) e = let sized = unit_sized stand [] u e in absurd (omega (arith, sized.some, sized.within))
 
@@ -127,8 +129,8 @@ module _ (close : Option Verdict) where
   within_same (suc n) (suc m) stand place bytes few less =
       then_same n m (within_same n m) stand place bytes few less (unit_at stand bytes) refl
 
-  -- the unit at the front, and those behind it
-  pub units_step : (stand : Stand) (place : ℕ) (bytes : List ℕ) (u : FileUnit) → unit_at stand bytes ≡ Some u →
+  -- the unit at the front, and those after it
+  pub units_step : (stand : FileStateData) (place : ℕ) (bytes : List ℕ) (u : FileUnit) → unit_at stand bytes ≡ Some u →
       units close stand place bytes ≡ found_then place u.found (λ next. units close next (place + u.size) (drop u.size bytes))
   unfolding units
   units_step stand place bytes u e =
@@ -139,9 +141,9 @@ module _ (close : Option Verdict) where
       ∙ found_same place u.found _ _ (λ next. within_same n (length (drop u.size bytes)) next (place + u.size) (drop u.size bytes)
       (omega (arith, length-drop u.size bytes)) (omega arith))
 
-  -- where no unit stands whole
-  pub units_stop : (stand : Stand) (place : ℕ) (bytes : List ℕ) → unit_at stand bytes ≡ None →
-      units close stand place bytes ≡ closed close place (last_at stand bytes)
+  -- if no unit is whole
+  pub units_stop : (stand : FileStateData) (place : ℕ) (bytes : List ℕ) → unit_at stand bytes ≡ None →
+      units close stand place bytes ≡ final_units close place (last_at stand bytes)
   unfolding units
   units_stop stand place bytes e =
       let n : ℕ = length bytes in

@@ -1,24 +1,25 @@
--- What units read as, and the units of lines.
+-- The readings of units, and the units of lines.
 use Rattle.std.proofs.Common.{◌≡◌, ℕ, zero, suc, ◌+◌, ◌≤◌, Bool, true, false, not, cond, List, [], ◌∷◌, ◌++◌, length, drop, filter, refl}
 use Rattle.std.proofs.Common.{sym, ap, ◌∙◌, subst, arith, Option, Some, None, Result, Ok, Err, length-append}
 use Rattle.osm_model.specs.Data.{VersionData}
 use Rattle.osm_model.specs.Pairwise.{Pairwise}
-use Rattle.opl_line.specs.Cut.{cut, is_line_end, lengthened, pieces_of, split_first}
+use Rattle.opl_line.specs.Delimiter.{split_all, is_line_end, with_byte, pieces_of, split_first}
 use Rattle.opl_line.specs.Reading.{is_skipped, reading_line}
 use Rattle.opl_line.specs.Spells.{Spells}
 use Rattle.opl_line.specs.declared.reason.OplReason.{OplReason}
 use Rattle.opl_line.proofs.CutLaws.{cut_split}
 use Rattle.opl_line.proofs.SpellsLaws.{read_is_spelled, one_reading, refused_spells_nothing, answer_spelled}
-use Rattle.osm_files.specs.Stream.{Verdict, Placed, Still, whole}
+use Rattle.osm_files.specs.Stream.{Verdict, Placed, Still, end_whole}
 use Rattle.osm_files.specs.Opl.{is_read, OplFile}
-use Rattle.osm_files.specs.Units.{Stand, InOpl, line_found, line_unit, found_then, closed, unit_then, unit_at, last_at, units_within}
+use Rattle.osm_files.specs.Units.{FileStateData, InOpl, line_found, line_unit, found_then, final_units, unit_then, unit_at, last_at, units_within}
 use Rattle.osm_files.specs.Verdict.{versions_of}
 
--- units have no verdict exactly where their bytes spell versions, and then are these
+-- units have no verdict exactly if their bytes spell versions, and then they are these
 pub record ReadsAs (still : Still Placed Verdict) (Spelled : List VersionData → Type 0) : Type 0 where
   pub read : (versions : List VersionData) → Spelled versions → (still.refusal ≡ None) × (versions_of still.list ≡ versions)
   pub back : still.refusal ≡ None → Spelled (versions_of still.list)
 
+-- A value isn't None.
 pub some_is_not_none : {A : Type 0} (x : A) → Some x ≡ None → ⊥
 some_is_not_none x e = cc
 
@@ -53,7 +54,7 @@ refused_line line pieces reason versions e all =
     let k = spelled_line line pieces versions (kept_by (is_skipped line) _ reason e) all in
     refused_spells_nothing line reason k.0 e k.3
 
-pub line_then : (line : List ℕ) (pieces : List (List ℕ)) (place : ℕ) (more : Stand → Still Placed Verdict) →
+pub line_then : (line : List ℕ) (pieces : List (List ℕ)) (place : ℕ) (more : FileStateData → Still Placed Verdict) →
     ReadsAs (more InOpl) (LineFile pieces) → (answer : Result (Option VersionData) OplReason) → reading_line line ≡ answer
     → ReadsAs (found_then place (line_found answer) more) (LineFile (line ∷ pieces))
 line_then line pieces place more h (Ok None) e =
@@ -84,19 +85,20 @@ abbrev pub SplitsAs : List ℕ → List ℕ × Option (List ℕ) → Type 0
 SplitsAs bytes (line, None) = line ≡ bytes
 SplitsAs bytes (line, Some behind) = (b : ℕ) × (bytes ≡ line ++ b ∷ behind)
 
-longer : (b : ℕ) (bytes : List ℕ) (s : List ℕ × Option (List ℕ)) → SplitsAs bytes s → SplitsAs (b ∷ bytes) (lengthened b s)
+longer : (b : ℕ) (bytes : List ℕ) (s : List ℕ × Option (List ℕ)) → SplitsAs bytes s → SplitsAs (b ∷ bytes) (with_byte b s)
 longer b bytes (line, None) h = ap (λ l. b ∷ l) h
 longer b bytes (line, Some behind) h = (h.0, ap (λ l. b ∷ l) h.1)
 
+-- A text is split first as its pieces say.
 pub splits : (p : ℕ → Bool) (bytes : List ℕ) → SplitsAs bytes (split_first p bytes)
 splits p [] = refl
 splits p (b ∷ bytes) =
-    elim (p b) as (λ t. SplitsAs (b ∷ bytes) (cond t ([], Some bytes) (lengthened b (split_first p bytes)))) [
+    elim (p b) as (λ t. SplitsAs (b ∷ bytes) (cond t ([], Some bytes) (with_byte b (split_first p bytes)))) [
       | true ↦ (b, refl)
       | false ↦ longer b bytes (split_first p bytes) (splits p bytes)
     ]
 
--- behind a piece and its end
+-- after a piece and its end
 pub drop_behind : (front : List ℕ) (b : ℕ) (behind : List ℕ) → drop (length front + 1) (front ++ b ∷ behind) ≡ behind
 drop_behind [] b behind = refl
 drop_behind (a ∷ front) b behind = let e : length (a ∷ front) + 1 ≡ suc (length front + 1) = omega arith in
@@ -109,7 +111,7 @@ nothing : (versions : List VersionData) → LineFile [] versions → [] ≡ vers
 nothing [] h = refl
 nothing (v ∷ versions) h = absurd h
 
-nothing_more : ReadsAs whole (LineFile [])
+nothing_more : ReadsAs end_whole (LineFile [])
 nothing_more = record { read = λ versions h. (refl, nothing versions h); back = λ none. tt }
 
 unit_in_opl : (bytes : List ℕ) → unit_at InOpl bytes ≡ line_unit (split_first is_line_end bytes)
@@ -121,26 +123,27 @@ unfolding last_at
 last_in_opl bytes = refl
 
 -- the last line, which may lack its end
-last_line : (place : ℕ) (bytes : List ℕ) → ReadsAs (closed None place (last_at InOpl bytes)) (LineFile (bytes ∷ []))
-last_line place bytes = rw (last_in_opl bytes) (line_then bytes [] place (λ next. whole) nothing_more (reading_line bytes) refl)
+last_line : (place : ℕ) (bytes : List ℕ) → ReadsAs (final_units None place (last_at InOpl bytes)) (LineFile (bytes ∷ []))
+last_line place bytes = rw (last_in_opl bytes) (line_then bytes [] place (λ next. end_whole) nothing_more (reading_line bytes) refl)
 
--- the first line, and what is behind its end
+-- the first line, and the bytes after its end
 first_line : (n : ℕ) → Reads n → (bytes : List ℕ) (place : ℕ) → length bytes ≤ suc n → (s : List ℕ × Option (List ℕ)) → SplitsAs bytes s →
-    cut is_line_end bytes ≡ s.0 ∷ pieces_of is_line_end s.1
+    split_all is_line_end bytes ≡ s.0 ∷ pieces_of is_line_end s.1
     → ReadsAs (unit_then None InOpl place bytes (units_within n None) (line_unit s)) (OplFile bytes)
 first_line n on bytes place fits (line, None) split pieces =
-    let P : List (List ℕ) → Type 0 = λ ls. ReadsAs (closed None place (last_at InOpl bytes)) (LineFile ls) in
-    subst P (sym pieces ∙ refl) (subst (λ (l : List ℕ). ReadsAs (closed None place (last_at InOpl bytes)) (LineFile (l ∷ []))) (sym split)
+    let P : List (List ℕ) → Type 0 = λ ls. ReadsAs (final_units None place (last_at InOpl bytes)) (LineFile ls) in
+    subst P (sym pieces ∙ refl) (subst (λ (l : List ℕ). ReadsAs (final_units None place (last_at InOpl bytes)) (LineFile (l ∷ []))) (sym split)
     (last_line place bytes))
 first_line n on bytes place fits (line, Some behind) split pieces =
     let size : ℕ = length line + 1 in
     let rest : drop size bytes ≡ behind = ap (drop size) split.1 ∙ drop_behind line split.0 behind in
     let few : length behind ≤ n = omega (arith, fits, ap length split.1, length-append line (split.0 ∷ behind)) in
-    let more : Stand → Still Placed Verdict = λ next. units_within n None next (place + size) (drop size bytes) in
-    let reads : ReadsAs (more InOpl) (LineFile (cut is_line_end behind)) = rw rest (on behind (place + size) few) in
+    let more : FileStateData → Still Placed Verdict = λ next. units_within n None next (place + size) (drop size bytes) in
+    let reads : ReadsAs (more InOpl) (LineFile (split_all is_line_end behind)) = rw rest (on behind (place + size) few) in
     let P : List (List ℕ) → Type 0 = λ ls. ReadsAs (found_then place (line_found (reading_line line)) more) (LineFile ls) in
-    subst P (sym pieces) (line_then line (cut is_line_end behind) place more reads (reading_line line) refl)
+    subst P (sym pieces) (line_then line (split_all is_line_end behind) place more reads (reading_line line) refl)
 
+-- The units of an OPL file read as its lines.
 pub opl_reads : (n : ℕ) → Reads n
 opl_reads zero [] place fits = last_line place []
 opl_reads zero (b ∷ bytes) place fits = absurd (omega (arith, fits))

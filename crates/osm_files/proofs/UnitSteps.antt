@@ -1,10 +1,10 @@
--- What the code finds at the front of some bytes is the unit there.
+-- The unit that the code finds at the front of some bytes is the unit there.
 use Rattle.std.proofs.Common.{◌≡◌, ◌⊎◌, inl, inr, ℕ, ◌+◌, ◌≤◌, true, false, List, [], ◌∷◌, length, take, refl, sym, ap, ◌∙◌, arith, Option}
 use Rattle.std.proofs.Common.{Some, None, Ok, Err, position, length-take, nat_lt, nat_le, ◌-◌, slice_get}
 use Rattle.std.proofs.lemmas.Bool.{false≢true}
 use Rattle.std.proofs.lemmas.Bool.Decides.{nat_tests}
 use Rattle.osm_model.specs.Data.{VersionData}
-use Rattle.opl_line.specs.Cut.{is_line_end, split_first}
+use Rattle.opl_line.specs.Delimiter.{is_line_end, split_first}
 use Rattle.opl_line.specs.Reading.{reading_line}
 use Rattle.opl_line.specs.declared.reason.OplReason.{OplReason}
 use Rattle.opl_line.specs.declared.reason.OplReason.TheVariants as opl
@@ -17,9 +17,10 @@ use Rattle.o5_codec.specs.Number.{number_at}
 use Rattle.osm_files.specs.Reason.{of_line, of_data_set}
 use Rattle.osm_files.specs.O5.{kind_of_type}
 use Rattle.osm_files.specs.Reading.{Finds, ends_at}
-use Rattle.osm_files.specs.Units.{Stand, BehindEnd, behind_unit, segment_unit, InOpl, is_ended, length_at, sized_unit, content_found, unit}
-use Rattle.osm_files.specs.Units.{line_unit, line_found, header_unit, is_header, passes}
+use Rattle.osm_files.specs.Units.{FileStateData, BehindEnd, unit_after_end, segment_unit, InOpl, is_ended, length_at, sized_unit, content_found, unit}
+use Rattle.osm_files.specs.Units.{line_unit, line_found, header_unit, is_header, no_version}
 
+-- Where no line end is there, no line is whole.
 pub no_line : (bytes : List ℕ) → position is_line_end bytes ≡ None → line_unit (split_first is_line_end bytes) ≡ None
 no_line bytes none = ap line_unit (split_nowhere is_line_end bytes none)
 
@@ -33,10 +34,12 @@ module _ (bytes : List ℕ) (n : ℕ) (found : position is_line_end bytes ≡ So
       let long : length text ≡ n = omega (arith, length-take n bytes, s.within) in
       ap line_unit s.split ∙ ap (λ k. Some (unit (k + 1) (line_found (reading_line text)))) long
 
+  -- A line that is read is the unit at the front.
   pub line_read : (read : Option VersionData) → reading_line text ≡ Ok read →
       line_unit (split_first is_line_end bytes) ≡ Some (unit (n + 1) (Ok (read, InOpl)))
   line_read read e = line_there ∙ ap (λ r. Some (unit (n + 1) (line_found r))) e
 
+  -- A line that is refused is the faulty unit at the front.
   pub line_refused : (inner : OplReason) (reason : Reason) → reason ≡ of_line inner →
       (inner ≡ opl.Memory) ⊎ (reading_line text ≡ Err inner) → Finds (line_unit (split_first is_line_end bytes)) (Err reason) InOpl
   line_refused inner reason is (inl e) = inl (is ∙ ap of_line e)
@@ -46,16 +49,19 @@ module _ (bytes : List ℕ) (n : ℕ) (found : position is_line_end bytes ≡ So
         ∙ ap (λ r. Some (unit (n + 1) (Err r))) (sym is),
   )
 
+-- Seven bytes that are no header are BadHeader.
 pub bad_header : (bytes : List ℕ) → 7 ≤ length bytes → is_header (take 7 bytes) ≡ false → header_unit bytes ≡ Some (unit 7 (Err BadHeader))
 bad_header bytes long no_header =
     let is_long : nat_lt (length bytes) 7 ≡ false = grind (arith, nat_tests) in
     rw (is_long, no_header) refl
 
-module _ (s : Segment) (b : ℕ) (bytes : List ℕ) (next : Stand) (ended : is_ended bytes ≡ true) where
+module _ (s : Segment) (b : ℕ) (bytes : List ℕ) (next : FileStateData) (ended : is_ended bytes ≡ true) where
+  -- A length that can't be read is the faulty unit at the front.
   pub size_refused : (inner : O5Reason) (reason : Reason) → number_at bytes ≡ Err inner → reason ≡ of_data_set inner →
       Finds (sized_unit s b bytes (length_at bytes)) (Err reason) next
   size_refused inner reason e is = inr (1, rw (ended, e, is) refl)
 
+  -- A content that can't be read is the faulty unit at the front.
   pub content_refused : (size : ℕ) (behind : List ℕ) (reason : Reason) → number_at bytes ≡ Ok (size, behind) → size ≤ length behind →
       (reason ≡ Memory) ⊎ (content_found s (kind_of_type b) (take size behind) ≡ Err reason)
       → Finds (sized_unit s b bytes (length_at bytes)) (Err reason) next
@@ -64,10 +70,12 @@ module _ (s : Segment) (b : ℕ) (bytes : List ℕ) (next : Stand) (ended : is_e
       let fits : nat_le size (length behind) ≡ true = grind (arith, nat_tests) in
       inr (1 + (length bytes - length behind) + size, rw (ended, e, fits, is) refl)
 
-pub behind_first : (bytes : List ℕ) (b : ℕ) (next : Stand) → Some b ≡ slice_get bytes 0 → Finds (behind_unit bytes) (Err AfterEnd) next
+-- A byte after the end of a file is AfterEnd.
+pub behind_first : (bytes : List ℕ) (b : ℕ) (next : FileStateData) → Some b ≡ slice_get bytes 0 → Finds (unit_after_end bytes) (Err AfterEnd) next
 behind_first [] b next e = absurd (let f : Some b ≡ None = e in cc)
 behind_first (c ∷ bytes) b next e = inr (1, refl)
 
-pub end_first : (s : Segment) (bytes : List ℕ) → ends_at bytes ≡ true → segment_unit s bytes ≡ Some (unit 1 (passes BehindEnd))
+-- The end byte is the unit at the front.
+pub end_first : (s : Segment) (bytes : List ℕ) → ends_at bytes ≡ true → segment_unit s bytes ≡ Some (unit 1 (no_version BehindEnd))
 end_first s [] e = absurd (false≢true e)
 end_first s (b ∷ bytes) e = rw e refl

@@ -1,4 +1,4 @@
--- What a file holds, and whether it is sorted.
+-- The set that a file holds, and whether the file is sorted.
 use Rattle.std.specs.Prelude.{◌≡◌, ℕ, ◌<◌, ◌^◌, List, length}
 use Rattle.std.specs.List.Sorted.{IsSorted}
 use Rattle.osm_model.specs.Data.{VersionData}
@@ -7,16 +7,16 @@ use Rattle.osm_model.specs.VersionSet.{VersionSet}
 use Rattle.osm_model.specs.Sets.{from_list}
 use Rattle.osm_files.specs.Opl.{OplFile}
 use Rattle.osm_files.specs.O5.{O5File}
-use Rattle.osm_files.specs.Units.{Stand, InOpl, BeforeHeader, InSegment, BehindEnd, start_of}
+use Rattle.osm_files.specs.Units.{FileStateData, InOpl, BeforeHeader, InSegment, BehindEnd, start_of}
 
 -- by the grammar of this start
-abbrev pub IsFileOf : Stand → List ℕ → List VersionData → Type 0
+abbrev pub IsFileOf : FileStateData → List ℕ → List VersionData → Type 0
 IsFileOf InOpl = OplFile
 IsFileOf BeforeHeader = O5File
 IsFileOf (InSegment s) = λ bytes versions. ⊥
 IsFileOf BehindEnd = λ bytes versions. ⊥
 
--- the bytes are a file of the grammar that their first byte tells, and spell these versions
+-- the bytes are a file of the grammar that their first byte determines, and spell these versions
 abbrev pub IsFile : List ℕ → List VersionData → Type 0
 IsFile bytes versions = IsFileOf (start_of bytes) bytes versions
 
@@ -28,7 +28,7 @@ pub record Holds (bytes : List ℕ) (held : VersionSet) : Type 0 where
   pub file : IsFile bytes versions
   pub members : held ≡ from_list {R = version_cmp} versions
 
--- The file is accepted and sorted, and holds this set: besides, none of its versions has a key below that of the one
+-- The file is accepted and sorted, and holds this set: also, none of its versions has a key below that of the one
 -- before it.
 pub record HoldsSorted (bytes : List ℕ) (held : VersionSet) : Type 0 where
   pub short : length bytes < 2 ^ 62

@@ -1,14 +1,14 @@
--- What the fields of a sink mean.
+-- The state of a sink, from its fields.
 use Rattle.std.specs.Prelude.{◌≡◌, ◌<◌, ◌^◌, false}
 use Rattle.osm_files.specs.declared.sink.Sink.TheInside.{Inside}
-use Rattle.osm_files.specs.Sink.{SinkState, AreOf, written_in}
+use Rattle.osm_files.specs.Sink.{SinkState, AreUnitsOf, written_by_units}
 
--- what a sink tells of what it keeps; not its buffer
+-- the state of a sink, without its buffer
 abbrev pub state_of : Inside → SinkState
 state_of s = record {
   format = s.format;
   number = s.number;
-  encoder = written_in s.units;
+  encoder = written_by_units s.units;
   written = s.written;
   begun =
       s.begun;
@@ -16,7 +16,7 @@ state_of s = record {
   failed = s.failed;
 }
 
--- it has written fewer than 2^62 bytes, and as long as it has not failed its units are those of the format
+-- it has written fewer than 2^62 bytes, and if it has not failed its units are those of the format
 pub record IsSound (s : Inside) : Type 0 where
   pub short : s.written < 2 ^ 62
-  pub units : s.failed ≡ false → AreOf s.format s.units
+  pub units : s.failed ≡ false → AreUnitsOf s.format s.units

@@ -1,4 +1,4 @@
--- Laws of the definitions: a file has one reading, and its verdict tells whether it has one.
+-- Laws of the definitions: a file has one reading, and its verdict shows whether it has one.
 use Rattle.std.specs.Prelude.{◌≡◌, ℕ, ◌<◌, ◌^◌, List, length, None, Some}
 use Rattle.std.specs.List.Sorted.{IsSorted}
 use Rattle.osm_model.specs.Data.{VersionData}

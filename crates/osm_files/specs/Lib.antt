@@ -2,12 +2,14 @@ pub mod Format
 pub mod Reason
 pub mod Fault
 pub mod Input
+pub mod WholeLines
 pub mod Output
 pub mod Change
 pub mod Stream
 pub mod Source
 pub mod Groups
 pub mod Opl
+pub mod Lines
 pub mod O5
 pub mod Units
 pub mod Held

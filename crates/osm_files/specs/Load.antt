@@ -1,4 +1,4 @@
--- What a whole file is loaded as.
+-- The result of loading a whole file.
 use Rattle.std.specs.Prelude.{◌≡◌, ◌↔◌, ◌⊎◌, ℕ, ◌==◌, ◌||◌, not, nat_le, Bool, false, IsTrue, List, [], ◌∷◌, length}
 use Rattle.std.specs.Prelude.{take, bytes_eq, Some, None, IfSome, if◌then◌else◌}
 use Rattle.std.specs.List.Sorted.{IsSorted}
@@ -9,32 +9,32 @@ use Rattle.osm_files.specs.declared.format.Format.{Format}
 use Rattle.osm_files.specs.declared.format.Format.TheVariants.{Opl, O5m, O5c}
 use Rattle.osm_files.specs.declared.load.Loaded.{Loaded}
 use Rattle.osm_files.specs.Fault.{memory_fault}
-use Rattle.osm_files.specs.Groups.{FileStand, FileCanGive, sorted_source}
+use Rattle.osm_files.specs.Groups.{FileSourceData, FileCanGive, sorted_source}
 use Rattle.osm_files.specs.Input.{Coming, Explained}
 use Rattle.osm_files.specs.O5.{o5m_header, reset_byte}
 use Rattle.osm_files.specs.Held.{Holds, HoldsSorted}
 use Rattle.osm_files.specs.Verdict.{versions_of}
-use Rattle.osm_files.specs.Position.{Told, units_from, named, ahead, GoesOn}
+use Rattle.osm_files.specs.Position.{KnownPosition, units_from, with_input, bytes_ahead, GoesOn}
 
--- the header of o5m files stands at the front
+-- the header of o5m files is at the front
 abbrev pub is_o5m : List ℕ → Bool
 is_o5m bytes = bytes_eq (take 7 bytes) o5m_header
 
--- the format of a file: OPL where its first byte isn't ff, else o5m or o5c by the header
+-- the format of a file: OPL if its first byte isn't ff, else o5m or o5c by the header
 abbrev pub format_of : List ℕ → Format
 format_of [] = Opl
 format_of (b ∷ bytes) = if b == reset_byte then (if is_o5m (b ∷ bytes) then O5m else O5c) else Opl
 
--- these bytes tell the format, whatever follows them: the first isn't ff, or they are as many as a header has
+-- these bytes determine the format, whatever follows them: the first isn't ff, or they are as many as a header has
 abbrev pub tells_format : List ℕ → Bool
 tells_format [] = false
 tells_format (b ∷ bytes) = not (b == reset_byte) || nat_le 7 (length (b ∷ bytes))
 
--- the bytes to come are a file of this format, and still are to come
-abbrev pub TellsFormat : Format → Told → Told → Type 0
-TellsFormat format before after = GoesOn before after × IfSome (ahead before) (λ c. format ≡ format_of c.bytes)
+-- the remaining bytes are a file of this format, and none was passed
+abbrev pub TellsFormat : Format → KnownPosition → KnownPosition → Type 0
+TellsFormat format before after = GoesOn before after × IfSome (bytes_ahead before) (λ c. format ≡ format_of c.bytes)
 
--- the bytes are a file and no error follows them; what was loaded is what the file holds, its format and whether it is
+-- the bytes are a file and no error follows them; the result has the file's versions, its format and whether it is
 -- sorted
 pub record Loads (c : Coming) (loaded : Loaded) : Type 0 where
   pub unbroken : c.broken ≡ false
@@ -46,21 +46,21 @@ pub record Loads (c : Coming) (loaded : Loaded) : Type 0 where
 -- format, and this is whether it is sorted
 pub record IsRead (input : ℕ) (c : Coming) (versions : List VersionData) (format : Format)
     (sorted : Bool) : Type 0 where
-  pub unrefused : (named input (units_from None 0 c)).refusal ≡ None
-  pub all : versions_of (named input (units_from None 0 c)).list ≡ versions
+  pub unrefused : (with_input input (units_from None 0 c)).refusal ≡ None
+  pub all : versions_of (with_input input (units_from None 0 c)).list ≡ versions
   pub tells : format ≡ format_of c.bytes
   pub rises : IsTrue sorted ↔ IsSorted key_cmp versions
 
--- A source of this input's file was opened, and its format told: whatever it can give, the reader could give a file of
--- this format, of which it gives what a sorted file's source does.
-abbrev pub Opens : {R : Type 0} → (R → Coming → Type 0) → ℕ → R → Format → FileStand R → Type 0
+-- A source of this input's file was opened, and its format returned: for all that the source can give, the reader could
+-- give a file of this format, of which the source gives the versions of a sorted file's source.
+abbrev pub Opens : {R : Type 0} → (R → Coming → Type 0) → ℕ → R → Format → FileSourceData R → Type 0
 Opens can input reader format s = Explained (can reader) (FileCanGive can s)
     (λ c still. (format ≡ format_of c.bytes) × (still ≡ sorted_source input c))
 
--- why the source of this input's file isn't opened: for want of memory, or as the source of the file is refused
+-- why the source of this input's file isn't opened: it is out of memory, or refused as the source of the file
 abbrev pub StopsOpening : ℕ → Coming → Fault → Type 0
 StopsOpening input c fault = (fault ≡ memory_fault) ⊎ ((sorted_source input c).refusal ≡ Some fault)
 
--- why the file of this input isn't loaded: for want of memory, or as its units are refused
+-- why the file of this input isn't loaded: it is out of memory, or its units are refused
 abbrev pub StopsLoading : ℕ → Coming → Fault → Type 0
-StopsLoading input c fault = (fault ≡ memory_fault) ⊎ ((named input (units_from None 0 c)).refusal ≡ Some fault)
+StopsLoading input c fault = (fault ≡ memory_fault) ⊎ ((with_input input (units_from None 0 c)).refusal ≡ Some fault)

@@ -1,5 +1,5 @@
--- Laws of inputs: one that ends has the verdict of its bytes, and so has one that fails behind a faulty unit that
--- stands whole; and of the reasons of verdicts.
+-- Laws of inputs: one that ends has the verdict of its bytes, and so has one that fails after a whole faulty unit; and
+-- of the reasons of verdicts.
 use Rattle.std.specs.Prelude.{◌≡◌, ◌⊎◌, ℕ, ◌<◌, ◌≤◌, ◌^◌, Bool, true, false, List, length, Some, None, option_map}
 use Rattle.osm_model.specs.VersionSet.{VersionSet}
 use Rattle.osm_files.specs.declared.format.Format.{Format}
@@ -8,44 +8,43 @@ use Rattle.o5_codec.specs.declared.reason.O5Reason.TheVariants as o5
 use Rattle.osm_files.specs.declared.reason.Reason.{Reason}
 use Rattle.osm_files.specs.declared.reason.Reason.TheVariants.{Opl, O5, BadHeader, Unsorted, NoEnd, AfterEnd, TooLong}
 use Rattle.osm_files.specs.declared.reason.Reason.TheVariants.{ReadFault, WriteFault, Memory, Failed}
-use Rattle.osm_files.specs.Input.{Coming, whole}
+use Rattle.osm_files.specs.Input.{Coming, whole_input}
 use Rattle.osm_files.specs.Stream.{Verdict, verdict_at}
 use Rattle.osm_files.specs.Units.{units, start_of}
 use Rattle.osm_files.specs.Verdict.{file_units, verdict, verdict_sorted}
 use Rattle.osm_files.specs.Spell.{spell}
 use Rattle.osm_files.specs.Load.{format_of}
-use Rattle.osm_files.specs.Position.{units_from, fault_of, named}
+use Rattle.osm_files.specs.Position.{units_from, fault_of, with_input}
 
 -- the units of an input that ends are those of its bytes, and it is refused with their verdict
 abbrev pub InputsAreFiles : Type 0
 InputsAreFiles = (input : ℕ) (bytes : List ℕ) →
-    (units_from None 0 (whole bytes) ≡ file_units bytes)
-    × ((named input (units_from None 0 (whole bytes))).refusal ≡ option_map (fault_of input) (verdict bytes))
+    (units_from None 0 (whole_input bytes) ≡ file_units bytes)
+    × ((with_input input (units_from None 0 (whole_input bytes))).refusal ≡ option_map (fault_of input) (verdict bytes))
 
--- a unit that stands whole in these bytes is faulty, and is the first such: however the bytes are closed behind the
--- whole units
+-- a whole unit in these bytes is faulty, and is the first such: however the bytes are closed after the whole units
 abbrev pub IsFaultyWhole : List ℕ → Verdict → Type 0
 IsFaultyWhole bytes v = (close : Verdict) → (units (Some close) (start_of bytes) 0 bytes).refusal ≡ Some v
 
--- no unit that stands whole in these bytes is faulty
+-- no whole unit in these bytes is faulty
 abbrev pub NoneFaultyWhole : List ℕ → Type 0
 NoneFaultyWhole bytes = (close : Verdict) → (units (Some close) (start_of bytes) 0 bytes).refusal ≡ Some close
 
--- these bytes, and an error behind them
-abbrev pub broken_behind : List ℕ → Coming
-broken_behind bytes = record { bytes = bytes; broken = true }
+-- these bytes, and an error after them
+abbrev pub broken_after : List ℕ → Coming
+broken_after bytes = record { bytes = bytes; broken = true }
 
--- An input with an error behind its bytes is refused with the verdict of the bytes where they are too many, or where a
--- unit that stands whole in them is faulty; else for the error, at their number.
+-- An input with an error after its bytes is refused with the verdict of the bytes if they are too many, or if a whole
+-- unit in them is faulty; else for the error, at the number of its bytes.
 abbrev pub BrokenInputsAreRefused : Type 0
 BrokenInputsAreRefused = (bytes : List ℕ) →
-    (2 ^ 62 ≤ length bytes × ((units_from None 0 (broken_behind bytes)).refusal ≡ verdict bytes))
+    (2 ^ 62 ≤ length bytes × ((units_from None 0 (broken_after bytes)).refusal ≡ verdict bytes))
     ⊎ ((v : Verdict) × length bytes < 2 ^ 62 × IsFaultyWhole bytes v × (verdict bytes ≡ Some v)
-    × ((units_from None 0 (broken_behind bytes)).refusal ≡ Some v))
+    × ((units_from None 0 (broken_after bytes)).refusal ≡ Some v))
     ⊎ (length bytes < 2 ^ 62 × NoneFaultyWhole bytes
-    × ((units_from None 0 (broken_behind bytes)).refusal ≡ Some (verdict_at (length bytes) ReadFault)))
+    × ((units_from None 0 (broken_after bytes)).refusal ≡ Some (verdict_at (length bytes) ReadFault)))
 
--- the reasons of verdicts, whatever the order; never want of memory, an earlier refusal or the fault of a device
+-- the reasons of verdicts, whatever the order; never out of memory, an earlier refusal or the fault of a device
 abbrev pub is_verdict_reason : Reason → Bool
 is_verdict_reason (Opl opl.Memory) = false
 is_verdict_reason (Opl reason) = true
@@ -68,6 +67,6 @@ ReasonsOfVerdicts = (bytes : List ℕ) (v : Verdict) →
     (verdict bytes ≡ Some v → is_verdict_reason v.reason ≡ true)
     × (verdict_sorted bytes ≡ Some v → (v.reason ≡ Unsorted) ⊎ (is_verdict_reason v.reason ≡ true))
 
--- a file that is written in a format tells it
+-- a file that is written in a format determines it
 abbrev pub WrittenFilesTellTheirFormat : Type 0
 WrittenFilesTellTheirFormat = (format : Format) (set : VersionSet) → format_of (spell format set) ≡ format

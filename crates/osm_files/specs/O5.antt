@@ -1,5 +1,5 @@
--- o5m and o5c files: a header, data sets and the mark of the end (the OSM wiki's page on o5m; that both are read alike
--- is an own rule).
+-- o5m and o5c files: a header, data sets and the mark of the end (the OSM wiki's page on o5m; that both are read in the
+-- same way is an own rule).
 use Rattle.std.specs.Prelude.{◌≡◌, ◌⊎◌, ℕ, Bool, true, false, ◌==◌, ◌&&◌, nat_le, List, [], ◌∷◌, ◌++◌, length, Option}
 use Rattle.std.specs.Prelude.{Some, None, if◌then◌else◌}
 use Rattle.std.specs.List.{flat_map}
@@ -36,30 +36,30 @@ abbrev pub kind_of_type : ℕ → Option Kind
 kind_of_type b = if b == 16 then Some kind.Node
     else (if b == 17 then Some kind.Way else (if b == 18 then Some kind.Relation else None))
 
--- a byte that stands alone, and is skipped
+-- a lone byte, which is skipped
 abbrev pub is_lone : ℕ → Bool
 is_lone b = nat_le 240 b && nat_le b 253
 
--- a type byte with a length behind it, whose data set is skipped: every other byte
+-- a type byte with a length after it, whose data set is skipped: every other byte
 abbrev pub IsOtherType : ℕ → Type 0
 IsOtherType b = ((b == end_byte) ≡ false) × ((b == reset_byte) ≡ false) × (is_lone b ≡ false) × (kind_of_type b ≡ None)
 
--- what stands between the header and the end: a reset, a lone byte, a skipped data set, an object's data set
-pub data Part : Type 0 where
-  Reset : Part
-  Lone : ℕ → Part
-  Skipped : ℕ → List ℕ → List ℕ → Part
-  Object : Kind → List ℕ → List ℕ → Part
+-- the parts between the header and the end: a reset, a lone byte, a skipped data set, an object's data set
+pub data FilePart : Type 0 where
+  Reset : FilePart
+  Lone : ℕ → FilePart
+  Skipped : ℕ → List ℕ → List ℕ → FilePart
+  Object : Kind → List ℕ → List ℕ → FilePart
 
 -- a data set is its type byte, the number of its bytes, and these
-abbrev pub part_bytes : Part → List ℕ
+abbrev pub part_bytes : FilePart → List ℕ
 part_bytes Reset = reset_byte ∷ []
 part_bytes (Lone b) = b ∷ []
 part_bytes (Skipped b size content) = b ∷ size ++ content
 part_bytes (Object k size content) = type_byte k ∷ size ++ content
 
--- the parts spell these versions, relative to what the segment had before
-abbrev pub PartsSpell : Segment → List Part → List VersionData → Type 0
+-- the parts spell these versions, relative to the segment before them
+abbrev pub PartsSpell : Segment → List FilePart → List VersionData → Type 0
 PartsSpell s [] versions = versions ≡ []
 PartsSpell s (Reset ∷ parts) versions = PartsSpell new_segment parts versions
 PartsSpell s (Lone b ∷ parts) versions = (is_lone b ≡ true) × PartsSpell s parts versions
@@ -73,7 +73,7 @@ PartsSpell s (Object k size content ∷ parts) versions =
 -- the bytes are a header, parts that spell these versions, and the mark of the end
 pub record O5File (bytes : List ℕ) (versions : List VersionData) : Type 0 where
   pub header : List ℕ
-  pub parts : List Part
+  pub parts : List FilePart
   pub begins : (header ≡ o5m_header) ⊎ (header ≡ o5c_header)
   pub whole : bytes ≡ header ++ (flat_map part_bytes parts ++ end_byte ∷ [])
   pub spelled : PartsSpell new_segment parts versions

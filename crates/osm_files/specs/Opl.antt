@@ -1,9 +1,9 @@
--- OPL files: lines and what they hold (Osmium OPL file format manual; that comments and empty lines are skipped is an
+-- OPL files: lines and their versions (Osmium OPL file format manual; that comments and empty lines are skipped is an
 -- own rule).
 use Rattle.std.specs.Prelude.{ℕ, Bool, not, List, filter}
 use Rattle.osm_model.specs.Data.{VersionData}
 use Rattle.osm_model.specs.Pairwise.{Pairwise}
-use Rattle.opl_line.specs.Cut.{cut, is_line_end}
+use Rattle.opl_line.specs.Delimiter.{split_all, is_line_end}
 use Rattle.opl_line.specs.Reading.{is_skipped}
 use Rattle.opl_line.specs.Spells.{Spells}
 
@@ -12,4 +12,4 @@ is_read line = not (is_skipped line)
 
 -- the file's lines that aren't skipped spell these versions, one for one; a file is cut at each LF and each CR
 abbrev pub OplFile : List ℕ → List VersionData → Type 0
-OplFile bytes versions = Pairwise Spells (filter is_read (cut is_line_end bytes)) versions
+OplFile bytes versions = Pairwise Spells (filter is_read (split_all is_line_end bytes)) versions

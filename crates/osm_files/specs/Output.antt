@@ -1,35 +1,36 @@
--- What an output holds, whether it has failed, and what is written to it. That a write may take a front of the bytes
--- is the rule of Rust's `std::io::Write`; the rest is an own rule of this project.
+-- The bytes that an output holds, whether it has failed, and the bytes written to it. That a write may take a front of
+-- the bytes is the rule of Rust's `std::io::Write`; the rest is an own rule of this project.
 use Rattle.std.specs.Prelude.{◌≡◌, ◌≢◌, ℕ, ◌+◌, ◌<◌, ◌≤◌, ◌^◌, ◌⊎◌, Bool, true, false, List, [], ◌++◌, length, take}
 use Rattle.std.specs.Prelude.{Result, Ok, Err}
 use Rattle.osm_files.specs.declared.fault.Fault.{Fault}
 use Rattle.osm_files.specs.Fault.{too_long_fault, write_fault}
 
--- an output of memory: what it holds, how many bytes it has room for, and whether it has failed
+-- an output of memory: its bytes, the number of bytes it has room for, and whether it has failed
 pub record Collected : Type 0 where
   pub bytes : List ℕ
   pub capacity : ℕ
   pub failed : Bool
 
--- What an output may hold: a predicate of bytes. For an output that reports its bytes it is an equation. Of one that
--- reports nothing it is known only by what was held before and was written since.
+-- The bytes that an output may hold: a predicate of bytes. For an output that reports its bytes it is an equation. The
+-- bytes of any other output are known only as its earlier bytes and those written since.
 abbrev pub Content : Type 1
 Content = List ℕ → Type 0
 
--- A change of an output: what it may hold before and after, and whether it had failed before and has failed after.
+-- A change of an output: the bytes that it may hold before and after, and whether it had failed before and has failed
+-- after.
 pub record Change : Type 1 where
   pub before : Content
   pub after : Content
   pub failed_before : Bool
   pub failed : Bool
 
--- These bytes were appended: whatever was held before, that and then these bytes are held after.
-abbrev pub Appended : Content → Content → List ℕ → Type 0
-Appended before after bytes = (held : List ℕ) → before held → after (held ++ bytes)
+-- These bytes were appended: for all bytes that may be held before, these and then the new bytes may be held after.
+abbrev pub IsAppended : Content → Content → List ℕ → Type 0
+IsAppended before after bytes = (held : List ℕ) → before held → after (held ++ bytes)
 
 -- a change that appends these bytes
 abbrev pub Appends : Change → List ℕ → Type 0
-Appends change bytes = Appended change.before change.after bytes
+Appends change bytes = IsAppended change.before change.after bytes
 
 -- A write of these bytes fails the output if it returns an error, or takes none of some bytes. An output that had
 -- failed before returns an error.
@@ -63,14 +64,14 @@ WhyStopped output written bytes count failed fault =
     ((fault ≡ write_fault output (written + count)) × (failed ≡ true) × (written + length bytes < 2 ^ 62))
     ⊎ ((fault ≡ too_long_fault output) × (2 ^ 62 ≤ written + length bytes))
 
--- a front of these bytes was appended, after `written` bytes, and why no more
+-- a front of these bytes was appended, after `written` bytes, and the reason why no more were
 pub record StoppedWriting (output : ℕ) (change : Change) (written : ℕ) (bytes : List ℕ) (fault : Fault) : Type 0 where
   pub count : ℕ
   pub within : count ≤ length bytes
   pub appended : Appends change (take count bytes)
   pub why : WhyStopped output written bytes count change.failed fault
 
--- what writing all these bytes did, after `written` bytes, to the output of this number
+-- the effect of writing all these bytes, after `written` bytes, on the output of this number
 abbrev pub Writes : {A : Type 0} → ℕ → Change → ℕ → List ℕ → Result A Fault → Type 0
 Writes output change written bytes (Ok done) = WroteAll change written bytes
 Writes output change written bytes (Err fault) = StoppedWriting output change written bytes fault

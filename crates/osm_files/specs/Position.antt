@@ -1,4 +1,4 @@
--- Where a reading of units stands in its input, and what is still to come from there.
+-- The position of a reading of units in its input, and the rest from there.
 use Rattle.std.specs.Prelude.{◌≡◌, ◌⊎◌, ℕ, ◌≤◌, ◌+◌, ◌-◌, Bool, nat_lt, List, ◌∷◌, ◌++◌, ◌^◌, [], length, take, true}
 use Rattle.std.specs.Prelude.{false, Option, Some, None, option_map, IfSome, is_some, slice_get, Result, Ok, Err}
 use Rattle.std.specs.Prelude.{if◌then◌else◌}
@@ -7,24 +7,24 @@ use Rattle.osm_files.specs.declared.reason.Reason.{Reason}
 use Rattle.osm_files.specs.declared.reason.Reason.TheVariants.{ReadFault, Memory}
 use Rattle.osm_files.specs.declared.unit.ReadUnit.{ReadUnit}
 use Rattle.osm_files.specs.Fault.{memory_fault, failed_fault}
-use Rattle.osm_files.specs.Input.{Coming, whole as all_of, preceded_by, Explained, GivesOne}
-use Rattle.osm_files.specs.Stream.{Verdict, verdict_at, Placed, Still, refused}
-use Rattle.osm_files.specs.Units.{Stand, units, unit, unit_at, start_of}
-use Rattle.osm_files.specs.Verdict.{length_limit, too_long}
+use Rattle.osm_files.specs.Input.{Coming, whole_input as all_of, with_front, Explained, GivesOne}
+use Rattle.osm_files.specs.Stream.{Verdict, verdict_at, Placed, Still, end_refused}
+use Rattle.osm_files.specs.Units.{FileStateData, units, unit, unit_at, start_of}
+use Rattle.osm_files.specs.Verdict.{length_limit, too_long_verdict}
 
--- the place in the file of the first byte that is held, the bytes that are held, and what is to come behind them: the
--- reader that gives it, or what it gives; where the reading stands, which isn't known before the first byte; whether
--- the input has ended, and whether a call was refused
+-- the offset in the file of the first byte that is held, the bytes that are held, and the rest after them: the reader
+-- that gives it, or its bytes; the stage of the reading, which isn't known before the first byte; whether the input has
+-- ended, and whether a call was refused
 pub record Position (C : Type 0) : Type 0 where
   pub input : ℕ
   pub place : ℕ
   pub held : List ℕ
   pub coming : C
-  pub stand : Option Stand
+  pub stand : Option FileStateData
   pub ended : Bool
   pub failed : Bool
 
--- the position in an input of which nothing was read
+-- the position in an input before its first byte
 abbrev pub at_start : {C : Type 0} → ℕ → C → Position C
 at_start input coming = record {
   input = input;
@@ -36,13 +36,13 @@ at_start input coming = record {
   failed = false;
 }
 
--- a position that tells what is to come, where that is known
-abbrev pub Told : Type 0
-Told = Position (Option Coming)
+-- a position with the rest of its bytes, if they are known
+abbrev pub KnownPosition : Type 0
+KnownPosition = Position (Option Coming)
 
 -- the position, if its reader gives this
-abbrev pub telling : {R : Type 0} → Position R → Coming → Told
-telling p c = record {
+abbrev pub with_coming : {R : Type 0} → Position R → Coming → KnownPosition
+with_coming p c = record {
   input = p.input;
   place = p.place;
   held = p.held;
@@ -53,110 +53,110 @@ telling p c = record {
   failed = p.failed;
 }
 
--- whatever can come behind the later position is explained by something that could come behind the earlier one: if that
--- was to come, the step led from the one to the other
-abbrev pub Between : {R : Type 0} → (R → Coming → Type 0) → Position R → Position R → (Told → Told → Type 0) → Type 0
+-- each possible rest after the later position comes from a possible rest after the earlier one, and the step leads from
+-- the one to the other
+abbrev pub Between : {R : Type 0} → (R → Coming → Type 0) → Position R → Position R → (KnownPosition → KnownPosition → Type 0) → Type 0
 Between can p q step = Explained (can p.coming) (can q.coming)
-    (λ earlier later. step (telling p earlier) (telling q later))
+    (λ earlier later. step (with_coming p earlier) (with_coming q later))
 
--- the bytes from the place on, where they are known
-abbrev pub ahead : Told → Option Coming
-ahead p = if p.ended then Some (all_of p.held) else option_map (preceded_by p.held) p.coming
+-- the bytes from the offset on, if they are known
+abbrev pub bytes_ahead : KnownPosition → Option Coming
+bytes_ahead p = if p.ended then Some (all_of p.held) else option_map (with_front p.held) p.coming
 
-abbrev pub stand_in : Option Stand → List ℕ → Stand
-stand_in None bytes = start_of bytes
-stand_in (Some stand) bytes = stand
+abbrev pub state_or_start : Option FileStateData → List ℕ → FileStateData
+state_or_start None bytes = start_of bytes
+state_or_start (Some stand) bytes = stand
 
--- how a file with these bytes from a place on closes, if not by its own end: it is too long, or an error follows
-abbrev pub closing : ℕ → Coming → Option Verdict
-closing place c =
+-- the close of a file with these bytes from an offset on, other than its own end: it is too long, or an error follows
+abbrev pub closing_verdict : ℕ → Coming → Option Verdict
+closing_verdict place c =
     if nat_lt (place + length c.bytes) length_limit
     then (if c.broken then Some (verdict_at (place + length c.bytes) ReadFault) else None)
-    else Some too_long
+    else Some too_long_verdict
 
 -- the bytes that count: those below the limit
 abbrev pub window : ℕ → Coming → List ℕ
 window place c = if nat_lt (place + length c.bytes) length_limit then c.bytes
     else take (length_limit - 1 - place) c.bytes
 
--- the units from a place on
-unfoldable pub units_from : Option Stand → ℕ → Coming → Still Placed Verdict
-units_from stand place c = units (closing place c) (stand_in stand c.bytes) place (window place c)
+-- the units from an offset on
+unfoldable pub units_from : Option FileStateData → ℕ → Coming → Still Placed Verdict
+units_from stand place c = units (closing_verdict place c) (state_or_start stand c.bytes) place (window place c)
 
 -- a verdict as the fault of an input
 abbrev pub fault_of : ℕ → Verdict → Fault
 fault_of input v = record { input = input; place = v.place; reason = v.reason }
 
-abbrev pub named : {A : Type 0} → ℕ → Still A Verdict → Still A Fault
-named input still = record { list = still.list; refusal = option_map (fault_of input) still.refusal }
+abbrev pub with_input : {A : Type 0} → ℕ → Still A Verdict → Still A Fault
+with_input input still = record { list = still.list; refusal = option_map (fault_of input) still.refusal }
 
--- what is still to come, where it is known and no call was refused
-abbrev pub to_come : Told → Option (Still Placed Fault)
-to_come p = option_map (λ c. named p.input (units_from p.stand p.place c)) (ahead p)
+-- the rest, if it is known and no call was refused
+abbrev pub units_ahead : KnownPosition → Option (Still Placed Fault)
+units_ahead p = option_map (λ c. with_input p.input (units_from p.stand p.place c)) (bytes_ahead p)
 
--- what is still to come, where it is known; after a refusal the answer is Failed
-abbrev pub still_to_come : Told → Option (Still Placed Fault)
-still_to_come p = if p.failed then Some (refused (failed_fault p.input)) else to_come p
+-- the rest, if it is known; after a refusal the result is Failed
+abbrev pub units_or_failed : KnownPosition → Option (Still Placed Fault)
+units_or_failed p = if p.failed then Some (end_refused (failed_fault p.input)) else units_ahead p
 
--- at most so many units are still to come: each has a byte at least
+-- a bound on the number of units still to come: each has at least one byte
 abbrev pub units_left : {C : Type 0} → Position C → ℕ
 units_left p = 2 ^ 62 - p.place
 
--- what was known stays so
+-- a known value is unchanged
 abbrev pub Keeps : {A : Type 0} → Option A → Option A → Type 0
 Keeps before after = IfSome before (λ x. after ≡ Some x)
 
--- bytes were read on: nothing was given, and what was known stays so
-pub record ReadsOn (p q : Told) : Type 0 where
+-- more bytes were read: nothing was given, and a known rest is unchanged
+pub record ReadsOn (p q : KnownPosition) : Type 0 where
   pub input : q.input ≡ p.input
   pub place : q.place ≡ p.place
   pub stand : q.stand ≡ p.stand
   pub failed : q.failed ≡ p.failed
-  pub ahead : Keeps (ahead p) (ahead q)
+  pub ahead : Keeps (bytes_ahead p) (bytes_ahead q)
 
--- A position reads on to another, of readers that can give what they can give; what isn't said of bytes to come is said
--- by itself.
+-- A position reads on to another, over all that their readers can give. The fields other than the remaining bytes are
+-- equal.
 pub record HasRead {R : Type 0} (can : R → Coming → Type 0) (p q : Position R) : Type 0 where
   pub place : q.place ≡ p.place
   pub stand : q.stand ≡ p.stand
   pub failed : q.failed ≡ p.failed
   pub reads : Between can p q ReadsOn
 
--- nothing was given, and what was known to come still is
-pub record GoesOn (p q : Told) : Type 0 where
+-- nothing was given, and a known rest is unchanged
+pub record GoesOn (p q : KnownPosition) : Type 0 where
   pub input : q.input ≡ p.input
   pub place : p.place ≤ q.place
   pub failed : q.failed ≡ p.failed
-  pub keeps : Keeps (to_come p) (to_come q)
+  pub keeps : Keeps (units_ahead p) (units_ahead q)
 
--- where the reading stands, as far as the bytes held tell
-abbrev pub stand_at : {C : Type 0} → Position C → Stand
-stand_at p = stand_in p.stand p.held
+-- the stage of the reading, as far as the bytes held determine it
+abbrev pub state_at : {C : Type 0} → Position C → FileStateData
+state_at p = state_or_start p.stand p.held
 
--- the stand is known from the first byte on
-abbrev pub seen : {C : Type 0} → Position C → Position C
-seen p = if is_some (slice_get p.held 0) then record p { stand = Some (stand_at p) } else p
+-- the stage is known from the first byte on
+abbrev pub with_state : {C : Type 0} → Position C → Position C
+with_state p = if is_some (slice_get p.held 0) then record p { stand = Some (state_at p) } else p
 
--- the unit that stands whole at the front of the bytes held
+-- the whole unit at the front of the bytes held
 abbrev pub FindsHeld : {C : Type 0} → Position C → Result (Option ReadUnit) Reason → Position C → Type 0
-FindsHeld p (Ok None) q = (unit_at (stand_at p) p.held ≡ None) × (q ≡ seen p)
-FindsHeld p (Ok (Some u)) q = (next : Stand) × (unit_at (stand_at p) p.held ≡ Some (unit u.size (Ok (u.version, next))))
+FindsHeld p (Ok None) q = (unit_at (state_at p) p.held ≡ None) × (q ≡ with_state p)
+FindsHeld p (Ok (Some u)) q = (next : FileStateData) × (unit_at (state_at p) p.held ≡ Some (unit u.size (Ok (u.version, next))))
     × (q ≡ record p { stand = Some next })
 FindsHeld p (Err reason) q = (reason ≡ Memory)
-    ⊎ ((size : ℕ) × (unit_at (stand_at p) p.held ≡ Some (unit size (Err reason))))
+    ⊎ ((size : ℕ) × (unit_at (state_at p) p.held ≡ Some (unit size (Err reason))))
 
 -- an error follows the bytes held, or they are all that may be read and one more follows
-abbrev pub Halts : Told → Coming → Fault → Type 0
+abbrev pub Halts : KnownPosition → Coming → Fault → Type 0
 Halts p c fault =
     ((c ≡ record { bytes = p.held; broken = true })
     × (fault ≡ fault_of p.input (verdict_at (p.place + length p.held) ReadFault)))
     ⊎ ((p.place + length p.held + 1 ≡ 2 ^ 62) × ((b : ℕ) × (more : List ℕ) × (c.bytes ≡ p.held ++ b ∷ more))
-    × (fault ≡ fault_of p.input too_long))
+    × (fault ≡ fault_of p.input too_long_verdict))
 
 -- why no more bytes can be read
-abbrev pub StopsFilling : Told → Fault → Type 0
-StopsFilling p fault = (fault ≡ memory_fault) ⊎ IfSome (ahead p) (λ c. Halts p c fault)
+abbrev pub StopsFilling : KnownPosition → Fault → Type 0
+StopsFilling p fault = (fault ≡ memory_fault) ⊎ IfSome (bytes_ahead p) (λ c. Halts p c fault)
 
--- why no more bytes can be read, of something that the reader can give
+-- why no more bytes can be read, for something that the reader can give
 abbrev pub StopsAt : {R : Type 0} → (R → Coming → Type 0) → Position R → Fault → Type 0
-StopsAt can p fault = GivesOne (can p.coming) (λ c. StopsFilling (telling p c) fault)
+StopsAt can p fault = GivesOne (can p.coming) (λ c. StopsFilling (with_coming p c) fault)

@@ -1,9 +1,9 @@
--- What a sink keeps between two calls, and what a call of it does: an own rule of this project.
+-- The state of a sink between two calls, and the effect of a call: an own rule of this project.
 use Rattle.std.specs.Prelude.{◌≡◌, ℕ, ◌+◌, ◌<◌, ◌≤◌, ◌^◌, ◌⊎◌, Bool, true, false, List, [], length, take}
 use Rattle.std.specs.Prelude.{Result, Ok, Err, MatchBool}
 use Rattle.osm_model.specs.Kind.{kind_rank}
 use Rattle.osm_model.specs.Data.{VersionData, kind_of}
-use Rattle.o5_codec.specs.Encoder.{Written, nothing_written, new_written_segment}
+use Rattle.o5_codec.specs.Encoder.{Written, initial_written, new_written_segment}
 use Rattle.osm_files.specs.declared.fault.Fault.{Fault}
 use Rattle.osm_files.specs.declared.format.Format.{Format}
 use Rattle.osm_files.specs.declared.format.Format.TheVariants.{Opl, O5m, O5c}
@@ -11,29 +11,29 @@ use Rattle.osm_files.specs.declared.sink.Units.{Units}
 use Rattle.osm_files.specs.declared.sink.Units.TheVariants.{Lines, DataSets}
 use Rattle.osm_files.specs.Fault.{memory_fault, failed_fault, too_long_fault, write_fault}
 use Rattle.osm_files.specs.Output.{Change, Appends, StoppedWriting}
-use Rattle.osm_files.specs.Spell.{behind, behind_all, spelled_open}
+use Rattle.osm_files.specs.Spell.{written_with, written_with_all, open_file_bytes}
 
--- what versions are written relative to
-abbrev pub written_in : Units → Written
-written_in (Lines last) = record { last = last; context = new_written_segment }
-written_in (DataSets encoder) = encoder.written
+-- the context that versions are written relative to
+abbrev pub written_by_units : Units → Written
+written_by_units (Lines last) = record { last = last; context = new_written_segment }
+written_by_units (DataSets encoder) = encoder.written
 
 -- the units are those of the format, and have not failed
-abbrev pub AreOf : Format → Units → Type 0
-AreOf Opl (Lines last) = Unit {0}
-AreOf O5m (DataSets encoder) = encoder.failed ≡ false
-AreOf O5c (DataSets encoder) = encoder.failed ≡ false
-AreOf Opl (DataSets encoder) = ⊥
-AreOf O5m (Lines last) = ⊥
-AreOf O5c (Lines last) = ⊥
+abbrev pub AreUnitsOf : Format → Units → Type 0
+AreUnitsOf Opl (Lines last) = Unit {0}
+AreUnitsOf O5m (DataSets encoder) = encoder.failed ≡ false
+AreUnitsOf O5c (DataSets encoder) = encoder.failed ≡ false
+AreUnitsOf Opl (DataSets encoder) = ⊥
+AreUnitsOf O5m (Lines last) = ⊥
+AreUnitsOf O5c (Lines last) = ⊥
 
 -- no version was refused before
-abbrev pub IsGood : Units → Type 0
-IsGood (Lines last) = Unit {0}
-IsGood (DataSets encoder) = encoder.failed ≡ false
+abbrev pub IsGoodUnits : Units → Type 0
+IsGoodUnits (Lines last) = Unit {0}
+IsGoodUnits (DataSets encoder) = encoder.failed ≡ false
 
--- a sink between two calls: its format and number, the kind written last and the state of its encoder, how many bytes
--- it has written, and whether it has begun, ended or failed
+-- a sink between two calls: its format and number, the kind written last and the state of its encoder, the number of
+-- bytes it has written, and whether it has begun, ended or failed
 pub record SinkState : Type 0 where
   pub format : Format
   pub number : ℕ
@@ -48,7 +48,7 @@ abbrev pub new_sink : Format → ℕ → SinkState
 new_sink format number = record {
   format = format;
   number = number;
-  encoder = nothing_written;
+  encoder = initial_written;
   written = 0;
   begun = false;
   ended = false;
@@ -72,17 +72,17 @@ pub record Sent (change : Change) (written : ℕ) (bytes : List ℕ) : Type 0 wh
   pub appended : Appends change bytes
   pub short : written + length bytes < 2 ^ 62
 
--- why not all these bytes were appended: memory ran out, and then none was, or writing them stopped
+-- why not all these bytes were appended: memory ran out, and then none was, or the write stopped
 abbrev pub NotSent : ℕ → Change → ℕ → List ℕ → Fault → Type 0
 NotSent output change written bytes fault =
     ((fault ≡ memory_fault) × Appends change []) ⊎ StoppedWriting output change written bytes fault
 
--- what a call that sends these bytes did, after `written` bytes, to the output of this number
+-- the effect of a call that sends these bytes, after `written` bytes, on the output of this number
 abbrev pub Sends : {A : Type 0} → ℕ → Change → ℕ → List ℕ → Result A Fault → Type 0
 Sends output change written bytes (Ok done) = Sent change written bytes
 Sends output change written bytes (Err fault) = NotSent output change written bytes fault
 
--- how a call that sent these bytes leaves the sink: refused, it has failed
+-- the sink after a call that sent these bytes: after a refusal it has failed
 abbrev pub Leaves : {A : Type 0} → SinkState → SinkState → (SinkState → SinkState) → List ℕ → Result A Fault → Type 0
 Leaves old new next bytes (Ok done) = new ≡ next (record old { written = old.written + length bytes })
 Leaves old new next bytes (Err fault) =
@@ -104,43 +104,43 @@ WhyCut output bytes count failed fault =
     ⊎ ((fault ≡ write_fault output count) × (failed ≡ true))
     ⊎ ((fault ≡ too_long_fault output) × (2 ^ 62 ≤ length bytes))
 
--- calls that together were to append these bytes appended a front of them, and why no more
+-- calls that together were to append these bytes appended a front of them, and the reason why no more
 pub record CutShort (output : ℕ) (change : Change) (bytes : List ℕ) (fault : Fault) : Type 0 where
   pub count : ℕ
   pub within : count ≤ length bytes
   pub appended : Appends change (take count bytes)
   pub why : WhyCut output bytes count change.failed fault
 
--- what calls did that together were to append these bytes to the output of this number
+-- the effect of calls that together were to append these bytes to the output of this number
 abbrev pub WritesFile : {A : Type 0} → ℕ → Change → List ℕ → Result A Fault → Type 0
 WritesFile output change bytes (Ok done) = Sent change 0 bytes
 WritesFile output change bytes (Err fault) = CutShort output change bytes fault
 
--- the refusals before which nothing of the call was written
+-- the refusals before which the call wrote nothing
 abbrev pub IsBeforeWriting : {A : Type 0} → ℕ → Result A Fault → Type 0
 IsBeforeWriting output result =
     (result ≡ Err memory_fault) ⊎ (result ≡ Err (too_long_fault output)) ⊎ (result ≡ Err (failed_fault output))
 
--- the sink whose beginning was called for, its end, or a version
-abbrev pub begins : SinkState → SinkState
-begins s = record s { begun = true }
+-- the sink after it is begun, ended, or has put a version
+abbrev pub after_begin : SinkState → SinkState
+after_begin s = record s { begun = true }
 
-abbrev pub ends : SinkState → SinkState
-ends s = record s { ended = true }
+abbrev pub after_end : SinkState → SinkState
+after_end s = record s { ended = true }
 
-abbrev pub puts : VersionData → SinkState → SinkState
-puts v s = record s { encoder = behind s.format s.encoder v }
+abbrev pub after_put : VersionData → SinkState → SinkState
+after_put v s = record s { encoder = written_with s.format s.encoder v }
 
-abbrev pub stays : SinkState → SinkState
-stays s = s
+abbrev pub same_sink : SinkState → SinkState
+same_sink s = s
 
 -- a sink that was begun and has put these versions
-abbrev pub having_put : Format → ℕ → List VersionData → SinkState
-having_put format number versions = record {
+abbrev pub sink_after : Format → ℕ → List VersionData → SinkState
+sink_after format number versions = record {
   format = format;
   number = number;
-  encoder = behind_all format nothing_written versions;
-  written = length (spelled_open format versions);
+  encoder = written_with_all format initial_written versions;
+  written = length (open_file_bytes format versions);
   begun = true;
   ended = false;
   failed = false;
@@ -149,5 +149,5 @@ having_put format number versions = record {
 -- a sink has put these versions, and their file up to the mark of its end was appended
 pub record HasPut (format : Format) (number : ℕ) (versions : List VersionData) (change : Change)
     (s : SinkState) : Type 0 where
-  pub state : s ≡ having_put format number versions
-  pub sent : Sent change 0 (spelled_open format versions)
+  pub state : s ≡ sink_after format number versions
+  pub sent : Sent change 0 (open_file_bytes format versions)

@@ -1,7 +1,7 @@
 -- A file that is several files in sequence, and its parts that are files: an own rule of this project.
 use Rattle.std.specs.Prelude.{◌≡◌, ◌⊎◌, ℕ, ◌+◌, ◌-◌, ◌==◌, ◌&&◌, ◌||◌, not, nat_lt, Bool, true, false, List, [], ◌∷◌}
 use Rattle.std.specs.Prelude.{◌++◌, map, take, drop, slice_get, Option, Some, None, is_some, if◌then◌else◌}
-use Rattle.opl_line.specs.Cut.{is_line_end}
+use Rattle.opl_line.specs.Delimiter.{is_line_end}
 use Rattle.osm_files.specs.declared.sorted_run.BytesAtSplit.{BytesAtSplit}
 use Rattle.osm_files.specs.declared.sorted_run.SortedRun.{SortedRun}
 use Rattle.osm_files.specs.O5.{o5m_header, o5c_header, end_byte, reset_byte}
@@ -33,17 +33,17 @@ pub record SplitAtReset (file rest bytes : List ℕ) : Type 0 where
 abbrev pub IsSplit : List ℕ → List ℕ → List ℕ → Type 0
 IsSplit file rest bytes = SplitAfterLine file rest bytes ⊎ SplitAtReset file rest bytes
 
--- the bytes are split into these files, one after the other
+-- the bytes are split into these files, in sequence
 abbrev pub IsSplitInto : List ℕ → List (List ℕ) → Type 0
 IsSplitInto bytes [] = ⊥
 IsSplitInto bytes (file ∷ []) = bytes ≡ file
 IsSplitInto bytes (file ∷ next ∷ files) = (rest : List ℕ) × IsSplit file rest bytes × IsSplitInto rest (next ∷ files)
 
--- what a run has before its part of the file
+-- the bytes that a run has before its part of the file
 abbrev pub bytes_before : SortedRun → List ℕ
 bytes_before run = if run.lacks_header then o5m_header else []
 
--- what a run has after its part of the file
+-- the bytes that a run has after its part of the file
 abbrev pub bytes_after : SortedRun → List ℕ
 bytes_after run = if run.lacks_end then end_byte ∷ [] else []
 
@@ -55,13 +55,13 @@ run_bytes run file = bytes_before run ++ (take run.size (drop run.start file) ++
 abbrev pub IsSplitIntoRuns : List ℕ → List SortedRun → Type 0
 IsSplitIntoRuns file runs = IsSplitInto file (map (λ run. run_bytes run file) runs)
 
--- the file has these bytes where a run from this start is to be split at this offset
+-- the file has these bytes at the split of a run from this start at this offset
 pub record HasBytes (file : List ℕ) (start offset : ℕ) (bytes : BytesAtSplit) : Type 0 where
   pub first : slice_get file start ≡ bytes.first
   pub before : slice_get file (offset - 1) ≡ bytes.before
   pub at : slice_get file offset ≡ bytes.at
 
--- is there a byte, and is it that of resets?
+-- is there a byte, and is it a reset?
 abbrev pub is_reset : Option ℕ → Bool
 is_reset None = false
 is_reset (Some byte) = byte == reset_byte
@@ -83,7 +83,7 @@ is_within run offset bytes = nat_lt run.start offset && (nat_lt (offset - run.st
 abbrev pub splits_o5 : SortedRun → ℕ → BytesAtSplit → Bool
 splits_o5 run offset bytes = nat_lt (run.start + 1) offset && is_reset bytes.before
 
--- an OPL file is split after the end of a line, unless the rest would be taken for an o5 file
+-- an OPL file is split after the end of a line, unless the rest would be read as an o5 file
 abbrev pub splits_opl : BytesAtSplit → Bool
 splits_opl bytes = ends_line bytes.before && not (is_reset bytes.at)
 
@@ -92,7 +92,7 @@ abbrev pub can_split : SortedRun → ℕ → BytesAtSplit → Bool
 can_split run offset bytes =
     is_within run offset bytes && (if is_o5_run run bytes then splits_o5 run offset bytes else splits_opl bytes)
 
--- the run up to the offset; of an o5 file without the reset
+-- the run up to the offset; for an o5 file without the reset
 abbrev pub front_run : Bool → SortedRun → ℕ → SortedRun
 front_run is_o5 run offset = record {
   start = run.start;
@@ -110,7 +110,7 @@ rest_run is_o5 run offset = record {
   lacks_end = run.lacks_end;
 }
 
--- the run split at the offset, where it can be split
+-- the run split at the offset, if it can be split
 abbrev pub split_run : SortedRun → ℕ → BytesAtSplit → Option (SortedRun × SortedRun)
 split_run run offset bytes =
     let is_o5 = is_o5_run run bytes in
@@ -125,7 +125,7 @@ pub record FileRuns : Type 0 where
 abbrev pub runs_of : FileRuns → List SortedRun
 runs_of file = file.fronts ++ file.rest ∷ []
 
--- what a split of the rest makes of the runs, and the run that it splits off
+-- the runs after a split of the rest, and the run that it splits off
 abbrev pub after_split : FileRuns → Option (SortedRun × SortedRun) → FileRuns × Option SortedRun
 after_split runs None = (runs, None)
 after_split runs (Some (front, rest)) = (record { fronts = runs.fronts ++ front ∷ []; rest = rest }, Some front)

@@ -1,23 +1,23 @@
--- What the source of a file means, in the words of sets and verdicts.
+-- The meaning of the source of a file, in terms of sets and verdicts.
 use Rattle.std.specs.Prelude.{◌≡◌, ◌⊎◌, ◌↔◌, ℕ, ◌<◌, ◌≤◌, ◌^◌, nat_lt, List, ◌++◌, length, filter, Option, Some, None}
 use Rattle.std.specs.Prelude.{option_map}
 use Rattle.osm_model.specs.Data.{VersionData}
 use Rattle.osm_model.specs.Order.{version_cmp}
-use Rattle.osm_model.specs.Sets.{listed, from_list}
+use Rattle.osm_model.specs.Sets.{to_list, from_list}
 use Rattle.osm_model.specs.VersionSet.{VersionSet}
 use Rattle.osm_files.specs.declared.fault.Fault.{Fault}
 use Rattle.osm_files.specs.declared.reason.Reason.TheVariants.{ReadFault}
-use Rattle.osm_files.specs.Groups.{FileCanGive, ascending, opened_file, sorted_source}
+use Rattle.osm_files.specs.Groups.{FileCanGive, to_ascending, new_source, sorted_source}
 use Rattle.osm_files.specs.Held.{HoldsSorted}
-use Rattle.osm_files.specs.LoadLaws.{IsFaultyWhole, broken_behind}
-use Rattle.osm_files.specs.Input.{Coming, GivesOne, whole as all_of}
+use Rattle.osm_files.specs.LoadLaws.{IsFaultyWhole, broken_after}
+use Rattle.osm_files.specs.Input.{Coming, GivesOne, whole_input as all_of}
 use Rattle.osm_files.specs.Position.{fault_of, units_from}
 use Rattle.osm_files.specs.Source.{Ascends}
 use Rattle.osm_files.specs.Stream.{Verdict, verdict_at}
 use Rattle.osm_files.specs.Units.{units, start_of}
 use Rattle.osm_files.specs.Verdict.{is_below_last, sorted_verdict, verdict, verdict_sorted, versions_of}
 
--- what a source gives ascends strictly, whatever the bytes are and whatever follows them
+-- the versions that a source gives ascend strictly, whatever the bytes are and whatever follows them
 abbrev pub SourcesAscend : Type 0
 SourcesAscend = (input : ℕ) (c : Coming) → Ascends (sorted_source input c)
 
@@ -29,57 +29,56 @@ SourceEndsAsVerdict = (input : ℕ) (bytes : List ℕ) →
 -- the source of a sorted file gives the set that the file holds, whole
 abbrev pub SourceGivesHeld : Type 0
 SourceGivesHeld = (input : ℕ) (bytes : List ℕ) (held : VersionSet) → HoldsSorted bytes held →
-    sorted_source input (all_of bytes) ≡ record { list = listed held; refusal = None }
+    sorted_source input (all_of bytes) ≡ record { list = to_list held; refusal = None }
 
--- where the source of some bytes is whole, they are a sorted file, and hold what it gives
+-- if the source of some bytes is whole, they are a sorted file, and hold the versions that it gives
 abbrev pub WholeSourceIsHeld : Type 0
 WholeSourceIsHeld = (input : ℕ) (bytes : List ℕ) → (sorted_source input (all_of bytes)).refusal ≡ None →
     HoldsSorted bytes (from_list {R = version_cmp} (sorted_source input (all_of bytes)).list)
 
--- The verdict of the units that stand whole in these bytes, on their order too, where this verdict stands in place of
--- the file's end; it is no other, where none of these units is faulty.
+-- The verdict of the whole units in these bytes, on their order too, if this verdict closes the file instead of its
+-- end; it is the closing one, if none of these units is faulty.
 abbrev pub verdict_within : Verdict → List ℕ → Option Verdict
 verdict_within close bytes = let us = units (Some close) (start_of bytes) 0 bytes in
     sorted_verdict us.refusal None us.list
 
--- a unit that stands whole in these bytes is faulty, so: whatever closes them, this is the verdict
+-- a whole unit in these bytes is faulty: whatever closes them, this is the verdict
 abbrev pub IsFaultyWithin : List ℕ → Verdict → Type 0
 IsFaultyWithin bytes fault = (close : Verdict) → verdict_within close bytes ≡ Some fault
 
--- where an error follows the bytes, their source ends with the verdict of the units that stand whole in them, and else,
--- as none of these is faulty, with the error behind the last byte
+-- if an error follows the bytes, their source ends with the verdict of the whole units in them, and else, as none of
+-- these is faulty, with the error after the last byte
 abbrev pub BrokenSourceEnds : Type 0
 BrokenSourceEnds =
     (input : ℕ) (bytes : List ℕ) → length bytes < 2 ^ 62 →
-    (sorted_source input (broken_behind bytes)).refusal
+    (sorted_source input (broken_after bytes)).refusal
     ≡ option_map (fault_of input) (verdict_within (verdict_at (length bytes) ReadFault) bytes)
 
--- of too many bytes nothing is said but by those below the limit, whatever follows them
+-- the source of too many bytes depends only on those below the limit, whatever follows them
 abbrev pub LongSourceEnds : Type 0
 LongSourceEnds = (input : ℕ) (bytes : List ℕ) → 2 ^ 62 ≤ length bytes →
-    sorted_source input (broken_behind bytes) ≡ sorted_source input (all_of bytes)
+    sorted_source input (broken_after bytes) ≡ sorted_source input (all_of bytes)
 
--- the units that stand whole in some bytes are faulty whatever closes them, or never: then the verdict is what closes
--- them
+-- the whole units in some bytes are faulty whatever closes them, or never: then the verdict is the one that closes them
 abbrev pub FaultyOrClosed : Type 0
 FaultyOrClosed = (bytes : List ℕ) → ((fault : Verdict) × IsFaultyWithin bytes fault)
     ⊎ ((close : Verdict) → verdict_within close bytes ≡ Some close)
 
--- bytes behind a whole faulty unit don't change the verdict on the order
+-- bytes after a whole faulty unit don't change the verdict on the order
 abbrev pub FaultyStays : Type 0
 FaultyStays = (bytes more : List ℕ) (fault : Verdict) → length bytes < 2 ^ 62 → IsFaultyWithin bytes fault →
     verdict_sorted (bytes ++ more) ≡ Some fault
 
--- nor the verdict without regard to the order, behind a whole unit that can't be read
+-- nor the verdict without regard to the order, after a whole unit that can't be read
 abbrev pub MalformedStays : Type 0
 MalformedStays = (bytes more : List ℕ) (fault : Verdict) → length bytes < 2 ^ 62 → IsFaultyWhole bytes fault →
     verdict (bytes ++ more) ≡ Some fault
 
--- The verdict on order of what an input gives: its first faulty unit, or what comes instead of its end.
+-- The verdict on order of an input: its first faulty unit, or whatever comes instead of its end.
 abbrev pub input_verdict : Coming → Option Verdict
 input_verdict c = let us = units_from None 0 c in sorted_verdict us.refusal None us.list
 
--- the versions whose units begin before this place
+-- the versions whose units begin before this offset
 abbrev pub versions_before : ℕ → Coming → List VersionData
 versions_before place c = versions_of (filter (λ unit. nat_lt unit.place place) (units_from None 0 c).list)
 
@@ -87,9 +86,9 @@ versions_before place c = versions_of (filter (λ unit. nat_lt unit.place place)
 abbrev pub groups_before_last : List VersionData → List VersionData
 groups_before_last versions = filter (λ v. is_below_last v versions) versions
 
--- the key groups before the last one that began before this place, ascending, each version once
+-- the key groups before the last one that began before this offset, ascending, each version once
 abbrev pub groups_before : ℕ → Coming → List VersionData
-groups_before place c = ascending (groups_before_last (versions_before place c))
+groups_before place c = to_ascending (groups_before_last (versions_before place c))
 
 -- the source of a faulty input gives the key groups before the last one that began before the fault, and then the fault
 abbrev pub FaultyInputGivesTheGroupsBefore : Type 0
@@ -102,6 +101,6 @@ FaultyInputGivesTheGroupsBefore =
 abbrev pub RefusedSourceGivesTheGroupsBefore : {R : Type 0} → (R → Coming → Type 0) → Type 0
 RefusedSourceGivesTheGroupsBefore {R = R} can =
     (input : ℕ) (reader : R) (versions : List VersionData) (fault : Fault) →
-    FileCanGive can (opened_file input reader) (record { list = versions; refusal = Some fault })
+    FileCanGive can (new_source input reader) (record { list = versions; refusal = Some fault })
     ↔ GivesOne (can reader) (λ c.
     (option_map (fault_of input) (input_verdict c) ≡ Some fault) × (versions ≡ groups_before fault.place c))

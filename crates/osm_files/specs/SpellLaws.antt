@@ -1,4 +1,4 @@
--- Laws of the one spelling of a set, and of what a sink writes.
+-- Laws of the one spelling of a set, and of the bytes that a sink writes.
 use Rattle.std.specs.Prelude.{◌≡◌, ◌↔◌, ℕ, ◌<◌, ◌^◌, List, [], ◌∷◌, ◌++◌, length, None, Result, Ok, Err}
 use Rattle.std.specs.List.{All}
 use Rattle.std.specs.List.Sorted.{IsStrictlySortedBy}
@@ -6,8 +6,8 @@ use Rattle.osm_model.specs.Data.{VersionData}
 use Rattle.osm_model.specs.Order.{version_cmp}
 use Rattle.osm_model.specs.Valid.{IsVersion}
 use Rattle.osm_model.specs.VersionSet.{VersionSet}
-use Rattle.osm_model.specs.Sets.{listed, from_list, union, empty}
-use Rattle.o5_codec.specs.Encoder.{nothing_written}
+use Rattle.osm_model.specs.Sets.{to_list, from_list, union, empty}
+use Rattle.o5_codec.specs.Encoder.{initial_written}
 use Rattle.osm_files.specs.declared.fault.Fault.{Fault}
 use Rattle.osm_files.specs.declared.format.Format.{Format}
 use Rattle.osm_files.specs.Held.{IsFile, Holds, HoldsSorted}
@@ -15,13 +15,13 @@ use Rattle.osm_files.specs.Output.{Change}
 use Rattle.osm_files.specs.Change.{change_of}
 use Rattle.osm_files.specs.declared.output.Output.{Ghosts}
 use Rattle.osm_files.specs.Verdict.{verdict, held_by}
-use Rattle.osm_files.specs.Spell.{begun, ended, spelled_in, behind_all, spelled_open, spell_list, spell}
-use Rattle.osm_files.specs.Sink.{SinkState, new_sink, MayFollow, Calls, CutShort, WritesFile, begins, puts, ends, stays}
+use Rattle.osm_files.specs.Spell.{file_start, file_end, version_bytes, written_with_all, open_file_bytes, spell_list, spell}
+use Rattle.osm_files.specs.Sink.{SinkState, new_sink, MayFollow, Calls, CutShort, WritesFile, after_begin, after_put, after_end, same_sink}
 use Rattle.osm_files.specs.Sink.{HasPut}
 
 -- each member is within the ranges of versions
 abbrev pub AreVersions : VersionSet → Type 0
-AreVersions set = All IsVersion (listed set)
+AreVersions set = All IsVersion (to_list set)
 
 -- the file of a set of versions, if it is shorter than 2^62 bytes, is sorted and holds the set
 abbrev pub SpellHoldsItsSet : Type 0
@@ -37,7 +37,7 @@ HeldIsOneSet = (bytes : List ℕ) (one other : VersionSet) → Holds bytes one �
 abbrev pub SpelledIsHeld : Type 0
 SpelledIsHeld = (format : Format) (set held : VersionSet) → AreVersions set → Holds (spell format set) held → held ≡ set
 
--- the file of what two sets hold together
+-- the file of the union of two sets
 abbrev pub joined_file : Format → VersionSet → VersionSet → List ℕ
 joined_file format a b = spell format (union a b)
 
@@ -48,7 +48,7 @@ JoinInAnyOrder = (format : Format) (a b : VersionSet) → joined_file format a b
 abbrev pub JoinRepeated : Type 0
 JoinRepeated = (format : Format) (a : VersionSet) → joined_file format a a ≡ joined_file format a empty
 
--- three sets make the same file whichever two were joined first and written, in any formats, to a file shorter than
+-- three sets make the same file whichever two were joined and written first, in any formats, to a file shorter than
 -- 2^62 bytes
 abbrev pub JoinInAnyGrouping : Type 0
 JoinInAnyGrouping =
@@ -60,7 +60,7 @@ JoinInAnyGrouping =
 abbrev pub EachMayFollow : Type 0
 EachMayFollow =
     (format : Format) (versions others : List VersionData) (v : VersionData)
-    → IsStrictlySortedBy version_cmp (versions ++ v ∷ others) → MayFollow v (behind_all format nothing_written versions)
+    → IsStrictlySortedBy version_cmp (versions ++ v ∷ others) → MayFollow v (written_with_all format initial_written versions)
 
 -- a list that ascends strictly is spelled as its set
 abbrev pub ListIsSpelledAsItsSet : Type 0
@@ -68,36 +68,36 @@ ListIsSpelledAsItsSet =
     (format : Format) (versions : List VersionData) → IsStrictlySortedBy version_cmp versions
     → spell_list format versions ≡ spell format (from_list versions)
 
--- the file of the first versions of a list, without the mark of its end, stands at the front of the file of all
+-- the file of the first versions of a list, without the mark of its end, is a front of the file of all
 abbrev pub FirstVersionsStandInFront : Type 0
 FirstVersionsStandInFront =
     (format : Format) (versions others : List VersionData)
-    → (rest : List ℕ) × (spell_list format (versions ++ others) ≡ spelled_open format versions ++ rest)
+    → (rest : List ℕ) × (spell_list format (versions ++ others) ≡ open_file_bytes format versions ++ rest)
 
--- what a call makes of the versions put so far: they are put, or a front of their file was appended
+-- the effect of a call on the versions put so far: they are put, or a front of their file was appended
 abbrev pub Puts : {A : Type 0} → Format → ℕ → List VersionData → Change → SinkState → Result A Fault → Type 0
 Puts format number versions change s (Ok done) = HasPut format number versions change s
-Puts format number versions change s (Err fault) = CutShort number change (spelled_open format versions) fault
+Puts format number versions change s (Err fault) = CutShort number change (open_file_bytes format versions) fault
 
--- The calls of a sink, one after the other: what they append is the file of what was put, to its end after `end` and
--- without it before; after a refusal it is a front of the file of what was put, with the version in hand, and after a
--- failure of the output it has as many bytes as the place of the fault says.
+-- The calls of a sink, in sequence: the bytes that they append are the file of the versions put, to its end after `end`
+-- and without it before. After a refusal they are a front of the file of the versions put, with the version of the
+-- call. After a failure of the output their number is the fault's `place`.
 pub record CallsAreSpelled {O : Type 0} (output : Ghosts O) : Type 0 where
   pub begin : (format : Format) (number : ℕ) (s : SinkState) (before now : O) (result : Result (Unit {0}) Fault) →
-      Calls (begins (new_sink format number)) s stays (change_of output before now) (begun format) result →
+      Calls (after_begin (new_sink format number)) s same_sink (change_of output before now) (file_start format) result →
       Puts format number [] (change_of output before now) s result
   pub put : (format : Format) (number : ℕ) (versions : List VersionData) (v : VersionData) (s t : SinkState)
       (before mid now : O) (result : Result (Unit {0}) Fault) →
       HasPut format number versions (change_of output before mid) s →
-      Calls s t (puts v) (change_of output mid now) (spelled_in s.format s.encoder v) result →
+      Calls s t (after_put v) (change_of output mid now) (version_bytes s.format s.encoder v) result →
       Puts format number (versions ++ v ∷ []) (change_of output before now) t result
   pub end : (format : Format) (number : ℕ) (versions : List VersionData) (s t : SinkState)
       (before mid now : O) (result : Result (Unit {0}) Fault) →
       HasPut format number versions (change_of output before mid) s →
-      Calls (ends s) t stays (change_of output mid now) (ended s.format) result →
+      Calls (after_end s) t same_sink (change_of output mid now) (file_end s.format) result →
       WritesFile number (change_of output before now) (spell_list format versions) result
 
--- what a file spells is within the ranges of versions
+-- the versions that a file spells are within the ranges of versions
 abbrev pub FilesHoldVersions : Type 0
 FilesHoldVersions = (bytes : List ℕ) (versions : List VersionData) → IsFile bytes versions → All IsVersion versions
 
@@ -117,7 +117,7 @@ FilesJoinInAnyGrouping =
     Holds (joined_file left a b) ab → Holds (joined_file right b c) bc →
     joined_file format ab c ≡ joined_file format a bc
 
--- bytes hold a set exactly where they have no verdict and it is the set of the versions of their units
+-- bytes hold a set exactly if they have no verdict and it is the set of the versions of their units
 abbrev pub HeldWithoutVerdict : Type 0
 HeldWithoutVerdict =
     (bytes : List ℕ) (set : VersionSet) → Holds bytes set ↔ ((verdict bytes ≡ None) × (set ≡ held_by bytes))

@@ -13,24 +13,24 @@ use Rattle.osm_files.specs.Units.{units, start_of}
 unfoldable pub length_limit : ℕ
 length_limit = 2 ^ 62
 
--- 2^62 bytes or more: only the units count that stand whole in those below the limit
-abbrev pub too_long : Verdict
-too_long = verdict_at length_limit TooLong
+-- 2^62 bytes or more: only the whole units of those below the limit count
+abbrev pub too_long_verdict : Verdict
+too_long_verdict = verdict_at length_limit TooLong
 
 -- the units of a file, up to the first that is faulty
 unfoldable pub file_units : List ℕ → Still Placed Verdict
 file_units bytes =
     if nat_lt (length bytes) length_limit then units None (start_of bytes) 0 bytes
-    else units (Some too_long) (start_of bytes) 0 (take (length_limit - 1) bytes)
+    else units (Some too_long_verdict) (start_of bytes) 0 (take (length_limit - 1) bytes)
 
 abbrev pub versions_of : List Placed → List VersionData
 versions_of = map (λ unit. unit.version)
 
--- the set that a file holds; of bytes that are no file, what stands before the first faulty unit
+-- the set that a file holds; if the bytes are no file, the versions before the first faulty unit
 abbrev pub held_by : List ℕ → VersionSet
 held_by bytes = from_list {R = version_cmp} (versions_of (file_units bytes).list)
 
--- the place and the reason of the first faulty unit
+-- the offset and the reason of the first faulty unit
 abbrev pub verdict : List ℕ → Option Verdict
 verdict bytes = (file_units bytes).refusal
 
@@ -43,8 +43,8 @@ is_below v (Some before) = is_lt (key_cmp v before)
 abbrev pub is_below_last : VersionData → List VersionData → Bool
 is_below_last v versions = is_below v (slice_get versions (length versions - 1))
 
--- the first faulty unit, where a unit is faulty too that can be read, but whose version has a key below that of the one
--- before it
+-- the first faulty unit; a unit that can be read is faulty, too, if its version has a key below that of the one before
+-- it
 abbrev pub sorted_verdict : Option Verdict → Option VersionData → List Placed → Option Verdict
 sorted_verdict close before [] = close
 sorted_verdict close before (unit ∷ units) =

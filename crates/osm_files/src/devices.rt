@@ -35,12 +35,12 @@ pub(crate) struct Dripping<'a> {
 }
 
 impl Input for Dripping<'_> {
-    ghost use Rattle.osm_files.specs.Input.{whole};
+    ghost use Rattle.osm_files.specs.Input.{whole_input};
     ghost use Rattle.std.specs.Prelude.{[]};
 
     ghost can_give = { λ _ _. Unit {0} };
 
-    ghost one = { λ _. whole [] };
+    ghost one = { λ _. whole_input [] };
 
     ghost possible = { λ _. tt };
 
@@ -57,7 +57,7 @@ impl Input for Dripping<'_> {
     }
 }
 
-/// What a full device does.
+/// The behaviour of a full device.
 #[derive(Clone, Copy, PartialEq, Eq, Drop)]
 pub(crate) enum Full {
     Refuses,

@@ -1,4 +1,4 @@
-//! Refusals, with the place where they stand.
+//! Faults of files, each with its offset.
 ghost use Rattle.std.specs.Prelude.{◌≡◌};
 ghost use Rattle.osm_files.specs.Fault.{memory_fault, failed_fault, too_long_fault, fault_at};
 
@@ -7,23 +7,23 @@ use osm_model::Memory;
 use std::alloc::{AllocError, AllocFailed};
 use thiserror::Error;
 
-/// The bytes that no file may have: one of so many, or of more, is too long.
+/// The bound of a file's length: a file of this many bytes, or of more, is too long.
 pub const LENGTH_LIMIT: u64 = 1 << 62;
 
-/// A refusal: of which file, at which byte of it, and why.
+/// A fault: the file, the offset in it, and the reason.
 #[derive(Clone, Copy, Debug, PartialEq, Eq, Error)]
 #[error("file {input}, byte {place}: {}", .reason.name())]
 pub struct Fault {
     /// The number of the input, from 0; the output has the number of the inputs.
     pub input: usize,
-    /// The offset of the byte at which the refusal stands, from 0.
+    /// The offset of the faulty byte, from 0.
     pub place: u64,
     /// Why.
     pub reason: Reason,
 }
 
 impl Fault {
-    /// Memory was refused.
+    /// Out of memory.
     pub fn memory() -> Fault
         ensures { result ≡ memory_fault }
     {
@@ -34,7 +34,7 @@ impl Fault {
         }
     }
 
-    /// This reason at this byte of this file; want of memory has no file and no place.
+    /// This reason at this byte of this file; out of memory has no file and no offset.
     pub fn at(input: usize, place: u64, reason: Reason) -> Fault
         ensures { result ≡ fault_at input place reason }
     {

@@ -19,12 +19,12 @@ pub enum Format {
     Opl,
     /// The binary format o5m of osmconvert: objects.
     O5m,
-    /// The binary format o5c of osmconvert: changes of objects. It differs from o5m in its header alone.
+    /// The binary format o5c of osmconvert: changes of objects. Only its header differs from that of o5m.
     O5c,
 }
 
 impl Format {
-    /// The name by which the words of a command call the format.
+    /// The name of the format in the arguments of a command.
     pub fn name(&self) -> &'static str
         ensures { result.now ≡ format_name self.now }
     {
@@ -35,7 +35,7 @@ impl Format {
         }
     }
 
-    /// The format of this name, if it is one's.
+    /// The format with this name, if there is one.
     pub fn named(name: &str) -> Option<Format>
         ensures named { IfSome result (λ format. name.now ≡ format_name format) }
         ensures none { result ≡ None → (format : Format) → name.now ≢ format_name format }

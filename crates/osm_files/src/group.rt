@@ -2,7 +2,7 @@
 ghost use Rattle.std.specs.Prelude.{◌≡◌, ◌+◌, ◌≤◌, [], ◌∷◌, length, option_to_list, is_err, IfOk, IfErr};
 ghost use Rattle.std.specs.Vec.Iter.{into_iter_items};
 ghost use Rattle.osm_files.specs.Position.{units_left};
-ghost use Rattle.osm_files.specs.Groups.{ascending, list_of, IsGroup, GathersOn, RefusesOn};
+ghost use Rattle.osm_files.specs.Groups.{to_ascending, list_of, IsGroup, GathersOn, RefusesOn};
 
 use crate::fault::Fault;
 use crate::input::Input;
@@ -12,7 +12,7 @@ use osm_model::{Memory, Version};
 use std::alloc::Global;
 use std::vec::IntoIter;
 
-/// The versions of one key that stand one behind the other in a file, two at least, as far as they were read.
+/// The versions of one key that are in sequence in a file, at least two, as far as they were read.
 #[derive(Drop)]
 pub(crate) struct Group {
     first: Version,
@@ -25,7 +25,7 @@ impl Group {
     ///
     /// # Errors
     ///
-    /// For want of memory alone.
+    /// Only out of memory.
     pub(crate) fn of_two(alloc: Global, first: Version, second: Version) -> Result<Group, Memory>
         ensures { IfOk result (λ group. list_of group ≡ first ∷ second ∷ []) }
     {
@@ -34,11 +34,11 @@ impl Group {
         Ok(Group { first, others })
     }
 
-    /// Reads the rest of the group, and answers the version behind it, which has a key above; none at the end.
+    /// Reads the rest of the group, and returns the version after it, which has a greater key; `None` at the end.
     ///
     /// # Errors
     ///
-    /// Why a unit can't be read, `Unsorted` where the version behind the group has a key below, or `Memory`.
+    /// The fault of a unit, `Unsorted` if the version after the group has a lesser key, or `Memory`.
     pub(crate) fn gather<R: Input>(
         &mut self,
         units: &mut Reading<R>,
@@ -74,9 +74,9 @@ impl Group {
     ///
     /// # Errors
     ///
-    /// For want of memory alone.
+    /// Only out of memory.
     pub(crate) fn into_ascending(self) -> Result<IntoIter<Version>, Memory>
-        ensures given { IfOk result (λ versions. into_iter_items versions ≡ ascending (list_of self)) }
+        ensures given { IfOk result (λ versions. into_iter_items versions ≡ to_ascending (list_of self)) }
         ensures fewer { IfOk result (λ versions. length (into_iter_items versions) ≤ length (list_of self)) }
     {
         let mut versions = self.others;

@@ -1,20 +1,20 @@
-//! Inputs: where the bytes of a file come from.
+//! Inputs, from which the bytes of a file come.
 ghost use Rattle.std.specs.Prelude.{◌≡◌, ◌<◌, ◌≤◌, Ok, [], length, take, min, IfOk, OnErr, refl};
-ghost use Rattle.osm_files.specs.Input.{Coming, whole, breaks, Gave, CanGive, all_left, can_give_all};
+ghost use Rattle.osm_files.specs.Input.{Coming, whole_input, broken_input, Gave, CanGive, whole_left, can_give_all};
 
 use std::io::Read;
 use std::marker::Model;
 use thiserror::Error;
 
-/// An input or an output answered an error.
+/// An input or an output returned an error.
 #[derive(Clone, Copy, Debug, PartialEq, Eq, Error)]
 #[error("the device failed")]
 pub struct Broken;
 
 /// A source of bytes.
 pub trait Input {
-    /// It can still give this. Of an input that tells what is to come there is one such; what one that tells nothing
-    /// gives is seen only as it is read.
+    /// A `Coming` that it can still give. An input that reports its bytes has one such `Coming`. The bytes of any other
+    /// input are known only as they are read.
     ghost can_give: { Self → Coming → Type 0 };
 
     /// One of these.
@@ -23,18 +23,18 @@ pub trait Input {
     /// There always is one.
     ghost possible: { (s : Self) → can_give s (one s) };
 
-    /// Reads some of the bytes to come into the front of the buffer, and answers how many.
+    /// Reads some of the remaining bytes into the front of the buffer, and returns their number.
     ///
     /// For a buffer that isn't empty, 0 means the end of input.
     ///
     /// # Errors
     ///
-    /// `Broken` where the input fails, in which case no byte was read.
+    /// `Broken` if the input fails. No byte was read then.
     fn read(&mut self, buffer: &mut [u8]) -> Result<usize, Broken>
         ensures within { IfOk result (λ count. count ≤ length buffer.old) }
         ensures bytes { IfOk result (λ count. Gave can_give self.old self.new (take count buffer.new)) }
-        ensures end { result ≡ Ok 0 → 0 < length buffer.old → can_give self.old (whole []) }
-        ensures broken { OnErr result (can_give self.old (breaks [])) };
+        ensures end { result ≡ Ok 0 → 0 < length buffer.old → can_give self.old (whole_input []) }
+        ensures broken { OnErr result (can_give self.old (broken_input [])) };
 }
 
 /// The bytes of a slice, and then the end of input. It never fails.
@@ -61,17 +61,17 @@ impl<'a> SliceIn<'a> {
 }
 
 impl<'a> Input for SliceIn<'a> {
-    ghost can_give = { λ rest c. c ≡ whole rest };
+    ghost can_give = { λ rest c. c ≡ whole_input rest };
 
-    ghost one = { whole };
+    ghost one = { whole_input };
 
     ghost possible = { λ rest. refl };
 
     fn read(&mut self, buffer: &mut [u8]) -> Result<usize, Broken>
         ensures within { IfOk result (λ count. count ≤ length buffer.old) }
-        ensures bytes { IfOk result (λ count. Gave (λ rest c. c ≡ whole rest) self.old self.new (take count buffer.new)) }
-        ensures end { result ≡ Ok 0 → 0 < length buffer.old → whole [] ≡ whole self.old }
-        ensures broken { OnErr result (breaks [] ≡ whole self.old) }
+        ensures bytes { IfOk result (λ count. Gave (λ rest c. c ≡ whole_input rest) self.old self.new (take count buffer.new)) }
+        ensures end { result ≡ Ok 0 → 0 < length buffer.old → whole_input [] ≡ whole_input self.old }
+        ensures broken { OnErr result (broken_input [] ≡ whole_input self.old) }
         ensures fills { result ≡ Ok (min (length self.old) (length buffer.old)) }
     {
         let count = self.rest.len().min(buffer.len());
@@ -82,7 +82,8 @@ impl<'a> Input for SliceIn<'a> {
     }
 }
 
-/// A reader of std as an input. It gives what is left of the reader, where that is known, or fails at any read.
+/// A reader of std as an input. If the reader's remaining bytes are known, the input gives these, and may fail at any
+/// read.
 #[derive(Drop)]
 pub struct FromRead<R: Read> {
     reader: R,
@@ -95,7 +96,7 @@ impl<R: Read> Model for FromRead<R> {
 }
 
 impl<R: Read> FromRead<R> {
-    /// An input that gives what the reader gives, and fails where the reader answers any error.
+    /// An input that gives the bytes of the reader, and fails if the reader returns an error.
     pub fn new(reader: R) -> FromRead<R>
         ensures { result ≡ reader }
     {
@@ -106,7 +107,7 @@ impl<R: Read> FromRead<R> {
 impl<R: Read + Drop> Input for FromRead<R> {
     ghost can_give = { λ s c. CanGive (R.remaining s) c };
 
-    ghost one = { λ s. all_left (R.remaining s) };
+    ghost one = { λ s. whole_left (R.remaining s) };
 
     ghost possible = { λ s. can_give_all (R.remaining s) };
 

@@ -1,5 +1,5 @@
-//! Laws of the definitions, over all bytes and all versions. Nothing is run to use them: each is the clause of a
-//! function without a body.
+//! Laws of the definitions, over all bytes and all versions. They run no code: each is the clause of a function without
+//! a body.
 ghost use Rattle.osm_files.specs.Laws as law;
 ghost use Rattle.osm_files.specs.SpellLaws as spelling;
 ghost use Rattle.osm_files.specs.LoadLaws as loading;
@@ -47,7 +47,7 @@ pub fn spell_has_no_verdict()
     ensures { spelling.SpellHasNoVerdict }
 {}
 
-/// Bytes hold a set exactly where they have no verdict and it is the set of their units' versions.
+/// Bytes hold a set exactly if they have no verdict and it is the set of their units' versions.
 pub fn held_without_verdict()
     ensures { spelling.HeldWithoutVerdict }
 {}
@@ -72,12 +72,12 @@ pub fn join_repeated()
     ensures { spelling.JoinRepeated }
 {}
 
-/// Three sets make the same file whichever two were joined first and written, in any formats.
+/// Three sets make the same file whichever two were joined and written first, in any formats.
 pub fn join_in_any_grouping()
     ensures { spelling.JoinInAnyGrouping }
 {}
 
-/// In a list that ascends strictly each version may be put behind those before it, since the kinds don't fall.
+/// In a list that ascends strictly each version may be written after those before it, since the kinds don't fall.
 pub fn each_may_follow()
     ensures { spelling.EachMayFollow }
 {}
@@ -87,17 +87,18 @@ pub fn list_is_spelled_as_its_set()
     ensures { spelling.ListIsSpelledAsItsSet }
 {}
 
-/// The file of the first versions of a list, without the mark of its end, stands at the front of the file of all.
+/// The file of the first versions of a list, without the mark of its end, is a front of the file of all.
 pub fn first_versions_stand_in_front()
     ensures { spelling.FirstVersionsStandInFront }
 {}
 
-/// What the calls of a sink append together to an output is the file of what was put, or a front of it after a refusal.
+/// The bytes that the calls of a sink append together to an output are the file of the versions put, or a front of it
+/// after a refusal.
 pub fn calls_are_spelled<W: Output>(_out: &W)
     ensures { spelling.CallsAreSpelled W.Output }
 {}
 
-/// What a file spells is within the ranges of versions.
+/// The versions that a file spells are within the ranges of versions.
 pub fn files_hold_versions()
     ensures { spelling.FilesHoldVersions }
 {}
@@ -112,7 +113,7 @@ pub fn unions_are_versions()
     ensures { spelling.UnionsAreVersions }
 {}
 
-/// What three files hold makes the same file whichever two were joined first and written, in any formats.
+/// The sets that three files hold make the same file whichever two were joined and written first, in any formats.
 pub fn files_join_in_any_grouping()
     ensures { spelling.FilesJoinInAnyGrouping }
 {}
@@ -122,63 +123,64 @@ pub fn inputs_are_files()
     ensures { loading.InputsAreFiles }
 {}
 
-/// An input that fails is refused with the verdict of the bytes before, if a unit that stands whole in them is faulty
-/// or if they are too many; else for the failure, at their number.
+/// An input that fails is refused with the verdict of its bytes, if a whole unit in them is faulty or if they are too
+/// many; else for the failure, at the number of its bytes.
 pub fn broken_inputs_are_refused()
     ensures { loading.BrokenInputsAreRefused }
 {}
 
-/// A verdict never is want of memory, an earlier refusal or the fault of a device; and Unsorted only one on the order.
+/// A verdict never is out of memory, an earlier refusal or the fault of a device; only a verdict on the order is
+/// Unsorted.
 pub fn reasons_of_verdicts()
     ensures { loading.ReasonsOfVerdicts }
 {}
 
-/// A file that is written in a format tells it.
+/// A file that is written in a format determines it.
 pub fn written_files_tell_their_format()
     ensures { loading.WrittenFilesTellTheirFormat }
 {}
 
-/// What the source of a file gives ascends strictly.
+/// The versions that the source of a file gives ascend strictly.
 pub fn sources_ascend()
     ensures { source.SourcesAscend }
 {}
 
-/// The source of a file ends as the file's verdict on its order says.
+/// The source of a file ends with the file's verdict on its order.
 pub fn source_ends_as_verdict()
     ensures { source.SourceEndsAsVerdict }
 {}
 
-/// The source of a sorted file gives what the file holds.
+/// The source of a sorted file gives the set that the file holds.
 pub fn source_gives_held()
     ensures { source.SourceGivesHeld }
 {}
 
-/// Where the source of a file is whole, the file is sorted and holds what was given.
+/// If the source of a file is whole, the file is sorted and holds the versions that were given.
 pub fn whole_source_is_held()
     ensures { source.WholeSourceIsHeld }
 {}
 
-/// Where an error follows some bytes, their source ends with their first whole faulty unit, or with the error.
+/// If an error follows some bytes, their source ends with their first whole faulty unit, or with the error.
 pub fn broken_source_ends()
     ensures { source.BrokenSourceEnds }
 {}
 
-/// Of 2^62 bytes or more it doesn't matter what follows them.
+/// It makes no difference whether an error or the end of input follows 2^62 bytes or more.
 pub fn long_source_ends()
     ensures { source.LongSourceEnds }
 {}
 
-/// The whole units of some bytes are faulty whatever closes the file, or their verdict is what closes it.
+/// The whole units of some bytes are faulty whatever closes the file, or their verdict is the one that closes it.
 pub fn faulty_or_closed()
     ensures { source.FaultyOrClosed }
 {}
 
-/// Bytes behind a whole faulty unit don't change the verdict on the order of a file.
+/// Bytes after a whole faulty unit don't change the verdict on the order of a file.
 pub fn faulty_stays()
     ensures { source.FaultyStays }
 {}
 
-/// Bytes behind a whole unit that can't be read don't change the verdict of a file.
+/// Bytes after a whole unit that can't be read don't change the verdict of a file.
 pub fn malformed_stays()
     ensures { source.MalformedStays }
 {}

@@ -1,4 +1,5 @@
-//! Whole files of OpenStreetMap histories in OPL, o5m and o5c: what they hold, and the devices that they go through.
+//! Whole files of OpenStreetMap histories in OPL, o5m and o5c: their contents, and the devices through which they are
+//! read and written.
 #![tactic(auto)]
 
 mod fault;
@@ -7,9 +8,11 @@ mod group;
 mod history_source;
 mod input;
 pub mod laws;
+mod lines;
 mod load;
 mod output;
 mod placed;
+mod read_buffer;
 mod reading;
 mod reason;
 mod sink;
@@ -17,13 +20,14 @@ mod sorted_run;
 mod source;
 mod split_file;
 mod unit;
-mod unread;
+mod whole_lines;
 mod write;
 
 pub use fault::{Fault, LENGTH_LIMIT};
 pub use format::{FORMAT_NAMES, Format};
 pub use history_source::HistorySource;
 pub use input::{Broken, FromRead, Input, SliceIn};
+pub use lines::{OpenAt, first_version, line_start};
 pub use load::{Loaded, load_any};
 pub use output::{Output, ToWrite, VecOut};
 pub use reason::Reason;
@@ -31,6 +35,7 @@ pub use sink::{Sink, write_history};
 pub use sorted_run::{BytesAtSplit, SortedRun};
 pub use source::{FileSource, Source};
 pub use split_file::SplitFile;
+pub use whole_lines::WholeLines;
 pub use write::write_all;
 
 #[cfg(test)]

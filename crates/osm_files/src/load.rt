@@ -15,24 +15,24 @@ use crate::reading::Reading;
 use osm_model::{History, Version};
 use std::alloc::Global;
 
-/// What a file holds.
+/// The contents of a file.
 #[derive(Drop)]
 pub struct Loaded {
-    /// Its versions.
+    /// The versions.
     pub history: History,
-    /// Its format.
+    /// The format.
     pub format: Format,
     /// Whether it is sorted: no version's key is below that of the version before it.
     pub sorted: bool,
 }
 
-/// What the file holds that an input gives. It may be of any format, and its versions may stand in any order. The input
-/// has this number.
+/// The contents of the file that an input gives. The file may have any format and any order of its versions. `input` is
+/// the number of the input.
 ///
 /// # Errors
 ///
-/// The place and the reason of the first faulty unit; `ReadFault` where the input fails and no unit that stands whole
-/// before is faulty; or `Memory`.
+/// The offset and the reason of the first faulty unit; `ReadFault` if the input fails and no whole unit before is
+/// faulty; or `Memory`.
 pub fn load_any<R: Input + Drop>(alloc: Global, input: usize, reader: R) -> Result<Loaded, Fault>
     ensures loaded { IfOk result (λ loaded. GivesOne (R.can_give reader) (λ c. Loads c loaded)) }
     ensures refused { IfErr result (λ fault. GivesOne (R.can_give reader) (λ c. StopsLoading input c fault)) }
@@ -69,7 +69,7 @@ fn read_versions<R: Input>(
     }
 }
 
-/// Adds a version, and answers whether the versions are still sorted.
+/// Adds a version, and returns whether the versions are still sorted.
 fn add(versions: &mut Vec<Version>, sorted: bool, version: Version) -> Result<bool, Fault>
     ensures added { OnOk result (versions.new.items ≡ versions.old.items ++ version ∷ []) }
     ensures sorted { IfOk result (λ still. still ≡ (sorted && not (is_below_last version versions.old.items))) }
@@ -92,7 +92,7 @@ fn is_below_last(version: &Version, versions: &[Version]) -> bool
     }
 }
 
-/// What a file holds with these versions.
+/// The contents of a file with these versions.
 fn gathered(versions: Vec<Version>, format: Format, sorted: bool) -> Result<Loaded, Fault>
     ensures loaded { IfOk result (λ loaded.
         loaded ≡ record { history = from_list {R = version_cmp} versions.items; format = format; sorted = sorted }) }

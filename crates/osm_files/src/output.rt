@@ -1,46 +1,46 @@
-//! Outputs: where the bytes of a file go.
+//! Outputs, to which the bytes of a file go.
 ghost use Rattle.std.specs.Prelude.{◌≡◌, ◌+◌, ◌<◌, ◌≤◌, ◌⊎◌, ◌↔◌, ℕ, Bool, true, false, Some, List, []};
 ghost use Rattle.std.specs.Prelude.{length, take, IfOk, IsOk, OnErr};
-ghost use Rattle.osm_files.specs.Output.{Content, Appended, WriteFails, FlushFails, Collected};
+ghost use Rattle.osm_files.specs.Output.{Content, IsAppended, WriteFails, FlushFails, Collected};
 
 use crate::input::Broken;
 use std::alloc::Global;
 use std::io::Write;
 use std::marker::Model;
 
-/// A place for bytes.
+/// A destination of bytes.
 ///
-/// An output has failed once it answered an error, or took none of some bytes. It answers errors from then on.
+/// An output has failed once it returned an error, or took none of some bytes. It returns errors from then on.
 pub trait Output {
-    /// The bytes that it may hold. An output that reports its bytes may hold only these. Of one that reports nothing it
-    /// is known only by what it held before and was written since.
+    /// The bytes that it may hold. An output that reports its bytes may hold only these. The bytes of any other output
+    /// are known only as its earlier bytes and those written since.
     ghost holds: { Self → Content };
 
     /// Whether it has failed.
     ghost failed: { Self → Bool };
 
-    /// Appends a front of the bytes, and answers how many it took.
+    /// Appends a front of the bytes, and returns the number of bytes that it took.
     ///
     /// # Errors
     ///
-    /// `Broken` where the output fails or has failed, in which case no byte was taken.
+    /// `Broken` if the output fails or has failed. No byte was taken then.
     fn write(&mut self, bytes: &[u8]) -> Result<usize, Broken>
         ensures within { IfOk result (λ count. count ≤ length bytes.now) }
-        ensures taken { IfOk result (λ count. Appended (holds self.old) (holds self.new) (take count bytes.now)) }
-        ensures refused { OnErr result (Appended (holds self.old) (holds self.new) []) }
+        ensures taken { IfOk result (λ count. IsAppended (holds self.old) (holds self.new) (take count bytes.now)) }
+        ensures refused { OnErr result (IsAppended (holds self.old) (holds self.new) []) }
         ensures fails { WriteFails (failed self.old) bytes.now result (failed self.new) };
 
-    /// Sees that the bytes taken so far reach the place that they are meant for.
+    /// Flushes the bytes taken so far to their destination.
     ///
     /// # Errors
     ///
-    /// `Broken` where the output fails or has failed.
+    /// `Broken` if the output fails or has failed.
     fn flush(&mut self) -> Result<(), Broken>
-        ensures same { Appended (holds self.old) (holds self.new) [] }
+        ensures same { IsAppended (holds self.old) (holds self.new) [] }
         ensures fails { FlushFails (failed self.old) result (failed self.new) };
 }
 
-/// A writer of std as an output, which holds what the writer tells that it holds.
+/// A writer of std as an output. It holds the bytes that the writer reports.
 #[derive(Drop)]
 pub struct ToWrite<W: Write> {
     writer: W,
@@ -95,7 +95,7 @@ impl<W: Write + Drop> Output for ToWrite<W> {
     }
 }
 
-/// An output of memory. It fails where a growth is refused.
+/// An output of memory. It fails if a growth is refused.
 #[derive(Drop)]
 pub struct VecOut {
     bytes: Vec<u8>,
@@ -139,8 +139,8 @@ impl Output for VecOut {
     fn write(&mut self, bytes: &[u8]) -> Result<usize, Broken>
         ensures within { IfOk result (λ count. count ≤ length bytes.now) }
         ensures taken { IfOk result (λ count.
-            Appended (λ held. self.old.bytes ≡ held) (λ held. self.new.bytes ≡ held) (take count bytes.now)) }
-        ensures refused { OnErr result (Appended (λ held. self.old.bytes ≡ held) (λ held. self.new.bytes ≡ held) []) }
+            IsAppended (λ held. self.old.bytes ≡ held) (λ held. self.new.bytes ≡ held) (take count bytes.now)) }
+        ensures refused { OnErr result (IsAppended (λ held. self.old.bytes ≡ held) (λ held. self.new.bytes ≡ held) []) }
         ensures fails { WriteFails self.old.failed bytes.now result self.new.failed }
         ensures all { IfOk result (λ count. count ≡ length bytes.now) }
         ensures no_room { OnErr result ((self.old.failed ≡ true)
@@ -157,7 +157,7 @@ impl Output for VecOut {
     }
 
     fn flush(&mut self) -> Result<(), Broken>
-        ensures same { Appended (λ held. self.old.bytes ≡ held) (λ held. self.new.bytes ≡ held) [] }
+        ensures same { IsAppended (λ held. self.old.bytes ≡ held) (λ held. self.new.bytes ≡ held) [] }
         ensures fails { FlushFails self.old.failed result self.new.failed }
         ensures unchanged { self.new ≡ self.old }
         ensures only_failed { IsOk result ↔ (self.old.failed ≡ false) }

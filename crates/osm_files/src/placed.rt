@@ -1,7 +1,7 @@
-//! Versions with their places.
+//! Versions with their offsets.
 use osm_model::Version;
 
-/// A version, and the place of its unit in the file: of its line's first byte, or of the type byte of its data set.
+/// A version, and the offset of its unit in the file: of its line's first byte, or of the type byte of its data set.
 #[derive(Drop)]
 pub(crate) struct Placed {
     pub(crate) place: u64,

@@ -1,4 +1,4 @@
-//! Reading the units of an input, one by one, in whatever pieces its bytes come.
+//! Reading the units of an input one by one, for any pieces in which its bytes come.
 //!
 //! Why: a line that is longer than one read is searched for its end once, so the time is linear in the file. A merge of
 //! one line of 64 MB takes 0.5 s, and took 27 s while each read searched the line anew.
@@ -14,16 +14,17 @@ ghost use Rattle.osm_files.specs.Reading.{Finds, FindsLast};
 ghost use Rattle.osm_files.specs.Source.{StepsOn};
 ghost use Rattle.osm_files.specs.Load.{format_of, tells_format, is_o5m, TellsFormat};
 ghost use Rattle.osm_files.specs.declared.format.Format.TheVariants.{O5m, O5c};
-ghost use Rattle.osm_files.specs.Stream.{placed};
-ghost use Rattle.osm_files.specs.Position.{Between, HasRead, StopsAt, FindsHeld, seen, stand_at, units_left};
+ghost use Rattle.osm_files.specs.Stream.{new_placed};
+ghost use Rattle.osm_files.specs.Position.{Between, HasRead, StopsAt, FindsHeld, with_state, state_at, units_left};
 
 use crate::fault::{Fault, LENGTH_LIMIT};
 use crate::format::Format;
 use crate::input::Input;
 use crate::placed::Placed;
+use crate::read_buffer::ReadBuffer;
 use crate::reason::Reason;
-use crate::unit::{O5M_HEADER, RESET, ReadUnit, Stage};
-use crate::unread::Unread;
+use crate::unit::{FileState, O5M_HEADER, ReadUnit, SEGMENT_RESET};
+use opl_line::LineReader;
 use osm_model::Version;
 use std::alloc::Global;
 use std::marker::Model;
@@ -35,18 +36,18 @@ pub(crate) struct Reading<R: Input> {
     input: usize,
     reader: R,
     /// The bytes that came and weren't read.
-    unread: Unread,
-    /// The place in the file of the first of them.
+    read_buffer: ReadBuffer,
+    /// The offset in the file of the first of them.
     place: u64,
-    /// Where the reading stands, once the first byte was seen, which tells the grammar.
-    stage: Option<Stage>,
+    /// The stage of the reading, once the first byte was seen, which determines the grammar.
+    stage: Option<FileState>,
     ended: bool,
     failed: bool,
 }
 
 impl<R: Input> Model for Reading<R> {
     ghost use Rattle.std.specs.Prelude.{◌≡◌, ◌+◌, ◌<◌, ◌≤◌, ◌^◌, length, drop, option_map, IfSome, false};
-    ghost use Rattle.osm_files.specs.Reading.{FindsLast, stand_of, IsGood};
+    ghost use Rattle.osm_files.specs.Reading.{FindsLast, state_data_of, IsGoodState};
     ghost use Rattle.osm_files.specs.Position.{Position};
 
     ghost Value = { Position R };
@@ -54,14 +55,14 @@ impl<R: Input> Model for Reading<R> {
     ghost view = { λ r. record {
       input = r.input;
       place = r.place;
-      held = r.unread;
+      held = r.read_buffer;
       coming = r.reader;
-      stand = option_map stand_of r.stage;
+      stand = option_map state_data_of r.stage;
       ended = r.ended;
       failed = r.failed;
     } };
 
-    ghost invariant = { λ r. (r.place + length r.unread < 2 ^ 62) × (r.failed ≡ false → IfSome r.stage IsGood) };
+    ghost invariant = { λ r. (r.place + length r.read_buffer < 2 ^ 62) × (r.failed ≡ false → IfSome r.stage IsGoodState) };
 }
 
 impl<R: Input> Reading<R> {
@@ -81,7 +82,7 @@ impl<R: Input> Reading<R> {
             alloc,
             input,
             reader,
-            unread: Unread::new(alloc),
+            read_buffer: ReadBuffer::new(alloc),
             place: 0,
             stage: None,
             ended: false,
@@ -89,14 +90,39 @@ impl<R: Input> Reading<R> {
         }
     }
 
-    /// Asks for about `chunk` bytes at a time from now on.
-    pub(crate) fn ask_for(&mut self, chunk: usize)
-        ensures { self.new ≡ self.old }
+    /// A reading of the lines of an OPL file from `place` on, of which a reader gives the bytes.
+    pub(crate) fn of_lines(alloc: Global, input: usize, place: u64, reader: R) -> Reading<R>
+        requires { place < 2 ^ 62 }
+        ensures { result ≡ record {
+          input = input;
+          place = place;
+          held = [];
+          coming = reader;
+          stand = Some spec.InOpl;
+          ended = false;
+          failed = false;
+        } }
     {
-        self.unread.ask_for(chunk);
+        Reading {
+            alloc,
+            input,
+            reader,
+            read_buffer: ReadBuffer::new(alloc),
+            place,
+            stage: Some(FileState::Lines(LineReader::new(alloc))),
+            ended: false,
+            failed: false,
+        }
     }
 
-    /// Reads more bytes, or finds that there are no more.
+    /// Asks for about `chunk` bytes at a time from now on.
+    pub(crate) fn set_chunk_size(&mut self, chunk: usize)
+        ensures { self.new ≡ self.old }
+    {
+        self.read_buffer.set_chunk_size(chunk);
+    }
+
+    /// Reads more bytes, or detects that there are no more.
     #[inline(never)]
     fn fill(&mut self) -> Result<(), Fault>
         requires { self.old.ended ≡ false }
@@ -107,12 +133,12 @@ impl<R: Input> Reading<R> {
         ensures refused { OnErr result (self.new.failed ≡ true) }
         ensures number { self.new.input ≡ self.old.input }
     {
-        let read = self.place + self.unread.len() as u64;
+        let read = self.place + self.read_buffer.len() as u64;
         let room = LENGTH_LIMIT - 1 - read;
         if room == 0 {
             return self.end_at_limit(read);
         }
-        match self.unread.read_more(&mut self.reader, room as usize) {
+        match self.read_buffer.read_more(&mut self.reader, room as usize) {
             Ok(0) => {
                 self.ended = true;
                 Ok(())
@@ -122,7 +148,7 @@ impl<R: Input> Reading<R> {
         }
     }
 
-    /// Finds that there are no more bytes, where as many came as a file may have.
+    /// Detects that there are no more bytes, after as many as a file may have.
     fn end_at_limit(&mut self, read: u64) -> Result<(), Fault>
         requires unended { self.old.ended ≡ false }
         requires place { read ≡ self.old.place + length self.old.held }
@@ -147,14 +173,15 @@ impl<R: Input> Reading<R> {
 
     /// Sets the stage by the first byte of the file, if it is there.
     ///
-    /// A call of its own for the optimizer only: it happens once in a file, and inlined it costs 12 stores a version.
+    /// This is a call of its own only for the optimizer: it happens once in a file, and inlined it costs 12 stores a
+    /// version.
     #[inline(never)]
     fn detect_grammar(&mut self)
         requires { self.old.stand ≡ None }
-        ensures { self.new ≡ seen self.old }
+        ensures { self.new ≡ with_state self.old }
     {
-        if !self.unread.as_slice().is_empty() {
-            self.stage = Some(Stage::of(self.alloc, self.unread.as_slice()));
+        if !self.read_buffer.as_slice().is_empty() {
+            self.stage = Some(FileState::of(self.alloc, self.read_buffer.as_slice()));
         }
     }
 
@@ -164,7 +191,7 @@ impl<R: Input> Reading<R> {
     fn read_held(&mut self, searched: usize) -> Result<Option<ReadUnit>, Reason>
         requires good { self.old.failed ≡ false }
         requires within { searched ≤ length self.old.held }
-        requires none { spec.unit_at (stand_at self.old) (take searched self.old.held) ≡ None }
+        requires none { spec.unit_at (state_at self.old) (take searched self.old.held) ≡ None }
         ensures found { FindsHeld self.old result self.new }
         ensures bound { self.old.place + length self.old.held < 2 ^ 62 }
         ensures place { self.new.place ≡ self.old.place }
@@ -176,7 +203,7 @@ impl<R: Input> Reading<R> {
         let Some(stage) = &mut self.stage else {
             return Ok(None);
         };
-        match stage.read(self.alloc, self.unread.as_slice(), searched) {
+        match stage.read(self.alloc, self.read_buffer.as_slice(), searched) {
             Ok(unit) => Ok(unit),
             Err(reason) => {
                 self.failed = true;
@@ -185,17 +212,17 @@ impl<R: Input> Reading<R> {
         }
     }
 
-    /// Goes over a unit of the bytes held, and gives its version, if it holds one.
+    /// Passes a unit of the bytes held, and returns its version, if it holds one.
     fn pass(&mut self, unit: ReadUnit) -> Option<Placed>
         requires { unit.size ≤ length self.old.held }
         ensures gone { self.new ≡ record self.old {
           place = self.old.place + unit.size;
           held = drop unit.size self.old.held;
         } }
-        ensures gave { result ≡ option_map (placed self.old.place) unit.version }
+        ensures gave { result ≡ option_map (new_placed self.old.place) unit.version }
     {
         let place = self.place;
-        self.unread.skip(unit.size);
+        self.read_buffer.skip(unit.size);
         self.place += unit.size as u64;
         match unit.version {
             None => None,
@@ -203,24 +230,24 @@ impl<R: Input> Reading<R> {
         }
     }
 
-    /// What the last bytes of an ended input hold, where no unit stands whole.
+    /// The version of the last bytes of an ended input, if no unit is whole.
     #[inline(never)]
     fn read_last(&self) -> Result<Option<Version>, Reason>
         requires { self.now.stand ≡ None → self.now.held ≡ [] }
-        ensures { FindsLast (spec.last_at (stand_at self.now) self.now.held) result }
+        ensures { FindsLast (spec.last_at (state_at self.now) self.now.held) result }
     {
         match &self.stage {
             None => Ok(None),
-            Some(stage) => stage.read_last(self.alloc, self.unread.as_slice()),
+            Some(stage) => stage.read_last(self.alloc, self.read_buffer.as_slice()),
         }
     }
 
-    /// The version of the last bytes of an ended input, where no unit stands whole. Nothing comes behind them.
+    /// The version of the last bytes of an ended input, if no unit is whole. Nothing comes after them.
     fn last(&mut self) -> Result<Option<Placed>, Fault>
         requires good { self.old.failed ≡ false }
         requires ended { self.old.ended ≡ true }
         requires seen { self.old.stand ≡ None → self.old.held ≡ [] }
-        requires nothing { spec.unit_at (stand_at self.old) self.old.held ≡ None }
+        requires nothing { spec.unit_at (state_at self.old) self.old.held ≡ None }
         requires bound { self.old.place + length self.old.held < 2 ^ 62 }
         ensures step { StepsOn R.can_give self.old result self.new }
         ensures failed { self.new.failed ≡ is_err result }
@@ -230,18 +257,18 @@ impl<R: Input> Reading<R> {
     {
         match self.read_last() {
             Ok(version) => {
-                let size = self.unread.len();
+                let size = self.read_buffer.len();
                 Ok(self.pass(ReadUnit { size, version }))
             }
             Err(reason) => Err(self.refuse(self.place, reason)),
         }
     }
 
-    /// The next version; none at the end and ever after.
+    /// The next version; `None` at the end and ever after.
     ///
     /// # Errors
     ///
-    /// Why the next unit can't be read, or `Memory`; ever after `Failed`.
+    /// The fault of the next unit, or `Memory`; ever after `Failed`.
     #[inline(always)]
     pub(crate) fn next(&mut self) -> Result<Option<Placed>, Fault>
         ensures step { StepsOn R.can_give self.old result self.new }
@@ -264,7 +291,7 @@ impl<R: Input> Reading<R> {
                 },
                 Ok(None) if self.ended => return self.last(),
                 Ok(None) => {
-                    searched = self.unread.len();
+                    searched = self.read_buffer.len();
                     self.fill()?;
                 }
                 Err(reason) => return Err(self.refuse(self.place, reason)),
@@ -272,11 +299,11 @@ impl<R: Input> Reading<R> {
         }
     }
 
-    /// The format of the file, by its first bytes, of which none was gone over.
+    /// The format of the file, by its first bytes. No unit was passed before.
     ///
     /// # Errors
     ///
-    /// Why they can't be read, or `Memory`; ever after `Failed`.
+    /// The fault of these bytes, or `Memory`; ever after `Failed`.
     pub(crate) fn format(&mut self) -> Result<Format, Fault>
         requires at_first { self.old.place ≡ 0 }
         requires unseen { self.old.stand ≡ None }
@@ -286,7 +313,7 @@ impl<R: Input> Reading<R> {
         ensures refused { IfErr result (λ fault. StepsOn R.can_give self.old (Err fault) self.new) }
     {
         'reads: loop {
-            let held = self.unread.as_slice();
+            let held = self.read_buffer.as_slice();
             if tells_format(held) {
                 return Ok(format_of(held));
             }
@@ -297,19 +324,19 @@ impl<R: Input> Reading<R> {
         }
     }
 
-    /// Takes back a version that isn't needed any more, whose memory the next one may take.
+    /// Takes back a version that isn't needed any more. The next one may be made in its memory.
     #[inline(always)]
     pub(crate) fn reuse(&mut self, version: Version)
         ensures { self.new ≡ self.old }
     {
         match &mut self.stage {
-            Some(Stage::Lines(lines)) => lines.reuse(version),
-            Some(Stage::DataSets(decoder)) => decoder.reuse(version),
+            Some(FileState::Lines(lines)) => lines.reuse(version),
+            Some(FileState::DataSets(decoder)) => decoder.reuse(version),
             _ => {}
         }
     }
 
-    /// Refuses the unit at this place, and every later call.
+    /// Refuses the unit at this offset, and every later call.
     pub(crate) fn refuse(&mut self, place: u64, reason: Reason) -> Fault
         ensures failed { self.new ≡ record self.old { failed = true } }
         ensures fault { result ≡ fault_at self.old.input place reason }
@@ -319,13 +346,13 @@ impl<R: Input> Reading<R> {
     }
 }
 
-/// Whether these bytes tell the format, whatever follows them.
+/// Whether these bytes determine the format, whatever follows them.
 fn tells_format(bytes: &[u8]) -> bool
     ensures { result ≡ tells_format bytes.now }
 {
     match bytes.first() {
         None => false,
-        Some(first) => *first != RESET || bytes.len() >= 7,
+        Some(first) => *first != SEGMENT_RESET || bytes.len() >= 7,
     }
 }
 
@@ -334,7 +361,7 @@ fn format_of(bytes: &[u8]) -> Format
     ensures { result ≡ format_of bytes.now }
 {
     match bytes.first() {
-        Some(first) if *first == RESET => o5_format(bytes),
+        Some(first) if *first == SEGMENT_RESET => o5_format(bytes),
         _ => Format::Opl,
     }
 }

@@ -9,13 +9,13 @@ use osm_model::Memory;
 /// Why a file, or a call that reads or writes one, is refused.
 #[derive(Clone, Copy, Debug, PartialEq, Eq)]
 pub enum Reason {
-    /// A line of an OPL file can't be read; never its want of memory.
+    /// A line of an OPL file can't be read. The inner reason is never `Memory`.
     Opl(OplReason),
-    /// A data set of an o5m or o5c file can't be read; never its want of memory, nor that a call failed before.
+    /// A data set of an o5m or o5c file can't be read. The inner reason is never `Memory` or `Failed`.
     O5(O5Reason),
-    /// The file doesn't begin as its format does.
+    /// The file doesn't begin as its format requires.
     BadHeader,
-    /// An object doesn't stand after the one before it.
+    /// An object comes after one that it should come before.
     Unsorted,
     /// The file ends without the mark of its end.
     NoEnd,
@@ -23,9 +23,9 @@ pub enum Reason {
     AfterEnd,
     /// The file has 2^62 bytes or more.
     TooLong,
-    /// The reader answered an error.
+    /// The reader returned an error.
     ReadFault,
-    /// The writer answered an error, or took none of some bytes.
+    /// The writer returned an error, or took none of some bytes.
     WriteFault,
     /// Memory was refused.
     Memory,
@@ -34,7 +34,7 @@ pub enum Reason {
 }
 
 impl Reason {
-    /// The reason's name, which is that of its variant, or of a line's or a data set's reason the inner one's.
+    /// The reason's name. It is that of its variant; the reason of a line or of a data set has the inner reason's name.
     pub fn name(&self) -> &'static str
         ensures { result.now ≡ reason_name self.now }
     {
@@ -60,7 +60,7 @@ impl From<OplReason> for Reason {
 
     ghost from_gives = { λ inner outer. outer ≡ of_line inner };
 
-    /// Want of memory is said by the outer reason.
+    /// `Memory` of a line becomes that of the file.
     fn from(reason: OplReason) -> Reason {
         match reason {
             OplReason::Memory => Reason::Memory,
@@ -75,7 +75,7 @@ impl From<O5Reason> for Reason {
 
     ghost from_gives = { λ inner outer. outer ≡ of_data_set inner };
 
-    /// Want of memory, and that a call failed before, are said by the outer reason.
+    /// `Memory` and `Failed` of a data set become those of the file.
     fn from(reason: O5Reason) -> Reason {
         match reason {
             O5Reason::Memory => Reason::Memory,

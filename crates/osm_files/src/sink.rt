@@ -1,7 +1,7 @@
 //! Sinks: a file that is written version by version.
 ghost use Rattle.std.specs.Prelude.{◌≡◌, ◌≢◌, ◌+◌, ◌<◌, ◌^◌, ◌++◌, false, true, [], Ok, Err, length};
 ghost use Rattle.std.specs.Prelude.{IfOk, IfErr, OnOk, OnErr};
-ghost use Rattle.o5_codec.specs.Encoder.{nothing_written};
+ghost use Rattle.o5_codec.specs.Encoder.{initial_written};
 ghost use Rattle.osm_files.specs.Fault.{memory_fault, too_long_fault, write_fault};
 ghost use Rattle.osm_files.specs.Output.{Appends, FailingLasts, IsGoodThroughout};
 ghost use Rattle.osm_files.specs.Change.{change_of};
@@ -13,27 +13,27 @@ ghost use Rattle.osm_files.specs.Sink as spec;
 use crate::fault::Fault;
 use crate::format::Format;
 use crate::output::Output;
-use crate::unit::{END, O5C_HEADER, O5M_HEADER};
+use crate::unit::{FILE_END, O5C_HEADER, O5M_HEADER};
 use crate::write::{write_all, write_fault};
 use o5_codec::Encoder;
 use osm_model::{History, Kind, Memory, Version};
 use std::alloc::Global;
 use std::marker::Model;
 
-/// How versions are written one after the other.
+/// The state of writing versions in sequence.
 #[derive(Drop)]
 enum Units {
-    /// As lines, the last one of a version of this kind; nodes come first.
+    /// As lines; the last one is of a version of this kind; nodes come first.
     Lines(Kind),
     /// As data sets.
     DataSets(Encoder),
 }
 
 impl Units {
-    /// The units of a format, of which none is written yet.
+    /// The units of a format, before any version.
     fn new(alloc: Global, format: Format) -> Result<Units, Memory>
-        ensures units { IfOk result (λ u. spec.AreOf format u) }
-        ensures nothing { IfOk result (λ u. spec.written_in u ≡ nothing_written) }
+        ensures units { IfOk result (λ u. spec.AreUnitsOf format u) }
+        ensures nothing { IfOk result (λ u. spec.written_by_units u ≡ initial_written) }
     {
         match format {
             Format::Opl => Ok(Units::Lines(Kind::Node)),
@@ -41,20 +41,20 @@ impl Units {
         }
     }
 
-    /// Appends a version behind those written before.
+    /// Appends a version after those written before.
     ///
     /// # Errors
     ///
-    /// For want of memory alone, in which case a part of it may stand there.
+    /// Only out of memory. A part of the version may be appended then.
     fn append(&mut self, bytes: &mut Vec<u8>, v: &Version) -> Result<(), Memory>
-        requires follows { spec.MayFollow v.now (spec.written_in self.old) }
-        requires good { spec.IsGood self.old }
-        ensures bytes { OnOk result ((f : Format) → spec.AreOf f self.old
-            → bytes.new.items ≡ bytes.old.items ++ spelling.spelled_in f (spec.written_in self.old) v.now) }
+        requires follows { spec.MayFollow v.now (spec.written_by_units self.old) }
+        requires good { spec.IsGoodUnits self.old }
+        ensures bytes { OnOk result ((f : Format) → spec.AreUnitsOf f self.old
+            → bytes.new.items ≡ bytes.old.items ++ spelling.version_bytes f (spec.written_by_units self.old) v.now) }
         ensures some { OnOk result (0 < length bytes.new.items) }
-        ensures units { OnOk result ((f : Format) → spec.AreOf f self.old → spec.AreOf f self.new) }
-        ensures behind { OnOk result ((f : Format) → spec.AreOf f self.old
-            → spec.written_in self.new ≡ spelling.behind f (spec.written_in self.old) v.now) }
+        ensures units { OnOk result ((f : Format) → spec.AreUnitsOf f self.old → spec.AreUnitsOf f self.new) }
+        ensures behind { OnOk result ((f : Format) → spec.AreUnitsOf f self.old
+            → spec.written_by_units self.new ≡ spelling.written_with f (spec.written_by_units self.old) v.now) }
     {
         match self {
             Units::Lines(last) => {
@@ -71,7 +71,7 @@ impl Units {
     }
 }
 
-/// Writes one file, version by version, to an output that is handed to each call.
+/// Writes one file, version by version, to an output that each call gets as an argument.
 ///
 /// It keeps the state that the next version is written in, and no version. Each call writes at once.
 #[derive(Drop)]
@@ -79,12 +79,12 @@ pub struct Sink {
     format: Format,
     number: usize,
     units: Units,
-    /// The bytes written so far.
+    /// The number of bytes written so far.
     written: u64,
     begun: bool,
     ended: bool,
     failed: bool,
-    /// The bytes of one version; used again for each.
+    /// The bytes of one version; reused for each.
     buffer: Vec<u8>,
 }
 
@@ -100,11 +100,11 @@ impl Model for Sink {
 }
 
 impl Sink {
-    /// A sink for a file of this format, to the output of this number. It writes nothing yet.
+    /// A sink for a file of this format, to the output `number`. It writes nothing yet.
     ///
     /// # Errors
     ///
-    /// For want of memory alone.
+    /// Only out of memory.
     pub fn new(alloc: Global, format: Format, number: usize) -> Result<Sink, Fault>
         ensures ok { IfOk result (λ sink. sink ≡ spec.new_sink format number) }
         ensures err { IfErr result (λ fault. fault ≡ memory_fault) }
@@ -128,12 +128,12 @@ impl Sink {
     ///
     /// # Errors
     ///
-    /// `WriteFault` where the output fails, at the number of bytes that it took; `Failed` where an earlier call was
-    /// refused. A sink of lines has nothing to write here, and leaves the output as it is.
+    /// `WriteFault` if the output fails, at the number of bytes that it took; `Failed` if an earlier call was refused.
+    /// A sink of lines writes nothing here, and leaves the output unchanged.
     pub fn begin<W: Output>(&mut self, out: &mut W) -> Result<(), Fault>
         requires { self.old.begun ≡ false }
-        ensures calls { spec.Calls (spec.begins self.old) self.new spec.stays
-            (change_of W.Output out.old out.new) (spelling.begun self.old.format) result }
+        ensures calls { spec.Calls (spec.after_begin self.old) self.new spec.same_sink
+            (change_of W.Output out.old out.new) (spelling.file_start self.old.format) result }
         ensures memory { result ≢ Err memory_fault }
         ensures lines { self.old.failed ≡ false → self.old.format ≡ format.Opl →
             (result ≡ Ok tt) × (out.new ≡ out.old) }
@@ -164,15 +164,14 @@ impl Sink {
     ///
     /// # Errors
     ///
-    /// `Memory`, and `TooLong` where the file would come to have 2^62 bytes or more, in which cases nothing is written;
-    /// `WriteFault` where the output fails, at the number of bytes that it took in all; `Failed` where an earlier call
-    /// was refused.
+    /// `Memory`, and `TooLong` if the file would have 2^62 bytes or more: nothing is written then. `WriteFault` if the
+    /// output fails, at the number of bytes that it took in all; `Failed` if an earlier call was refused.
     #[inline(always)]
     pub fn put<W: Output>(&mut self, out: &mut W, v: &Version) -> Result<(), Fault>
         requires open { spec.IsOpen self.old }
         requires follows { spec.Takes v.now self.old }
-        ensures calls { spec.Calls self.old self.new (spec.puts v.now)
-            (change_of W.Output out.old out.new) (spelling.spelled_in self.old.format self.old.encoder v.now) result }
+        ensures calls { spec.Calls self.old self.new (spec.after_put v.now)
+            (change_of W.Output out.old out.new) (spelling.version_bytes self.old.format self.old.encoder v.now) result }
         ensures good { OnOk result (IsGoodThroughout (change_of W.Output out.old out.new)) }
         ensures lasts { FailingLasts (change_of W.Output out.old out.new) }
         ensures untouched { spec.IsBeforeWriting self.old.number result → out.new ≡ out.old }
@@ -201,8 +200,8 @@ impl Sink {
     /// As for [`Sink::put`], but never `Memory`. A flush that fails is a `WriteFault` at the number of bytes written.
     pub fn end<W: Output>(&mut self, out: &mut W) -> Result<(), Fault>
         requires { spec.IsOpen self.old }
-        ensures calls { spec.Calls (spec.ends self.old) self.new spec.stays
-            (change_of W.Output out.old out.new) (spelling.ended self.old.format) result }
+        ensures calls { spec.Calls (spec.after_end self.old) self.new spec.same_sink
+            (change_of W.Output out.old out.new) (spelling.file_end self.old.format) result }
         ensures memory { result ≢ Err memory_fault }
         ensures good { OnOk result (IsGoodThroughout (change_of W.Output out.old out.new)) }
         ensures lasts { FailingLasts (change_of W.Output out.old out.new) }
@@ -222,7 +221,7 @@ impl Sink {
     }
 }
 
-/// Writes bytes behind those written before, and counts them.
+/// Writes bytes after those written before, and counts them.
 #[inline(always)]
 fn send<W: Output>(out: &mut W, number: usize, written: &mut u64, bytes: &[u8]) -> Result<(), Fault>
     requires some { 0 < length bytes.now }
@@ -248,8 +247,8 @@ fn finish<W: Output>(
     format: Format,
 ) -> Result<(), Fault>
     requires { written.old < 2 ^ 62 }
-    ensures sent { spec.Sends number (change_of W.Output out.old out.new) written.old (spelling.ended format) result }
-    ensures counted { OnOk result (written.new ≡ written.old + length (spelling.ended format)) }
+    ensures sent { spec.Sends number (change_of W.Output out.old out.new) written.old (spelling.file_end format) result }
+    ensures counted { OnOk result (written.new ≡ written.old + length (spelling.file_end format)) }
     ensures below { written.new < 2 ^ 62 }
     ensures good { OnOk result (IsGoodThroughout (change_of W.Output out.old out.new)) }
     ensures lasts { FailingLasts (change_of W.Output out.old out.new) }
@@ -258,14 +257,14 @@ fn finish<W: Output>(
 {
     match format {
         Format::Opl => flush(out, number, *written),
-        Format::O5m | Format::O5c => match send(out, number, written, &[END]) {
+        Format::O5m | Format::O5c => match send(out, number, written, &[FILE_END]) {
             Ok(()) => flush(out, number, *written),
             Err(fault) => Err(fault),
         },
     }
 }
 
-/// Flushes the output, to which so many bytes were written.
+/// Flushes the output, to which `written` bytes were written.
 fn flush<W: Output>(out: &mut W, number: usize, written: u64) -> Result<(), Fault>
     ensures same { Appends (change_of W.Output out.old out.new) [] }
     ensures good { OnOk result (IsGoodThroughout (change_of W.Output out.old out.new)) }
@@ -278,12 +277,12 @@ fn flush<W: Output>(out: &mut W, number: usize, written: u64) -> Result<(), Faul
     }
 }
 
-/// Writes the file of a history to the output of this number, which is flushed at the end.
+/// Writes the file of a history to the output `number`, which is flushed at the end.
 ///
 /// # Errors
 ///
-/// As for [`Sink::put`]. What was appended then is a front of that file; after a `WriteFault` it has as many bytes as
-/// the place says.
+/// As for [`Sink::put`]. The bytes appended then are a front of that file; after a `WriteFault` their number is the
+/// fault's `place`.
 pub fn write_history<W: Output>(
     alloc: Global,
     number: usize,

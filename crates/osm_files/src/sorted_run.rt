@@ -1,14 +1,14 @@
-//! Sorted runs: parts of a file that are files of their own, and where a file may be split into them.
+//! Sorted runs: parts of a file that are files of their own, and the offsets at which a file may be split into them.
 ghost use Rattle.std.specs.Prelude.{◌≡◌, ◌+◌, ◌-◌, ◌^◌, ◌<◌, ℕ, List, length, IfSome, if◌then◌else◌};
 ghost use Rattle.osm_files.specs.SortedRun as spec;
 
-use crate::unit::{END, O5M_HEADER, RESET};
+use crate::unit::{FILE_END, O5M_HEADER, SEGMENT_RESET};
 
 /// The header that is read before a part without one.
 const HEADER: &[u8] = &O5M_HEADER;
 
 /// The end byte that is read after a part without one.
-const END_BYTES: &[u8] = &[END];
+const END_BYTES: &[u8] = &[FILE_END];
 
 /// Nothing is read before or after a part that lacks nothing.
 const NOTHING: &[u8] = b"";
@@ -51,14 +51,15 @@ impl SortedRun {
         }
     }
 
-    /// What is read before the part of the file: a header or nothing. It is the header of o5m, and o5c is read alike.
+    /// The bytes read before the part of the file: a header or nothing. It is the header of o5m, and o5c is read like
+    /// it.
     pub fn bytes_before(self) -> &'static [u8]
         ensures { result.now ≡ spec.bytes_before self }
     {
         if self.lacks_header { HEADER } else { NOTHING }
     }
 
-    /// What is read after the part of the file: the end byte or nothing.
+    /// The bytes read after the part of the file: the end byte or nothing.
     pub fn bytes_after(self) -> &'static [u8]
         ensures { result.now ≡ spec.bytes_after self }
     {
@@ -133,12 +134,12 @@ impl SortedRun {
     }
 }
 
-/// Whether the byte is the one of resets.
+/// Whether the byte is a reset.
 fn is_reset(byte: Option<u8>) -> bool
     ensures { result ≡ spec.is_reset byte }
 {
     match byte {
-        Some(byte) => byte == RESET,
+        Some(byte) => byte == SEGMENT_RESET,
         None => false,
     }
 }

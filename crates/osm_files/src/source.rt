@@ -1,4 +1,4 @@
-//! Sources: versions in ascending order, one after the other.
+//! Sources: versions in ascending order, one by one.
 //!
 //! Why: nearly every key group is one version. It is returned without a list and without a sort, so a source takes 7
 //! percent more time than the lines of its file, and 10 percent more than its data sets.
@@ -13,9 +13,9 @@ ghost use Rattle.osm_files.specs.declared.fault.Fault.{Fault};
 ghost use Rattle.osm_files.specs.Fault.{memory_fault, failed_fault};
 ghost use Rattle.osm_files.specs.Input.{GivesOne};
 ghost use Rattle.osm_files.specs.Stream.{Still};
-ghost use Rattle.osm_files.specs.Source.{Ascends, Steps};
+ghost use Rattle.osm_files.specs.Source.{Ascends, SourceSteps};
 ghost use Rattle.osm_files.specs.Position.{units_left};
-ghost use Rattle.osm_files.specs.Groups.{opened_file, begun, left_at, IsGroup, BeginsOn};
+ghost use Rattle.osm_files.specs.Groups.{new_source, with_group, versions_left, IsGroup, BeginsOn};
 ghost use Rattle.osm_files.specs.Groups.{FileSteps, FileCanGive, given_at, known_or_whole, one_given, file_ascends};
 ghost use Rattle.osm_files.specs.Load.{Opens, StopsOpening};
 
@@ -30,19 +30,19 @@ use std::alloc::Global;
 use std::marker::Model;
 use std::vec::IntoIter;
 
-/// A strictly ascending list of versions, one after the other.
+/// A strictly ascending list of versions, given one by one.
 pub trait Source {
-    /// It can still give these versions, and end so. A source that tells what is to come can give only that. What a
-    /// source that tells nothing gives is seen only as it is asked.
+    /// A list of versions that it can still give, and its end. A source that reports its versions can give only that.
+    /// The versions of any other source are known only as it is asked.
     ghost can_give: { Self → Still VersionData Fault → Type 0 };
 
     /// One of these.
     ghost one: { Self → Still VersionData Fault };
 
-    /// At most so many versions are still to come, whatever they are.
+    /// A bound on the number of versions still to come.
     ghost left: { Self → ℕ };
 
-    /// Its number, with which it answers `Failed`.
+    /// Its number, which its fault `Failed` has.
     ghost number: { Self → ℕ };
 
     /// Whether a call was refused.
@@ -51,32 +51,32 @@ pub trait Source {
     /// There always is one.
     ghost possible: { (s : Self) → can_give s (one s) };
 
-    /// Whatever it can give ascends strictly.
+    /// Each list that it can give ascends strictly.
     ghost ascends: { (s : Self) (still : Still VersionData Fault) → can_give s still → Ascends still };
 
     /// The next version; `None` at the end and ever after.
     ///
     /// # Errors
     ///
-    /// Why the rest can't be given, or `Memory`; ever after `Failed`, with its number.
+    /// The fault of the rest, or `Memory`; ever after `Failed`, with its number.
     fn next(&mut self) -> Result<Option<Version>, Fault>
-        ensures step { Steps can_give self.old result self.new }
+        ensures step { SourceSteps can_give self.old result self.new }
         ensures fewer { IfOk result (λ given. IsSome given → left self.new < left self.old) }
         ensures again { has_failed self.old ≡ true → result ≡ Err (failed_fault (number self.old)) }
         ensures failed { has_failed self.new ≡ is_err result }
         ensures number { number self.new ≡ number self.old };
 
-    /// Takes back a version that isn't needed any more, whose memory the next one may take; or lets it go.
+    /// Takes back a version that isn't needed any more: the next one may be made in its memory, or it is dropped.
     fn reuse(&mut self, _version: Version)
         ensures { self.new ≡ self.old }
     {}
 }
 
-/// The number of unread bytes that more than 8 sources, read side by side, hold together: half of what a second cache
-/// has room for, since the versions that wait are in it, too.
-const HELD: usize = 524_288;
+/// The number of unread bytes that more than 8 sources in one merge hold together: half of the room of a second-level
+/// cache, since the versions that wait are in it, too.
+const READ_AHEAD_TOTAL: usize = 524_288;
 
-/// A sorted file: the versions of one key after the other, each key group ascending and without repeats.
+/// A sorted file: the key groups in sequence, each ascending and without repeats.
 ///
 /// A key group is nearly always one version, which is kept by itself.
 #[derive(Drop)]
@@ -85,32 +85,31 @@ pub struct FileSource<R: Input> {
     units: Reading<R>,
     /// The first version that was read of the next group.
     pending: Option<Version>,
-    /// What is left of the group that is given out.
+    /// The rest of the current group.
     ready: IntoIter<Version>,
 }
 
 impl<R: Input> Model for FileSource<R> {
     ghost use Rattle.std.specs.Prelude.{option_to_list};
     ghost use Rattle.std.specs.Vec.Iter.{into_iter_items};
-    ghost use Rattle.osm_files.specs.Groups.{FileStand, standing, IsOpenSource};
+    ghost use Rattle.osm_files.specs.Groups.{FileSourceData, source_data, IsOpenSource};
 
-    ghost Value = { FileStand R };
+    ghost Value = { FileSourceData R };
 
-    ghost view = { λ s. standing s.units (option_to_list s.pending) (into_iter_items s.ready) };
+    ghost view = { λ s. source_data s.units (option_to_list s.pending) (into_iter_items s.ready) };
 
     ghost invariant = { λ s.
-        IsOpenSource R.can_give (standing s.units (option_to_list s.pending) (into_iter_items s.ready)) };
+        IsOpenSource R.can_give (source_data s.units (option_to_list s.pending) (into_iter_items s.ready)) };
 }
 
 impl<R: Input> FileSource<R> {
-    /// A source of the versions of a sorted file of any format, which is the input of this number. It reads nothing
-    /// yet.
+    /// A source of the versions of a sorted file of any format, which is the input `input`. It reads nothing yet.
     ///
     /// # Errors
     ///
-    /// For want of memory alone.
+    /// Only out of memory.
     pub fn new(alloc: Global, input: usize, reader: R) -> Result<FileSource<R>, Fault>
-        ensures opened { IfOk result (λ s. s ≡ opened_file input reader) }
+        ensures opened { IfOk result (λ s. s ≡ new_source input reader) }
         ensures memory { IfErr result (λ fault. fault ≡ memory_fault) }
     {
         Ok(FileSource {
@@ -121,27 +120,29 @@ impl<R: Input> FileSource<R> {
         })
     }
 
-    /// A source as [`FileSource::new`] makes it, which is one of `sources` that are read side by side. The more there
-    /// are, the less it asks for at a time, so that what is held of all of them stays near the processor.
+    /// A source as [`FileSource::new`] makes it, which is one of `sources` in one merge. With more sources it reads
+    /// fewer bytes at a time, so that the unread bytes of all of them stay in the processor's cache.
     ///
     /// # Errors
     ///
-    /// For want of memory alone.
-    pub fn beside(
+    /// Only out of memory.
+    pub fn with_peers(
         alloc: Global,
         input: usize,
         reader: R,
         sources: usize,
     ) -> Result<FileSource<R>, Fault>
-        ensures opened { IfOk result (λ s. s ≡ opened_file input reader) }
+        ensures opened { IfOk result (λ s. s ≡ new_source input reader) }
         ensures memory { IfErr result (λ fault. fault ≡ memory_fault) }
     {
         let mut source = FileSource::new(alloc, input, reader)?;
-        source.units.ask_for(HELD / sources.max(1));
+        source
+            .units
+            .set_chunk_size(READ_AHEAD_TOTAL / sources.max(1));
         Ok(source)
     }
 
-    /// The first version of the next group, of which the others are made ready; none at the end.
+    /// Returns the first version of the next group, and makes the others ready; `None` at the end.
     #[inline(always)]
     fn next_group(&mut self) -> Result<Option<Version>, Fault>
         requires nothing { self.old.ready ≡ [] }
@@ -149,7 +150,7 @@ impl<R: Input> FileSource<R> {
         ensures again { self.old.units.failed ≡ true → result ≡ Err (failed_fault self.old.units.input) }
         ensures failed { self.new.units.failed ≡ is_err result }
         ensures number { self.new.units.input ≡ self.old.units.input }
-        ensures fewer { IfOk result (λ given. IsSome given → left_at self.new < left_at self.old) }
+        ensures fewer { IfOk result (λ given. IsSome given → versions_left self.new < versions_left self.old) }
     {
         let Some(first) = self.begin()? else {
             return Ok(None);
@@ -168,7 +169,7 @@ impl<R: Input> FileSource<R> {
         self.next_of_many(first, second.version)
     }
 
-    /// The version that the next group begins with: the one read before, or else the next one; none at the end.
+    /// The version that the next group begins with: the one read before, or else the next one; `None` at the end.
     #[inline(always)]
     fn begin(&mut self) -> Result<Option<Version>, Fault>
         requires nothing { self.old.ready ≡ [] }
@@ -179,7 +180,7 @@ impl<R: Input> FileSource<R> {
         ensures failed { OnErr result (self.new.units.failed ≡ true) }
         ensures ended { result ≡ Ok None → self.new.units.failed ≡ false }
         ensures begins { BeginsOn R.can_give self.old.units self.old.group result self.new.units }
-        ensures left { IfOk result (λ first. IsSome first → left_at self.new < left_at self.old) }
+        ensures left { IfOk result (λ first. IsSome first → versions_left self.new < versions_left self.old) }
     {
         match self.pending.take() {
             Some(first) => Ok(Some(first)),
@@ -187,16 +188,16 @@ impl<R: Input> FileSource<R> {
         }
     }
 
-    /// The least version of a group that begins with two versions of one key, of which the others are made ready.
+    /// Returns the least version of a group that begins with two versions of one key, and makes the others ready.
     #[inline(never)]
     fn next_of_many(&mut self, first: Version, second: Version) -> Result<Option<Version>, Fault>
         requires nothing { self.old.ready ≡ [] }
         requires group { IsGroup first (second ∷ []) }
-        ensures step { FileSteps R.can_give (begun self.old (first ∷ second ∷ [])) result self.new }
+        ensures step { FileSteps R.can_give (with_group self.old (first ∷ second ∷ [])) result self.new }
         ensures failed { self.new.units.failed ≡ is_err result }
         ensures number { self.new.units.input ≡ self.old.units.input }
         ensures fewer { IfOk result (λ given. IsSome given →
-            left_at self.new < left_at (begun self.old (first ∷ second ∷ []))) }
+            versions_left self.new < versions_left (with_group self.old (first ∷ second ∷ []))) }
     {
         let mut group = match Group::of_two(self.alloc, first, second) {
             Err(_) => return Err(self.units.refuse(0, Reason::Memory)),
@@ -214,12 +215,12 @@ impl<R: Input> FileSource<R> {
 }
 
 impl<R: Input + Drop> FileSource<R> {
-    /// A source of the versions of a sorted file, and the file's format, which its first bytes tell. These are read,
-    /// and no version is gone over.
+    /// A source of the versions of a sorted file, and the file's format, which its first bytes determine. These bytes
+    /// are read, and no version is passed.
     ///
     /// # Errors
     ///
-    /// Why the bytes that tell the format can't be read, or `Memory`.
+    /// The fault of the bytes that determine the format, or `Memory`.
     pub fn open(alloc: Global, input: usize, reader: R) -> Result<(Format, FileSource<R>), Fault>
         ensures opened { IfOk result (λ opened. Opens R.can_give input reader opened.0 opened.1) }
         ensures refused { IfErr result (λ fault. GivesOne (R.can_give reader) (λ c. StopsOpening input c fault)) }
@@ -249,7 +250,7 @@ impl<R: Input> Source for FileSource<R> {
 
     ghost one = { λ s. known_or_whole (given_at s (R.one s.units.coming)) };
 
-    ghost left = { λ s. left_at s };
+    ghost left = { λ s. versions_left s };
 
     ghost number = { λ s. s.units.input };
 
@@ -275,7 +276,8 @@ impl<R: Input> Source for FileSource<R> {
 
 /// The version that a group begins with, if none was read before; `None` at the end.
 ///
-/// A call of its own for the optimizer only: inlined, [`Reading::next`] would be twice in the loop of every merge.
+/// This is a call of its own only for the optimizer: inlined, [`Reading::next`] would be twice in the loop of every
+/// merge.
 #[inline(never)]
 fn begin_next<R: Input>(units: &mut Reading<R>) -> Result<Option<Version>, Fault>
     ensures number { units.new.input ≡ units.old.input }

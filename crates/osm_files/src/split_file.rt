@@ -46,11 +46,11 @@ impl SplitFile {
     /// none if the rest can't be split there (`SortedRun::split`).
     ///
     /// A file that has the bytes of all calls is split into the runs. If each run is a sorted file, a merge of the runs
-    /// writes what is written of the file.
+    /// writes the same bytes as a merge of the file.
     ///
     /// # Errors
     ///
-    /// Out of memory. The runs are as they were.
+    /// Out of memory. The runs are unchanged.
     pub fn split(&mut self, offset: u64, bytes: BytesAtSplit) -> Result<Option<SortedRun>, Memory>
         ensures value { IfOk result (λ front.
             (self.new, front) ≡ spec.after_split self.old (spec.split_run self.old.rest offset bytes)) }

@@ -1,4 +1,4 @@
-//! Files that come in pieces: what they give depends on their bytes only.
+//! Files that come in pieces: the results depend on their bytes only.
 use crate::devices::Pieces;
 use crate::input::{FromRead, SliceIn};
 use crate::source::FileSource;
@@ -13,7 +13,7 @@ pub(crate) const NODE_THEN_DELETION: &[u8] =
 /// Two nodes, of which the second has the lesser key.
 pub(crate) const UNSORTED: &[u8] = b"n2 v1 x1 y1\nn1 v1 x1 y1\n";
 
-/// Whether a file that comes by `step` bytes a read is loaded as the first text says, and given as the second one says.
+/// Whether a file that comes by `step` bytes a read is loaded as the text `loaded`, and given as the text `given`.
 fn is_same(alloc: Global, file: &[u8], step: usize, loaded: &str, given: &str) -> bool {
     let read = Cell::new(0usize);
     let pieces = Pieces {
@@ -45,7 +45,7 @@ fn push_abridged(text: &mut String, whole: &str) {
     }
 }
 
-/// What loading a file returns, and by how many bytes a read the file gives something else.
+/// The result of loading a file, and the numbers of bytes a read with which it gives something else.
 fn text_in_pieces(alloc: Global, file: &[u8]) -> String {
     let loaded = loaded_text(alloc, 0, SliceIn::new(file));
     let given = given_text(alloc, 0, SliceIn::new(file));
@@ -59,7 +59,7 @@ fn text_in_pieces(alloc: Global, file: &[u8]) -> String {
     text
 }
 
-/// A file, and what loading it returns.
+/// A file, and the result of loading it.
 type Row = (&'static [u8], &'static str);
 
 /// A node and its deletion, in each format; in o5c with a reset, a lone byte and a data set that is skipped.
@@ -201,7 +201,7 @@ fn files_in_pieces(rt: HostRuntime) {
     }
 }
 
-/// What the file of a node and its deletion gives in pieces, of which `length` bytes are left.
+/// The result of the first `length` bytes of the file of a node and its deletion, in pieces.
 fn cut_text(alloc: Global, length: usize) -> String {
     match NODE_THEN_DELETION.get(..length) {
         Some(cut) => text_in_pieces(alloc, cut),
@@ -226,8 +226,8 @@ fn cut_file(rt: HostRuntime) {
     }
 }
 
-/// What a file gives of a node with a tag of the key k and `letters` letters, whose data set has this length, and of a
-/// node with the same tag by reference.
+/// The result of a file of a node with a tag of the key k and `letters` letters, whose data set has this length, and of
+/// a node with the same tag by reference.
 fn long_tag_text(alloc: Global, length: &[u8], letters: usize) -> String {
     let mut file = Vec::new(alloc);
     let _ = file.extend_from_slice(b"\xff\xe0\x04o5m2\x10");
@@ -254,7 +254,7 @@ fn push_many_tags(alloc: Global, file: &mut Vec<u8>, reference: &[u8]) {
     let _ = file.push(b'\xfe');
 }
 
-/// What loading that file returns, which comes by `step` bytes a read.
+/// The result of loading that file, which comes by `step` bytes a read.
 fn many_tags_text(alloc: Global, reference: &[u8], step: usize) -> String {
     let mut file = Vec::new(alloc);
     push_many_tags(alloc, &mut file, reference);
@@ -301,7 +301,7 @@ fn full_table_in_pieces(rt: HostRuntime) {
     }
 }
 
-/// What a file gives whose first line is longer than any buffer.
+/// The result of a file whose first line is longer than any buffer.
 fn long_line_text(alloc: Global) -> String {
     let mut file = Vec::new(alloc);
     let _ = file.extend_from_slice(b"n1 v1 dV x1 y1 Tk=");
@@ -337,7 +337,7 @@ fn first_text(alloc: Global) -> String {
     text
 }
 
-/// What a source gives of a reader that fails after 30 bytes.
+/// The versions of a source whose reader fails after 30 bytes.
 fn broken_text(alloc: Global) -> String {
     let read = Cell::new(0usize);
     let pieces = Pieces {

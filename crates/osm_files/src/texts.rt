@@ -1,4 +1,4 @@
-//! What calls return, as texts, for the tests. A text that runs out of memory is shorter, and no test expects it.
+//! The results of calls, as texts, for the tests. A text that runs out of memory is shorter, and no test expects it.
 use crate::fault::Fault;
 use crate::input::Input;
 use crate::load::{Loaded, load_any};
@@ -29,7 +29,7 @@ fn push_history(alloc: Global, text: &mut String, history: &History) {
     }
 }
 
-/// Appends what loading a file returned: the file's format, its order and its versions, or the fault.
+/// Appends the result of loading a file: the file's format, its order and its versions, or the fault.
 pub(crate) fn push_loaded(alloc: Global, text: &mut String, outcome: Result<Loaded, Fault>) {
     match outcome {
         Err(fault) => push_fault(text, fault),
@@ -41,8 +41,8 @@ pub(crate) fn push_loaded(alloc: Global, text: &mut String, outcome: Result<Load
     }
 }
 
-/// Appends what a source returns next: a version, which is given back to it, `end` or a fault. Returns whether it was a
-/// version.
+/// Appends the next result of a source: a version, which is given back to it, `end` or a fault. Returns whether it was
+/// a version.
 pub(crate) fn push_next<S: Source>(alloc: Global, text: &mut String, source: &mut S) -> bool {
     match source.next() {
         Ok(Some(version)) => {
@@ -61,7 +61,7 @@ pub(crate) fn push_next<S: Source>(alloc: Global, text: &mut String, source: &mu
     }
 }
 
-/// Appends up to a hundred versions of a source, and what it returns then, three times.
+/// Appends up to a hundred versions of a source, and its next result, three times.
 pub(crate) fn push_given<S: Source>(alloc: Global, text: &mut String, source: &mut S) {
     for _ in 0..100 {
         if !push_next(alloc, text, source) {
@@ -72,7 +72,7 @@ pub(crate) fn push_given<S: Source>(alloc: Global, text: &mut String, source: &m
     push_next(alloc, text, source);
 }
 
-/// Appends what a new source of a file gives, or why there is none.
+/// Appends the versions of a new source of a file, or the fault of opening it.
 pub(crate) fn push_source<R: Input + Drop>(
     alloc: Global,
     text: &mut String,
@@ -84,14 +84,14 @@ pub(crate) fn push_source<R: Input + Drop>(
     }
 }
 
-/// What loading the input of this number returns.
+/// The result of loading the input `input`.
 pub(crate) fn loaded_text<R: Input + Drop>(alloc: Global, input: usize, reader: R) -> String {
     let mut text = String::new(alloc);
     push_loaded(alloc, &mut text, load_any(alloc, input, reader));
     text
 }
 
-/// What a source of the input of this number gives.
+/// The versions of a source of the input `input`.
 pub(crate) fn given_text<R: Input + Drop>(alloc: Global, input: usize, reader: R) -> String {
     let mut text = String::new(alloc);
     push_source(alloc, &mut text, FileSource::new(alloc, input, reader));

@@ -3,10 +3,10 @@ ghost use Rattle.std.specs.Prelude.{◌≡◌, ◌⊎◌, false, Option, None, S
 ghost use Rattle.std.specs.Prelude.{IfOk, OnOk};
 ghost use Rattle.std.specs.List.{list_any};
 ghost use Rattle.o5_codec.specs.Decoder.{new_segment};
-ghost use Rattle.opl_line.specs.Cut.{is_line_end, split_first};
+ghost use Rattle.opl_line.specs.Delimiter.{is_line_end, split_first};
 ghost use Rattle.opl_line.specs.Reading.{reading_line};
 ghost use Rattle.osm_files.specs.O5 as o5;
-ghost use Rattle.osm_files.specs.Reading.{Finds, FindsContent, FindsLast, stand_of, IsGood, ends_at};
+ghost use Rattle.osm_files.specs.Reading.{Finds, FindsContent, FindsLast, state_data_of, IsGoodState, ends_at};
 ghost use Rattle.osm_files.specs.Units as spec;
 
 use crate::reason::Reason;
@@ -22,38 +22,38 @@ pub(crate) const O5M_HEADER: [u8; 7] = *b"\xff\xe0\x04o5m2";
 pub(crate) const O5C_HEADER: [u8; 7] = *b"\xff\xe0\x04o5c2";
 
 /// The byte that ends a file.
-pub(crate) const END: u8 = 0xfe;
+pub(crate) const FILE_END: u8 = 0xfe;
 
 /// The byte that begins a segment, and an o5 file.
-pub(crate) const RESET: u8 = 0xff;
+pub(crate) const SEGMENT_RESET: u8 = 0xff;
 
 /// The most bytes that a number may have.
 const NUMBER_LENGTH: usize = 10;
 
-/// A unit that stands whole at the front of some bytes.
+/// A unit that is whole at the front of some bytes.
 #[derive(Drop)]
 pub(crate) struct ReadUnit {
-    /// Its bytes.
+    /// The number of its bytes.
     pub(crate) size: usize,
     /// The version that it holds, if it holds one.
     pub(crate) version: Option<Version>,
 }
 
-/// How far a reading of a file has come.
+/// The stage of a reading of a file.
 #[derive(Drop)]
-pub(crate) enum Stage {
+pub(crate) enum FileState {
     /// Among the lines of an OPL file.
     Lines(LineReader),
     /// Before the header of an o5 file.
     Header,
     /// Among the data sets of an o5 file.
     DataSets(Decoder),
-    /// Behind the end byte of an o5 file.
+    /// After the end byte of an o5 file.
     End,
 }
 
 /// A unit of `size` bytes that holds no version.
-fn passed(size: usize) -> Result<Option<ReadUnit>, Reason>
+fn no_version(size: usize) -> Result<Option<ReadUnit>, Reason>
     ensures { result ≡ Ok (Some (record { size = size; version = None })) }
 {
     Ok(Some(ReadUnit {
@@ -62,9 +62,10 @@ fn passed(size: usize) -> Result<Option<ReadUnit>, Reason>
     }))
 }
 
-/// Where the line at the front of the bytes ends, if its end is there. It isn't in the first `searched` of them.
+/// The offset of the end of the line at the front of the bytes, if the end is there. It isn't in the first `searched`
+/// of them.
 #[inline(always)]
-fn find_end_behind(bytes: &[u8], searched: usize) -> Option<usize>
+fn find_end_after(bytes: &[u8], searched: usize) -> Option<usize>
     requires within { searched ≤ length bytes.now }
     requires none { position is_line_end (take searched bytes.now) ≡ None }
     ensures { result ≡ position is_line_end bytes.now }
@@ -86,7 +87,7 @@ fn read_line_unit(
     requires none { position is_line_end (take searched bytes.now) ≡ None }
     ensures { Finds (spec.line_unit (split_first is_line_end bytes.now)) result spec.InOpl }
 {
-    let Some(end) = find_end_behind(bytes, searched) else {
+    let Some(end) = find_end_after(bytes, searched) else {
         return Ok(None);
     };
     match lines.read(&bytes[..end]) {
@@ -108,7 +109,7 @@ fn read_header(bytes: &[u8]) -> Result<Option<ReadUnit>, Reason>
     if !is_header(&bytes[..7]) {
         return Err(Reason::BadHeader);
     }
-    passed(7)
+    no_version(7)
 }
 
 fn is_header(bytes: &[u8]) -> bool
@@ -129,7 +130,7 @@ fn kind_of_type(byte: u8) -> Option<Kind>
     }
 }
 
-/// Whether a byte stands alone, and is skipped.
+/// Whether a byte is a lone one, which is skipped.
 fn is_lone(byte: u8) -> bool
     ensures { result ≡ o5.is_lone byte }
 {
@@ -143,7 +144,7 @@ fn is_ended(bytes: &[u8]) -> bool
     bytes.len() > NUMBER_LENGTH || has_last(bytes)
 }
 
-/// Whether a byte that ends a number stands in these.
+/// Whether these bytes contain one that ends a number.
 fn has_last(bytes: &[u8]) -> bool
     ensures { result ≡ list_any spec.is_last bytes.now }
 {
@@ -157,7 +158,7 @@ fn is_last(byte: u8) -> bool
     byte < 128
 }
 
-/// The version of the content of a data set; one that is no object's is skipped.
+/// The version of the content of a data set; a data set of no object is skipped.
 #[inline(always)]
 fn read_content(
     decoder: &mut Decoder,
@@ -173,7 +174,7 @@ fn read_content(
     Ok(Some(decoder.read_set(kind, content)?))
 }
 
-/// The data set of this type at the front of the bytes, behind its type byte, if all its bytes are there.
+/// The data set of this type at the front of the bytes, after its type byte, if all its bytes are there.
 #[inline(always)]
 fn read_sized(
     decoder: &mut Decoder,
@@ -219,19 +220,19 @@ fn read_data_set(decoder: &mut Decoder, bytes: &[u8]) -> Result<Option<ReadUnit>
     let Some((type_byte, behind)) = bytes.split_first() else {
         return Ok(None);
     };
-    if *type_byte == RESET {
+    if *type_byte == SEGMENT_RESET {
         decoder.reset();
-        return passed(1);
+        return no_version(1);
     }
     if is_lone(*type_byte) {
-        return passed(1);
+        return no_version(1);
     }
     read_sized(decoder, *type_byte, behind)
 }
 
-/// Behind the end of a file nothing may stand.
-fn read_behind(bytes: &[u8]) -> Result<Option<ReadUnit>, Reason>
-    ensures { Finds (spec.behind_unit bytes.now) result spec.BehindEnd }
+/// Nothing may come after the end of a file.
+fn read_after_end(bytes: &[u8]) -> Result<Option<ReadUnit>, Reason>
+    ensures { Finds (spec.unit_after_end bytes.now) result spec.BehindEnd }
 {
     match bytes.first() {
         None => Ok(None),
@@ -239,41 +240,41 @@ fn read_behind(bytes: &[u8]) -> Result<Option<ReadUnit>, Reason>
     }
 }
 
-impl Stage {
-    /// Where the reading of a file with these bytes begins.
-    pub(crate) fn of(alloc: Global, bytes: &[u8]) -> Stage
-        ensures place { stand_of result ≡ spec.start_of bytes.now }
-        ensures good { IsGood result }
+impl FileState {
+    /// The stage at which the reading of a file with these bytes begins.
+    pub(crate) fn of(alloc: Global, bytes: &[u8]) -> FileState
+        ensures place { state_data_of result ≡ spec.start_of bytes.now }
+        ensures good { IsGoodState result }
     {
         match bytes.first() {
-            Some(byte) if *byte == RESET => Stage::Header,
-            _ => Stage::Lines(LineReader::new(alloc)),
+            Some(byte) if *byte == SEGMENT_RESET => FileState::Header,
+            _ => FileState::Lines(LineReader::new(alloc)),
         }
     }
 
-    /// What the last bytes of a file hold, where no unit stands whole: the last line may lack its end.
+    /// The version of the last bytes of a file, if no unit is whole: the last line may lack its end.
     ///
     /// # Errors
     ///
-    /// Why they are no end of a file, or `Memory`.
+    /// The reason why they are no end of a file, or `Memory`.
     #[tactic(auto, unfolding(crate::specs::Units::last_at))]
     pub(crate) fn read_last(&self, alloc: Global, bytes: &[u8]) -> Result<Option<Version>, Reason>
-        ensures { FindsLast (spec.last_at (stand_of self.now) bytes.now) result }
+        ensures { FindsLast (spec.last_at (state_data_of self.now) bytes.now) result }
     {
         match self {
-            Stage::Lines(_) => read_last_line(alloc, bytes),
-            Stage::Header => Err(Reason::BadHeader),
-            Stage::DataSets(_) => read_last_set(bytes),
-            Stage::End => Ok(None),
+            FileState::Lines(_) => read_last_line(alloc, bytes),
+            FileState::Header => Err(Reason::BadHeader),
+            FileState::DataSets(_) => read_last_set(bytes),
+            FileState::End => Ok(None),
         }
     }
 
-    /// The unit that is whole at the front of the bytes, if there is one. The stage is then the one after it.
-    /// No unit is whole in the first `searched` of the bytes.
+    /// The unit that is whole at the front of the bytes, if there is one. The stage is then the one after it. No unit
+    /// is whole in the first `searched` of the bytes.
     ///
     /// # Errors
     ///
-    /// Why a unit that is whole there can't be read, or `Memory`.
+    /// The reason why a whole unit can't be read, or `Memory`.
     #[tactic(auto, using(crate::proofs::UnitSteps::end_first, crate::proofs::SearchLaws::no_end), unfolding(crate::specs::Units::unit_at))]
     #[inline(always)]
     pub(crate) fn read(
@@ -282,74 +283,74 @@ impl Stage {
         bytes: &[u8],
         searched: usize,
     ) -> Result<Option<ReadUnit>, Reason>
-        requires good { IsGood self.old }
+        requires good { IsGoodState self.old }
         requires within { searched ≤ length bytes.now }
-        requires none { spec.unit_at (stand_of self.old) (take searched bytes.now) ≡ None }
-        ensures found { Finds (spec.unit_at (stand_of self.old) bytes.now) result (stand_of self.new) }
-        ensures good { OnOk result (IsGood self.new) }
-        ensures unmoved { result ≡ Ok None → stand_of self.new ≡ stand_of self.old }
+        requires none { spec.unit_at (state_data_of self.old) (take searched bytes.now) ≡ None }
+        ensures found { Finds (spec.unit_at (state_data_of self.old) bytes.now) result (state_data_of self.new) }
+        ensures good { OnOk result (IsGoodState self.new) }
+        ensures unmoved { result ≡ Ok None → state_data_of self.new ≡ state_data_of self.old }
     {
         match self {
-            Stage::Lines(lines) => read_line_unit(lines, bytes, searched),
-            Stage::Header => self.read_start(alloc, bytes),
-            Stage::DataSets(decoder) => {
+            FileState::Lines(lines) => read_line_unit(lines, bytes, searched),
+            FileState::Header => self.read_start(alloc, bytes),
+            FileState::DataSets(decoder) => {
                 if ends_at(bytes) {
                     self.end();
-                    return passed(1);
+                    return no_version(1);
                 }
                 read_data_set(decoder, bytes)
             }
-            Stage::End => read_behind(bytes),
+            FileState::End => read_after_end(bytes),
         }
     }
 
-    /// Goes after the end byte.
+    /// Moves to the stage after the end byte.
     ///
-    /// A call of its own for the optimizer only: room for what is dropped isn't cleared before each data set.
+    /// This is a call of its own only for the optimizer: room for what is dropped isn't cleared before each data set.
     #[inline(never)]
     fn end(&mut self)
-        ensures place { stand_of self.new ≡ spec.BehindEnd }
-        ensures good { IsGood self.new }
+        ensures place { state_data_of self.new ≡ spec.BehindEnd }
+        ensures good { IsGoodState self.new }
     {
-        *self = Stage::End;
+        *self = FileState::End;
     }
 
     /// The header.
     ///
-    /// A function of its own for the optimizer only: it takes the result apart, so that no room for it is cleared
-    /// before each data set.
+    /// This is a function of its own only for the optimizer: it takes the result apart, so that no room for it is
+    /// cleared before each data set.
     #[inline(always)]
     fn read_start(&mut self, alloc: Global, bytes: &[u8]) -> Result<Option<ReadUnit>, Reason>
-        ensures found { Finds (spec.header_unit bytes.now) result (stand_of self.new) }
-        ensures good { IfOk result (λ unit. unit ≡ None ⊎ IsGood self.new) }
+        ensures found { Finds (spec.header_unit bytes.now) result (state_data_of self.new) }
+        ensures good { IfOk result (λ unit. unit ≡ None ⊎ IsGoodState self.new) }
         ensures unmoved { result ≡ Ok None → self.new ≡ self.old }
     {
         let unit = self.read_header(alloc, bytes)?;
         Ok(unit)
     }
 
-    /// The header, behind which the data sets stand.
+    /// The header, which comes before the data sets.
     #[inline(never)]
     fn read_header(&mut self, alloc: Global, bytes: &[u8]) -> Result<Option<ReadUnit>, Reason>
-        ensures found { Finds (spec.header_unit bytes.now) result (stand_of self.new) }
-        ensures good { IfOk result (λ unit. unit ≡ None ⊎ IsGood self.new) }
+        ensures found { Finds (spec.header_unit bytes.now) result (state_data_of self.new) }
+        ensures good { IfOk result (λ unit. unit ≡ None ⊎ IsGoodState self.new) }
         ensures unmoved { result ≡ Ok None → self.new ≡ self.old }
     {
         let Some(unit) = read_header(bytes)? else {
             return Ok(None);
         };
-        *self = Stage::DataSets(Decoder::new(alloc)?);
+        *self = FileState::DataSets(Decoder::new(alloc)?);
         Ok(Some(unit))
     }
 }
 
-/// Whether the end byte stands at the front.
+/// Whether the end byte is at the front.
 fn ends_at(bytes: &[u8]) -> bool
     ensures { result ≡ ends_at bytes.now }
 {
     match bytes.first() {
         None => false,
-        Some(byte) => *byte == END,
+        Some(byte) => *byte == FILE_END,
     }
 }
 
@@ -364,11 +365,11 @@ fn read_last_line(alloc: Global, bytes: &[u8]) -> Result<Option<Version>, Reason
 fn read_last_set(bytes: &[u8]) -> Result<Option<Version>, Reason>
     ensures { result ≡ Err (spec.cut_reason bytes.now) }
 {
-    Err(why_cut(bytes))
+    Err(truncation_reason(bytes))
 }
 
-/// Why a file is no whole one that ends with these bytes, among its data sets.
-fn why_cut(bytes: &[u8]) -> Reason
+/// The reason why a file that ends with these bytes, among its data sets, isn't whole.
+fn truncation_reason(bytes: &[u8]) -> Reason
     ensures { result ≡ spec.cut_reason bytes.now }
 {
     let Some(_) = bytes.split_first() else {

@@ -2,29 +2,82 @@
 #![tactic(auto)]
 
 use crate::cli::{Refusal, run_words};
+use std::env::FillError;
+use std::io::{IsTerminal, Write};
 use std::process::ExitCode;
 use std::rt::Env;
-use std::{env, io};
+use std::{env, io, str};
 
 pub mod cli;
 
+/// The most bytes of an argument that are shown.
+const ARGUMENT: usize = 4096;
+
 fn main(rt: HostRuntime) -> ExitCode {
     let status = match words_given(&rt) {
-        Ok(words) => run_words(&rt, words.as_slice(), rt.stdin(), rt.stdout(), rt.stderr()),
-        Err(error) => refuse_words(&error).report(rt.stderr()),
+        Ok(words) => {
+            if words.is_empty() && rt.stdin().is_terminal() && rt.stderr().is_terminal() {
+                report_waiting(rt.stderr());
+            }
+            run_words(&rt, words.as_slice(), rt.stdin(), rt.stdout(), rt.stderr())
+        }
+        Err(error) => refuse_words(&rt, &error).report(rt.stderr()),
     };
     ExitCode::from(status)
 }
 
-/// The words after the program's name.
+/// Reports that the program waits for standard input.
+fn report_waiting<E: Write + Drop>(mut err: E) {
+    // If standard error fails, nothing can report it.
+    let _ = writeln!(
+        err,
+        "osm_hist: waiting for OPL on standard input; osm_hist --help shows the commands"
+    );
+    let _ = err.flush();
+}
+
+/// The arguments after the program's name.
 fn words_given<R: Env + AllocGlobal>(rt: &R) -> io::Result<Vec<String>> {
     Ok(env::args(rt)?.skip(1).collect(rt.alloc())?)
 }
 
-/// Why the words can't be had: one isn't UTF-8, or memory was refused.
-fn refuse_words(error: &io::Error) -> Refusal<'static> {
+/// The reason why the arguments aren't available: one isn't UTF-8, or the program is out of memory.
+fn refuse_words<R: Env + AllocGlobal>(rt: &R, error: &io::Error) -> Refusal<'static> {
     match error.kind() {
         io::ErrorKind::OutOfMemory => Refusal::Memory,
-        _ => Refusal::WordsNotUtf8,
+        _ => match faulty_argument(rt) {
+            Ok(argument) => Refusal::WordsNotUtf8 { argument },
+            Err(_) => Refusal::Memory,
+        },
     }
+}
+
+/// The first argument that isn't UTF-8, as it is shown.
+fn faulty_argument<R: Env + AllocGlobal>(rt: &R) -> io::Result<String> {
+    let mut text = String::new(rt.alloc());
+    let mut buffer = [0u8; ARGUMENT];
+    for number in 1..usize::MAX {
+        match rt.arg(number, &mut buffer) {
+            Ok(count) if str::from_utf8(&buffer[..count]).is_err() => {
+                push_escaped(&mut text, &buffer[..count])?;
+                return Ok(text);
+            }
+            Err(FillError::NotPresent) => break,
+            _ => {}
+        }
+    }
+    write!(text, "an argument of more than {ARGUMENT} bytes")?;
+    Ok(text)
+}
+
+/// Appends `bytes`. A byte that isn't printable ASCII is shown as an escape.
+fn push_escaped(text: &mut String, bytes: &[u8]) -> io::Result<()> {
+    for byte in bytes {
+        if *byte >= b' ' && *byte < 0x7f {
+            text.push(*byte as char)?;
+        } else {
+            write!(text, "\\x{:02x}", *byte)?;
+        }
+    }
+    Ok(())
 }

@@ -1,4 +1,4 @@
--- The pass over the list of a history: what was chosen once so many of its versions were read.
+-- The pass over the list of a history: the versions chosen once the first ones were read.
 use Rattle.std.proofs.Common.{◌≡◌, ℕ, ◌+◌, ◌<◌, ◌≤◌, true, false, List, [], ◌∷◌, ◌++◌, length, take, get_or, sym, ap, ◌∙◌, subst}
 use Rattle.std.proofs.Common.{Option, Some, None}
 use Rattle.std.proofs.lemmas.List.{take_more, take_all, append-nil, get_or_default}
@@ -6,21 +6,21 @@ use Rattle.std.proofs.lemmas.List.Elements.{filter-append}
 use Rattle.std.specs.List.{filter}
 use Rattle.osm_model.specs.Data.{VersionData}
 use Rattle.osm_model.specs.Order.{version_cmp, version_cmp_total}
-use Rattle.osm_model.specs.Sets.{listed, from_list}
+use Rattle.osm_model.specs.Sets.{to_list, from_list}
 use Rattle.osm_model.specs.VersionSet.{VersionSet}
 use Rattle.osm_model.proofs.SetLaws.{same_set, contains-from_list, contains-listed}
 use Rattle.osm_model.proofs.VersionLaws.{version_cmp-IsAntisymmetric}
 use Rattle.osm_merge.specs.declared.selection.Selection.{Selection}
-use Rattle.osm_merge.specs.Selected.{selected}
-use Rattle.osm_merge.specs.Pass.{passes, keeps, stays, only, kept, settled}
+use Rattle.osm_merge.specs.Selected.{selection_of}
+use Rattle.osm_merge.specs.Pass.{passes, keeps, stays, singleton_if, kept_versions, settled_versions}
 use Rattle.osm_merge.proofs.PassLaws.{kept_end, settled_next}
 use Rattle.osm_merge.proofs.SelectedLaws.{passing_is, pass_of_set}
 
--- those of the first versions of a list that pass
+-- the ones among the first versions of a list that pass
 abbrev pub met_of : Selection → List VersionData → ℕ → List VersionData
 met_of selection list place = filter (passes selection) (take place list)
 
--- the last of them stands at this place
+-- the last of them is at this index
 pub record HoldsAt (list : List VersionData) (place : ℕ) (met : List VersionData) : Type 0 where
   pub inside : place < length list
   pub front : List VersionData
@@ -30,25 +30,26 @@ abbrev pub IsHeld : List VersionData → Option ℕ → List VersionData → Typ
 IsHeld list None met = met ≡ []
 IsHeld list (Some place) met = HoldsAt list place met
 
--- So many versions were read; the last of them that passes is held back, and what is decided of the others was chosen.
+-- The first `place` versions were read; the last of them that passes is pending, and the others that are decided to
+-- stay were chosen.
 pub record IsChoosing (selection : Selection) (list : List VersionData) (place : ℕ) (held : Option ℕ)
     (chosen : List VersionData) : Type 0 where
   pub held_is : IsHeld list held (met_of selection list place)
-  pub chosen_is : chosen ≡ settled (keeps selection) (met_of selection list place)
+  pub chosen_is : chosen ≡ settled_versions (keeps selection) (met_of selection list place)
 
 -- a version that doesn't pass, and one that does
 module _ (selection : Selection) (list : List VersionData) (place : ℕ) (w : VersionData) (inside : place < length list)
     (here : w ≡ get_or list place w) where
-  met_more : met_of selection list (place + 1) ≡ met_of selection list place ++ only (passes selection w) w
+  met_more : met_of selection list (place + 1) ≡ met_of selection list place ++ singleton_if (passes selection w) w
   met_more =
       ap (filter (passes selection)) (take_more list place w inside ∙ ap (λ (v : VersionData). take place list ++ v ∷ []) (sym here))
       ∙ filter-append (passes selection) (take place list) (w ∷ [])
 
   met_skip : passes selection w ≡ false → met_of selection list (place + 1) ≡ met_of selection list place
-  met_skip out = met_more ∙ ap (λ b. met_of selection list place ++ only b w) out ∙ append-nil (met_of selection list place)
+  met_skip out = met_more ∙ ap (λ b. met_of selection list place ++ singleton_if b w) out ∙ append-nil (met_of selection list place)
 
   met_pass : passes selection w ≡ true → met_of selection list (place + 1) ≡ met_of selection list place ++ w ∷ []
-  met_pass pass = met_more ∙ ap (λ b. met_of selection list place ++ only b w) pass
+  met_pass pass = met_more ∙ ap (λ b. met_of selection list place ++ singleton_if b w) pass
 
   held_now : passes selection w ≡ true → HoldsAt list place (met_of selection list (place + 1))
   held_now pass = record {
@@ -57,6 +58,7 @@ module _ (selection : Selection) (list : List VersionData) (place : ℕ) (w : Ve
     ends = λ e. met_pass pass ∙ ap (λ v. met_of selection list place ++ v ∷ []) (here ∙ get_or_default list place w e inside);
   }
 
+  -- A version that doesn't pass changes nothing.
   pub choose_skip : (held held2 : Option ℕ) (chosen chosen2 : List VersionData) → IsChoosing selection list place held chosen
       → passes selection w ≡ false →
       held2 ≡ held → chosen2 ≡ chosen → IsChoosing selection list (place + 1) held2 chosen2
@@ -64,7 +66,7 @@ module _ (selection : Selection) (list : List VersionData) (place : ℕ) (w : Ve
     held_is =
         subst (λ (h : Option ℕ). IsHeld list h (met_of selection list (place + 1))) (sym same_held)
         (subst (λ (met : List VersionData). IsHeld list held met) (sym (met_skip out)) i.held_is);
-    chosen_is = same_chosen ∙ i.chosen_is ∙ ap (settled (keeps selection)) (sym (met_skip out));
+    chosen_is = same_chosen ∙ i.chosen_is ∙ ap (settled_versions (keeps selection)) (sym (met_skip out));
   }
 
   -- the first one that passes
@@ -73,71 +75,74 @@ module _ (selection : Selection) (list : List VersionData) (place : ℕ) (w : Ve
   first_passes chosen i pass = record {
     held_is = held_now pass;
     chosen_is =
-        i.chosen_is ∙ ap (settled (keeps selection)) i.held_is
-        ∙ sym (ap (settled (keeps selection)) (met_pass pass ∙ ap (λ (met : List VersionData). met ++ w ∷ []) i.held_is));
+        i.chosen_is ∙ ap (settled_versions (keeps selection)) i.held_is
+        ∙ sym (ap (settled_versions (keeps selection)) (met_pass pass ∙ ap (λ (met : List VersionData). met ++ w ∷ []) i.held_is));
   }
 
-  -- one that passes behind the one held back
+  -- one that passes after the pending one
   next_passes : (before : ℕ) (v : VersionData) (chosen : List VersionData) → IsChoosing selection list place (Some before) chosen
       → passes selection w ≡ true → v ≡ get_or list before v →
-      IsChoosing selection list (place + 1) (Some place) (chosen ++ only (keeps selection v (Some w)) v)
+      IsChoosing selection list (place + 1) (Some place) (chosen ++ singleton_if (keeps selection v (Some w)) v)
   next_passes before v chosen i pass is =
       let front = i.held_is.front in
       let met : met_of selection list place ≡ front ++ v ∷ [] = i.held_is.ends v ∙ ap (λ u. front ++ u ∷ []) (sym is) in
       record {
         held_is = held_now pass;
         chosen_is =
-            ap (λ t. t ++ only (keeps selection v (Some w)) v) (i.chosen_is ∙ ap (settled (keeps selection)) met)
+            ap (λ t. t ++ singleton_if (keeps selection v (Some w)) v) (i.chosen_is ∙ ap (settled_versions (keeps selection)) met)
             ∙ sym (settled_next (keeps selection) front v w)
-            ∙ sym (ap (settled (keeps selection)) (met_pass pass ∙ ap (λ (t : List VersionData). t ++ w ∷ []) met));
+            ∙ sym (ap (settled_versions (keeps selection)) (met_pass pass ∙ ap (λ (t : List VersionData). t ++ w ∷ []) met));
       }
 
+  -- The first version that passes is held.
   pub choose_first : (held held2 : Option ℕ) (chosen chosen2 : List VersionData) → IsChoosing selection list place held chosen
       → passes selection w ≡ true →
       held ≡ None → held2 ≡ Some place → chosen2 ≡ chosen → IsChoosing selection list (place + 1) held2 chosen2
   choose_first held held2 chosen chosen2 i pass none now same =
       rw (now, same) (first_passes chosen (subst (λ (h : Option ℕ). IsChoosing selection list place h chosen) none i) pass)
 
+  -- The next version that passes decides the one that was held.
   pub choose_next : (held held2 : Option ℕ) (before : ℕ) (v : VersionData) (chosen chosen2 : List VersionData)
       → IsChoosing selection list place held chosen → passes selection w ≡ true →
-      held ≡ Some before → v ≡ get_or list before v → held2 ≡ Some place → chosen2 ≡ chosen ++ only (keeps selection v (Some w)) v
+      held ≡ Some before → v ≡ get_or list before v → held2 ≡ Some place → chosen2 ≡ chosen ++ singleton_if (keeps selection v (Some w)) v
       → IsChoosing selection list (place + 1) held2 chosen2
   choose_next held held2 before v chosen chosen2 i pass some is now more =
       rw (now, more) (next_passes before v chosen (subst (λ (h : Option ℕ). IsChoosing selection list place h chosen) some i) pass is)
 
-pub set_listed : (s : VersionSet) → from_list {R = version_cmp} (listed s) ≡ s
+-- A set is the set of its list.
+pub set_listed : (s : VersionSet) → from_list {R = version_cmp} (to_list s) ≡ s
 set_listed s =
-    same_set version_cmp_total version_cmp-IsAntisymmetric (from_list (listed s)) s
-    (λ v. contains-from_list version_cmp_total (listed s) v ∙ sym (contains-listed {R = version_cmp} s v))
+    same_set version_cmp_total version_cmp-IsAntisymmetric (from_list (to_list s)) s
+    (λ v. contains-from_list version_cmp_total (to_list s) v ∙ sym (contains-listed {R = version_cmp} s v))
 
 -- all versions were read
-module _ (selection : Selection) (s : VersionSet) (place : ℕ) (whole : length (listed s) ≤ place) where
-  done : (chosen : List VersionData) → chosen ≡ kept (keeps selection) (met_of selection (listed s) place)
-      → from_list {R = version_cmp} chosen ≡ selected selection s
+module _ (selection : Selection) (s : VersionSet) (place : ℕ) (whole : length (to_list s) ≤ place) where
+  done : (chosen : List VersionData) → chosen ≡ kept_versions (keeps selection) (met_of selection (to_list s) place)
+      → from_list {R = version_cmp} chosen ≡ selection_of selection s
   done chosen is =
-      let all : met_of selection (listed s) place ≡ filter (passes selection) (listed s) =
-      ap (filter (passes selection)) (take_all place (listed s) whole) in
+      let all : met_of selection (to_list s) place ≡ filter (passes selection) (to_list s) =
+      ap (filter (passes selection)) (take_all place (to_list s) whole) in
       ap (from_list {R = version_cmp})
-      (is ∙ ap (kept (keeps selection)) (all ∙ sym (passing_is selection (listed s))) ∙ pass_of_set selection s)
-      ∙ set_listed (selected selection s)
+      (is ∙ ap (kept_versions (keeps selection)) (all ∙ sym (passing_is selection (to_list s))) ∙ pass_of_set selection s)
+      ∙ set_listed (selection_of selection s)
 
   -- none passed
-  pub choose_none : (held : Option ℕ) (chosen chosen2 : List VersionData) → IsChoosing selection (listed s) place held chosen → held ≡ None
-      → chosen2 ≡ chosen → from_list {R = version_cmp} chosen2 ≡ selected selection s
+  pub choose_none : (held : Option ℕ) (chosen chosen2 : List VersionData) → IsChoosing selection (to_list s) place held chosen → held ≡ None
+      → chosen2 ≡ chosen → from_list {R = version_cmp} chosen2 ≡ selection_of selection s
   choose_none held chosen chosen2 i none same =
-      let j : IsChoosing selection (listed s) place None chosen =
-      subst (λ (h : Option ℕ). IsChoosing selection (listed s) place h chosen) none i in
-      done chosen2 (same ∙ j.chosen_is ∙ ap (settled (keeps selection)) j.held_is ∙ sym (ap (kept (keeps selection)) j.held_is))
+      let j : IsChoosing selection (to_list s) place None chosen =
+      subst (λ (h : Option ℕ). IsChoosing selection (to_list s) place h chosen) none i in
+      done chosen2 (same ∙ j.chosen_is ∙ ap (settled_versions (keeps selection)) j.held_is ∙ sym (ap (kept_versions (keeps selection)) j.held_is))
 
   -- the last one that passes is decided
   pub choose_last : (held : Option ℕ) (last : ℕ) (v : VersionData) (chosen chosen2 : List VersionData)
-      → IsChoosing selection (listed s) place held chosen → held ≡ Some last → v ≡ get_or (listed s) last v →
-      chosen2 ≡ chosen ++ only (stays selection v None) v → from_list {R = version_cmp} chosen2 ≡ selected selection s
+      → IsChoosing selection (to_list s) place held chosen → held ≡ Some last → v ≡ get_or (to_list s) last v →
+      chosen2 ≡ chosen ++ singleton_if (stays selection v None) v → from_list {R = version_cmp} chosen2 ≡ selection_of selection s
   choose_last held last v chosen chosen2 i some is more =
-      let j : IsChoosing selection (listed s) place (Some last) chosen =
-      subst (λ (h : Option ℕ). IsChoosing selection (listed s) place h chosen) some i in
-      let met : met_of selection (listed s) place ≡ j.held_is.front ++ v ∷ [] =
+      let j : IsChoosing selection (to_list s) place (Some last) chosen =
+      subst (λ (h : Option ℕ). IsChoosing selection (to_list s) place h chosen) some i in
+      let met : met_of selection (to_list s) place ≡ j.held_is.front ++ v ∷ [] =
       j.held_is.ends v ∙ ap (λ u. j.held_is.front ++ u ∷ []) (sym is) in
       done chosen2
-      (more ∙ ap (λ t. t ++ only (keeps selection v None) v) (j.chosen_is ∙ ap (settled (keeps selection)) met) ∙ sym
-      (kept_end (keeps selection) (j.held_is.front) v) ∙ sym (ap (kept (keeps selection)) met))
+      (more ∙ ap (λ t. t ++ singleton_if (keeps selection v None) v) (j.chosen_is ∙ ap (settled_versions (keeps selection)) met) ∙ sym
+      (kept_end (keeps selection) (j.held_is.front) v) ∙ sym (ap (kept_versions (keeps selection)) met))

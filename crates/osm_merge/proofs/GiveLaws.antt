@@ -1,16 +1,17 @@
--- What lists of sources can give, where one of them took a step.
+-- The rests that lists of sources can give, if one of them took a step.
 use Rattle.std.proofs.Common.{◌≡◌, ℕ, zero, suc, ◌<◌, List, [], ◌∷◌, map, length, get_or, refl, ap, arith}
 use Rattle.std.proofs.Math.ListN.{set}
 use Rattle.osm_files.specs.Input.{Explained}
 use Rattle.osm_merge.specs.Giving.{AllGive}
 
--- what was replaced is set again
+-- a value that was replaced is set again
 pub set_again : {C : Type 0} (xs : List C) (i : ℕ) (b d : C) → set (set xs i b) i (get_or xs i d) ≡ xs
 set_again [] i b d = refl
 set_again (x ∷ xs) zero b d = refl
 set_again (x ∷ xs) (suc i) b d = ap (λ t. x ∷ t) (set_again xs i b d)
 
 module _ {S C : Type 0} (can : S → C → Type 0) where
+  -- As many sources give something as there are.
   pub give_size : (sources : List S) (all : List C) → AllGive can sources all → length all ≡ length sources
   give_size [] [] g = refl
   give_size [] (c ∷ all) g = absurd g
@@ -22,7 +23,7 @@ module _ {S C : Type 0} (can : S → C → Type 0) where
   give_one one h [] = tt
   give_one one h (s ∷ sources) = (h s, give_one one h sources)
 
-  -- one of them took a step, so what all can give later is explained by what all could give before
+  -- one of them took a step, so each possible list of rests after it comes from a possible one before it
   pub give_back : (step : C → C → Type 0) (sources : List S) (i : ℕ) (new d : S) (e : C) (later : List C) → i < length sources →
       Explained (can (get_or sources i d)) (can new) step → AllGive can (set sources i new) later
       → (before : C) × AllGive can sources (set later i before) × step before (get_or later i e)

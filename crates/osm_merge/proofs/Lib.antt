@@ -18,5 +18,7 @@ pub mod SnapLaws
 pub mod UnionAllLaws
 pub mod SliceLaws
 pub mod PieceLaws
+mod WithinLaws
+pub mod SliceSources
 mod TakingLaws
 mod TakenLaws

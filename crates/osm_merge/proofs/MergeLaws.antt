@@ -1,4 +1,4 @@
--- One turn of the merge: the least head is taken, and met where it is new and passes.
+-- One turn of the merge: the least head is taken, and met if it is new and passes.
 use Rattle.std.proofs.Common.{◌≡◌, ◌≢◌, ◌⊎◌, ◌&&◌, ℕ, zero, suc, ◌+◌, ◌<◌, Bool, true, false, ◌||◌, cond, List, [], ◌∷◌, ◌++◌, length, refl}
 use Rattle.std.proofs.Common.{sym, ap, ◌∙◌, subst, arith, Option, Some, None, append_assoc, inl, inr, length-append, get_or-set_other}
 use Rattle.std.proofs.Common.{get_or-set_same}
@@ -11,7 +11,7 @@ use Rattle.std.proofs.lemmas.List.Folds.{list_any-append}
 use Rattle.std.proofs.lemmas.Bool.{false≢true, cases_eq}
 use Rattle.osm_model.specs.Data.{VersionData}
 use Rattle.osm_model.specs.Order.{version_cmp, version_cmp_total}
-use Rattle.osm_files.specs.Stream.{whole}
+use Rattle.osm_files.specs.Stream.{end_whole}
 use Rattle.osm_merge.specs.ToCome.{VersionsToCome, rest, head, behind_head, coming_at}
 use Rattle.osm_merge.specs.Members.{first}
 use Rattle.osm_merge.specs.Union.{versions_of}
@@ -23,7 +23,7 @@ use Rattle.osm_merge.proofs.OrderLaws.{is_less, same_unless_greater, equal_versi
 use Rattle.osm_merge.proofs.AscendingLaws.{one_ascends, rest_ascends, floor_first, floor_rest, ascends_on, among}
 use Rattle.osm_merge.proofs.State.{Ends, Floor, IsUnder, IsMerging}
 
--- ---- what stands in the lists
+-- ---- the members of the lists
 or_swap : (a b c : Bool) → (a || (b || c)) ≡ (b || (a || c))
 or_swap true true c = refl
 or_swap true false c = refl
@@ -57,11 +57,12 @@ length_taken (c ∷ cs) (suc w) v vs e =
     let d = length-append c.list (versions_of (without_head cs w)) in
     omega (arith, a, b, d)
 
+-- A list with a first item is that item and the rest.
 pub split_first : (v : VersionData) (vs : List VersionData) → first vs ≡ Some v → vs ≡ v ∷ rest vs
 split_first v [] h = absurd cc
 split_first v (w ∷ vs) h = let e : w ≡ v = cc in ap (λ t. t ∷ vs) e
 
--- ---- what was met, with one more
+-- ---- the versions met, with one more
 floor_of : (v : VersionData) (vs : List VersionData) → IsHeadUpTo (Some v) (first vs) → IsStrictlySortedBy version_cmp vs →
     Floor (Some v) vs
 floor_of v [] h k = tt
@@ -71,11 +72,12 @@ floor_one : (last : Option VersionData) (v : VersionData) (vs : List VersionData
 floor_one None v vs h = tt
 floor_one (Some l) v vs h = (h.0, tt)
 
--- what is not new is the version held back
+-- a version that is not new is the pending one
 old_is_last : (last : Option VersionData) (v : VersionData) → Floor last (v ∷ []) → is_new last v ≡ false → last ≡ Some v
 old_is_last None v f h = absurd (false≢true (sym h))
 old_is_last (Some l) v f h = ap Some (same_unless_greater l v f.0 h)
 
+-- A version that is greater than the last one extends a strictly ascending list.
 pub ascends_with : (last : Option VersionData) (v : VersionData) (put : List VersionData) → Ends last put → is_new last v ≡ true →
     IsStrictlySortedBy version_cmp put → IsStrictlySortedBy version_cmp (put ++ v ∷ [])
 ascends_with None v put e is h = subst (λ t. IsStrictlySortedBy version_cmp (t ++ v ∷ [])) (sym e) (one_ascends version_cmp v)
@@ -84,6 +86,7 @@ ascends_with (Some l) v put e is h =
     (ascends_on version_cmp_total (e.0) l (v ∷ []) (subst (IsStrictlySortedBy version_cmp) e.1 h) (one_ascends version_cmp v)
     (is_less (version_cmp l v) is, tt))
 
+-- Where a conjunction is true, both parts are.
 pub both_so : (a b : Bool) → (a && b) ≡ true → (a ≡ true) × (b ≡ true)
 both_so true true h = (refl, refl)
 both_so true false h = absurd (false≢true h)
@@ -93,11 +96,12 @@ not_both : (a b : Bool) → (a && b) ≡ false → (a ≡ false) ⊎ (b ≡ fals
 not_both true b h = inr h
 not_both false b h = inl refl
 
--- a version that is met is greater than the one held back
+-- a version that is met is greater than the pending one
 pub met_is_new : (selection : Selection) (held : Option VersionData) (v : VersionData) → is_met selection held v ≡ true →
     is_new held v ≡ true
 met_is_new selection held v is = (both_so (is_new held v) (passes selection v) is).0
 
+-- The versions that were met still ascend strictly with the next one.
 pub ascends_next : (selection : Selection) (held : Option VersionData) (v : VersionData) (met : List VersionData) → Ends held met →
     IsStrictlySortedBy version_cmp met → IsStrictlySortedBy version_cmp (met_next selection held v met)
 ascends_next selection held v met e h =
@@ -106,7 +110,7 @@ ascends_next selection held v met e h =
       | false ↦ λ is. h
     ] refl
 
--- whatever the sources give, the one held back is the last of what was met
+-- for all that the sources give, the pending one is the last of those met
 pub ends_next : (selection : Selection) (held : Option VersionData) (v : VersionData) (met : List VersionData) → Ends held met →
     Ends (held_next selection held v) (met_next selection held v met)
 ends_next selection held v met e =
@@ -169,6 +173,7 @@ pub among_end : (q v : VersionData) (front : List VersionData) → eq_by_cmp ver
 among_end q v [] h = λ i. h i || false
 among_end q v (w ∷ ws) h = ap (λ t. eq_by_cmp version_cmp q w || t) (among_end q v ws h) ∙ or_true (eq_by_cmp version_cmp q w)
 
+-- A version that ties with the last one that was put is among those put.
 pub among_ends : (q v : VersionData) (put : List VersionData) → Ends (Some v) put → eq_by_cmp version_cmp q v ≡ true → among q put ≡ true
 among_ends q v put e h = ap (among q) e.1 ∙ among_end q v (e.0) h
 
@@ -201,9 +206,9 @@ merge_more selection all states met held top taken w v m less is least =
     let here : VersionsToCome = coming_at states w in
     let e : here.list ≡ v ∷ rest here.list = split_first v here.list is in
     let f : Floor held (v ∷ []) = under_floor held top v m.under (floor_one top v (rest here.list) (subst (Floor top) e (m.floor w))) in
-    let same_place : coming_at (without_head states w) w ≡ behind_head here = get_or-set_same states w (behind_head here) whole less in
+    let same_place : coming_at (without_head states w) w ≡ behind_head here = get_or-set_same states w (behind_head here) end_whole less in
     let other : (i : ℕ) → i ≢ w → coming_at (without_head states w) i ≡ coming_at states i =
-    λ i n. get_or-set_other states w i (behind_head here) whole n in
+    λ i n. get_or-set_other states w i (behind_head here) end_whole n in
     record {
       size = length-set states w (behind_head here) ∙ m.size;
       ascends = ascends_next selection held v met m.ends m.ascends;

@@ -1,4 +1,4 @@
--- What stays of the list of a history where the newest version of each object is moved to the front in place.
+-- The list of a history whose newest version of each object is moved to the front in place.
 use Rattle.std.proofs.Common.{◌≡◌, ℕ, zero, suc, ◌+◌, ◌<◌, ◌≤◌, Bool, true, false, List, [], ◌∷◌, ◌++◌, length, take, drop, get_or, set}
 use Rattle.std.proofs.Common.{refl, sym, ap, ◌∙◌, subst, arith, append_assoc, length-drop}
 use Rattle.std.specs.Prelude.{slice_get}
@@ -8,25 +8,27 @@ use Rattle.std.proofs.lemmas.List.{take_more, take-set-le, drop-set-lt, drop_mor
 use Rattle.osm_model.specs.Data.{VersionData}
 use Rattle.osm_model.specs.Order.{version_cmp}
 use Rattle.osm_model.specs.VersionSet.{VersionSet}
-use Rattle.osm_model.specs.Sets.{listed, from_list}
+use Rattle.osm_model.specs.Sets.{to_list, from_list}
 use Rattle.osm_model.proofs.SetLaws.{strict-listed}
 use Rattle.osm_merge.specs.declared.selection.Selection.TheVariants.{Newest}
 use Rattle.osm_merge.specs.Members.{first}
-use Rattle.osm_merge.specs.Pass.{only, keeps, kept}
+use Rattle.osm_merge.specs.Pass.{singleton_if, keeps, kept_versions}
 use Rattle.osm_merge.specs.Selected.{snapshot}
 use Rattle.osm_merge.proofs.SelectedLaws.{pass_of_set}
 use Rattle.osm_merge.proofs.Choosing.{set_listed}
 
+-- The versions of a list that are the newest ones of their objects.
 abbrev pub newest_of : List VersionData → List VersionData
-newest_of = kept (keeps Newest)
+newest_of = kept_versions (keeps Newest)
 
--- So many versions of a list were looked at, and those of them that stay were moved to its front.
+-- The first `place` versions of a list were looked at, and those of them that stay were moved to its front.
 pub record IsSettling (list items : List VersionData) (place count : ℕ) : Type 0 where
   pub same_length : length items ≡ length list
   pub behind : count ≤ place
   pub rest : drop place items ≡ drop place list
   pub chosen : take count items ++ newest_of (drop place list) ≡ newest_of list
 
+-- At first no version was settled.
 pub settling_begins : (list items : List VersionData) → items ≡ list → IsSettling list items 0 0
 settling_begins list items is = record { same_length = ap length is; behind = omega arith; rest = is; chosen = refl }
 
@@ -55,11 +57,12 @@ module _ (list items : List VersionData) (place count : ℕ) (h : IsSettling lis
   stays_is : keeps Newest v (first (drop (place + 1) items)) ≡ stays
   stays_is = ap (keeps Newest v) (first_left items (place + 1)) ∙ sym is
 
-  newest_here : newest_of (drop place list) ≡ only stays v ++ newest_of (drop (place + 1) list)
+  newest_here : newest_of (drop place list) ≡ singleton_if stays v ++ newest_of (drop (place + 1) list)
   newest_here =
       ap newest_of (sym from_here)
-      ∙ (λ i. only (stays_is i) v ++ newest_of (rest_next i))
+      ∙ (λ i. singleton_if (stays_is i) v ++ newest_of (rest_next i))
 
+  -- A version that doesn't stay changes nothing.
   pub settling_skips : (items2 : List VersionData) (count2 : ℕ) → stays ≡ false → items2 ≡ items → count2 ≡ count →
       IsSettling list items2 (place + 1) count2
   settling_skips items2 count2 out same fixed = rw (same, fixed) (record {
@@ -67,9 +70,10 @@ module _ (list items : List VersionData) (place count : ℕ) (h : IsSettling lis
     behind = omega (arith, h.behind);
     rest = rest_next;
     chosen = ap (λ (t : List VersionData). take count items ++ t)
-        (sym (newest_here ∙ ap (λ (b : Bool). only b v ++ newest_of (drop (place + 1) list)) out)) ∙ h.chosen;
+        (sym (newest_here ∙ ap (λ (b : Bool). singleton_if b v ++ newest_of (drop (place + 1) list)) out)) ∙ h.chosen;
   })
 
+  -- A version that stays is swapped to the end of those that stay.
   pub settling_moves : (items2 items3 : List VersionData) (count2 : ℕ) → stays ≡ true → SwappedAt items items2 count place →
       items3 ≡ items2 → count2 ≡ count + 1 → IsSettling list items3 (place + 1) count2
   settling_moves items2 items3 count2 stayed swapped same more =
@@ -89,20 +93,23 @@ module _ (list items : List VersionData) (place count : ℕ) (h : IsSettling lis
             ap (λ (t : List VersionData). t ++ newest_of (drop (place + 1) list)) taken
             ∙ append_assoc (take count items) (v ∷ []) (newest_of (drop (place + 1) list))
             ∙ ap (λ (t : List VersionData). take count items ++ t)
-            (sym (newest_here ∙ ap (λ (b : Bool). only b v ++ newest_of (drop (place + 1) list)) stayed))
+            (sym (newest_here ∙ ap (λ (b : Bool). singleton_if b v ++ newest_of (drop (place + 1) list)) stayed))
             ∙ h.chosen;
       })
 
-pub settled_list : (set : VersionSet) (items : List VersionData) (place count : ℕ) → IsSettling (listed set) items place count →
-    length (listed set) ≤ place → take count items ≡ listed (snapshot set)
+-- Once all versions were settled, those in front are the snapshot.
+pub settled_list : (set : VersionSet) (items : List VersionData) (place count : ℕ) → IsSettling (to_list set) items place count →
+    length (to_list set) ≤ place → take count items ≡ to_list (snapshot set)
 settled_list set items place count h end =
-    let none : drop place (listed set) ≡ [] = nil_from_length _ (omega (arith, end, length-drop place (listed set))) in
+    let none : drop place (to_list set) ≡ [] = nil_from_length _ (omega (arith, end, length-drop place (to_list set))) in
     sym (append-nil (take count items)) ∙ ap (λ (t : List VersionData). take count items ++ newest_of t) (sym none) ∙ h.chosen
     ∙ pass_of_set Newest set
 
-pub settled_ascends : (set : VersionSet) (items : List VersionData) → items ≡ listed (snapshot set) → IsStrictlySortedBy version_cmp items
+-- The list of a snapshot ascends strictly.
+pub settled_ascends : (set : VersionSet) (items : List VersionData) → items ≡ to_list (snapshot set) → IsStrictlySortedBy version_cmp items
 settled_ascends set items is = subst (IsStrictlySortedBy version_cmp) (sym is) (strict-listed (snapshot set))
 
-pub settled_set : (set : VersionSet) (items : List VersionData) → items ≡ listed (snapshot set) →
+-- The set of a snapshot's list is the snapshot.
+pub settled_set : (set : VersionSet) (items : List VersionData) → items ≡ to_list (snapshot set) →
     from_list {R = version_cmp} items ≡ snapshot set
 settled_set set items is = ap (from_list {R = version_cmp}) is ∙ set_listed (snapshot set)

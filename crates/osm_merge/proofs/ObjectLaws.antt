@@ -1,4 +1,4 @@
--- The versions of one object stand together in the order.
+-- The versions of one object are adjacent in the order.
 use Rattle.std.proofs.Common.{◌≡◌, true, false, refl, sym, ap, ◌∙◌}
 use Rattle.std.proofs.lemmas.Bool.{false≢true}
 use Rattle.std.specs.declared.cmp.Ordering.{Ordering}
@@ -9,12 +9,13 @@ use Rattle.osm_model.specs.Data.{VersionData}
 use Rattle.osm_model.specs.Order.{object_cmp, version_cmp, object_cmp_total}
 use Rattle.osm_merge.specs.Pass.{same_object}
 
--- what ascends by two orders doesn't fall by the first
+-- a list that ascends by two orders doesn't fall by the first
 not_falling : (a b : Ordering) → is_gt (ordering_then a b) ≡ false → is_gt a ≡ false
 not_falling Less b e = refl
 not_falling Equal b e = refl
 not_falling Greater b e = e
 
+-- A version that is less has no greater object.
 pub object_rises : (v w : VersionData) → version_cmp v w ≡ Less → is_gt (object_cmp v w) ≡ false
 object_rises v w less = not_falling _ _ (not_falling _ _ (not_falling _ _ (not_falling _ _ (ap is_gt less))))
 
@@ -25,7 +26,7 @@ no_more Less Greater e h k = absurd (false≢true (sym k))
 no_more Equal s e h k = refl
 no_more Greater s e h k = absurd (false≢true (sym h))
 
--- what stands between two versions of an object is one too
+-- a version between two versions of an object is one too
 pub objects_together : (u v w : VersionData) → version_cmp u v ≡ Less → version_cmp v w ≡ Less → same_object u w ≡ true →
     same_object u v ≡ true
 objects_together u v w uv vw uw =

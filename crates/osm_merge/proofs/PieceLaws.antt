@@ -17,6 +17,7 @@ use Rattle.osm_merge.specs.SliceLaws.{SetsWithinAreSlices}
 use Rattle.osm_merge.proofs.SliceLaws.{kept_in, equal, Rise, rise, reaches_lower, slices_from}
 use Rattle.osm_merge.proofs.UnionAllLaws.{in_union_all, some_has}
 
+-- Each member of a set within a span is within the span.
 pub has_within : (span : Span) (s : VersionSet) → IsWithin span s → (v : VersionData) → contains s v ≡ true →
     is_within span.from span.to v ≡ true
 has_within span s is v has =
@@ -35,7 +36,7 @@ or_none : (a : Bool) → (a || false) ≡ a
 or_none true = refl
 or_none false = refl
 
--- the members of sets within spans reach the bound where these begin
+-- the members of sets within spans reach the bound at which these begin
 pub all_reach : (from : Option Object) (bounds : List Object) (sets : List VersionSet) → Rise from bounds →
     Pairwise IsWithin (spans_from from bounds) sets → (v : VersionData) → some_has sets v ≡ true → reaches from v ≡ true
 all_reach from [] [] h k v e = absurd k
@@ -77,7 +78,7 @@ other_slice span s others apart =
     ∙ other (contains s v) (contains others v) (is_within span.from span.to v) (apart v)
     ∙ sym (kept_in others (is_within span.from span.to) v))
 
--- what reaches a span reaches the bound
+-- a version that reaches a span reaches the bound
 abbrev IsAbove : Option Object → Span → Type 0
 IsAbove base span = (v : VersionData) → reaches span.from v ≡ true → reaches base v ≡ true
 
@@ -109,5 +110,6 @@ pieces from (bound ∷ bounds) (s ∷ sets) h k = λ i.
     ∷ (other_slices from bound s (union_all sets) k.0 (spans_from (Some bound) bounds)
     (spans_above (Some bound) (Some bound) bounds h.1 (λ v r. r)) ∙ pieces (Some bound) bounds sets h.1 k.1) i
 
+-- Sets within the spans of bounds are the slices of their union.
 pub sets_within_are_slices : SetsWithinAreSlices
 sets_within_are_slices bounds sets h k = pieces None bounds sets (rise bounds h) k

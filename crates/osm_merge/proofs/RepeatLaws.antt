@@ -1,4 +1,4 @@
--- What is known of equal heads, from turn to turn.
+-- Known equal heads, from turn to turn.
 use Rattle.std.proofs.Common.{◌≡◌, ℕ, ◌==◌, true, false, cond, ◌&&◌, List, get_or, refl, sym, ap, ◌∙◌, subst, Option, Some, None}
 use Rattle.std.proofs.Common.{get_or-set_other}
 use Rattle.std.proofs.Math.ListN.{set}
@@ -11,9 +11,9 @@ use Rattle.osm_merge.specs.declared.selection.Selection.{Selection}
 use Rattle.osm_merge.specs.declared.repeats.Tie.{Tie}
 use Rattle.osm_merge.specs.declared.repeats.Repeats.{Repeats}
 use Rattle.osm_merge.specs.Pass.{passes, is_met, held_next}
-use Rattle.osm_merge.specs.Repeats.{opposite, taken_with, after_taking, IsTied, IsPast, IsPastAt, IsKnown, one_if, told_by}
+use Rattle.osm_merge.specs.Repeats.{other_place, repeats_after, repeats_after_taking, IsTied, IsPast, IsPastAt, AreTrueRepeats, one_if, comparison_count}
 
--- a version is not met behind itself
+-- a version is not met after itself
 pub past_itself : (selection : Selection) (held : Option VersionData) (v : VersionData) →
     is_met selection (held_next selection held v) v ≡ false
 past_itself selection held v =
@@ -22,34 +22,34 @@ past_itself selection held v =
       | false ↦ λ h. h
     ] refl
 
--- nothing is known at first
+-- no equal heads are known at first
 pub nothing_known : (selection : Selection) (heads : List (Option VersionData)) →
-    IsKnown selection None heads (record { tie = None; taken = None })
+    AreTrueRepeats selection None heads (record { tie = None; taken = None })
 nothing_known selection heads = record { tied = tt; past = tt }
 
 -- a head that is known not to be met
 pub known_past : {selection : Selection} {held : Option VersionData} {heads : List (Option VersionData)} {repeats : Repeats} (place : ℕ)
-    (v : VersionData) → IsKnown selection held heads repeats → repeats.taken ≡ Some place → get_or heads place None ≡ Some v
+    (v : VersionData) → AreTrueRepeats selection held heads repeats → repeats.taken ≡ Some place → get_or heads place None ≡ Some v
     → is_met selection held v ≡ false
 known_past {selection} {held} {heads} place v known is at =
     subst (IsPast selection held) at (subst (IsPastAt selection held heads) is known.past)
 
-told_with : (tie : Tie) (o : Option ℕ) → told_by (taken_with o tie) ≡ 1
+told_with : (tie : Tie) (o : Option ℕ) → comparison_count (repeats_after o tie) ≡ 1
 told_with tie None = refl
 told_with tie (Some other) = refl
 
--- nothing more is known once a head was taken
-pub told_after : (tie : Option Tie) (place : ℕ) → told_by (after_taking tie place) ≡ one_if tie
+-- no more is known once a head was taken
+pub told_after : (tie : Option Tie) (place : ℕ) → comparison_count (repeats_after_taking tie place) ≡ one_if tie
 told_after None place = refl
-told_after (Some tie) place = told_with tie (opposite tie place)
+told_after (Some tie) place = told_with tie (other_place tie place)
 
--- a head elsewhere that is equal to one that was taken is not met any more
+-- a head of another source that is equal to one that was taken is not met any more
 module _ (selection : Selection) (held : Option VersionData) (heads : List (Option VersionData)) (w : ℕ) (v : VersionData)
     (given : Option VersionData) (at_w : get_or heads w None ≡ Some v) where
   abbrev heads2 : List (Option VersionData)
   heads2 = set heads w given
 
-  -- what is known once the head was taken
+  -- the known equal heads once the head was taken
   abbrev IsKnownNow : Repeats → Type 0
   IsKnownNow repeats = IsTied heads2 repeats.tie × IsPastAt selection (held_next selection held v) heads2 repeats.taken
 
@@ -61,19 +61,20 @@ module _ (selection : Selection) (held : Option VersionData) (heads : List (Opti
   past_at place h same = subst (IsPast selection (held_next selection held v)) (sym (stays_at place h ∙ same ∙ at_w))
       (past_itself selection held v)
 
-  pub known_after : (tie : Option Tie) → IsTied heads tie → IsKnownNow (after_taking tie w)
+  -- What is known of equal heads holds after one of them was taken.
+  pub known_after : (tie : Option Tie) → IsTied heads tie → IsKnownNow (repeats_after_taking tie w)
   known_after None tied = (tt, tt)
   known_after (Some tie) tied =
       elim (tie.one == w) as (λ b. (tie.one == w) ≡ b →
-      IsKnownNow (taken_with (cond b (cond (tie.other == w) None (Some tie.other)) (cond (tie.other == w) (Some tie.one) None)) tie)) [
+      IsKnownNow (repeats_after (cond b (cond (tie.other == w) None (Some tie.other)) (cond (tie.other == w) (Some tie.one) None)) tie)) [
         | true ↦ λ h.
             let one_is : tie.one ≡ w = eqb-true tie.one w h in
-            elim (tie.other == w) as (λ b. (tie.other == w) ≡ b → IsKnownNow (taken_with (cond b None (Some tie.other)) tie)) [
+            elim (tie.other == w) as (λ b. (tie.other == w) ≡ b → IsKnownNow (repeats_after (cond b None (Some tie.other)) tie)) [
               | true ↦ λ k. (ap (λ i. get_or heads2 i None) (one_is ∙ sym (eqb-true tie.other w k)), tt)
               | false ↦ λ k. (tt, past_at tie.other k (sym tied ∙ ap (λ i. get_or heads i None) one_is))
             ] refl
         | false ↦ λ h.
-            elim (tie.other == w) as (λ b. (tie.other == w) ≡ b → IsKnownNow (taken_with (cond b (Some tie.one) None) tie)) [
+            elim (tie.other == w) as (λ b. (tie.other == w) ≡ b → IsKnownNow (repeats_after (cond b (Some tie.one) None) tie)) [
               | true ↦ λ k. (tt, past_at tie.one h (tied ∙ ap (λ i. get_or heads i None) (eqb-true tie.other w k)))
               | false ↦ λ k. (stays_at tie.one h ∙ tied ∙ sym (stays_at tie.other k), tt)
             ] refl

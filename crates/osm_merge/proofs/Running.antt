@@ -1,4 +1,4 @@
--- The loop of the merge: what holds between two turns, and what the ends of the loop make of it.
+-- The loop of the merge: the invariant between two turns, and its consequences at the ends of the loop.
 use Rattle.std.proofs.Common.{◌≡◌, ℕ, zero, suc, ◌+◌, ◌*◌, ◌-◌, ◌^◌, ◌<◌, ◌≤◌, min, Bool, true, false, cond, List, [], ◌∷◌, ◌++◌, map, take}
 use Rattle.std.proofs.Common.{length, get_or, refl, sym, ap, ◌∙◌, subst, arith, Option, Some, None, IfSome, IsSome, Result, Ok, Err, IfOk}
 use Rattle.std.proofs.Common.{IfErr, inl, inr, get_or-set_other, get_or-set_same}
@@ -16,30 +16,30 @@ use Rattle.osm_files.specs.declared.format.Format.{Format}
 use Rattle.osm_files.specs.declared.output.Output.{Ghosts}
 use Rattle.osm_files.specs.Output.{Change, Appends}
 use Rattle.osm_files.specs.Change.{change_of}
-use Rattle.osm_files.specs.Source.{Step, Ascends}
-use Rattle.osm_files.specs.Stream.{whole}
-use Rattle.osm_files.specs.Spell.{spelled_open, spell_list, spell}
+use Rattle.osm_files.specs.Source.{SourceStep, Ascends}
+use Rattle.osm_files.specs.Stream.{end_whole}
+use Rattle.osm_files.specs.Spell.{open_file_bytes, spell_list, spell}
 use Rattle.osm_files.specs.Sink.{SinkState, CutShort, HasPut, MayFollow}
 use Rattle.osm_files.proofs.SpellLaws.{each_may_follow}
 use Rattle.osm_merge.specs.declared.merge.Counts.{Counts}
 use Rattle.osm_files.specs.Input.{Explained}
 use Rattle.osm_merge.specs.ToCome.{VersionsToCome, rest, head, behind_head, coming_at, AllAscend, AllStand}
-use Rattle.osm_merge.specs.Giving.{AllGive, ForSome, ForStanding}
+use Rattle.osm_merge.specs.Giving.{AllGive, SomeInputsGive, SomePendingGive}
 use Rattle.osm_merge.specs.Members.{first}
-use Rattle.osm_merge.specs.Union.{versions_of, union_given, capped}
+use Rattle.osm_merge.specs.Union.{versions_of, union_given, capped_count}
 use Rattle.osm_merge.specs.declared.selection.Selection.{Selection}
 use Rattle.osm_merge.specs.declared.selection.Selection.TheVariants as selections
-use Rattle.osm_merge.specs.Selected.{selected}
-use Rattle.osm_merge.specs.Pass.{passes, passing, passes_all, put_of, put_at, put_at_end, puts, puts_at_once, keeps, is_met, held_next}
+use Rattle.osm_merge.specs.Selected.{selection_of}
+use Rattle.osm_merge.specs.Pass.{passes, passing_versions, passes_all, put_of, put_at, put_at_end, versions_put, puts_at_once, keeps, is_met, held_next}
 use Rattle.osm_merge.specs.Pass.{met_next}
 use Rattle.std.specs.Bool.{OnTrue}
 use Rattle.osm_merge.specs.declared.repeats.Tie.{Tie}
 use Rattle.osm_merge.specs.declared.repeats.Repeats.{Repeats}
-use Rattle.osm_merge.specs.Repeats.{after_taking, IsTied, IsPastAt, IsKnown, IsToldBy, one_if, told_by}
+use Rattle.osm_merge.specs.Repeats.{repeats_after_taking, IsTied, IsPastAt, AreTrueRepeats, IsToldBy, one_if, comparison_count}
 use Rattle.osm_merge.proofs.RepeatLaws.{nothing_known, told_after, known_after}
 use Rattle.osm_merge.specs.Put.{TakesEach, PutsMore, EndsFile}
 use Rattle.osm_merge.specs.Tree.{IsHeadUpTo, IsTree}
-use Rattle.osm_merge.specs.Merged.{IsBoundedFrom, few_of, IsMergedAs, Grows, last_of, up_to, written_so_far, written_before, IsRefusedAs}
+use Rattle.osm_merge.specs.Merged.{IsBoundedFrom, few_of, IsMergedAs, Grows, last_version, versions_up_to, written_so_far, written_before, IsRefusedAs}
 use Rattle.osm_merge.proofs.OrderLaws.{none_up_to}
 use Rattle.osm_merge.proofs.AscendingLaws.{nothing_ascends}
 use Rattle.osm_merge.proofs.TreeLaws.{winner_is_least}
@@ -51,16 +51,16 @@ use Rattle.osm_merge.proofs.Settling.{AscendBehind, may_put, may_end, put_next, 
 use Rattle.osm_merge.proofs.UnionLaws.{union_list, chosen, InFront, passing_nothing, put_in_front, met_up_to, all_put, all_taken}
 use Rattle.osm_merge.proofs.UnionLaws.{last_of_end, cut_in_file, memory_refused}
 
--- what is still to come, the heads included, where the sources give this behind their heads
+-- the rests, including the heads, if the sources give these rests after their heads
 pub record IsStanding (selection : Selection) (all : List VersionsToCome) (heads : List (Option VersionData))
     (told : List (Option VersionsToCome)) (met : List VersionData) (last top : Option VersionData) (taken : ℕ) : Type 0 where
   pub states : List VersionsToCome
   pub stand : AllStand states heads told
   pub merging : IsMerging selection all states met last top taken
 
--- Of sources that stood with these heads at first, so many versions were taken, those that pass were met, and what is put of
--- these was put, in a file of this format to the output of this number. Whatever can come now is explained by something that
--- could come at first.
+-- Of sources that had these heads at first, `taken` versions were taken, those that pass were met, and the versions to
+-- put of these were put, in a file of this format to the output of this number. Each possible rest now comes from a
+-- possible rest at first.
 pub record IsRunning (selection : Selection) {S : Type 0} (can : S → VersionsToCome → Type 0) (heads0 : List (Option VersionData))
     (sources0 : List S) (format : Format) (number : ℕ) {O : Type 0} (output : Ghosts O) (before : O)
     (heads : List (Option VersionData)) (nodes : List ℕ) (sources : List S) (sink : SinkState) (now : O) (last : Option VersionData)
@@ -74,11 +74,11 @@ pub record IsRunning (selection : Selection) {S : Type 0} (can : S → VersionsT
   pub tree : IsTree heads nodes 1 0
   pub some : 0 < length heads
   pub size : length sources ≡ length heads
-  pub read_is : read ≡ capped taken
-  pub written_is : written ≡ capped (length (put_of selection met))
+  pub read_is : read ≡ capped_count taken
+  pub written_is : written ≡ capped_count (length (put_of selection met))
   pub most : (depth : ℕ) → length heads ≤ 2 ^ depth → compared ≤ (length heads - 1) + taken * (depth + 1)
-  pub least : passes_all selection ≡ true → capped ((taken - 1) + told_by repeats) ≤ compared
-  pub known : IsKnown selection last heads repeats
+  pub least : passes_all selection ≡ true → capped_count ((taken - 1) + comparison_count repeats) ≤ compared
+  pub known : AreTrueRepeats selection last heads repeats
   pub fresh : passes_all selection ≡ true → last ≡ None → taken ≡ 0
   pub run :
       Explained (AllGive can sources0) (AllGive can sources)
@@ -100,6 +100,7 @@ none_met selection all up = record {
   count = omega arith;
 }
 
+-- The loop begins with nothing written and nothing counted.
 pub run_start : (selection : Selection) {S : Type 0} (can : S → VersionsToCome → Type 0) (heads : List (Option VersionData))
     (sources : List S) (format : Format) (number : ℕ) {O : Type 0} (output : Ghosts O) (before : O) (nodes : List ℕ) (sink : SinkState)
     (now : O) (read written compared : ℕ)
@@ -119,7 +120,7 @@ run_start selection can heads sources format number output before nodes sink now
       some = some;
       size = size;
       read_is = none_read;
-      written_is = none_written ∙ ap (λ (vs : List VersionData). capped (length vs)) (sym (put_nothing selection));
+      written_is = none_written ∙ ap (λ (vs : List VersionData). capped_count (length vs)) (sym (put_nothing selection));
       most = λ depth high. omega (arith, few);
       least = λ p. omega arith;
       known = nothing_known selection heads;
@@ -127,7 +128,7 @@ run_start selection can heads sources format number output before nodes sink now
       run = λ later g. (later, g, λ all up stand. record { states = all; stand = stand; merging = none_met selection all up });
     }
 
--- ---- heads and what the sources give
+-- ---- heads and the rests of sources
 at_map : (states : List VersionsToCome) (i : ℕ) → get_or (map head states) i None ≡ head (coming_at states i)
 at_map [] i = refl
 at_map (c ∷ cs) zero = refl
@@ -150,7 +151,7 @@ least_head states heads nodes w x e t is at_w i =
           (subst (λ u. IsHeadUpTo (get_or heads (get_or nodes 1 0) None) u) (head_at states heads i e)
           (winner_is_least heads nodes t i less))
       | inr more ↦ subst (λ c. IsHeadUpTo x (head c))
-          (sym (get_or_past states i whole (subst (λ n. n ≤ i) (length_heads states heads e) more))) tt
+          (sym (get_or_past states i end_whole (subst (λ n. n ≤ i) (length_heads states heads e) more))) tt
     ]
 
 behind_at : (states : List VersionsToCome) (w : ℕ) → coming_at (map behind_head states) w ≡ behind_head (coming_at states w)
@@ -158,18 +159,18 @@ behind_at [] w = refl
 behind_at (c ∷ cs) zero = refl
 behind_at (c ∷ cs) (suc w) = behind_at cs w
 
--- what a source gives in a turn, once its head was taken
+-- the version that a source gives in a turn, once its head was taken
 stand_more : (states : List VersionsToCome) (heads : List (Option VersionData)) (told : List (Option VersionsToCome)) (w : ℕ)
     (given : Option VersionData) (after : Option VersionsToCome)
-    → AllStand states heads told → w < length heads → w < length told → Step (get_or told w None) (Ok given) after
+    → AllStand states heads told → w < length heads → w < length told → SourceStep (get_or told w None) (Ok given) after
     → AllStand (without_head states w) (set heads w given) (set told w after)
 stand_more states heads told w given after s inside low step =
     let here : VersionsToCome = coming_at states w in
     let less : w < length states = subst (λ n. w < n) (length_heads states heads s.heads_are) inside in
     let tells : get_or told w None ≡ Some (behind_head here) =
     told_at told (map behind_head states) w s.behind low ∙ ap Some (behind_at states w) in
-    let t = told_gives (behind_head here) given after (subst (λ o. Step o (Ok given) after) tells step) in
-    let same_place : coming_at (without_head states w) w ≡ behind_head here = get_or-set_same states w (behind_head here) whole less in
+    let t = told_gives (behind_head here) given after (subst (λ o. SourceStep o (Ok given) after) tells step) in
+    let same_place : coming_at (without_head states w) w ≡ behind_head here = get_or-set_same states w (behind_head here) end_whole less in
     record {
       heads_are = (λ i. set (s.heads_are i) w (t.0 i)) ∙ sym (map-set head states w (behind_head here));
       behind =
@@ -179,14 +180,14 @@ stand_more states heads told w given after s inside low step =
         | inl is ↦ ap (λ j. (coming_at (without_head states w) j).refusal) is ∙ ap (λ c. c.refusal) same_place
             ∙ t.2 (t.0 ∙ ap head (sym same_place) ∙ ap (λ j. head (coming_at (without_head states w) j)) (sym is) ∙ none)
         | inr n ↦ (
-            let other : coming_at (without_head states w) i ≡ coming_at states i = get_or-set_other states w i (behind_head here) whole n in
+            let other : coming_at (without_head states w) i ≡ coming_at states i = get_or-set_other states w i (behind_head here) end_whole n in
             ap (λ c. c.refusal) other
             ∙ s.settled i (subst (λ m. i < m) (length-set states w (behind_head here)) near) (ap head (sym other) ∙ none))
       ];
     }
 
 -- ---- the counts
--- a version that was compared with the one held back, and one that wasn't, as a comparison had told of it
+-- a version that was compared with the pending one, and one that wasn't, since a comparison had shown that it repeats
 least_more : (M t o c0 c1 : ℕ) → min ((t - 1) + o) M ≤ c0 → min (c0 + 1) M ≤ c1 → min (((t + 1) - 1) + o) M ≤ c1
 least_more M t o c0 c1 a b = omega arith
 
@@ -202,19 +203,19 @@ least_alone M t o c a = omega arith
 least_fewer : (M t o p c : ℕ) → min ((t - 1) + (o + p)) M ≤ c → min ((t - 1) + o) M ≤ c
 least_fewer M t o p c a = omega arith
 
-least_behind : (last : Option VersionData) (t o p c0 c1 : ℕ) → capped ((t - 1) + (o + p)) ≤ c0 → (last ≡ None → t ≡ 0)
-    → IfSome last (λ _. capped (c0 + 1) ≤ c1) → c0 ≤ c1 → capped (((t + 1) - 1) + o) ≤ c1
+least_behind : (last : Option VersionData) (t o p c0 c1 : ℕ) → capped_count ((t - 1) + (o + p)) ≤ c0 → (last ≡ None → t ≡ 0)
+    → IfSome last (λ _. capped_count (c0 + 1) ≤ c1) → c0 ≤ c1 → capped_count (((t + 1) - 1) + o) ≤ c1
 least_behind None t o p c0 c1 a f b d = least_first (2 ^ 64 - 1) t o c0 c1 (f refl) (least_fewer (2 ^ 64 - 1) t o p c0 a) d
 least_behind (Some l) t o p c0 c1 a f b d = least_more (2 ^ 64 - 1) t o c0 c1 (least_fewer (2 ^ 64 - 1) t o p c0 a) b
 
 least_turn : (repeats : Repeats) (w : ℕ) (last : Option VersionData) (is_repeated : Bool) (t c0 c1 : ℕ)
-    → capped ((t - 1) + told_by repeats) ≤ c0 → (last ≡ None → t ≡ 0) → OnTrue is_repeated (repeats.taken ≡ Some w)
-    → (is_repeated ≡ false → IfSome last (λ _. capped (c0 + 1) ≤ c1)) → c0 ≤ c1 → capped (((t + 1) - 1) + one_if repeats.tie) ≤ c1
+    → capped_count ((t - 1) + comparison_count repeats) ≤ c0 → (last ≡ None → t ≡ 0) → OnTrue is_repeated (repeats.taken ≡ Some w)
+    → (is_repeated ≡ false → IfSome last (λ _. capped_count (c0 + 1) ≤ c1)) → c0 ≤ c1 → capped_count (((t + 1) - 1) + one_if repeats.tie) ≤ c1
 least_turn repeats w last is_repeated t c0 c1 a f on b d =
-    elim is_repeated as (λ r. OnTrue r (repeats.taken ≡ Some w) → (r ≡ false → IfSome last (λ _. capped (c0 + 1) ≤ c1)) → capped
+    elim is_repeated as (λ r. OnTrue r (repeats.taken ≡ Some w) → (r ≡ false → IfSome last (λ _. capped_count (c0 + 1) ≤ c1)) → capped_count
     (((t + 1) - 1) + one_if repeats.tie) ≤ c1) [
       | true ↦ λ on b. least_known (2 ^ 64 - 1) t (one_if repeats.tie) c0 c1
-          (subst (λ (o : Option ℕ). capped ((t - 1) + (one_if repeats.tie + one_if o)) ≤ c0) on a) d
+          (subst (λ (o : Option ℕ). capped_count ((t - 1) + (one_if repeats.tie + one_if o)) ≤ c0) on a) d
       | false ↦ λ on b. least_behind last t (one_if repeats.tie) (one_if repeats.taken) c0 c1 a f (b refl) d
     ] on b
 
@@ -224,11 +225,11 @@ least_ties M t q o p c e a = omega (arith, e)
 least_told : (M t q p c : ℕ) → min ((t + p) + q) M ≤ c → min (t + (q + p)) M ≤ c
 least_told M t q p c a = omega arith
 
--- and behind the games that were played again
-least_next : (tie : Option Tie) (w : ℕ) (t c1 : ℕ) (tie2 : Option Tie) (c2 : ℕ) → capped (t + one_if tie) ≤ c1
-    → IsToldBy (after_taking tie w).tie c1 tie2 c2 → capped (t + told_by (record { tie = tie2; taken = (after_taking tie w).taken })) ≤ c2
+-- and after the games that were played again
+least_next : (tie : Option Tie) (w : ℕ) (t c1 : ℕ) (tie2 : Option Tie) (c2 : ℕ) → capped_count (t + one_if tie) ≤ c1
+    → IsToldBy (repeats_after_taking tie w).tie c1 tie2 c2 → capped_count (t + comparison_count (record { tie = tie2; taken = (repeats_after_taking tie w).taken })) ≤ c2
 least_next tie w t c1 tie2 c2 a told =
-    let after = after_taking tie w in
+    let after = repeats_after_taking tie w in
     let taken : ℕ = one_if after.taken in
     least_told (2 ^ 64 - 1) t (one_if tie2) taken c2
     (told (t + taken) (least_ties (2 ^ 64 - 1) t (one_if after.tie) (one_if tie) taken c1 (told_after tie w) a))
@@ -267,9 +268,9 @@ some_held selection (Some l) v pass e =
       | false ↦ λ e. cc
     ] e
 
-few_least : (selection : Selection) (t c : ℕ) → (passes_all selection ≡ true → capped (t - 1) ≤ c) → capped (few_of selection t) ≤ c
+few_least : (selection : Selection) (t c : ℕ) → (passes_all selection ≡ true → capped_count (t - 1) ≤ c) → capped_count (few_of selection t) ≤ c
 few_least selection t c f =
-    elim (passes_all selection) as (λ b. (b ≡ true → capped (t - 1) ≤ c) → capped (cond b (t - 1) 0) ≤ c) [
+    elim (passes_all selection) as (λ b. (b ≡ true → capped_count (t - 1) ≤ c) → capped_count (cond b (t - 1) 0) ≤ c) [
       | true ↦ λ f. f refl
       | false ↦ λ f. omega arith
     ] f
@@ -282,7 +283,7 @@ takes_each format number put change sink has (v ∷ vs) h = (
   takes_each format number put change sink has vs h.1,
 )
 
--- a list of some versions
+-- a list that isn't empty
 abbrev IsFull : List VersionData → Type 0
 IsFull [] = ⊥
 IsFull (v ∷ vs) = Unit {0}
@@ -291,15 +292,15 @@ is_full : (versions : List VersionData) → (versions ≡ [] → ⊥) → IsFull
 is_full [] h = h refl
 is_full (v ∷ vs) h = tt
 
-so_far : (format : Format) (versions : List VersionData) → IsFull versions → written_so_far format versions ≡ spelled_open format versions
+so_far : (format : Format) (versions : List VersionData) → IsFull versions → written_so_far format versions ≡ open_file_bytes format versions
 so_far format [] h = absurd h
 so_far format (v ∷ vs) h = refl
 
 before_is : (selection : Selection) (format : Format) (v : VersionData) (versions : List VersionData)
-    → (puts_at_once selection ≡ true → IsFull (up_to (Some v) versions))
-    → written_before selection format (Some v) versions ≡ spelled_open format
-    (put_of selection (passing selection (up_to (Some v) versions)))
-before_is selections.All format v versions f = so_far format (up_to (Some v) versions) (f refl)
+    → (puts_at_once selection ≡ true → IsFull (versions_up_to (Some v) versions))
+    → written_before selection format (Some v) versions ≡ open_file_bytes format
+    (put_of selection (passing_versions selection (versions_up_to (Some v) versions)))
+before_is selections.All format v versions f = so_far format (versions_up_to (Some v) versions) (f refl)
 before_is selections.Visible format v versions f = refl
 before_is selections.Newest format v versions f = refl
 before_is selections.NewestVisible format v versions f = refl
@@ -318,14 +319,17 @@ module _ {selection : Selection} {S : Type 0} {can : S → VersionsToCome → Ty
     {read written compared : ℕ} {repeats : Repeats}
     (r : IsRunning selection can heads0 sources0 format number output before heads nodes sources sink now last read written compared
     repeats) (w : ℕ) (top : w ≡ get_or nodes 1 0) where
+  -- The leader is one of the sources.
   pub inside : w < length heads
   inside = subst (λ q. q < length heads) (sym top) (r.tree.below 1 (omega arith) (let s = r.some in omega arith))
 
+  -- The sink takes what is put when a version is met.
   pub takes : (v : VersionData) → is_met selection last v ≡ true → TakesEach (put_at selection last v) sink
   takes v is =
       takes_each format number (put_of selection r.met) (change_of output before now) sink r.has (put_at selection last v)
       (may_put selection last v r.met r.ends r.ascends (ascends_with last v r.met r.ends (met_is_new selection last v is) r.ascends))
 
+  -- The sink takes what is put at the end.
   pub takes_last : TakesEach (put_at_end selection last) sink
   takes_last =
       takes_each format number (put_of selection r.met) (change_of output before now) sink r.has (put_at_end selection last)
@@ -338,7 +342,7 @@ module _ {selection : Selection} {S : Type 0} {can : S → VersionsToCome → Ty
     abbrev put2 : List VersionData
     put2 = put_of selection met2
 
-    next_is : put_of selection r.met ++ puts selection last v ≡ put2
+    next_is : put_of selection r.met ++ versions_put selection last v ≡ put2
     next_is = put_next selection last v r.met r.ends
 
     taken_head : (all : List VersionsToCome) (told : List (Option VersionsToCome))
@@ -352,103 +356,105 @@ module _ {selection : Selection} {S : Type 0} {can : S → VersionsToCome → Ty
 
     in_front : (all : List VersionsToCome) (told : List (Option VersionsToCome))
         (s : IsStanding selection all heads told r.met last r.top r.taken)
-        → InFront put2 (selected selection (union_given all))
+        → InFront put2 (selection_of selection (union_given all))
     in_front all told s =
         put_in_front selection all (without_head s.states w) met2 (held_next selection last v) (Some v) (r.taken + 1)
         (taken_head all told s)
 
-    has2 : (sink2 : SinkState) (now2 : O) → PutsMore output (puts selection last v) sink sink2 now now2 (Ok tt)
+    has2 : (sink2 : SinkState) (now2 : O) → PutsMore output (versions_put selection last v) sink sink2 now now2 (Ok tt)
         → HasPut format number put2 (change_of output before now2) sink2
     has2 sink2 now2 p =
         subst (λ (vs : List VersionData). HasPut format number vs (change_of output before now2) sink2) next_is
         (p format number (put_of selection r.met) before r.has)
 
-    cut2 : (sink2 : SinkState) (now2 : O) (fault : Fault) → PutsMore output (puts selection last v) sink sink2 now now2 (Err fault)
-        → CutShort number (change_of output before now2) (spelled_open format put2) fault
+    cut2 : (sink2 : SinkState) (now2 : O) (fault : Fault) → PutsMore output (versions_put selection last v) sink sink2 now now2 (Err fault)
+        → CutShort number (change_of output before now2) (open_file_bytes format put2) fault
     cut2 sink2 now2 fault p =
-        subst (λ (vs : List VersionData). CutShort number (change_of output before now2) (spelled_open format vs) fault) next_is
+        subst (λ (vs : List VersionData). CutShort number (change_of output before now2) (open_file_bytes format vs) fault) next_is
         (p format number (put_of selection r.met) before r.has)
 
     -- the sink refused a version
     pub put_refused : (one : S → VersionsToCome) → ((s : S) → can s (one s)) → (sink2 : SinkState) (now2 : O) (fault : Fault)
-        → PutsMore output (puts selection last v) sink sink2 now now2 (Err fault)
-        → ForStanding can sources0 heads0 (λ all. IsRefusedAs selection all format number (change_of output before now2) fault)
+        → PutsMore output (versions_put selection last v) sink sink2 now now2 (Err fault)
+        → SomePendingGive can sources0 heads0 (λ all. IsRefusedAs selection all format number (change_of output before now2) fault)
     put_refused one possible sink2 now2 fault p =
         let later : List VersionsToCome = map one sources in
         let q = r.run later (give_one can one possible sources) in (
           q.0,
           q.1,
-          λ all up st. inl (cut_in_file (selected selection (union_given all)) format number (change_of output before now2) put2
+          λ all up st. inl (cut_in_file (selection_of selection (union_given all)) format number (change_of output before now2) put2
               fault (in_front all (map Some later) (q.2 all up st)) (cut2 sink2 now2 fault p)),
         )
 
-    pub put_kept : (sink2 : SinkState) (now2 : O) (fault : Fault) → PutsMore output (puts selection last v) sink sink2 now now2 (Err fault)
+    -- After a refused put the earlier bytes are still held.
+    pub put_kept : (sink2 : SinkState) (now2 : O) (fault : Fault) → PutsMore output (versions_put selection last v) sink sink2 now now2 (Err fault)
         → Grows (change_of output before now2)
-    put_kept sink2 now2 fault p = let cut = cut2 sink2 now2 fault p in (take cut.count (spelled_open format put2), cut.appended)
+    put_kept sink2 now2 fault p = let cut = cut2 sink2 now2 fault p in (take cut.count (open_file_bytes format put2), cut.appended)
 
-    pub next_kept : (sink2 : SinkState) (now2 : O) → PutsMore output (puts selection last v) sink sink2 now now2 (Ok tt)
+    -- After a put the earlier bytes are still held.
+    pub next_kept : (sink2 : SinkState) (now2 : O) → PutsMore output (versions_put selection last v) sink sink2 now now2 (Ok tt)
         → Grows (change_of output before now2)
-    next_kept sink2 now2 p = let has = has2 sink2 now2 p in (spelled_open format put2, has.sent.appended)
+    next_kept sink2 now2 p = let has = has2 sink2 now2 p in (open_file_bytes format put2, has.sent.appended)
 
     only_one : (vs : List VersionData) → first vs ≡ Some v → rest vs ≡ [] → vs ≡ v ∷ []
     only_one vs h k = split_first v vs h ∙ ap (λ t. v ∷ t) k
 
-    -- before a step of the version's source something could come
+    -- a rest was possible before a step of the version's source
     abbrev Before : (VersionsToCome → VersionsToCome → Type 0) → List VersionsToCome → Type 0
     Before step later =
         (one : VersionsToCome) × (w < length (map Some (set later w one))) × (get_or (map Some (set later w one)) w None ≡ Some one)
-        × step one (get_or later w whole)
-        × ForSome can sources0 (λ first. (all : List VersionsToCome) → AllAscend all → AllStand all heads0 (map Some first) → IsStanding
+        × step one (get_or later w end_whole)
+        × SomeInputsGive can sources0 (λ first. (all : List VersionsToCome) → AllAscend all → AllStand all heads0 (map Some first) → IsStanding
         selection all heads (map Some (set later w one)) r.met last r.top r.taken)
 
     stepped : (step : VersionsToCome → VersionsToCome → Type 0) (d new : S) → Explained (can (get_or sources w d)) (can new) step
         → (later : List VersionsToCome) → AllGive can (set sources w new) later → Before step later
     stepped step d new x later g =
         let low : w < length sources = subst (λ n. w < n) (sym r.size) inside in
-        let b = give_back can step sources w new d whole later low x g in
+        let b = give_back can step sources w new d end_whole later low x g in
         let size : length later ≡ length sources = give_size can (set sources w new) later g ∙ length-set sources w new in
         let less : w < length later = omega (arith, size, low) in
         let less_set : w < length (set later w b.0) = omega (arith, less, length-set later w b.0) in (
           b.0,
           omega (arith, less_set, length-map (set later w b.0) Some),
-          get_or-map Some (set later w b.0) w whole None less_set ∙ ap Some (get_or-set_same later w b.0 whole less),
+          get_or-map Some (set later w b.0) w end_whole None less_set ∙ ap Some (get_or-set_same later w b.0 end_whole less),
           b.2,
           r.run (set later w b.0) b.1,
         )
 
     -- the source of the version was refused, once the version was put
     refused_at : (sink2 : SinkState) (now2 : O) (fault : Fault) (told : List (Option VersionsToCome)) (after : Option VersionsToCome)
-        → w < length told → PutsMore output (puts selection last v) sink sink2 now now2 (Ok tt)
-        → Step {A = VersionData} (get_or told w None) (Err fault) after
+        → w < length told → PutsMore output (versions_put selection last v) sink sink2 now now2 (Ok tt)
+        → SourceStep {A = VersionData} (get_or told w None) (Err fault) after
         → (all : List VersionsToCome) → IsStanding selection all heads told r.met last r.top r.taken
         → IsRefusedAs selection all format number (change_of output before now2) fault
     refused_at sink2 now2 fault told after low p step all s =
         let here : VersionsToCome = coming_at s.states w in
         let states2 : List VersionsToCome = without_head s.states w in
         let m = taken_head all told s in
-        let sent : Appends (change_of output before now2) (spelled_open format put2) = (has2 sink2 now2 p).sent.appended in
+        let sent : Appends (change_of output before now2) (open_file_bytes format put2) = (has2 sink2 now2 p).sent.appended in
         let less : w < length s.states = subst (λ n. w < n) (length_heads s.states heads s.stand.heads_are) inside in
         let tells : get_or told w None ≡ Some (behind_head here) =
         told_at told (map behind_head s.states) w s.stand.behind low ∙ ap Some (behind_at s.states w) in
-        elim (told_refuses (behind_head here) fault after (subst (λ o. Step {A = VersionData} o (Err fault) after) tells step)) [
+        elim (told_refuses (behind_head here) fault after (subst (λ o. SourceStep {A = VersionData} o (Err fault) after) tells step)) [
           | inl wanting ↦ inl (subst (λ (f : Fault). CutShort number (change_of output before now2)
-              (spell format (selected selection (union_given all))) f) (sym wanting) (memory_refused (selected selection (union_given all))
+              (spell format (selection_of selection (union_given all))) f) (sym wanting) (memory_refused (selection_of selection (union_given all))
               format number (change_of output before now2) put2 (in_front all told s) sent))
           | inr end ↦ (
               let list_is : (coming_at all w).list ≡ (s.merging.came w).0 ++ v ∷ [] =
               (s.merging.came w).1
               ∙ ap (λ t. (s.merging.came w).0 ++ t) (only_one here.list (sym (head_at s.states heads w s.stand.heads_are) ∙ at_w) end.0) in
-              let last_v : last_of (coming_at all w).list ≡ Some v = ap last_of list_is ∙ last_of_end ((s.merging.came w).0) v in
-              let met_is : met2 ≡ passing selection (up_to (Some v) (union_list all)) = met_up_to m v refl in
-              let full : puts_at_once selection ≡ true → IsFull (up_to (Some v) (union_list all)) = λ once.
-              is_full (up_to (Some v) (union_list all)) (λ none.
+              let last_v : last_version (coming_at all w).list ≡ Some v = ap last_version list_is ∙ last_of_end ((s.merging.came w).0) v in
+              let met_is : met2 ≡ passing_versions selection (versions_up_to (Some v) (union_list all)) = met_up_to m v refl in
+              let full : puts_at_once selection ≡ true → IsFull (versions_up_to (Some v) (union_list all)) = λ once.
+              is_full (versions_up_to (Some v) (union_list all)) (λ none.
               let e : Ends (Some v) met2 =
               subst (λ (h : Option VersionData). Ends h met2) (m.reached (at_once_pass selection once v)) m.ends in
-              not_nothing (e.0) v (sym e.1 ∙ met_is ∙ ap (passing selection) none ∙ passing_nothing selection)) in
-              let bytes : written_before selection format (last_of (coming_at all w).list) (union_list all) ≡ spelled_open format put2 =
+              not_nothing (e.0) v (sym e.1 ∙ met_is ∙ ap (passing_versions selection) none ∙ passing_nothing selection)) in
+              let bytes : written_before selection format (last_version (coming_at all w).list) (union_list all) ≡ open_file_bytes format put2 =
               ap (λ (l : Option VersionData). written_before selection format l (union_list all)) last_v
               ∙ before_is selection format v (union_list all) full
-              ∙ ap (λ (vs : List VersionData). spelled_open format (put_of selection vs)) (sym met_is) in
+              ∙ ap (λ (vs : List VersionData). open_file_bytes format (put_of selection vs)) (sym met_is) in
               inr (record {
                 place = w;
                 within = subst (λ n. w < n) s.merging.size less;
@@ -457,36 +463,37 @@ module _ {selection : Selection} {S : Type 0} {can : S → VersionsToCome → Ty
               }))
         ]
 
+    -- A source that is refused refuses the merge, with what was put up to its last version.
     pub source_refused : (one : S → VersionsToCome) → ((s : S) → can s (one s)) → (sink2 : SinkState) (now2 : O) (fault : Fault) (d new : S)
-        → PutsMore output (puts selection last v) sink sink2 now now2 (Ok tt)
-        → Explained (can (get_or sources w d)) (can new) (λ e l. Step {A = VersionData} (Some e) (Err fault) (Some l))
-        → ForStanding can sources0 heads0 (λ all. IsRefusedAs selection all format number (change_of output before now2) fault)
+        → PutsMore output (versions_put selection last v) sink sink2 now now2 (Ok tt)
+        → Explained (can (get_or sources w d)) (can new) (λ e l. SourceStep {A = VersionData} (Some e) (Err fault) (Some l))
+        → SomePendingGive can sources0 heads0 (λ all. IsRefusedAs selection all format number (change_of output before now2) fault)
     source_refused one possible sink2 now2 fault d new p step =
         let later : List VersionsToCome = map one (set sources w new) in
         let b =
-        stepped (λ e l. Step {A = VersionData} (Some e) (Err fault) (Some l)) d new step later
+        stepped (λ e l. SourceStep {A = VersionData} (Some e) (Err fault) (Some l)) d new step later
         (give_one can one possible (set sources w new)) in
         let q = b.4 in
         let told : List (Option VersionsToCome) = map Some (set later w b.0) in
-        let after : Option VersionsToCome = Some (get_or later w whole) in (
+        let after : Option VersionsToCome = Some (get_or later w end_whole) in (
           q.0,
           q.1,
           λ all up st. refused_at sink2 now2 fault told after b.1 p
-              (subst (λ o. Step {A = VersionData} o (Err fault) after) (sym b.2) b.3) all (q.2 all up st),
+              (subst (λ o. SourceStep {A = VersionData} o (Err fault) after) (sym b.2) b.3) all (q.2 all up st),
         )
 
-    -- the loop goes on
+    -- the loop continues
     pub run_more : (nodes2 : List ℕ) (sink2 : SinkState) (now2 : O) (last2 : Option VersionData) (given : Option VersionData) (d new : S)
         (read2 written2 compared1 compared2 : ℕ)
-        → PutsMore output (puts selection last v) sink sink2 now now2 (Ok tt) → last2 ≡ held_next selection last v
-        → Explained (can (get_or sources w d)) (can new) (λ e l. Step (Some e) (Ok given) (Some l))
+        → PutsMore output (versions_put selection last v) sink sink2 now now2 (Ok tt) → last2 ≡ held_next selection last v
+        → Explained (can (get_or sources w d)) (can new) (λ e l. SourceStep (Some e) (Ok given) (Some l))
         → IsTree (set heads w given) nodes2 1 0
-        → read2 ≡ capped (read + 1)
-        → ((put : List VersionData) → written ≡ capped (length put) → written2 ≡ capped (length (put ++ puts selection last v)))
+        → read2 ≡ capped_count (read + 1)
+        → ((put : List VersionData) → written ≡ capped_count (length put) → written2 ≡ capped_count (length (put ++ versions_put selection last v)))
         → (is_repeated : Bool) → OnTrue is_repeated (repeats.taken ≡ Some w) → compared ≤ compared1 → compared1 ≤ compared + 1
-        → (is_repeated ≡ false → IfSome last (λ _. capped (compared + 1) ≤ compared1))
+        → (is_repeated ≡ false → IfSome last (λ _. capped_count (compared + 1) ≤ compared1))
         → ((depth : ℕ) → length (set heads w given) ≤ 2 ^ depth → compared2 ≤ compared1 + depth)
-        → (repeats1 : Repeats) → repeats1 ≡ after_taking repeats.tie w → (tie2 : Option Tie) → IsTied (set heads w given) tie2
+        → (repeats1 : Repeats) → repeats1 ≡ repeats_after_taking repeats.tie w → (tie2 : Option Tie) → IsTied (set heads w given) tie2
         → IsToldBy repeats1.tie compared1 tie2 compared2
         → IsRunning selection can heads0 sources0 format number output before (set heads w given) nodes2 (set sources w new) sink2 now2
         last2 read2 written2 compared2 (record { tie = tie2; taken = repeats1.taken })
@@ -505,7 +512,7 @@ module _ {selection : Selection} {S : Type 0} {can : S → VersionsToCome → Ty
           some = subst (λ n. 0 < n) (sym size) r.some;
           size = sizes ∙ r.size ∙ sym size;
           read_is = read_is ∙ capped_more (2 ^ 64 - 1) r.taken read r.read_is;
-          written_is = writes (put_of selection r.met) r.written_is ∙ ap (λ (vs : List VersionData). capped (length vs)) next_is;
+          written_is = writes (put_of selection r.met) r.written_is ∙ ap (λ (vs : List VersionData). capped_count (length vs)) next_is;
           most = λ depth high.
               let old = r.most depth (subst (λ n. n ≤ 2 ^ depth) size high) in
               let later = replayed depth high in
@@ -513,7 +520,7 @@ module _ {selection : Selection} {S : Type 0} {can : S → VersionsToCome → Ty
               omega (arith, old, later, times, size);
           least = λ p.
               let turn = least_turn repeats w last is_repeated r.taken compared compared1 (r.least p) (r.fresh p) on least grows in
-              subst (λ (s : Repeats). capped (((r.taken + 1) - 1) + told_by (record { tie = tie2; taken = s.taken })) ≤ compared2) (sym is1)
+              subst (λ (s : Repeats). capped_count (((r.taken + 1) - 1) + comparison_count (record { tie = tie2; taken = s.taken })) ≤ compared2) (sym is1)
               (least_next repeats.tie w ((r.taken + 1) - 1) compared1 tie2 compared2 turn
               (subst (λ (s : Repeats). IsToldBy s.tie compared1 tie2 compared2) is1 told));
           known = record {
@@ -524,13 +531,13 @@ module _ {selection : Selection} {S : Type 0} {can : S → VersionsToCome → Ty
           };
           fresh = λ p e. absurd (some_held selection last v (all_pass selection p v) (sym last_is ∙ e));
           run = λ later g. (
-              let b = stepped (λ e l. Step (Some e) (Ok given) (Some l)) d new step later g in
+              let b = stepped (λ e l. SourceStep (Some e) (Ok given) (Some l)) d new step later g in
               let q = b.4 in
               let told : List (Option VersionsToCome) = map Some (set later w b.0) in
-              let here : VersionsToCome = get_or later w whole in
+              let here : VersionsToCome = get_or later w end_whole in
               let next : set told w (Some here) ≡ map Some later =
-              map_set_some (set later w b.0) w here ∙ ap (map Some) (set_again later w b.0 whole) in
-              let gave : Step (get_or told w None) (Ok given) (Some here) = subst (λ o. Step o (Ok given) (Some here)) (sym b.2) b.3 in (
+              map_set_some (set later w b.0) w here ∙ ap (map Some) (set_again later w b.0 end_whole) in
+              let gave : SourceStep (get_or told w None) (Ok given) (Some here) = subst (λ o. SourceStep o (Ok given) (Some here)) (sym b.2) b.3 in (
                 q.0,
                 q.1,
                 λ all up st.
@@ -548,11 +555,11 @@ module _ {selection : Selection} {S : Type 0} {can : S → VersionsToCome → Ty
         }
 
 -- ---- the end
--- all that was to come was taken, and what is selected of the union was put
+-- all versions were taken, and the selection of the union was put
 pub record IsToldDone (selection : Selection) (all : List VersionsToCome) (put : List VersionData) (read compared : ℕ) : Type 0 where
   pub union_is : chosen selection all ≡ put
   pub ends_whole : All (λ c. c.refusal ≡ None) all
-  pub read_is : read ≡ capped (length (versions_of all))
+  pub read_is : read ≡ capped_count (length (versions_of all))
   pub bounded : IsBoundedFrom (few_of selection (length (versions_of all))) (length all) (length (versions_of all)) compared
 
 -- before the file is ended
@@ -564,9 +571,9 @@ pub record IsDone (selection : Selection) (last : Option VersionData) {S : Type 
   pub put_is : so_far ++ put_at_end selection last ≡ put
   pub has : HasPut format number so_far (change_of output before now) sink
   pub ascends : IsStrictlySortedBy version_cmp put
-  pub written_is : counts.written ≡ capped (length so_far)
+  pub written_is : counts.written ≡ capped_count (length so_far)
   pub told :
-      ForSome can sources0
+      SomeInputsGive can sources0
       (λ first. (all : List VersionsToCome) → AllAscend all → AllStand all heads0 (map Some first)
       → IsToldDone selection all put counts.read counts.compared)
 
@@ -580,6 +587,7 @@ none_left heads nodes w t top at_w i =
       | inr more ↦ get_or_past heads i None more
     ]
 
+-- Where no head is left, the merge is done up to the end of its file.
 pub run_done : {selection : Selection} {S : Type 0} {can : S → VersionsToCome → Type 0} {heads0 : List (Option VersionData)}
     {sources0 : List S} {format : Format} {number : ℕ} {O : Type 0} {output : Ghosts O} {before : O}
     {heads : List (Option VersionData)} {nodes : List ℕ} {sources : List S} {sink : SinkState} {now : O} {last : Option VersionData}
@@ -615,9 +623,9 @@ run_done {selection = selection} {can = can} {heads = heads} {nodes = nodes} {so
               union_is = all_put s.merging no_head;
               ends_whole = λ i d low.
                   let within : i < length s.states = subst (λ n. i < n) (sym s.merging.size) low in
-                  subst (λ c. c.refusal ≡ None) (get_or_default all i whole d low)
+                  subst (λ c. c.refusal ≡ None) (get_or_default all i end_whole d low)
                   (s.merging.refusals i ∙ s.stand.settled i within (no_head i within));
-              read_is = r.read_is ∙ ap capped taken_is;
+              read_is = r.read_is ∙ ap capped_count taken_is;
               bounded = record {
                 most = λ depth high.
                     let old = r.most depth (subst (λ n. n ≤ 2 ^ depth) (sym many) high) in
@@ -625,14 +633,14 @@ run_done {selection = selection} {can = can} {heads = heads} {nodes = nodes} {so
                     (subst (λ k. counts.compared ≤ (k - 1) + r.taken * (depth + 1)) many old);
                 least =
                     few_least selection (length (versions_of all)) counts.compared
-                    (λ p. subst (λ t. capped (t - 1) ≤ counts.compared) taken_is
-                    (least_alone (2 ^ 64 - 1) r.taken (told_by repeats) counts.compared (r.least p)));
+                    (λ p. subst (λ t. capped_count (t - 1) ≤ counts.compared) taken_is
+                    (least_alone (2 ^ 64 - 1) r.taken (comparison_count repeats) counts.compared (r.least p)));
               };
             },
       );
     }
 
--- of no sources
+-- the case of no sources
 pub none_done : (selection : Selection) {S : Type 0} (can : S → VersionsToCome → Type 0) (one : S → VersionsToCome)
     → ((s : S) → can s (one s))
     → (heads : List (Option VersionData)) (sources : List S) (format : Format) (number : ℕ) {O : Type 0} (output : Ghosts O) (before : O)
@@ -658,12 +666,12 @@ none_done selection can one possible heads sources format number output before s
             record {
               union_is = all_put (none_met selection all up) no_head;
               ends_whole = λ i d low. absurd (omega arith);
-              read_is = none_read ∙ ap capped taken_is;
+              read_is = none_read ∙ ap capped_count taken_is;
               bounded =
                   record {
                     most = λ depth high. omega arith;
                     least = few_least selection (length (versions_of all)) counts.compared
-                        (λ p. subst (λ t. capped (t - 1) ≤ counts.compared) taken_is (omega arith));
+                        (λ p. subst (λ t. capped_count (t - 1) ≤ counts.compared) taken_is (omega arith));
                   };
             },
       );
@@ -680,11 +688,12 @@ module _ {selection : Selection} {last : Option VersionData} {S : Type 0} {can :
   abbrev pub Counted : Result Counts Fault → Type 0
   Counted result =
       IfOk result (λ done. done.read ≡ counts.read)
-      × IfOk result (λ done. (put : List VersionData) → counts.written ≡ capped (length put) → done.written ≡ capped (length (put ++ more)))
+      × IfOk result (λ done. (put : List VersionData) → counts.written ≡ capped_count (length put) → done.written ≡ capped_count (length (put ++ more)))
       × IfOk result (λ done. done.compared ≡ counts.compared)
 
+  -- Where the end of the file is written, the merge is done.
   pub end_merged : (result : Result Counts Fault) → EndsFile output more sink now after result → Counted result
-      → IfOk result (λ done. ForSome can sources0
+      → IfOk result (λ done. SomeInputsGive can sources0
       (λ first. (all : List VersionsToCome) → AllAscend all → AllStand all heads0 (map Some first) → IsMergedAs selection all format
       (change_of output before after) done))
   end_merged (Ok done) ends is = (
@@ -698,7 +707,7 @@ module _ {selection : Selection} {last : Option VersionData} {S : Type 0} {can :
           whole = t.ends_whole;
           appended = subst (λ (vs : List VersionData). Appends (change_of output before after) (spell_list format vs)) all_is sent.appended;
           read = is.0 ∙ t.read_is;
-          written = is.1 d.so_far d.written_is ∙ ap (λ vs. capped (length vs)) all_is;
+          written = is.1 d.so_far d.written_is ∙ ap (λ vs. capped_count (length vs)) all_is;
           compared =
               subst (λ (n : ℕ). IsBoundedFrom (few_of selection (length (versions_of all))) (length all) (length (versions_of all)) n)
               (sym is.2) t.bounded;
@@ -706,8 +715,9 @@ module _ {selection : Selection} {last : Option VersionData} {S : Type 0} {can :
   )
   end_merged (Err fault) ends is = tt
 
+  -- Where the end of the file isn't written, the merge is refused.
   pub end_refused : (result : Result Counts Fault) → EndsFile output more sink now after result
-      → IfErr result (λ fault. ForSome can sources0
+      → IfErr result (λ fault. SomeInputsGive can sources0
       (λ first. (all : List VersionsToCome) → AllAscend all → AllStand all heads0 (map Some first) → IsRefusedAs selection all format number
       (change_of output before after) fault))
   end_refused (Ok done) ends = tt
@@ -719,17 +729,19 @@ module _ {selection : Selection} {last : Option VersionData} {S : Type 0} {can :
         (d.put_is ∙ sym (d.told.2 all up st).union_is) (ends format number d.so_far before d.has)),
   )
 
+  -- After the end of the file the earlier bytes are still held.
   pub end_kept : (result : Result Counts Fault) → EndsFile output more sink now after result → Grows (change_of output before after)
   end_kept (Ok done) ends = (spell_list format (d.so_far ++ more), (ends format number d.so_far before d.has).appended)
   end_kept (Err fault) ends =
       let cut = ends format number d.so_far before d.has in (take cut.count (spell_list format (d.so_far ++ more)), cut.appended)
 
 -- ---- the loop ends
--- how many versions are still to come behind a head, and the head
+-- the number of versions still to come after a head, and the head
 abbrev pub still_left : Option VersionData → ℕ → ℕ
 still_left None left = 0
 still_left (Some v) left = left + 1
 
+-- A bound on the turns that are left.
 abbrev pub work : List (Option VersionData) → List ℕ → ℕ
 work [] lefts = 0
 work (x ∷ heads) [] = 0
@@ -740,6 +752,7 @@ fewer_left : (v : VersionData) (given : Option VersionData) (left left2 : ℕ) �
 fewer_left v None left left2 h = omega arith
 fewer_left v (Some u) left left2 h = let e = h refl in omega (arith, e)
 
+-- Each turn leaves fewer turns.
 pub less_work : (heads : List (Option VersionData)) (lefts : List ℕ) (w : ℕ) (v : VersionData) (given : Option VersionData) (left2 : ℕ)
     → get_or heads w None ≡ Some v → w < length lefts → (IsSome given → left2 < get_or lefts w 0)
     → work (set heads w given) (set lefts w left2) < work heads lefts
@@ -752,7 +765,7 @@ less_work (x ∷ heads) (left ∷ lefts) zero v given left2 e low h =
 less_work (x ∷ heads) (left ∷ lefts) (suc w) v given left2 e low h =
     let a = less_work heads lefts w v given left2 e (omega arith) h in omega (arith, a)
 
--- ---- what the law of sources says of what they can give
+-- ---- the law of sources, for all that they can give
 pub give_ascend : {S : Type 0} (can : S → VersionsToCome → Type 0) → ((s : S) (c : VersionsToCome) → can s c → Ascends c)
     → (sources : List S) (all : List VersionsToCome) → AllGive can sources all → AllAscend all
 give_ascend can h [] [] g i = nothing_ascends version_cmp
@@ -761,12 +774,12 @@ give_ascend can h (s ∷ sources) [] g i = absurd g
 give_ascend can h (s ∷ sources) (c ∷ cs) g zero = h s c g.0
 give_ascend can h (s ∷ sources) (c ∷ cs) g (suc i) = give_ascend can h sources cs g.1 i
 
--- what holds of all that stood after each source was asked once holds of what they could give before
+-- a property of all rests after each source was asked once is one of the rests that they could give before
 pub from_first : {S : Type 0} (can : S → VersionsToCome → Type 0) → ((s : S) (c : VersionsToCome) → can s c → Ascends c)
     → (sources first asked : List S) (heads0 heads : List (Option VersionData)) (P : List VersionsToCome → Type 0) → first ≡ sources
     → heads ≡ heads0
-    → Explained (AllGive can first) (AllGive can asked) (λ all later. AllStand all heads0 (map Some later)) → ForStanding can asked heads P
-    → ForSome can sources P
+    → Explained (AllGive can first) (AllGive can asked) (λ all later. AllStand all heads0 (map Some later)) → SomePendingGive can asked heads P
+    → SomeInputsGive can sources P
 from_first can ascends sources first asked heads0 heads P same is stands h =
     let x = stands h.0 h.1 in
     let g = subst (λ (ss : List _). AllGive can ss x.0) same x.1 in (

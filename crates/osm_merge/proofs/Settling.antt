@@ -1,4 +1,4 @@
--- What was put once some versions were met, and one more.
+-- The versions put once some versions were met, and one more.
 use Rattle.std.proofs.Common.{◌≡◌, Bool, true, false, cond, List, [], ◌∷◌, ◌++◌, refl, sym, ap, ◌∙◌, subst, Option, Some, None}
 use Rattle.std.proofs.Common.{append_assoc}
 use Rattle.std.proofs.lemmas.List.{append-nil}
@@ -11,37 +11,37 @@ use Rattle.osm_merge.specs.declared.selection.Selection.{Selection}
 use Rattle.osm_merge.specs.declared.selection.Selection.TheVariants.{All, Visible, Newest, NewestVisible, State, StateVisible, Between}
 use Rattle.osm_model.specs.Order.{version_cmp}
 use Rattle.osm_merge.specs.Members.{first}
-use Rattle.osm_merge.specs.Pass.{keeps, only, kept, decided, settled, puts_at_once, put_of, leaves, put_at, put_at_end, puts, is_met}
+use Rattle.osm_merge.specs.Pass.{keeps, singleton_if, kept_versions, decided_versions, settled_versions, puts_at_once, put_of, pending_if_kept, put_at, put_at_end, versions_put, is_met}
 use Rattle.osm_merge.specs.Pass.{met_next}
 use Rattle.osm_merge.proofs.State.{Ends}
 use Rattle.osm_merge.proofs.AscendingLaws.{one_ascends, first_below, rest_ascends}
 use Rattle.osm_merge.proofs.PassLaws.{keep_all, kept_end, settled_next}
 
--- ---- what a pass gives ascends
+-- ---- the output of a pass ascends
 all_append : {K : Type 0} (P : K → Type 0) (xs ys : List K) → AllByRecursion P xs → AllByRecursion P ys → AllByRecursion P (xs ++ ys)
 all_append P [] ys h k = k
 all_append P (x ∷ xs) ys h k = (h.0, all_append P xs ys h.1 k)
 
-all_only : {K : Type 0} (P : K → Type 0) (b : Bool) (x : K) → P x → AllByRecursion P (only b x)
+all_only : {K : Type 0} (P : K → Type 0) (b : Bool) (x : K) → P x → AllByRecursion P (singleton_if b x)
 all_only P true x h = (h, tt)
 all_only P false x h = tt
 
 all_decided : {K : Type 0} (keeps : K → Option K → Bool) (P : K → Type 0) (x : K) (behind : Option K) → P x →
-    AllByRecursion P (decided keeps x behind)
+    AllByRecursion P (decided_versions keeps x behind)
 all_decided keeps P x None h = tt
 all_decided keeps P x (Some w) h = all_only P (keeps x (Some w)) x h
 
 all_settled : {K : Type 0} (keeps : K → Option K → Bool) (P : K → Type 0) (xs : List K) → AllByRecursion P xs →
-    AllByRecursion P (settled keeps xs)
+    AllByRecursion P (settled_versions keeps xs)
 all_settled keeps P [] h = tt
-all_settled keeps P (x ∷ xs) h = all_append P (decided keeps x (first xs)) (settled keeps xs) (all_decided keeps P x (first xs) h.0)
+all_settled keeps P (x ∷ xs) h = all_append P (decided_versions keeps x (first xs)) (settled_versions keeps xs) (all_decided keeps P x (first xs) h.0)
     (all_settled keeps P xs h.1)
 
 all_front : {K : Type 0} (P : K → Type 0) (front : List K) (l : K) → AllByRecursion P (front ++ l ∷ []) → P l
 all_front P [] l h = h.0
 all_front P (x ∷ front) l h = all_front P front l h.1
 
--- what ascends, and one below it
+-- an ascending list, and one version below it
 module _ {K : Type 0} (R : K → K → Ordering) where
   ascends_behind : (xs ys : List K) (x : K) → AllByRecursion (λ y. R x y ≡ Less) ys → IsStrictlySortedBy R ys →
       IsStrictlySortedBy R (x ∷ ys)
@@ -49,84 +49,86 @@ module _ {K : Type 0} (R : K → K → Ordering) where
   ascends_behind xs ys x h k = (h, k)
 
   decided_ascends : (keeps : K → Option K → Bool) (x : K) (behind : Option K) (ys : List K) → AllByRecursion (λ y. R x y ≡ Less) ys →
-      IsStrictlySortedBy R ys → IsStrictlySortedBy R (decided keeps x behind ++ ys)
+      IsStrictlySortedBy R ys → IsStrictlySortedBy R (decided_versions keeps x behind ++ ys)
   decided_ascends keeps x None ys h k = k
   decided_ascends keeps x (Some w) ys h k =
-      elim (keeps x (Some w)) as (λ b. IsStrictlySortedBy R (only b x ++ ys)) [
+      elim (keeps x (Some w)) as (λ b. IsStrictlySortedBy R (singleton_if b x ++ ys)) [
         | true ↦ ascends_behind ys ys x h k
         | false ↦ k
       ]
 
-  -- what is settled, and the one held back behind it
+  -- the settled versions, and the pending one after them
   pub settled_ascends : (keeps : K → Option K → Bool) (front : List K) (l : K) → IsStrictlySortedBy R (front ++ l ∷ []) →
-      IsStrictlySortedBy R (settled keeps (front ++ l ∷ []) ++ l ∷ [])
+      IsStrictlySortedBy R (settled_versions keeps (front ++ l ∷ []) ++ l ∷ [])
   settled_ascends keeps [] l h = one_ascends R l
   settled_ascends keeps (x ∷ front) l h =
       let below = first_below R x (front ++ l ∷ []) h in
-      subst (IsStrictlySortedBy R) (sym (append_assoc (decided keeps x (first (front ++ l ∷ []))) (settled keeps (front ++ l ∷ []))
+      subst (IsStrictlySortedBy R) (sym (append_assoc (decided_versions keeps x (first (front ++ l ∷ []))) (settled_versions keeps (front ++ l ∷ []))
       (l ∷ [])))
-      (decided_ascends keeps x (first (front ++ l ∷ [])) (settled keeps (front ++ l ∷ []) ++ l ∷ [])
-      (all_append (λ y. R x y ≡ Less) (settled keeps (front ++ l ∷ [])) (l ∷ [])
+      (decided_ascends keeps x (first (front ++ l ∷ [])) (settled_versions keeps (front ++ l ∷ []) ++ l ∷ [])
+      (all_append (λ y. R x y ≡ Less) (settled_versions keeps (front ++ l ∷ [])) (l ∷ [])
       (all_settled keeps (λ y. R x y ≡ Less) (front ++ l ∷ []) below) (all_front (λ y. R x y ≡ Less) front l below, tt))
       (settled_ascends keeps front l (rest_ascends R x (front ++ l ∷ []) h)))
 
 -- ---- a turn
--- each of these ascends behind those
+-- each of these ascends after those
 abbrev pub AscendBehind : List VersionData → List VersionData → Type 0
 AscendBehind put versions = AllByRecursion (λ v. IsStrictlySortedBy version_cmp (put ++ v ∷ [])) versions
 
 held_may_follow : (selection : Selection) (held behind : Option VersionData) (met : List VersionData) → Ends held met →
-    IsStrictlySortedBy version_cmp met → AscendBehind (settled (keeps selection) met) (leaves selection held behind)
+    IsStrictlySortedBy version_cmp met → AscendBehind (settled_versions (keeps selection) met) (pending_if_kept selection held behind)
 held_may_follow selection None behind met e h = tt
 held_may_follow selection (Some l) behind met e h =
-    all_only (λ v. IsStrictlySortedBy version_cmp (settled (keeps selection) met ++ v ∷ [])) (keeps selection l behind) l
-    (subst (λ t. IsStrictlySortedBy version_cmp (settled (keeps selection) t ++ l ∷ [])) (sym e.1)
+    all_only (λ v. IsStrictlySortedBy version_cmp (settled_versions (keeps selection) met ++ v ∷ [])) (keeps selection l behind) l
+    (subst (λ t. IsStrictlySortedBy version_cmp (settled_versions (keeps selection) t ++ l ∷ [])) (sym e.1)
     (settled_ascends version_cmp (keeps selection) (e.0) l (subst (IsStrictlySortedBy version_cmp) e.1 h)))
 
+-- What is put when a version is met may follow what was put before.
 pub may_put : (selection : Selection) (held : Option VersionData) (v : VersionData) (met : List VersionData) → Ends held met →
     IsStrictlySortedBy version_cmp met → IsStrictlySortedBy version_cmp (met ++ v ∷ []) →
     AscendBehind (put_of selection met) (put_at selection held v)
 may_put selection held v met e h up =
-    elim (puts_at_once selection) as (λ b. AscendBehind (cond b met (settled (keeps selection) met))
-    (cond b (v ∷ []) (leaves selection held (Some v)))) [
+    elim (puts_at_once selection) as (λ b. AscendBehind (cond b met (settled_versions (keeps selection) met))
+    (cond b (v ∷ []) (pending_if_kept selection held (Some v)))) [
       | true ↦ (up, tt)
       | false ↦ held_may_follow selection held (Some v) met e h
     ]
 
+-- What is put at the end may follow what was put before.
 pub may_end : (selection : Selection) (held : Option VersionData) (met : List VersionData) → Ends held met →
     IsStrictlySortedBy version_cmp met → AscendBehind (put_of selection met) (put_at_end selection held)
 may_end selection held met e h =
-    elim (puts_at_once selection) as (λ b. AscendBehind (cond b met (settled (keeps selection) met))
-    (cond b [] (leaves selection held None))) [
+    elim (puts_at_once selection) as (λ b. AscendBehind (cond b met (settled_versions (keeps selection) met))
+    (cond b [] (pending_if_kept selection held None))) [
       | true ↦ tt
       | false ↦ held_may_follow selection held None met e h
     ]
 
 settled_more : (selection : Selection) (held : Option VersionData) (v : VersionData) (met : List VersionData) → Ends held met →
-    settled (keeps selection) met ++ leaves selection held (Some v) ≡ settled (keeps selection) (met ++ v ∷ [])
-settled_more selection None v met e = subst (λ t. settled (keeps selection) t ++ [] ≡ settled (keeps selection) (t ++ v ∷ [])) (sym e) refl
-settled_more selection (Some l) v met e = subst (λ t. settled (keeps selection) t ++ only (keeps selection l (Some v)) l
-    ≡ settled (keeps selection) (t ++ v ∷ [])) (sym e.1) (sym (settled_next (keeps selection) (e.0) l v))
+    settled_versions (keeps selection) met ++ pending_if_kept selection held (Some v) ≡ settled_versions (keeps selection) (met ++ v ∷ [])
+settled_more selection None v met e = subst (λ t. settled_versions (keeps selection) t ++ [] ≡ settled_versions (keeps selection) (t ++ v ∷ [])) (sym e) refl
+settled_more selection (Some l) v met e = subst (λ t. settled_versions (keeps selection) t ++ singleton_if (keeps selection l (Some v)) l
+    ≡ settled_versions (keeps selection) (t ++ v ∷ [])) (sym e.1) (sym (settled_next (keeps selection) (e.0) l v))
 
--- what was put then is what is put of one more
+-- the versions put then are those put for one more
 pub put_more : (selection : Selection) (held : Option VersionData) (v : VersionData) (met : List VersionData) → Ends held met →
     put_of selection met ++ put_at selection held v ≡ put_of selection (met ++ v ∷ [])
 put_more selection held v met e =
-    elim (puts_at_once selection) as (λ b. cond b met (settled (keeps selection) met) ++ cond b (v ∷ []) (leaves selection held (Some v))
-    ≡ cond b (met ++ v ∷ []) (settled (keeps selection) (met ++ v ∷ []))) [
+    elim (puts_at_once selection) as (λ b. cond b met (settled_versions (keeps selection) met) ++ cond b (v ∷ []) (pending_if_kept selection held (Some v))
+    ≡ cond b (met ++ v ∷ []) (settled_versions (keeps selection) (met ++ v ∷ []))) [
       | true ↦ refl
       | false ↦ settled_more selection held v met e
     ]
 
 settled_all : (selection : Selection) (held : Option VersionData) (met : List VersionData) → Ends held met →
-    settled (keeps selection) met ++ leaves selection held None ≡ kept (keeps selection) met
-settled_all selection None met e = subst (λ t. settled (keeps selection) t ++ [] ≡ kept (keeps selection) t) (sym e) refl
-settled_all selection (Some l) met e = subst (λ t. settled (keeps selection) t ++ only (keeps selection l None) l
-    ≡ kept (keeps selection) t) (sym e.1) (sym (kept_end (keeps selection) (e.0) l))
+    settled_versions (keeps selection) met ++ pending_if_kept selection held None ≡ kept_versions (keeps selection) met
+settled_all selection None met e = subst (λ t. settled_versions (keeps selection) t ++ [] ≡ kept_versions (keeps selection) t) (sym e) refl
+settled_all selection (Some l) met e = subst (λ t. settled_versions (keeps selection) t ++ singleton_if (keeps selection l None) l
+    ≡ kept_versions (keeps selection) t) (sym e.1) (sym (kept_end (keeps selection) (e.0) l))
 
--- at the end it is what the pass keeps
+-- at the end they are those that the pass keeps
 pub put_all : (selection : Selection) (held : Option VersionData) (met : List VersionData) → Ends held met →
-    put_of selection met ++ put_at_end selection held ≡ kept (keeps selection) met
+    put_of selection met ++ put_at_end selection held ≡ kept_versions (keeps selection) met
 put_all All held met e = append-nil met ∙ sym (keep_all met)
 put_all Visible held met e = settled_all Visible held met e
 put_all Newest held met e = settled_all Newest held met e
@@ -135,15 +137,16 @@ put_all (State t) held met e = settled_all (State t) held met e
 put_all (StateVisible t) held met e = settled_all (StateVisible t) held met e
 put_all (Between from to) held met e = settled_all (Between from to) held met e
 
+-- Nothing is put before a version is met.
 pub put_nothing : (selection : Selection) → put_of selection [] ≡ []
-put_nothing selection = elim (puts_at_once selection) as (λ b. cond b [] (settled (keeps selection) []) ≡ []) [
+put_nothing selection = elim (puts_at_once selection) as (λ b. cond b [] (settled_versions (keeps selection) []) ≡ []) [
   | true ↦ refl
   | false ↦ refl
 ]
 
--- what was put once a version was met
+-- the versions put once a version was met
 pub put_next : (selection : Selection) (held : Option VersionData) (v : VersionData) (met : List VersionData) → Ends held met →
-    put_of selection met ++ puts selection held v ≡ put_of selection (met_next selection held v met)
+    put_of selection met ++ versions_put selection held v ≡ put_of selection (met_next selection held v met)
 put_next selection held v met e =
     elim (is_met selection held v) as (λ b. put_of selection met ++ cond b (put_at selection held v) []
     ≡ put_of selection (cond b (met ++ v ∷ []) met)) [
@@ -152,19 +155,19 @@ put_next selection held v met e =
     ]
 
 settled_front : {K : Type 0} (keeps : K → Option K → Bool) (xs more : List K) →
-    (behind : List K) × (kept keeps (xs ++ more) ≡ settled keeps xs ++ behind)
-settled_front keeps [] more = (kept keeps more, refl)
-settled_front keeps (x ∷ []) more = (kept keeps (x ∷ more), refl)
+    (behind : List K) × (kept_versions keeps (xs ++ more) ≡ settled_versions keeps xs ++ behind)
+settled_front keeps [] more = (kept_versions keeps more, refl)
+settled_front keeps (x ∷ []) more = (kept_versions keeps (x ∷ more), refl)
 settled_front keeps (x ∷ y ∷ ys) more =
     let part = settled_front keeps (y ∷ ys) more in (
       part.0,
-      ap (λ t. only (keeps x (Some y)) x ++ t) part.1
-          ∙ sym (append_assoc (only (keeps x (Some y)) x) (settled keeps (y ∷ ys)) (part.0)),
+      ap (λ t. singleton_if (keeps x (Some y)) x ++ t) part.1
+          ∙ sym (append_assoc (singleton_if (keeps x (Some y)) x) (settled_versions keeps (y ∷ ys)) (part.0)),
     )
 
--- what was put of the front of a list is a front of what the pass keeps
+-- the versions put for the front of a list are a front of those that the pass keeps
 pub put_front : (selection : Selection) (xs more : List VersionData) →
-    (behind : List VersionData) × (kept (keeps selection) (xs ++ more) ≡ put_of selection xs ++ behind)
+    (behind : List VersionData) × (kept_versions (keeps selection) (xs ++ more) ≡ put_of selection xs ++ behind)
 put_front All xs more = (more, keep_all (xs ++ more))
 put_front Visible xs more = settled_front (keeps Visible) xs more
 put_front Newest xs more = settled_front (keeps Newest) xs more
@@ -174,36 +177,37 @@ put_front (StateVisible t) xs more = settled_front (keeps (StateVisible t)) xs m
 put_front (Between from to) xs more = settled_front (keeps (Between from to)) xs more
 
 settled_strict : (keeps : VersionData → Option VersionData → Bool) (xs : List VersionData) → IsStrictlySortedBy version_cmp xs →
-    IsStrictlySortedBy version_cmp (settled keeps xs)
+    IsStrictlySortedBy version_cmp (settled_versions keeps xs)
 settled_strict keeps [] h = h
 settled_strict keeps (x ∷ xs) h =
-    decided_ascends version_cmp keeps x (first xs) (settled keeps xs)
+    decided_ascends version_cmp keeps x (first xs) (settled_versions keeps xs)
     (all_settled keeps (λ y. version_cmp x y ≡ Less) xs (first_below version_cmp x xs h))
     (settled_strict keeps xs (rest_ascends version_cmp x xs h))
 
--- what was put ascends, and so does all that the pass keeps
+-- the versions put ascend, and so do all that the pass keeps
 pub put_ascends : (selection : Selection) (met : List VersionData) → IsStrictlySortedBy version_cmp met →
     IsStrictlySortedBy version_cmp (put_of selection met)
 put_ascends selection met h =
-    elim (puts_at_once selection) as (λ b. IsStrictlySortedBy version_cmp (cond b met (settled (keeps selection) met))) [
+    elim (puts_at_once selection) as (λ b. IsStrictlySortedBy version_cmp (cond b met (settled_versions (keeps selection) met))) [
       | true ↦ h
       | false ↦ settled_strict (keeps selection) met h
     ]
 
 all_kept : {K : Type 0} (keeps : K → Option K → Bool) (P : K → Type 0) (xs : List K) → AllByRecursion P xs →
-    AllByRecursion P (kept keeps xs)
+    AllByRecursion P (kept_versions keeps xs)
 all_kept keeps P [] h = tt
-all_kept keeps P (x ∷ xs) h = all_append P (only (keeps x (first xs)) x) (kept keeps xs) (all_only P (keeps x (first xs)) x h.0)
+all_kept keeps P (x ∷ xs) h = all_append P (singleton_if (keeps x (first xs)) x) (kept_versions keeps xs) (all_only P (keeps x (first xs)) x h.0)
     (all_kept keeps P xs h.1)
 
 only_ascends : (b : Bool) (x : VersionData) (ys : List VersionData) → AllByRecursion (λ y. version_cmp x y ≡ Less) ys →
-    IsStrictlySortedBy version_cmp ys → IsStrictlySortedBy version_cmp (only b x ++ ys)
+    IsStrictlySortedBy version_cmp ys → IsStrictlySortedBy version_cmp (singleton_if b x ++ ys)
 only_ascends true x ys h k = ascends_behind version_cmp ys ys x h k
 only_ascends false x ys h k = k
 
+-- The versions that are kept of a strictly ascending list ascend strictly.
 pub kept_ascends : (keeps : VersionData → Option VersionData → Bool) (xs : List VersionData) → IsStrictlySortedBy version_cmp xs →
-    IsStrictlySortedBy version_cmp (kept keeps xs)
+    IsStrictlySortedBy version_cmp (kept_versions keeps xs)
 kept_ascends keeps [] h = h
 kept_ascends keeps (x ∷ xs) h =
-    only_ascends (keeps x (first xs)) x (kept keeps xs) (all_kept keeps (λ y. version_cmp x y ≡ Less) xs (first_below version_cmp x xs h))
+    only_ascends (keeps x (first xs)) x (kept_versions keeps xs) (all_kept keeps (λ y. version_cmp x y ≡ Less) xs (first_below version_cmp x xs h))
     (kept_ascends keeps xs (rest_ascends version_cmp x xs h))

@@ -1,21 +1,22 @@
--- Slices: a set's list is cut at its bounds, and what is selected of an object is decided by its versions alone.
+-- Slices: a set's list is cut at its bounds, and only an object's versions decide its selection.
 use Rattle.std.proofs.Common.{◌≡◌, ℕ, suc, ◌+◌, Bool, true, false, not, ◌&&◌, cond, List, [], ◌∷◌, ◌++◌, map, refl, sym, ap, ◌∙◌, arith}
-use Rattle.std.proofs.Common.{Option, Some, None, option_map, is_none, append-nil}
+use Rattle.std.proofs.Common.{Option, Some, None, option_map, is_none, append-nil, ◌<◌, zero, get_or, length}
 use Rattle.std.proofs.lemmas.Bool.{false≢true}
 use Rattle.std.specs.declared.cmp.Ordering.{Ordering}
 use Rattle.std.specs.declared.cmp.Ordering.TheVariants.{Less, Equal, Greater}
 use Rattle.std.specs.Ordering.{is_lt, is_gt, ordering_reverse}
 use Rattle.std.specs.Cmp.{IsTotalOrder, Equal-is, upto, first_so, then_total, on_total, nat_cmp_total, bool_cmp_total}
 use Rattle.std.specs.Prelude.{unsigned_abs}
+use Rattle.std.specs.List as list
 use Rattle.std.specs.List.{filter, flat_map, concat, AllByRecursion}
 use Rattle.std.specs.List.Sorted.{IsStrictlySortedBy, IsSorted}
-use Rattle.std.proofs.lemmas.List.Elements.{filter_agree}
+use Rattle.std.proofs.lemmas.List.Elements.{filter_agree, All-head, All-tail}
 use Rattle.std.proofs.lemmas.Grind.{flat_map-append}
 use Rattle.osm_model.specs.Data.{VersionData}
 use Rattle.osm_model.specs.Kind.{kind_rank}
 use Rattle.osm_model.specs.Order.{is_positive, version_cmp, version_cmp_total, object_cmp}
 use Rattle.osm_model.specs.VersionSet.{VersionSet}
-use Rattle.osm_model.specs.Sets.{listed, contains}
+use Rattle.osm_model.specs.Sets.{to_list, contains}
 use Rattle.osm_model.proofs.SetLaws.{same_set, strict-listed}
 use Rattle.osm_model.proofs.VersionLaws.{version_cmp-IsAntisymmetric}
 use Rattle.osm_files.specs.declared.format.Format.TheVariants.{Opl}
@@ -27,9 +28,9 @@ use Rattle.osm_merge.specs.declared.selection.Selection.{Selection}
 use Rattle.osm_merge.specs.declared.selection.Selection.TheVariants.{All, Visible, Newest, NewestVisible, State, StateVisible, Between}
 use Rattle.osm_merge.specs.Members.{retain, least, union_all}
 use Rattle.osm_merge.specs.Pass.{stays, same_object}
-use Rattle.osm_merge.specs.Selected.{moment, is_visible, beats, snapshot, is_by, next_in, selected}
-use Rattle.osm_merge.specs.Slice.{object_of, object_order, reaches, is_under, is_within, slice_of, spans_from, spans}
-use Rattle.osm_merge.specs.SliceLaws.{LinesOfSlices, SelectedOfSlice, SliceOfUnions, SlicesWriteTheWhole}
+use Rattle.osm_merge.specs.Selected.{moment, is_visible, beats, snapshot, is_by, next_in, selection_of}
+use Rattle.osm_merge.specs.Slice.{object_of, object_order, reaches, is_under, is_within, is_ascending, slice_of, span_of, spans_from, spans}
+use Rattle.osm_merge.specs.SliceLaws.{LinesOfSlices, SelectedOfSlice, SliceOfUnions, SlicesWriteTheWhole, AscendingSpansAreSorted}
 use Rattle.osm_merge.proofs.ObjectLaws.{object_rises}
 use Rattle.osm_merge.proofs.PassLaws.{filter_filter, filter_none}
 use Rattle.osm_merge.proofs.SelectedLaws.{listed_with, none_next}
@@ -54,11 +55,11 @@ not_true false h = refl
 pub below_is : (x y : Object) → is_lt (object_order x y) ≡ is_gt (object_order y x)
 below_is x y = ap is_lt (order_total.antisymm x y) ∙ lt_back (object_order y x)
 
--- what isn't below a bound isn't below a lower one
+-- an object that isn't below a bound isn't below a lower one
 pub not_below : (x y z : Object) → is_lt (object_order x y) ≡ false → is_lt (object_order y z) ≡ false → is_lt (object_order x z) ≡ false
 not_below x y z h k = below_is x z ∙ upto order_total z y x (sym (below_is y z) ∙ k) (sym (below_is x y) ∙ h)
 
--- what is below a version that is under a bound is, too
+-- a version that is less than one under a bound is under it, too
 pub under_down : (bound : Object) (v w : VersionData) → version_cmp v w ≡ Less → is_under (Some bound) w ≡ true →
     is_under (Some bound) v ≡ true
 under_down bound v w less h =
@@ -68,7 +69,7 @@ under_down bound v w less h =
           (below_is (object_of w) (object_of v) ∙ object_rises v w less) e) ∙ h))
     ] refl
 
--- ---- an ascending list is cut where a test ends
+-- ---- an ascending list is cut at the end of a test
 module _ {K : Type 0} (R : K → K → Ordering) (p : K → Bool) (down : (x y : K) → R x y ≡ Less → p y ≡ true → p x ≡ true) where
   pub none_behind : (x : K) (ys : List K) → p x ≡ false → AllByRecursion (λ y. R x y ≡ Less) ys → AllByRecursion (λ y. p y ≡ false) ys
   none_behind x [] e h = tt
@@ -93,7 +94,7 @@ module _ {K : Type 0} (R : K → K → Ordering) (p : K → Bool) (down : (x y :
       ] refl
 
 -- ---- the slices' lists
--- a bound isn't below this one, where there is one
+-- a bound isn't below this one, if there is one
 abbrev pub IsAtMost : Option Object → Object → Type 0
 IsAtMost None bound = Unit {0}
 IsAtMost (Some from) bound = is_lt (object_order bound from) ≡ false
@@ -107,26 +108,27 @@ behind_bound true n h = sym (and_true n)
 behind_bound false true h = absurd (false≢true (h refl))
 behind_bound false false h = refl
 
+-- A version that reaches a bound reaches each lower one.
 pub reaches_lower : (from : Option Object) (bound : Object) → IsAtMost from bound → (v : VersionData) →
     not (is_under (Some bound) v) ≡ true → reaches from v ≡ true
 reaches_lower None bound low v h = refl
 reaches_lower (Some from) bound low v h = ap not (not_below (object_of v) bound from (not_true _ h) low)
 
 cut_slice : (from : Option Object) (bound : Object) (s : VersionSet) → IsAtMost from bound →
-    listed (slice_of from None s) ≡ listed (slice_of from (Some bound) s) ++ listed (slice_of (Some bound) None s)
+    to_list (slice_of from None s) ≡ to_list (slice_of from (Some bound) s) ++ to_list (slice_of (Some bound) None s)
 cut_slice from bound s low =
     let under : VersionData → Bool = is_under (Some bound) in
     let over : VersionData → Bool = λ v. not (is_under (Some bound) v) in
-    let whole : List VersionData = listed (slice_of from None s) in
-    let front : filter under whole ≡ listed (slice_of from (Some bound) s) =
-    ap (filter under) (listed_with s (is_within from None)) ∙ filter_filter (is_within from None) under (listed s)
+    let whole : List VersionData = to_list (slice_of from None s) in
+    let front : filter under whole ≡ to_list (slice_of from (Some bound) s) =
+    ap (filter under) (listed_with s (is_within from None)) ∙ filter_filter (is_within from None) under (to_list s)
     ∙ filter_agree (λ v. is_within from None v && under v) (is_within from (Some bound))
-    (λ v. ap (λ b. b && under v) (and_true (reaches from v))) (listed s)
+    (λ v. ap (λ b. b && under v) (and_true (reaches from v))) (to_list s)
     ∙ sym (listed_with s (is_within from (Some bound))) in
-    let back : filter over whole ≡ listed (slice_of (Some bound) None s) =
-    ap (filter over) (listed_with s (is_within from None)) ∙ filter_filter (is_within from None) over (listed s)
+    let back : filter over whole ≡ to_list (slice_of (Some bound) None s) =
+    ap (filter over) (listed_with s (is_within from None)) ∙ filter_filter (is_within from None) over (to_list s)
     ∙ filter_agree (λ v. is_within from None v && over v) (is_within (Some bound) None)
-    (λ v. behind_bound (reaches from v) (over v) (reaches_lower from bound low v)) (listed s)
+    (λ v. behind_bound (reaches from v) (over v) (reaches_lower from bound low v)) (to_list s)
     ∙ sym (listed_with s (is_within (Some bound) None)) in
     cut_at version_cmp under (under_down bound) whole (strict-listed (slice_of from None s)) ∙ (λ i. front i ++ back i)
 
@@ -135,14 +137,15 @@ abbrev pub Rise : Option Object → List Object → Type 0
 Rise from [] = Unit {0}
 Rise from (bound ∷ bounds) = IsAtMost from bound × Rise (Some bound) bounds
 
+-- The slices of a set from a bound on.
 abbrev pub slices_from : Option Object → List Object → VersionSet → List VersionSet
 slices_from from bounds s = map (λ span. slice_of span.from span.to s) (spans_from from bounds)
 
 cut_slices : (from : Option Object) (bounds : List Object) (s : VersionSet) → Rise from bounds →
-    listed (slice_of from None s) ≡ flat_map listed (slices_from from bounds s)
-cut_slices from [] s h = sym (append-nil (listed (slice_of from None s)))
+    to_list (slice_of from None s) ≡ flat_map to_list (slices_from from bounds s)
+cut_slices from [] s h = sym (append-nil (to_list (slice_of from None s)))
 cut_slices from (bound ∷ bounds) s h = cut_slice from bound s h.0
-    ∙ ap (λ t. listed (slice_of from (Some bound) s) ++ t) (cut_slices (Some bound) bounds s h.1)
+    ∙ ap (λ t. to_list (slice_of from (Some bound) s) ++ t) (cut_slices (Some bound) bounds s h.1)
 
 rise_from : (from : Option Object) (bound : Object) (bounds : List Object) → IsAtMost from bound → IsSorted object_order (bound ∷ bounds) →
     Rise from (bound ∷ bounds)
@@ -153,9 +156,34 @@ rise_from from bound (next ∷ bounds) low h = (
       (λ k d first within. let e : suc k + 1 ≡ suc (k + 1) = omega arith in rw e at (h (suc k) d (omega arith) (omega arith))),
 )
 
+-- Bounds that are sorted rise from no bound on.
 pub rise : (bounds : List Object) → IsSorted object_order bounds → Rise None bounds
 rise [] h = tt
 rise (bound ∷ bounds) h = rise_from None bound bounds tt h
+
+bound_at : (from : Option Object) (bounds : List Object) → Rise from bounds → (k : ℕ) (d : Object) → k + 1 < length bounds →
+    is_lt (object_order (get_or bounds (k + 1) d) (get_or bounds k d)) ≡ false
+bound_at from [] h k d within = absurd (omega (arith, within))
+bound_at from (bound ∷ []) h k d within = absurd (omega (arith, within))
+bound_at from (bound ∷ next ∷ bounds) h zero d within = h.1.0
+bound_at from (bound ∷ next ∷ bounds) h (suc k) d within = let e : suc k + 1 ≡ suc (k + 1) = omega arith in
+    rw e (bound_at (Some bound) (next ∷ bounds) h.1 k d (omega (arith, within)))
+
+spans_rise : (from : Option Object) (bounds : List Object) → list.All (λ span. is_ascending span ≡ true) (spans_from from bounds) →
+    Rise from bounds
+spans_rise from [] h = tt
+spans_rise None (bound ∷ bounds) h = (
+  tt,
+  spans_rise (Some bound) bounds (All-tail (λ span. is_ascending span ≡ true) (span_of None (Some bound)) (spans_from (Some bound) bounds) h),
+)
+spans_rise (Some from) (bound ∷ bounds) h = (
+  not_true _ (All-head (λ span. is_ascending span ≡ true) (span_of (Some from) (Some bound)) (spans_from (Some bound) bounds) h),
+  spans_rise (Some bound) bounds
+      (All-tail (λ span. is_ascending span ≡ true) (span_of (Some from) (Some bound)) (spans_from (Some bound) bounds) h),
+)
+
+pub ascending_spans_are_sorted : AscendingSpansAreSorted
+ascending_spans_are_sorted bounds h = λ k d from within. bound_at None bounds (spans_rise None bounds h) k d within
 
 whole_slice : (s : VersionSet) → slice_of None None s ≡ s
 whole_slice s =
@@ -163,12 +191,13 @@ whole_slice s =
     contains-retain version_cmp_total version_cmp-IsAntisymmetric s (is_within None None) q ∙ and_true (contains s q))
 
 -- ---- lines
-lines_of_all : (sets : List VersionSet) → lines (flat_map listed sets) ≡ concat (map (spell Opl) sets)
+lines_of_all : (sets : List VersionSet) → lines (flat_map to_list sets) ≡ concat (map (spell Opl) sets)
 lines_of_all [] = refl
 lines_of_all (s ∷ sets) =
-    flat_map-append line_with_end (listed s) (flat_map listed sets)
+    flat_map-append line_with_end (to_list s) (flat_map to_list sets)
     ∙ (λ i. sym (spell_is_lines s) i ++ lines_of_all sets i)
 
+-- The OPL file of a set is the OPL files of its slices in sequence.
 pub lines_of_slices : LinesOfSlices
 lines_of_slices bounds s h =
     ap (spell Opl) (sym (whole_slice s)) ∙ spell_is_lines (slice_of None None s) ∙ ap lines (cut_slices None bounds s (rise bounds h))
@@ -191,9 +220,11 @@ under_same (Some to) v w e = ap is_lt (order_same v w to e)
 within_same : (from to : Option Object) (v w : VersionData) → same_object v w ≡ true → is_within from to v ≡ is_within from to w
 within_same from to v w e = λ i. reaches_same from v w e i && under_same to v w e i
 
+-- Two sets with the same members are equal.
 pub equal : (s t : VersionSet) → ((q : VersionData) → contains s q ≡ contains t q) → s ≡ t
 equal = same_set version_cmp_total version_cmp-IsAntisymmetric
 
+-- A set that is filtered contains what the set contains and what passes.
 pub kept_in : (s : VersionSet) (p : VersionData → Bool) (q : VersionData) → contains (retain s p) q ≡ (contains s q && p q)
 kept_in = contains-retain version_cmp_total version_cmp-IsAntisymmetric
 
@@ -224,9 +255,9 @@ retain_turn s p q =
     kept_in (retain s p) q v ∙ ap (λ b. b && q v) (kept_in s p v) ∙ and_turn (contains s v) (p v) (q v)
     ∙ sym (kept_in (retain s q) p v ∙ ap (λ b. b && p v) (kept_in s q v)))
 
--- a test that says the same of all versions of an object
+-- a test with the same result for all versions of an object
 module _ (p : VersionData → Bool) (objects : (v w : VersionData) → same_object v w ≡ true → p v ≡ p w) where
-  -- the next version of an object is left, where it is
+  -- the next version of an object is unchanged, if it is selected
   next_left : (s : VersionSet) (v : VersionData) → p v ≡ true → next_in (retain s p) v ≡ next_in s v
   next_left s v e =
       ap least (equal (retain (retain s p) (beats v)) (retain s (beats v)) (λ q.
@@ -234,7 +265,7 @@ module _ (p : VersionData → Bool) (objects : (v w : VersionData) → same_obje
       ∙ and_next (contains s q) (beats v q) (p q) (λ over. sym (objects v q (first_so _ _ over)) ∙ e)
       ∙ sym (kept_in s (beats v) q)))
 
-  -- what is kept by the next version of its object
+  -- a version kept by the next version of its object
   by_next : (keep : VersionData → Option VersionData → Bool) (s : VersionSet) →
       retain (retain s p) (λ v. keep v (next_in (retain s p) v)) ≡ retain (retain s (λ v. keep v (next_in s v))) p
   by_next keep s =
@@ -253,7 +284,7 @@ module _ (p : VersionData → Bool) (objects : (v w : VersionData) → same_obje
   state_left : (s : VersionSet) (t : ℕ) → snapshot (retain (retain s p) (is_by t)) ≡ retain (snapshot (retain s (is_by t))) p
   state_left s t = ap snapshot (retain_turn s p (is_by t)) ∙ snapshot_left (retain s (is_by t))
 
-  pub selected_left : (selection : Selection) (s : VersionSet) → selected selection (retain s p) ≡ retain (selected selection s) p
+  pub selected_left : (selection : Selection) (s : VersionSet) → selection_of selection (retain s p) ≡ retain (selection_of selection s) p
   selected_left All s = refl
   selected_left Visible s = retain_turn s p is_visible
   selected_left Newest s = snapshot_left s
@@ -263,6 +294,7 @@ module _ (p : VersionData → Bool) (objects : (v w : VersionData) → same_obje
       ∙ retain_turn (snapshot (retain s (is_by t))) p is_visible
   selected_left (Between from to) s = by_next (λ v next. stays (Between from to) v (option_map moment next)) s
 
+-- A slice of what is selected is what is selected of the slice.
 pub selected_of_slice : SelectedOfSlice
 selected_of_slice selection from to s = selected_left (is_within from to) (within_same from to) selection s
 
@@ -272,16 +304,17 @@ slice_of_unions from to sets = retain_all (is_within from to) sets
 
 -- ---- span by span
 module _ (selection : Selection) (sets : List VersionSet) where
-  one_span : (from to : Option Object) → slice_of from to (selected selection (union_all sets))
-      ≡ selected selection (union_all (map (slice_of from to) sets))
-  one_span from to = sym (selected_of_slice selection from to (union_all sets)) ∙ ap (selected selection) (slice_of_unions from to sets)
+  one_span : (from to : Option Object) → slice_of from to (selection_of selection (union_all sets))
+      ≡ selection_of selection (union_all (map (slice_of from to) sets))
+  one_span from to = sym (selected_of_slice selection from to (union_all sets)) ∙ ap (selection_of selection) (slice_of_unions from to sets)
 
   each_span : (spans : List Span)
-      → concat (map (spell Opl) (map (λ span. slice_of span.from span.to (selected selection (union_all sets))) spans))
-      ≡ concat (map (λ span. spell Opl (selected selection (union_all (map (slice_of span.from span.to) sets)))) spans)
+      → concat (map (spell Opl) (map (λ span. slice_of span.from span.to (selection_of selection (union_all sets))) spans))
+      ≡ concat (map (λ span. spell Opl (selection_of selection (union_all (map (slice_of span.from span.to) sets)))) spans)
   each_span [] = refl
   each_span (span ∷ spans) = λ i. spell Opl (one_span span.from span.to i) ++ each_span spans i
 
+-- The files of what is selected of the slices, in sequence, are the file of what is selected of the whole.
 pub slices_write_the_whole : SlicesWriteTheWhole
-slices_write_the_whole selection bounds sets rise = lines_of_slices bounds (selected selection (union_all sets)) rise
+slices_write_the_whole selection bounds sets rise = lines_of_slices bounds (selection_of selection (union_all sets)) rise
     ∙ each_span selection sets (spans bounds)

@@ -1,4 +1,4 @@
--- What a merge has done, and what is still to do.
+-- The finished and the remaining work of a merge.
 use Rattle.std.proofs.Common.{◌≡◌, ℕ, ◌+◌, true, false, ◌||◌, ◌&&◌, IfSome, List, [], ◌∷◌, ◌++◌, length, Option, Some, None}
 use Rattle.std.specs.List.{AllByRecursion}
 use Rattle.std.specs.List.Sorted.{IsStrictlySortedBy}
@@ -11,7 +11,7 @@ use Rattle.osm_merge.specs.ToCome.{VersionsToCome, coming_at}
 use Rattle.osm_merge.specs.Union.{versions_of}
 use Rattle.osm_merge.proofs.AscendingLaws.{among}
 
--- what was met ends with the version held back, where there is one
+-- the versions met end with the pending one, if there is one
 abbrev pub Ends : Option VersionData → List VersionData → Type 0
 Ends None met = met ≡ []
 Ends (Some held) met = (front : List VersionData) × (met ≡ front ++ held ∷ [])
@@ -21,14 +21,14 @@ abbrev pub Floor : Option VersionData → List VersionData → Type 0
 Floor None versions = Unit {0}
 Floor (Some low) versions = AllByRecursion (λ v. is_gt (version_cmp low v) ≡ false) versions
 
--- the version held back is not greater than the one taken last
+-- the pending version is not greater than the one taken last
 abbrev pub IsUnder : Option VersionData → Option VersionData → Type 0
 IsUnder None top = Unit {0}
 IsUnder (Some held) None = ⊥
 IsUnder (Some held) (Some top) = is_gt (version_cmp held top) ≡ false
 
--- Of what the sources gave at first, so many versions were taken, the greatest one last; those that pass were met, each once,
--- and the last of them is held back; `states` is still to come, the heads included.
+-- Of the versions that the sources gave at first, `taken` were taken, the greatest one last; those that pass were met,
+-- each once, and the last of them is pending; `states` is still to come, including the heads.
 pub record IsMerging (selection : Selection) (all states : List VersionsToCome) (met : List VersionData) (held top : Option VersionData)
     (taken : ℕ) : Type 0 where
   pub size : length states ≡ length all

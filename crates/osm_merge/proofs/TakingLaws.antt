@@ -1,4 +1,5 @@
--- Two lists that ascend by an order, joined: what stands before a version moves as a whole, and by versions it is their merge.
+-- Two lists that ascend by an order, joined: the versions before one move as a whole, and by versions it is their
+-- merge.
 use Rattle.std.proofs.Common.{◌≡◌, ℕ, zero, suc, ◌+◌, ◌<◌, ◌≤◌, true, false, List, [], ◌∷◌, ◌++◌, length, take, drop, get_or, refl, sym, ap}
 use Rattle.std.proofs.Common.{◌∙◌, arith, cond, inl, inr, append_assoc, length-append, length-drop, ◌-◌}
 use Rattle.std.proofs.lemmas.Bool.{false≢true, cases_lt}
@@ -12,17 +13,18 @@ use Rattle.std.specs.List.{AllByRecursion, AllWithin}
 use Rattle.std.specs.List.Sorted.{IsStrictlySortedBy}
 use Rattle.osm_model.specs.Data.{VersionData}
 use Rattle.osm_model.specs.Order.{version_cmp, version_cmp_total, object_cmp_total}
-use Rattle.osm_model.specs.Merged.{merged, merged_from}
+use Rattle.osm_model.specs.Merged.{merge, merge_from}
 use Rattle.osm_merge.specs.declared.taking.OrderBy.{OrderBy}
 use Rattle.osm_merge.specs.declared.taking.OrderBy.TheVariants.{Versions, Objects}
-use Rattle.osm_merge.specs.Taking.{order_of, greater, IsPlaceOf, untied, greater_tied, joined, joined_from}
+use Rattle.osm_merge.specs.Taking.{order_of, greater_of, IsPlaceOf, rest_after_tie, greater_tied, merge_by, merge_by_from}
 use Rattle.osm_merge.proofs.OrderLaws.{is_less}
 
+-- Each of the two orders is total.
 pub order_total : (order : OrderBy) → IsTotalOrder (order_of order)
 order_total Versions = version_cmp_total
 order_total Objects = object_cmp_total
 
--- those in front of a place, and those from it on
+-- those before an index, and those from it on
 front_all : {K : Type 0} (P : K → Type 0) (xs : List K) (n : ℕ) → n ≤ length xs → AllWithin P xs 0 n → AllByRecursion P (take n xs)
 front_all P [] zero h all = tt
 front_all P [] (suc n) h all = tt
@@ -33,17 +35,17 @@ front_all P (x ∷ xs) (suc n) h all = (
 )
 
 module _ (R : VersionData → VersionData → Ordering) where
-  pub joined-nil : (xs : List VersionData) → joined R xs [] ≡ xs
-  joined-nil [] = refl
-  joined-nil (x ∷ xs) = ap (λ t. x ∷ t) (joined-nil xs)
+  pub merge_by-nil : (xs : List VersionData) → merge_by R xs [] ≡ xs
+  merge_by-nil [] = refl
+  merge_by-nil (x ∷ xs) = ap (λ t. x ∷ t) (merge_by-nil xs)
 
-  joined-less : (x y : VersionData) (xs ys : List VersionData) → R x y ≡ Less → joined R (x ∷ xs) (y ∷ ys) ≡ x ∷ joined R xs (y ∷ ys)
-  joined-less x y xs ys e =
+  merge_by-less : (x y : VersionData) (xs ys : List VersionData) → R x y ≡ Less → merge_by R (x ∷ xs) (y ∷ ys) ≡ x ∷ merge_by R xs (y ∷ ys)
+  merge_by-less x y xs ys e =
       ap (λ r. elim r as (λ _. List VersionData) [
-        | Less ↦ x ∷ joined R xs (y ∷ ys)
-        | Equal ↦ greater x y ∷ joined R xs ys
+        | Less ↦ x ∷ merge_by R xs (y ∷ ys)
+        | Equal ↦ greater_of x y ∷ merge_by R xs ys
         | Greater ↦ y
-            ∷ joined R (x ∷ xs) ys
+            ∷ merge_by R (x ∷ xs) ys
       ]) e
 
   -- the first one isn't below this one
@@ -58,37 +60,37 @@ module _ (R : VersionData → VersionData → Ordering) where
   first_not_below y (x ∷ xs) zero all = all 0 x (omega arith) (omega arith)
   first_not_below y (x ∷ xs) (suc n) all = first_not_below y xs n (λ k d low below. all (suc k) d (omega arith) (omega arith))
 
-  -- what is below the first one of the right list stays in front
-  joined-run : (xs zs : List VersionData) (y : VersionData) (ys : List VersionData) → AllByRecursion (λ x. R x y ≡ Less) xs →
-      joined R (xs ++ zs) (y ∷ ys) ≡ xs ++ joined R zs (y ∷ ys)
-  joined-run [] zs y ys h = refl
-  joined-run (x ∷ xs) zs y ys h = joined-less x y (xs ++ zs) ys h.0 ∙ ap (λ t. x ∷ t) (joined-run xs zs y ys h.1)
+  -- the versions below the first one of the right list stay in front
+  merge_by-run : (xs zs : List VersionData) (y : VersionData) (ys : List VersionData) → AllByRecursion (λ x. R x y ≡ Less) xs →
+      merge_by R (xs ++ zs) (y ∷ ys) ≡ xs ++ merge_by R zs (y ∷ ys)
+  merge_by-run [] zs y ys h = refl
+  merge_by-run (x ∷ xs) zs y ys h = merge_by-less x y (xs ++ zs) ys h.0 ∙ ap (λ t. x ∷ t) (merge_by-run xs zs y ys h.1)
 
-  -- then it comes, or the one that ties with it
-  joined-put : (zs : List VersionData) (y : VersionData) (ys : List VersionData) → NoneBelow y zs →
-      joined R zs (y ∷ ys) ≡ greater_tied R y zs ∷ joined R (untied R y zs) ys
-  joined-put [] y ys h = refl
-  joined-put (z ∷ zs) y ys h =
+  -- then comes the first one, or the one that ties with it
+  merge_by-put : (zs : List VersionData) (y : VersionData) (ys : List VersionData) → NoneBelow y zs →
+      merge_by R zs (y ∷ ys) ≡ greater_tied R y zs ∷ merge_by R (rest_after_tie R y zs) ys
+  merge_by-put [] y ys h = refl
+  merge_by-put (z ∷ zs) y ys h =
       elim (R z y) as (λ r. is_lt r ≡ false →
       (elim r as (λ _. List VersionData) [
-        | Less ↦ z ∷ joined R zs (y ∷ ys)
-        | Equal ↦ greater z y ∷ joined R zs ys
+        | Less ↦ z ∷ merge_by R zs (y ∷ ys)
+        | Equal ↦ greater_of z y ∷ merge_by R zs ys
         | Greater ↦ y
-            ∷ joined R (z ∷ zs) ys
+            ∷ merge_by R (z ∷ zs) ys
       ])
-      ≡ cond (is_eq r) (greater z y) y ∷ joined R (cond (is_eq r) zs (z ∷ zs)) ys) [
+      ≡ cond (is_eq r) (greater_of z y) y ∷ merge_by R (cond (is_eq r) zs (z ∷ zs)) ys) [
         | Less ↦ λ e. absurd (false≢true (sym e))
         | Equal ↦ λ e. refl
         | Greater ↦ λ e. refl
       ] h
 
-  -- one version taken: those before its place, it or the one that ties with it, and what follows
-  pub joined-step : (xs : List VersionData) (y : VersionData) (ys : List VersionData) (n : ℕ) → IsPlaceOf R y xs n →
-      joined R xs (y ∷ ys) ≡ take n xs ++ greater_tied R y (drop n xs) ∷ joined R (untied R y (drop n xs)) ys
-  joined-step xs y ys n h =
-      ap (λ t. joined R t (y ∷ ys)) (sym (take-append-drop n xs))
-      ∙ joined-run (take n xs) (drop n xs) y ys (front_all (λ x. R x y ≡ Less) xs n h.0 h.1.0)
-      ∙ ap (λ t. take n xs ++ t) (joined-put (drop n xs) y ys (first_not_below y xs n h.1.1))
+  -- one version taken: those before its offset, it or the one that ties with it, and the rest
+  pub merge_by-step : (xs : List VersionData) (y : VersionData) (ys : List VersionData) (n : ℕ) → IsPlaceOf R y xs n →
+      merge_by R xs (y ∷ ys) ≡ take n xs ++ greater_tied R y (drop n xs) ∷ merge_by R (rest_after_tie R y (drop n xs)) ys
+  merge_by-step xs y ys n h =
+      ap (λ t. merge_by R t (y ∷ ys)) (sym (take-append-drop n xs))
+      ∙ merge_by-run (take n xs) (drop n xs) y ys (front_all (λ x. R x y ≡ Less) xs n h.0 h.1.0)
+      ∙ ap (λ t. take n xs ++ t) (merge_by-put (drop n xs) y ys (first_not_below y xs n h.1.1))
 
   drop_ascends : (n : ℕ) (xs : List VersionData) → IsStrictlySortedBy R xs → IsStrictlySortedBy R (drop n xs)
   unfolding IsStrictlySortedBy
@@ -96,22 +98,22 @@ module _ (R : VersionData → VersionData → Ordering) where
   drop_ascends (suc n) [] h = h
   drop_ascends (suc n) (x ∷ xs) h = drop_ascends n xs h.1
 
-  untied_ascends : (y : VersionData) (xs : List VersionData) → IsStrictlySortedBy R xs → IsStrictlySortedBy R (untied R y xs)
+  untied_ascends : (y : VersionData) (xs : List VersionData) → IsStrictlySortedBy R xs → IsStrictlySortedBy R (rest_after_tie R y xs)
   unfolding IsStrictlySortedBy
   untied_ascends y [] h = h
   untied_ascends y (x ∷ xs) h = elim (is_eq (R x y)) as (λ b. IsStrictlySortedBy R (cond b xs (x ∷ xs))) [ true ↦ h.1 | false ↦ h ]
 
-  -- what is left ascends
+  -- the rest ascends
   pub left_ascends : (y : VersionData) (n : ℕ) (xs : List VersionData) → IsStrictlySortedBy R xs →
-      IsStrictlySortedBy R (untied R y (drop n xs))
+      IsStrictlySortedBy R (rest_after_tie R y (drop n xs))
   left_ascends y n xs h = untied_ascends y (drop n xs) (drop_ascends n xs h)
 
-  pub untied_shorter : (y : VersionData) (xs : List VersionData) → length (untied R y xs) ≤ length xs
+  pub untied_shorter : (y : VersionData) (xs : List VersionData) → length (rest_after_tie R y xs) ≤ length xs
   untied_shorter y [] = omega arith
   untied_shorter y (x ∷ xs) = elim (is_eq (R x y)) as
       (λ b. length (cond b xs (x ∷ xs)) ≤ length (x ∷ xs)) [ true ↦ omega arith | false ↦ omega arith ]
 
--- What is below `low` is below the version, and nothing from `high` on is.
+-- The versions before `low` are below the version, and none from `high` on is.
 pub record IsHalving (R : VersionData → VersionData → Ordering) (v : VersionData) (xs : List VersionData) (low high : ℕ) : Type 0 where
   pub inside : (low ≤ high) × (high ≤ length xs)
   pub below : AllWithin (λ x. R x v ≡ Less) xs 0 low
@@ -149,7 +151,7 @@ module _ {R : VersionData → VersionData → Ordering} (o : IsTotalOrder R) (v 
       others = h.others;
     })
 
-    -- it isn't, and so aren't those behind it
+    -- it isn't, and neither are those after it
     pub halving_down : is_lt (R (get_or xs middle d) v) ≡ false → low2 ≡ low → high2 ≡ middle → IsHalving R v xs low2 high2
     halving_down none same moved = rw (same, moved) (record {
       inside = (from, omega (arith, h.inside.1, to));
@@ -158,7 +160,7 @@ module _ {R : VersionData → VersionData → Ordering} (o : IsTotalOrder R) (v 
     })
 
 -- ---- moving
--- the first one of what is left goes behind what was moved
+-- the first one of the rest is moved after those that were moved
 module _ (done all left left2 moved moved2 : List VersionData) (n : ℕ) (v : VersionData) (moved_is : moved ≡ done ++ take n all)
     (left_is : left ≡ drop n all) (next : left ≡ v ∷ left2) where
   inside : n < length all
@@ -167,6 +169,7 @@ module _ (done all left left2 moved moved2 : List VersionData) (n : ℕ) (v : Ve
   split : get_or all n v ∷ drop (n + 1) all ≡ v ∷ left2
   split = sym (drop_more all n v inside) ∙ sym left_is ∙ next
 
+  -- One more version was moved to those that are done.
   pub one_moved : moved2 ≡ moved ++ v ∷ [] → moved2 ≡ done ++ take (n + 1) all
   one_moved more =
       more
@@ -175,33 +178,34 @@ module _ (done all left left2 moved moved2 : List VersionData) (n : ℕ) (v : Ve
       ∙ ap (λ t. done ++ t) (ap (λ (x : VersionData). take n all ++ x ∷ []) (sym (ap (λ t. get_or t 0 v) split))
       ∙ sym (take_more all n v inside))
 
+  -- One version less is left.
   pub one_left : left2 ≡ drop (n + 1) all
   one_left = sym (ap (drop 1) split)
 
--- What was moved, with the join of what is left of both, makes the whole; and there is room for all that is left.
+-- The versions moved, and then the join of the rests of both, make the whole; and there is room for all that is left.
 pub record IsTaking (R : VersionData → VersionData → Ordering) (whole moved held more : List VersionData) (space : ℕ) : Type 0 where
   pub ascends : IsStrictlySortedBy R held
-  pub makes : moved ++ joined R held more ≡ whole
+  pub makes : moved ++ merge_by R held more ≡ whole
   pub room : length moved + (length held + length more) ≤ space
 
 module _ (R : VersionData → VersionData → Ordering) (whole moved held more : List VersionData) (space : ℕ) where
   -- one version was taken
   pub taking_step : (v : VersionData) (more2 moved2 moved3 held2 held3 : List VersionData) (n space2 : ℕ) →
       IsTaking R whole moved held more space → more ≡ v ∷ more2 → IsPlaceOf R v held n →
-      moved2 ≡ moved ++ take n held → held2 ≡ drop n held → held3 ≡ untied R v held2 → moved3 ≡ moved2 ++ greater_tied R v held2 ∷ [] →
+      moved2 ≡ moved ++ take n held → held2 ≡ drop n held → held3 ≡ rest_after_tie R v held2 → moved3 ≡ moved2 ++ greater_tied R v held2 ∷ [] →
       space2 ≡ space →
       IsTaking R whole moved3 held3 more2 space2
   taking_step v more2 moved2 moved3 held2 held3 n space2 h next place front behind rest put same =
       let w = greater_tied R v (drop n held) in
-      let left : held3 ≡ untied R v (drop n held) = rest ∙ ap (untied R v) behind in
+      let left : held3 ≡ rest_after_tie R v (drop n held) = rest ∙ ap (rest_after_tie R v) behind in
       let all : moved3 ≡ (moved ++ take n held) ++ w ∷ [] = put ∙ (λ i. front i ++ greater_tied R v (behind i) ∷ []) in
       record {
         ascends = rw left (left_ascends R v n held h.ascends);
         makes =
-            (λ i. all i ++ joined R (left i) more2)
-            ∙ append_assoc (moved ++ take n held) (w ∷ []) (joined R (untied R v (drop n held)) more2)
-            ∙ append_assoc moved (take n held) (w ∷ joined R (untied R v (drop n held)) more2)
-            ∙ ap (λ t. moved ++ t) (sym (joined-step R held v more2 n place) ∙ ap (joined R held) (sym next))
+            (λ i. all i ++ merge_by R (left i) more2)
+            ∙ append_assoc (moved ++ take n held) (w ∷ []) (merge_by R (rest_after_tie R v (drop n held)) more2)
+            ∙ append_assoc moved (take n held) (w ∷ merge_by R (rest_after_tie R v (drop n held)) more2)
+            ∙ ap (λ t. moved ++ t) (sym (merge_by-step R held v more2 n place) ∙ ap (merge_by R held) (sym next))
             ∙ h.makes;
         room =
             let long : length moved3 ≡ length moved + n + 1 =
@@ -212,38 +216,38 @@ module _ (R : VersionData → VersionData → Ordering) (whole moved held more :
             omega (arith, h.room, long, short, ap length next, same, place.0);
       }
 
-  -- nothing more is taken, and what is held moves
+  -- nothing more is taken, and the held versions move
   pub taking_ends : (moved2 : List VersionData) (n : ℕ) → IsTaking R whole moved held more space → length more ≡ 0 → n ≡ length held →
       moved2 ≡ moved ++ take n held → moved2 ≡ whole
   taking_ends moved2 n h none every front =
-      front ∙ ap (λ t. moved ++ t) (take_all n held (omega (arith, every)) ∙ sym (joined-nil R held)
-      ∙ ap (joined R held) (sym (nil_from_length more none))) ∙ h.makes
+      front ∙ ap (λ t. moved ++ t) (take_all n held (omega (arith, every)) ∙ sym (merge_by-nil R held)
+      ∙ ap (merge_by R held) (sym (nil_from_length more none))) ∙ h.makes
 
 -- ---- by versions
 same_from : (x : VersionData) (rest rest2 : List VersionData → List VersionData) → ((zs : List VersionData) → rest zs ≡ rest2 zs) →
     (ys : List VersionData) →
-    joined_from version_cmp x rest ys ≡ merged_from version_cmp x rest2 ys
+    merge_by_from version_cmp x rest ys ≡ merge_from version_cmp x rest2 ys
 same_from x rest rest2 k [] = ap (λ t. x ∷ t) (k [])
 same_from x rest rest2 k (y ∷ ys) =
     elim (version_cmp x y) as (λ r. version_cmp x y ≡ r →
     (elim r as (λ _. List VersionData) [
       | Less ↦ x ∷ rest (y ∷ ys)
-      | Equal ↦ greater x y ∷ rest ys
+      | Equal ↦ greater_of x y ∷ rest ys
       | Greater ↦ y
-          ∷ joined_from version_cmp x rest ys
+          ∷ merge_by_from version_cmp x rest ys
     ])
     ≡ (elim r as (λ _. List VersionData) [
       | Less ↦ x ∷ rest2 (y ∷ ys)
       | Equal ↦ x ∷ rest2 ys
       | Greater ↦ y
-          ∷ merged_from version_cmp x rest2 ys
+          ∷ merge_from version_cmp x rest2 ys
     ])) [
       | Less ↦ λ e. ap (λ t. x ∷ t) (k (y ∷ ys))
       | Equal ↦ λ e. (λ i. cond (is_lt (e i)) y x ∷ k ys i)
       | Greater ↦ λ e. ap (λ t. y ∷ t) (same_from x rest rest2 k ys)
     ] refl
 
--- two versions that tie are equal, so that one of them is left out
-pub joined_versions : (xs ys : List VersionData) → joined version_cmp xs ys ≡ merged version_cmp xs ys
+-- two versions that tie are equal, so one of them is dropped
+pub joined_versions : (xs ys : List VersionData) → merge_by version_cmp xs ys ≡ merge version_cmp xs ys
 joined_versions [] ys = refl
-joined_versions (x ∷ xs) ys = same_from x (joined version_cmp xs) (merged version_cmp xs) (joined_versions xs) ys
+joined_versions (x ∷ xs) ys = same_from x (merge_by version_cmp xs) (merge version_cmp xs) (joined_versions xs) ys

@@ -20,6 +20,7 @@ use Rattle.osm_merge.specs.Laws.{UnionOfTheSame, UnionOfGroups, UnionWithEmpty, 
 abbrev pub some_has : List VersionSet → VersionData → Bool
 some_has sets v = list_any (λ s. contains s v) sets
 
+-- A union of several sets contains what one of them contains.
 pub in_union_all : (sets : List VersionSet) (v : VersionData) → contains (union_all sets) v ≡ some_has sets v
 in_union_all [] v = contains-from_list version_cmp_total [] v
 in_union_all (s ∷ sets) v = contains-union version_cmp_total s (union_all sets) v ∙ ap (λ b. contains s v || b) (in_union_all sets v)
@@ -34,6 +35,7 @@ has_more sets others v more e =
     let there : Contains others (a.1) = more (a.1) (a.0, a.2, a.3) in
     list_any-from_Any (λ s. contains s v) others (there.0, a.1, there.1, there.2, a.4)
 
+-- Unions over the same sets are equal, in any order and with repeats.
 pub union_of_the_same : UnionOfTheSame
 union_of_the_same sets others same =
     equal _ _ (λ v. in_union_all sets v
@@ -45,14 +47,17 @@ in_groups [] v = refl
 in_groups (g ∷ groups) v = (λ i. in_union_all g v i || in_groups groups v i)
     ∙ sym (list_any-append (λ s. contains s v) g (flat_map (λ g. g) groups))
 
+-- A union of unions is the union of all.
 pub union_of_groups : UnionOfGroups
 union_of_groups groups =
     equal _ _ (λ v. in_union_all (map union_all groups) v ∙ in_groups groups v ∙ sym (in_union_all (flat_map (λ g. g) groups) v))
 
+-- An empty set changes no union.
 pub union_with_empty : UnionWithEmpty
 union_with_empty s = equal _ _ (λ v. contains-union version_cmp_total empty s v
     ∙ ap (λ b. b || contains s v) (contains-from_list version_cmp_total [] v))
 
+-- A union of sets of versions is a set of versions.
 pub union_stays_in_range : UnionStaysInRange
 union_stays_in_range [] h = are_versions empty (λ v e. absurd (false≢true (sym (contains-from_list version_cmp_total [] v) ∙ e)))
 union_stays_in_range (s ∷ sets) h = unions_are_versions s (union_all sets) (All-head AreVersions s sets h)

@@ -1,4 +1,4 @@
--- Laws of the definitions: what stays of an object is decided by what stays of it in each part.
+-- Laws of the definitions: the versions of an object that stay in each part decide those that stay in the whole.
 use Rattle.std.specs.Prelude.{◌≡◌, ◌↔◌, ℕ, List, map}
 use Rattle.std.specs.List.{flat_map, All, Contains}
 use Rattle.osm_model.specs.Sets.{union, empty}
@@ -11,7 +11,7 @@ use Rattle.osm_merge.specs.Selected.{snapshot, at}
 abbrev pub SnapshotOfUnion : Type 0
 SnapshotOfUnion = (s t : VersionSet) → snapshot (union s t) ≡ snapshot (union (snapshot s) (snapshot t))
 
--- and so for any number of histories
+-- and also for any number of histories
 abbrev pub SnapshotOfUnions : Type 0
 SnapshotOfUnions = (sets : List VersionSet) → snapshot (union_all sets) ≡ snapshot (union_all (map snapshot sets))
 
@@ -23,17 +23,17 @@ SnapshotOfSnapshot = (s : VersionSet) → snapshot (snapshot s) ≡ snapshot s
 abbrev pub StateOfUnion : Type 0
 StateOfUnion = (s t : VersionSet) (time : ℕ) → at (union s t) time ≡ snapshot (union (at s time) (at t time))
 
--- and so for any number of histories
+-- and also for any number of histories
 abbrev pub StateOfUnions : Type 0
 StateOfUnions = (sets : List VersionSet) (time : ℕ) →
     at (union_all sets) time ≡ snapshot (union_all (map (λ s. at s time) sets))
 
--- the union of some sets changes neither with their order nor with how often each is among them
+-- the union of some sets depends neither on their order nor on repetitions
 abbrev pub UnionOfTheSame : Type 0
 UnionOfTheSame = (sets others : List VersionSet) → ((s : VersionSet) → Contains sets s ↔ Contains others s) →
     union_all sets ≡ union_all others
 
--- nor with how they are grouped
+-- nor on their grouping
 abbrev pub UnionOfGroups : Type 0
 UnionOfGroups = (groups : List (List VersionSet)) →
     union_all (map union_all groups) ≡ union_all (flat_map (λ group. group) groups)

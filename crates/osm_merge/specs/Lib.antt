@@ -11,5 +11,6 @@ pub mod Merged
 pub mod Laws
 pub mod Slice
 pub mod SliceLaws
+pub mod Within
 pub mod Rest
 pub mod Taking

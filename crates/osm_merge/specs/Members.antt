@@ -2,7 +2,7 @@
 use Rattle.std.specs.Prelude.{Bool, List, [], ◌∷◌, Option, Some, None}
 use Rattle.std.specs.List.{filter}
 use Rattle.std.specs.declared.cmp.Ordering.{Ordering}
-use Rattle.osm_model.specs.Sets.{Set, listed, from_list, empty, union}
+use Rattle.osm_model.specs.Sets.{Set, to_list, from_list, empty, union}
 
 -- the first of a list
 abbrev pub first : {A : Type 0} → List A → Option A
@@ -12,11 +12,11 @@ first (x ∷ xs) = Some x
 module _ {K : Type 0} {R : K → K → Ordering} where
   -- the members that pass a test
   abbrev pub retain : Set R → (K → Bool) → Set R
-  retain s p = from_list (filter p (listed s))
+  retain s p = from_list (filter p (to_list s))
 
   -- the least member
   abbrev pub least : Set R → Option K
-  least s = first (listed s)
+  least s = first (to_list s)
 
   -- the union of some sets
   abbrev pub union_all : List (Set R) → Set R

@@ -1,4 +1,4 @@
--- What calls of a sink make of the versions put so far.
+-- The effect of calls of a sink on the versions put so far.
 use Rattle.std.specs.Prelude.{◌≡◌, ℕ, List, ◌++◌, length, Result}
 use Rattle.std.specs.List.{AllByRecursion}
 use Rattle.osm_model.specs.Data.{VersionData}
@@ -9,13 +9,13 @@ use Rattle.osm_files.specs.Change.{change_of}
 use Rattle.osm_files.specs.Spell.{spell_list}
 use Rattle.osm_files.specs.Sink.{SinkState, Takes, HasPut, WritesFile}
 use Rattle.osm_files.specs.SpellLaws.{Puts}
-use Rattle.osm_merge.specs.Union.{capped}
+use Rattle.osm_merge.specs.Union.{capped_count}
 
--- a sink takes each of these, of which there is one at most
+-- a sink takes each of these, of which there is at most one
 abbrev pub TakesEach : List VersionData → SinkState → Type 0
 TakesEach versions sink = AllByRecursion (λ v. Takes v sink) versions
 
--- a sink that has put some versions puts these besides
+-- a sink that has put some versions puts these too
 abbrev pub PutsMore : {O : Type 0} → Ghosts O → List VersionData → SinkState → SinkState → O → O
     → Result (Unit {0}) Fault → Type 0
 PutsMore {O} output more old new mid now result =
@@ -23,11 +23,11 @@ PutsMore {O} output more old new mid now result =
     → HasPut format number put (change_of output before mid) old
     → Puts format number (put ++ more) (change_of output before now) new result
 
--- a count of the versions that were put counts these besides
+-- a count of the versions that were put counts these too
 abbrev pub CountsMore : List VersionData → ℕ → ℕ → Type 0
-CountsMore more old new = (put : List VersionData) → old ≡ capped (length put) → new ≡ capped (length (put ++ more))
+CountsMore more old new = (put : List VersionData) → old ≡ capped_count (length put) → new ≡ capped_count (length (put ++ more))
 
--- the end of a file of some versions, and of these besides
+-- the end of a file of some versions, and of these too
 abbrev pub EndsFile : {A O : Type 0} → Ghosts O → List VersionData → SinkState → O → O → Result A Fault → Type 0
 EndsFile {O = O} output more old mid now result =
     (format : Format) (number : ℕ) (put : List VersionData) (before : O)

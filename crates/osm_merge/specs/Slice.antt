@@ -36,7 +36,7 @@ is_under (Some bound) v = is_lt (object_order (object_of v) bound)
 abbrev pub is_within : (from to : Option Object) → VersionData → Bool
 is_within from to v = reaches from v && is_under to v
 
--- the versions of a set of which the object is within the bounds
+-- the versions of a set whose object is within the bounds
 abbrev pub slice_of : (from to : Option Object) → VersionSet → VersionSet
 slice_of from to s = retain s (is_within from to)
 
@@ -60,3 +60,12 @@ slices bounds s = map (λ span. slice_of span.from span.to s) (spans bounds)
 -- the objects of all members are within a span
 abbrev pub IsWithin : Span → VersionSet → Type 0
 IsWithin span s = slice_of span.from span.to s ≡ s
+
+-- the upper bound isn't below the lower one, if there are both
+abbrev pub is_ascending_between : (from to : Option Object) → Bool
+is_ascending_between None to = true
+is_ascending_between (Some from) None = true
+is_ascending_between (Some from) (Some to) = not (is_lt (object_order to from))
+
+abbrev pub is_ascending : Span → Bool
+is_ascending span = is_ascending_between span.from span.to

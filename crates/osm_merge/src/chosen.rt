@@ -1,7 +1,7 @@
-//! What is selected of a history.
+//! Selections of a history.
 ghost use Rattle.std.specs.Prelude.{◌≡◌, ◌++◌, IfOk, OnOk};
 ghost use Rattle.osm_merge.specs.Selected as set;
-ghost use Rattle.osm_merge.specs.Pass.{only};
+ghost use Rattle.osm_merge.specs.Pass.{singleton_if};
 
 use crate::selection::{Selection, keeps, passes, stays};
 use osm_model::{History, Memory, Version};
@@ -21,24 +21,24 @@ pub fn visible(alloc: Global, history: &History) -> Result<History, Memory>
     choose(alloc, Selection::Visible, history)
 }
 
-/// Of the versions without a time or with a time of at most `time` the newest one of each object, deletions too.
+/// The newest one of each object among the versions without a time or with a time of at most `time`, deletions too.
 pub fn at(alloc: Global, history: &History, time: u32) -> Result<History, Memory>
     ensures { IfOk result (λ h. h ≡ set.at history.now time) }
 {
     choose(alloc, Selection::State(time), history)
 }
 
-/// The versions, deletions too, that came before `to` and stood at `from` or later. A version stands until the next one
-/// of its object; without a time it came at 0.
+/// The versions, deletions too, that came before `to` and were current at `from` or later. A version is current until
+/// the next one of its object comes; a version without a time came at 0.
 pub fn between(alloc: Global, history: &History, from: u32, to: u32) -> Result<History, Memory>
     ensures { IfOk result (λ h. h ≡ set.between history.now from to) }
 {
     choose(alloc, Selection::Between { from, to }, history)
 }
 
-/// What is selected of a history.
+/// The selection of a history.
 fn choose(alloc: Global, selection: Selection, history: &History) -> Result<History, Memory>
-    ensures { IfOk result (λ h. h ≡ set.selected selection history.now) }
+    ensures { IfOk result (λ h. h ≡ set.selection_of selection history.now) }
 {
     let mut chosen = Vec::new(alloc);
     let mut held: Option<usize> = None;
@@ -59,9 +59,9 @@ fn choose(alloc: Global, selection: Selection, history: &History) -> Result<Hist
     History::from_versions(chosen)
 }
 
-/// A copy of a version behind those that are chosen, if it stays.
+/// Appends a copy of a version to `chosen`, if it stays.
 fn copy_if(stays: bool, version: &Version, chosen: &mut Vec<Version>) -> Result<(), Memory>
-    ensures { OnOk result (chosen.new.items ≡ chosen.old.items ++ only stays version.now) }
+    ensures { OnOk result (chosen.new.items ≡ chosen.old.items ++ singleton_if stays version.now) }
 {
     if stays {
         chosen.push(version.copy()?)?;

@@ -1,17 +1,16 @@
-//! Laws of unions, snapshots and states, each the contract of a function with an empty body. Nothing is run to use
-//! them.
+//! Laws of unions, snapshots and states, each the contract of a function with an empty body. They run no code.
 ghost use Rattle.osm_merge.specs.Laws.{SnapshotOfUnion, SnapshotOfUnions, SnapshotOfSnapshot, StateOfUnion};
 ghost use Rattle.osm_merge.specs.Laws.{StateOfUnions};
 ghost use Rattle.osm_merge.specs.SliceLaws.{LinesOfSlices, SelectedOfSlice, SliceOfUnions, SlicesWriteTheWhole};
-ghost use Rattle.osm_merge.specs.SliceLaws.{SetsWithinAreSlices};
+ghost use Rattle.osm_merge.specs.SliceLaws.{SetsWithinAreSlices, AscendingSpansAreSorted};
 ghost use Rattle.osm_merge.specs.Laws.{UnionOfTheSame, UnionOfGroups, UnionWithEmpty, UnionStaysInRange};
 
-/// The union of some sets changes neither with their order nor with how often each is among them.
+/// The union of some sets depends neither on their order nor on repetitions.
 pub fn union_of_the_same()
     ensures { UnionOfTheSame }
 {}
 
-/// The union of some sets doesn't change with how they are grouped.
+/// The union of some sets doesn't depend on their grouping.
 pub fn union_of_groups()
     ensures { UnionOfGroups }
 {}
@@ -51,12 +50,12 @@ pub fn state_of_unions()
     ensures { StateOfUnions }
 {}
 
-/// The lines of a set are those of its slices, one after the other, for any ascending bounds.
+/// The lines of a set are those of its slices, in sequence, for any ascending bounds.
 pub fn lines_of_slices()
     ensures { LinesOfSlices }
 {}
 
-/// What is selected of a slice is the slice of what is selected.
+/// The selection of a slice is the slice of the selection.
 pub fn selected_of_slice()
     ensures { SelectedOfSlice }
 {}
@@ -66,7 +65,7 @@ pub fn slice_of_unions()
     ensures { SliceOfUnions }
 {}
 
-/// What is selected of a union of sets is written slice by slice, each from the slices of the sets.
+/// The selection of a union of sets is written slice by slice, each from the slices of the sets.
 pub fn slices_write_the_whole()
     ensures { SlicesWriteTheWhole }
 {}
@@ -74,4 +73,9 @@ pub fn slices_write_the_whole()
 /// Sets that are within the spans of ascending bounds, one for one, are the slices of their union.
 pub fn sets_within_are_slices()
     ensures { SetsWithinAreSlices }
+{}
+
+/// Bounds ascend where each of their spans ascends.
+pub fn ascending_spans_are_sorted()
+    ensures { AscendingSpansAreSorted }
 {}

@@ -1,5 +1,5 @@
-//! The streaming merge: what is selected of the union of what sources give, written by a tournament over one version of
-//! each; and what is selected of a history.
+//! The streaming merge, which writes a selection of the union of its sources by a tournament over one version of each;
+//! and selections of a history.
 #![tactic(auto)]
 
 mod chosen;
@@ -16,14 +16,16 @@ mod selection;
 mod taking;
 mod tournament;
 mod tree;
+mod within;
 
 pub use chosen::{at, between, snapshot, visible};
 pub use merge::{Counts, merge_into, merge_selected};
 pub use newest::into_snapshot;
 pub use object::{Object, Span};
-pub use progress::{Progress, Silent};
+pub use progress::{NoProgress, Progress};
 pub use selection::Selection;
 pub use taking::{absorb, absorb_newest};
+pub use within::{Outside, Within};
 
 #[cfg(test)]
 mod rows;

@@ -3,21 +3,21 @@ ghost use Rattle.std.specs.Prelude.{◌≡◌, ◌≤◌, ◌<◌, ◌-◌, true
 ghost use Rattle.osm_files.specs.Output.{IsGoodThroughout};
 ghost use Rattle.osm_files.specs.Change.{change_of};
 ghost use Rattle.osm_files.specs.Sink.{new_sink};
-ghost use Rattle.osm_files.specs.Source.{Steps};
-ghost use Rattle.osm_merge.specs.Giving.{ForSome, ForStanding};
+ghost use Rattle.osm_files.specs.Source.{SourceSteps};
+ghost use Rattle.osm_merge.specs.Giving.{SomeInputsGive, SomePendingGive};
 ghost use Rattle.osm_merge.specs.Tree.{IsTree};
 ghost use Rattle.osm_merge.specs.Merged.{MergesSources, IsMergedAs, RefusesSources, IsRefusedAs, Grows};
 
 use crate::heads::first_versions;
 use crate::pending::Pending;
-use crate::progress::{Progress, Silent};
+use crate::progress::{NoProgress, Progress};
 use crate::selection::Selection;
 use crate::tournament::Tournament;
 use osm_files::{Fault, Output, Sink, Source};
 use osm_model::Version;
 use std::alloc::Global;
 
-/// What a merge did. A count that would pass 2^64 - 1 stays there.
+/// The counts of a merge. A count stops at 2^64 - 1.
 #[derive(Clone, Copy, Debug, PartialEq, Eq)]
 pub struct Counts {
     /// The versions that the sources gave.
@@ -28,16 +28,16 @@ pub struct Counts {
     pub compared: u64,
 }
 
-/// Writes the union of what the sources still give as one file, each version once.
+/// Writes the union of the versions that the sources still give as one file, each version once.
 ///
-/// It keeps one version of each source and the one put last. A version is put before its source is asked again, so
-/// where a source fails, all that stands up to its last version was written. Of sources that don't ascend it puts only
-/// what is greater than all that it put before.
+/// It keeps one version of each source and the one put last. A version is put before its source is asked again, so if a
+/// source fails, all versions up to its last one were written. If sources don't ascend, it puts only versions that are
+/// greater than all that it put before.
 ///
 /// # Errors
 ///
-/// The fault of a source; the faults of the sink, with its number; or `Memory`. What was written then is a front of the
-/// file.
+/// The fault of a source; the faults of the sink, with its number; or `Memory`. The output written then is a front of
+/// the file.
 pub fn merge_into<S: Source + Drop, W: Output>(
     alloc: Global,
     sources: Vec<S>,
@@ -45,27 +45,27 @@ pub fn merge_into<S: Source + Drop, W: Output>(
     out: &mut W,
 ) -> Result<Counts, Fault>
     requires { sink.old ≡ new_sink sink.old.format sink.old.number }
-    ensures merged { IfOk result (λ counts. ForSome S.can_give sources.items (λ all.
+    ensures merged { IfOk result (λ counts. SomeInputsGive S.can_give sources.items (λ all.
         MergesSources all sink.old.format (change_of W.Output out.old out.new) counts)) }
-    ensures refused { IfErr result (λ fault. ForSome S.can_give sources.items (λ all.
+    ensures refused { IfErr result (λ fault. SomeInputsGive S.can_give sources.items (λ all.
         RefusesSources all sink.old.format sink.old.number (change_of W.Output out.old out.new) fault)) }
     ensures kept { Grows (change_of W.Output out.old out.new) }
     ensures good { OnOk result (IsGoodThroughout (change_of W.Output out.old out.new)) }
     ensures ended { OnOk result (sink.new.ended ≡ true) }
 {
-    merge_selected(alloc, Selection::All, sources, sink, out, &mut Silent)
+    merge_selected(alloc, Selection::All, sources, sink, out, &mut NoProgress)
 }
 
-/// Writes what is selected of the union of what the sources still give as one file, each version once.
+/// Writes the selection of the union of the versions that the sources still give as one file, each version once.
 ///
-/// It keeps one version of each source and the last one that may be selected, which is put once the version behind it
-/// is known; where all are selected, each is put as soon as it comes. `read` counts what the sources gave, selected or
-/// not. `progress` looks on, and changes nothing.
+/// It keeps one version of each source and the last one that may be selected, which is put once the version after it is
+/// known; if all are selected, each is put as soon as it comes. `read` counts the versions that the sources gave,
+/// selected or not. `progress` observes, and changes nothing.
 ///
 /// # Errors
 ///
-/// The fault of a source; the faults of the sink, with its number; or `Memory`. What was written then is a front of the
-/// file of what is selected.
+/// The fault of a source; the faults of the sink, with its number; or `Memory`. The output written then is a front of
+/// the file of the selection.
 pub fn merge_selected<S: Source + Drop, W: Output, P: Progress>(
     alloc: Global,
     selection: Selection,
@@ -75,9 +75,9 @@ pub fn merge_selected<S: Source + Drop, W: Output, P: Progress>(
     progress: &mut P,
 ) -> Result<Counts, Fault>
     requires { sink.old ≡ new_sink sink.old.format sink.old.number }
-    ensures merged { IfOk result (λ counts. ForSome S.can_give sources.items (λ all.
+    ensures merged { IfOk result (λ counts. SomeInputsGive S.can_give sources.items (λ all.
         IsMergedAs selection all sink.old.format (change_of W.Output out.old out.new) counts)) }
-    ensures refused { IfErr result (λ fault. ForSome S.can_give sources.items (λ all.
+    ensures refused { IfErr result (λ fault. SomeInputsGive S.can_give sources.items (λ all.
         IsRefusedAs selection all sink.old.format sink.old.number (change_of W.Output out.old out.new) fault)) }
     ensures kept { Grows (change_of W.Output out.old out.new) }
     ensures good { OnOk result (IsGoodThroughout (change_of W.Output out.old out.new)) }
@@ -108,9 +108,9 @@ fn write_union<S: Source, W: Output, P: Progress>(
     requires read { pending.old.counts.read ≡ 0 }
     requires written { pending.old.counts.written ≡ 0 }
     requires sink { sink.old ≡ new_sink sink.old.format sink.old.number }
-    ensures merged { IfOk result (λ counts. ForStanding S.can_give sources.old tournament.old.heads.items (λ all.
+    ensures merged { IfOk result (λ counts. SomePendingGive S.can_give sources.old tournament.old.heads.items (λ all.
         IsMergedAs pending.old.selection all sink.old.format (change_of W.Output out.old out.new) counts)) }
-    ensures refused { IfErr result (λ fault. ForStanding S.can_give sources.old tournament.old.heads.items (λ all.
+    ensures refused { IfErr result (λ fault. SomePendingGive S.can_give sources.old tournament.old.heads.items (λ all.
         IsRefusedAs pending.old.selection all sink.old.format sink.old.number
         (change_of W.Output out.old out.new) fault)) }
     ensures kept { Grows (change_of W.Output out.old out.new) }
@@ -134,10 +134,10 @@ fn write_union<S: Source, W: Output, P: Progress>(
     }
 }
 
-/// The next version of a source, which is given back one that isn't needed any more, if there is one.
+/// The next version of a source, which gets back one that isn't needed any more, if there is one.
 #[inline(always)]
 fn next_of<S: Source>(source: &mut S, spare: Option<Version>) -> Result<Option<Version>, Fault>
-    ensures step { Steps S.can_give source.old result source.new }
+    ensures step { SourceSteps S.can_give source.old result source.new }
     ensures fewer { IfOk result (λ given. IsSome given → S.left source.new < S.left source.old) }
 {
     if let Some(version) = spare {

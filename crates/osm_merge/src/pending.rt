@@ -1,10 +1,10 @@
-//! The version met last, and which versions are written.
+//! The version met last, and the decision which versions are written.
 ghost use Rattle.std.specs.Prelude.{◌≡◌, ◌≤◌, ◌+◌, true, false, None, IfOk, IfSome, OnOk, option_copied};
 ghost use Rattle.osm_files.specs.Output.{FailingLasts, IsGoodThroughout};
 ghost use Rattle.osm_files.specs.Change.{change_of};
 ghost use Rattle.osm_files.specs.Sink.{IsOpen};
-ghost use Rattle.osm_merge.specs.Union.{capped};
-ghost use Rattle.osm_merge.specs.Pass.{is_new, is_met, held_next, puts, put_at, put_at_end, put_with, only};
+ghost use Rattle.osm_merge.specs.Union.{capped_count};
+ghost use Rattle.osm_merge.specs.Pass.{is_new, is_met, held_next, versions_put, put_at, put_at_end, put_with, singleton_if};
 ghost use Rattle.osm_merge.specs.Put.{TakesEach, PutsMore, EndsFile, CountsMore};
 
 use crate::compare::compare;
@@ -13,21 +13,21 @@ use crate::selection::{Selection, keeps_before, passes, puts_at_once};
 use osm_files::{Fault, Output, Sink};
 use osm_model::{Ranked, Version};
 
-/// The version met last, which may be written once the next one is known, and what was read and written so far.
+/// The version met last, which may be written once the next one is known, and the counts so far.
 #[derive(Drop)]
 pub(crate) struct Pending {
     /// Which versions are written.
     pub(crate) selection: Selection,
     /// The version met last.
     held: Option<Ranked>,
-    /// A version that isn't needed any more, whose memory a source may take.
+    /// A version that isn't needed any more; a source may make its next version in its memory.
     pub(crate) spare: Option<Version>,
-    /// What was read and written.
+    /// The counts so far.
     pub(crate) counts: Counts,
 }
 
 impl Pending {
-    /// Nothing was met.
+    /// No version was met.
     pub(crate) fn new(selection: Selection) -> Pending
         ensures { result ≡ record {
           selection = selection;
@@ -48,8 +48,8 @@ impl Pending {
         }
     }
 
-    /// Meets the next version. One that passes and is greater than the pending one decides what is written, and is
-    /// pending then. Any other one is spare, and so is one that is known to repeat one taken before.
+    /// Meets the next version. If it passes and is greater than the pending one, it decides which version is written,
+    /// and is pending then. Any other version is spare, and so is a known repeat of one taken before.
     #[inline(always)]
     pub(crate) fn meet<W: Output>(
         &mut self,
@@ -63,17 +63,17 @@ impl Pending {
         requires takes { is_met self.old.selection self.old.held version ≡ true
             → TakesEach (put_at self.old.selection self.old.held version) sink.old }
         requires repeated { is_repeated ≡ true → is_met self.old.selection self.old.held version ≡ false }
-        ensures puts { PutsMore W.Output (puts self.old.selection self.old.held version)
+        ensures puts { PutsMore W.Output (versions_put self.old.selection self.old.held version)
             sink.old sink.new out.old out.new result }
         ensures lasts { FailingLasts (change_of W.Output out.old out.new) }
         ensures selection { self.new.selection ≡ self.old.selection }
         ensures held { OnOk result (self.new.held ≡ held_next self.old.selection self.old.held version) }
-        ensures read { self.new.counts.read ≡ capped (self.old.counts.read + 1) }
-        ensures written { OnOk result (CountsMore (puts self.old.selection self.old.held version)
+        ensures read { self.new.counts.read ≡ capped_count (self.old.counts.read + 1) }
+        ensures written { OnOk result (CountsMore (versions_put self.old.selection self.old.held version)
             self.old.counts.written self.new.counts.written) }
         ensures grows { compared.old ≤ compared.new }
         ensures most { compared.new ≤ compared.old + 1 }
-        ensures least { is_repeated ≡ false → IfSome self.old.held (λ _. capped (compared.old + 1) ≤ compared.new) }
+        ensures least { is_repeated ≡ false → IfSome self.old.held (λ _. capped_count (compared.old + 1) ≤ compared.new) }
     {
         self.counts.read = self.counts.read.saturating_add(1);
         if is_repeated || !self.is_met(&version, compared) {
@@ -91,12 +91,12 @@ impl Pending {
         ensures met { result ≡ is_met self.now.selection self.now.held version.now }
         ensures grows { compared.old ≤ compared.new }
         ensures most { compared.new ≤ compared.old + 1 }
-        ensures least { IfSome self.now.held (λ _. capped (compared.old + 1) ≤ compared.new) }
+        ensures least { IfSome self.now.held (λ _. capped_count (compared.old + 1) ≤ compared.new) }
     {
         is_new(&self.held, version, compared) && passes(self.selection, version.version())
     }
 
-    /// Writes what the next version decides, or the end of all, if there is none: the next version itself, where all
+    /// Writes the version that the next version, or the end of all, decides. This is the next version itself, if all
     /// are written at once, or else the pending one, if it stays.
     #[inline(always)]
     fn put_decided<W: Output>(
@@ -170,12 +170,12 @@ fn put_if<W: Output>(
     out: &mut W,
 ) -> Result<(), Fault>
     requires open { IsOpen sink.old }
-    requires takes { TakesEach (only stays version.now) sink.old }
-    ensures puts { PutsMore W.Output (only stays version.now) sink.old sink.new out.old out.new result }
+    requires takes { TakesEach (singleton_if stays version.now) sink.old }
+    ensures puts { PutsMore W.Output (singleton_if stays version.now) sink.old sink.new out.old out.new result }
     ensures lasts { FailingLasts (change_of W.Output out.old out.new) }
     ensures open { OnOk result (IsOpen sink.new) }
     ensures read { counts.new.read ≡ counts.old.read }
-    ensures written { OnOk result (CountsMore (only stays version.now) counts.old.written counts.new.written) }
+    ensures written { OnOk result (CountsMore (singleton_if stays version.now) counts.old.written counts.new.written) }
     ensures compared { counts.new.compared ≡ counts.old.compared }
 {
     if !stays {
@@ -188,13 +188,13 @@ fn put_if<W: Output>(
     put
 }
 
-/// Whether a version is greater than the one held back.
+/// Whether a version is greater than the pending one.
 #[inline(always)]
 fn is_new(last: &Option<Ranked>, version: &Ranked, compared: &mut u64) -> bool
     ensures new { result ≡ is_new last.now version.now }
     ensures grows { compared.old ≤ compared.new }
     ensures most { compared.new ≤ compared.old + 1 }
-    ensures least { IfSome last.now (λ _. capped (compared.old + 1) ≤ compared.new) }
+    ensures least { IfSome last.now (λ _. capped_count (compared.old + 1) ≤ compared.new) }
 {
     match last {
         None => true,

@@ -1,16 +1,16 @@
-//! Looking on while a run goes on.
+//! Observers of a run.
 
-/// Looks on while a run goes on.
+/// Observes a run.
 pub trait Progress {
-    /// Is told after each version that is read how many were read and how many were written since the run began.
+    /// Is called after each version that is read, with the numbers of versions read and written since the run began.
     fn tell(&mut self, read: u64, written: u64);
 }
 
-/// Nobody looks on.
+/// No observer.
 #[derive(Clone, Copy, Debug)]
-pub struct Silent;
+pub struct NoProgress;
 
-impl Progress for Silent {
+impl Progress for NoProgress {
     #[inline(always)]
     fn tell(&mut self, _read: u64, _written: u64) {}
 }

@@ -1,4 +1,4 @@
-//! Which heads are known to be equal.
+//! Heads that are known to be equal.
 //!
 //! Two heads that play and are equal tie. Once one of the two was taken, the other one is known to repeat it.
 //!
@@ -11,7 +11,7 @@ ghost use Rattle.std.specs.Prelude.{◌≡◌, None, Some};
 ghost use Rattle.std.specs.Bool.{OnTrue};
 ghost use Rattle.osm_merge.specs.Repeats as spec;
 
-/// Two places whose heads are equal.
+/// Two sources, by their indices, whose heads are equal.
 #[derive(Clone, Copy)]
 pub(crate) struct Tie {
     pub(crate) one: usize,
@@ -19,10 +19,10 @@ pub(crate) struct Tie {
 }
 
 impl Tie {
-    /// The other one of the two places.
+    /// The other one of the two indices.
     #[inline(always)]
     fn opposite(self, place: usize) -> Option<usize>
-        ensures { result ≡ spec.opposite self place }
+        ensures { result ≡ spec.other_place self place }
     {
         match (self.one == place, self.other == place) {
             (true, false) => Some(self.other),
@@ -32,17 +32,17 @@ impl Tie {
     }
 }
 
-/// What is known of equal heads: mostly nothing.
+/// The known equal heads; mostly there are none.
 #[derive(Drop)]
 pub(crate) struct Repeats {
-    /// Two places whose heads are equal, as a game told.
+    /// Two sources whose heads were equal in a game.
     pub(crate) tie: Option<Tie>,
-    /// The place of a head that is equal to the version taken last.
+    /// The source whose head is equal to the version taken last.
     taken: Option<usize>,
 }
 
 impl Repeats {
-    /// Nothing is known.
+    /// No known equal heads.
     pub(crate) fn none() -> Repeats
         ensures { result ≡ record { tie = None; taken = None } }
     {
@@ -52,7 +52,7 @@ impl Repeats {
         }
     }
 
-    /// Whether the head of a place is known to be equal to the version taken last.
+    /// Whether the head of the source `place` is known to be equal to the version taken last.
     #[inline(always)]
     pub(crate) fn is_taken(&self, place: usize) -> bool
         ensures { OnTrue result (self.now.taken ≡ Some place) }
@@ -63,10 +63,10 @@ impl Repeats {
         }
     }
 
-    /// The head of a place was taken, and its source's next version comes to stand there.
+    /// Notes that the head of the source `place` was taken. The source's next version replaces it.
     #[inline(always)]
     pub(crate) fn note_taken(&mut self, place: usize)
-        ensures { self.new ≡ spec.after_taking self.old.tie place }
+        ensures { self.new ≡ spec.repeats_after_taking self.old.tie place }
     {
         self.taken = None;
         let Some(tie) = self.tie else {

@@ -12,7 +12,7 @@ pub const MOVED_AT_20: &[u8] = b"n1 v2 dV c0 t1970-01-01T00:00:20Z i0 u T x2 y1\
 /// It was deleted after 30 seconds.
 pub const DELETED_AT_30: &[u8] = b"n1 v3 dD c0 t1970-01-01T00:00:30Z i0 u T x y\n";
 
-/// Its second version, if that has the lesser time of the two.
+/// Its second version, with the lesser time of the two.
 pub const MOVED_AT_5: &[u8] = b"n1 v2 dV c0 t1970-01-01T00:00:05Z i0 u T x2 y1\n";
 
 /// Another node, of which two versions came after 20 seconds.
@@ -39,7 +39,7 @@ pub const AT_9_EAST: &[u8] = b"n1 v1 dV c0 t i0 u T x9 y1\n";
 /// A way that has the id of the node.
 pub const WAY: &[u8] = b"w1 v1 dV c0 t i0 u T N\n";
 
-/// These lines, one after the other.
+/// These lines, in sequence.
 pub fn text(alloc: Global, lines: &[&[u8]]) -> Vec<u8> {
     let mut text = Vec::new(alloc);
     for line in lines {
@@ -48,7 +48,7 @@ pub fn text(alloc: Global, lines: &[&[u8]]) -> Vec<u8> {
     text
 }
 
-/// The history of the versions that a file holds; an empty one where it is refused.
+/// The history of the versions that a file holds; an empty one if the file is refused.
 pub fn history_of(alloc: Global, file: &[u8]) -> History {
     match load_any(alloc, 0, SliceIn::new(file)) {
         Ok(loaded) => loaded.history,

@@ -1,11 +1,11 @@
-//! Which versions of a history are written.
+//! Selections of the versions of a history that are written.
 ghost use Rattle.std.specs.Prelude.{◌≡◌, Some, option_copied};
 ghost use Rattle.osm_merge.specs.Selected.{moment, is_visible, is_by, lasts};
 ghost use Rattle.osm_merge.specs.Pass.{passes, stays, keeps, puts_at_once, same_object};
 
 use osm_model::Version;
 
-/// Which versions of a history are written. A version without a time counts as one of the time 0.
+/// A selection of the versions of a history that are written. A version without a time counts as one of the time 0.
 #[derive(Clone, Copy, Debug, PartialEq, Eq)]
 pub enum Selection {
     /// All versions: the whole history.
@@ -16,15 +16,16 @@ pub enum Selection {
     Newest,
     /// The newest version of each object, if it isn't a deletion: the map after all changes.
     NewestVisible,
-    /// Of the versions up to this moment the newest one of each object, deletions too.
+    /// The newest one of each object among the versions up to this moment, deletions too.
     State(u32),
-    /// Of the versions up to this moment the newest one of each object, if it isn't a deletion: the map at that moment.
+    /// The newest one of each object among the versions up to this moment, if it isn't a deletion: the map at that
+    /// moment.
     StateVisible(u32),
-    /// The versions, deletions too, that came before `to` and stood at `from` or later: the history of a period.
+    /// The versions, deletions too, that came before `to` and were current at `from` or later: the history of a period.
     Between {
         /// The moment at which the period begins.
         from: u32,
-        /// The moment behind its end.
+        /// The moment after its end.
         to: u32,
     },
 }
@@ -45,7 +46,7 @@ pub(crate) fn puts_at_once(selection: Selection) -> bool
     }
 }
 
-/// Whether a version isn't left out before all else.
+/// Whether a version isn't excluded before all else.
 #[inline(always)]
 pub(crate) fn passes(selection: Selection, version: &Version) -> bool
     ensures { result ≡ passes selection version.now }
@@ -61,7 +62,7 @@ pub(crate) fn passes(selection: Selection, version: &Version) -> bool
     }
 }
 
-/// Whether a version stays, where another one is behind it in the order.
+/// Whether a version stays, if `behind` comes after it in the order.
 pub(crate) fn keeps(selection: Selection, version: &Version, behind: &Version) -> bool
     ensures { result ≡ keeps selection version.now (Some behind.now) }
 {
@@ -72,7 +73,7 @@ pub(crate) fn keeps(selection: Selection, version: &Version, behind: &Version) -
     }
 }
 
-/// Whether a version stays, where this version is the next one in the order; or none is.
+/// Whether a version stays, if `next` is the next one in the order; `None` if there is none.
 #[inline(always)]
 pub(crate) fn keeps_before(selection: Selection, version: &Version, next: Option<&Version>) -> bool
     ensures { result ≡ keeps selection version.now (option_copied next.entry) }
@@ -83,7 +84,7 @@ pub(crate) fn keeps_before(selection: Selection, version: &Version, next: Option
     }
 }
 
-/// Whether a version stays, where the next version of its object has this time; none, where there is no next one.
+/// Whether a version stays, if the next version of its object has the time `end`; `None` if there is no next one.
 pub(crate) fn stays(selection: Selection, version: &Version, end: Option<u64>) -> bool
     ensures { result ≡ stays selection version.now end }
 {
@@ -101,7 +102,8 @@ pub(crate) fn stays(selection: Selection, version: &Version, end: Option<u64>) -
     }
 }
 
-/// Whether a version of the time `start`, the next one of whose object has the time `end`, stands at `from` or later.
+/// Whether a version of the time `start` is current at `from` or later, if the next one of its object has the time
+/// `end`.
 fn lasts(from: u64, start: u64, end: Option<u64>) -> bool
     ensures { result ≡ lasts from start end }
 {
@@ -118,14 +120,14 @@ fn is_same_object(version: &Version, other: &Version) -> bool
     version.object_cmp(other).is_eq()
 }
 
-/// Whether a version has no time, or one that isn't behind the moment.
+/// Whether a version has no time, or one that isn't after the moment.
 fn is_by(time: u32, version: &Version) -> bool
     ensures { result ≡ is_by time version.now }
 {
     moment(version) <= u64::from(time)
 }
 
-/// The time of a version, none counting as 0.
+/// The time of a version; no time counts as 0.
 fn moment(version: &Version) -> u64
     ensures { result ≡ moment version.now }
 {

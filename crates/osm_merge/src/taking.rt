@@ -1,16 +1,16 @@
-//! Versions taken into a history that is held, without a copy.
+//! Versions taken into a history, without a copy.
 //!
-//! Why: the offset of each version that is taken is searched for, and the versions before it move unseen. To take
-//! 10,000 versions into 1,000,000 takes 21 ms, and 57 ms if each held version is compared.
+//! Why: a search finds the offset of each version that is taken, and the versions before it move unseen. To take 10,000
+//! versions into 1,000,000 takes 21 ms, and 57 ms if each held version is compared.
 //! Assumes: both histories ascend. It brings most if the other history is small.
-//! Otherwise: from few held versions for each one that is taken on, each is compared.
+//! Otherwise: if there are few held versions for each one that is taken, each is compared.
 //! Compared by: `a_history_absorbs_another` and `a_snapshot_absorbs_another_history`.
 ghost use Rattle.std.specs.Prelude.{◌≡◌, ◌+◌, ◌≤◌, ◌++◌, take, drop, MatchResult, vec_len, vec_capacity};
 ghost use Rattle.std.specs.List.Sorted.{IsStrictlySortedBy};
 ghost use Rattle.std.specs.VecDeque.{deque_len};
 ghost use Rattle.osm_model.specs.Sets as set;
 ghost use Rattle.osm_merge.specs.Selected.{snapshot};
-ghost use Rattle.osm_merge.specs.Taking.{order_of, taken, greater, is_tied, untied, greater_tied, joined, IsPlaceOf};
+ghost use Rattle.osm_merge.specs.Taking.{order_of, union_by, greater_of, is_tied, rest_after_tie, greater_tied, merge_by, IsPlaceOf};
 
 use crate::into_snapshot;
 use osm_model::{History, Memory, Version};
@@ -19,21 +19,21 @@ use std::cmp::Ordering;
 use std::collections::VecDeque;
 use std::mem;
 
-/// By what versions are told apart.
+/// The order of two histories that are joined.
 #[derive(Clone, Copy)]
 enum OrderBy {
-    /// By all that they hold.
+    /// By all data.
     Versions,
-    /// By their objects.
+    /// By objects.
     Objects,
 }
 
 /// Takes the versions of another history in, so that the first one holds the union. No version is copied, and few are
-/// compared: where each one that is taken belongs is searched for, and what stands before it moves without a look.
+/// compared: a search finds the offset of each one that is taken, and the versions before it move without a look.
 ///
 /// # Errors
 ///
-/// For want of memory alone, in which case the history stays as it was.
+/// Only out of memory. The history is unchanged then.
 pub fn absorb(alloc: Global, held: &mut History, more: History) -> Result<(), Memory>
     ensures { MatchResult result (λ _. held.new ≡ set.union held.old more) (λ _. held.new ≡ held.old) }
 {
@@ -41,11 +41,11 @@ pub fn absorb(alloc: Global, held: &mut History, more: History) -> Result<(), Me
 }
 
 /// Takes the newest versions of another history into one that holds the newest version of each object, so that it holds
-/// the snapshot of the union. It goes once over what is held, like [`absorb`].
+/// the snapshot of the union. It passes once over the held versions, like [`absorb`].
 ///
 /// # Errors
 ///
-/// For want of memory alone, in which case the history stays as it was.
+/// Only out of memory. The history is unchanged then.
 pub fn absorb_newest(alloc: Global, held: &mut History, more: History) -> Result<(), Memory>
     requires { held.old ≡ snapshot held.old }
     ensures { MatchResult result (λ _. held.new ≡ snapshot (set.union held.old more)) (λ _. held.new ≡ held.old) }
@@ -53,13 +53,13 @@ pub fn absorb_newest(alloc: Global, held: &mut History, more: History) -> Result
     take_in(alloc, OrderBy::Objects, held, into_snapshot(more))
 }
 
-/// Takes the versions of another history in, where both ascend by this order. Of two that tie the greater one stays.
+/// Takes the versions of another history in; both ascend by `order`. The greater of two that tie stays.
 fn take_in(alloc: Global, order: OrderBy, held: &mut History, more: History) -> Result<(), Memory>
-    requires held_ascends { IsStrictlySortedBy (order_of order) (set.listed held.old) }
-    requires more_ascends { IsStrictlySortedBy (order_of order) (set.listed more) }
-    ensures { MatchResult result (λ _. held.new ≡ taken order held.old more) (λ _. held.new ≡ held.old) }
+    requires held_ascends { IsStrictlySortedBy (order_of order) (set.to_list held.old) }
+    requires more_ascends { IsStrictlySortedBy (order_of order) (set.to_list more) }
+    ensures { MatchResult result (λ _. held.new ≡ union_by order held.old more) (λ _. held.new ≡ held.old) }
 {
-    // All the room is there before anything is moved, so nothing can be refused from then on.
+    // The whole room is allocated before anything is moved, so nothing can be refused from then on.
     let mut room = Vec::with_capacity(alloc, held.len().saturating_add(more.len()))?;
     let all = mem::replace(held, History::new(alloc)).into_versions();
     move_joined(order, &mut room, all, more.into_versions());
@@ -67,12 +67,12 @@ fn take_in(alloc: Global, order: OrderBy, held: &mut History, more: History) -> 
     Ok(())
 }
 
-/// Moves the versions of two lists that ascend by this order behind those that are there, with room for all of them. Of
-/// two that tie the greater one is moved.
+/// Moves the versions of two lists that ascend by `order` to the end of `room`, which has room for all of them. The
+/// greater of two that tie is moved.
 fn move_joined(order: OrderBy, room: &mut Vec<Version>, held: Vec<Version>, more: Vec<Version>)
     requires ascends { IsStrictlySortedBy (order_of order) held.items }
     requires room { vec_len room.old + (vec_len held + vec_len more) ≤ vec_capacity room.old }
-    ensures { room.new.items ≡ room.old.items ++ joined (order_of order) held.items more.items }
+    ensures { room.new.items ≡ room.old.items ++ merge_by (order_of order) held.items more.items }
 {
     let stride = held.len() / more.len().max(1);
     let mut held = VecDeque::from_vec(held);
@@ -85,8 +85,8 @@ fn move_joined(order: OrderBy, room: &mut Vec<Version>, held: Vec<Version>, more
     move_front(room, &mut held, rest);
 }
 
-/// The number of versions of an ascending list that are below this one. It looks `stride` ahead at a time, until what
-/// is left is worth halving.
+/// The number of versions of an ascending list that are below `version`. It looks `stride` ahead at a time, until the
+/// rest is short enough to halve.
 fn count_below(order: OrderBy, held: &VecDeque<Version>, stride: usize, version: &Version) -> usize
     requires { IsStrictlySortedBy (order_of order) held.now.items }
     ensures { IsPlaceOf (order_of order) version.now held.now.items result }
@@ -104,7 +104,7 @@ fn count_below(order: OrderBy, held: &VecDeque<Version>, stride: usize, version:
     low
 }
 
-/// How two versions compare by this order.
+/// The order of two versions.
 fn compare(order: OrderBy, version: &Version, other: &Version) -> Ordering
     ensures { result ≡ order_of order version.now other.now }
 {
@@ -114,7 +114,7 @@ fn compare(order: OrderBy, version: &Version, other: &Version) -> Ordering
     }
 }
 
-/// Moves so many versions from the front of a list behind those that are there, with room for them.
+/// Moves `count` versions from the front of `held` to the end of `room`, which has room for them.
 fn move_front(room: &mut Vec<Version>, held: &mut VecDeque<Version>, count: usize)
     requires enough { count ≤ deque_len held.old }
     requires room { vec_len room.old + count ≤ vec_capacity room.old }
@@ -129,11 +129,11 @@ fn move_front(room: &mut Vec<Version>, held: &mut VecDeque<Version>, count: usiz
     }
 }
 
-/// The version, or the first one of the list in its place, where they tie and that one isn't less. One that ties leaves
+/// The version, or the first one of the list instead, if they tie and that one isn't less. A version that ties leaves
 /// the list.
 fn take_tied(order: OrderBy, held: &mut VecDeque<Version>, version: Version) -> Version
     ensures value { result ≡ greater_tied (order_of order) version held.old.items }
-    ensures left { held.new.items ≡ untied (order_of order) version held.old.items }
+    ensures left { held.new.items ≡ rest_after_tie (order_of order) version held.old.items }
 {
     if !is_tied(order, held, &version) {
         return version;
@@ -154,9 +154,9 @@ fn is_tied(order: OrderBy, held: &VecDeque<Version>, version: &Version) -> bool
     }
 }
 
-/// The second version, where it is greater, else the first one.
+/// The second version, if it is greater, else the first one.
 fn greater(first: Version, second: Version) -> Version
-    ensures { result ≡ greater first second }
+    ensures { result ≡ greater_of first second }
 {
     if first.cmp(&second).is_lt() {
         second

@@ -1,15 +1,15 @@
 //! The next version of each source, and the tournament that finds the least of them.
 //!
-//! Why: after a version of k sources was taken, about log k games are played, where a search would look at k heads. A
+//! Why: after a version of k sources was taken, about log k games are played, while a search would look at k heads. A
 //! merge of 128 files takes 1.10 of the instructions of a merge of two.
-//! Assumes: the head of one place changed since the last games.
+//! Assumes: the head of one source changed since the last games.
 //! Otherwise: all games are played, as at the start (`build`).
 //! Compared by: `order_and_repetition_make_no_difference` and `comparison_bounds`.
 ghost use Rattle.std.specs.Prelude.{◌≡◌, ◌+◌, ◌-◌, ◌/◌, ◌<◌, ◌≤◌, ◌^◌, ℕ, None, Some};
 ghost use Rattle.std.specs.Prelude.{length, slice_index, slice_index_or, slice_set, IfOk, IfErr};
 ghost use Rattle.std.specs.Bool.{OnTrue};
 ghost use Rattle.osm_files.specs.Fault.{memory_fault};
-ghost use Rattle.osm_merge.specs.Repeats.{after_taking, IsTied, IsToldBy};
+ghost use Rattle.osm_merge.specs.Repeats.{repeats_after_taking, IsTied, IsToldBy};
 ghost use Rattle.osm_merge.specs.Tree.{IsTree};
 
 use crate::heads::{Head, head_of};
@@ -24,11 +24,11 @@ use std::alloc::Global;
 pub(crate) struct Tournament {
     /// The next version of each source.
     heads: Vec<Head>,
-    /// The places of the sources and the winners of the games, as the module `tree` has them.
+    /// The indices of the sources and the winners of the games, in the layout of the module `tree`.
     nodes: Vec<usize>,
-    /// What is known of equal heads.
+    /// The known equal heads.
     repeats: Repeats,
-    /// The comparisons of versions so far, those with the pending version included.
+    /// The comparisons of versions so far, including those with the pending version.
     pub(crate) compared: u64,
 }
 
@@ -57,7 +57,7 @@ impl Tournament {
         }
     }
 
-    /// The place of the least head.
+    /// The index of the source with the least head.
     #[inline(always)]
     pub(crate) fn leader(&self) -> usize
         requires some { 0 < length self.now.heads.items }
@@ -68,7 +68,7 @@ impl Tournament {
         self.nodes[1]
     }
 
-    /// Whether the head of this place is known to be equal to the version taken last.
+    /// Whether the head of the source `place` is known to be equal to the version taken last.
     #[inline(always)]
     pub(crate) fn is_repeated(&self, place: usize) -> bool
         ensures { OnTrue result (self.now.repeats.taken ≡ Some place) }
@@ -76,8 +76,8 @@ impl Tournament {
         self.repeats.is_taken(place)
     }
 
-    /// Takes the head of this place, if it has one. The source's next version has to be put before the leader is asked
-    /// for again.
+    /// Takes the head of the source `place`, if it has one. The source's next version has to be put before the next
+    /// call of `leader`.
     #[inline(always)]
     pub(crate) fn take(&mut self, place: usize) -> Option<Ranked>
         requires { place < length self.old.heads.items }
@@ -90,19 +90,19 @@ impl Tournament {
         self.heads[place].take()
     }
 
-    /// Puts the next version of the source of this place, if it has one, and plays the games of the place again.
+    /// Puts the next version of the source `place`, if it has one, and plays the games of the source again.
     #[inline(always)]
     pub(crate) fn put(&mut self, place: usize, next: Option<Version>)
         requires place { place < length self.old.heads.items }
         requires tree { IsTree (slice_set self.old.heads.items place next) self.old.nodes.items 1
             ((length self.old.heads.items + place) / 2) }
         requires tied { IsTied (slice_set self.old.heads.items place next)
-            (after_taking self.old.repeats.tie place).tie }
+            (repeats_after_taking self.old.repeats.tie place).tie }
         ensures heads { self.new.heads.items ≡ slice_set self.old.heads.items place next }
         ensures tree { IsTree self.new.heads.items self.new.nodes.items 1 0 }
         ensures tied { IsTied self.new.heads.items self.new.repeats.tie }
-        ensures taken { self.new.repeats.taken ≡ (after_taking self.old.repeats.tie place).taken }
-        ensures told { IsToldBy (after_taking self.old.repeats.tie place).tie self.old.compared
+        ensures taken { self.new.repeats.taken ≡ (repeats_after_taking self.old.repeats.tie place).taken }
+        ensures told { IsToldBy (repeats_after_taking self.old.repeats.tie place).tie self.old.compared
             self.new.repeats.tie self.new.compared }
         ensures most { (depth : ℕ) → length self.new.heads.items ≤ 2 ^ depth →
             self.new.compared ≤ self.old.compared + depth }

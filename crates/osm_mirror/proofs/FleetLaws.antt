@@ -1,4 +1,4 @@
--- What mirrors hold of what reached them, one event after the other.
+-- The histories of mirrors, compared with what reached them, event by event.
 use Rattle.std.proofs.Common.{◌≡◌, ◌≢◌, ℕ, suc, ◌+◌, ◌<◌, ◌≤◌, Bool, true, false, not, ◌&&◌, ◌||◌, nat_eq, List, [], ◌∷◌, ◌++◌, map, length}
 use Rattle.std.proofs.Common.{get_or, set, take, refl, sym, ap, ◌∙◌, subst, arith, inl, inr, is_some, All, Result, Ok, Err, IfOk, OnErr}
 use Rattle.std.proofs.lemmas.Bool.{false≢true, cases_Bool, cases_lt, cond-true, cond-false, eqb-true, eqb-false, eq-eqb}
@@ -11,7 +11,7 @@ use Rattle.std.specs.List.{list_any}
 use Rattle.osm_model.specs.Data.{VersionData}
 use Rattle.osm_model.specs.Order.{version_cmp, version_cmp_total}
 use Rattle.osm_model.specs.VersionSet.{VersionSet}
-use Rattle.osm_model.specs.Sets.{contains, empty, union, listed}
+use Rattle.osm_model.specs.Sets.{contains, empty, union, to_list}
 use Rattle.osm_model.proofs.SetLaws.{same_set, contains-union}
 use Rattle.osm_model.proofs.VersionLaws.{version_cmp-IsAntisymmetric}
 use Rattle.osm_files.specs.declared.fault.Fault.{Fault}
@@ -25,17 +25,19 @@ use Rattle.osm_mirror.specs.declared.event.MirrorEvent.TheVariants.{Take, Pass, 
 use Rattle.osm_mirror.specs.declared.event.Reply.{Reply}
 use Rattle.osm_mirror.specs.declared.event.Reply.TheVariants.{Taken, Refused}
 use Rattle.osm_mirror.specs.declared.keep.Taken.{Taken as Taken_of}
-use Rattle.osm_mirror.specs.Mirror.{MirrorData, kept, fresh, took, IsKept, TakesFile}
-use Rattle.osm_mirror.specs.Fleet.{at, AreKept, behind, IsAnswer, behind_all, AreAnswers, Source, Track, is_full, begun}
-use Rattle.osm_mirror.specs.Fleet.{retracked, reached, reached_all, set_of, united, IsPart, HoldsOf, Converges}
+use Rattle.osm_mirror.specs.Mirror.{MirrorData, kept_part, new_mirror, after_taking, IsKept, TakesFile}
+use Rattle.osm_mirror.specs.Fleet.{mirror_at, AreKept, mirrors_after, IsAnswer, mirrors_after_all, AreAnswers, Source, Track, is_full, first_track}
+use Rattle.osm_mirror.specs.Fleet.{with_track, tracks_after, tracks_after_all, set_of, union_of_sources, IsPart, HoldsOf, Converges}
 
 -- ---- sets
 pub in_union : (s t : VersionSet) (v : VersionData) → contains (union s t) v ≡ (contains s v || contains t v)
 in_union s t v = contains-union version_cmp_total s t v
 
+-- Two sets with the same members are equal.
 pub equal_sets : (s t : VersionSet) → ((v : VersionData) → contains s v ≡ contains t v) → s ≡ t
 equal_sets s t h = same_set version_cmp_total version_cmp-IsAntisymmetric s t h
 
+-- The empty set has no member.
 pub in_none : (v : VersionData) → contains {R = version_cmp} empty v ≡ false
 in_none v = ap is_some (get-empty {X = Unit {0}} version_cmp v)
 
@@ -75,9 +77,10 @@ or_parts false b c d f g e = ap (λ x. x || c) (g e)
 part_union : (s t u w : VersionSet) → IsPart s u → IsPart t w → IsPart (union s t) (union w u)
 part_union s t u w f g v e = in_union w u v ∙ or_parts _ _ _ _ (f v) (g v) (sym (in_union s t v) ∙ e)
 
+-- A snapshot is a part of its set.
 pub snapshot_part : (s : VersionSet) → IsPart (snapshot s) s
 snapshot_part s v e =
-    first_so _ _ (sym (contains-retain version_cmp_total version_cmp-IsAntisymmetric s (λ w. not (list_any (beats w) (listed s))) v) ∙ e)
+    first_so _ _ (sym (contains-retain version_cmp_total version_cmp-IsAntisymmetric s (λ w. not (list_any (beats w) (to_list s))) v) ∙ e)
 
 equal_part : (s t : VersionSet) → s ≡ t → IsPart s t
 equal_part s t e v h = ap (λ u. contains u v) (sym e) ∙ h
@@ -89,7 +92,7 @@ latest_full e = cc
 pub full_latest : Full ≡ Latest → ⊥
 full_latest e = cc
 
--- A mirror holds what it is to hold of u, and takes a set that is a part of w with the same snapshot; the whole where it came
+-- A mirror that holds its part of u takes a set that is a part of w with the same snapshot; the whole of w if it came
 -- from a mirror that is purely full.
 module _ (u w held more : VersionSet) (p q : Bool) (part : IsPart more w) (newest : snapshot more ≡ snapshot w)
     (whole : q ≡ true → more ≡ w) where
@@ -98,7 +101,7 @@ module _ (u w held more : VersionSet) (p q : Bool) (part : IsPart more w) (newes
       snapshot_of_union held more ∙ (λ i. snapshot (union (h i) (newest i))) ∙ sym (snapshot_of_union u w) ∙ ap snapshot (turned_union u w)
 
   pub took_holds : (keep : Keep) → HoldsOf u p (record { keep = keep; held = held })
-      → HoldsOf (union w u) (q && p) (took (record { keep = keep; held = held }) more)
+      → HoldsOf (union w u) (q && p) (after_taking (record { keep = keep; held = held }) more)
   took_holds Full h = record {
     holds_no_more = part_union held more u w h.holds_no_more part;
     same_snapshot = newest_of_both h.same_snapshot;
@@ -112,9 +115,9 @@ module _ (u w held more : VersionSet) (p q : Bool) (part : IsPart more w) (newes
     full_exact = λ e. absurd (latest_full (h.full_exact (second_so q p e)).0);
   }
 
--- a new mirror that took what the old one held
+-- a new mirror that took the history of the old one
 restarted_holds : (keep : Keep) (held u : VersionSet) (p : Bool) → HoldsOf u p (record { keep = keep; held = held })
-    → HoldsOf u p (took (fresh keep) held)
+    → HoldsOf u p (after_taking (new_mirror keep) held)
 restarted_holds Full held u p h = subst (λ (s : VersionSet). HoldsOf u p (record { keep = Full; held = s })) (sym (none_and held)) h
 restarted_holds Latest held u p h =
     let is : snapshot (union empty held) ≡ snapshot held = ap snapshot (none_and held) in
@@ -142,11 +145,12 @@ begun_holds Latest held h = record {
 }
 
 -- ---- kept mirrors
-kept_is : (keep : Keep) (s : VersionSet) → IsKept (record { keep = keep; held = kept keep s })
+kept_is : (keep : Keep) (s : VersionSet) → IsKept (record { keep = keep; held = kept_part keep s })
 kept_is Full s = λ e. absurd (full_latest e)
 kept_is Latest s = λ _. sym (snapshot_of_snapshot s)
 
-pub took_kept : (m : MirrorData) (s : VersionSet) → IsKept (took m s)
+-- A mirror that took a set holds what it keeps.
+pub took_kept : (m : MirrorData) (s : VersionSet) → IsKept (after_taking m s)
 took_kept m s = kept_is m.keep (union m.held s)
 
 none_of_none : (v : VersionData) (b : Bool) → contains {R = version_cmp} (snapshot empty) v ≡ b
@@ -157,89 +161,91 @@ none_of_none v false e = e ∙ sym (in_none v)
 none_newest : snapshot (empty {R = version_cmp}) ≡ empty
 none_newest = equal_sets _ _ (λ v. none_of_none v (contains {R = version_cmp} (snapshot empty) v) refl)
 
-pub fresh_kept : (keep : Keep) → IsKept (fresh keep)
+-- A new mirror holds what it keeps.
+pub fresh_kept : (keep : Keep) → IsKept (new_mirror keep)
 fresh_kept keep = λ _. sym none_newest
 
 pub set_kept : (mirrors : List MirrorData) (to : ℕ) (x : MirrorData) → AreKept mirrors → to < length mirrors → IsKept x
     → AreKept (set mirrors to x)
 set_kept mirrors to x h within is = λ m below. elim (cases_Bool (nat_eq m to)) [
-  | inl same ↦ subst (λ (k : ℕ). IsKept (at (set mirrors to x) k)) (sym (eqb-true m to same))
-      (subst IsKept (sym (get_or-set_same mirrors to x (fresh Full) within)) is)
+  | inl same ↦ subst (λ (k : ℕ). IsKept (mirror_at (set mirrors to x) k)) (sym (eqb-true m to same))
+      (subst IsKept (sym (get_or-set_same mirrors to x (new_mirror Full) within)) is)
   | inr other ↦ (let apart : m ≢ to = eqb-false m to other in
-      subst IsKept (sym (get_or-set_other mirrors to m x (fresh Full) apart)) (h m (omega (arith, below, length-set mirrors to x))))
+      subst IsKept (sym (get_or-set_other mirrors to m x (new_mirror Full) apart)) (h m (omega (arith, below, length-set mirrors to x))))
 ]
 
 -- new mirrors
-pub all_fresh : (kinds : List Keep) → AreKept (map fresh kinds)
+pub all_fresh : (kinds : List Keep) → AreKept (map new_mirror kinds)
 all_fresh kinds m below =
-    subst IsKept (sym (get_or-map fresh kinds m Full (fresh Full) (omega (arith, below, length-map kinds fresh))))
+    subst IsKept (sym (get_or-map new_mirror kinds m Full (new_mirror Full) (omega (arith, below, length-map kinds new_mirror))))
     (fresh_kept (get_or kinds m Full))
 
--- one mirror was handed a file: it took it, or is as it was
+-- one mirror was handed a file: it took it, or is unchanged
 pub handed_kept : (mirrors : List MirrorData) (m : ℕ) (x y : MirrorData) (bytes : List ℕ) (r : Result Taken_of Fault) → AreKept mirrors
     → m < length mirrors → x ≡ get_or mirrors m x → IfOk r (TakesFile bytes x y) → OnErr r (y ≡ x) → AreKept (set mirrors m y)
 handed_kept mirrors m x y bytes (Ok taken) h within at_m ok err =
     set_kept mirrors m y h within (subst IsKept (sym ok.holds) (took_kept x (held_by bytes)))
 handed_kept mirrors m x y bytes (Err fault) h within at_m ok err =
-    set_kept mirrors m y h within (subst IsKept (sym (err ∙ at_m ∙ get_or_default mirrors m x (fresh Full) within)) (h m within))
+    set_kept mirrors m y h within (subst IsKept (sym (err ∙ at_m ∙ get_or_default mirrors m x (new_mirror Full) within)) (h m within))
 
-pub here : (mirrors : List MirrorData) (m : ℕ) (x : MirrorData) → m < length mirrors → x ≡ get_or mirrors m x → x ≡ at mirrors m
-here mirrors m x within at_m = at_m ∙ get_or_default mirrors m x (fresh Full) within
+-- The mirror at an index of the list is the mirror of that number.
+pub here : (mirrors : List MirrorData) (m : ℕ) (x : MirrorData) → m < length mirrors → x ≡ get_or mirrors m x → x ≡ mirror_at mirrors m
+here mirrors m x within at_m = at_m ∙ get_or_default mirrors m x (new_mirror Full) within
 
 -- ---- all mirrors
 pub record Each (openings : List MirrorData) (t : ℕ → Track) (mirrors : List MirrorData) : Type 0 where
-  pub each : (m : ℕ) → m < length mirrors → HoldsOf (united openings (t m).reach) (t m).pure (at mirrors m)
+  pub each : (m : ℕ) → m < length mirrors → HoldsOf (union_of_sources openings (t m).reach) (t m).pure (mirror_at mirrors m)
 
-united_both : (openings : List MirrorData) (r s : List Source) → united openings (r ++ s) ≡ union (united openings r) (united openings s)
-united_both openings [] s = sym (none_and (united openings s))
+united_both : (openings : List MirrorData) (r s : List Source) → union_of_sources openings (r ++ s) ≡ union (union_of_sources openings r) (union_of_sources openings s)
+united_both openings [] s = sym (none_and (union_of_sources openings s))
 united_both openings (x ∷ r) s =
     ap (union (set_of openings x)) (united_both openings r s)
-    ∙ sym (grouped_union (set_of openings x) (united openings r) (united openings s))
+    ∙ sym (grouped_union (set_of openings x) (union_of_sources openings r) (union_of_sources openings s))
 
 -- one mirror changes, and at most its track
 changed_each : (openings mirrors : List MirrorData) (t t2 : ℕ → Track) (to : ℕ) (x : MirrorData) → Each openings t mirrors
-    → to < length mirrors → HoldsOf (united openings (t2 to).reach) (t2 to).pure x → ((k : ℕ) → nat_eq k to ≡ false → t2 k ≡ t k)
+    → to < length mirrors → HoldsOf (union_of_sources openings (t2 to).reach) (t2 to).pure x → ((k : ℕ) → nat_eq k to ≡ false → t2 k ≡ t k)
     → Each openings t2 (set mirrors to x)
 changed_each openings mirrors t t2 to x h within new others = record {
   each = λ m below. elim (cases_Bool (nat_eq m to)) [
-    | inl is ↦ subst (λ (k : ℕ). HoldsOf (united openings (t2 k).reach) (t2 k).pure (at (set mirrors to x) k)) (sym (eqb-true m to is))
-        (subst (λ (y : MirrorData). HoldsOf (united openings (t2 to).reach) (t2 to).pure y)
-        (sym (get_or-set_same mirrors to x (fresh Full) within)) new)
+    | inl is ↦ subst (λ (k : ℕ). HoldsOf (union_of_sources openings (t2 k).reach) (t2 k).pure (mirror_at (set mirrors to x) k)) (sym (eqb-true m to is))
+        (subst (λ (y : MirrorData). HoldsOf (union_of_sources openings (t2 to).reach) (t2 to).pure y)
+        (sym (get_or-set_same mirrors to x (new_mirror Full) within)) new)
     | inr not ↦ (let apart : m ≢ to = eqb-false m to not in
-        subst (λ (y : MirrorData). HoldsOf (united openings (t2 m).reach) (t2 m).pure y)
-        (sym (get_or-set_other mirrors to m x (fresh Full) apart))
-        (subst (λ (y : Track). HoldsOf (united openings y.reach) y.pure (at mirrors m)) (sym (others m not))
+        subst (λ (y : MirrorData). HoldsOf (union_of_sources openings (t2 m).reach) (t2 m).pure y)
+        (sym (get_or-set_other mirrors to m x (new_mirror Full) apart))
+        (subst (λ (y : Track). HoldsOf (union_of_sources openings y.reach) y.pure (mirror_at mirrors m)) (sym (others m not))
         (h.each m (omega (arith, below, length-set mirrors to x)))))
   ];
 }
 
-retracked_here : (t : ℕ → Track) (m : ℕ) (x : Track) → retracked t m x m ≡ x
+retracked_here : (t : ℕ → Track) (m : ℕ) (x : Track) → with_track t m x m ≡ x
 retracked_here t m x = cond-true (nat_eq m m) x (t m) (eq-eqb m m refl)
 
 retracked_each : (openings mirrors : List MirrorData) (t : ℕ → Track) (to : ℕ) (x : MirrorData) (track : Track) → Each openings t mirrors
-    → to < length mirrors → HoldsOf (united openings track.reach) track.pure x → Each openings (retracked t to track) (set mirrors to x)
+    → to < length mirrors → HoldsOf (union_of_sources openings track.reach) track.pure x → Each openings (with_track t to track) (set mirrors to x)
 retracked_each openings mirrors t to x track h within new =
-    changed_each openings mirrors t (retracked t to track) to x h within
-    (subst (λ (y : Track). HoldsOf (united openings y.reach) y.pure x) (sym (retracked_here t to track)) new)
+    changed_each openings mirrors t (with_track t to track) to x h within
+    (subst (λ (y : Track). HoldsOf (union_of_sources openings y.reach) y.pure x) (sym (retracked_here t to track)) new)
     (λ k other. cond-false (nat_eq k to) track (t k) other)
 
 -- ---- one event
 behind_each : (openings mirrors : List MirrorData) (t : ℕ → Track) (e : Event) (r : Reply) → IsWithin (length mirrors) e
-    → Each openings t mirrors → Each openings (reached t e r) (behind mirrors e r)
+    → Each openings t mirrors → Each openings (tracks_after t e r) (mirrors_after mirrors e r)
 behind_each openings mirrors t (Take m file) Taken within h =
     retracked_each openings mirrors t m _ _ h within
-    (took_holds (united openings (t m).reach) (held_by file.now) (at mirrors m).held (held_by file.now) (t m).pure true (λ v e. e) refl
-    (λ _. refl) (at mirrors m).keep (h.each m within))
+    (took_holds (union_of_sources openings (t m).reach) (held_by file.now) (mirror_at mirrors m).held (held_by file.now) (t m).pure true (λ v e. e) refl
+    (λ _. refl) (mirror_at mirrors m).keep (h.each m within))
 behind_each openings mirrors t (Pass from to format) Taken within h =
     let sent = h.each from within.0 in
     retracked_each openings mirrors t to _ _ h within.1
-    (subst (λ (u : VersionSet). HoldsOf u ((t from).pure && (t to).pure) (took (at mirrors to) (at mirrors from).held))
+    (subst (λ (u : VersionSet). HoldsOf u ((t from).pure && (t to).pure) (after_taking (mirror_at mirrors to) (mirror_at mirrors from).held))
     (sym (united_both openings (t from).reach (t to).reach))
-    (took_holds (united openings (t to).reach) (united openings (t from).reach) (at mirrors to).held (at mirrors from).held (t to).pure
-    (t from).pure sent.holds_no_more sent.same_snapshot (λ e. (sent.full_exact e).1) (at mirrors to).keep (h.each to within.1)))
+    (took_holds (union_of_sources openings (t to).reach) (union_of_sources openings (t from).reach) (mirror_at mirrors to).held (mirror_at mirrors from).held (t to).pure
+    (t from).pure sent.holds_no_more sent.same_snapshot (λ e. (sent.full_exact e).1) (mirror_at mirrors to).keep (h.each to within.1)))
 behind_each openings mirrors t (Restart m format) Taken within h =
     changed_each openings mirrors t t m _ h within
-    (restarted_holds (at mirrors m).keep (at mirrors m).held (united openings (t m).reach) (t m).pure (h.each m within)) (λ k _. refl)
+    (restarted_holds (mirror_at mirrors m).keep (mirror_at mirrors m).held (union_of_sources openings (t m).reach) (t m).pure (h.each m within)) (λ k _. refl)
 behind_each openings mirrors t (Take m file) (Refused fault) within h = h
 behind_each openings mirrors t (Pass from to format) (Refused fault) within h = h
 behind_each openings mirrors t (Restart m format) (Refused fault) within h = h
@@ -247,12 +253,12 @@ behind_each openings mirrors t (Restart m format) (Refused fault) within h = h
 abbrev kinds_of : List MirrorData → List Keep
 kinds_of mirrors = map (λ m. m.keep) mirrors
 
-pub set_kinds : (mirrors : List MirrorData) (m : ℕ) (x : MirrorData) → m < length mirrors → x.keep ≡ (at mirrors m).keep
+pub set_kinds : (mirrors : List MirrorData) (m : ℕ) (x : MirrorData) → m < length mirrors → x.keep ≡ (mirror_at mirrors m).keep
     → kinds_of (set mirrors m x) ≡ kinds_of mirrors
-set_kinds mirrors m x within same = map-set_same (λ y. y.keep) mirrors m x (fresh Full) same
+set_kinds mirrors m x within same = map-set_same (λ y. y.keep) mirrors m x (new_mirror Full) same
 
 behind_kinds : (mirrors : List MirrorData) (e : Event) (r : Reply) → IsWithin (length mirrors) e
-    → kinds_of (behind mirrors e r) ≡ kinds_of mirrors
+    → kinds_of (mirrors_after mirrors e r) ≡ kinds_of mirrors
 behind_kinds mirrors (Take m file) Taken within = set_kinds mirrors m _ within refl
 behind_kinds mirrors (Pass from to format) Taken within = set_kinds mirrors to _ within.1 refl
 behind_kinds mirrors (Restart m format) Taken within = set_kinds mirrors m _ within refl
@@ -260,7 +266,7 @@ behind_kinds mirrors (Take m file) (Refused fault) within = refl
 behind_kinds mirrors (Pass from to format) (Refused fault) within = refl
 behind_kinds mirrors (Restart m format) (Refused fault) within = refl
 
-behind_number : (mirrors : List MirrorData) (e : Event) (r : Reply) → length (behind mirrors e r) ≡ length mirrors
+behind_number : (mirrors : List MirrorData) (e : Event) (r : Reply) → length (mirrors_after mirrors e r) ≡ length mirrors
 behind_number mirrors (Take m file) Taken = length-set mirrors m _
 behind_number mirrors (Pass from to format) Taken = length-set mirrors to _
 behind_number mirrors (Restart m format) Taken = length-set mirrors m _
@@ -279,31 +285,31 @@ same_within : (count count2 : ℕ) (es : List Event) → count2 ≡ count → Al
 same_within count count2 es e h = subst (λ (n : ℕ). All (IsWithin n) es) (sym e) h
 
 all_each : (openings mirrors : List MirrorData) (t : ℕ → Track) (es : List Event) (rs : List Reply) → All (IsWithin (length mirrors)) es
-    → Each openings t mirrors → Each openings (reached_all t es rs) (behind_all mirrors es rs)
+    → Each openings t mirrors → Each openings (tracks_after_all t es rs) (mirrors_after_all mirrors es rs)
 all_each openings mirrors t [] [] within h = h
 all_each openings mirrors t [] (r ∷ rs) within h = h
 all_each openings mirrors t (e ∷ es) [] within h = h
 all_each openings mirrors t (e ∷ es) (r ∷ rs) within h =
-    all_each openings (behind mirrors e r) (reached t e r) es rs
-    (same_within (length mirrors) (length (behind mirrors e r)) es (behind_number mirrors e r) (rest_within (length mirrors) e es within))
+    all_each openings (mirrors_after mirrors e r) (tracks_after t e r) es rs
+    (same_within (length mirrors) (length (mirrors_after mirrors e r)) es (behind_number mirrors e r) (rest_within (length mirrors) e es within))
     (behind_each openings mirrors t e r (first_within (length mirrors) e es within) h)
 
 all_kinds : (mirrors : List MirrorData) (es : List Event) (rs : List Reply) → All (IsWithin (length mirrors)) es
-    → kinds_of (behind_all mirrors es rs) ≡ kinds_of mirrors
+    → kinds_of (mirrors_after_all mirrors es rs) ≡ kinds_of mirrors
 all_kinds mirrors [] [] within = refl
 all_kinds mirrors [] (r ∷ rs) within = refl
 all_kinds mirrors (e ∷ es) [] within = refl
 all_kinds mirrors (e ∷ es) (r ∷ rs) within =
-    all_kinds (behind mirrors e r) es rs
-    (same_within (length mirrors) (length (behind mirrors e r)) es (behind_number mirrors e r) (rest_within (length mirrors) e es within))
+    all_kinds (mirrors_after mirrors e r) es rs
+    (same_within (length mirrors) (length (mirrors_after mirrors e r)) es (behind_number mirrors e r) (rest_within (length mirrors) e es within))
     ∙ behind_kinds mirrors e r (first_within (length mirrors) e es within)
 
-begun_each : (mirrors : List MirrorData) → AreKept mirrors → Each mirrors (begun mirrors) mirrors
-begun_each mirrors h = record { each = λ m below. begun_holds (at mirrors m).keep (at mirrors m).held (h m below) }
+begun_each : (mirrors : List MirrorData) → AreKept mirrors → Each mirrors (first_track mirrors) mirrors
+begun_each mirrors h = record { each = λ m below. begun_holds (mirror_at mirrors m).keep (mirror_at mirrors m).held (h m below) }
 
--- mirrors that hold what the events made of them converge
+-- mirrors with the histories that the events lead to converge
 pub converges : (old : List MirrorData) (events : List Event) (replies : List Reply) (new : List MirrorData) → AreKept old
-    → All (IsWithin (length old)) events → AreAnswers old events replies → new ≡ behind_all old events replies
+    → All (IsWithin (length old)) events → AreAnswers old events replies → new ≡ mirrors_after_all old events replies
     → Converges old events replies new
 converges old events replies new h within answers is =
     subst (Converges old events replies) (sym is)
@@ -311,29 +317,29 @@ converges old events replies new h within answers is =
       answers = answers;
       mirrors = refl;
       kinds = all_kinds old events replies within;
-      each = (all_each old old (begun old) events replies within (begun_each old h)).each;
+      each = (all_each old old (first_track old) events replies within (begun_each old h)).each;
     })
 
 -- ---- one more event
 behind_more : (mirrors : List MirrorData) (es : List Event) (rs : List Reply) (e : Event) (r : Reply) → AreAnswers mirrors es rs
-    → behind_all mirrors (es ++ e ∷ []) (rs ++ r ∷ []) ≡ behind (behind_all mirrors es rs) e r
+    → mirrors_after_all mirrors (es ++ e ∷ []) (rs ++ r ∷ []) ≡ mirrors_after (mirrors_after_all mirrors es rs) e r
 behind_more mirrors [] [] e r h = refl
 behind_more mirrors [] (x ∷ rs) e r h = absurd h
 behind_more mirrors (x ∷ es) [] e r h = absurd h
-behind_more mirrors (x ∷ es) (y ∷ rs) e r h = behind_more (behind mirrors x y) es rs e r h.1
+behind_more mirrors (x ∷ es) (y ∷ rs) e r h = behind_more (mirrors_after mirrors x y) es rs e r h.1
 
 answers_more : (mirrors : List MirrorData) (es : List Event) (rs : List Reply) (e : Event) (r : Reply) → AreAnswers mirrors es rs
-    → IsAnswer (behind_all mirrors es rs) e r → AreAnswers mirrors (es ++ e ∷ []) (rs ++ r ∷ [])
+    → IsAnswer (mirrors_after_all mirrors es rs) e r → AreAnswers mirrors (es ++ e ∷ []) (rs ++ r ∷ [])
 answers_more mirrors [] [] e r h a = (a, tt)
 answers_more mirrors [] (y ∷ rs) e r h a = absurd h
 answers_more mirrors (x ∷ es) [] e r h a = absurd h
-answers_more mirrors (x ∷ es) (y ∷ rs) e r h a = (h.0, answers_more (behind mirrors x y) es rs e r h.1 a)
+answers_more mirrors (x ∷ es) (y ∷ rs) e r h a = (h.0, answers_more (mirrors_after mirrors x y) es rs e r h.1 a)
 
-all_number : (mirrors : List MirrorData) (es : List Event) (rs : List Reply) → length (behind_all mirrors es rs) ≡ length mirrors
+all_number : (mirrors : List MirrorData) (es : List Event) (rs : List Reply) → length (mirrors_after_all mirrors es rs) ≡ length mirrors
 all_number mirrors [] [] = refl
 all_number mirrors [] (r ∷ rs) = refl
 all_number mirrors (e ∷ es) [] = refl
-all_number mirrors (e ∷ es) (r ∷ rs) = all_number (behind mirrors e r) es rs ∙ behind_number mirrors e r
+all_number mirrors (e ∷ es) (r ∷ rs) = all_number (mirrors_after mirrors e r) es rs ∙ behind_number mirrors e r
 
 -- ---- whether events may be run
 pub within_more : (count : ℕ) (es : List Event) (i : ℕ) (d : Event) → All (IsWithin count) (take i es) → i < length es
@@ -348,30 +354,32 @@ within_more count es i d all below here = λ k e inside.
     ])
 
 -- ---- the loop of a run
--- so many events happened, each with its reply, and there is room for all replies
+-- the first `i` events ran, each with its reply, and there is room for all replies
 pub record IsRunning (old : List MirrorData) (events : List Event) (i : ℕ) (replies : List Reply) (count space : ℕ)
     (mid : List MirrorData) : Type 0 where
   pub answers : AreAnswers old (take i events) replies
-  pub mirrors : mid ≡ behind_all old (take i events) replies
+  pub mirrors : mid ≡ mirrors_after_all old (take i events) replies
   pub filled : count ≡ i
   pub enough : length events ≤ space
 
 module _ (old mid : List MirrorData) (events : List Event) (i : ℕ) (replies : List Reply) (count space : ℕ)
     (h : IsRunning old events i replies count space mid) where
+  -- An event of a list names mirrors of the fleet.
   pub event_within : (d : Event) → i < length events → All (IsWithin (length old)) events → IsWithin (length mid) (get_or events i d)
   event_within d below all =
       subst (λ (n : ℕ). IsWithin n (get_or events i d)) (sym (ap length h.mirrors ∙ all_number old (take i events) replies)) (all i d below)
 
+  -- One more event got its reply.
   pub run_goes_on : (new : List MirrorData) (d : Event) (r : Reply) (replies2 : List Reply) (count2 space2 : ℕ) → i < length events
-      → IsAnswer mid (get_or events i d) r → new ≡ behind mid (get_or events i d) r →
+      → IsAnswer mid (get_or events i d) r → new ≡ mirrors_after mid (get_or events i d) r →
       replies2 ≡ replies ++ r ∷ [] → count2 ≡ count + 1 → space2 ≡ space → IsRunning old events (i + 1) replies2 count2 space2 new
   run_goes_on new d r replies2 count2 space2 below answer is more longer same =
-      let now : IsAnswer (behind_all old (take i events) replies) (get_or events i d) r =
+      let now : IsAnswer (mirrors_after_all old (take i events) replies) (get_or events i d) r =
       subst (λ (ms : List MirrorData). IsAnswer ms (get_or events i d) r) h.mirrors answer in
-      let P : List Event → List Reply → Type 0 = λ es rs. AreAnswers old es rs × (new ≡ behind_all old es rs) in
+      let P : List Event → List Reply → Type 0 = λ es rs. AreAnswers old es rs × (new ≡ mirrors_after_all old es rs) in
       let next : P (take i events ++ get_or events i d ∷ []) (replies ++ r ∷ []) = (
         answers_more old (take i events) replies (get_or events i d) r h.answers now,
-        is ∙ ap (λ ms. behind ms (get_or events i d) r) h.mirrors
+        is ∙ ap (λ ms. mirrors_after ms (get_or events i d) r) h.mirrors
             ∙ sym (behind_more old (take i events) replies (get_or events i d) r h.answers),
       ) in
       let both : P (take (i + 1) events) replies2 =
@@ -379,8 +387,9 @@ module _ (old mid : List MirrorData) (events : List Event) (i : ℕ) (replies : 
       (subst (λ (rs : List Reply). P (take i events ++ get_or events i d ∷ []) rs) (sym more) next) in
       record { answers = both.0; mirrors = both.1; filled = omega (arith, h.filled, longer); enough = omega (arith, h.enough, same) }
 
+  -- Once each event got its reply, the run converges.
   pub run_ends : AreKept old → All (IsWithin (length old)) events → length events ≤ i → Converges old events replies mid
-  run_ends kept within end =
+  run_ends kept_part within end =
       let all : take i events ≡ events = take_all i events end in
-      converges old events replies mid kept within (subst (λ (es : List Event). AreAnswers old es replies) all h.answers)
-      (h.mirrors ∙ ap (λ es. behind_all old es replies) all)
+      converges old events replies mid kept_part within (subst (λ (es : List Event). AreAnswers old es replies) all h.answers)
+      (h.mirrors ∙ ap (λ es. mirrors_after_all old es replies) all)

@@ -13,3 +13,7 @@ mod PlanTextLaws
 mod MergesLaws
 mod SortedRunLaws
 mod SlicedFileLaws
+mod CutLaws
+mod SliceRunLaws
+mod ShardLaws
+mod LargestLaws

@@ -1,4 +1,4 @@
--- The objects of an ascending list: the versions of one object stand together, and the last of them is its newest.
+-- The objects of an ascending list: the versions of one object are adjacent, and the last of them is its newest.
 use Rattle.std.proofs.Common.{◌≡◌, suc, ◌+◌, Bool, true, false, not, ◌&&◌, ◌||◌, cond, List, [], ◌∷◌, length, refl, sym, ap, ◌∙◌, arith}
 use Rattle.std.proofs.Common.{Some, None}
 use Rattle.std.proofs.lemmas.Bool.{false≢true}
@@ -11,15 +11,15 @@ use Rattle.std.specs.List.Sorted.{IsStrictlySortedBy}
 use Rattle.std.proofs.lemmas.List.Kept.{IsStrictlySortedBy-filter}
 use Rattle.osm_model.specs.Data.{VersionData}
 use Rattle.osm_model.specs.Order.{object_cmp, version_cmp, object_cmp_total, version_cmp_total}
-use Rattle.osm_model.specs.Sets.{listed}
+use Rattle.osm_model.specs.Sets.{to_list}
 use Rattle.osm_model.specs.VersionSet.{VersionSet}
 use Rattle.osm_model.proofs.SetLaws.{strict-listed}
-use Rattle.osm_model.proofs.VersionLaws.{listed-view}
+use Rattle.osm_model.proofs.VersionLaws.{to_list-view}
 use Rattle.osm_merge.specs.Pass.{same_object}
 use Rattle.osm_merge.specs.Selected.{beats}
-use Rattle.osm_mirror.specs.Check.{begins, begun_behind, object_count}
+use Rattle.osm_mirror.specs.Check.{new_objects, objects_after, object_count}
 
--- what ascends by two orders doesn't fall by the first
+-- a list that ascends by two orders doesn't fall by the first
 not_falling : (a b : Ordering) → is_gt (ordering_then a b) ≡ false → is_gt a ≡ false
 not_falling Less b e = refl
 not_falling Equal b e = refl
@@ -35,7 +35,7 @@ no_more Less Greater e h k = absurd (false≢true (sym k))
 no_more Equal s e h k = refl
 no_more Greater s e h k = absurd (false≢true (sym h))
 
--- what stands between two versions of an object is one too
+-- a version between two versions of an object is one too
 together : (u v w : VersionData) → version_cmp u v ≡ Less → version_cmp v w ≡ Less → same_object u w ≡ true → same_object u v ≡ true
 together u v w uv vw uw =
     let back : is_gt (object_cmp w u) ≡ false = ap is_gt (object_cmp_total.antisymm w u)
@@ -64,7 +64,7 @@ false_unless : (b : Bool) → (b ≡ true → ⊥) → b ≡ false
 false_unless true f = absurd (f refl)
 false_unless false f = refl
 
--- behind one of another object there is none of this one
+-- after one of another object there is none of this one
 none_behind : (v w : VersionData) → version_cmp v w ≡ Less → same_object v w ≡ false → (xs : List VersionData) →
     AllByRecursion (λ x. version_cmp w x ≡ Less) xs → list_any (beats v) xs ≡ false
 none_behind v w less other [] h = refl
@@ -87,7 +87,7 @@ first_newest v w xs less above =
       | false ↦ λ e. ap not (none_behind v w less e xs above)
     ] refl)
 
--- a list with one more in front has the same newest ones among the others
+-- a list with one more at the front has the same newest ones among the others
 same_behind : (v : VersionData) (all xs : List VersionData) → AllByRecursion (λ x. version_cmp v x ≡ Less) xs →
     filter (newest (v ∷ all)) xs ≡ filter (newest all) xs
 same_behind v all [] h = refl
@@ -101,26 +101,26 @@ counted_if : (b : Bool) (v : VersionData) (xs : List VersionData) → length (co
 counted_if true v xs = sym (let e : 0 + length xs ≡ length xs = omega arith in e)
 counted_if false v xs = let e : suc (length xs) ≡ 1 + length xs = omega arith in e
 
--- there are as many as objects begin
+-- the number of newest versions is that of the objects that begin
 newest_count : (v : VersionData) (xs : List VersionData) → IsStrictlySortedBy version_cmp (v ∷ xs) →
-    length (newest_of (v ∷ xs)) ≡ 1 + begun_behind (Some v) xs
+    length (newest_of (v ∷ xs)) ≡ 1 + objects_after (Some v) xs
 unfolding IsStrictlySortedBy
 newest_count v [] h = ap (λ b. length (cond (not (b || false)) (v ∷ []) [])) (not_itself v)
 newest_count v (w ∷ xs) h =
     let rest = newest_count w xs h.1 in
     let behind : filter (newest (v ∷ w ∷ xs)) (w ∷ xs) ≡ newest_of (w ∷ xs) = same_behind v (w ∷ xs) (w ∷ xs) h.0 in
     let here : newest (v ∷ w ∷ xs) v ≡ not (same_object v w) = first_newest v w xs h.0.0 h.1.0 in
-    let count : length (newest_of (v ∷ w ∷ xs)) ≡ begins (Some v) w + length (newest_of (w ∷ xs)) =
+    let count : length (newest_of (v ∷ w ∷ xs)) ≡ new_objects (Some v) w + length (newest_of (w ∷ xs)) =
     (λ i. length (cond (here i) (v ∷ behind i) (behind i))) ∙ counted_if (same_object v w) v (newest_of (w ∷ xs)) in
     omega (arith, count, rest)
 
-all_count : (xs : List VersionData) → IsStrictlySortedBy version_cmp xs → length (newest_of xs) ≡ begun_behind None xs
+all_count : (xs : List VersionData) → IsStrictlySortedBy version_cmp xs → length (newest_of xs) ≡ objects_after None xs
 all_count [] h = refl
 all_count (v ∷ xs) h = newest_count v xs h
 
--- in the list of a set as many objects begin as its snapshot has versions
-pub objects_begun : (set : VersionSet) → begun_behind None (listed set) ≡ object_count set
+-- in the list of a set the number of objects that begin is the number of versions of its snapshot
+pub objects_begun : (set : VersionSet) → objects_after None (to_list set) ≡ object_count set
 objects_begun set =
-    sym (all_count (listed set) (strict-listed set))
-    ∙ ap length (sym (listed-view (newest_of (listed set))
-    (IsStrictlySortedBy-filter version_cmp (newest (listed set)) (listed set) (strict-listed set))))
+    sym (all_count (to_list set) (strict-listed set))
+    ∙ ap length (sym (to_list-view (newest_of (to_list set))
+    (IsStrictlySortedBy-filter version_cmp (newest (to_list set)) (to_list set) (strict-listed set))))

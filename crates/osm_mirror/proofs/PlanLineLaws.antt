@@ -1,4 +1,4 @@
--- What the words of a plan's lines say, and that they say one thing.
+-- The parts that the words of a plan's lines spell, at most one each.
 use Rattle.std.proofs.Common.{◌≡◌, ℕ, ◌+◌, ◌<◌, ◌≤◌, ◌^◌, true, ◌&&◌, List, [], ◌∷◌, length, get_or, refl, sym, ap, ◌∙◌, arith, Result, Err}
 use Rattle.std.proofs.lemmas.Result.{OkIff-at_err}
 use Rattle.std.proofs.lemmas.Str.{encodes_same}
@@ -20,6 +20,7 @@ use Rattle.osm_mirror.specs.declared.plan_line.PlanLine.{PlanLine}
 use Rattle.osm_mirror.specs.declared.plan_line.PlanLine.TheVariants.{Mirror, Step, Write}
 use Rattle.osm_mirror.specs.PlanLine.{IsNumber, IsName, WordsSay, LineSays}
 
+-- The two tests for decimal digits agree.
 pub are_digits : (word : List ℕ) → list_all is_ascii_digit word ≡ all_ascii_digits word
 are_digits [] = refl
 are_digits (c ∷ cs) = ap (λ t. is_ascii_digit c && t) (are_digits cs)
@@ -116,7 +117,7 @@ write_one words v w a b =
     let format = format_one v.format w.format named in
     λ i. record { mirror = mirror i; format = format i; file = file i }
 
--- words say at most one thing
+-- words spell at most one part
 words_one : (words : List (List ℕ)) (one other : PlanLine) → WordsSay words one → WordsSay words other → one ≡ other
 words_one words (Mirror k) (Mirror l) a b = ap Mirror (mirror_one words k l a b)
 words_one words (Step s) (Step t) a b = ap Step (step_one words s t a b)
@@ -128,17 +129,18 @@ words_one words (Step s) (Write w) a b = absurd (omega (arith, step_letter words
 words_one words (Write w) (Mirror k) a b = absurd (omega (arith, write_letter words w a, mirror_letter words k b))
 words_one words (Write w) (Step s) a b = absurd (omega (arith, write_letter words w a, step_letter words s b))
 
+-- A line says at most one thing.
 pub line_one : (line : List ℕ) (one other : PlanLine) → LineSays line one → LineSays line other → one ≡ other
 line_one line one other a b = words_one _ one other a b
 
--- an empty word says nothing
+-- an empty word spells no part
 empty_says : (said : PlanLine) → WordsSay ([] ∷ []) said → ⊥
 unfolding letter
 empty_says (Mirror k) a = omega (arith, mirror_letter ([] ∷ []) k a)
 empty_says (Step s) a = omega (arith, step_letter ([] ∷ []) s a)
 empty_says (Write w) a = omega (arith, write_letter ([] ∷ []) w a)
 
--- so what says something is not empty
+-- so a line that spells a part is not empty
 pub says_full : (line : List ℕ) (said : PlanLine) → LineSays line said → is_full line ≡ true
 says_full [] said a = absurd (empty_says said a)
 says_full (b ∷ bs) said a = refl

@@ -1,4 +1,4 @@
--- Lines that spell plans: with one more line, and that they spell one plan alone.
+-- Lines that spell plans: with one more line; and that they spell only one plan.
 use Rattle.std.proofs.Common.{◌≡◌, ◌⊎◌, ℕ, suc, ◌+◌, ◌<◌, ◌==◌, true, take, drop, get_or, ◌≤◌, cond, List, [], ◌∷◌, ◌++◌, length, map}
 use Rattle.std.proofs.Common.{filter, refl, sym, ap, ◌∙◌, subst, append_assoc, append-nil, length-append, length-take, drop-cons, add-one}
 use Rattle.std.proofs.Common.{Result, Ok, Err, IfErr, inl, inr, arith}
@@ -21,16 +21,16 @@ use Rattle.osm_mirror.specs.declared.plan_line.PlanLine.{PlanLine}
 use Rattle.osm_mirror.specs.declared.plan_line.PlanLine.TheVariants.{Mirror, Step, Write}
 use Rattle.osm_mirror.specs.PlanFault.{memory_fault, fault_at}
 use Rattle.osm_mirror.specs.PlanLine.{LineSays, NamesMirrors}
-use Rattle.osm_mirror.specs.Plan.{Parts, parts_of, in_order, lines_of, LinesSpell, NamesItsMirrors, SpellsNoPlan, IsInTurn, IsLineRefused}
+use Rattle.osm_mirror.specs.Plan.{Parts, parts_of, plan_lines, lines_of, LinesSpell, NamesItsMirrors, SpellsNoPlan, IsInTurn, IsLineRefused}
 use Rattle.osm_mirror.specs.Plan.{LineFault, IsFirstFault, with_line, IsLineAdded}
 use Rattle.osm_mirror.specs.PlanLaws.{OnePlan, FaultySpellsNothing}
 use Rattle.osm_mirror.proofs.PlanLineLaws.{line_one, says_full}
 
--- what a line says stands behind all that was said before
-in_order-push : (before : Parts) (said : PlanLine) → IsInTurn before said → in_order (with_line before said) ≡ in_order before ++ said ∷ []
-in_order-push before (Mirror k) turn = rw (turn.0, turn.1) (simp (map-append, append-nil))
-in_order-push before (Step s) turn = rw turn (simp (map-append, append-nil, append_assoc))
-in_order-push before (Write w) turn = simp (map-append, append_assoc)
+-- the part of a line comes after all parts before it
+plan_lines-push : (before : Parts) (said : PlanLine) → IsInTurn before said → plan_lines (with_line before said) ≡ plan_lines before ++ said ∷ []
+plan_lines-push before (Mirror k) turn = rw (turn.0, turn.1) (simp (map-append, append-nil))
+plan_lines-push before (Step s) turn = rw turn (simp (map-append, append-nil, append_assoc))
+plan_lines-push before (Write w) turn = simp (map-append, append_assoc)
 
 -- mirrors are added, and none goes
 mirrors_stay : (before : Parts) (said : PlanLine) → length before.mirrors ≤ length (with_line before said).mirrors
@@ -45,7 +45,7 @@ names_more few many h (Step (Pass m n f)) named = (omega arith, omega arith)
 names_more few many h (Step (Restart m f)) named = omega arith
 names_more few many h (Write w) named = omega arith
 
--- lines spell one line more
+-- lines spell one more line
 pub line_added : (lines : List (List ℕ)) (line : List ℕ) (before after : Parts) → LinesSpell lines before → IsLineAdded line before after →
     LinesSpell (lines ++ line ∷ []) after
 line_added lines line before after spelled (inl (empty, same)) =
@@ -53,17 +53,17 @@ line_added lines line before after spelled (inl (empty, same)) =
 line_added lines line before after spelled (inr (said, says, added)) =
     let full : filter is_full (lines ++ line ∷ []) ≡ filter is_full lines ++ line ∷ [] =
     filter-append is_full lines (line ∷ []) ∙ ap (λ t. filter is_full lines ++ cond t (line ∷ []) []) (says_full line said says) in
-    let order = in_order-push before said added.in_turn in
+    let order = plan_lines-push before said added.in_turn in
     let more = names_more (length before.mirrors) (length (with_line before said).mirrors) (mirrors_stay before said) in
-    let named : All (NamesMirrors (length (with_line before said).mirrors)) (in_order before ++ said ∷ []) =
-    All-push (NamesMirrors _) (in_order before) said (All-weaker (NamesMirrors _) (NamesMirrors _) more (in_order before) spelled.named)
+    let named : All (NamesMirrors (length (with_line before said).mirrors)) (plan_lines before ++ said ∷ []) =
+    All-push (NamesMirrors _) (plan_lines before) said (All-weaker (NamesMirrors _) (NamesMirrors _) more (plan_lines before) spelled.named)
     (more said added.named) in
     rw added.added (record {
-      said = rw (full, order) (pairwise_push LineSays (filter is_full lines) (in_order before) line said spelled.said says);
+      said = rw (full, order) (pairwise_push LineSays (filter is_full lines) (plan_lines before) line said spelled.said says);
       named = rw order named;
     })
 
--- What lines say, added one after the other, each in its turn and naming mirrors that are there.
+-- The parts of lines, added in sequence, each in its turn and naming only earlier mirrors.
 abbrev Builds : Parts → List PlanLine → Parts → Type 0
 Builds before [] after = before ≡ after
 Builds before (x ∷ xs) after = IsInTurn before x × NamesMirrors (length before.mirrors) x × Builds (with_line before x) xs after
@@ -105,13 +105,13 @@ writes_build ms ss had (w ∷ ws) all = (
   rw (append_assoc had (w ∷ []) ws) at (writes_build ms ss (had ++ w ∷ []) ws (All-tail (NamesMirrors (length ms)) _ _ all)),
 )
 
-in_order_builds : (p : Parts) → All (NamesMirrors (length p.mirrors)) (in_order p) → Builds (parts [] [] []) (in_order p) p
+in_order_builds : (p : Parts) → All (NamesMirrors (length p.mirrors)) (plan_lines p) → Builds (parts [] [] []) (plan_lines p) p
 in_order_builds p all =
     mirrors_build (length p.mirrors) [] p.mirrors _ p all (λ others.
     steps_build p.mirrors [] p.steps _ p others (λ last.
     writes_build p.mirrors p.steps [] p.writes last))
 
--- what is added is in its turn, behind what was built before it
+-- a part that is added is in its turn, after the parts before it
 built_in_turn : (from : Parts) (front rest : List PlanLine) (x : PlanLine) (before after : Parts) → Builds from (front ++ x ∷ rest) after →
     Builds from front before
     → IsInTurn before x × NamesMirrors (length before.mirrors) x
@@ -126,10 +126,10 @@ built_one from (x ∷ xs) one other a b = built_one (with_line from x) xs one ot
 -- lines spell at most one plan
 pub lines_one : (lines : List (List ℕ)) (one other : Parts) → LinesSpell lines one → LinesSpell lines other → one ≡ other
 lines_one lines one other a b =
-    let same = pairwise_one LineSays line_one (filter is_full lines) (in_order one) (in_order other) a.said b.said in
-    built_one (parts [] [] []) (in_order one) one other (in_order_builds one a.named) (rw (← same) at (in_order_builds other b.named))
+    let same = pairwise_one LineSays line_one (filter is_full lines) (plan_lines one) (plan_lines other) a.said b.said in
+    built_one (parts [] [] []) (plan_lines one) one other (in_order_builds one a.named) (rw (← same) at (in_order_builds other b.named))
 
--- what is refused is out of its turn, or names a mirror that is not there
+-- a part that is refused is out of its turn, or names a mirror that is not there
 refused_not : (before : Parts) (x : PlanLine) (reason : PlanReason) → IsLineRefused before x reason → IsInTurn before x →
     NamesMirrors (length before.mirrors) x → ⊥
 refused_not before x BadOrder refused turn named = refused turn
@@ -138,7 +138,7 @@ refused_not before x NotUtf8 refused turn named = refused
 refused_not before x BadWord refused turn named = refused
 refused_not before x Memory refused turn named = refused
 
--- a faulty line isn't empty, and says nothing that could be added
+-- a faulty line isn't empty, and spells no part that could be added
 fault_full : (before : Parts) (line : List ℕ) (reason : PlanReason) → LineFault before line reason → is_full line ≡ true
 fault_full before line BadWord fault = fault.0
 fault_full before line BadOrder fault = says_full line fault.0 fault.1
@@ -160,8 +160,8 @@ lines_none front rest faulty before after reason spelled fault all =
     let full : filter is_full (front ++ faulty ∷ rest) ≡ filter is_full front ++ faulty ∷ filter is_full rest =
     filter-append is_full front (faulty ∷ rest) ∙ ap
     (λ t. filter is_full front ++ cond t (faulty ∷ filter is_full rest) (filter is_full rest)) here in
-    let p = pairwise_parted LineSays (filter is_full front) (filter is_full rest) faulty (in_order after) (rw full at all.said) in
-    let same = pairwise_one LineSays line_one (filter is_full front) (in_order before) p.before spelled.said p.fronts in
+    let p = pairwise_parted LineSays (filter is_full front) (filter is_full rest) faulty (plan_lines after) (rw full at all.said) in
+    let same = pairwise_one LineSays line_one (filter is_full front) (plan_lines before) p.before spelled.said p.fronts in
     let turn = built_in_turn (parts [] [] []) p.before p.behind p.here before after (rw p.parted at (in_order_builds after all.named))
     (rw same at (in_order_builds before spelled.named)) in
     fault_not before faulty reason p.here fault p.this turn.0 turn.1
@@ -172,7 +172,7 @@ first_fault_none text fault first plan spells =
     lines_none first.front first.rest first.faulty first.before (parts_of plan) fault.reason first.spelled first.refused
     (rw first.lines at spells.spelled)
 
--- so where lines aren't read, the text spells none, or memory was refused
+-- so if lines aren't read, the text spells no plan, or memory ran out
 pub fault_none : {A : Type 0} → (text : List ℕ) (read : Result A PlanFault) →
     IfErr read (λ fault. (fault ≡ memory_fault) ⊎ IsFirstFault text fault) →
     IfErr read (λ fault. (fault ≡ memory_fault) ⊎ SpellsNoPlan text)
@@ -183,10 +183,10 @@ fault_none text (Err fault) (inr first) = inr (first_fault_none text fault first
 -- no line spells the plan of nothing
 pub nothing_spelled : (p : Parts) → p.mirrors ≡ [] → p.steps ≡ [] → p.writes ≡ [] → LinesSpell [] p
 nothing_spelled p ms ss ws =
-    let nothing : in_order p ≡ [] = rw (ms, ss, ws) refl in
+    let nothing : plan_lines p ≡ [] = rw (ms, ss, ws) refl in
     record { said = rw nothing tt; named = rw nothing (λ k d less. absurd (omega (arith, less))) }
 
--- the first lines of a text, the next one of which is faulty behind them
+-- the first lines of a text, whose next one is faulty after them
 pub first_fault : (text line : List ℕ) (n : ℕ) (before : Parts) (fault : PlanFault) → n < length (lines_of text) →
     line ≡ get_or (lines_of text) n line
     → LinesSpell (take n (lines_of text)) before → LineFault before line fault.reason → fault.line ≡ n + 1 → IsFirstFault text fault
@@ -208,7 +208,7 @@ first_fault text line n before fault within here spelled refused numbered =
 pub lines_few : (text : List ℕ) → length (lines_of text) ≤ length text + 1
 lines_few text = omega (arith, length-slice_split (λ b. b == 10) text, count_by-le-length (λ b. b == 10) text)
 
--- what is told of the ends of a list, and of what a list was made of
+-- a property of all is one of the ends of a list, and of the list that it was made from
 all_behind : {X : Type 0} (P : X → Type 0) (xs ys : List X) → All P (xs ++ ys) → All P ys
 all_behind P [] ys all = all
 all_behind P (x ∷ xs) ys all = all_behind P xs ys (All-tail P x (xs ++ ys) all)
@@ -218,7 +218,7 @@ all_before P f [] ys all = λ k d less. absurd (omega (arith, less))
 all_before P f (x ∷ xs) ys all = All-cons (λ z. P (f z)) x xs (All-head P (f x) (map f xs ++ ys) all)
     (all_before P f xs ys (All-tail P (f x) (map f xs ++ ys) all))
 
--- a plan that lines spell names its mirrors alone
+-- a plan that lines spell names only its mirrors
 pub spelled_names : (lines : List (List ℕ)) (plan : Plan) → LinesSpell lines (parts_of plan) → NamesItsMirrors plan
 spelled_names lines plan spelled =
     let P = NamesMirrors (length plan.mirrors.items) in
@@ -229,7 +229,7 @@ spelled_names lines plan spelled =
       writes = all_before P Write plan.writes.items [] (rw append-nil last);
     }
 
--- where the next line isn't added, it is the first faulty one, or memory was refused
+-- if the next line isn't added, it is the first faulty one, or memory ran out
 pub fault_added : (text line : List ℕ) (n : ℕ) (before : Parts) (reason : PlanReason) → n < length (lines_of text) →
     line ≡ get_or (lines_of text) n line
     → LinesSpell (take n (lines_of text)) before → (reason ≡ Memory) ⊎ LineFault before line reason
@@ -248,9 +248,11 @@ fault_added text line n before NoMirror within here spelled (inl e) = cc
 fault_added text line n before NoMirror within here spelled (inr fault) =
     inr (first_fault text line n before (fault_at (n + 1) NoMirror) within here spelled fault refl)
 
+-- A text spells at most one plan.
 pub one_plan : OnePlan
 one_plan text one other a b = lines_one (lines_of text) (parts_of one) (parts_of other) a.spelled b.spelled
 
+-- A text with a fault spells no plan.
 pub faulty_spells_nothing : FaultySpellsNothing
 faulty_spells_nothing text fault (inl (none, is)) plan spells = none spells.utf8
 faulty_spells_nothing text fault (inr (utf8, first)) plan spells = first_fault_none text fault first plan spells

@@ -1,4 +1,4 @@
--- What a run over files writes, and why it is refused, from the merge of the files' sources.
+-- The output of a run over files, and the reasons why it is refused, from the merge of the files' sources.
 use Rattle.std.proofs.Common.{◌≡◌, inl, inr, ℕ, List, length, map, refl, sym, ap, ◌∙◌, subst, Some, None, sum_by, Result, Ok, Err}
 use Rattle.std.proofs.Common.{IfOk, IfErr}
 use Rattle.osm_model.specs.VersionSet.{VersionSet}
@@ -14,12 +14,12 @@ use Rattle.osm_files.specs.Sink.{CutShort}
 use Rattle.osm_merge.specs.declared.merge.Counts.{Counts}
 use Rattle.osm_merge.specs.declared.selection.Selection.{Selection}
 use Rattle.osm_merge.specs.ToCome as source
-use Rattle.osm_merge.specs.Selected.{selected}
+use Rattle.osm_merge.specs.Selected.{selection_of}
 use Rattle.osm_merge.specs.Union as union
 use Rattle.osm_merge.specs.Merged as merged
 use Rattle.osm_mirror.specs.declared.input.Order.{Order}
 use Rattle.osm_mirror.specs.Merge.{union_of}
-use Rattle.osm_merge.specs.Giving.{ForSome}
+use Rattle.osm_merge.specs.Giving.{SomeInputsGive}
 use Rattle.osm_merge.proofs.GiveLaws.{give_size}
 use Rattle.osm_mirror.specs.declared.input.InputFile.{InputFile}
 use Rattle.osm_mirror.specs.declared.source.RunSource.{RunSource}
@@ -38,9 +38,9 @@ module _ (selection : Selection) (format : Format) (change : Change) where
       record {
         held = held;
         files = all_give 0 inputs m.whole;
-        written = subst (λ (s : VersionSet). Appends change (spell format (selected selection s))) same m.appended;
-        read_count = m.read ∙ ap union.capped (sizes 0 inputs);
-        written_count = m.written ∙ ap (λ (s : VersionSet). union.capped (size (selected selection s))) same;
+        written = subst (λ (s : VersionSet). Appends change (spell format (selection_of selection s))) same m.appended;
+        read_count = m.read ∙ ap union.capped_count (sizes 0 inputs);
+        written_count = m.written ∙ ap (λ (s : VersionSet). union.capped_count (size (selection_of selection s))) same;
         compared_count =
             subst (λ (n : ℕ). merged.IsBoundedFrom (merged.few_of selection (sum_by size held)) n (sum_by size held) counts.compared)
             (so_many 0 inputs)
@@ -49,21 +49,21 @@ module _ (selection : Selection) (format : Format) (change : Change) where
       }
 
 module _ {O : Type 0} (output : Ghosts O) (selection : Selection) (format : Format) (before after : O) where
-  -- of files of the order that is asked for, a front was written
+  -- for files of the required order, a front was written
   pub cut_is : (inputs : List (Order × Coming)) (fault : Fault) → IsRunRefused output selection inputs format before after fault
       → IsRunCutShort selection inputs format (change_of output before after) fault
   cut_is inputs fault (inl (memory, same)) = λ held h.
-      subst (λ (a : O). CutShort (length inputs) (change_of output before a) (spell format (selected selection (union_of held))) fault)
-      (sym same) (cut_at_once output before (length inputs) (spell format (selected selection (union_of held))) fault memory)
+      subst (λ (a : O). CutShort (length inputs) (change_of output before a) (spell format (selection_of selection (union_of held))) fault)
+      (sym same) (cut_at_once output before (length inputs) (spell format (selection_of selection (union_of held))) fault memory)
   cut_is inputs fault (inr (inl (unread, same))) = λ held h. absurd (not_unread 0 inputs held fault h unread)
   cut_is inputs fault (inr (inr (read, inl cut))) = λ held h.
-      subst (λ (s : VersionSet). CutShort (length inputs) (change_of output before after) (spell format (selected selection s)) fault)
+      subst (λ (s : VersionSet). CutShort (length inputs) (change_of output before after) (spell format (selection_of selection s)) fault)
       (union_given_is (sources 0 inputs) ∙ ap union_of (as_all_given 0 inputs held h).0) cut
   cut_is inputs fault (inr (inr (read, inr f))) = λ held h.
       absurd (let none : (source.coming_at (sources 0 inputs) f.place).refusal ≡ None = (as_all_given 0 inputs held h).1 f.place _ f.within
       in let e : None ≡ Some fault = sym none ∙ f.refusal in cc)
 
--- ---- what the sources answer, said of the inputs
+-- ---- the results of the sources, in terms of the inputs
 module _ {R : Type 0} (can : R → Coming → Type 0) {O : Type 0} (output : Ghosts O) (selection : Selection) (format : Format)
     (files : List (InputFile R)) where
   refuses : (before after : O) (inputs : List (Order × Coming)) (fault : Fault)
@@ -71,8 +71,8 @@ module _ {R : Type 0} (can : R → Coming → Type 0) {O : Type 0} (output : Gho
   refuses before after inputs fault why = record { why = why; cut = cut_is output selection format before after inputs fault why }
 
   -- nothing was opened
-  pub unopened : (before : O) (fault : Fault) → ForSome (FileGives can) files (λ all. IsUnopened 0 all fault)
-      → ForSome (FileGives can) files (λ all. RefusesRun output selection all format before before fault)
+  pub unopened : (before : O) (fault : Fault) → SomeInputsGive (FileGives can) files (λ all. IsUnopened 0 all fault)
+      → SomeInputsGive (FileGives can) files (λ all. RefusesRun output selection all format before before fault)
   unopened before fault h = (
     h.0,
     h.1,
@@ -84,10 +84,11 @@ module _ {R : Type 0} (can : R → Coming → Type 0) {O : Type 0} (output : Gho
 
   module _ (opened : List (RunSource R)) (are : AreOpened can 0 files opened) (given : Format) (same : given ≡ format)
       (before after : O) where
+    -- What a merge of the opened sources writes is what the run writes.
     pub ran_written : (result : Result Counts Fault)
-        → IfOk result (λ counts. ForSome (SourceCanGive can) opened
+        → IfOk result (λ counts. SomeInputsGive (SourceCanGive can) opened
         (λ all. merged.IsMergedAs selection all given (change_of output before after) counts))
-        → IfOk result (λ counts. ForSome (FileGives can) files (λ all. IsRun selection all format (change_of output before after) counts))
+        → IfOk result (λ counts. SomeInputsGive (FileGives can) files (λ all. IsRun selection all format (change_of output before after) counts))
     ran_written (Ok counts) h =
         let q = opened_give can 0 files opened h.0 are h.1 in
         let m =
@@ -100,10 +101,11 @@ module _ {R : Type 0} (can : R → Coming → Type 0) {O : Type 0} (output : Gho
         )
     ran_written (Err fault) h = tt
 
+    -- A merge of the opened sources that is refused refuses the run.
     pub ran_refused : (number : ℕ) → number ≡ length files → (result : Result Counts Fault)
-        → IfErr result (λ fault. ForSome (SourceCanGive can) opened
+        → IfErr result (λ fault. SomeInputsGive (SourceCanGive can) opened
         (λ all. merged.IsRefusedAs selection all given number (change_of output before after) fault))
-        → IfErr result (λ fault. ForSome (FileGives can) files (λ all. RefusesRun output selection all format before after fault))
+        → IfErr result (λ fault. SomeInputsGive (FileGives can) files (λ all. RefusesRun output selection all format before after fault))
     ran_refused number many (Ok counts) h = tt
     ran_refused number many (Err fault) h =
         let q = opened_give can 0 files opened h.0 are h.1 in

@@ -1,4 +1,4 @@
--- A file that is split into files in sequence holds the union of what they hold.
+-- A file that is split into files in sequence holds the union of their sets.
 use Rattle.std.proofs.Common.{◌≡◌, ◌⊎◌, ⊎_elim, ℕ, Bool, true, false, cond, List, [], ◌∷◌, ◌++◌, drop, map, filter, refl, sym, ap, ◌∙◌}
 use Rattle.std.proofs.Common.{append_assoc, append-nil, None}
 use Rattle.std.specs.List.{flat_map}
@@ -8,20 +8,20 @@ use Rattle.std.proofs.lemmas.List.Elements.{filter-append}
 use Rattle.osm_model.specs.Data.{VersionData}
 use Rattle.osm_model.specs.VersionSet.{VersionSet}
 use Rattle.osm_model.specs.Pairwise.{Pairwise}
-use Rattle.opl_line.specs.Cut.{begun_with, cut, is_line_end}
+use Rattle.opl_line.specs.Delimiter.{with_first_byte, split_all, is_line_end}
 use Rattle.opl_line.specs.Spells.{Spells}
 use Rattle.opl_line.proofs.CutLaws.{cut_split}
 use Rattle.o5_codec.specs.declared.segment.Segment.{Segment}
 use Rattle.o5_codec.specs.Decoder.{new_segment}
 use Rattle.osm_files.specs.Opl.{is_read, OplFile}
-use Rattle.osm_files.specs.O5.{o5m_header, o5c_header, end_byte, reset_byte, Part, Reset, Lone, Skipped, Object, part_bytes, PartsSpell}
+use Rattle.osm_files.specs.O5.{o5m_header, o5c_header, end_byte, reset_byte, FilePart, Reset, Lone, Skipped, Object, part_bytes, PartsSpell}
 use Rattle.osm_files.specs.O5.{O5File}
 use Rattle.osm_files.specs.Units.{InOpl, BeforeHeader, start_of}
 use Rattle.osm_files.specs.Held.{IsFile, Holds}
 use Rattle.osm_files.specs.SortedRun.{SplitAfterLine, SplitAtReset, IsSplitInto}
 use Rattle.osm_files.specs.Spell.{spell}
 use Rattle.osm_files.proofs.SpellLaws.{held_is_one_set}
-use Rattle.osm_merge.specs.Selected.{selected}
+use Rattle.osm_merge.specs.Selected.{selection_of}
 use Rattle.osm_merge.specs.ToCome.{VersionsToCome}
 use Rattle.osm_merge.specs.Union as merged
 use Rattle.osm_mirror.specs.Merge.{union_of}
@@ -38,23 +38,23 @@ module _ {X Y : Type 0} (R : X → Y → Type 0) where
   pairwise_append (x ∷ xs) more (y ∷ ys) others h g = (h.0, pairwise_append xs more ys others h.1 g)
 
 module _ (p : ℕ → Bool) (last : ℕ) (ends : p last ≡ true) (rest : List ℕ) where
-  cut_after : (front : List ℕ) → cut p (front ++ last ∷ rest) ≡ cut p front ++ cut p rest
+  cut_after : (front : List ℕ) → split_all p (front ++ last ∷ rest) ≡ split_all p front ++ split_all p rest
   cut_after [] = rw ends refl
   cut_after (b ∷ front) =
-      let all : List (List ℕ) = cut p (front ++ last ∷ rest) in
-      elim (p b) as (λ t. cond t ([] ∷ all) (begun_with b all) ≡ cond t ([] ∷ cut p front) (begun_with b (cut p front)) ++ cut p rest) [
+      let all : List (List ℕ) = split_all p (front ++ last ∷ rest) in
+      elim (p b) as (λ t. cond t ([] ∷ all) (with_first_byte b all) ≡ cond t ([] ∷ split_all p front) (with_first_byte b (split_all p front)) ++ split_all p rest) [
         | true ↦ ap (λ pieces. [] ∷ pieces) (cut_after front)
-        | false ↦ ap (begun_with b) (cut_after front) ∙ rw (cut_split p front) refl
+        | false ↦ ap (with_first_byte b) (cut_after front) ∙ rw (cut_split p front) refl
       ]
 
 -- the lines that are read
-abbrev lines_of : List ℕ → List (List ℕ)
-lines_of bytes = filter is_read (cut is_line_end bytes)
+abbrev pub lines_of : List ℕ → List (List ℕ)
+lines_of bytes = filter is_read (split_all is_line_end bytes)
 
 module _ (last : ℕ) (ends : is_line_end last ≡ true) (front : List ℕ) where
-  lines_after : (rest : List ℕ) → lines_of (front ++ last ∷ rest) ≡ lines_of front ++ lines_of rest
+  pub lines_after : (rest : List ℕ) → lines_of (front ++ last ∷ rest) ≡ lines_of front ++ lines_of rest
   lines_after rest = ap (filter is_read) (cut_after is_line_end last ends rest front)
-      ∙ filter-append is_read (cut is_line_end front) (cut is_line_end rest)
+      ∙ filter-append is_read (split_all is_line_end front) (split_all is_line_end rest)
 
   opl_joined : (rest : List ℕ) (earlier later : List VersionData) → OplFile (front ++ last ∷ []) earlier → OplFile rest later
       → OplFile (front ++ last ∷ rest) (earlier ++ later)
@@ -63,8 +63,8 @@ module _ (last : ℕ) (ends : is_line_end last ≡ true) (front : List ℕ) wher
       rw (lines_after rest) (pairwise_append Spells (lines_of front) (lines_of rest) earlier later (rw first at one) other)
 
 -- ---- data sets
-module _ (more : List Part) (later : List VersionData) (spelled : PartsSpell new_segment more later) where
-  parts_joined : (s : Segment) (parts : List Part) (earlier : List VersionData) → PartsSpell s parts earlier
+module _ (more : List FilePart) (later : List VersionData) (spelled : PartsSpell new_segment more later) where
+  parts_joined : (s : Segment) (parts : List FilePart) (earlier : List VersionData) → PartsSpell s parts earlier
       → PartsSpell s (parts ++ Reset ∷ more) (earlier ++ later)
   parts_joined s [] earlier h = rw h spelled
   parts_joined s (Reset ∷ parts) earlier h = parts_joined new_segment parts earlier h
@@ -83,7 +83,7 @@ module _ (header rest : List ℕ) (is : Header header) where
   header_starts : start_of (header ++ rest) ≡ BeforeHeader
   header_starts = ⊎_elim (λ e. ap (λ h. start_of (h ++ rest)) e) (λ e. ap (λ h. start_of (h ++ rest)) e) is
 
-abbrev bytes_of : List Part → List ℕ
+abbrev bytes_of : List FilePart → List ℕ
 bytes_of parts = flat_map part_bytes parts
 
 before_end : (front : List ℕ) (versions : List VersionData) (file : O5File (front ++ end_byte ∷ []) versions) →
@@ -115,7 +115,7 @@ o5_joined front header more earlier later is one other =
     }
 
 -- ---- files
--- the first byte tells the grammar, whatever comes after it
+-- the first byte determines the grammar, whatever comes after it
 starts_as : (front rest : List ℕ) (last : ℕ) → start_of (front ++ last ∷ rest) ≡ start_of (front ++ last ∷ [])
 starts_as [] rest last = refl
 starts_as (b ∷ front) rest last = refl
@@ -126,6 +126,7 @@ starts_with_reset [] rest at = refl
 starts_with_reset (b ∷ front) rest at = at
 
 module _ (file rest bytes : List ℕ) (earlier later : List VersionData) (one : IsFile file earlier) (other : IsFile rest later) where
+  -- A file that is split after a line has the versions of both parts.
   pub after_line : SplitAfterLine file rest bytes → IsFile bytes (earlier ++ later)
   after_line c =
       let is : bytes ≡ c.front ++ c.last ∷ rest = c.whole ∙ ap (λ f. f ++ rest) c.is_file ∙ append_assoc c.front (c.last ∷ []) rest in
@@ -133,6 +134,7 @@ module _ (file rest bytes : List ℕ) (earlier later : List VersionData) (one : 
       let lines : OplFile file earlier = rw c.lines at one in
       rw (is, starts) (opl_joined c.last c.ends c.front rest earlier later (rw c.is_file at lines) (rw c.more_lines at other))
 
+  -- A file that is split at a reset has the versions of both parts.
   pub at_reset : SplitAtReset file rest bytes → IsFile bytes (earlier ++ later)
   at_reset c =
       let starts : start_of (c.front ++ reset_byte ∷ c.after) ≡ BeforeHeader =
@@ -142,7 +144,7 @@ module _ (file rest bytes : List ℕ) (earlier later : List VersionData) (one : 
       rw (c.whole, starts) (o5_joined c.front c.header c.after earlier later c.is_header (rw c.is_file at sets) more)
 
 -- ---- the law
--- files in sequence spell this together, and hold these sets
+-- files in sequence spell these versions together, and hold these sets
 record Spelled (bytes : List ℕ) (held : List VersionSet) : Type 0 where
   given : List VersionsToCome
   file : IsFile bytes (merged.versions_of given)
@@ -168,6 +170,7 @@ spelled bytes (file ∷ next ∷ files) (s ∷ held) (rest, split, more_split) (
       sets = λ i. h.members i ∷ more.sets i;
     }
 
+-- A file that is split into sorted runs holds the union of what they hold.
 pub sorted_runs_hold_the_file : SortedRunsHoldTheFile
 unfolding merged.union_given
 sorted_runs_hold_the_file bytes files held short split holds =
@@ -179,7 +182,8 @@ sorted_runs_hold_the_file bytes files held short split holds =
       members = ap union_of all.sets ∙ sym (union_given_is all.given);
     }
 
+-- A run over the sorted runs of a file writes what the run over the file writes.
 pub sorted_runs_write_the_file : SortedRunsWriteTheFile
 sorted_runs_write_the_file bytes set files held h split holds selection format =
-    ap (λ s. spell format (selected selection s)) (held_is_one_set bytes set (union_of held) h
+    ap (λ s. spell format (selection_of selection s)) (held_is_one_set bytes set (union_of held) h
     (sorted_runs_hold_the_file bytes files held h.short split holds))

@@ -1,4 +1,4 @@
--- The sources of files give what the files hold.
+-- The sources of files give the members of the files' sets.
 use Rattle.std.proofs.Common.{◌≡◌, inl, inr, ⊎_elim, ℕ, zero, suc, ◌+◌, ◌<◌, List, [], ◌∷◌, ◌++◌, length, map, take, drop, get_or, refl}
 use Rattle.std.proofs.Common.{sym, ap, ◌∙◌, subst, arith, Option, Some, None, option_map, sum_by}
 use Rattle.std.specs.List.{All}
@@ -10,14 +10,14 @@ use Rattle.std.proofs.lemmas.List.Sums.{sum_by-cons}
 use Rattle.osm_model.specs.Data.{VersionData}
 use Rattle.osm_model.specs.Order.{version_cmp}
 use Rattle.osm_model.specs.VersionSet.{VersionSet}
-use Rattle.osm_model.specs.Sets.{size, listed, from_list}
+use Rattle.osm_model.specs.Sets.{size, to_list, from_list}
 use Rattle.osm_model.specs.Pairwise.{Pairwise}
-use Rattle.osm_model.proofs.VersionLaws.{listed-view}
+use Rattle.osm_model.proofs.VersionLaws.{to_list-view}
 use Rattle.osm_files.specs.declared.fault.Fault.{Fault}
 use Rattle.osm_files.specs.declared.load.Loaded.{Loaded}
 use Rattle.osm_files.specs.Fault.{memory_fault}
 use Rattle.osm_files.specs.Input.{Coming, GivesOne}
-use Rattle.osm_files.specs.Groups.{FileStand, FileCanGive, opened_file, set_given, set_ascends}
+use Rattle.osm_files.specs.Groups.{FileSourceData, FileCanGive, new_source, set_given, set_ascends}
 use Rattle.osm_files.specs.Load.{Loads, StopsLoading}
 use Rattle.osm_files.specs.Position.{units_from, fault_of}
 use Rattle.osm_files.specs.Source.{Ascends}
@@ -30,21 +30,21 @@ use Rattle.osm_merge.specs.ToCome as source
 use Rattle.osm_merge.specs.Union as union
 use Rattle.osm_mirror.specs.declared.input.Order.{Order}
 use Rattle.osm_mirror.specs.declared.input.Order.TheVariants.{Sorted, Any}
-use Rattle.osm_merge.specs.Giving.{AllGive, ForSome}
+use Rattle.osm_merge.specs.Giving.{AllGive, SomeInputsGive}
 use Rattle.osm_mirror.specs.declared.input.InputFile.{InputFile}
 use Rattle.osm_mirror.specs.declared.source.RunSource.{RunSource}
 use Rattle.osm_mirror.specs.declared.source.RunSource.TheVariants.{Streamed, Held}
 use Rattle.osm_mirror.specs.Still.{SourceCanGive, source_one, source_possible}
-use Rattle.osm_mirror.specs.Given.{GivesFile, GivesAs, refusal, read_whole, held_source, source_of, sources, FileGives, FileGivesOne}
-use Rattle.osm_mirror.specs.Given.{in_order, one_of_file, IsRead, IsOpened, AreOpened, IsUnread, IsUnopened}
+use Rattle.osm_mirror.specs.Given.{GivesFile, GivesAs, refusal, whole_or_refused, held_source, source_of, sources, FileGives, FileGivesOne}
+use Rattle.osm_mirror.specs.Given.{file_in_order, one_of_file, IsRead, IsOpened, AreOpened, IsUnread, IsUnopened}
 use Rattle.osm_mirror.proofs.MergeLaws.{source_sorted, gives, one_gives, All-first, All-others, AreWhole}
 
--- the set of what a source gives
+-- the set of the versions that a source gives
 abbrev pub members : source.VersionsToCome → VersionSet
 members s = from_list {R = version_cmp} s.list
 
 -- ---- a file that was read to its end
-held_is : (number : ℕ) (c : Coming) → held_source number c ≡ read_whole (refusal number c) (versions_of (units_from None 0 c).list)
+held_is : (number : ℕ) (c : Coming) → held_source number c ≡ whole_or_refused (refusal number c) (versions_of (units_from None 0 c).list)
 unfolding held_source
 held_is number c = refl
 
@@ -61,27 +61,27 @@ module _ (number : ℕ) (c : Coming) (held : VersionSet) (h : GivesFile c held) 
   file_list : versions_of (units_from None 0 c).list ≡ h.file.versions
   file_list = (λ i. versions_of (all_units i).list) ∙ (files_are_read c.bytes h.file.versions h.file.short h.file.file).1
 
-  -- it gives what it holds
+  -- it gives its set
   pub file_read : held_source number c ≡ set_given held
-  file_read = held_is number c ∙ (λ i. read_whole (file_refusal i) (file_list i)) ∙ ap set_given (sym h.file.members)
+  file_read = held_is number c ∙ (λ i. whole_or_refused (file_refusal i) (file_list i)) ∙ ap set_given (sym h.file.members)
 
-unrefused : (r : Option Fault) (versions : List VersionData) → (read_whole r versions).refusal ≡ None → r ≡ None
+unrefused : (r : Option Fault) (versions : List VersionData) → (whole_or_refused r versions).refusal ≡ None → r ≡ None
 unrefused None versions e = refl
 unrefused (Some fault) versions e = absurd (let f : Some fault ≡ None = e in cc)
 
--- what is whole is a file
+-- an input without a refusal is a file
 file_gives : (number : ℕ) (c : Coming) → (held_source number c).refusal ≡ None → GivesFile c (members (held_source number c))
 file_gives number c e =
     let versions : List VersionData = versions_of (units_from None 0 c).list in
     let none : refusal number c ≡ None = unrefused (refusal number c) versions (ap (λ s. s.refusal) (sym (held_is number c)) ∙ e) in
     let given = gives_file number c versions none refl in
-    let list : (held_source number c).list ≡ listed (from_list {R = version_cmp} versions) =
-    ap (λ s. s.list) (held_is number c ∙ ap (λ r. read_whole r versions) none) in
+    let list : (held_source number c).list ≡ to_list (from_list {R = version_cmp} versions) =
+    ap (λ s. s.list) (held_is number c ∙ ap (λ r. whole_or_refused r versions) none) in
     let same : from_list {R = version_cmp} versions ≡ members (held_source number c) =
     listed_members (from_list versions) ∙ ap (λ vs. from_list {R = version_cmp} vs) (sym list) in
     subst (GivesFile c) same (record { unbroken = given.0; file = given.1 })
 
-read_rises : (r : Option Fault) (versions : List VersionData) → Ascends (read_whole r versions)
+read_rises : (r : Option Fault) (versions : List VersionData) → Ascends (whole_or_refused r versions)
 unfolding IsStrictlySortedBy
 read_rises None versions = set_ascends (from_list versions)
 read_rises (Some fault) versions = tt
@@ -118,18 +118,20 @@ each_size number [] = refl
 each_size number (input ∷ inputs) =
     let s : source.VersionsToCome = source_of number input in
     sum_by-cons (λ t. length t.list) s (sources (number + 1) inputs)
-    ∙ (λ i. length (sym (listed-view s.list (rises number input)) i) + each_size (number + 1) inputs i)
+    ∙ (λ i. length (sym (to_list-view s.list (rises number input)) i) + each_size (number + 1) inputs i)
     ∙ sym (sum_by-cons size (members s) (map members (sources (number + 1) inputs)))
 
+-- The sources of some inputs give as many versions as their sets have.
 pub sizes : (number : ℕ) (inputs : List (Order × Coming))
     → length (union.versions_of (sources number inputs)) ≡ sum_by size (map members (sources number inputs))
 sizes number inputs = length-flat_map (λ s. s.list) (sources number inputs) ∙ each_size number inputs
 
+-- There is a source for each input.
 pub so_many : (number : ℕ) (inputs : List (Order × Coming)) → length (sources number inputs) ≡ length inputs
 so_many number [] = refl
 so_many number (input ∷ inputs) = ap suc (so_many (number + 1) inputs)
 
--- the sources of files of the order that is asked for
+-- the sources of files of the required order
 pub as_all_given : (number : ℕ) (inputs : List (Order × Coming)) (held : List VersionSet) → Pairwise GivesAs inputs held
     → (map members (sources number inputs) ≡ held) × AreWhole (sources number inputs)
 as_all_given number [] [] h = (refl, All-nil (λ s. s.refusal ≡ None))
@@ -144,7 +146,7 @@ as_all_given number (input ∷ inputs) (s ∷ held) h =
     )
 
 -- ---- lists
-map_itself : {A : Type 0} (xs : List A) → map (λ x. x) xs ≡ xs
+pub map_itself : {A : Type 0} (xs : List A) → map (λ x. x) xs ≡ xs
 map_itself [] = refl
 map_itself (x ∷ xs) = ap (λ ys. x ∷ ys) (map_itself xs)
 
@@ -176,21 +178,23 @@ unread_more number (Sorted, c) rest fault (inr h) = inr h
 unread_more number (Any, c) rest fault (inr h) = inr (inr h)
 
 -- ---- sources that were opened
-pub stream_opens : {R : Type 0} (can : R → Coming → Type 0) (number : ℕ) (reader : R) (s : FileStand R) → s ≡ opened_file number reader
-    → IsOpened can number (in_order Sorted reader) (Streamed s)
+pub stream_opens : {R : Type 0} (can : R → Coming → Type 0) (number : ℕ) (reader : R) (s : FileSourceData R) → s ≡ new_source number reader
+    → IsOpened can number (file_in_order Sorted reader) (Streamed s)
 stream_opens can number reader s is still h =
-    let q = one_gives can number reader still (subst (λ (x : FileStand _). FileCanGive can x still) is h) in
+    let q = one_gives can number reader still (subst (λ (x : FileSourceData _). FileCanGive can x still) is h) in
     ((Sorted, q.0), (refl, q.1), (q.2, tt))
 
+-- A file that was loaded is opened as a source of what it holds.
 pub load_opens : {R : Type 0} (can : R → Coming → Type 0) (number : ℕ) (reader : R) (loaded : Loaded) (set : VersionSet)
-    → set ≡ loaded.history → GivesOne (can reader) (λ c. Loads c loaded) → IsOpened can number (in_order Any reader) (Held set)
+    → set ≡ loaded.history → GivesOne (can reader) (λ c. Loads c loaded) → IsOpened can number (file_in_order Any reader) (Held set)
 load_opens can number reader loaded set is h still e =
     let file : GivesFile h.0 loaded.history = record { unbroken = h.2.unbroken; file = h.2.holds } in
     ((Any, h.0), (refl, h.1), (e ∙ ap set_given is ∙ sym (file_read number h.0 loaded.history file), (loaded.history, file)))
 
+-- A file that isn't loaded isn't opened.
 pub load_stops : {R : Type 0} (can : R → Coming → Type 0) (number : ℕ) (reader : R) (fault : Fault)
     → GivesOne (can reader) (λ c. StopsLoading number c fault)
-    → FileGivesOne can (in_order Any reader) (λ input. IsUnopened number (input ∷ []) fault)
+    → FileGivesOne can (file_in_order Any reader) (λ input. IsUnopened number (input ∷ []) fault)
 load_stops can number reader fault h = ((Any, h.0), (refl, h.1), ⊎_elim (λ e. inl e) (λ e. inr (inl e)) h.2)
 
 module _ {R : Type 0} (can : R → Coming → Type 0) where
@@ -215,7 +219,7 @@ module _ {R : Type 0} (can : R → Coming → Type 0) where
   opened_many number (f ∷ files) [] all = absurd all
   opened_many number (f ∷ files) (s ∷ opened) all = ap suc (opened_many (number + 1) files opened all.1)
 
-  -- what the sources give is what the sources of what the files gave give
+  -- the rests of the sources are those of the sources of the bytes that the files gave
   pub opened_give : (number : ℕ) (files : List (InputFile R)) (opened : List (RunSource R)) (stills : List source.VersionsToCome)
       → AreOpened can number files opened → AllGive (SourceCanGive can) opened stills
       → (all : List (Order × Coming)) × AllGive (FileGives can) files all × (stills ≡ sources number all) × All IsRead all
@@ -234,11 +238,11 @@ module _ {R : Type 0} (can : R → Coming → Type 0) where
     give_files [] = tt
     give_files (f ∷ files) = ((refl, possible f.reader), give_files files)
 
-    -- behind files that were opened stands one that can't be
+    -- a file that can't be opened, after files that were opened
     pub stops_behind : (number : ℕ) (files : List (InputFile R)) (opened : List (RunSource R)) (file : InputFile R)
         (rest : List (InputFile R)) (fault : Fault)
         → AreOpened can number files opened → FileGivesOne can file (λ input. IsUnopened (number + length files) (input ∷ []) fault)
-        → ForSome (FileGives can) (files ++ file ∷ rest) (λ all. IsUnopened number all fault)
+        → SomeInputsGive (FileGives can) (files ++ file ∷ rest) (λ all. IsUnopened number all fault)
     stops_behind number [] [] file rest fault all h =
         let why = subst (λ (n : ℕ). IsUnopened n (h.0 ∷ []) fault) (let e : number + 0 ≡ number = omega arith in e) h.2 in
         (h.0 ∷ map (one_of_file one) rest, (h.1, give_files rest), unread_first number h.0 (map (one_of_file one) rest) fault why)
@@ -255,11 +259,11 @@ module _ {R : Type 0} (can : R → Coming → Type 0) where
         ) in
         (first.0 ∷ others.0, (first.1, others.1), unread_more number first.0 others.0 fault others.2)
 
-    -- one of the files, behind those that were opened
+    -- one of the files, after those that were opened
     pub stop_unread : (ys xs : List (InputFile R)) (y : InputFile R) (items : List (RunSource R)) (n : ℕ) (fault : Fault)
         → AreOpened can 0 ys items → n ≡ length items → map (λ f. f) ys ≡ take (length ys) xs
         → (length ys < length xs) × (y ≡ get_or xs (length ys) y)
-        → FileGivesOne can y (λ input. IsUnopened n (input ∷ []) fault) → ForSome (FileGives can) xs (λ all. IsUnopened 0 all fault)
+        → FileGivesOne can y (λ input. IsUnopened n (input ∷ []) fault) → SomeInputsGive (FileGives can) xs (λ all. IsUnopened 0 all fault)
     stop_unread ys xs y items n fault all count so_far turn h =
         let place : n ≡ 0 + length ys = omega (arith, count, opened_many 0 ys items all) in
         let k : ℕ = length ys in
@@ -267,14 +271,15 @@ module _ {R : Type 0} (can : R → Coming → Type 0) where
         ap (λ t. take k xs ++ t) (ap (λ f. f ∷ drop (k + 1) xs) turn.1) ∙ ap (λ t. take k xs ++ t) (drop_at xs k y turn.0)
         ∙ take-append-drop k xs in
         let is : ys ++ y ∷ drop (k + 1) xs ≡ xs = ap (λ t. t ++ y ∷ drop (k + 1) xs) (sym (map_itself ys) ∙ so_far) ∙ front in
-        subst (λ (fs : List (InputFile R)). ForSome (FileGives can) fs (λ all. IsUnopened 0 all fault)) is
+        subst (λ (fs : List (InputFile R)). SomeInputsGive (FileGives can) fs (λ all. IsUnopened 0 all fault)) is
         (stops_behind 0 ys items y (drop (k + 1) xs) fault all (h.0, h.1, subst (λ (m : ℕ). IsUnopened m (h.0 ∷ []) fault) place h.2))
 
-    -- memory was refused behind files that were opened
+    -- memory ran out after files that were opened
     pub no_memory : (files : List (InputFile R)) (fault : Fault) → fault ≡ memory_fault
-        → ForSome (FileGives can) files (λ all. IsUnopened 0 all fault)
+        → SomeInputsGive (FileGives can) files (λ all. IsUnopened 0 all fault)
     no_memory files fault memory = (map (one_of_file one) files, give_files files, inl memory)
 
+  -- One more file was opened.
   pub push_opened : (ys : List (InputFile R)) (y : InputFile R) (items after : List (RunSource R)) (x : RunSource R) (n : ℕ)
       → AreOpened can 0 ys items → after ≡ items ++ x ∷ [] → n ≡ length items → IsOpened can n y x → AreOpened can 0 (ys ++ y ∷ []) after
   push_opened ys y items after x n all pushed count one =
@@ -282,6 +287,7 @@ module _ {R : Type 0} (can : R → Coming → Type 0) where
       subst (λ (l : List (RunSource R)). AreOpened can 0 (ys ++ y ∷ []) l) (sym pushed)
       (opened_more 0 ys items y x all (subst (λ (k : ℕ). IsOpened can k y x) place one))
 
+  -- Once all files were opened, each source is one of them.
   pub opened_all : (ys xs : List (InputFile R)) (items : List (RunSource R)) → AreOpened can 0 ys items → map (λ y. y) ys ≡ xs
       → AreOpened can 0 xs items
   opened_all ys xs items all is = subst (λ (l : List (InputFile R)). AreOpened can 0 l items) (sym (map_itself ys) ∙ is) all

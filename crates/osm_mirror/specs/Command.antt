@@ -1,4 +1,5 @@
--- What the commands write that read all of their inputs first, and why they are refused: an own rule of this project.
+-- The output of the commands that read all of their inputs first, and the reasons why they are refused: an own rule of
+-- this project.
 use Rattle.std.specs.Prelude.{◌≡◌, ◌⊎◌, Bool, true, false, List, length, map, sum_by}
 use Rattle.osm_model.specs.VersionSet.{VersionSet}
 use Rattle.osm_model.specs.Sets.{size}
@@ -14,45 +15,45 @@ use Rattle.osm_files.specs.Spell.{spell}
 use Rattle.osm_files.specs.Sink.{CutShort}
 use Rattle.osm_merge.specs.declared.merge.Counts.{Counts}
 use Rattle.osm_merge.specs.Selected.{snapshot, visible}
-use Rattle.osm_merge.specs.Union.{capped}
+use Rattle.osm_merge.specs.Union.{capped_count}
 use Rattle.osm_mirror.specs.declared.input.InputFile.{InputFile}
 use Rattle.osm_mirror.specs.declared.input.Order.{Order}
 use Rattle.osm_mirror.specs.declared.input.Order.TheVariants.{Any}
 use Rattle.osm_mirror.specs.Merge.{union_of}
 use Rattle.osm_mirror.specs.Given.{GivesFile, IsUnread}
 
--- A command over these inputs, with this change of the output: each input gave a file, and the one spelling of what was
--- chosen of the union of the sets that they hold was appended.
+-- A command over these inputs, with this change of the output: each input gave a file, and the one spelling of the
+-- choice from the union of their sets was appended.
 pub record IsWritten (choice : VersionSet → VersionSet) (inputs : List Coming) (format : Format) (change : Change)
     (counts : Counts) : Type 0 where
   pub held : List VersionSet
   pub files : Pairwise GivesFile inputs held
   pub written : Appends change (spell format (choice (union_of held)))
-  pub read_count : counts.read ≡ capped (sum_by size held)
-  pub written_count : counts.written ≡ capped (size (choice (union_of held)))
+  pub read_count : counts.read ≡ capped_count (sum_by size held)
+  pub written_count : counts.written ≡ capped_count (size (choice (union_of held)))
   pub compared_count : counts.compared ≡ 0
 
--- a reader of a file, as one whose versions stand in any order
-abbrev pub in_any_order : {X : Type 0} → X → InputFile X
-in_any_order reader = record { reader = reader; order = Any }
+-- a reader of a file, as one whose versions may have any order
+abbrev pub any_order_file : {X : Type 0} → X → InputFile X
+any_order_file reader = record { reader = reader; order = Any }
 
--- what an input of any order gives
-abbrev pub any : Coming → Order × Coming
-any c = (Any, c)
+-- an input of any order
+abbrev pub any_order : Coming → Order × Coming
+any_order c = (Any, c)
 
--- Why a command was refused: memory was refused before anything was written; or an input can't be read, and nothing was
--- written; or all inputs are files, and a front of the one spelling of what was chosen of the union of the sets that
--- they hold was appended: as many bytes as the place says, where the output failed.
+-- Why a command was refused: memory ran out before anything was written; or an input can't be read, and nothing was
+-- written; or all inputs are files, and a front of the one spelling of the choice from the union of their sets was
+-- appended. If the output failed, the number of bytes of this front is the fault's `place`.
 abbrev pub IsNotWritten : {O : Type 0} → Ghosts O → (VersionSet → VersionSet) → List Coming → Format → O → O → Fault
     → Type 0
 IsNotWritten output choice inputs format before after fault =
     ((fault ≡ memory_fault) × (after ≡ before))
-    ⊎ (IsUnread 0 (map any inputs) fault × (after ≡ before))
+    ⊎ (IsUnread 0 (map any_order inputs) fault × (after ≡ before))
     ⊎ ((held : List VersionSet) × Pairwise GivesFile inputs held
     × CutShort (length inputs) (change_of output before after) (spell format (choice (union_of held))) fault)
 
--- what is left once changes are applied: with history all versions, else the newest one of each object, if it isn't a
--- deletion
-abbrev pub applied : Bool → VersionSet → VersionSet
-applied true set = set
-applied false set = visible (snapshot set)
+-- the versions left once changes are applied: with history all versions, else the newest one of each object, if it
+-- isn't a deletion
+abbrev pub apply_result : Bool → VersionSet → VersionSet
+apply_result true set = set
+apply_result false set = visible (snapshot set)

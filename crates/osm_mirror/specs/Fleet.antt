@@ -1,4 +1,4 @@
--- Fleets: what an event makes of the mirrors, which sources reached each of them, and what each holds after a run of
+-- Fleets: the mirrors after an event, the sources that reached each of them, and the history of each after a run of
 -- events.
 use Rattle.std.specs.Prelude.{◌≡◌, ℕ, ◌<◌, ◌^◌, Bool, true, false, ◌&&◌, cond, nat_eq, List, [], ◌∷◌, ◌++◌, length, map}
 use Rattle.std.specs.Prelude.{slice_index_or, slice_set}
@@ -16,57 +16,57 @@ use Rattle.osm_mirror.specs.Event.{Event}
 use Rattle.osm_mirror.specs.declared.event.MirrorEvent.TheVariants.{Take, Pass, Restart}
 use Rattle.osm_mirror.specs.declared.event.Reply.{Reply}
 use Rattle.osm_mirror.specs.declared.event.Reply.TheVariants.{Taken, Refused}
-use Rattle.osm_mirror.specs.Mirror.{MirrorData, fresh, took, IsKept, WhyNotTaken, WhyNotSpelled}
+use Rattle.osm_mirror.specs.Mirror.{MirrorData, new_mirror, after_taking, IsKept, WhyNotTaken, WhyNotSpelled}
 
 -- the mirror of this number
-abbrev pub at : List MirrorData → ℕ → MirrorData
-at mirrors m = slice_index_or mirrors m (fresh Full)
+abbrev pub mirror_at : List MirrorData → ℕ → MirrorData
+mirror_at mirrors m = slice_index_or mirrors m (new_mirror Full)
 
 -- each latest mirror holds its own snapshot
 abbrev pub AreKept : List MirrorData → Type 0
-AreKept mirrors = (m : ℕ) → m < length mirrors → IsKept (at mirrors m)
+AreKept mirrors = (m : ℕ) → m < length mirrors → IsKept (mirror_at mirrors m)
 
 -- ---- one event
--- What the mirrors hold behind an event that got this reply: one took a file; or what another one holds; or a new one
--- took what it held, and stands in its place. A refused event changes none.
-abbrev pub behind : List MirrorData → Event → Reply → List MirrorData
-behind mirrors (Take m file) Taken = slice_set mirrors m (took (at mirrors m) (held_by file.now))
-behind mirrors (Pass from to format) Taken = slice_set mirrors to (took (at mirrors to) (at mirrors from).held)
-behind mirrors (Restart m format) Taken = slice_set mirrors m (took (fresh (at mirrors m).keep) (at mirrors m).held)
-behind mirrors (Take m file) (Refused fault) = mirrors
-behind mirrors (Pass from to format) (Refused fault) = mirrors
-behind mirrors (Restart m format) (Refused fault) = mirrors
+-- The mirrors after an event with this reply: one took a file; or the file of another one; or a new one took the file
+-- of the old one, and replaces it. A refused event changes none.
+abbrev pub mirrors_after : List MirrorData → Event → Reply → List MirrorData
+mirrors_after mirrors (Take m file) Taken = slice_set mirrors m (after_taking (mirror_at mirrors m) (held_by file.now))
+mirrors_after mirrors (Pass from to format) Taken = slice_set mirrors to (after_taking (mirror_at mirrors to) (mirror_at mirrors from).held)
+mirrors_after mirrors (Restart m format) Taken = slice_set mirrors m (after_taking (new_mirror (mirror_at mirrors m).keep) (mirror_at mirrors m).held)
+mirrors_after mirrors (Take m file) (Refused fault) = mirrors
+mirrors_after mirrors (Pass from to format) (Refused fault) = mirrors
+mirrors_after mirrors (Restart m format) (Refused fault) = mirrors
 
--- what is written of a set can be taken: it is shorter than 2^62 bytes
+-- the file of a set can be taken: it is shorter than 2^62 bytes
 abbrev pub IsShort : Format → VersionSet → Type 0
 IsShort format set = length (spell format set) < 2 ^ 62
 
--- The reply to an event, where the mirrors hold this. A file is taken only if it is accepted, and refused only with its
--- verdict or for memory. What a mirror writes is refused only for memory, or because it is too long.
+-- The reply to an event, from mirrors with these histories. A file is taken only if it is accepted, and refused only
+-- with its verdict or for memory. A file that a mirror writes is refused only for memory, or because it is too long.
 abbrev pub IsAnswer : List MirrorData → Event → Reply → Type 0
 IsAnswer mirrors (Take m file) Taken = Holds file.now (held_by file.now)
 IsAnswer mirrors (Take m file) (Refused fault) = WhyNotTaken file.now fault
-IsAnswer mirrors (Pass from to format) Taken = IsShort format (at mirrors from).held
-IsAnswer mirrors (Pass from to format) (Refused fault) = WhyNotSpelled format (at mirrors from).held fault
-IsAnswer mirrors (Restart m format) Taken = IsShort format (at mirrors m).held
-IsAnswer mirrors (Restart m format) (Refused fault) = WhyNotSpelled format (at mirrors m).held fault
+IsAnswer mirrors (Pass from to format) Taken = IsShort format (mirror_at mirrors from).held
+IsAnswer mirrors (Pass from to format) (Refused fault) = WhyNotSpelled format (mirror_at mirrors from).held fault
+IsAnswer mirrors (Restart m format) Taken = IsShort format (mirror_at mirrors m).held
+IsAnswer mirrors (Restart m format) (Refused fault) = WhyNotSpelled format (mirror_at mirrors m).held fault
 
--- ---- events one after the other
-abbrev pub behind_all : List MirrorData → List Event → List Reply → List MirrorData
-behind_all mirrors [] [] = mirrors
-behind_all mirrors [] (r ∷ rs) = mirrors
-behind_all mirrors (e ∷ es) [] = mirrors
-behind_all mirrors (e ∷ es) (r ∷ rs) = behind_all (behind mirrors e r) es rs
+-- ---- events in sequence
+abbrev pub mirrors_after_all : List MirrorData → List Event → List Reply → List MirrorData
+mirrors_after_all mirrors [] [] = mirrors
+mirrors_after_all mirrors [] (r ∷ rs) = mirrors
+mirrors_after_all mirrors (e ∷ es) [] = mirrors
+mirrors_after_all mirrors (e ∷ es) (r ∷ rs) = mirrors_after_all (mirrors_after mirrors e r) es rs
 
--- one reply for each event, in order, each by what the mirrors hold then
+-- one reply for each event, in order, each by the histories of the mirrors at that time
 abbrev pub AreAnswers : List MirrorData → List Event → List Reply → Type 0
 AreAnswers mirrors [] [] = Unit {0}
 AreAnswers mirrors [] (r ∷ rs) = ⊥
 AreAnswers mirrors (e ∷ es) [] = ⊥
-AreAnswers mirrors (e ∷ es) (r ∷ rs) = IsAnswer mirrors e r × AreAnswers (behind mirrors e r) es rs
+AreAnswers mirrors (e ∷ es) (r ∷ rs) = IsAnswer mirrors e r × AreAnswers (mirrors_after mirrors e r) es rs
 
--- ---- what reached a mirror
--- a source of versions: what a mirror held when the run began, its opening; or a file
+-- ---- the sources that reached a mirror
+-- a source of versions: the history of a mirror when the run began, its opening; or a file
 pub data Source : Type 0 where
   Opening : (mirror : ℕ) → Source
   File : (bytes : List ℕ) → Source
@@ -81,68 +81,69 @@ abbrev pub is_full : Keep → Bool
 is_full Full = true
 is_full Latest = false
 
--- when a run begins, its opening alone has reached each mirror
-abbrev pub begun : List MirrorData → ℕ → Track
-begun openings m = record { reach = Opening m ∷ []; pure = is_full (at openings m).keep }
+-- when a run begins, only its opening has reached each mirror
+abbrev pub first_track : List MirrorData → ℕ → Track
+first_track openings m = record { reach = Opening m ∷ []; pure = is_full (mirror_at openings m).keep }
 
 -- the tracks, with another one of one mirror
-abbrev pub retracked : (ℕ → Track) → ℕ → Track → ℕ → Track
-retracked tracks m track k = cond (nat_eq k m) track (tracks k)
+abbrev pub with_track : (ℕ → Track) → ℕ → Track → ℕ → Track
+with_track tracks m track k = cond (nat_eq k m) track (tracks k)
 
 -- A file that is taken reaches the mirror, and a Pass that is taken brings all that reached its sender. Nothing else
 -- does.
-abbrev pub reached : (ℕ → Track) → Event → Reply → ℕ → Track
-reached tracks (Take m file) Taken = retracked tracks m
+abbrev pub tracks_after : (ℕ → Track) → Event → Reply → ℕ → Track
+tracks_after tracks (Take m file) Taken = with_track tracks m
     (record { reach = File file.now ∷ (tracks m).reach; pure = (tracks m).pure })
-reached tracks (Pass from to format) Taken =
-    retracked tracks to (record {
+tracks_after tracks (Pass from to format) Taken =
+    with_track tracks to (record {
       reach = (tracks from).reach ++ (tracks to).reach;
       pure =
           (tracks from).pure && (tracks to).pure;
     })
-reached tracks (Restart m format) Taken = tracks
-reached tracks (Take m file) (Refused fault) = tracks
-reached tracks (Pass from to format) (Refused fault) = tracks
-reached tracks (Restart m format) (Refused fault) = tracks
+tracks_after tracks (Restart m format) Taken = tracks
+tracks_after tracks (Take m file) (Refused fault) = tracks
+tracks_after tracks (Pass from to format) (Refused fault) = tracks
+tracks_after tracks (Restart m format) (Refused fault) = tracks
 
-abbrev pub reached_all : (ℕ → Track) → List Event → List Reply → ℕ → Track
-reached_all tracks [] [] = tracks
-reached_all tracks [] (r ∷ rs) = tracks
-reached_all tracks (e ∷ es) [] = tracks
-reached_all tracks (e ∷ es) (r ∷ rs) = reached_all (reached tracks e r) es rs
+abbrev pub tracks_after_all : (ℕ → Track) → List Event → List Reply → ℕ → Track
+tracks_after_all tracks [] [] = tracks
+tracks_after_all tracks [] (r ∷ rs) = tracks
+tracks_after_all tracks (e ∷ es) [] = tracks
+tracks_after_all tracks (e ∷ es) (r ∷ rs) = tracks_after_all (tracks_after tracks e r) es rs
 
--- what reached each mirror in a run of events with these replies
+-- the sources that reached each mirror in a run of events with these replies
 abbrev pub tracks : List MirrorData → List Event → List Reply → ℕ → Track
-tracks openings = reached_all (begun openings)
+tracks openings = tracks_after_all (first_track openings)
 
--- the set of a source: what the mirror held then, or what the file holds
+-- the set of a source: the history of the mirror at the beginning, or the file's set
 abbrev pub set_of : List MirrorData → Source → VersionSet
-set_of openings (Opening m) = (at openings m).held
+set_of openings (Opening m) = (mirror_at openings m).held
 set_of openings (File bytes) = held_by bytes
 
 -- the union of the sets of some sources
-abbrev pub united : List MirrorData → List Source → VersionSet
-united openings [] = empty
-united openings (s ∷ ss) = union (set_of openings s) (united openings ss)
+abbrev pub union_of_sources : List MirrorData → List Source → VersionSet
+union_of_sources openings [] = empty
+union_of_sources openings (s ∷ ss) = union (set_of openings s) (union_of_sources openings ss)
 
--- ---- what a mirror holds of it
+-- ---- the part of it that a mirror holds
 abbrev pub IsPart : VersionSet → VersionSet → Type 0
 IsPart s t = (v : VersionData) → contains s v ≡ true → contains t v ≡ true
 
--- Of the union of all that reached a mirror it holds no more than that, with the same snapshot; a latest mirror exactly
--- the snapshot, and a purely full one the whole.
+-- A mirror holds a part of the union of all that reached it, with the same snapshot; a latest mirror exactly the
+-- snapshot, and a purely full one the whole.
 pub record HoldsOf (all : VersionSet) (pure : Bool) (m : MirrorData) : Type 0 where
   pub holds_no_more : IsPart m.held all
   pub same_snapshot : snapshot m.held ≡ snapshot all
   pub latest_exact : m.keep ≡ Latest → m.held ≡ snapshot all
   pub full_exact : pure ≡ true → (m.keep ≡ Full) × (m.held ≡ all)
 
--- A run of events over mirrors: one reply for each event, each as it is to be; the mirrors hold what the events made of
--- them, keep their number and kinds, and each holds of all that reached it what it is to hold.
+-- A run of events over mirrors: one reply for each event, each as `IsAnswer` requires; the mirrors have the histories
+-- that the events lead to, and keep their number and kinds; and each has of all that reached it the part that `HoldsOf`
+-- requires.
 pub record Converges (old : List MirrorData) (events : List Event) (replies : List Reply)
     (new : List MirrorData) : Type 0 where
   pub answers : AreAnswers old events replies
-  pub mirrors : new ≡ behind_all old events replies
+  pub mirrors : new ≡ mirrors_after_all old events replies
   pub kinds : map (λ m. m.keep) new ≡ map (λ m. m.keep) old
-  pub each : (m : ℕ) → m < length new → HoldsOf (united old (tracks old events replies m).reach)
-      (tracks old events replies m).pure (at new m)
+  pub each : (m : ℕ) → m < length new → HoldsOf (union_of_sources old (tracks old events replies m).reach)
+      (tracks old events replies m).pure (mirror_at new m)

@@ -1,4 +1,4 @@
--- Laws of fleets: mirrors of one kind that the same files reached are equal, and so is what they write.
+-- Laws of fleets: mirrors of one kind that the same files reached are equal, and so are their files.
 use Rattle.std.specs.Prelude.{◌≡◌, ◌↔◌, ℕ, ◌<◌, true, List, length}
 use Rattle.std.specs.List.{Contains}
 use Rattle.osm_model.specs.Sets.{empty}
@@ -8,7 +8,7 @@ use Rattle.osm_mirror.specs.declared.keep.Keep.TheVariants.{Latest}
 use Rattle.osm_mirror.specs.Event.{Event}
 use Rattle.osm_mirror.specs.declared.event.Reply.{Reply}
 use Rattle.osm_mirror.specs.Mirror.{MirrorData}
-use Rattle.osm_mirror.specs.Fleet.{Source, File, at, tracks, Converges}
+use Rattle.osm_mirror.specs.Fleet.{Source, File, mirror_at, tracks, Converges}
 
 -- the same files are among the sources
 abbrev pub SameFilesAmong : List Source → List Source → Type 0
@@ -16,21 +16,21 @@ SameFilesAmong some others = (bytes : List ℕ) → Contains some (File bytes) �
 
 -- mirrors of a new fleet hold nothing
 abbrev pub AreEmpty : List MirrorData → Type 0
-AreEmpty mirrors = (m : ℕ) → (at mirrors m).held ≡ empty
+AreEmpty mirrors = (m : ℕ) → (mirror_at mirrors m).held ≡ empty
 
--- Two latest mirrors of a new fleet that the same files reached, whichever mirrors these came through and however
--- often, hold the same after the run, and write the same bytes in each format.
+-- Two latest mirrors of a new fleet that the same files reached, through any mirrors and with any repetitions, hold the
+-- same history after the run, and write the same bytes in each format.
 abbrev pub LatestMirrorsAgree : Type 0
 LatestMirrorsAgree =
     (old new : List MirrorData) (events : List Event) (replies : List Reply) → Converges old events replies new →
     AreEmpty old
-    → (m n : ℕ) → m < length new → n < length new → (at new m).keep ≡ Latest → (at new n).keep ≡ Latest
+    → (m n : ℕ) → m < length new → n < length new → (mirror_at new m).keep ≡ Latest → (mirror_at new n).keep ≡ Latest
     → SameFilesAmong (tracks old events replies m).reach (tracks old events replies n).reach
-    → ((at new m).held ≡ (at new n).held) × ((format : Format) →
-    spell format (at new m).held ≡ spell format (at new n).held)
+    → ((mirror_at new m).held ≡ (mirror_at new n).held) × ((format : Format) →
+    spell format (mirror_at new m).held ≡ spell format (mirror_at new n).held)
 
--- Two full mirrors of a new fleet that the same files reached, through full ones alone, hold the same after the run,
--- and write the same bytes in each format.
+-- Two full mirrors of a new fleet that the same files reached, only through full ones, hold the same history after the
+-- run, and write the same bytes in each format.
 abbrev pub FullMirrorsAgree : Type 0
 FullMirrorsAgree =
     (old new : List MirrorData) (events : List Event) (replies : List Reply) → Converges old events replies new →
@@ -38,5 +38,5 @@ FullMirrorsAgree =
     → (m n : ℕ) → m < length new → n < length new → (tracks old events replies m).pure ≡ true →
     (tracks old events replies n).pure ≡ true
     → SameFilesAmong (tracks old events replies m).reach (tracks old events replies n).reach
-    → ((at new m).held ≡ (at new n).held) × ((format : Format) →
-    spell format (at new m).held ≡ spell format (at new n).held)
+    → ((mirror_at new m).held ≡ (mirror_at new n).held) × ((format : Format) →
+    spell format (mirror_at new m).held ≡ spell format (mirror_at new n).held)

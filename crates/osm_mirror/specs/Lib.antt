@@ -3,7 +3,7 @@ pub mod Still
 pub mod Given
 pub mod Run
 pub mod Command
-pub mod Told
+pub mod KnownInputs
 pub mod Check
 pub mod Mirror
 pub mod Event
@@ -17,3 +17,7 @@ pub mod Merges
 pub mod FaultLine
 pub mod SortedRuns
 pub mod Slices
+pub mod CutOffset
+pub mod SliceRun
+pub mod Shards
+pub mod Largest

@@ -1,4 +1,4 @@
--- What a merge of files writes, and why it is refused: an own rule of this project.
+-- The output of a merge of files, and the reasons why it is refused: an own rule of this project.
 use Rattle.std.specs.Prelude.{◌≡◌, ℕ, ◌+◌, false, List, [], ◌∷◌, length, fold, sum_by}
 use Rattle.osm_model.specs.VersionSet.{VersionSet}
 use Rattle.osm_model.specs.Sets.{size, empty, union}
@@ -10,10 +10,10 @@ use Rattle.osm_files.specs.Output.{Change, Appends}
 use Rattle.osm_files.specs.Held.{HoldsSorted}
 use Rattle.osm_files.specs.Spell.{spell}
 use Rattle.osm_files.specs.Sink.{CutShort}
-use Rattle.osm_files.specs.Groups.{FileStand, opened_file, sorted_source}
+use Rattle.osm_files.specs.Groups.{FileSourceData, new_source, sorted_source}
 use Rattle.osm_merge.specs.declared.merge.Counts.{Counts}
 use Rattle.osm_merge.specs.ToCome as source
-use Rattle.osm_merge.specs.Union.{capped}
+use Rattle.osm_merge.specs.Union.{capped_count}
 use Rattle.osm_merge.specs.Merged as merged
 
 -- the input gives a sorted file that holds this set, and then its end
@@ -26,38 +26,38 @@ abbrev pub union_of : List VersionSet → VersionSet
 union_of = fold union empty
 
 -- A merge of these inputs, in this format, with this change of the output: each input gave a sorted file, and the one
--- spelling of the union of the sets that they hold was appended.
+-- spelling of the union of their sets was appended.
 pub record IsMerged (inputs : List Coming) (format : Format) (change : Change) (counts : Counts) : Type 0 where
   pub held : List VersionSet
   pub sorted_files : Pairwise GivesSorted inputs held
   pub written : Appends change (spell format (union_of held))
-  pub read_count : counts.read ≡ capped (sum_by size held)
-  pub written_count : counts.written ≡ capped (size (union_of held))
+  pub read_count : counts.read ≡ capped_count (sum_by size held)
+  pub written_count : counts.written ≡ capped_count (size (union_of held))
   pub compared_count : merged.IsBounded (length inputs) (sum_by size held) counts.compared
 
--- what the inputs give, key group by key group, the first of them being the input of this number
+-- the sources of the inputs, key group by key group, the first of them being the input of this number
 abbrev pub sources : ℕ → List Coming → List source.VersionsToCome
 sources number [] = []
 sources number (input ∷ inputs) = sorted_source number input ∷ sources (number + 1) inputs
 
--- the inputs as sources of which nothing was read, the first of them being the input of this number
-abbrev pub opened : {R : Type 0} → ℕ → List R → List (FileStand R)
-opened number [] = []
-opened number (reader ∷ inputs) = opened_file number reader ∷ opened (number + 1) inputs
+-- the inputs as sources before their first bytes, the first of them being the input of this number
+abbrev pub new_sources : {R : Type 0} → ℕ → List R → List (FileSourceData R)
+new_sources number [] = []
+new_sources number (reader ∷ inputs) = new_source number reader ∷ new_sources (number + 1) inputs
 
--- Why a merge was refused: memory was refused, the output failed, or the file would be too long, with a front of the
--- file appended; or it is the refusal of an input, and what stands before it was written.
+-- Why a merge was refused: memory ran out, the output failed, or the file would be too long, with a front of the file
+-- appended; or it is the refusal of an input, and the versions before it were written.
 abbrev pub IsRefused : List Coming → Format → Change → Fault → Type 0
 IsRefused inputs format change fault = merged.RefusesSources (sources 0 inputs) format (length inputs) change fault
 
--- Of sorted files no input is refused, and a front of the one spelling of the union of the sets that they hold was
--- appended: as many bytes as the place says, where the output failed.
+-- No input that is a sorted file is refused, and a front of the one spelling of the union of their sets was appended.
+-- If the output failed, the number of bytes of this front is the fault's `place`.
 abbrev pub IsCutShort : List Coming → Format → Change → Fault → Type 0
 IsCutShort inputs format change fault =
     (held : List VersionSet) → Pairwise GivesSorted inputs held
     → CutShort (length inputs) change (spell format (union_of held)) fault
 
--- why a merge was refused, and what was written then
+-- why a merge was refused, and the output written then
 pub record Refuses (inputs : List Coming) (format : Format) (change : Change) (fault : Fault) : Type 0 where
   pub why : IsRefused inputs format change fault
   pub cut : IsCutShort inputs format change fault

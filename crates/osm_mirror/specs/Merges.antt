@@ -1,4 +1,4 @@
--- Merges of files that merges wrote: how files go from mirror to mirror. An own rule of this project.
+-- Merges of files that merges wrote: the ways of files from mirror to mirror. An own rule of this project.
 use Rattle.std.specs.Prelude.{◌≡◌, ◌↔◌, ℕ, List, [], ◌∷◌, ◌++◌}
 use Rattle.std.specs.List.{Contains}
 use Rattle.osm_model.specs.VersionSet.{VersionSet}
@@ -7,7 +7,7 @@ use Rattle.osm_files.specs.Held.{HoldsSorted}
 use Rattle.osm_files.specs.Spell.{spell}
 use Rattle.osm_mirror.specs.Merge.{union_of}
 
--- The inputs of a merge, one after the other: each is a file, or what another merge wrote of inputs of its own, in any
+-- The inputs of a merge, in sequence: each is a file, or the output of another merge of inputs of its own, in any
 -- format.
 pub data Inputs : Type 0 where
   none : Inputs
@@ -20,8 +20,8 @@ files_of none = []
 files_of (file bytes others) = bytes ∷ files_of others
 files_of (merged format inputs others) = files_of inputs ++ files_of others
 
--- Inputs hold these sets, one each: each is a sorted file; one that a merge wrote is the one spelling of the union of
--- what the inputs of that merge hold.
+-- Inputs hold these sets, one each: each is a sorted file; a file that a merge wrote is the one spelling of the union
+-- of the sets of that merge's inputs.
 abbrev pub Hold : Inputs → List VersionSet → Type 0
 Hold none [] = Unit {0}
 Hold none (set ∷ held) = ⊥
@@ -31,12 +31,12 @@ Hold (merged format inputs others) [] = ⊥
 Hold (merged format inputs others) (set ∷ held) =
     ((below : List VersionSet) × Hold inputs below × HoldsSorted (spell format (union_of below)) set) × Hold others held
 
--- the same files, in any order and however often
+-- the same files, in any order and with any repetitions
 abbrev pub SameFiles : List (List ℕ) → List (List ℕ) → Type 0
 SameFiles files others = (bytes : List ℕ) → Contains files bytes ↔ Contains others bytes
 
--- Merges of the same files write the same bytes: in whatever order the files come, in whatever groups they are merged
--- first, in whatever formats, and however often each is among them.
+-- Merges of the same files write the same bytes: for any order of the files, any grouping of the merges, any formats,
+-- and any number of repetitions.
 abbrev pub MergesOfTheSameFiles : Type 0
 MergesOfTheSameFiles =
     (inputs others : Inputs) (held sets : List VersionSet) → Hold inputs held → Hold others sets →

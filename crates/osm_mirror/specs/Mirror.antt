@@ -1,4 +1,4 @@
--- What a mirror keeps and holds, and what a call of it does: own rules of this project.
+-- The kind and the history of a mirror, and the effect of its calls: own rules of this project.
 use Rattle.std.specs.Prelude.{◌≡◌, ◌⊎◌, ℕ, ◌≤◌, ◌^◌, List, length, Some, refl}
 use Rattle.std.specs.Coded.{Coded, code_by, coded×, coded_list}
 use Rattle.osm_model.specs.VersionSet.{VersionSet, version_set_code}
@@ -13,13 +13,13 @@ use Rattle.osm_files.specs.SpellLaws.{AreVersions}
 use Rattle.osm_files.specs.Stream.{Verdict}
 use Rattle.osm_files.specs.Verdict.{verdict, held_by}
 use Rattle.osm_merge.specs.Selected.{snapshot}
-use Rattle.osm_merge.specs.Union.{capped}
+use Rattle.osm_merge.specs.Union.{capped_count}
 use Rattle.osm_mirror.specs.declared.keep.Keep.{Keep}
 use Rattle.osm_mirror.specs.declared.keep.Keep.TheVariants.{Full, Latest}
 use Rattle.osm_mirror.specs.declared.keep.Taken.{Taken}
 use Rattle.osm_mirror.specs.contracts.keep.Keep as keep
 
--- a mirror: what it keeps, and the set that it holds
+-- a mirror: its kind, and the set that it holds
 pub record MirrorData : Type 0 where
   pub keep : Keep
   pub held : VersionSet
@@ -31,39 +31,39 @@ mirror_code = code_by (Keep × VersionSet) (coded× (keep.the_row).coded version
 abbrev pub mirrors_code : Coded (List MirrorData)
 mirrors_code = coded_list mirror_code
 
--- what a mirror keeps of a set: all of it, or its snapshot alone
-abbrev pub kept : Keep → VersionSet → VersionSet
-kept Full set = set
-kept Latest set = snapshot set
+-- the part of a set that a mirror keeps: all of it, or only its snapshot
+abbrev pub kept_part : Keep → VersionSet → VersionSet
+kept_part Full set = set
+kept_part Latest set = snapshot set
 
 -- a new mirror holds nothing
-abbrev pub fresh : Keep → MirrorData
-fresh keep = record { keep = keep; held = empty }
+abbrev pub new_mirror : Keep → MirrorData
+new_mirror keep = record { keep = keep; held = empty }
 
--- a mirror that took a set keeps of the union with what it held
-abbrev pub took : MirrorData → VersionSet → MirrorData
-took m set = record { keep = m.keep; held = kept m.keep (union m.held set) }
+-- a mirror that took a set keeps its part of the union with its history
+abbrev pub after_taking : MirrorData → VersionSet → MirrorData
+after_taking m set = record { keep = m.keep; held = kept_part m.keep (union m.held set) }
 
 -- a latest mirror holds its own snapshot, and so no more than the newest version of each object
 abbrev pub IsKept : MirrorData → Type 0
 IsKept m = m.keep ≡ Latest → m.held ≡ snapshot m.held
 
--- what a mirror holds is kept, and within the ranges of versions
+-- the history of a mirror is kept, and within the ranges of versions
 pub record IsSound (m : MirrorData) : Type 0 where
   pub is_kept : IsKept m
   pub versions : AreVersions m.held
 
--- the file is accepted, and the mirror took the set that it holds; the size of that set is told
+-- the file is accepted, and the mirror took the file's set; `taken` has the size of that set
 pub record TakesFile (bytes : List ℕ) (old new : MirrorData) (taken : Taken) : Type 0 where
   pub accepted : Holds bytes (held_by bytes)
-  pub holds : new ≡ took old (held_by bytes)
-  pub told : taken.versions ≡ capped (size (held_by bytes))
+  pub holds : new ≡ after_taking old (held_by bytes)
+  pub told : taken.versions ≡ capped_count (size (held_by bytes))
 
--- why a file isn't taken: memory was refused, or it is the verdict of the file, which is the input 0
+-- why a file isn't taken: memory ran out, or it is the verdict of the file, which is the input 0
 abbrev pub WhyNotTaken : List ℕ → Fault → Type 0
 WhyNotTaken bytes fault = (fault ≡ memory_fault) ⊎ ((v : Verdict) × (verdict bytes ≡ Some v) × (fault ≡ fault_of 0 v))
 
--- why the file of a set isn't written: memory was refused, or the file, which is the output 1, has 2^62 bytes or more
+-- why the file of a set isn't written: memory ran out, or the file, which is the output 1, has 2^62 bytes or more
 abbrev pub WhyNotSpelled : Format → VersionSet → Fault → Type 0
 WhyNotSpelled format set fault = (fault ≡ memory_fault)
     ⊎ ((fault ≡ too_long_fault 1) × (2 ^ 62 ≤ length (spell format set)))

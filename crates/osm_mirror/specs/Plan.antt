@@ -24,25 +24,25 @@ pub record Parts : Type 0 where
 abbrev pub parts_of : Plan → Parts
 parts_of plan = record { mirrors = plan.mirrors.items; steps = plan.steps.items; writes = plan.writes.items }
 
--- what the lines of a plan say: the mirrors first, then the steps, then the writes
-abbrev pub in_order : Parts → List PlanLine
-in_order parts = map Mirror parts.mirrors ++ (map Step parts.steps ++ map Write parts.writes)
+-- the parts that the lines of a plan spell: the mirrors first, then the steps, then the writes
+abbrev pub plan_lines : Parts → List PlanLine
+plan_lines parts = map Mirror parts.mirrors ++ (map Step parts.steps ++ map Write parts.writes)
 
--- the lines of a text, which end at LF; where the last one ends so, an empty one follows
+-- the lines of a text, which end at LF; if the last one ends in LF, an empty one follows
 abbrev pub lines_of : List ℕ → List (List ℕ)
 lines_of text = slice_split (λ b. b == 10) text
 
--- Lines spell a plan: those that aren't empty say its parts in their order, one for one, and name its mirrors alone.
+-- Lines spell a plan: those that aren't empty spell its parts in their order, one for one, and name only its mirrors.
 pub record LinesSpell (lines : List (List ℕ)) (parts : Parts) : Type 0 where
-  pub said : Pairwise LineSays (filter is_full lines) (in_order parts)
-  pub named : All (NamesMirrors (length parts.mirrors)) (in_order parts)
+  pub said : Pairwise LineSays (filter is_full lines) (plan_lines parts)
+  pub named : All (NamesMirrors (length parts.mirrors)) (plan_lines parts)
 
 -- a text spells a plan
 pub record PlanSpells (text : List ℕ) (plan : Plan) : Type 0 where
   pub utf8 : IsUtf8 text
   pub spelled : LinesSpell (lines_of text) (parts_of plan)
 
--- the steps and the writes of a plan name its mirrors alone
+-- the steps and the writes of a plan name only its mirrors
 pub record NamesItsMirrors (plan : Plan) : Type 0 where
   pub steps : All (IsWithin (length plan.mirrors.items)) plan.steps.items
   pub writes : All (λ w. w.mirror < length plan.mirrors.items) plan.writes.items
@@ -51,20 +51,19 @@ pub record NamesItsMirrors (plan : Plan) : Type 0 where
 abbrev pub SpellsNoPlan : List ℕ → Type 0
 SpellsNoPlan text = (plan : Plan) → ¬ PlanSpells text plan
 
--- a line stands where it may, behind lines that spell these parts: a mirror line before all others, a step before the
--- writes
+-- a line is in its turn, after lines that spell these parts: a mirror line before all others, a step before the writes
 abbrev pub IsInTurn : Parts → PlanLine → Type 0
 IsInTurn before (Mirror keep) = (before.steps ≡ []) × (before.writes ≡ [])
 IsInTurn before (Step s) = before.writes ≡ []
 IsInTurn before (Write w) = Unit {0}
 
--- why what a line says is refused behind lines that spell these parts: its order first, then the mirrors that it names
+-- why the part of a line is refused after lines that spell these parts: its order first, then the mirrors that it names
 abbrev pub IsLineRefused : Parts → PlanLine → PlanReason → Type 0
 IsLineRefused before said BadOrder = ¬ IsInTurn before said
 IsLineRefused before said NoMirror = IsInTurn before said × (¬ NamesMirrors (length before.mirrors) said)
 IsLineRefused before said _ = ⊥
 
--- why a line is faulty behind lines that spell these parts: it says nothing, or what it says is refused
+-- why a line is faulty after lines that spell these parts: it spells no part, or its part is refused
 abbrev pub LineFault : Parts → List ℕ → PlanReason → Type 0
 LineFault before line BadWord = (is_full line ≡ true) × ((said : PlanLine) → ¬ LineSays line said)
 LineFault before line reason = (said : PlanLine) × LineSays line said × IsLineRefused before said reason
@@ -80,24 +79,24 @@ pub record IsFirstFault (text : List ℕ) (fault : PlanFault) : Type 0 where
   pub refused : LineFault before faulty fault.reason
   pub numbered : fault.line ≡ length front + 1
 
--- why a text is refused: it isn't UTF-8, which no line is to blame for; or else its first faulty line
+-- why a text is refused: it isn't UTF-8, which is the fault of no line; or else its first faulty line
 abbrev pub PlanFaultOf : List ℕ → PlanFault → Type 0
 PlanFaultOf text fault =
     ((¬ IsUtf8 text) × (fault ≡ record { line = 0; reason = NotUtf8 })) ⊎ (IsUtf8 text × IsFirstFault text fault)
 
--- a line's part at the end of those before it
+-- the parts with the part of one more line at the end
 abbrev pub with_line : Parts → PlanLine → Parts
 with_line before (Mirror keep) = record before { mirrors = before.mirrors ++ keep ∷ [] }
 with_line before (Step s) = record before { steps = before.steps ++ s ∷ [] }
 with_line before (Write w) = record before { writes = before.writes ++ w ∷ [] }
 
--- what a line says is added to the parts before it
+-- the part of a line is added to the parts before it
 pub record IsAdded (before : Parts) (said : PlanLine) (after : Parts) : Type 0 where
   pub in_turn : IsInTurn before said
   pub named : NamesMirrors (length before.mirrors) said
   pub added : after ≡ with_line before said
 
--- a line is added: an empty one says nothing
+-- a line is added: an empty one has no part
 abbrev pub IsLineAdded : List ℕ → Parts → Parts → Type 0
 IsLineAdded line before after =
     ((line ≡ []) × (after ≡ before)) ⊎ ((said : PlanLine) × LineSays line said × IsAdded before said after)

@@ -12,19 +12,19 @@ plan_reason_name BadOrder = codes "BadOrder"
 plan_reason_name NoMirror = codes "NoMirror"
 plan_reason_name Memory = codes "Memory"
 
--- memory was refused, at no line
+-- out of memory, at no line
 abbrev pub memory_fault : PlanFault
 memory_fault = record { line = 0; reason = Memory }
 
--- a reason at a line; want of memory has no line
+-- a reason at a line; out of memory has no line
 abbrev pub fault_at : ℕ → PlanReason → PlanFault
 fault_at line Memory = memory_fault
 fault_at line reason = record { line = line; reason = reason }
 
--- words are ill-formed: they stand for no value at all
+-- words are ill-formed: they spell no value
 abbrev pub IsNone : {X : Type 0} → (X → Type 0) → PlanReason → Type 0
 IsNone {X} Says reason = (reason ≡ BadWord) × ((x : X) → ¬ Says x)
 
--- words are ill-formed, or memory was refused
+-- words are ill-formed, or memory ran out
 abbrev pub IsNoneOrMemory : {X : Type 0} → (X → Type 0) → PlanReason → Type 0
 IsNoneOrMemory Says reason = (reason ≡ Memory) ⊎ IsNone Says reason

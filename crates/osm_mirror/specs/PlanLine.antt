@@ -22,7 +22,8 @@ pub record IsName (word : List ℕ) (file : List ℕ) : Type 0 where
   pub bytes : word ≡ encode_utf8_all file
   pub some : 0 < length word
 
--- what words say: `full`, `latest`, `take M FILE`, `pass M N FORMAT`, `restart M FORMAT`, `write M FORMAT FILE`
+-- the part that words spell: `full`, `latest`, `take M FILE`, `pass M N FORMAT`, `restart M FORMAT`, `write M FORMAT
+-- FILE`
 abbrev pub WordsSay : List (List ℕ) → PlanLine → Type 0
 WordsSay words (Mirror Full) = words ≡ codes "full" ∷ []
 WordsSay words (Mirror Latest) = words ≡ codes "latest" ∷ []
@@ -35,11 +36,11 @@ WordsSay words (Step (Restart mirror format)) =
 WordsSay words (Write w) =
     (m f : List ℕ) × (words ≡ codes "write" ∷ m ∷ format_name w.format ∷ f ∷ []) × IsNumber m w.mirror × IsName f w.file
 
--- what a line says whose words have one space between each two
+-- the part that a line spells, if its words have one space between each two
 abbrev pub LineSays : List ℕ → PlanLine → Type 0
 LineSays line said = WordsSay (slice_split (λ b. b == 32) line) said
 
--- all mirrors that a line names are among the first so many
+-- all mirrors that a line names are below `mirrors`
 abbrev pub NamesMirrors : ℕ → PlanLine → Type 0
 NamesMirrors mirrors (Mirror keep) = Unit {0}
 NamesMirrors mirrors (Step s) = IsWithin mirrors s

@@ -1,4 +1,4 @@
--- What a run over files writes, and why it is refused: an own rule of this project.
+-- The output of a run over files, and the reasons why it is refused: an own rule of this project.
 use Rattle.std.specs.Prelude.{◌≡◌, ◌⊎◌, List, length, sum_by}
 use Rattle.std.specs.List as list
 use Rattle.osm_model.specs.VersionSet.{VersionSet}
@@ -15,29 +15,29 @@ use Rattle.osm_files.specs.Spell.{spell}
 use Rattle.osm_files.specs.Sink.{CutShort}
 use Rattle.osm_merge.specs.declared.merge.Counts.{Counts}
 use Rattle.osm_merge.specs.declared.selection.Selection.{Selection}
-use Rattle.osm_merge.specs.Selected.{selected}
-use Rattle.osm_merge.specs.Union.{capped}
+use Rattle.osm_merge.specs.Selected.{selection_of}
+use Rattle.osm_merge.specs.Union.{capped_count}
 use Rattle.osm_merge.specs.Merged as merged
 use Rattle.osm_mirror.specs.declared.input.Order.{Order}
 use Rattle.osm_mirror.specs.Merge.{union_of}
 use Rattle.osm_mirror.specs.Given.{GivesAs, sources, IsRead, IsUnread}
 
 -- A run over these inputs, with this change of the output: each input gave a file of its order, and the one spelling of
--- what is selected of the union of the sets that they hold was appended.
+-- the selection of the union of their sets was appended.
 pub record IsRun (selection : Selection) (inputs : List (Order × Coming)) (format : Format) (change : Change)
     (counts : Counts) : Type 0 where
   pub held : List VersionSet
   pub files : Pairwise GivesAs inputs held
-  pub written : Appends change (spell format (selected selection (union_of held)))
-  pub read_count : counts.read ≡ capped (sum_by size held)
-  pub written_count : counts.written ≡ capped (size (selected selection (union_of held)))
+  pub written : Appends change (spell format (selection_of selection (union_of held)))
+  pub read_count : counts.read ≡ capped_count (sum_by size held)
+  pub written_count : counts.written ≡ capped_count (size (selection_of selection (union_of held)))
   pub compared_count :
       let given = sum_by size held in
       merged.IsBoundedFrom (merged.few_of selection given) (length inputs) given counts.compared
 
--- Why a run was refused: memory was refused before anything was written; or an input of any order can't be read, and
--- nothing was written; or all of those were read, and then the merge was refused. Where nothing was written, the output
--- is as it was.
+-- Why a run was refused: memory ran out before anything was written; or an input of any order can't be read, and
+-- nothing was written; or all of those were read, and then the merge was refused. If nothing was written, the output is
+-- unchanged.
 abbrev pub IsRunRefused : {O : Type 0} → Ghosts O → Selection → List (Order × Coming) → Format → O → O → Fault → Type 0
 IsRunRefused output selection inputs format before after fault =
     ((fault ≡ memory_fault) × (after ≡ before))
@@ -45,14 +45,14 @@ IsRunRefused output selection inputs format before after fault =
     ⊎ (list.All IsRead inputs
     × merged.IsRefusedAs selection (sources 0 inputs) format (length inputs) (change_of output before after) fault)
 
--- Of files of the order that was asked for no input is refused, and a front of the one spelling of what is selected of
--- the union of the sets that they hold was appended: as many bytes as the place says, where the output failed.
+-- No input that is a file of its required order is refused, and a front of the one spelling of the selection of the
+-- union of their sets was appended. If the output failed, the number of bytes of this front is the fault's `place`.
 abbrev pub IsRunCutShort : Selection → List (Order × Coming) → Format → Change → Fault → Type 0
 IsRunCutShort selection inputs format change fault =
     (held : List VersionSet) → Pairwise GivesAs inputs held
-    → CutShort (length inputs) change (spell format (selected selection (union_of held))) fault
+    → CutShort (length inputs) change (spell format (selection_of selection (union_of held))) fault
 
--- why a run was refused, and what was written then
+-- why a run was refused, and the output written then
 pub record RefusesRun {O : Type 0} (output : Ghosts O) (selection : Selection) (inputs : List (Order × Coming))
     (format : Format) (before after : O) (fault : Fault) : Type 0 where
   pub why : IsRunRefused output selection inputs format before after fault

@@ -11,12 +11,12 @@ use Rattle.osm_files.specs.Spell.{spell}
 use Rattle.osm_merge.specs.declared.object.Object.{Object}
 use Rattle.osm_merge.specs.declared.object.Span.{Span}
 use Rattle.osm_merge.specs.declared.selection.Selection.{Selection}
-use Rattle.osm_merge.specs.Selected.{selected}
+use Rattle.osm_merge.specs.Selected.{selection_of}
 use Rattle.osm_merge.specs.Slice.{object_order, slice_of, spans, slices, IsWithin}
 use Rattle.osm_mirror.specs.Merge.{union_of}
 
--- A file that is split into sorted files, each within its span, is sorted. It holds the union of what they hold, and
--- each of them holds its slice of that.
+-- A file that is split into sorted files, each within its span, is sorted. It holds the union of their sets, and each
+-- of them holds its slice of that.
 abbrev pub SlicesHoldTheFile : Type 0
 SlicesHoldTheFile =
     (bounds : List Object) (bytes : List ℕ) (pieces : List (List ℕ)) (held : List VersionSet) → length bytes < 2 ^ 62
@@ -27,11 +27,11 @@ SlicesHoldTheFile =
 abbrev pub AreSlicesWithin : List VersionSet → Span → List VersionSet → Type 0
 AreSlicesWithin sets span sliced = sliced ≡ map (slice_of span.from span.to) sets
 
--- One run for each span, over the slices of some sets, writes what one run over the sets writes: its OPL files, one
--- after the other, are the OPL file of the one run.
+-- One run for each span, over the slices of some sets, writes the same as one run over the sets: its OPL files, in
+-- sequence, are the OPL file of the one run.
 abbrev pub SlicesWriteTheRun : Type 0
 SlicesWriteTheRun =
     (selection : Selection) (bounds : List Object) (sets : List VersionSet) (runs : List (List VersionSet))
     → IsSorted object_order bounds → Pairwise (AreSlicesWithin sets) (spans bounds) runs
-    → spell Opl (selected selection (union_of sets))
-    ≡ concat (map (λ sliced. spell Opl (selected selection (union_of sliced))) runs)
+    → spell Opl (selection_of selection (union_of sets))
+    ≡ concat (map (λ sliced. spell Opl (selection_of selection (union_of sliced))) runs)

@@ -1,10 +1,10 @@
--- What the source of a file can still give.
+-- The versions that the source of a file can still give.
 use Rattle.std.proofs.Common.{refl}
 use Rattle.std.specs.Prelude.{◌≡◌, ℕ, Bool, false}
 use Rattle.osm_model.specs.Data.{VersionData}
 use Rattle.osm_model.specs.Sets.{size}
 use Rattle.osm_files.specs.declared.fault.Fault.{Fault}
-use Rattle.osm_files.specs.Groups.{FileCanGive, known_or_whole, given_at, one_given, left_at, file_ascends, set_given}
+use Rattle.osm_files.specs.Groups.{FileCanGive, known_or_whole, given_at, one_given, versions_left, file_ascends, set_given}
 use Rattle.osm_files.specs.Groups.{given_set_ascends}
 use Rattle.osm_files.specs.Input.{Coming}
 use Rattle.osm_files.specs.Source.{Ascends}
@@ -13,7 +13,7 @@ use Rattle.osm_mirror.specs.declared.source.RunSource.{RunSource}
 use Rattle.osm_mirror.specs.declared.source.RunSource.TheVariants.{Streamed, Held}
 
 module _ {R : Type 0} (can : R → Coming → Type 0) where
-  -- what a sorted file can still give; or the rest of what was read, which is given whole
+  -- the versions that a sorted file can still give; or the rest of the versions read, which is given whole
   abbrev pub SourceCanGive : RunSource R → Still VersionData Fault → Type 0
   SourceCanGive (Streamed source) still = FileCanGive can source still
   SourceCanGive (Held rest) still = still ≡ set_given rest
@@ -34,12 +34,12 @@ module _ {R : Type 0} (one : R → Coming) where
       (one source.units.coming, possible source.units.coming, one_given source (one source.units.coming))
   source_possible can possible (Held rest) = refl
 
--- at most so many versions
+-- a bound on the number of versions
 abbrev pub left_of : {R : Type 0} → RunSource R → ℕ
-left_of (Streamed source) = left_at source
+left_of (Streamed source) = versions_left source
 left_of (Held rest) = size rest
 
--- the number with which it answers that an earlier call was refused; what was read whole refuses nothing
+-- the number of its fault after an earlier refused call; a source that was read whole refuses nothing
 abbrev pub number_of : {R : Type 0} → RunSource R → ℕ
 number_of (Streamed source) = source.units.input
 number_of (Held rest) = 0

@@ -1,16 +1,16 @@
-//! The check of a file: what it is and how much it holds.
+//! The check of a file: its format and its sizes.
 ghost use Rattle.std.specs.Prelude.{◌≡◌, ◌⊎◌, ◌+◌, true, Some, IfOk, IfErr};
 ghost use Rattle.osm_files.specs.Fault.{memory_fault};
 ghost use Rattle.osm_files.specs.Input.{GivesOne};
 ghost use Rattle.osm_files.specs.Load.{StopsLoading, StopsOpening};
-ghost use Rattle.osm_merge.specs.Union.{capped};
-ghost use Rattle.osm_mirror.specs.Check.{Reports, SourceGives, IsCounted, begins};
+ghost use Rattle.osm_merge.specs.Union.{capped_count};
+ghost use Rattle.osm_mirror.specs.Check.{Reports, SourceGives, IsCounted, new_objects};
 
 use osm_files::{Fault, FileSource, Format, HistorySource, Input, Source, load_any};
 use osm_model::Version;
 use std::alloc::Global;
 
-/// What a file is and how much it holds. A number that would pass 2^64 - 1 stays there.
+/// The format and the sizes of a file. A number stops at 2^64 - 1.
 #[derive(Clone, Copy, Debug, PartialEq, Eq)]
 pub struct CheckReport {
     /// The file's format.
@@ -23,7 +23,7 @@ pub struct CheckReport {
     pub sorted: bool,
 }
 
-/// How much a file holds. A number that would pass 2^64 - 1 stays there.
+/// The sizes of a file. A number stops at 2^64 - 1.
 #[derive(Clone, Copy, Debug, PartialEq, Eq)]
 pub(crate) struct Sizes {
     /// The number of its versions, each counted once.
@@ -32,11 +32,11 @@ pub(crate) struct Sizes {
     pub(crate) objects: u64,
 }
 
-/// Checks a file whose versions stand in any order. All that it holds is kept until it is counted.
+/// Checks a file whose versions may have any order. All its versions are kept until they are counted.
 ///
 /// # Errors
 ///
-/// The place and the reason of the first faulty unit, ReadFault where the input fails, or Memory.
+/// The offset and the reason of the first faulty unit, `ReadFault` if the input fails, or `Memory`.
 pub fn run_check<R: Input + Drop>(alloc: Global, input: R) -> Result<CheckReport, Fault>
     ensures report { IfOk result (λ report. GivesOne (R.can_give input) (λ c. Reports c report)) }
     ensures refused { IfErr result (λ fault. GivesOne (R.can_give input) (λ c. StopsLoading 0 c fault)) }
@@ -52,13 +52,13 @@ pub fn run_check<R: Input + Drop>(alloc: Global, input: R) -> Result<CheckReport
     })
 }
 
-/// Checks a sorted file in one pass over it: no more is kept than one key's versions. It tells what [`run_check`]
-/// tells.
+/// Checks a sorted file in one pass over it, and keeps only the versions of one key. It returns the same report as
+/// [`run_check`].
 ///
 /// # Errors
 ///
-/// The place and the reason of the first unit that is faulty or whose key is below that of the one before it, ReadFault
-/// where the input fails, or Memory.
+/// The offset and the reason of the first unit that is faulty or whose key is below that of the one before it,
+/// `ReadFault` if the input fails, or `Memory`.
 pub fn run_check_sorted<R: Input + Drop>(alloc: Global, input: R) -> Result<CheckReport, Fault>
     ensures report { IfOk result (λ report. GivesOne (R.can_give input) (λ c. Reports c report)) }
     ensures sorted { IfOk result (λ report. report.sorted ≡ true) }
@@ -76,7 +76,7 @@ pub fn run_check_sorted<R: Input + Drop>(alloc: Global, input: R) -> Result<Chec
     })
 }
 
-/// How many versions a source gives, and of how many objects.
+/// The numbers of versions and of objects that a source gives.
 fn count<S: Source>(source: &mut S) -> Result<Sizes, Fault>
     ensures sizes { IfOk result (λ sizes. SourceGives (S.can_give source.old) (λ still. IsCounted still sizes)) }
     ensures refused { IfErr result (λ fault. SourceGives (S.can_give source.old) (λ still.
@@ -105,10 +105,10 @@ fn give_back<S: Source>(source: &mut S, version: Option<Version>)
     }
 }
 
-/// The sizes with one more version, behind the last one before it.
+/// The sizes with one more version, after the last one before it.
 fn count_one(sizes: Sizes, last: &Option<Version>, version: &Version) -> Sizes
-    ensures versions { result.versions ≡ capped (sizes.versions + 1) }
-    ensures objects { result.objects ≡ capped (sizes.objects + begins last.now version.now) }
+    ensures versions { result.versions ≡ capped_count (sizes.versions + 1) }
+    ensures objects { result.objects ≡ capped_count (sizes.objects + new_objects last.now version.now) }
 {
     Sizes {
         versions: sizes.versions.saturating_add(1),
@@ -116,9 +116,9 @@ fn count_one(sizes: Sizes, last: &Option<Version>, version: &Version) -> Sizes
     }
 }
 
-/// 1 where a version begins an object, 0 where it is of the object of the last one.
+/// 1 if a version begins an object, 0 if it is of the object of the last one.
 fn begins(last: &Option<Version>, version: &Version) -> u64
-    ensures { result ≡ begins last.now version.now }
+    ensures { result ≡ new_objects last.now version.now }
 {
     match last {
         None => 1,

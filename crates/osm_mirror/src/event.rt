@@ -1,12 +1,11 @@
-//! What happens to mirrors, and what a fleet returns for it.
+//! Events of mirrors, and the replies of a fleet.
 ghost use Rattle.std.specs.Prelude.{IsTrue, ◌↔◌};
 ghost use Rattle.osm_mirror.specs.Event.{IsWithin};
 
 use osm_files::{Fault, Format};
 use osm_model::Text;
 
-/// Something that happens to mirrors, which are numbered from 0. `F` is a file: its bytes in an [`Event`], its name in a
-/// [`Step`].
+/// An event of mirrors, which are numbered from 0. `F` is a file: its bytes in an [`Event`], its name in a [`Step`].
 #[derive(Clone, Copy, Debug, PartialEq, Eq)]
 pub enum MirrorEvent<F> {
     /// A mirror takes a file.
@@ -16,7 +15,7 @@ pub enum MirrorEvent<F> {
         /// The file, of any format.
         file: F,
     },
-    /// A mirror takes what another one writes, or what it writes itself.
+    /// A mirror takes the file that another one writes, or that it writes itself.
     Pass {
         /// The number of the mirror that writes.
         from: usize,
@@ -25,7 +24,7 @@ pub enum MirrorEvent<F> {
         /// The format that is written.
         format: Format,
     },
-    /// A mirror is replaced by a new one of its kind that took what the old one wrote.
+    /// A mirror is replaced by a new one of its kind that took the file that the old one wrote.
     Restart {
         /// The number of the mirror.
         mirror: usize,
@@ -54,12 +53,12 @@ impl<F> MirrorEvent<F> {
     }
 }
 
-/// The answer to an event.
+/// The reply to an event.
 #[derive(Clone, Copy, Debug, PartialEq, Eq)]
 pub enum Reply {
-    /// The file was taken, or what was written.
+    /// The file was taken, or the file that a mirror wrote.
     Taken,
-    /// It was refused, and no mirror was changed. A file that is taken is the input 0; what a mirror writes is the
-    /// output 1.
+    /// It was refused, and no mirror was changed. A file that is taken is the input 0; a file that a mirror writes is
+    /// the output 1.
     Refused(Fault),
 }

@@ -11,11 +11,11 @@ use osm_model::Memory;
 use std::alloc::Global;
 
 /// The line of a fault, without its end: `NAME: PLACE: REASON`, with the name of the input at the fault's number, or
-/// that of the output where there are no more inputs than that number; `out of memory` for want of memory.
+/// that of the output if there are no more inputs than that number; `out of memory` for [`Reason::Memory`].
 ///
 /// # Errors
 ///
-/// Memory was refused.
+/// Only out of memory.
 pub fn fault_text(
     alloc: Global,
     fault: &Fault,
@@ -37,7 +37,7 @@ pub fn fault_text(
     }
 }
 
-/// The name at this place, or the other one where the names end there.
+/// The name at the index `place`, or `other` if the names end before it.
 fn name_at<'a>(names: &[&'a str], place: usize, other: &'a str) -> &'a str
     ensures { result.now ≡ slice_index_or (map (λ name. name.now) names.now) place other.now }
 {

@@ -3,8 +3,8 @@ ghost use Rattle.std.specs.Prelude.{◌≡◌, ◌↔◌, ◌<◌, length, map, 
 ghost use Rattle.std.specs.List.{All};
 ghost use Rattle.osm_files.specs.Held.{Holds};
 ghost use Rattle.osm_files.specs.Verdict.{held_by};
-ghost use Rattle.osm_mirror.specs.Mirror.{fresh, took, WhyNotTaken, WhyNotSpelled};
-ghost use Rattle.osm_mirror.specs.Fleet.{at, IsShort, IsAnswer, behind, Converges};
+ghost use Rattle.osm_mirror.specs.Mirror.{new_mirror, after_taking, WhyNotTaken, WhyNotSpelled};
+ghost use Rattle.osm_mirror.specs.Fleet.{mirror_at, IsShort, IsAnswer, mirrors_after, Converges};
 ghost use Rattle.osm_mirror.specs.Event.{IsWithin};
 
 use crate::event::{Event, Reply};
@@ -40,9 +40,9 @@ impl Fleet {
     ///
     /// # Errors
     ///
-    /// For want of memory alone.
+    /// Only out of memory.
     pub fn new(alloc: Global, kinds: &[Keep]) -> Result<Fleet, Memory>
-        ensures { IfOk result (λ fleet. fleet ≡ map fresh kinds.now) }
+        ensures { IfOk result (λ fleet. fleet ≡ map new_mirror kinds.now) }
     {
         let mut mirrors = Vec::new(alloc);
         for keep in kinds {
@@ -61,7 +61,7 @@ impl Fleet {
     /// The mirror of this number, which is below the number of mirrors.
     pub fn mirror(&self, place: usize) -> &Mirror
         requires { place < length self.now }
-        ensures { result.now ≡ at self.now place }
+        ensures { result.now ≡ mirror_at self.now place }
     {
         &self.mirrors[place]
     }
@@ -73,16 +73,16 @@ impl Fleet {
         are_within(self.mirrors.len(), events)
     }
 
-    /// Lets these events happen, one after the other, and answers a reply for each. Every mirror number is below the
-    /// number of mirrors.
+    /// Runs these events, in sequence, and returns a reply for each. Every mirror number is below the number of
+    /// mirrors.
     ///
-    /// Whatever the events are, in any order, with repeats and refusals: afterwards each mirror's snapshot is that of
-    /// all that reached it. A latest mirror holds that snapshot exactly, and a full one all that reached it, as long as
-    /// no latest one passed to it. A Pass and a Restart go through the bytes of the format, as between machines.
+    /// For all events, in any order, with repeats and refusals: afterwards each mirror's snapshot is that of all that
+    /// reached it. A latest mirror holds exactly that snapshot, and a full one all that reached it, if no latest one
+    /// passed to it. A Pass and a Restart write and read the bytes of the format, as between machines.
     ///
     /// # Errors
     ///
-    /// Memory, where there is none for the replies, before anything happens. Want of memory later is a reply.
+    /// `Memory`, if there is none for the replies, before any event runs. Later, out of memory is a reply.
     pub fn run(&mut self, events: &[Event]) -> Result<Vec<Reply>, Memory>
         requires { All (IsWithin (length self.old)) events.now }
         ensures run { IfOk result (λ replies. Converges self.old events.now replies.items self.new) }
@@ -97,11 +97,11 @@ impl Fleet {
         Ok(replies)
     }
 
-    /// Lets one event happen.
+    /// Runs one event.
     fn answer(&mut self, event: &Event) -> Reply
         requires { IsWithin (length self.old) event.now }
         ensures answer { IsAnswer self.old event.now result }
-        ensures behind { self.new ≡ behind self.old event.now result }
+        ensures behind { self.new ≡ mirrors_after self.old event.now result }
     {
         match *event {
             Event::Take { mirror, file } => match self.take(mirror, file) {
@@ -124,7 +124,7 @@ impl Fleet {
         requires { mirror < length self.old }
         ensures answer { MatchResult result (λ _. Holds file.now (held_by file.now)) (WhyNotTaken file.now) }
         ensures behind { MatchResult result
-            (λ _. self.new ≡ slice_set self.old mirror (took (at self.old mirror) (held_by file.now)))
+            (λ _. self.new ≡ slice_set self.old mirror (after_taking (mirror_at self.old mirror) (held_by file.now)))
             (λ _. self.new ≡ self.old) }
     {
         let mirror = &mut self.mirrors[mirror];
@@ -134,26 +134,26 @@ impl Fleet {
         }
     }
 
-    /// A mirror takes what another one writes, or it itself.
+    /// A mirror takes the file that another one writes, or that it writes itself.
     fn pass(&mut self, from: usize, to: usize, format: Format) -> Result<(), Fault>
         requires { (from < length self.old) × (to < length self.old) }
-        ensures answer { MatchResult result (λ _. IsShort format (at self.old from).held) (WhyNotSpelled format (at self.old from).held) }
+        ensures answer { MatchResult result (λ _. IsShort format (mirror_at self.old from).held) (WhyNotSpelled format (mirror_at self.old from).held) }
         ensures behind { MatchResult result
-            (λ _. self.new ≡ slice_set self.old to (took (at self.old to) (at self.old from).held))
+            (λ _. self.new ≡ slice_set self.old to (after_taking (mirror_at self.old to) (mirror_at self.old from).held))
             (λ _. self.new ≡ self.old) }
     {
         let file = self.mirrors[from].write(format)?;
         self.take(to, &file)
     }
 
-    /// A new mirror takes what the old one writes, and then its place.
+    /// A new mirror takes the file that the old one writes, and replaces it.
     fn restart(&mut self, mirror: usize, format: Format) -> Result<(), Fault>
         requires { mirror < length self.old }
         ensures answer { MatchResult result
-            (λ _. IsShort format (at self.old mirror).held)
-            (WhyNotSpelled format (at self.old mirror).held) }
+            (λ _. IsShort format (mirror_at self.old mirror).held)
+            (WhyNotSpelled format (mirror_at self.old mirror).held) }
         ensures behind { MatchResult result
-            (λ _. self.new ≡ slice_set self.old mirror (took (fresh (at self.old mirror).keep) (at self.old mirror).held))
+            (λ _. self.new ≡ slice_set self.old mirror (after_taking (new_mirror (mirror_at self.old mirror).keep) (mirror_at self.old mirror).held))
             (λ _. self.new ≡ self.old) }
     {
         let old = &self.mirrors[mirror];
@@ -165,7 +165,7 @@ impl Fleet {
     }
 }
 
-/// Whether all of these events name mirrors below this number alone.
+/// Whether all of these events name only mirrors below `count`.
 fn are_within(count: usize, events: &[Event]) -> bool
     ensures { IsTrue result ↔ All (IsWithin count) events.now }
 {

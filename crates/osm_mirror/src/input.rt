@@ -1,15 +1,15 @@
-//! Files to be read, each with the order in which its versions are to stand.
+//! Files to be read, each with the order that its versions must have.
 
-/// The order in which the versions of a file are to stand.
+/// The order that the versions of a file must have.
 #[derive(Clone, Copy, Debug, PartialEq, Eq)]
 pub enum Order {
-    /// Ascending by key. The file is read on as it is needed, one key at a time.
+    /// Ascending by key. The file is read as it is needed, one key at a time.
     Sorted,
     /// Any order. The file is read to its end before anything is written.
     Any,
 }
 
-/// A reader of a file, and the order in which the file's versions are to stand.
+/// A reader of a file, and the order that the file's versions must have.
 #[derive(Drop)]
 pub struct InputFile<R> {
     /// The reader.

@@ -1,6 +1,6 @@
-//! What a mirror keeps, and what it took.
+//! The versions that a mirror keeps, and the numbers of a file that it took.
 
-/// What a mirror keeps of the versions that reach it.
+/// The versions that a mirror keeps of those that reach it.
 #[derive(Clone, Copy, Debug, PartialEq, Eq)]
 pub enum Keep {
     /// All versions: the whole history.
@@ -9,9 +9,9 @@ pub enum Keep {
     Latest,
 }
 
-/// What a mirror took. A number that would pass 2^64 - 1 stays there.
+/// The numbers of a file that a mirror took. A number stops at 2^64 - 1.
 #[derive(Clone, Copy, Debug, PartialEq, Eq)]
 pub struct Taken {
-    /// The versions that the file holds, each counted once, whether the mirror held them before or not.
+    /// The versions of the file, each counted once, even if the mirror held them before.
     pub versions: u64,
 }

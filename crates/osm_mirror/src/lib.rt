@@ -2,12 +2,15 @@
 #![tactic(auto)]
 
 mod check;
-mod command;
+mod cut;
 mod event;
 mod fault_line;
 mod fleet;
+mod held;
 mod input;
 mod keep;
+pub mod known_inputs;
+mod largest;
 pub mod laws;
 mod merge;
 mod mirror;
@@ -17,25 +20,28 @@ mod plan_fault;
 pub mod plan_laws;
 mod plan_line;
 mod run;
+mod slice;
 mod source;
-pub mod told;
 
 pub use check::{CheckReport, run_check, run_check_sorted};
-pub use command::{run_apply, run_period_filter, run_sort, run_time_filter};
+pub use cut::cut_offset;
 pub use event::{Event, MirrorEvent, Reply, Step};
 pub use fault_line::fault_text;
 pub use fleet::Fleet;
+pub use held::{run_apply, run_period_filter, run_sort, run_time_filter};
 pub use input::{InputFile, Order};
 pub use keep::{Keep, Taken};
+pub use largest::largest_file;
 pub use merge::run_merge;
 pub use mirror::Mirror;
 pub use moment::read_moment;
-pub use osm_merge::{Counts, Progress, Selection};
+pub use osm_merge::{Counts, Object, Outside, Progress, Selection, Span};
 pub use osm_model::Memory;
 pub use plan::{Plan, read_plan};
 pub use plan_fault::{PlanFault, PlanReason};
 pub use plan_line::PlanWrite;
 pub use run::run_selected;
+pub use slice::{Slice, SliceFile, run_slice};
 
 #[cfg(test)]
 mod tests;

@@ -1,12 +1,12 @@
 //! The merge of files.
 ghost use Rattle.std.specs.Prelude.{◌≡◌, [], ◌∷◌, ◌++◌, length, IfOk, IfErr, OnOk};
 ghost use Rattle.osm_files.specs.Fault.{memory_fault};
-ghost use Rattle.osm_files.specs.Groups.{opened_file};
+ghost use Rattle.osm_files.specs.Groups.{new_source};
 ghost use Rattle.osm_files.specs.Output.{IsGoodThroughout};
 ghost use Rattle.osm_files.specs.Change.{change_of};
-ghost use Rattle.osm_merge.specs.Giving.{ForSome};
+ghost use Rattle.osm_merge.specs.Giving.{SomeInputsGive};
 ghost use Rattle.osm_merge.specs.Merged.{Grows};
-ghost use Rattle.osm_mirror.specs.Merge.{IsMerged, Refuses, opened};
+ghost use Rattle.osm_mirror.specs.Merge.{IsMerged, Refuses, new_sources};
 
 use osm_files::{Fault, FileSource, Format, Input, Output, Sink};
 use osm_merge::{Counts, merge_into};
@@ -14,25 +14,25 @@ use std::alloc::Global;
 
 /// Merges sorted files: appends the one file of this format that holds the versions of all inputs, each once.
 ///
-/// Where it answers Ok, every input is a sorted file of its grammar, and the bytes written are the one spelling of the
-/// union of the versions held. The inputs are read side by side, one key at a time, and a version is written before its
-/// input is read on.
+/// If it returns `Ok`, every input is a sorted file of its grammar, and the bytes written are the one spelling of the
+/// union of the versions held. The inputs are read in parallel, one key at a time, and a version is written before the
+/// next one of its input is read.
 ///
 /// # Errors
 ///
-/// The inputs are numbered from 0, and the output has the number of the inputs. An input that can't be read or isn't
-/// sorted is named with the reason and its place, where several are, one of them; WriteFault where the output failed,
-/// TooLong where a file has 2^62 bytes or more, Memory where a growth was refused. What was written then is a front of
-/// the file.
+/// The inputs are numbered from 0, and the output has the number of the inputs. If an input can't be read or isn't
+/// sorted, the fault has its number, the reason and the offset; if this is so for several, it is the fault of one of
+/// them. `WriteFault` if the output failed, `TooLong` if a file has 2^62 bytes or more, `Memory` if a growth was
+/// refused. The output written then is a front of the file.
 pub fn run_merge<R: Input + Drop, W: Output>(
     alloc: Global,
     inputs: Vec<R>,
     format: Format,
     out: &mut W,
 ) -> Result<Counts, Fault>
-    ensures merged { IfOk result (λ counts. ForSome R.can_give inputs.items (λ all.
+    ensures merged { IfOk result (λ counts. SomeInputsGive R.can_give inputs.items (λ all.
         IsMerged all format (change_of W.Output out.old out.new) counts)) }
-    ensures refused { IfErr result (λ fault. ForSome R.can_give inputs.items (λ all.
+    ensures refused { IfErr result (λ fault. SomeInputsGive R.can_give inputs.items (λ all.
         Refuses all format (change_of W.Output out.old out.new) fault)) }
     ensures kept { Grows (change_of W.Output out.old out.new) }
     ensures good { OnOk result (IsGoodThroughout (change_of W.Output out.old out.new)) }
@@ -45,7 +45,7 @@ pub fn run_merge<R: Input + Drop, W: Output>(
 
 /// The inputs as sources, numbered from 0.
 fn open_sources<R: Input + Drop>(alloc: Global, inputs: Vec<R>) -> Result<Vec<FileSource<R>>, Fault>
-    ensures opened { IfOk result (λ sources. sources.items ≡ opened 0 inputs.items) }
+    ensures opened { IfOk result (λ sources. sources.items ≡ new_sources 0 inputs.items) }
     ensures memory { IfErr result (λ fault. fault ≡ memory_fault) }
 {
     let count = inputs.len();
@@ -64,10 +64,10 @@ fn push_source<R: Input + Drop>(
     sources: &mut Vec<FileSource<R>>,
 ) -> Result<(), Fault>
     ensures pushed { OnOk result (sources.new.items ≡ sources.old.items
-        ++ opened_file (length sources.old.items) reader ∷ []) }
+        ++ new_source (length sources.old.items) reader ∷ []) }
     ensures memory { IfErr result (λ fault. fault ≡ memory_fault) }
 {
-    Ok(sources.push(FileSource::beside(alloc, sources.len(), reader, count)?)?)
+    Ok(sources.push(FileSource::with_peers(alloc, sources.len(), reader, count)?)?)
 }
 
 #[cfg(test)]

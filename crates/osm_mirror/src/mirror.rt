@@ -18,7 +18,8 @@ use std::marker::Model;
 /// A copy of the map, in memory: a full one holds the whole history that reached it, a latest one the newest version of
 /// each object.
 ///
-/// Whatever files mirrors take, in any order and however often, each mirror's snapshot is that of all that reached it.
+/// For all files that mirrors take, in any order and with any repetitions, each mirror's snapshot is that of all that
+/// reached it.
 #[derive(Drop)]
 pub struct Mirror {
     alloc: Global,
@@ -41,21 +42,21 @@ impl Model for Mirror {
 impl Mirror {
     /// A full mirror that holds nothing yet.
     pub fn new_full(alloc: Global) -> Mirror
-        ensures { result ≡ spec.fresh keep.Full }
+        ensures { result ≡ spec.new_mirror keep.Full }
     {
         Mirror::new(alloc, Keep::Full)
     }
 
     /// A latest mirror that holds nothing yet.
     pub fn new_latest(alloc: Global) -> Mirror
-        ensures { result ≡ spec.fresh keep.Latest }
+        ensures { result ≡ spec.new_mirror keep.Latest }
     {
         Mirror::new(alloc, Keep::Latest)
     }
 
-    /// A mirror that keeps this, and holds nothing yet.
+    /// A mirror that keeps `keep`, and holds nothing yet.
     pub(crate) fn new(alloc: Global, keep: Keep) -> Mirror
-        ensures { result ≡ spec.fresh keep }
+        ensures { result ≡ spec.new_mirror keep }
     {
         Mirror {
             alloc,
@@ -66,12 +67,12 @@ impl Mirror {
 
     /// A new mirror of the same kind.
     pub(crate) fn new_like(&self) -> Mirror
-        ensures { result ≡ spec.fresh self.now.keep }
+        ensures { result ≡ spec.new_mirror self.now.keep }
     {
         Mirror::new(self.alloc, self.keep)
     }
 
-    /// What it holds.
+    /// The history that it holds.
     pub fn held(&self) -> &History
         ensures value { result.now ≡ self.now.held }
         ensures latest { spec.IsKept self.now }
@@ -83,7 +84,7 @@ impl Mirror {
     ///
     /// # Errors
     ///
-    /// For want of memory alone.
+    /// Only out of memory.
     pub fn copy(&self) -> Result<Mirror, Memory>
         ensures { IfOk result (λ mirror. mirror ≡ self.now) }
     {
@@ -94,16 +95,15 @@ impl Mirror {
         })
     }
 
-    /// Takes what a file holds, which may be of any format, its versions in any order. A full mirror then holds the
-    /// union of what it held and what the file holds, a latest one the snapshot of that union.
+    /// Takes the versions of a file, which may have any format and any order of its versions. A full mirror then holds
+    /// the union of its history and the file's set, a latest one the snapshot of that union.
     ///
-    /// What is held already isn't copied. The file is read first, and all memory taken, so that a refusal changes
+    /// The history held isn't copied. The file is read first, and all memory is allocated, so that a refusal changes
     /// nothing.
     ///
     /// # Errors
     ///
-    /// The place and the reason of the file's first faulty unit, the file being the input 0; or Memory. The mirror
-    /// stays as it was.
+    /// The offset and the reason of the file's first faulty unit, as the input 0; or `Memory`. The mirror is unchanged.
     pub fn take(&mut self, file: &[u8]) -> Result<Taken, Fault>
         ensures taken { IfOk result (spec.TakesFile file.now self.old self.new) }
         ensures refused { IfErr result (spec.WhyNotTaken file.now) }
@@ -118,7 +118,7 @@ impl Mirror {
     /// Takes the versions of a history.
     fn absorb(&mut self, history: History) -> Result<(), Memory>
         requires { AreVersions history }
-        ensures { MatchResult result (λ _. self.new ≡ spec.took self.old history) (λ _. self.new ≡ self.old) }
+        ensures { MatchResult result (λ _. self.new ≡ spec.after_taking self.old history) (λ _. self.new ≡ self.old) }
     {
         match self.keep {
             Keep::Full => absorb(self.alloc, &mut self.held, history),
@@ -126,11 +126,11 @@ impl Mirror {
         }
     }
 
-    /// The one file of this format that holds what the mirror holds.
+    /// The one file of this format that holds the mirror's history.
     ///
     /// # Errors
     ///
-    /// Memory; or TooLong where that file would have 2^62 bytes or more, as the output 1.
+    /// `Memory`; or `TooLong` if that file would have 2^62 bytes or more, as the output 1.
     pub fn write(&self, format: Format) -> Result<Vec<u8>, Fault>
         ensures written { IfOk result (λ file. file.items ≡ spell format self.now.held) }
         ensures accepted { IfOk result (λ file. HoldsSorted file.items self.now.held) }

@@ -1,4 +1,4 @@
-//! Plans: the mirrors of a fleet, what happens to them, and the files that are made in the end.
+//! Plans: the mirrors of a fleet, their events, and the files that are made in the end.
 ghost use Rattle.std.specs.Prelude.{◌≡◌, ◌⊎◌, OnOk, IfOk, IfErr};
 ghost use Rattle.osm_mirror.specs.declared.plan_line.PlanLine.TheVariants as line;
 ghost use Rattle.osm_mirror.specs.declared.plan_fault.PlanReason.TheVariants as why;
@@ -14,14 +14,14 @@ use crate::plan_line::{PlanLine, PlanWrite, read_plan_line};
 use std::alloc::Global;
 use std::str;
 
-/// The mirrors of a fleet, what happens to them, and the files that are made in the end.
+/// The mirrors of a fleet, their events, and the files that are made in the end.
 #[derive(Debug, Drop)]
 pub struct Plan {
-    /// What each mirror keeps. The mirrors are numbered from 0, in this order.
+    /// The kind of each mirror. The mirrors are numbered from 0, in this order.
     pub mirrors: Vec<Keep>,
-    /// What happens, one after the other.
+    /// The events, in sequence.
     pub steps: Vec<Step>,
-    /// The files that are made once all steps are done, one after the other.
+    /// The files that are made once all steps are done, in sequence.
     pub writes: Vec<PlanWrite>,
 }
 
@@ -29,8 +29,8 @@ pub struct Plan {
 ///
 /// # Errors
 ///
-/// `NotUtf8` where the text isn't UTF-8; else the first faulty line and what is wrong with it: `BadWord`, `BadOrder` or
-/// `NoMirror`, whichever comes first in this order; `Memory` where a growth was refused.
+/// `NotUtf8` if the text isn't UTF-8; else the first faulty line and its reason: `BadWord`, `BadOrder` or `NoMirror`,
+/// the first that applies in this order; `Memory` if a growth was refused.
 pub fn read_plan(alloc: Global, text: &[u8]) -> Result<Plan, PlanFault>
     ensures plan { IfOk result (PlanSpells text.now) }
     ensures named { IfOk result NamesItsMirrors }
@@ -47,7 +47,7 @@ pub fn read_plan(alloc: Global, text: &[u8]) -> Result<Plan, PlanFault>
 ///
 /// # Errors
 ///
-/// The first faulty line and what is wrong with it; `Memory`.
+/// The first faulty line and its reason; `Memory`.
 fn read_lines(alloc: Global, text: &str) -> Result<Plan, PlanFault>
     ensures plan { IfOk result (λ plan. LinesSpell (lines_of text.now) (parts_of plan)) }
     ensures named { IfOk result NamesItsMirrors }
@@ -69,11 +69,11 @@ fn read_lines(alloc: Global, text: &str) -> Result<Plan, PlanFault>
 }
 
 impl Plan {
-    /// Adds what a line says; an empty one says nothing.
+    /// Adds the part of a line; an empty line has none.
     ///
     /// # Errors
     ///
-    /// What is wrong with the line; `Memory`.
+    /// The reason of the line; `Memory`.
     fn add_line(&mut self, alloc: Global, line: &str) -> Result<(), PlanReason>
         ensures added { OnOk result (IsLineAdded line.now (parts_of self.old) (parts_of self.new)) }
         ensures refused { IfErr result (λ reason. (reason ≡ why.Memory) ⊎ LineFault (parts_of self.old) line.now reason) }

@@ -6,18 +6,18 @@ use osm_model::Memory;
 use std::alloc::{AllocError, AllocFailed};
 use thiserror::Error;
 
-/// The refusal of a plan: at which line, and why.
+/// The fault of a plan: the line, and the reason.
 #[derive(Clone, Copy, Debug, PartialEq, Eq, Error)]
 #[error("line {line}: {}", .reason.name())]
 pub struct PlanFault {
-    /// The number of the line, from 1, empty lines counted too; 0 where no line is to blame.
+    /// The number of the line, from 1, including empty lines; 0 if the fault is of no line.
     pub line: u64,
     /// Why.
     pub reason: PlanReason,
 }
 
 impl PlanFault {
-    /// This reason at the line of this number; want of memory has line 0.
+    /// This reason at the line of this number; out of memory has line 0.
     pub(crate) fn at(line: u64, reason: PlanReason) -> PlanFault
         ensures { result ≡ fault_at line reason }
     {
@@ -31,20 +31,20 @@ impl PlanFault {
 /// Why a plan is refused.
 #[derive(Clone, Copy, Debug, PartialEq, Eq, Error)]
 pub enum PlanReason {
-    /// The text isn't UTF-8. No line is to blame.
+    /// The text isn't UTF-8. The fault is of no line.
     #[error("not UTF-8")]
     NotUtf8,
     /// A line has an unknown first word, a wrong number of words, an empty word, or a word that isn't the number or the
-    /// format that should stand there.
+    /// format that its place requires.
     #[error("ill-formed line")]
     BadWord,
-    /// A mirror line stands after another line, or a step after a write line.
+    /// A mirror line comes after another line, or a step after a write line.
     #[error("line out of order")]
     BadOrder,
     /// A line names a mirror that no line before it has made.
     #[error("no such mirror")]
     NoMirror,
-    /// Memory was refused. No line is to blame.
+    /// Memory was refused. The fault is of no line.
     #[error("out of memory")]
     Memory,
 }

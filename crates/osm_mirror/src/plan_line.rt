@@ -26,10 +26,10 @@ pub struct PlanWrite {
     pub file: Text,
 }
 
-/// What a line of a plan says.
+/// The part of a plan that a line spells.
 #[derive(Drop)]
 pub(crate) enum PlanLine {
-    /// There is one more mirror.
+    /// One more mirror.
     Mirror(Keep),
     /// A step.
     Step(Step),
@@ -37,11 +37,11 @@ pub(crate) enum PlanLine {
     Write(PlanWrite),
 }
 
-/// What a line that isn't empty says.
+/// The part that a line that isn't empty spells.
 ///
 /// # Errors
 ///
-/// `BadWord` where it says nothing; `Memory`.
+/// `BadWord` if it spells none; `Memory`.
 pub(crate) fn read_plan_line(alloc: Global, line: &str) -> Result<PlanLine, PlanReason>
     ensures says { IfOk result (LineSays line.now) }
     ensures nothing { IfErr result (IsNoneOrMemory (LineSays line.now)) }
@@ -50,7 +50,7 @@ pub(crate) fn read_plan_line(alloc: Global, line: &str) -> Result<PlanLine, Plan
     read_words(alloc, words.as_slice())
 }
 
-/// What the words of a line say.
+/// The part that the words of a line spell.
 fn read_words(alloc: Global, words: &[&str]) -> Result<PlanLine, PlanReason>
     ensures says { IfOk result (WordsSay (map (λ word. word.now) words.now)) }
     ensures nothing { IfErr result (IsNoneOrMemory (WordsSay (map (λ word. word.now) words.now))) }
@@ -63,7 +63,7 @@ fn read_words(alloc: Global, words: &[&str]) -> Result<PlanLine, PlanReason>
     }
 }
 
-/// What a line of one word says: `full` or `latest`.
+/// The part of a line of one word: `full` or `latest`.
 fn read_one_word(word: &str) -> Result<PlanLine, PlanReason>
     ensures says { IfOk result (WordsSay (word.now ∷ [])) }
     ensures nothing { IfErr result (IsNone (WordsSay (word.now ∷ []))) }
@@ -75,7 +75,7 @@ fn read_one_word(word: &str) -> Result<PlanLine, PlanReason>
     }
 }
 
-/// What a line of three words says: `take M FILE` or `restart M FORMAT`.
+/// The part of a line of three words: `take M FILE` or `restart M FORMAT`.
 fn read_three_words(
     alloc: Global,
     word: &str,
@@ -100,7 +100,7 @@ fn read_three_words(
     Ok(PlanLine::Step(step))
 }
 
-/// What a line of four words says: `pass M N FORMAT` or `write M FORMAT FILE`.
+/// The part of a line of four words: `pass M N FORMAT` or `write M FORMAT FILE`.
 fn read_four_words(
     alloc: Global,
     word: &str,

@@ -1,8 +1,8 @@
-//! What files give: streams of those that are sorted, and histories of the others.
+//! The sources of files: streams of those that are sorted, and histories of the others.
 ghost use Rattle.std.specs.Prelude.{◌≡◌, [], ◌∷◌, ◌++◌, length, IfOk, IfErr, OnOk};
 ghost use Rattle.osm_files.specs.Fault.{memory_fault};
-ghost use Rattle.osm_merge.specs.Giving.{ForSome};
-ghost use Rattle.osm_mirror.specs.Given.{FileGives, FileGivesOne, in_order, IsOpened, AreOpened, IsUnopened};
+ghost use Rattle.osm_merge.specs.Giving.{SomeInputsGive};
+ghost use Rattle.osm_mirror.specs.Given.{FileGives, FileGivesOne, file_in_order, IsOpened, AreOpened, IsUnopened};
 
 use crate::input::{InputFile, Order};
 use osm_files::{Fault, FileSource, HistorySource, Input, Source, load_any};
@@ -12,7 +12,7 @@ use std::alloc::Global;
 /// The versions of a file, ascending.
 #[derive(Drop)]
 pub enum RunSource<R: Input> {
-    /// Of a sorted file, which is read on as it is needed.
+    /// Of a sorted file, which is read as it is needed.
     Streamed(FileSource<R>),
     /// Of a file that was read to its end.
     Held(HistorySource),
@@ -53,18 +53,18 @@ impl<R: Input> Source for RunSource<R> {
     }
 }
 
-/// The files as sources, numbered from 0. Those of any order were read to their ends; of the others nothing was read
+/// The files as sources, numbered from 0. Those of any order were read to their ends; nothing was read of the others
 /// yet.
 ///
 /// # Errors
 ///
-/// Why a file of any order can't be read; or `Memory`.
+/// The fault of a file of any order that can't be read; or `Memory`.
 pub fn open_inputs<R: Input + Drop>(
     alloc: Global,
     inputs: Vec<InputFile<R>>,
 ) -> Result<Vec<RunSource<R>>, Fault>
     ensures opened { IfOk result (λ sources. AreOpened R.can_give 0 inputs.items sources.items) }
-    ensures refused { IfErr result (λ fault. ForSome (FileGives R.can_give) inputs.items (λ all.
+    ensures refused { IfErr result (λ fault. SomeInputsGive (FileGives R.can_give) inputs.items (λ all.
         IsUnopened 0 all fault)) }
 {
     let count = inputs.len();
@@ -114,17 +114,17 @@ fn stream<R: Input + Drop>(
     count: usize,
     reader: R,
 ) -> Result<RunSource<R>, Fault>
-    ensures opened { IfOk result (λ source. IsOpened R.can_give number (in_order Order.Sorted reader) source) }
+    ensures opened { IfOk result (λ source. IsOpened R.can_give number (file_in_order Order.Sorted reader) source) }
     ensures memory { IfErr result (λ fault. fault ≡ memory_fault) }
 {
-    let source = FileSource::beside(alloc, number, reader, count)?;
+    let source = FileSource::with_peers(alloc, number, reader, count)?;
     Ok(RunSource::Streamed(source))
 }
 
 /// A file of any order as a source. It is read to its end.
 fn load<R: Input + Drop>(alloc: Global, number: usize, reader: R) -> Result<RunSource<R>, Fault>
-    ensures opened { IfOk result (λ source. IsOpened R.can_give number (in_order Order.Any reader) source) }
-    ensures refused { IfErr result (λ fault. FileGivesOne R.can_give (in_order Order.Any reader) (λ input.
+    ensures opened { IfOk result (λ source. IsOpened R.can_give number (file_in_order Order.Any reader) source) }
+    ensures refused { IfErr result (λ fault. FileGivesOne R.can_give (file_in_order Order.Any reader) (λ input.
         IsUnopened number (input ∷ []) fault)) }
 {
     let loaded = load_any(alloc, number, reader)?;

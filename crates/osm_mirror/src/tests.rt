@@ -1,11 +1,11 @@
-//! The commands over small files of each format, with what is written worked out by hand.
-use crate::told::{run_selected_told, run_told};
+//! The commands over small files of each format, with their output worked out by hand.
+use crate::known_inputs::{run_merge_known, run_selected_known};
 use crate::{
     CheckReport, InputFile, Order, read_moment, run_apply, run_check, run_check_sorted, run_merge,
     run_period_filter, run_selected, run_sort, run_time_filter,
 };
 use osm_files::{Broken, Fault, Format, Input, SliceIn, VecOut};
-use osm_merge::{Counts, Selection, Silent};
+use osm_merge::{Counts, NoProgress, Selection};
 use std::alloc::Global;
 use std::process::Abort;
 
@@ -18,7 +18,7 @@ const NODE_THEN_DELETION: &[u8] =
 /// Two nodes, of which the second has the lesser key.
 const UNSORTED: &[u8] = b"n2 v1 x1 y1\nn1 v1 x1 y1\n";
 
-/// A command, and what it selects.
+/// A command, and its selection.
 #[derive(Clone, Copy)]
 enum Command {
     Sort,
@@ -48,7 +48,7 @@ fn any_if(is_any: bool) -> Order {
     if is_any { Order::Any } else { Order::Sorted }
 }
 
-/// Which of some sorted files are read as such; the others are read as files of any order.
+/// The choice of sorted files that are read as such; the others are read as files of any order.
 #[derive(Clone, Copy)]
 enum Mix {
     AllSorted,
@@ -96,7 +96,7 @@ fn mixed<'a>(alloc: Global, files: &'a [&'a [u8]], mix: Mix) -> Vec<InputFile<Sl
     inputs
 }
 
-/// What is selected of these files, some of them read as sorted ones.
+/// The selection of these files, some of them read as sorted ones.
 fn select(
     alloc: Global,
     selection: Selection,
@@ -111,11 +111,11 @@ fn select(
         mixed(alloc, files, mix),
         format,
         out,
-        &mut Silent,
+        &mut NoProgress,
     )
 }
 
-/// What the command over these files appends and returns. The filters read only the first one.
+/// The output and the result of the command over these files. The filters read only the first one.
 fn run(
     alloc: Global,
     command: Command,
@@ -137,7 +137,7 @@ fn run(
     }
 }
 
-/// The bytes that a run wrote; a word that is no file where it was refused.
+/// The bytes that a run wrote; a word that is no file if it was refused.
 fn bytes_of(out: VecOut, outcome: Result<Counts, Fault>) -> Vec<u8> {
     let mut bytes = out.into_vec();
     if outcome.is_err() {
@@ -146,14 +146,14 @@ fn bytes_of(out: VecOut, outcome: Result<Counts, Fault>) -> Vec<u8> {
     bytes
 }
 
-/// What the command writes of these files.
+/// The file that the command makes of these files.
 fn made(alloc: Global, command: Command, files: &[&[u8]], format: Format) -> Vec<u8> {
     let mut out = VecOut::new(alloc);
     let outcome = run(alloc, command, files, format, &mut out);
     bytes_of(out, outcome)
 }
 
-/// What the run writes that selects the same of these files, some of them read as sorted ones.
+/// The file of the run with the same selection of these files, some of them read as sorted ones.
 fn chosen(
     alloc: Global,
     selection: Selection,
@@ -171,7 +171,7 @@ fn in_format(alloc: Global, file: &[u8], format: Format) -> Vec<u8> {
     made(alloc, Command::Sort, &[file], format)
 }
 
-/// Whether the command, and the runs that select the same, make this file of these.
+/// Whether the command, and the runs with the same selection, make this file of these.
 fn is_made_of(
     alloc: Global,
     command: Command,
@@ -221,7 +221,7 @@ fn is_made_from(
 /// A command, one or two files, and the canonical lines that it makes of them.
 type Row = (Command, &'static [&'static [u8]], &'static [u8]);
 
-/// Sees that the commands of these rows make their lines, whatever the formats are.
+/// Asserts that the commands of these rows make their lines, in all formats.
 fn assert_rows<R: AllocGlobal + Abort>(rt: &R, rows: &[Row]) {
     for (command, files, wanted) in rows {
         for given in FORMATS {
@@ -436,7 +436,7 @@ fn little_is_made_of_little(rt: HostRuntime) {
     assert_rows(&rt, LITTLE);
 }
 
-/// What a command counts of these files: read, written and compared.
+/// The counts of a command over these files: read, written and compared.
 fn counted(alloc: Global, command: Command, files: &[&[u8]]) -> Option<(u64, u64, u64)> {
     let mut out = VecOut::new(alloc);
     match run(alloc, command, files, Format::O5m, &mut out) {
@@ -461,7 +461,7 @@ fn push_fault(text: &mut String, outcome: Result<Counts, Fault>) {
     };
 }
 
-/// Appends what a check returns.
+/// Appends the result of a check.
 fn push_report(text: &mut String, outcome: Result<CheckReport, Fault>) {
     let report = match outcome {
         Ok(report) => report,
@@ -479,7 +479,7 @@ fn push_report(text: &mut String, outcome: Result<CheckReport, Fault>) {
     );
 }
 
-/// What the two checks of a file return.
+/// The results of the two checks of a file.
 fn checked_text(alloc: Global, file: &[u8]) -> String {
     let mut text = String::new(alloc);
     push_report(&mut text, run_check(alloc, SliceIn::new(file)));
@@ -487,7 +487,7 @@ fn checked_text(alloc: Global, file: &[u8]) -> String {
     text
 }
 
-/// What the runs over a file return that want it sorted, and how many bytes they write.
+/// The results of the runs over a file that must be sorted, and the numbers of bytes they write.
 fn sorted_text(alloc: Global, file: &[u8]) -> String {
     let mut text = String::new(alloc);
     let mut out = VecOut::new(alloc);
@@ -537,8 +537,8 @@ fn check_and_cut(rt: HostRuntime) {
     );
 }
 
-/// What runs return over three files of which the second is cut, and how many bytes they write. The first and the third
-/// file are streamed in the second run.
+/// The results of runs over three files of which the second is cut, and the numbers of bytes they write. The first and
+/// the third file are streamed in the second run.
 fn cut_text(alloc: Global, format: Format) -> String {
     let mut text = String::new(alloc);
     let mut out = VecOut::new(alloc);
@@ -569,12 +569,12 @@ struct Dripping<'a> {
 }
 
 impl Input for Dripping<'_> {
-    ghost use Rattle.osm_files.specs.Input.{whole};
+    ghost use Rattle.osm_files.specs.Input.{whole_input};
     ghost use Rattle.std.specs.Prelude.{[]};
 
     ghost can_give = { λ _ _. Unit {0} };
 
-    ghost one = { λ _. whole [] };
+    ghost one = { λ _. whole_input [] };
 
     ghost possible = { λ _. tt };
 
@@ -610,7 +610,7 @@ fn one_fails<'a>(alloc: Global) -> Vec<Dripping<'a>> {
     inputs
 }
 
-/// What the commands return whose input fails, and how many bytes they write.
+/// The results of the commands over an input that fails, and the numbers of bytes they write.
 fn failing_text(alloc: Global) -> String {
     let mut text = String::new(alloc);
     let mut out = VecOut::new(alloc);
@@ -637,18 +637,18 @@ fn an_input_that_fails_is_named(rt: HostRuntime) {
     );
 }
 
-/// The merge of these files that tell what they give, and what is selected of them.
+/// The merge of these files, which report their bytes, and the selection of them.
 fn told(alloc: Global, files: &[&[u8]], selection: Option<Selection>) -> Vec<u8> {
     let mut out = VecOut::new(alloc);
     let outcome = match selection {
-        None => run_told(alloc, readers(alloc, files), Format::Opl, &mut out),
-        Some(selection) => run_selected_told(
+        None => run_merge_known(alloc, readers(alloc, files), Format::Opl, &mut out),
+        Some(selection) => run_selected_known(
             alloc,
             selection,
             mixed(alloc, files, Mix::NoneSorted),
             Format::Opl,
             &mut out,
-            &mut Silent,
+            &mut NoProgress,
         ),
     };
     bytes_of(out, outcome)

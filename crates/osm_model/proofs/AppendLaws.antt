@@ -1,8 +1,8 @@
--- The stretches of a line, one behind the other.
+-- The stretches of a line, in sequence.
 use Rattle.std.proofs.Common.{◌≡◌, ℕ, List, [], ◌∷◌, ◌++◌, codes, refl, ap, sym, ◌∙◌, append_assoc}
 use Rattle.std.specs.Str.{chars}
 use Rattle.osm_model.specs.Escape.{escape}
-use Rattle.osm_model.specs.Joined.{joined}
+use Rattle.osm_model.specs.Joined.{join_with}
 use Rattle.osm_model.specs.Data.{VersionData, tags_of}
 use Rattle.osm_model.specs.Line.{list_text, tag_text, kind_fields, line}
 use Rattle.osm_model.specs.Cursor.{more_text}
@@ -16,7 +16,7 @@ pub list_begins : {X : Type 0} (text : X → List ℕ) (x : X) (all rest : List 
 list_begins text x all rest mark before now a n = rw (a, n, list_text-cons text x rest)
     (sym (append_assoc before (mark ++ text x) _ ∙ ap (λ t. before ++ t) (append_assoc mark (text x) _)))
 
--- a text goes on behind its raw characters
+-- a text continues after its raw characters
 pub plain_stretch : (before all bytes front back now : List ℕ) → before ≡ all ++ escape (chars bytes) →
     escape (chars bytes) ≡ front ++ escape (chars back) → now ≡ all ++ front →
     before ≡ now ++ escape (chars back)
@@ -25,7 +25,7 @@ plain_stretch before all bytes front back now b e n = b ∙ ap (λ t. all ++ t) 
 
 -- the line is its head, the user name, the tags and the fields of its kind
 pub line-parts : (v : VersionData) → line v ≡ head_text v
-    ++ (escape v.user ++ ((codes " T" ++ list_text tag_text (tags_of v.body)) ++ (32 ∷ joined 32 (kind_fields v.body))))
+    ++ (escape v.user ++ ((codes " T" ++ list_text tag_text (tags_of v.body)) ++ (32 ∷ join_with 32 (kind_fields v.body))))
 line-parts v = line-from_object v ∙ simp append_assoc
 
 -- items in two stretches
@@ -34,7 +34,7 @@ more_in_two text [] ys = refl
 more_in_two text (x ∷ xs) ys = ap (λ t. 44 ∷ t) (ap (λ t. text x ++ t) (more_in_two text xs ys)
     ∙ sym (append_assoc (text x) (more_text text xs) (more_text text ys)))
 
--- items are appended but for those behind them
+-- items are appended, except for those after them
 pub more_behind : {X : Type 0} (text : X → List ℕ) (all before now : List ℕ) (items few behind : List X) → items ≡ few ++ behind →
     all ≡ before ++ more_text text items → now ≡ before ++ more_text text few →
     all ≡ now ++ more_text text behind

@@ -1,4 +1,4 @@
--- A date tells its day number, and the day number tells the date.
+-- A date determines its day number, and the day number determines the date.
 use Rattle.std.proofs.Common.{◌≡◌, ℕ, zero, suc, ◌+◌, ◌-◌, ◌*◌, ◌<◌, ◌≤◌, true, false, cond, ltb, refl, sym, ap, ◌∙◌, arith, ⊎_elim, subst}
 use Rattle.std.proofs.lemmas.Bool.{cases_lt, cases_order, ltb-true, ltb-false, leb-true, le-leb, and_parts}
 use Rattle.std.specs.Int.{IsInRange}
@@ -17,11 +17,12 @@ unfolding days_of_months
 days_of_months-year year = elim (is_leap_year year) as
     (λ b. 31 + cond b 29 28 + 31 + 30 + 31 + 30 + 31 + 31 + 30 + 31 + 30 + 31 ≡ cond b 366 365) [ true ↦ refl | false ↦ refl ]
 
+-- No days are before the first month of a year.
 pub days_of_months-none : (year : ℕ) → days_of_months year (1 - 1) ≡ 0
 unfolding days_of_months
 days_of_months-none year = refl
 
--- whole years are walked: no day is lost, and the rest lies in the year
+-- the walk over whole years loses no day, and the rest is within the year
 year_walk-sum : (most year days : ℕ) → days_of_years (year_walk most year days).0 + (year_walk most year days).1 ≡ days_of_years year + days
 unfolding year_walk days_of_years
 year_walk-sum zero year days = refl
@@ -46,7 +47,7 @@ year_walk-within (suc most) year days h =
           (let some = year_some year in let long = ltb-false days (days_in_year year) e in omega arith)
     ] refl
 
--- months are walked in the same way
+-- the walk over months does the same
 record IsMonthWalk (year month days : ℕ) (found : ℕ × ℕ) : Type 0 where
   some : 1 ≤ found.0
   sum : days_of_months year (found.0 - 1) + found.1 ≡ days_of_months year (month - 1) + days
@@ -69,7 +70,7 @@ month_walk-sum (suc most) year (suc before) days h =
           record { some = rest.some; sum = s ∙ rw none (omega arith) }
     ] refl
 
--- and the rest lies in the month
+-- and the rest is within the month
 record IsMonthDay (year : ℕ) (found : ℕ × ℕ) : Type 0 where
   month_in : found.0 ≤ 12
   day_in : found.1 < days_in_month year found.0
@@ -100,6 +101,7 @@ pub record IsCivil (year month day : ℕ) : Type 0 where
   pub month_in : IsInRange 1 12 month
   pub day_in : IsInRange 1 (days_in_month year month) day
 
+-- A day of a month is at most 31.
 pub day_le : (year month day : ℕ) → IsCivil year month day → day ≤ 31
 day_le year month day is = let long = month_length_le year month in omega (arith, is.day_in.1)
 
@@ -108,6 +110,7 @@ pub record IsDateAfter (days : ℕ) (date : Date) : Type 0 where
   pub number : day_number date.year date.month date.day ≡ days_of_years 1970 + days
   pub civil : IsCivil date.year date.month date.day
 
+-- `date_of` returns the date that is this number of days after 0000-01-01.
 pub date_of-is : (days : ℕ) → IsDateAfter days (date_of days)
 unfolding date_of
 date_of-is days =
@@ -138,7 +141,7 @@ not_below f grows a b r q ha e less =
     let at : f (b - suc a + suc a) ≡ f b = ap f there in
     absurd (omega arith)
 
--- a place in steps that grow tells its step
+-- in steps that grow, a position determines its step
 same_step : (f : ℕ → ℕ) → ((n : ℕ) → f n ≤ f (suc n)) → (a b r q : ℕ) → f a + r < f (suc a) → f b + q < f (suc b) → f a + r ≡ f b + q →
     a ≡ b
 same_step f grows a b r q ha hb e =
@@ -201,6 +204,7 @@ same_in_year y m d year month day same is other e =
     let P : ℕ → Type 0 = λ z. IsCivil z month day → day_number y m d ≡ day_number z month day → SameDate y m d z month day in
     subst P same (λ there at. same_in_month y m d month day is there (omega (arith, at))) other e
 
+-- Two dates with one day number are the same date.
 pub same_date : (y m d year month day : ℕ) → IsCivil y m d → IsCivil year month day → day_number y m d ≡ day_number year month day →
     SameDate y m d year month day
 same_date y m d year month day is other e =
@@ -209,7 +213,7 @@ same_date y m d year month day is other e =
     (year_step y m d is) (year_step year month day other) (omega (arith, e)))
     is other e
 
--- the calendar has a date exactly where its parts are in range
+-- the calendar has a date exactly if its parts are in range
 pub is_date-civil : (y m d : ℕ) → is_date y m d ≡ true → IsCivil y m d
 is_date-civil y m d e =
     let both = and_parts _ _ e in
@@ -221,6 +225,7 @@ is_date-civil y m d e =
           (leb-true 1 d days.0, leb-true d (days_in_month y m) days.1);
     }
 
+-- The test `is_date` accepts each date of the calendar.
 pub civil-is_date : (y m d : ℕ) → IsCivil y m d → is_date y m d ≡ true
 civil-is_date y m d is =
     rw (le-leb 1 m is.month_in.0, le-leb m 12 is.month_in.1, le-leb 1 d is.day_in.0, le-leb d (days_in_month y m) is.day_in.1) refl

@@ -1,16 +1,16 @@
--- A coordinate's text tells it, and holds no separator.
+-- A coordinate's text determines it, and holds no separator.
 use Rattle.std.proofs.Common.{◌≡◌, ◌≢◌, ℕ, zero, suc, ◌+◌, ◌-◌, ◌/◌, ◌%◌, ◌^◌, ◌<◌, cond, eqb, true, false, List, [], ◌∷◌, ◌++◌, length}
 use Rattle.std.proofs.Common.{replicate, refl, sym, ap, ◌∙◌, arith, ℤ, pos, negsuc, inl}
 use Rattle.std.specs.Char.{digit_char}
 use Rattle.std.proofs.lemmas.Bool.{eqb-true}
 use Rattle.std.proofs.lemmas.Bool.Decides.{nat_tests}
 use Rattle.std.proofs.lemmas.List.{append-nil, length-append, length-replicate}
-use Rattle.osm_model.specs.Numeral.{numeral, padded}
+use Rattle.osm_model.specs.Numeral.{numeral, pad_zeros}
 use Rattle.osm_model.specs.Decimal.{number_text}
 use Rattle.osm_model.specs.Coordinate.{digit_before, without_last_zeros, fraction_text, degrees_text, coordinate_text}
 use Rattle.osm_model.proofs.Separators.{Lacks, NoDigit, IsSeparator, no_digit-separator, mark-separator, split_same, lacks_append}
 use Rattle.osm_model.proofs.Separators.{lacks_clash}
-use Rattle.osm_model.proofs.NumeralLaws.{padded_injective, padded_lacks, padded-step, padded-digit, length-padded}
+use Rattle.osm_model.proofs.NumeralLaws.{padded_injective, padded_lacks, pad_zeros-step, pad_zeros-digit, length-padded}
 use Rattle.osm_model.proofs.DecimalLaws.{number_injective, number_lacks_mark, length-number-le}
 
 without_last_zeros-zero : (xs : List ℕ) → without_last_zeros (xs ++ 48 ∷ []) ≡ without_last_zeros xs
@@ -27,7 +27,7 @@ unfolding without_last_zeros
 without_last_zeros-digit [] d h = grind (arith, nat_tests)
 without_last_zeros-digit (x ∷ xs) d h = ap (digit_before x) (without_last_zeros-digit xs d h) ∙ digit_before-some x d xs
 
--- as many zeros as were left out
+-- `trimmed` lacks only zeros at the end of `xs`
 abbrev HasZeros : List ℕ → List ℕ → Type 0
 HasZeros xs trimmed = (k : ℕ) × (xs ≡ trimmed ++ replicate k 48)
 
@@ -56,11 +56,11 @@ without_last_zeros_injective xs ys same e =
     let count : h.0 ≡ k.0 = omega arith in
     h.1 ∙ (λ i. e i ++ replicate (count i) 48) ∙ sym k.1
 
-length-decimals : (units : ℕ) → units < 10_000_000 → length (padded 7 (number_text units)) ≡ 7
+length-decimals : (units : ℕ) → units < 10_000_000 → length (pad_zeros 7 (number_text units)) ≡ 7
 length-decimals units small = length-padded 7 (number_text units) (length-number-le 7 units (omega arith) small)
 
 decimals_injective : (m n : ℕ) → m < 10_000_000 → n < 10_000_000 →
-    without_last_zeros (padded 7 (number_text m)) ≡ without_last_zeros (padded 7 (number_text n)) → m ≡ n
+    without_last_zeros (pad_zeros 7 (number_text m)) ≡ without_last_zeros (pad_zeros 7 (number_text n)) → m ≡ n
 unfolding number_text
 decimals_injective m n hm hn e =
     padded_injective 10 7 7 m n (omega arith) (omega arith)
@@ -71,10 +71,10 @@ parts_injective : (a b m n : ℕ) → m < 10_000_000 → n < 10_000_000 → numb
     (a ≡ b) × (m ≡ n)
 unfolding fraction_text
 parts_injective a b m n hm hn =
-    elim (eqb m 0) as (λ x. eqb m 0 ≡ x → number_text a ++ cond x [] (46 ∷ without_last_zeros (padded 7 (number_text m))) ≡ number_text b
+    elim (eqb m 0) as (λ x. eqb m 0 ≡ x → number_text a ++ cond x [] (46 ∷ without_last_zeros (pad_zeros 7 (number_text m))) ≡ number_text b
     ++ fraction_text n → (a ≡ b) × (m ≡ n)) [
       | true ↦ λ x. elim (eqb n 0) as (λ y. eqb n 0 ≡ y →
-          number_text a ++ [] ≡ number_text b ++ cond y [] (46 ∷ without_last_zeros (padded 7 (number_text n))) → (a ≡ b) × (m ≡ n)) [
+          number_text a ++ [] ≡ number_text b ++ cond y [] (46 ∷ without_last_zeros (pad_zeros 7 (number_text n))) → (a ≡ b) × (m ≡ n)) [
             | true ↦ λ y e. (
               number_injective a b (sym (append-nil (number_text a)) ∙ e ∙ append-nil (number_text b)),
               eqb-true m 0 x
@@ -84,8 +84,8 @@ parts_injective a b m n hm hn =
                 (number_lacks_mark 46 a (inl (omega arith))))
           ] refl
       | false ↦ λ x. elim (eqb n 0) as (λ y. eqb n 0 ≡ y →
-          number_text a ++ 46 ∷ without_last_zeros (padded 7 (number_text m)) ≡ number_text b
-          ++ cond y [] (46 ∷ without_last_zeros (padded 7 (number_text n))) → (a ≡ b) × (m ≡ n)) [
+          number_text a ++ 46 ∷ without_last_zeros (pad_zeros 7 (number_text m)) ≡ number_text b
+          ++ cond y [] (46 ∷ without_last_zeros (pad_zeros 7 (number_text n))) → (a ≡ b) × (m ≡ n)) [
             | true ↦ λ y e. absurd (lacks_clash 46 (number_text b) (number_text a) _ (sym (append-nil (number_text b)) ∙ sym e)
                 (number_lacks_mark 46 b (inl (omega arith))))
             | false ↦ λ y e.
@@ -113,7 +113,7 @@ last_zeros_lack c (x ∷ xs) lacks = before (without_last_zeros xs) (last_zeros_
 fraction_lacks : (c units : ℕ) → NoDigit c → 46 ≢ c → Lacks c (fraction_text units)
 unfolding fraction_text number_text
 fraction_lacks c units apart point =
-    elim (eqb units 0) as (λ b. Lacks c (cond b [] (46 ∷ without_last_zeros (padded 7 (number_text units))))) [
+    elim (eqb units 0) as (λ b. Lacks c (cond b [] (46 ∷ without_last_zeros (pad_zeros 7 (number_text units))))) [
       | true ↦ tt
       | false ↦ (point, last_zeros_lack c _ (padded_lacks c 10 7 units apart (omega arith) (omega arith)))
     ]
@@ -126,6 +126,7 @@ no_sign : (m n : ℕ) → degrees_text m ≡ 45 ∷ degrees_text n → ⊥
 no_sign m n e = lacks_clash 45 (degrees_text m) [] (degrees_text n) e
     (degrees_lack 45 m (inl (omega arith)) (λ e. absurd (omega (arith, e))))
 
+-- Two coordinates with one text are equal.
 pub coordinate_injective : (y z : ℤ) → coordinate_text y ≡ coordinate_text z → y ≡ z
 unfolding coordinate_text
 coordinate_injective (pos m) (pos n) e = ap pos (degrees_injective m n e)
@@ -137,6 +138,7 @@ coordinate_injective (negsuc m) (negsuc n) e =
     let less : m ≡ n = omega arith in
     ap negsuc less
 
+-- The text of a coordinate has no separator.
 pub coordinate_lacks : {c : ℕ} (z : ℤ) → IsSeparator c → Lacks c (coordinate_text z)
 unfolding coordinate_text
 coordinate_lacks (pos n) s = degrees_lack _ n (no_digit-separator s) (mark-separator 46 (inl (omega arith, omega arith)) s)
@@ -148,17 +150,17 @@ coordinate_lacks (negsuc n) s = (
 -- one zero less at the end
 pub fraction_next : (places digits : ℕ) → 0 < digits → digits < 10 ^ places → digits % 10 ≡ 0 →
     (0 < digits / 10) × (digits / 10 < 10 ^ (places - 1))
-    × (without_last_zeros (padded places (number_text digits)) ≡ without_last_zeros (padded (places - 1) (number_text (digits / 10))))
+    × (without_last_zeros (pad_zeros places (number_text digits)) ≡ without_last_zeros (pad_zeros (places - 1) (number_text (digits / 10))))
 unfolding number_text
 fraction_next zero digits some fits last = absurd (omega arith)
 fraction_next (suc zero) digits some fits last = absurd (omega arith)
 fraction_next (suc (suc places)) digits some fits last =
     let less : suc (suc places) - 1 ≡ suc places = omega arith in
-    let step = padded-step 10 places digits (omega arith)
-    ∙ ap (λ d. padded (suc places) (numeral 10 (digits / 10)) ++ digit_char d ∷ []) last in (
+    let step = pad_zeros-step 10 places digits (omega arith)
+    ∙ ap (λ d. pad_zeros (suc places) (numeral 10 (digits / 10)) ++ digit_char d ∷ []) last in (
       omega arith,
       rw less (omega arith),
-      rw less (ap without_last_zeros step ∙ without_last_zeros-zero (padded (suc places) (numeral 10 (digits / 10)))),
+      rw less (ap without_last_zeros step ∙ without_last_zeros-zero (pad_zeros (suc places) (numeral 10 (digits / 10)))),
     )
 
 digit_char-some : (d : ℕ) → d < 10 → 0 < d → digit_char d ≢ 48
@@ -166,23 +168,23 @@ digit_char-some d small some e = grind (arith, nat_tests)
 
 -- no zero at the end
 fraction_end : (places digits : ℕ) → digits < 10 ^ places → 0 < digits % 10 →
-    without_last_zeros (padded places (number_text digits)) ≡ padded places (number_text digits)
+    without_last_zeros (pad_zeros places (number_text digits)) ≡ pad_zeros places (number_text digits)
 unfolding number_text
 fraction_end zero digits fits some = absurd (omega arith)
 fraction_end (suc zero) digits fits some =
-    let only : padded 1 (numeral 10 digits) ≡ digit_char digits ∷ [] = padded-digit 10 digits (omega arith) (omega arith) in
+    let only : pad_zeros 1 (numeral 10 digits) ≡ digit_char digits ∷ [] = pad_zeros-digit 10 digits (omega arith) (omega arith) in
     ap without_last_zeros only ∙ without_last_zeros-digit [] (digit_char digits) (digit_char-some digits (omega arith) (omega arith))
     ∙ sym only
 fraction_end (suc (suc places)) digits fits some =
-    let last = padded-step 10 places digits (omega arith) in
+    let last = pad_zeros-step 10 places digits (omega arith) in
     ap without_last_zeros last
-    ∙ without_last_zeros-digit (padded (suc places) (numeral 10 (digits / 10))) (digit_char (digits % 10))
+    ∙ without_last_zeros-digit (pad_zeros (suc places) (numeral 10 (digits / 10))) (digit_char (digits % 10))
     (digit_char-some (digits % 10) (omega arith) some) ∙ sym last
 
 -- a fraction, from the digits that are left of it
 pub fraction_is : (places digits units : ℕ) → 0 < units → digits < 10 ^ places → (digits % 10 ≡ 0 → ⊥)
-    → without_last_zeros (padded places (number_text digits)) ≡ without_last_zeros (padded 7 (number_text units)) →
-    fraction_text units ≡ 46 ∷ padded places (number_text digits)
+    → without_last_zeros (pad_zeros places (number_text digits)) ≡ without_last_zeros (pad_zeros 7 (number_text units)) →
+    fraction_text units ≡ 46 ∷ pad_zeros places (number_text digits)
 unfolding fraction_text
 fraction_is places digits units some fits last same =
     let no : eqb units 0 ≡ false = grind (arith, nat_tests) in

@@ -9,15 +9,15 @@ use Rattle.osm_model.specs.declared.tags.Tag.{Tag}
 use Rattle.osm_model.specs.declared.members.Member.{Member}
 use Rattle.osm_model.specs.declared.body.Body.{Body}
 use Rattle.osm_model.specs.declared.body.Body.TheVariants as body
-use Rattle.osm_model.specs.declared.line_bytes.Next.{Next}
+use Rattle.osm_model.specs.declared.line_bytes.Continuation.{Continuation}
 use Rattle.osm_model.specs.declared.line_bytes.Place.{Place}
 use Rattle.osm_model.specs.Kind.{kind_letter}
 use Rattle.osm_model.specs.Decimal.{integer_text}
 use Rattle.osm_model.specs.Escape.{escape, escape_char, is_raw, code_escape}
-use Rattle.osm_model.specs.Joined.{joined}
+use Rattle.osm_model.specs.Joined.{join_with}
 use Rattle.osm_model.specs.Data.{VersionData, tags_of}
 use Rattle.osm_model.specs.Line.{list_text, tag_text, reference_text, member_text, kind_fields, line}
-use Rattle.osm_model.specs.Cursor.{more_text, items_text, after, coming, from_object}
+use Rattle.osm_model.specs.Cursor.{more_text, items_text, from_place, from_next, from_object}
 
 -- no character has an empty form
 pub escape_char-full : (c : ℕ) → 0 < length (escape_char c)
@@ -27,21 +27,24 @@ escape_char-full c = elim (is_raw c) as (λ b. 0 < length (if b then encode_utf8
   | false ↦ omega arith
 ]
 
+-- No bytes are no characters.
 pub text_end : (bs : List ℕ) → length bs ≡ 0 → chars bs ≡ []
 text_end [] h = chars-nil
 text_end (b ∷ bs) h = absurd (omega arith)
 
+-- The escaped text is the form of the first character, which has a byte at least, and the escaped rest.
 pub text_more : (bs rest given piece : List ℕ) (c : ℕ) → IsUtf8 given → given ≡ bs → bs ≡ encode_utf8 c ++ rest → piece ≡ escape_char c →
     (escape (chars bs) ≡ piece ++ escape (chars rest)) × (0 < length piece)
 text_more bs rest given piece c u same e is =
     let v : IsUtf8 bs = subst IsUtf8 same u in
     (ap escape (chars_past_char bs rest c v e) ∙ ap (λ xs. xs ++ escape (chars rest)) (sym is), rw is (escape_char-full c))
 
--- what comes next, by its two parts
-pub coming_is : (v : VersionData) (next : Next) (cs : List ℕ) (p : Place) → chars next.text.now ≡ cs → next.place ≡ p →
-    coming v next ≡ escape cs ++ after v p
-coming_is v next cs p t e = λ i. escape (t i) ++ after v (e i)
+-- a `Continuation`, by its two parts
+pub coming_is : (v : VersionData) (next : Continuation) (cs : List ℕ) (p : Place) → chars next.text.now ≡ cs → next.place ≡ p →
+    from_next v next ≡ escape cs ++ from_place v p
+coming_is v next cs p t e = λ i. escape (t i) ++ from_place v (e i)
 
+-- A list's text is the text of its first item, and each other item after a comma.
 pub list_text-cons : {X : Type 0} (text : X → List ℕ) (x : X) (xs : List X) → list_text text (x ∷ xs) ≡ text x ++ more_text text xs
 list_text-cons text x [] = sym (append-nil (text x))
 list_text-cons text x (y ∷ ys) = ap (λ t. text x ++ 44 ∷ t) (list_text-cons text y ys)
@@ -77,7 +80,7 @@ tag_step t all rest b a =
     sym (rw (a, list_text-cons tag_text t rest) (append_assoc (tag_text t) (more_text tag_text rest) b
     ∙ append_assoc (escape t.key) (61 ∷ escape t.value) _))
 
-joined_kind : (f : List ℕ) (b : Body) → joined 32 (f ∷ kind_fields b) ≡ f ++ 32 ∷ joined 32 (kind_fields b)
+joined_kind : (f : List ℕ) (b : Body) → join_with 32 (f ∷ kind_fields b) ≡ f ++ 32 ∷ join_with 32 (kind_fields b)
 joined_kind f (body.Deleted Node) = refl
 joined_kind f (body.Deleted Way) = refl
 joined_kind f (body.Deleted Relation) = refl

@@ -1,4 +1,4 @@
--- The escaped form of a text tells the text, and holds no separator.
+-- The escaped form of a text determines the text, and holds no separator.
 use Rattle.std.proofs.Common.{◌≡◌, ◌≢◌, ℕ, ◌+◌, ◌/◌, ◌%◌, ◌<◌, ◌≤◌, true, false, cond, ltb, List, [], ◌∷◌, ◌++◌, length, refl, sym, ap, ◌∙◌}
 use Rattle.std.proofs.Common.{arith, append_assoc, inl}
 use Rattle.std.proofs.lemmas.Bool.Decides.{nat_tests}
@@ -6,7 +6,7 @@ use Rattle.std.proofs.lemmas.Bool.{true≢false}
 use Rattle.std.proofs.lemmas.List.{append-nil}
 use Rattle.std.proofs.lemmas.Str.{encode_same, encode_ascii}
 use lib.Utf8.{encode}
-use Rattle.osm_model.specs.Numeral.{numeral, padded}
+use Rattle.osm_model.specs.Numeral.{numeral, pad_zeros}
 use Rattle.osm_model.specs.Escape.{is_raw, escape_width, code_escape, escape_char, escape}
 use Rattle.osm_model.proofs.NumeralLaws.{padded_injective, padded_lacks}
 use Rattle.osm_model.proofs.Separators.{Lacks, IsSeparator, space, comma, equals, at, NoDigit, no_digit-separator, split_same, lacks_append}
@@ -19,20 +19,20 @@ raw_percent c us vs raw e =
 code_escape_same : (c d : ℕ) (us vs : List ℕ) → code_escape c ++ us ≡ code_escape d ++ vs → (c ≡ d) × (us ≡ vs)
 unfolding code_escape
 code_escape_same c d us vs e =
-    let both = split_same 37 (padded (escape_width c) (numeral 16 c)) (padded (escape_width d) (numeral 16 d)) us vs
+    let both = split_same 37 (pad_zeros (escape_width c) (numeral 16 c)) (pad_zeros (escape_width d) (numeral 16 d)) us vs
     (padded_lacks 37 16 (escape_width c) c (inl (omega arith)) (omega arith) (omega arith))
     (padded_lacks 37 16 (escape_width d) d (inl (omega arith)) (omega arith) (omega arith))
     (cc (
-      append_assoc (padded (escape_width c) (numeral 16 c)) (37 ∷ []) us,
-      append_assoc (padded (escape_width d) (numeral 16 d)) (37 ∷ []) vs,
+      append_assoc (pad_zeros (escape_width c) (numeral 16 c)) (37 ∷ []) us,
+      append_assoc (pad_zeros (escape_width d) (numeral 16 d)) (37 ∷ []) vs,
     )) in
     (padded_injective 16 (escape_width c) (escape_width d) c d (omega arith) (omega arith) both.0, both.1)
 
 code_escape_percent : (c : ℕ) (us : List ℕ) → (vs : List ℕ) × (code_escape c ++ us ≡ 37 ∷ vs)
 unfolding code_escape
-code_escape_percent c us = ((padded (escape_width c) (numeral 16 c) ++ 37 ∷ []) ++ us, refl)
+code_escape_percent c us = ((pad_zeros (escape_width c) (numeral 16 c) ++ 37 ∷ []) ++ us, refl)
 
--- the form of one character ends by itself
+-- the form of one character shows where it ends
 escape_char_same : (c d : ℕ) (us vs : List ℕ) → escape_char c ++ us ≡ escape_char d ++ vs → (c ≡ d) × (us ≡ vs)
 unfolding escape_char
 escape_char_same c d us vs =
@@ -61,6 +61,7 @@ escape_char_some c us =
       | false ↦ λ e. cc
     ]
 
+-- The form of a character has a byte at least.
 pub length-escape_char-some : (c : ℕ) → 0 < length (escape_char c)
 length-escape_char-some c = not_nil (escape_char c) (λ e. escape_char_some c [] (append-nil (escape_char c) ∙ e))
   where
@@ -68,6 +69,7 @@ length-escape_char-some c = not_nil (escape_char c) (λ e. escape_char_some c []
     not_nil [] h = absurd (h refl)
     not_nil (x ∷ xs) h = omega arith
 
+-- Two texts with one escaped form are equal.
 pub escape_injective : (cs ds : List ℕ) → escape cs ≡ escape ds → cs ≡ ds
 escape_injective [] [] e = refl
 escape_injective [] (d ∷ ds) e = absurd (escape_char_some d (escape ds) (sym e))
@@ -146,7 +148,7 @@ code_escape_lacks : (s c : ℕ) → IsEscaped s → Lacks s (code_escape c)
 unfolding code_escape
 code_escape_lacks s c p = (
   p.other,
-  lacks_append s (padded (escape_width c) (numeral 16 c)) (37 ∷ [])
+  lacks_append s (pad_zeros (escape_width c) (numeral 16 c)) (37 ∷ [])
       (padded_lacks s 16 (escape_width c) c p.no_digit (omega arith) (omega arith)) (p.other, tt),
 )
 
@@ -158,14 +160,17 @@ escape_char_lacks s c p =
       | false ↦ λ raw. code_escape_lacks s c p
     ] refl
 
+-- The escaped form of a text has no separator.
 pub escape_lacks : {s : ℕ} (cs : List ℕ) → IsSeparator s → Lacks s (escape cs)
 escape_lacks [] p = tt
 escape_lacks (c ∷ cs) p = lacks_append _ (escape_char c) (escape cs) (escape_char_lacks _ c (escaped_separator p)) (escape_lacks cs p)
 
+-- The form of a raw character is its UTF-8.
 pub escape_char-raw : (c : ℕ) → is_raw c ≡ true → escape_char c ≡ encode c
 unfolding escape_char
 escape_char-raw c e = rw e
 
+-- The form of any other character is its escape.
 pub escape_char-other : (c : ℕ) → is_raw c ≡ false → escape_char c ≡ code_escape c
 unfolding escape_char
 escape_char-other c e = rw e

@@ -27,6 +27,7 @@ unfolding days_of_months jiff.days_of_months
 months y zero = refl
 months y (suc m) = ap (λ n. n + days_in_month y (suc m)) (months y m)
 
+-- The day count of jiff is the day number and 3,652,425.
 pub count : (y m d : ℕ) → 1 ≤ d → jiff.day_count (pos y) m d ≡ 3_652_425 + day_number y m d
 unfolding jiff.day_count
 count y m d some = omega (arith, years y, months y (m - 1))
@@ -59,12 +60,13 @@ number_of y m d day some e =
       days_of_months-none 1970,
     )
 
--- the date of jiff that many days after 1970-01-01
+-- jiff's date that comes `day` days after 1970-01-01
 pub record IsDateOf (day : ℕ) (date : civil.Date) : Type 0 where
   pub same_year : date.year ≡ pos (date_of day).year
   pub same_month : date.month ≡ (date_of day).month
   pub same_day : date.day ≡ (date_of day).day
 
+-- A date of jiff whose day is 4,371,587 after this one has the fields of this one.
 pub jiff_date : (day : ℕ) (date : civil.Date) → epoch_day date +ℤ pos 4_371_587 ≡ pos (day + 4_371_587) → IsDateOf day date
 jiff_date day date e =
     let up_e = ap up e in

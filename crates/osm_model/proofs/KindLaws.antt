@@ -33,6 +33,7 @@ before_all v [] j d h inside = absurd (omega arith)
 before_all v (w ∷ versions) zero d h inside = less_rank v w h.0
 before_all v (w ∷ versions) (suc j) d h inside = before_all v versions j d h.1 (omega arith)
 
+-- In an ascending list no version's kind is below the kind before it.
 pub kinds_dont_fall : KindsDontFall
 unfolding IsStrictlySortedBy
 kinds_dont_fall [] h i j d up inside = absurd (omega arith)

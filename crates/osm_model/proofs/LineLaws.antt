@@ -1,4 +1,4 @@
--- The canonical line tells all the data of a version.
+-- The canonical line determines all the data of a version.
 use Rattle.std.proofs.Common.{◌≡◌, ◌≢◌, ℕ, ◌<◌, List, [], ◌∷◌, refl, ap, arith, codes, ℤ}
 use Rattle.osm_model.specs.declared.kind.Kind.{Kind}
 use Rattle.osm_model.specs.declared.kind.Kind.TheVariants.{Node, Way, Relation}
@@ -20,6 +20,7 @@ use Rattle.osm_model.proofs.TimeLaws.{time_lacks, time_injective}
 use Rattle.osm_model.proofs.EscapeLaws.{escape_lacks, escape_injective}
 use Rattle.osm_model.proofs.JoinedLaws.{IsItemText, full_append, items_injective, items_lack, joined_injective}
 
+-- A number that is less is another number.
 pub differs : (b c : ℕ) → c < b → b ≢ c
 differs b c h e = absurd (omega (arith, e))
 
@@ -87,6 +88,7 @@ references_lack rs = items_lack 44 32 reference_text comma_no_space (reference_l
 pub object_lacks : {c : ℕ} → IsSeparator c → (k : Kind) (id : ℤ) → Lacks c (kind_letter k ∷ integer_text id)
 object_lacks s k id = (kind_apart k s, integer_lacks id s)
 
+-- The text of a member has no separator but the at sign.
 pub member_lacks : {c : ℕ} → IsSeparator c → 64 ≢ c → (m : Member) → Lacks c (member_text m)
 member_lacks s n m =
     lacks_append _ (kind_letter m.kind ∷ integer_text m.id) (64 ∷ escape m.role) (object_lacks s m.kind m.id) (n, escape_lacks m.role s)
@@ -220,6 +222,7 @@ same_fields v w e =
     let body = same_body v.body w.body letter visible tags b in
     λ j. record { id = id j; number = number j; time = time j; changeset = changeset j; uid = uid j; user = user j; body = body j }
 
+-- Two versions with one canonical line are equal.
 pub line_injective : (v w : VersionData) → line v ≡ line w → v ≡ w
 unfolding line
 line_injective v w e = same_fields v w (joined_injective 32 _ _ _ _ (fields_lack v) (fields_lack w) e)

@@ -1,4 +1,4 @@
--- A number's digits tell it, and hold no other byte.
+-- A number's digits determine it, and hold no other byte.
 use Rattle.std.proofs.Common.{◌≡◌, ◌≢◌, ℕ, zero, suc, ◌+◌, ◌-◌, ◌*◌, ◌/◌, ◌%◌, ◌^◌, ◌<◌, ◌≤◌, List, [], ◌∷◌, ◌++◌, map, length, replicate}
 use Rattle.std.proofs.Common.{refl, sym, ap, ◌∙◌, arith, append_assoc, ⊎_elim}
 use Rattle.std.proofs.lemmas.Bool.Decides.{nat_tests}
@@ -9,7 +9,7 @@ use Rattle.std.proofs.lemmas.List.{map-append, length-append, length-map, length
 use Rattle.std.proofs.lemmas.Bool.{cases_lt}
 use Rattle.std.proofs.Math.Nat.{div-eq_of_lt, mod-eq_of_lt}
 use Rattle.std.proofs.lemmas.Str.{digit_value-digit_char}
-use Rattle.osm_model.specs.Numeral.{numeral, padded}
+use Rattle.osm_model.specs.Numeral.{numeral, pad_zeros}
 use Rattle.osm_model.proofs.Separators.{Lacks, NoDigit}
 
 numeral-positive : (base n : ℕ) → 0 < n → numeral base n ≡ map digit_char (digits_of base n)
@@ -54,16 +54,17 @@ value_of-zeros base (suc k) text =
     let none : 0 * base + 0 ≡ 0 = omega arith in
     ap (λ n. number_from_digits_after base n (map digit_value (replicate k 48 ++ text))) none ∙ value_of-zeros base k text
 
-value_of-padded : (base width n : ℕ) → 2 ≤ base → base ≤ 36 → value_of base (padded width (numeral base n)) ≡ n
-unfolding padded
+value_of-padded : (base width n : ℕ) → 2 ≤ base → base ≤ 36 → value_of base (pad_zeros width (numeral base n)) ≡ n
+unfolding pad_zeros
 value_of-padded base width n low high = value_of-zeros base (width - length (numeral base n)) (numeral base n)
     ∙ value_of-numeral base n low high
 
+-- Two numbers with one numeral are equal.
 pub numeral_injective : (base m n : ℕ) → 2 ≤ base → base ≤ 36 → numeral base m ≡ numeral base n → m ≡ n
 numeral_injective base m n low high e = sym (value_of-numeral base m low high) ∙ ap (value_of base) e ∙ value_of-numeral base n low high
 
--- zeros in front change nothing, also where the widths differ
-pub padded_injective : (base v w m n : ℕ) → 2 ≤ base → base ≤ 36 → padded v (numeral base m) ≡ padded w (numeral base n) → m ≡ n
+-- leading zeros change nothing, even if the widths differ
+pub padded_injective : (base v w m n : ℕ) → 2 ≤ base → base ≤ 36 → pad_zeros v (numeral base m) ≡ pad_zeros w (numeral base n) → m ≡ n
 padded_injective base v w m n low high e = sym (value_of-padded base v m low high) ∙ ap (value_of base) e
     ∙ value_of-padded base w n low high
 
@@ -81,7 +82,7 @@ all_below_more b c more (d ∷ ds) below = (omega (arith, below.0), all_below_mo
 zero_apart : (c : ℕ) → NoDigit c → 48 ≢ c
 zero_apart c apart e = grind arith
 
--- a byte that writes no digit stands in no number
+-- a byte that writes no digit occurs in no number
 pub numeral_lacks : (c base n : ℕ) → NoDigit c → 2 ≤ base → base ≤ 16 → Lacks c (numeral base n)
 unfolding numeral
 numeral_lacks c base zero apart low high = (zero_apart c apart, tt)
@@ -92,64 +93,69 @@ zeros_lack : (c k : ℕ) (text : List ℕ) → NoDigit c → Lacks c text → La
 zeros_lack c zero text apart lacks = lacks
 zeros_lack c (suc k) text apart lacks = (zero_apart c apart, zeros_lack c k text apart lacks)
 
-pub padded_lacks : (c base width n : ℕ) → NoDigit c → 2 ≤ base → base ≤ 16 → Lacks c (padded width (numeral base n))
-unfolding padded
+-- A padded numeral lacks each byte that is no digit.
+pub padded_lacks : (c base width n : ℕ) → NoDigit c → 2 ≤ base → base ≤ 16 → Lacks c (pad_zeros width (numeral base n))
+unfolding pad_zeros
 padded_lacks c base width n apart low high = zeros_lack c _ _ apart (numeral_lacks c base n apart low high)
 
+-- The numeral of a number below base^k has at most k digits.
 pub length-numeral-le : (base k n : ℕ) → 2 ≤ base → 0 < k → n < base ^ k → length (numeral base n) ≤ k
 unfolding numeral
 length-numeral-le base k zero low some small = omega arith
 length-numeral-le base k (suc n) low some small = omega
     (arith, length-map (digits_of base (suc n)) digit_char, length-digits_of-le base k (suc n) low small)
 
+-- The numeral of a number of several digits is one digit longer than that of its quotient by the base.
 pub length-numeral-step : (base n : ℕ) → 2 ≤ base → base ≤ n → length (numeral base n) ≡ length (numeral base (n / base)) + 1
 length-numeral-step base n low more = ap length (numeral-step base n low more)
     ∙ length-append (numeral base (n / base)) (digit_char (n % base) ∷ [])
 
+-- The numeral of a number below the base is one digit.
 pub length-numeral-digit : (base n : ℕ) → 2 ≤ base → n < base → length (numeral base n) ≡ 1
 length-numeral-digit base n low small = ap length (numeral-digit base n low small)
 
-pub length-padded : (width : ℕ) (text : List ℕ) → length text ≤ width → length (padded width text) ≡ width
-unfolding padded
+-- A text is padded to the width if it isn't longer.
+pub length-padded : (width : ℕ) (text : List ℕ) → length text ≤ width → length (pad_zeros width text) ≡ width
+unfolding pad_zeros
 length-padded width text fits = omega (
   arith,
   length-append (replicate (width - length text) 48) text,
   length-replicate {A = ℕ} (width - length text) 48,
 )
 
-padded_push : (width : ℕ) (text : List ℕ) (d : ℕ) → padded (suc width) (text ++ d ∷ []) ≡ padded width text ++ d ∷ []
-unfolding padded
+padded_push : (width : ℕ) (text : List ℕ) (d : ℕ) → pad_zeros (suc width) (text ++ d ∷ []) ≡ pad_zeros width text ++ d ∷ []
+unfolding pad_zeros
 padded_push width text d =
     let less : suc width - length (text ++ d ∷ []) ≡ width - length text = omega (arith, length-append text (d ∷ [])) in
     rw less (sym (append_assoc (replicate (width - length text) 48) text (d ∷ [])))
 
-padded-zero : (width : ℕ) → padded (suc width) (48 ∷ []) ≡ padded (suc width) []
-unfolding padded
-padded-zero width =
+pad_zeros-zero : (width : ℕ) → pad_zeros (suc width) (48 ∷ []) ≡ pad_zeros (suc width) []
+unfolding pad_zeros
+pad_zeros-zero width =
     let less : suc width - 1 ≡ width = omega arith in
     let same : width + 1 ≡ suc width - 0 = omega arith in
     rw (less, append-nil) (replicate_more width 48 ∙ ap (λ k. replicate k 48) same)
 
-padded-small : (base width n : ℕ) → 2 ≤ base → n < base →
-    padded (suc (suc width)) (numeral base n) ≡ padded (suc width) (numeral base 0) ++ digit_char n ∷ []
+pad_zeros-small : (base width n : ℕ) → 2 ≤ base → n < base →
+    pad_zeros (suc (suc width)) (numeral base n) ≡ pad_zeros (suc width) (numeral base 0) ++ digit_char n ∷ []
 unfolding numeral
-padded-small base width n low small =
-    ap (padded (suc (suc width))) (numeral-digit base n low small)
+pad_zeros-small base width n low small =
+    ap (pad_zeros (suc (suc width))) (numeral-digit base n low small)
     ∙ padded_push (suc width) [] (digit_char n)
-    ∙ ap (λ t. t ++ digit_char n ∷ []) (sym (padded-zero width))
+    ∙ ap (λ t. t ++ digit_char n ∷ []) (sym (pad_zeros-zero width))
 
--- the last digit of a number with zeros in front
-pub padded-step : (base width n : ℕ) → 2 ≤ base → padded (suc (suc width)) (numeral base n) ≡ padded (suc width) (numeral base (n / base))
+-- the last digit of a number with leading zeros
+pub pad_zeros-step : (base width n : ℕ) → 2 ≤ base → pad_zeros (suc (suc width)) (numeral base n) ≡ pad_zeros (suc width) (numeral base (n / base))
     ++ digit_char (n % base) ∷ []
-padded-step base width n low =
+pad_zeros-step base width n low =
     ⊎_elim
-    (λ small. padded-small base width n low small ∙ (λ i. padded (suc width) (numeral base (sym (div-eq_of_lt small) i))
+    (λ small. pad_zeros-small base width n low small ∙ (λ i. pad_zeros (suc width) (numeral base (sym (div-eq_of_lt small) i))
     ++ digit_char (sym (mod-eq_of_lt small) i) ∷ []))
-    (λ more. ap (padded (suc (suc width))) (numeral-step base n low more)
+    (λ more. ap (pad_zeros (suc (suc width))) (numeral-step base n low more)
     ∙ padded_push (suc width) (numeral base (n / base)) (digit_char (n % base)))
     (cases_lt n base)
 
 -- the only digit
-pub padded-digit : (base n : ℕ) → 2 ≤ base → n < base → padded 1 (numeral base n) ≡ digit_char n ∷ []
-unfolding padded
-padded-digit base n low small = ap (padded 1) (numeral-digit base n low small)
+pub pad_zeros-digit : (base n : ℕ) → 2 ≤ base → n < base → pad_zeros 1 (numeral base n) ≡ digit_char n ∷ []
+unfolding pad_zeros
+pad_zeros-digit base n low small = ap (pad_zeros 1) (numeral-digit base n low small)

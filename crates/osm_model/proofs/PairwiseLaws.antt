@@ -10,7 +10,7 @@ module _ {X Y : Type 0} (R : X → Y → Type 0) where
   pairwise_push (w ∷ xs) [] x y all this = absurd all
   pairwise_push (w ∷ xs) (z ∷ ys) x y all this = (all.0, pairwise_push xs ys x y all.1 this)
 
-  -- where a front is told apart, so is its partner
+  -- a split of one list splits its partner
   pub record Parted (front : List X) (x : X) (ys : List Y) : Type 0 where
     pub before : List Y
     pub here : Y
@@ -19,6 +19,7 @@ module _ {X Y : Type 0} (R : X → Y → Type 0) where
     pub fronts : Pairwise R front before
     pub this : R x here
 
+  -- A list that pairs with a list that has `x` inside splits where `x` does.
   pub pairwise_parted : (front rest : List X) (x : X) (ys : List Y) → Pairwise R (front ++ x ∷ rest) ys → Parted front x ys
   pairwise_parted [] rest x [] all = absurd all
   pairwise_parted [] rest x (y ∷ ys) all = record { before = []; here = y; behind = ys; parted = refl; fronts = tt; this = all.0 }
@@ -34,7 +35,7 @@ module _ {X Y : Type 0} (R : X → Y → Type 0) where
         this = p.this;
       }
 
-  -- where each belongs with at most one, so does a list
+  -- if each belongs with at most one, so does a list
   pub pairwise_one : ((x : X) (y z : Y) → R x y → R x z → y ≡ z) → (xs : List X) (ys zs : List Y) → Pairwise R xs ys → Pairwise R xs zs →
       ys ≡ zs
   pairwise_one one [] [] [] a b = refl

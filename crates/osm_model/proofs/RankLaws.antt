@@ -10,7 +10,7 @@ use Rattle.std.specs.Ordering.{ordering_then, ordering_reverse, nat_cmp, bool_cm
 use Rattle.osm_model.specs.Kind.{kind_rank}
 use Rattle.osm_model.specs.Data.{VersionData, kind_of}
 use Rattle.osm_model.specs.Order.{is_positive, key_cmp, version_cmp, version_cmp_total}
-use Rattle.osm_model.specs.Rank.{class_of, reach_of, turn_of, rank_of}
+use Rattle.osm_model.specs.Rank.{kind_and_sign, capped_id, capped_number, rank_of}
 use Rattle.osm_model.proofs.VersionLaws.{less_by_key}
 
 abbrev bit : Bool → ℕ
@@ -57,14 +57,14 @@ short_turn size number = elim (cases_lt size far) [
   | inr h ↦ omega (arith, turn_far size number h)
 ]
 
--- of two capped numbers the lesser is that of a lesser number
+-- of two capped numbers, the lesser belongs to the lesser number
 of_capped : (m n most : ℕ) → min m most < min n most → m < n
 of_capped m n most h = elim (cases_lt m n) [
   | inl k ↦ k
   | inr k ↦ absurd (grind arith)
 ]
 
--- in one reach the turns tell the numbers, of one id
+-- in one reach, the turns order the numbers of one id
 of_one_reach : (a b m n : ℕ) → min a far ≡ min b far → turn a m < turn b n → (a ≡ b) × (m < n)
 of_one_reach a b m n one h = elim (cases_lt b far) [
   | inl k ↦
@@ -75,7 +75,7 @@ of_one_reach a b m n one h = elim (cases_lt b far) [
 ]
 
 -- ---- the rank
--- of two numbers made of a front and a part behind it, the fronts decide, and then the parts
+-- of two numbers made of a front and a part after it, the fronts decide, and then the parts
 by_turn : (c d r s : ℕ) → r < 2 ^ 16 → s < 2 ^ 16 → c * 2 ^ 16 + r < d * 2 ^ 16 + s → (c < d) ⊎ ((c ≡ d) × (r < s))
 by_turn c d r s low high h = elim (cases_lt c d) [
   | inl k ↦ inl k
@@ -92,7 +92,7 @@ one_reach : (c d r s : ℕ) → r < 2 ^ 45 → s < 2 ^ 45 → c * 2 ^ 45 + r ≡
 one_reach c d r s low high h = let e : c ≡ d = omega arith in (e, omega arith)
 
 module _ (v w : VersionData) where
-  short_reach : (u : VersionData) → reach_of u < 2 ^ 45
+  short_reach : (u : VersionData) → capped_id u < 2 ^ 45
   short_reach u = omega (arith, min-le_right (unsigned_abs u.id) far)
 
   -- the order of the kinds and the signs
@@ -103,10 +103,10 @@ module _ (v w : VersionData) where
   abbrev size_cmp : Ordering
   size_cmp = nat_cmp (unsigned_abs v.id) (unsigned_abs w.id)
 
-  of_lower_class : class_of v < class_of w → class_cmp ≡ Less
+  of_lower_class : kind_and_sign v < kind_and_sign w → class_cmp ≡ Less
   of_lower_class h = of_classes (kind_rank (kind_of v.body)) (kind_rank (kind_of w.body)) (is_positive v.id) (is_positive w.id) h
 
-  of_class : class_of v ≡ class_of w → class_cmp ≡ Equal
+  of_class : kind_and_sign v ≡ kind_and_sign w → class_cmp ≡ Equal
   of_class h = of_one_class (kind_rank (kind_of v.body)) (kind_rank (kind_of w.body)) (is_positive v.id) (is_positive w.id) h
 
   less_key : (o p q : Ordering) → ordering_then o p ≡ Less → ordering_then (ordering_then o p) q ≡ Less
@@ -114,29 +114,30 @@ module _ (v w : VersionData) where
 
   of_lower_rank : rank_of v < rank_of w → key_cmp v w ≡ Less
   of_lower_rank h =
-      elim (by_turn (class_of v * 2 ^ 45 + reach_of v) (class_of w * 2 ^ 45 + reach_of w) (turn_of v) (turn_of w)
+      elim (by_turn (kind_and_sign v * 2 ^ 45 + capped_id v) (kind_and_sign w * 2 ^ 45 + capped_id w) (capped_number v) (capped_number w)
       (short_turn (unsigned_abs v.id) v.number) (short_turn (unsigned_abs w.id) w.number) h) [
         | inl k ↦ less_key class_cmp size_cmp (nat_cmp v.number w.number)
-            (elim (by_reach (class_of v) (class_of w) (reach_of v) (reach_of w) (short_reach v) (short_reach w) k) [
+            (elim (by_reach (kind_and_sign v) (kind_and_sign w) (capped_id v) (capped_id w) (short_reach v) (short_reach w) k) [
               | inl l ↦ ap (λ o. ordering_then o size_cmp) (of_lower_class l)
               | inr l ↦ ap (λ o. ordering_then o size_cmp) (of_class (l.0))
                   ∙ less (unsigned_abs v.id) (unsigned_abs w.id) (of_capped _ _ far (l.1))
             ])
         | inr k ↦
-            let one = one_reach (class_of v) (class_of w) (reach_of v) (reach_of w) (short_reach v) (short_reach w) (k.0) in
+            let one = one_reach (kind_and_sign v) (kind_and_sign w) (capped_id v) (capped_id w) (short_reach v) (short_reach w) (k.0) in
             let late = of_one_reach (unsigned_abs v.id) (unsigned_abs w.id) v.number w.number (one.1) (k.1) in
             ap (λ o. ordering_then (ordering_then o size_cmp) (nat_cmp v.number w.number)) (of_class (one.0))
             ∙ ap (λ o. ordering_then o (nat_cmp v.number w.number)) (same (unsigned_abs v.id) (unsigned_abs w.id) (late.0))
             ∙ less v.number w.number (late.1)
       ]
 
+-- A version of a lower rank is less.
 pub lower_is_less : (v w : VersionData) → rank_of v < rank_of w → version_cmp v w ≡ Less
 lower_is_less v w h = less_by_key v w (of_lower_rank v w h)
 
 higher_is_greater : (v w : VersionData) → rank_of w < rank_of v → version_cmp v w ≡ Greater
 higher_is_greater v w h = version_cmp_total.antisymm v w ∙ ap ordering_reverse (lower_is_less w v h)
 
--- where the ranks differ, their order is that of the versions
+-- if the ranks differ, their order is that of the versions
 pub by_rank : (v w : VersionData) (r : Ordering) → r ≡ nat_cmp (rank_of v) (rank_of w) → r ≢ Equal → r ≡ version_cmp v w
 by_rank v w r is other = elim (cases_lt (rank_of v) (rank_of w)) [
   | inl h ↦ is ∙ less (rank_of v) (rank_of w) h ∙ sym (lower_is_less v w h)

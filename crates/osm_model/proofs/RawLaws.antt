@@ -18,8 +18,8 @@ use Rattle.osm_model.specs.declared.escape.TheConstants.{RAW_BYTES}
 use Rattle.osm_model.specs.Escape.{is_raw, is_raw_byte, are_raw_bytes, escape, raw_width, raw_length, IsPlain}
 use Rattle.osm_model.proofs.EscapeLaws.{escape_char-raw}
 
--- What a text's first two bytes tell of its first character's width. A character of one byte is that byte. One of two bytes after 0xC2 has
--- the code of its second byte, and all after 0xC3 to 0xD7 are raw.
+-- What a text's first two bytes show of its first character's width. A character of one byte is that byte. A character
+-- of two bytes after 0xC2 has the code of its second byte, and all after 0xC3 to 0xD7 are raw.
 pub record IsLead (width lead next len : ℕ) : Type 0 where
   pub byte : lead < 0x80 → width ≡ (if is_raw lead then 1 else 0)
   pub latin : lead ≡ 0xC2 → (1 < len) × (0x80 ≤ next) × (next < 0xC0) × (width ≡ (if is_raw next then 2 else 0))
@@ -114,12 +114,13 @@ lead_at bs cs rest c is chars_are =
     let width : raw_width (c ∷ []) ≡ raw_width (chars bs) = ap raw_width (sym chars_are) in
     subst (λ w. IsLead w (get_or bs 0 0) (get_or bs 1 0) (length bs)) width (subst P (sym is) (lead_of c rest))
 
+-- The first two bytes determine how many bytes the first character takes, if it is raw.
 pub lead : (bs : List ℕ) → 0 < length bs → IsUtf8 bs → IsLead (raw_width (chars bs)) (get_or bs 0 0) (get_or bs 1 0) (length bs)
 lead bs some utf8 =
     let first = begins bs some utf8 in
     lead_at bs (chars first.rest) first.rest first.c first.is first.chars_are
 
--- the raw characters at the front of a text, up to a place that may be looked at again
+-- the raw characters at the front of a text, up to an offset where the search can continue
 pub record IsPlainTo (bs : List ℕ) (n : ℕ) : Type 0 where
   pub within : n ≤ length bs
   pub utf8 : IsUtf8 (drop n bs)
@@ -131,7 +132,7 @@ raw_length-raw c cs raw =
     ap (λ t. length (encodes t)) (take_while-cons is_raw c cs ∙ ap (λ b. cond b (c ∷ take_while is_raw cs) []) raw)
     ∙ length-append (encode c) (encodes (take_while is_raw cs)) ∙ ap (λ n. n + raw_length cs) (length-encode c)
 
--- a character has a width where it is raw
+-- a character that has a width is raw
 raw_from_width : (c : ℕ) (cs : List ℕ) → (raw_width (c ∷ cs) ≡ 0 → ⊥) → is_raw c ≡ true
 raw_from_width c cs some =
     elim (is_raw c) as (λ b. (cond b (len_utf8 c) 0 ≡ 0 → ⊥) → b ≡ true) [ true ↦ λ _. refl | false ↦ λ h. absurd (h refl) ] some
@@ -163,6 +164,7 @@ next_raw bs rest n c so_far is chars_are utf8 raw =
           ∙ (λ i. sym front i ++ escape (chars (sym behind i)));
     }
 
+-- A raw character after raw characters extends them.
 pub plain_more : (bs : List ℕ) (n width : ℕ) → IsPlainTo bs n → n < length bs → width ≡ raw_width (chars (drop n bs)) → (width ≡ 0 → ⊥) →
     IsPlainTo bs (n + width)
 plain_more bs n width so_far more is some =
@@ -172,12 +174,13 @@ plain_more bs n width so_far more is some =
     let all : width ≡ len_utf8 first.c = same ∙ ap (λ b. cond b (len_utf8 first.c) 0) raw in
     subst (λ k. IsPlainTo bs (n + k)) (sym all) (next_raw bs first.rest n first.c so_far first.is first.chars_are first.rest_utf8 raw)
 
+-- Raw characters up to the end of a text are all of its raw characters.
 pub plain_all : (bs : List ℕ) (n : ℕ) → IsPlainTo bs n → length bs ≤ n → n ≡ raw_length (chars bs)
 plain_all bs n so_far all =
     let rest : raw_length (chars (drop n bs)) ≡ 0 = ap (λ t. raw_length (chars t)) (drop_all n bs all) ∙ ap raw_length chars-nil in
     omega (arith, rest, so_far.sum)
 
--- a text is plain where its raw characters go on to its end
+-- a text whose raw characters reach its end is plain
 pub plain_whole : (bs : List ℕ) (n : ℕ) → escape (chars bs) ≡ take n bs ++ escape (chars (drop n bs)) → length bs ≤ n → IsPlain bs
 plain_whole bs n e all =
     let none : escape (chars (drop n bs)) ≡ [] = ap (λ t. escape (chars t)) (drop_all n bs all) ∙ ap escape chars-nil in
@@ -188,10 +191,12 @@ pub width-byte : (width lead next len : ℕ) → IsLead width lead next len → 
 width-byte width lead next len is e = let both = and_parts (is_raw lead) (ltb lead 0x80) e in
     sym (is.byte (ltb-true lead 0x80 both.1) ∙ rw both.0 refl)
 
+-- A character whose first byte is C3 to D7 takes two bytes.
 pub width-lead : (width lead next len : ℕ) → IsLead width lead next len → is_in_range 0xC3 0xD7 lead ≡ true → 2 ≡ width
 width-lead width lead next len is e = let both = and_parts (leb 0xC3 lead) (leb lead 0xD7) e in let low = leb-true 0xC3 lead both.0 in
     sym (is.two (omega arith) (leb-true lead 0xD7 both.1))
 
+-- A character with any other first byte, which is neither raw itself nor C2, isn't raw.
 pub width-other : (width lead next len : ℕ) → IsLead width lead next len → (is_raw lead && ltb lead 0x80) ≡ false →
     is_in_range 0xC3 0xD7 lead ≡ false → lead ≢ 0xC2 → 0 ≡ width
 width-other width lead next len is no_byte no_lead no_latin = sym (⊎_elim
@@ -212,7 +217,7 @@ raw_bytes_below (suc n) byte t h =
       | inr g ↦ raw_bytes_below n byte (and_r _ (tells_raw_bytes n) t) (omega arith)
     ]
 
--- the table tells of each byte whether it is raw
+-- the table shows for each byte whether it is raw
 pub raw_byte_at : (byte : ℕ) → byte < 256 → eqb (get_or RAW_BYTES byte 0) 1 ≡ (is_raw byte && ltb byte 0x80)
 raw_byte_at byte small =
     rw (raw_bytes_below 256 byte tt small) (elim (is_raw byte && ltb byte 0x80) as
@@ -226,6 +231,7 @@ plain_byte bs n so_far more raw =
     let width : 1 ≡ raw_width (chars (drop n bs)) = width-byte _ _ _ _ (lead (drop n bs) some so_far.utf8) (ap is_raw_byte first ∙ raw) in
     plain_more bs n 1 so_far more width (λ e. absurd (omega (arith, e)))
 
+-- Four raw bytes after raw characters extend them.
 pub plain_four : (bs : List ℕ) (n : ℕ) → IsPlainTo bs n → n + 4 ≤ length bs → are_raw_bytes bs n ≡ true → IsPlainTo bs (n + 4)
 plain_four bs n so_far room raw =
     let first : n < length bs = omega (arith, room) in

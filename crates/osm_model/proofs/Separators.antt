@@ -1,4 +1,4 @@
--- Texts that lack a byte, and what they tell where that byte parts them.
+-- Texts that lack a byte, and what a split at that byte shows of them.
 use Rattle.std.proofs.Common.{◌≡◌, ◌≢◌, ℕ, ◌<◌, List, [], ◌∷◌, ◌++◌, refl, subst, arith, ◌⊎◌, inl, inr}
 use Rattle.std.specs.List.{AllByRecursion}
 
@@ -10,7 +10,7 @@ Lacks c xs = AllByRecursion (λ x. x ≢ c) xs
 abbrev pub AllLack : ℕ → List (List ℕ) → Type 0
 AllLack c texts = AllByRecursion (Lacks c) texts
 
--- the bytes that part the pieces of a line: space, comma, equals sign, at sign
+-- the bytes that separate the pieces of a line: space, comma, equals sign, at sign
 pub data IsSeparator : ℕ → Type 0 where
   space : IsSeparator 32
   comma : IsSeparator 44
@@ -21,23 +21,25 @@ pub data IsSeparator : ℕ → Type 0 where
 abbrev pub NoDigit : ℕ → Type 0
 NoDigit c = (c < 48) ⊎ ((57 < c) × (c < 97))
 
+-- A separator is no digit.
 pub no_digit-separator : {c : ℕ} → IsSeparator c → NoDigit c
 no_digit-separator space = inl (omega arith)
 no_digit-separator comma = inl (omega arith)
 no_digit-separator equals = inr (omega arith, omega arith)
 no_digit-separator at = inr (omega arith, omega arith)
 
--- the bytes of numbers and times that are no digits lie here: minus sign, point, colon, `T`, `Z`
+-- the bytes of numbers and times that are no digits: minus sign, point, colon, `T`, `Z`
 abbrev pub IsMark : ℕ → Type 0
 IsMark b = ((44 < b) × (b < 59)) ⊎ (83 < b)
 
+-- A mark is no separator.
 pub mark-separator : {c : ℕ} (b : ℕ) → IsMark b → IsSeparator c → b ≢ c
 mark-separator b mark space e = grind arith
 mark-separator b mark comma e = grind arith
 mark-separator b mark equals e = grind arith
 mark-separator b mark at e = grind arith
 
--- what stands before the first c, and what behind it
+-- the parts before and after the first c
 pub split_same : (c : ℕ) (xs ys us vs : List ℕ) → Lacks c xs → Lacks c ys → xs ++ c ∷ us ≡ ys ++ c ∷ vs → (xs ≡ ys) × (us ≡ vs)
 split_same c [] [] us vs lx ly e = (refl, cc)
 split_same c [] (y ∷ ys) us vs lx ly e = let same : y ≡ c = cc in absurd (ly.0 same)
@@ -55,6 +57,7 @@ lacks_not c (x ∷ xs) us lacks = lacks_not c xs us lacks.1
 pub lacks_clash : (c : ℕ) (text xs us : List ℕ) → text ≡ xs ++ c ∷ us → Lacks c text → ⊥
 lacks_clash c text xs us e lacks = lacks_not c xs us (subst (Lacks c) e lacks)
 
+-- Two texts that lack a byte lack it together.
 pub lacks_append : (c : ℕ) (xs ys : List ℕ) → Lacks c xs → Lacks c ys → Lacks c (xs ++ ys)
 lacks_append c [] ys lx ly = ly
 lacks_append c (x ∷ xs) ys lx ly = (lx.0, lacks_append c xs ys lx.1 ly)

@@ -10,9 +10,9 @@ use Rattle.std.specs.List.{list_any, list_all, IsAllAdjacentAnswer}
 use Rattle.std.specs.List.Sorted.{IsStrictlySortedBy}
 use Rattle.std.specs.FinMap.{IsAntisymmetric}
 use Rattle.osm_model.specs.declared.tags.Tag.{Tag}
-use Rattle.osm_model.specs.Tags.{tag_cmp, tag_cmp_total, normal, texts_of_tags}
+use Rattle.osm_model.specs.Tags.{tag_cmp, tag_cmp_total, normal_tags, texts_of_tags}
 use Rattle.osm_model.specs.Sets.{from_list}
-use Rattle.osm_model.proofs.SetLaws.{list_any-listed, listed-from_list, strict-listed, strict_from_neighbours}
+use Rattle.osm_model.proofs.SetLaws.{list_any-listed, to_list-from_list, strict-listed, strict_from_neighbours}
 use Rattle.osm_model.proofs.TextLaws.{text_cmp-IsAntisymmetric}
 
 pub first_equal : (a b : Ordering) → ordering_then a b ≡ Equal → a ≡ Equal
@@ -25,6 +25,7 @@ second_equal Less b e = cc
 second_equal Equal b e = e
 second_equal Greater b e = cc
 
+-- Tags that tie are equal.
 pub tag_cmp-IsAntisymmetric : IsAntisymmetric tag_cmp
 tag_cmp-IsAntisymmetric x y e =
     let key = text_cmp-IsAntisymmetric _ _ (first_equal _ _ e) in
@@ -50,14 +51,14 @@ list_all-none : {X : Type 0} (p : X → Bool) (xs : List X) → list_all p xs �
 list_all-none p [] = refl
 list_all-none p (x ∷ xs) = ap (λ b. p x && b) (list_all-none p xs) ∙ not_both (p x) _
 
--- the texts of tags are those of the tags once each
-pub list_all-normal : (p : List ℕ → Bool) (ts : List Tag) → list_all p (texts_of_tags (normal ts)) ≡ list_all p (texts_of_tags ts)
+-- the texts of tags are those of the tags without repeats
+pub list_all-normal : (p : List ℕ → Bool) (ts : List Tag) → list_all p (texts_of_tags (normal_tags ts)) ≡ list_all p (texts_of_tags ts)
 list_all-normal p ts =
-    list_all-texts_of_tags p (normal ts) ∙ list_all-none _ (normal ts)
+    list_all-texts_of_tags p (normal_tags ts) ∙ list_all-none _ (normal_tags ts)
     ∙ ap not (list_any-listed tag_cmp_total tag_cmp-IsAntisymmetric (λ t. not (p t.key && p t.value)) ts)
     ∙ sym (list_all-texts_of_tags p ts ∙ list_all-none _ ts)
 
--- of a list that ascends, each tag stands below the next one
+-- in a list that ascends, each tag is below the next one
 below_next : (ts : List Tag) → IsStrictlySortedBy tag_cmp ts → (k : ℕ) (d : Tag) → k + 1 < length ts →
     is_lt (tag_cmp (slice_index_or ts k d) (slice_index_or ts (k + 1) d)) ≡ true
 unfolding IsStrictlySortedBy
@@ -73,11 +74,11 @@ descends : (ts : List Tag) → IsStrictlySortedBy tag_cmp ts → (k : ℕ) → k
 descends [] up k low h = absurd (omega arith)
 descends (t ∷ ts) up k low h = false≢true (h t ∙ below_next (t ∷ ts) up k t low)
 
--- what a test of each two neighbours tells: tags that ascend, and they alone, are those of their set
+-- a test of each two neighbours: only tags that ascend are those of their set
 pub normal_test : (b : Bool) (xs ts : List Tag) → xs ≡ ts → IsAllAdjacentAnswer (λ x y a. a ≡ is_lt (tag_cmp x y)) xs b →
-    IsTrue b ↔ (normal ts ≡ ts)
+    IsTrue b ↔ (normal_tags ts ≡ ts)
 normal_test true xs ts e h = (
-  λ _. listed-from_list tag_cmp_total tag_cmp-IsAntisymmetric ts
+  λ _. to_list-from_list tag_cmp_total tag_cmp-IsAntisymmetric ts
       (subst (IsStrictlySortedBy tag_cmp) e (strict_from_neighbours tag_cmp_total xs h)),
   λ _. refl,
 )
@@ -87,5 +88,5 @@ normal_test false xs ts e h = (
 )
 
 -- one tag ascends, and so does none
-pub few_normal : (ts : List Tag) → length ts < 2 → normal ts ≡ ts
+pub few_normal : (ts : List Tag) → length ts < 2 → normal_tags ts ≡ ts
 few_normal ts few = (normal_test true ts ts refl (λ k d below. absurd (omega (arith, few, below)))).0 refl

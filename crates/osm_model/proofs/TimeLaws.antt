@@ -1,8 +1,8 @@
--- A time's text tells it, holds no separator, and is that of a date of the calendar.
+-- A time's text determines it, holds no separator, and is that of a date of the calendar.
 use Rattle.std.proofs.Common.{◌≡◌, ◌≢◌, ℕ, ◌+◌, ◌*◌, ◌/◌, ◌%◌, ◌^◌, ◌<◌, List, [], ◌∷◌, ◌++◌, Option, Some, None, refl, sym, ap, ◌∙◌, subst}
 use Rattle.std.proofs.Common.{arith, inl, inr}
 use Rattle.osm_model.specs.declared.calendar.Date.{Date}
-use Rattle.osm_model.specs.Numeral.{padded}
+use Rattle.osm_model.specs.Numeral.{pad_zeros}
 use Rattle.osm_model.specs.Decimal.{number_text}
 use Rattle.osm_model.specs.Calendar.{days_of_years, day_number}
 use Rattle.osm_model.specs.Time.{date_of, two_digits, date_text, clock_text, time_text}
@@ -13,18 +13,18 @@ use Rattle.osm_model.proofs.DecimalLaws.{padded_pair, padded_pairs}
 use Rattle.osm_model.proofs.CalendarLaws.{date_of-is, SameDate, same_date, year_below, is_date-civil, civil-is_date, days_of_months-none}
 use Rattle.osm_model.proofs.CalendarLaws.{day_le}
 
-padded_same : (v w m n : ℕ) → padded v (number_text m) ≡ padded w (number_text n) → m ≡ n
+padded_same : (v w m n : ℕ) → pad_zeros v (number_text m) ≡ pad_zeros w (number_text n) → m ≡ n
 unfolding number_text
 padded_same v w m n e = padded_injective 10 v w m n (omega arith) (omega arith) e
 
-padded_lack : (c width n : ℕ) → NoDigit c → Lacks c (padded width (number_text n))
+padded_lack : (c width n : ℕ) → NoDigit c → Lacks c (pad_zeros width (number_text n))
 unfolding number_text
 padded_lack c width n apart = padded_lacks c 10 width n apart (omega arith) (omega arith)
 
 date_text_lacks : (c : ℕ) (date : Date) → NoDigit c → 45 ≢ c → Lacks c (date_text date)
 unfolding date_text
 date_text_lacks c date apart dash =
-    lacks_append c (padded 4 (number_text date.year)) (45 ∷ (two_digits date.month ++ 45 ∷ two_digits date.day))
+    lacks_append c (pad_zeros 4 (number_text date.year)) (45 ∷ (two_digits date.month ++ 45 ∷ two_digits date.day))
     (padded_lack c 4 date.year apart) (
       dash,
       lacks_append c (two_digits date.month) (45 ∷ two_digits date.day) (padded_lack c 2 date.month apart)
@@ -44,7 +44,7 @@ clock_text_lacks c second apart colon =
 date_text_injective : (d e : Date) → date_text d ≡ date_text e → SameDate d.year d.month d.day e.year e.month e.day
 unfolding date_text
 date_text_injective d e same =
-    let years = split_same 45 (padded 4 (number_text d.year)) (padded 4 (number_text e.year)) _ _
+    let years = split_same 45 (pad_zeros 4 (number_text d.year)) (pad_zeros 4 (number_text e.year)) _ _
     (padded_lack 45 4 d.year (inl (omega arith))) (padded_lack 45 4 e.year (inl (omega arith))) same in
     let months = split_same 45 (two_digits d.month) (two_digits e.month) _ _ (padded_lack 45 2 d.month (inl (omega arith)))
     (padded_lack 45 2 e.month (inl (omega arith))) years.1 in
@@ -95,6 +95,7 @@ some_not_none : (s : ℕ) → time_text (Some s) ≡ time_text None → ⊥
 unfolding time_text
 some_not_none s e = not_none (date_text (date_of (s / 86_400))) _ 84 e
 
+-- Two times with one text are equal.
 pub time_injective : (s t : Option ℕ) → time_text s ≡ time_text t → s ≡ t
 time_injective None None e = refl
 time_injective None (Some t) e = absurd (some_not_none t (sym e))
@@ -112,6 +113,7 @@ some_lacks s p =
     lacks_append _ (date_text (date_of (s / 86_400))) (84 ∷ (clock_text (s % 86_400) ++ 90 ∷ [])) date
     (letter, lacks_append _ (clock_text (s % 86_400)) (90 ∷ []) clock (zone, tt))
 
+-- The text of a time has no separator.
 pub time_lacks : {c : ℕ} (time : Option ℕ) → IsSeparator c → Lacks c (time_text time)
 unfolding time_text
 time_lacks None p = tt
@@ -123,7 +125,7 @@ spelled : (year month day second : ℕ) → year < 10_000 → month < 100 → da
     ≡ spelled_time year month day (second / 3600) (second / 60 % 60) (second % 60)
 unfolding date_text clock_text
 spelled year month day second hy hm hd hs =
-    let y : padded 4 (number_text year) ≡ pair (year / 100) ++ pair (year % 100) = padded_pairs year
+    let y : pad_zeros 4 (number_text year) ≡ pair (year / 100) ++ pair (year % 100) = padded_pairs year
     ∙ (λ i. padded_pair (year / 100) (omega arith) i ++ padded_pair (year % 100) (omega arith) i) in
     let m = padded_pair month hm in
     let d = padded_pair day hd in
@@ -187,5 +189,6 @@ only_time_text s text small h =
     ∙ (λ i. spelled_time (date.same_year i) (date.same_month i) (date.same_day i) (hour i) (minute i) (second i))
     ∙ sym (time_spelled s small)
 
+-- The text of a moment spells the moment.
 pub time_law : TimeLaw
 time_law s text small = (λ e. subst (IsTimeText s) (sym e) (is_time_text s small), only_time_text s text small)

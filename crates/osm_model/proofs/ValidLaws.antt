@@ -84,6 +84,7 @@ no_author meta h none =
     let rest = second_so _ _ author in
     (zero_is _ (first_so _ _ author), zero_is _ (first_so _ _ rest), empty_is _ (second_so _ _ rest))
 
+-- Data without a fault, whose location is in range, makes a version.
 pub valid_version : (id : ℤ) (meta : Meta) (b : Body) → first_fault id meta b ≡ None → IsInRange (normal_body b) →
     IsVersion (version_of id meta b)
 valid_version id meta b h location =
@@ -103,7 +104,7 @@ valid_version id meta b h location =
       tags = sorted_tags b;
     }
 
--- a version whose body is taken away is one of a deleted object
+-- a version without its body is one of a deleted object
 pub without_body : (v : VersionData) (k : Kind) → IsVersion v → IsVersion (record v { body = body.Deleted k })
 without_body v k h =
     record {

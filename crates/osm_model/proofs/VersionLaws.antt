@@ -1,4 +1,4 @@
--- Only equal versions tie, and what that says of histories.
+-- Only equal versions tie, and the consequences for histories.
 use Rattle.std.proofs.Common.{◌≡◌, ◌↔◌, Bool, true, false, List, refl, sym, ap, subst}
 use Rattle.std.specs.Bool.{IsTrue}
 use Rattle.std.proofs.lemmas.Bool.{false≢true}
@@ -10,10 +10,10 @@ use Rattle.std.specs.FinMap.{IsAntisymmetric, slice_cmp-IsAntisymmetric, nat_cmp
 use Rattle.std.specs.List.Sorted.{IsStrictlySortedBy}
 use Rattle.osm_model.specs.Data.{VersionData}
 use Rattle.osm_model.specs.Order.{key_cmp, version_cmp, version_cmp_total}
-use Rattle.osm_model.specs.Sets.{listed, from_list, union}
-use Rattle.osm_model.specs.Merged.{merged}
+use Rattle.osm_model.specs.Sets.{to_list, from_list, union}
+use Rattle.osm_model.specs.Merged.{merge}
 use Rattle.osm_model.proofs.LineLaws.{line_injective}
-use Rattle.osm_model.proofs.SetLaws.{listed-from_list}
+use Rattle.osm_model.proofs.SetLaws.{to_list-from_list}
 use Rattle.osm_model.proofs.MergedLaws.{from_list-merged}
 
 second_equal : (a b : Ordering) → ordering_then a b ≡ Equal → b ≡ Equal
@@ -21,9 +21,11 @@ second_equal Less b e = cc
 second_equal Equal b e = e
 second_equal Greater b e = cc
 
+-- Versions that tie are equal.
 pub version_cmp-IsAntisymmetric : IsAntisymmetric version_cmp
 version_cmp-IsAntisymmetric v w e = line_injective v w (slice_cmp-IsAntisymmetric nat_cmp-IsAntisymmetric _ _ (second_equal _ _ e))
 
+-- Equal versions tie.
 pub equal_of_same : (v w : VersionData) → v ≡ w → version_cmp v w ≡ Equal
 equal_of_same v w e = subst (λ u. version_cmp v u ≡ Equal) e (tied_itself version_cmp_total v)
 
@@ -36,18 +38,20 @@ same_test false v w h = elim (version_cmp v w) as (λ o. version_cmp v w ≡ o �
   | Greater ↦ λ e. refl
 ] refl
 
-pub listed-view : (vs : List VersionData) → IsStrictlySortedBy version_cmp vs → listed (from_list {R = version_cmp} vs) ≡ vs
-listed-view vs h = listed-from_list version_cmp_total version_cmp-IsAntisymmetric vs h
+-- The set of a strictly ascending list has this list.
+pub to_list-view : (vs : List VersionData) → IsStrictlySortedBy version_cmp vs → to_list (from_list {R = version_cmp} vs) ≡ vs
+to_list-view vs h = to_list-from_list version_cmp_total version_cmp-IsAntisymmetric vs h
 
+-- The union of two strictly ascending lists is the set of their merge.
 pub union-view : (vs ws : List VersionData) → IsStrictlySortedBy version_cmp vs → IsStrictlySortedBy version_cmp ws →
-    union (from_list {R = version_cmp} vs) (from_list ws) ≡ from_list (merged version_cmp vs ws)
+    union (from_list {R = version_cmp} vs) (from_list ws) ≡ from_list (merge version_cmp vs ws)
 union-view vs ws h k =
-    rw (listed-view vs h, listed-view ws k, ← from_list-merged version_cmp_total version_cmp-IsAntisymmetric vs ws)
+    rw (to_list-view vs h, to_list-view ws k, ← from_list-merged version_cmp_total version_cmp-IsAntisymmetric vs ws)
 
 -- ---- keys
 less_first : (o p : Ordering) → o ≡ Less → ordering_then o p ≡ Less
 less_first o p e = ap (λ r. ordering_then r p) e
 
--- the keys decide, where they differ
+-- the keys decide, if they differ
 pub less_by_key : (v w : VersionData) → key_cmp v w ≡ Less → version_cmp v w ≡ Less
 less_by_key v w e = less_first _ _ (less_first _ _ (less_first _ _ e))

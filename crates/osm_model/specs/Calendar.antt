@@ -3,7 +3,7 @@
 use Rattle.std.specs.Prelude.{ℕ, zero, suc, ◌+◌, ◌-◌, ◌%◌, Bool, not, ◌&&◌, ◌||◌, ◌==◌, if◌then◌else◌}
 use Rattle.std.specs.Int.{is_in_range}
 
--- every fourth year, but of the centuries only every fourth
+-- every fourth year, but only every fourth of the centuries
 abbrev pub is_leap_year : ℕ → Bool
 is_leap_year year = (year % 4 == 0) && (not (year % 100 == 0) || (year % 400 == 0))
 
@@ -11,7 +11,7 @@ is_leap_year year = (year % 4 == 0) && (not (year % 100 == 0) || (year % 400 == 
 abbrev pub days_in_year : ℕ → ℕ
 days_in_year year = if is_leap_year year then 366 else 365
 
--- 30 days have April, June, September and November, and 28 or 29 February; months are counted from 1
+-- April, June, September and November have 30 days, and February has 28 or 29; months are counted from 1
 abbrev pub days_in_month : ℕ → ℕ → ℕ
 days_in_month year month =
     if month == 2 then (if is_leap_year year then 29 else 28)
@@ -21,12 +21,12 @@ days_in_month year month =
 abbrev pub is_date : ℕ → ℕ → ℕ → Bool
 is_date year month day = is_in_range 1 12 month && is_in_range 1 (days_in_month year month) day
 
--- the days of that many years from the year 0 on
+-- the days of `n` years from the year 0 on
 unfoldable pub days_of_years : ℕ → ℕ
 days_of_years zero = 0
 days_of_years (suc year) = days_of_years year + days_in_year year
 
--- the days of that many months from January on
+-- the days of `n` months from January on
 unfoldable pub days_of_months : ℕ → ℕ → ℕ
 days_of_months year zero = 0
 days_of_months year (suc month) = days_of_months year month + days_in_month year (suc month)

@@ -1,10 +1,10 @@
 -- Coordinates in degrees, as the OPL manual has them; that a text has as few decimals as it can is an own rule of this
 -- project.
 use Rattle.std.specs.Prelude.{ℕ, ℤ, unsigned_abs, ◌/◌, ◌%◌, ◌==◌, List, [], ◌∷◌, ◌++◌, if◌then◌else◌}
-use Rattle.osm_model.specs.Numeral.{padded}
+use Rattle.osm_model.specs.Numeral.{pad_zeros}
 use Rattle.osm_model.specs.Decimal.{number_text, sign_text}
 
--- a digit before others, which is left out where it is a zero with none behind it
+-- a digit before others, which is left out if it is a zero with none after it
 abbrev pub digit_before : ℕ → List ℕ → List ℕ
 digit_before d [] = if d == 48 then [] else (d ∷ [])
 digit_before d (e ∷ es) = d ∷ e ∷ es
@@ -14,9 +14,9 @@ unfoldable pub without_last_zeros : List ℕ → List ℕ
 without_last_zeros [] = []
 without_last_zeros (d ∷ ds) = digit_before d (without_last_zeros ds)
 
--- a part of a degree, in units of 10^-7 degree: a point and decimals, or nothing where it is 0
+-- a part of a degree, in units of 10^-7 degree: a point and decimals, or nothing if it is 0
 unfoldable pub fraction_text : ℕ → List ℕ
-fraction_text units = if units == 0 then [] else (46 ∷ without_last_zeros (padded 7 (number_text units)))
+fraction_text units = if units == 0 then [] else (46 ∷ without_last_zeros (pad_zeros 7 (number_text units)))
 
 -- degrees, in units of 10^-7 degree
 unfoldable pub degrees_text : ℕ → List ℕ

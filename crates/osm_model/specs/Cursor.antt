@@ -1,39 +1,38 @@
--- What is still to come of a canonical line, from a place in the version on (own definitions of this project, for
--- `LineBytes`).
+-- The rest of a canonical line from a position in the version on (own definitions of this project, for `LineBytes`).
 use Rattle.std.specs.Prelude.{◌≡◌, ℕ, Bool, true, false, List, [], ◌∷◌, ◌++◌, ◌<◌, length, codes, Option, MatchOption}
 use Rattle.std.specs.Str.{chars}
 use Rattle.osm_model.specs.declared.line_bytes.Field.{Field}
 use Rattle.osm_model.specs.declared.line_bytes.Field.TheVariants as field
 use Rattle.osm_model.specs.declared.line_bytes.Place.{Place}
 use Rattle.osm_model.specs.declared.line_bytes.Place.TheVariants as place
-use Rattle.osm_model.specs.declared.line_bytes.Next.{Next}
-use Rattle.osm_model.specs.declared.line_bytes.Run.{Run}
-use Rattle.osm_model.specs.declared.line_bytes.Run.TheVariants as run
+use Rattle.osm_model.specs.declared.line_bytes.Continuation.{Continuation}
+use Rattle.osm_model.specs.declared.line_bytes.Chunk.{Chunk}
+use Rattle.osm_model.specs.declared.line_bytes.Chunk.TheVariants as chunk
 use Rattle.osm_model.specs.declared.line_bytes.LineBytes.{LineBytes}
-use Rattle.osm_model.specs.declared.piece.Piece.{Piece}
+use Rattle.osm_model.specs.declared.small_buffer.SmallBuffer.{SmallBuffer}
 use Rattle.osm_model.specs.Kind.{kind_letter}
 use Rattle.osm_model.specs.Decimal.{number_text, integer_text}
 use Rattle.osm_model.specs.Coordinate.{coordinate_text}
 use Rattle.osm_model.specs.Time.{time_text}
 use Rattle.osm_model.specs.Escape.{escape}
-use Rattle.osm_model.specs.Joined.{joined}
+use Rattle.osm_model.specs.Joined.{join_with}
 use Rattle.osm_model.specs.Data.{VersionData, kind_of, tags_of}
 use Rattle.osm_model.specs.Line.{tag_text, reference_text, member_text, list_text, visible_text, kind_fields}
-use Rattle.osm_model.specs.Piece.{left}
+use Rattle.osm_model.specs.SmallBuffer.{bytes_left}
 
--- items with a comma in front of each
+-- items, each after a comma
 abbrev pub more_text : {X : Type 0} → (X → List ℕ) → List X → List ℕ
 more_text text [] = []
 more_text text (x ∷ xs) = 44 ∷ (text x ++ more_text text xs)
 
--- items from the first on, or behind the first
+-- items from the first on, or after the first
 abbrev pub items_text : {X : Type 0} → Bool → (X → List ℕ) → List X → List ℕ
 items_text true text xs = list_text text xs
 items_text false text xs = more_text text xs
 
 -- the line from a field on
 abbrev pub from_kind : VersionData → List ℕ
-from_kind v = 32 ∷ joined 32 (kind_fields v.body)
+from_kind v = 32 ∷ join_with 32 (kind_fields v.body)
 
 abbrev pub from_tags : VersionData → List ℕ
 from_tags v = codes " T" ++ (list_text tag_text (tags_of v.body) ++ from_kind v)
@@ -70,41 +69,41 @@ from_field v field.User = from_user v
 from_field v field.Tags = from_tags v
 from_field v field.Kind = from_kind v
 
--- the line from a place on
-abbrev pub after : VersionData → Place → List ℕ
-after v (place.Field f) = from_field v f
-after v (place.Equals value tags) = codes "=" ++ (escape value.now ++ (more_text tag_text tags.now ++ from_kind v))
-after v (place.MoreTags tags) = more_text tag_text tags.now ++ from_kind v
-after v (place.Latitude lat) = codes " y" ++ coordinate_text lat
-after v (place.References is_first ids) = items_text is_first reference_text ids.now
-after v (place.Members is_first members) = items_text is_first member_text members.now
-after v (place.At role members) = codes "@" ++ (escape role.now ++ more_text member_text members.now)
-after v place.End = []
+-- the line from a position on
+abbrev pub from_place : VersionData → Place → List ℕ
+from_place v (place.Field f) = from_field v f
+from_place v (place.Equals value tags) = codes "=" ++ (escape value.now ++ (more_text tag_text tags.now ++ from_kind v))
+from_place v (place.MoreTags tags) = more_text tag_text tags.now ++ from_kind v
+from_place v (place.Latitude lat) = codes " y" ++ coordinate_text lat
+from_place v (place.References is_first ids) = items_text is_first reference_text ids.now
+from_place v (place.Members is_first members) = items_text is_first member_text members.now
+from_place v (place.At role members) = codes "@" ++ (escape role.now ++ more_text member_text members.now)
+from_place v place.End = []
 
--- a text, and then the line from a place on
-abbrev pub coming : VersionData → Next → List ℕ
-coming v next = escape (chars next.text.now) ++ after v next.place
+-- a text, and then the line from a position on
+abbrev pub from_next : VersionData → Continuation → List ℕ
+from_next v next = escape (chars next.text.now) ++ from_place v next.place
 
--- the bytes are those of the piece, at least one, and then what comes behind it
-abbrev pub Gives : VersionData → List ℕ → Piece → Next → Type 0
-Gives v bytes piece next = (bytes ≡ left piece ++ coming v next) × (0 < length (left piece))
+-- the bytes are those of the buffer, at least one, and then what comes after it
+abbrev pub Emits : VersionData → List ℕ → SmallBuffer → Continuation → Type 0
+Emits v bytes small_buffer next = (bytes ≡ bytes_left small_buffer ++ from_next v next) × (0 < length (bytes_left small_buffer))
 
--- likewise, but there may be no bytes, and then nothing is answered
-abbrev pub GivesOrEnds : VersionData → List ℕ → Piece → Option Next → Type 0
-GivesOrEnds v bytes piece answer = MatchOption answer (bytes ≡ []) (λ next. Gives v bytes piece next)
+-- likewise; but if there are no bytes, the result is `None`
+abbrev pub EmitsOrEnds : VersionData → List ℕ → SmallBuffer → Option Continuation → Type 0
+EmitsOrEnds v bytes small_buffer answer = MatchOption answer (bytes ≡ []) (λ next. Emits v bytes small_buffer next)
 
-abbrev pub run_text : Run → Piece → List ℕ
-run_text run.Piece piece = left piece
-run_text (run.Plain bytes) piece = bytes.now
+abbrev pub chunk_text : Chunk → SmallBuffer → List ℕ
+chunk_text chunk.SmallBuffer small_buffer = bytes_left small_buffer
+chunk_text (chunk.Plain bytes) small_buffer = bytes.now
 
--- the bytes of the run at hand that are still to be given
-abbrev pub run_of : LineBytes → List ℕ
-run_of c = run_text c.run c.piece
+-- the remaining bytes of the current run
+abbrev pub chunk_of : LineBytes → List ℕ
+chunk_of c = chunk_text c.chunk c.small_buffer
 
--- what comes behind the run at hand
-abbrev pub behind : LineBytes → List ℕ
-behind c = coming c.version.now c.next
+-- what comes after the current run
+abbrev pub after_chunk : LineBytes → List ℕ
+after_chunk c = from_next c.version.now c.next
 
--- all that is still to be given
-abbrev pub still : LineBytes → List ℕ
-still c = run_of c ++ behind c
+-- all remaining bytes
+abbrev pub remaining_bytes : LineBytes → List ℕ
+remaining_bytes c = chunk_of c ++ after_chunk c

@@ -7,7 +7,7 @@ use Rattle.osm_model.specs.declared.tags.Tag.{Tag}
 use Rattle.osm_model.specs.declared.body.Body.{Body}
 use Rattle.osm_model.specs.declared.body.Body.TheVariants.{Deleted, Node, Way, Relation}
 use Rattle.osm_model.specs.declared.meta.Meta.{Meta}
-use Rattle.osm_model.specs.Tags.{normal, texts_of_tags}
+use Rattle.osm_model.specs.Tags.{normal_tags, texts_of_tags}
 use Rattle.osm_model.specs.Members.{ids_of_members, roles_of}
 
 -- the time in seconds since 1970-01-01T00:00:00Z, and the user name as its characters
@@ -56,9 +56,9 @@ texts_of (Relation members tags) = roles_of members ++ texts_of_tags tags
 -- the tags ascending, each once
 abbrev pub normal_body : Body → Body
 normal_body (Deleted k) = Deleted k
-normal_body (Node lon lat tags) = Node lon lat (normal tags)
-normal_body (Way refs tags) = Way refs (normal tags)
-normal_body (Relation members tags) = Relation members (normal tags)
+normal_body (Node lon lat tags) = Node lon lat (normal_tags tags)
+normal_body (Way refs tags) = Way refs (normal_tags tags)
+normal_body (Relation members tags) = Relation members (normal_tags tags)
 
 -- the version of data that was handed in
 abbrev pub version_of : ℤ → Meta → Body → VersionData

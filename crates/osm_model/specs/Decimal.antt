@@ -6,7 +6,7 @@ use Rattle.osm_model.specs.Numeral.{numeral}
 unfoldable pub number_text : ℕ → List ℕ
 number_text n = numeral 10 n
 
--- a minus sign where the integer is below 0
+-- a minus sign if the integer is below 0
 abbrev pub sign_text : ℤ → List ℕ
 sign_text (pos n) = []
 sign_text (negsuc n) = codes "-"

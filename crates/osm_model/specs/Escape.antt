@@ -1,14 +1,14 @@
--- How the characters of a text stand in OPL. The form of an escape is that of the OPL manual; which characters are raw,
--- and how many digits an escape has, are own rules of this project.
+-- The characters of a text in OPL. The form of an escape is that of the OPL manual; which characters are raw, and how
+-- many digits an escape has, are own rules of this project.
 use Rattle.std.specs.Prelude.{◌≡◌, ℕ, Bool, nat_lt, ◌+◌, ◌&&◌, ◌||◌, List, [], ◌∷◌, ◌++◌, length, slice_index}
 use Rattle.std.specs.Prelude.{encode_utf8, encode_utf8_all, if◌then◌else◌}
 use Rattle.std.specs.Char.{len_utf8}
 use Rattle.std.specs.Str.{chars}
 use Rattle.std.specs.Int.{is_in_range}
 use Rattle.std.specs.List.{flat_map, take_while}
-use Rattle.osm_model.specs.Numeral.{numeral, padded}
+use Rattle.osm_model.specs.Numeral.{numeral, pad_zeros}
 
--- the characters that stand for themselves
+-- the characters that are written as themselves
 abbrev pub is_raw : ℕ → Bool
 is_raw c =
     is_in_range 0x21 0x24 c || is_in_range 0x26 0x2B c || is_in_range 0x2D 0x3C c || is_in_range 0x3E 0x3F c
@@ -18,7 +18,7 @@ is_raw c =
 abbrev pub is_raw_byte : ℕ → Bool
 is_raw_byte b = is_raw b && nat_lt b 0x80
 
--- four of them, from a place on
+-- four of them, from an offset on
 abbrev pub are_raw_bytes : List ℕ → ℕ → Bool
 are_raw_bytes bs n =
     is_raw_byte (slice_index bs n) && (is_raw_byte (slice_index bs (n + 1))
@@ -30,7 +30,7 @@ escape_width c = if nat_lt c 0x100 then 2 else 4
 
 -- a character that is not raw: its code point in hexadecimal, between percent signs
 unfoldable pub code_escape : ℕ → List ℕ
-code_escape c = 37 ∷ (padded (escape_width c) (numeral 16 c) ++ 37 ∷ [])
+code_escape c = 37 ∷ (pad_zeros (escape_width c) (numeral 16 c) ++ 37 ∷ [])
 
 -- a character in a line, in UTF-8
 unfoldable pub escape_char : ℕ → List ℕ
@@ -40,15 +40,15 @@ escape_char c = if is_raw c then encode_utf8 c else code_escape c
 abbrev pub escape : List ℕ → List ℕ
 escape cs = flat_map escape_char cs
 
--- how many bytes the first of some characters takes, where it is raw
+-- the number of bytes of the first of some characters, if it is raw
 abbrev pub raw_width : List ℕ → ℕ
 raw_width [] = 0
 raw_width (c ∷ cs) = if is_raw c then len_utf8 c else 0
 
--- how many bytes the raw characters take that stand before the first other one
+-- the number of bytes of the raw characters before the first other one
 abbrev pub raw_length : List ℕ → ℕ
 raw_length cs = length (encode_utf8_all (take_while is_raw cs))
 
--- texts, by their bytes, that stand in a line as they are
+-- texts, by their bytes, that are written as they are in a line
 abbrev pub IsPlain : List ℕ → Type 0
 IsPlain bytes = escape (chars bytes) ≡ bytes

@@ -1,7 +1,7 @@
--- What stays of a list of bytes to which more is appended (an own definition of this project).
+-- Lists of bytes to which more is appended (an own definition of this project).
 use Rattle.std.specs.Prelude.{◌≡◌, ℕ, List, ◌++◌}
 
--- `now` is `before` with bytes behind it
+-- `now` is `before`, followed by other bytes
 pub record Extends (before now : List ℕ) : Type 0 where
   pub rest : List ℕ
   pub behind : now ≡ before ++ rest

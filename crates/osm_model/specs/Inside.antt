@@ -1,4 +1,4 @@
--- What the fields of a version mean.
+-- The meaning of a version's fields.
 use Rattle.std.specs.Prelude.{◌≡◌}
 use Rattle.osm_model.specs.declared.version.Version.TheInside.{Inside}
 use Rattle.osm_model.specs.Data.{VersionData, kind_of}

@@ -1,7 +1,7 @@
 -- Texts with a separator between each two.
 use Rattle.std.specs.Prelude.{ℕ, List, [], ◌∷◌, ◌++◌}
 
-abbrev pub joined : ℕ → List (List ℕ) → List ℕ
-joined separator [] = []
-joined separator (first ∷ []) = first
-joined separator (first ∷ second ∷ more) = first ++ separator ∷ joined separator (second ∷ more)
+abbrev pub join_with : ℕ → List (List ℕ) → List ℕ
+join_with separator [] = []
+join_with separator (first ∷ []) = first
+join_with separator (first ∷ second ∷ more) = first ++ separator ∷ join_with separator (second ∷ more)

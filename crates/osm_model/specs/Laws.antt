@@ -11,7 +11,7 @@ use Rattle.osm_model.specs.Rank.{rank_of}
 abbrev pub LineTellsAllData : Type 0
 LineTellsAllData = (v w : VersionData) → line v ≡ line w → v ≡ w
 
--- the order is total, and equal on equal versions alone
+-- the order is total, and only equal versions tie
 abbrev pub OrderIsTotal : Type 0
 OrderIsTotal = IsTotalOrder version_cmp × ((v w : VersionData) → version_cmp v w ≡ Equal → v ≡ w)
 

@@ -24,7 +24,7 @@ pub mod Rank
 pub mod Merged
 pub mod VersionSet
 pub mod Laws
-pub mod Piece
+pub mod SmallBuffer
 pub mod Cursor
 pub mod Append
 pub mod Extends

@@ -11,7 +11,7 @@ use Rattle.osm_model.specs.Decimal.{number_text, integer_text}
 use Rattle.osm_model.specs.Coordinate.{coordinate_text}
 use Rattle.osm_model.specs.Time.{time_text}
 use Rattle.osm_model.specs.Escape.{escape}
-use Rattle.osm_model.specs.Joined.{joined}
+use Rattle.osm_model.specs.Joined.{join_with}
 use Rattle.osm_model.specs.Data.{VersionData, kind_of, is_deleted, tags_of}
 
 -- `key=value`
@@ -28,7 +28,7 @@ member_text m = (kind_letter m.kind ∷ integer_text m.id) ++ (codes "@" ++ esca
 
 -- the items with a comma between each two
 abbrev pub list_text : {X : Type 0} → (X → List ℕ) → List X → List ℕ
-list_text text xs = joined 44 (map text xs)
+list_text text xs = join_with 44 (map text xs)
 
 -- V for visible, D for deleted
 abbrev pub visible_text : Body → List ℕ
@@ -40,7 +40,7 @@ empty_fields kind.Node = codes "x" ∷ codes "y" ∷ []
 empty_fields kind.Way = codes "N" ∷ []
 empty_fields kind.Relation = codes "M" ∷ []
 
--- the fields behind the tags
+-- the fields after the tags
 abbrev pub kind_fields : Body → List (List ℕ)
 kind_fields (Deleted k) = empty_fields k
 kind_fields (Node lon lat tags) = (codes "x" ++ coordinate_text lon) ∷ (codes "y" ++ coordinate_text lat) ∷ []
@@ -61,4 +61,4 @@ fields v =
 
 -- the fields with a space between each two
 unfoldable pub line : VersionData → List ℕ
-line v = joined 32 (fields v)
+line v = join_with 32 (fields v)

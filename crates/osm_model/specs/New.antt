@@ -11,7 +11,7 @@ use Rattle.osm_model.specs.Data.{VersionData, version_of, ids_of, texts_of}
 use Rattle.osm_model.specs.Id.{is_id}
 use Rattle.osm_model.specs.Text.{is_empty, is_text}
 
--- version numbers, changesets and user ids lie below 2^32
+-- version numbers, changesets and user ids are below 2^32
 abbrev pub is_number : ℕ → Bool
 is_number n = nat_lt n (2 ^ 32)
 
@@ -47,7 +47,7 @@ abbrev pub unless_faulty : Option ValueFault → VersionData → Result VersionD
 unless_faulty None v = Ok v
 unless_faulty (Some fault) v = Err fault
 
--- What `Version::new` answers: the version of the data, or the first fault.
+-- The result of `Version::new`: the version of the data, or the first fault.
 abbrev pub version_or_fault : ℤ → Meta → Body → Result VersionData ValueFault
 version_or_fault id meta body = unless_faulty (first_fault id meta body) (version_of id meta body)
 

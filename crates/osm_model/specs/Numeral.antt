@@ -9,5 +9,5 @@ numeral base zero = codes "0"
 numeral base (suc n) = map digit_char (digits_of base (suc n))
 
 -- a text with zeros in front, up to a width
-unfoldable pub padded : ℕ → List ℕ → List ℕ
-padded width text = replicate (width - length text) 48 ++ text
+unfoldable pub pad_zeros : ℕ → List ℕ → List ℕ
+pad_zeros width text = replicate (width - length text) 48 ++ text

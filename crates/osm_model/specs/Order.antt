@@ -13,7 +13,7 @@ abbrev pub is_positive : ℤ → Bool
 is_positive (pos n) = nat_lt 0 n
 is_positive (negsuc n) = false
 
--- the kind, ids above 0 behind the others, the absolute value of the id
+-- the kind, ids above 0 after the others, the absolute value of the id
 abbrev pub object_cmp : VersionData → VersionData → Ordering
 object_cmp = then_cmp (then_cmp (on (λ v. kind_rank (kind_of v.body)) nat_cmp) (on (λ v. is_positive v.id) bool_cmp))
     (on (λ v. unsigned_abs v.id) nat_cmp)

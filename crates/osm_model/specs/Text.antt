@@ -14,7 +14,7 @@ is_empty (c ∷ cs) = false
 abbrev pub has_zero : List ℕ → Bool
 has_zero cs = list_any (λ c. c == 0) cs
 
--- what a version may hold: Unicode scalar values other than U+0000
+-- the texts that a version may hold: Unicode scalar values other than U+0000
 abbrev pub is_text : List ℕ → Bool
 is_text cs = scalars cs && not (has_zero cs)
 

@@ -1,4 +1,4 @@
--- What a time's text says, part by part.
+-- The text of a time, part by part.
 use Rattle.std.specs.Prelude.{◌≡◌, ◌↔◌, ℕ, ◌+◌, ◌*◌, ◌/◌, ◌%◌, ◌^◌, ◌<◌, IsTrue, List, [], ◌∷◌, ◌++◌, Some}
 use Rattle.osm_model.specs.Calendar.{is_date, day_number}
 use Rattle.osm_model.specs.Time.{time_text}
@@ -13,7 +13,7 @@ spelled_time year month day hour minute second =
     pair (year / 100) ++ pair (year % 100) ++ 45 ∷ pair month ++ 45 ∷ pair day
     ++ 84 ∷ pair hour ++ 58 ∷ pair minute ++ 58 ∷ pair second ++ 90 ∷ []
 
--- a text spells a date that the calendar has and a time of day, so many seconds after 1970-01-01T00:00:00Z
+-- `text` spells a date of the calendar and a time of day, `seconds` seconds after 1970-01-01T00:00:00Z
 pub record IsTimeText (seconds : ℕ) (text : List ℕ) : Type 0 where
   pub year : ℕ
   pub month : ℕ

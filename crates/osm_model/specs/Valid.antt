@@ -1,4 +1,4 @@
--- What is true of each version (own rules of this project).
+-- The properties of each version (own rules of this project).
 use Rattle.std.specs.Prelude.{◌≡◌, ◌<◌, ◌^◌, [], ◌∷◌, true, None, FitsSigned, ⊤}
 use Rattle.std.specs.Int.{w32}
 use Rattle.std.specs.Option.{ForSome}

@@ -1,13 +1,13 @@
 //! Canonical lines, appended to a vector.
 //!
-//! Why: `LineBytes` gives the same bytes from left to right, but takes more than twice as long. A line is appended in
-//! few stretches,
-//! and that of a node without tags in one, since eight of ten lines of an extract are such lines.
+//! Why: `LineBytes` gives the same bytes from left to right, but takes more than twice as long. `append` writes a line
+//! in few stretches. The line of a node without tags takes one stretch; eight of ten lines of an extract are such
+//! lines.
 //! Assumes: for one stretch, a visible node without tags whose user name is known to be plain.
 //! Otherwise: one stretch up to the user name, one for the name, one for the tags, and one for the fields of the kind.
 //! Compared by: `both_writers_write_one_line` (opl_line) and `a_node_without_tags_has_one_line`.
 ghost use Rattle.std.specs.Prelude.{◌≡◌, ◌++◌, ◌+◌, [], ◌∷◌, ◌≤◌, ℕ, List, codes, length, drop, OnOk};
-ghost use Rattle.osm_model.specs.Joined.{joined};
+ghost use Rattle.osm_model.specs.Joined.{join_with};
 ghost use Rattle.osm_model.specs.Escape.{escape, escape_char};
 ghost use Rattle.osm_model.specs.Line.{list_text, tag_text, reference_text, member_text, kind_fields, line};
 ghost use Rattle.osm_model.specs.Append.{head_text, location_text};
@@ -15,22 +15,22 @@ ghost use Rattle.osm_model.specs.Cursor.{more_text};
 ghost use Rattle.osm_model.specs.Extends.{Extends};
 ghost use Rattle.osm_model.specs.declared.body.Body.TheVariants.{Node};
 
-use crate::escape::plain_length;
-use crate::piece::Piece;
-use crate::plain::SHORT;
+use crate::escape::raw_length;
+use crate::plain::INLINE_TEXT_BYTES;
 use crate::put::{put, put_byte, put_coordinate, put_integer, put_number, put_time};
+use crate::small_buffer::SmallBuffer;
 use crate::{Body, Member, Memory, Tag, Text, Version};
 
-/// How many bytes a stretch of a line has room for, which is appended at once: the fields before a user name take
-/// fewer.
-const ROOM: usize = 128;
+/// The number of bytes that a stretch has room for. A stretch is appended at once. The fields before a user name take
+/// fewer bytes.
+const STRETCH_BYTES: usize = 128;
 
-/// How many bytes the line of a node has at most that has no tags, and a user name that is known to be plain.
-const BARE_NODE: usize = ROOM + SHORT + 64;
+/// An upper bound for the bytes of the line of a node that has no tags and a user name that is known to be plain.
+const BARE_NODE: usize = STRETCH_BYTES + INLINE_TEXT_BYTES + 64;
 
 impl Version {
-    /// Appends the canonical OPL line, without a line end. After an error a part of it may stand there,
-    /// behind what stood there before.
+    /// Appends the canonical OPL line, without a line end. After an error `out` holds its earlier bytes, and maybe a
+    /// part of the line after them.
     pub fn append_line(&self, out: &mut Vec<u8>) -> Result<(), Memory>
         ensures appended { OnOk result (out.new.items ≡ out.old.items ++ line self.now) }
         ensures kept { Extends out.old.items out.new.items }
@@ -78,7 +78,7 @@ fn append_parts(version: &Version, out: &mut Vec<u8>) -> Result<(), Memory>
     append_kind_fields(version.body(), out)
 }
 
-/// Appends the bytes of some room from a place on.
+/// Appends the bytes of `room` from `start` on.
 #[inline(always)]
 fn append_from(room: &[u8], start: usize, out: &mut Vec<u8>) -> Result<(), Memory>
     requires { start ≤ length room.now }
@@ -94,12 +94,12 @@ fn append_head(version: &Version, out: &mut Vec<u8>) -> Result<(), Memory>
     ensures appended { OnOk result (out.new.items ≡ out.old.items ++ head_text version.now) }
     ensures kept { Extends out.old.items out.new.items }
 {
-    let mut room = [0; ROOM];
-    let start = put_head(&mut room, ROOM, version);
+    let mut room = [0; STRETCH_BYTES];
+    let start = put_head(&mut room, STRETCH_BYTES, version);
     append_from(&room, start, out)
 }
 
-/// Puts the fields before the user name, and the mark of the user name, into room.
+/// Writes the fields before the user name, and the mark of the user name, into `room` before `end`.
 #[inline(always)]
 fn put_head(room: &mut [u8], end: usize, version: &Version) -> usize
     requires within { end ≤ length room.old }
@@ -141,7 +141,7 @@ fn append_text(text: &Text, out: &mut Vec<u8>) -> Result<(), Memory>
     append_characters(text, out)
 }
 
-/// Appends the characters of a text, each looked at.
+/// Appends the characters of a text, and looks at each of them.
 #[inline(never)]
 fn append_characters(text: &Text, out: &mut Vec<u8>) -> Result<(), Memory>
     ensures appended { OnOk result (out.new.items ≡ out.old.items ++ escape text.now) }
@@ -149,7 +149,7 @@ fn append_characters(text: &Text, out: &mut Vec<u8>) -> Result<(), Memory>
 {
     let mut rest = text.as_str();
     'characters: loop {
-        let (plain, other) = rest.split_at(plain_length(rest));
+        let (plain, other) = rest.split_at(raw_length(rest));
         out.extend_from_slice(plain.as_bytes())?;
         let mut characters = other.chars();
         let Some(first) = characters.next() else {
@@ -165,27 +165,27 @@ fn append_escaped(c: char, out: &mut Vec<u8>) -> Result<(), Memory>
     ensures appended { OnOk result (out.new.items ≡ out.old.items ++ escape_char c) }
     ensures kept { Extends out.old.items out.new.items }
 {
-    let mut piece = Piece::new();
-    piece.set_escaped(c);
-    piece.append_to(out)
+    let mut small_buffer = SmallBuffer::new();
+    small_buffer.set_escaped(c);
+    small_buffer.append_to(out)
 }
 
-/// What stands in a list of a line.
-trait Listed {
+/// An item of a list in a line.
+trait ListItem {
     ghost text: { Self → List ℕ };
 
-    /// Appends a mark of at most 2 bytes, and the item behind it.
-    fn append_behind(&self, mark: &[u8], out: &mut Vec<u8>) -> Result<(), Memory>
+    /// Appends `mark`, which has at most 2 bytes, and then the item.
+    fn append_after(&self, mark: &[u8], out: &mut Vec<u8>) -> Result<(), Memory>
         requires { length mark.now ≤ 2 }
         ensures appended { OnOk result (out.new.items ≡ out.old.items ++ (mark.now ++ text self.now)) }
         ensures kept { Extends out.old.items out.new.items };
 }
 
-impl Listed for Tag {
+impl ListItem for Tag {
     ghost text = { tag_text };
 
     #[inline(always)]
-    fn append_behind(&self, mark: &[u8], out: &mut Vec<u8>) -> Result<(), Memory> {
+    fn append_after(&self, mark: &[u8], out: &mut Vec<u8>) -> Result<(), Memory> {
         out.extend_from_slice(mark)?;
         append_text(&self.key, out)?;
         out.push(b'=')?;
@@ -193,24 +193,24 @@ impl Listed for Tag {
     }
 }
 
-impl Listed for i64 {
+impl ListItem for i64 {
     ghost text = { reference_text };
 
-    fn append_behind(&self, mark: &[u8], out: &mut Vec<u8>) -> Result<(), Memory> {
-        let mut room = [0; ROOM];
-        let start = put_integer(&mut room, ROOM, *self);
+    fn append_after(&self, mark: &[u8], out: &mut Vec<u8>) -> Result<(), Memory> {
+        let mut room = [0; STRETCH_BYTES];
+        let start = put_integer(&mut room, STRETCH_BYTES, *self);
         let start = put_byte(&mut room, start, b'n');
         let start = put(&mut room, start, mark);
         append_from(&room, start, out)
     }
 }
 
-impl Listed for Member {
+impl ListItem for Member {
     ghost text = { member_text };
 
-    fn append_behind(&self, mark: &[u8], out: &mut Vec<u8>) -> Result<(), Memory> {
-        let mut room = [0; ROOM];
-        let start = put_byte(&mut room, ROOM, b'@');
+    fn append_after(&self, mark: &[u8], out: &mut Vec<u8>) -> Result<(), Memory> {
+        let mut room = [0; STRETCH_BYTES];
+        let start = put_byte(&mut room, STRETCH_BYTES, b'@');
         let start = put_integer(&mut room, start, self.id);
         let start = put_byte(&mut room, start, self.kind.letter());
         let start = put(&mut room, start, mark);
@@ -219,9 +219,9 @@ impl Listed for Member {
     }
 }
 
-/// Appends a mark of at most 2 bytes, and behind it the items with a comma between each two.
+/// Appends `mark`, which has at most 2 bytes, and then the items with a comma between each two.
 #[inline(always)]
-fn append_list<T: Listed>(mark: &[u8], items: &[T], out: &mut Vec<u8>) -> Result<(), Memory>
+fn append_list<T: ListItem>(mark: &[u8], items: &[T], out: &mut Vec<u8>) -> Result<(), Memory>
     requires { length mark.now ≤ 2 }
     ensures appended { OnOk result (out.new.items ≡ out.old.items ++ (mark.now ++ list_text T.text items.now)) }
     ensures kept { Extends out.old.items out.new.items }
@@ -230,16 +230,16 @@ fn append_list<T: Listed>(mark: &[u8], items: &[T], out: &mut Vec<u8>) -> Result
         out.extend_from_slice(mark)?;
         return Ok(());
     };
-    first.append_behind(mark, out)?;
+    first.append_after(mark, out)?;
     for item in more {
-        item.append_behind(b",", out)?;
+        item.append_after(b",", out)?;
     }
     Ok(())
 }
 
-/// Appends the fields behind the tags.
+/// Appends the fields after the tags.
 fn append_kind_fields(body: &Body, out: &mut Vec<u8>) -> Result<(), Memory>
-    ensures appended { OnOk result (out.new.items ≡ out.old.items ++ (32 ∷ joined 32 (kind_fields body.now))) }
+    ensures appended { OnOk result (out.new.items ≡ out.old.items ++ (32 ∷ join_with 32 (kind_fields body.now))) }
     ensures kept { Extends out.old.items out.new.items }
 {
     match body {
@@ -253,8 +253,8 @@ fn append_kind_fields(body: &Body, out: &mut Vec<u8>) -> Result<(), Memory>
     }
 }
 
-/// How many references a stretch has room for, each of them behind a comma.
-const FEW: usize = 5;
+/// The number of references that a stretch has room for, each of them after a comma.
+const REFERENCES_PER_STRETCH: usize = 5;
 
 /// Appends the field of references.
 fn append_references(ids: &[i64], out: &mut Vec<u8>) -> Result<(), Memory>
@@ -265,24 +265,24 @@ fn append_references(ids: &[i64], out: &mut Vec<u8>) -> Result<(), Memory>
         out.extend_from_slice(b" N")?;
         return Ok(());
     };
-    first.append_behind(b" N", out)?;
+    first.append_after(b" N", out)?;
     let mut rest = more;
     while !rest.is_empty() {
-        let (few, behind) = rest.split_at(rest.len().min(FEW));
+        let (few, behind) = rest.split_at(rest.len().min(REFERENCES_PER_STRETCH));
         append_few_references(few, out)?;
         rest = behind;
     }
     Ok(())
 }
 
-/// Appends a few references, each behind a comma, by one stretch.
+/// Appends a few references, each after a comma, by one stretch.
 fn append_few_references(ids: &[i64], out: &mut Vec<u8>) -> Result<(), Memory>
     requires few { length ids.now ≤ 5 }
     ensures appended { OnOk result (out.new.items ≡ out.old.items ++ more_text reference_text ids.now) }
     ensures kept { Extends out.old.items out.new.items }
 {
-    let mut room = [0; ROOM];
-    let mut start = ROOM;
+    let mut room = [0; STRETCH_BYTES];
+    let mut start = STRETCH_BYTES;
     let mut count = ids.len();
     while count > 0 {
         count -= 1;
@@ -297,12 +297,12 @@ fn append_location(lon: i32, lat: i32, out: &mut Vec<u8>) -> Result<(), Memory>
     ensures appended { OnOk result (out.new.items ≡ out.old.items ++ location_text lon lat) }
     ensures kept { Extends out.old.items out.new.items }
 {
-    let mut room = [0; ROOM];
-    let start = put_location(&mut room, ROOM, lon, lat);
+    let mut room = [0; STRETCH_BYTES];
+    let start = put_location(&mut room, STRETCH_BYTES, lon, lat);
     append_from(&room, start, out)
 }
 
-/// Puts the fields of a location into room.
+/// Writes the fields of a location into `room` before `end`.
 #[inline(always)]
 fn put_location(room: &mut [u8], end: usize, lon: i32, lat: i32) -> usize
     requires within { end ≤ length room.old }

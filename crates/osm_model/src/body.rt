@@ -13,7 +13,7 @@ use crate::same::Same;
 use crate::{Kind, Members, Memory, References, Tag, Tags};
 use std::mem;
 
-/// What a version holds besides its metadata.
+/// The data of a version other than its id and its metadata.
 #[derive(Debug, Drop)]
 pub enum Body {
     /// A deleted version has a kind and nothing else.
@@ -107,7 +107,7 @@ impl Body {
         }
     }
 
-    /// Replaces the body. It is the assignment `*self = body`, fast where the old body holds no memory.
+    /// Replaces the body. This is the assignment `*self = body`; it is fast where the old body holds no memory.
     #[inline(always)]
     pub fn replace(&mut self, body: Body)
         ensures { self.new ≡ body }
@@ -119,7 +119,7 @@ impl Body {
         mem::forget(mem::replace(self, body));
     }
 
-    /// Drops what the body holds.
+    /// Drops the contents of the body.
     #[inline(never)]
     pub(crate) fn release(&mut self)
         ensures { self.new ≡ Deleted kind.Node }
@@ -127,9 +127,9 @@ impl Body {
         *self = Body::Deleted(Kind::Node);
     }
 
-    /// Tells contracts that a location is within its range, as its numbers have 32 bits.
+    /// Shows contracts that a location is within its range, as its numbers have 32 bits.
     #[inline(always)]
-    pub(crate) fn tell_range(&self)
+    pub(crate) fn show_in_range(&self)
         ensures { IsInRange self.now }
     {
         if let Body::Node { lon, lat, .. } = self {
@@ -137,7 +137,7 @@ impl Body {
         }
     }
 
-    /// Puts the tags in ascending order, each once.
+    /// Sorts the tags and drops repeats.
     #[inline(always)]
     pub(crate) fn normalize(&mut self)
         ensures { self.new ≡ normal_body self.old }

@@ -4,7 +4,7 @@ ghost use Rattle.std.specs.Prelude.{◌≡◌, ◌<◌, ◌≤◌};
 use jiff_core::civil;
 
 /// The days from -9999-01-01, the first that `jiff_core` has, to 1970-01-01.
-const DAYS_BEFORE_1970: u32 = 4_371_587;
+const DAYS_FROM_MIN_TO_1970: u32 = 4_371_587;
 
 /// A day of the Gregorian calendar, from the year 0 on.
 #[derive(Clone, Copy)]
@@ -19,14 +19,14 @@ pub(crate) struct Date {
 impl Date {
     ghost use Rattle.osm_model.specs.Time.{date_of};
 
-    /// The date that many days after 1970-01-01.
+    /// The date that comes `day` days after 1970-01-01.
     pub(crate) fn from_day(day: u16) -> Date
         ensures value { result ≡ date_of day }
         ensures year { result.year < 10_000 }
         ensures month { result.month ≤ 12 }
         ensures day { result.day ≤ 31 }
     {
-        let date = civil::Date::from_days_since_min(u32::from(day) + DAYS_BEFORE_1970);
+        let date = civil::Date::from_days_since_min(u32::from(day) + DAYS_FROM_MIN_TO_1970);
         Date {
             year: date.year as u16,
             month: date.month,

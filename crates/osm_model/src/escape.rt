@@ -42,8 +42,8 @@ pub(crate) fn escape_width(code: u32) -> usize
     if code < 0x100 { 2 } else { 4 }
 }
 
-/// How many bytes of a text stand before its first character that is not raw.
-pub(crate) fn plain_length(text: &str) -> usize
+/// The number of bytes of a text before its first character that is not raw.
+pub(crate) fn raw_length(text: &str) -> usize
     ensures length { result ≡ spec.raw_length (chars text.now) }
     ensures boundary { IsCharBoundary text.now result }
     ensures escape { spec.escape (chars text.now)
@@ -67,7 +67,7 @@ pub(crate) fn plain_length(text: &str) -> usize
     length
 }
 
-/// How many bytes the first character of a text takes, where it is raw, and else 0.
+/// The number of bytes of the first character of a text, if it is raw, and else 0.
 fn raw_width(text: &[u8]) -> usize
     requires some { 0 < length text.now }
     requires utf8 { IsUtf8 text.now }
@@ -93,7 +93,7 @@ static RAW_BYTES: [u8; 256] = [
     0, 0, 0, 0, 0, 0, 0, 0, 0, 0, 0, 0, 0, 0, 0, 0, 0, 0, 0, 0, 0, 0, 0, 0, 0, 0, 0, 0, 0, 0, 0, 0,
 ];
 
-/// Whether each of the four bytes from a place on is a raw character by itself.
+/// Whether each of the four bytes from `from` on is a raw character by itself.
 #[inline(always)]
 fn are_raw_bytes(bytes: &[u8], from: usize) -> bool
     requires { from + 4 ≤ length bytes.now }
@@ -112,14 +112,14 @@ fn is_raw_byte(byte: u8) -> bool
     RAW_BYTES[usize::from(byte)] == 1
 }
 
-/// Whether a byte is the first of two of a character from U+00C0 to U+05FF, which all are raw.
+/// Whether a byte is the first of the two bytes of a character from U+00C0 to U+05FF; all of these are raw.
 fn is_raw_lead(byte: u8) -> bool
     ensures { result ≡ is_in_range 0xC3 0xD7 byte }
 {
     matches!(byte, 0xC3..=0xD7)
 }
 
-/// How many bytes a character from U+0080 to U+00BF takes, where it is raw, and else 0.
+/// The number of bytes of a character from U+0080 to U+00BF, if it is raw, and else 0.
 fn latin_width(code: u8) -> usize
     requires { (0x80 ≤ code) × (code < 0xC0) }
     ensures { result ≡ (if spec.is_raw code then 2 else 0) }

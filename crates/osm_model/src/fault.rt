@@ -1,4 +1,4 @@
-//! Refusals of data.
+//! Faults of data.
 use thiserror::Error;
 
 /// Why data makes no version.

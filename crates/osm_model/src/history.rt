@@ -3,7 +3,7 @@ ghost use Rattle.std.specs.Prelude.{◌≡◌, ◌<◌, ◌++◌, ◌↔◌, IfO
 ghost use Rattle.std.specs.List.Sorted.{IsStrictlySortedBy};
 ghost use Rattle.osm_model.specs.Order.{version_cmp};
 ghost use Rattle.osm_model.specs.Sets as set;
-ghost use Rattle.osm_model.specs.Merged.{merged};
+ghost use Rattle.osm_model.specs.Merged.{merge};
 
 use crate::ranked::{with_ranks, without_ranks};
 use crate::{Memory, Version};
@@ -42,13 +42,12 @@ impl History {
         }
     }
 
-    /// The set of the versions of a list, which may stand in any order and be repeated. Where it is a few ascending
-    /// stretches,
-    /// like sorted files one behind the other, these are merged.
+    /// The set of the versions of a list. The list may have any order and repeats. If it consists of a few ascending
+    /// stretches, like sorted files in sequence, these are merged.
     ///
     /// # Errors
     ///
-    /// For want of memory alone.
+    /// Only out of memory.
     pub fn from_versions(versions: Vec<Version>) -> Result<History, Memory>
         ensures { IfOk result (λ h. h ≡ set.from_list versions.items) }
     {
@@ -67,7 +66,7 @@ impl History {
         History { versions }
     }
 
-    /// The union. Both histories stay as they were.
+    /// The union. Both histories remain unchanged.
     pub fn join(&self, other: &History) -> Result<History, Memory>
         ensures { IfOk result (λ h. h ≡ set.union self.now other.now) }
     {
@@ -97,17 +96,17 @@ impl History {
         self.versions.is_empty()
     }
 
-    /// The version that has `place` lesser ones in the history. The place is below the length.
+    /// The version that has `place` lesser ones in the history. `place` is below the length.
     pub fn get(&self, place: usize) -> &Version
         requires { place < set.size self.now }
-        ensures { result.now ≡ slice_index_or (set.listed self.now) place result.now }
+        ensures { result.now ≡ slice_index_or (set.to_list self.now) place result.now }
     {
         &self.versions[place]
     }
 
-    /// The versions, ascending. They are given away, so nothing is copied.
+    /// The versions, ascending. They are moved out, so nothing is copied.
     pub fn into_versions(self) -> Vec<Version>
-        ensures { result.items ≡ set.listed self }
+        ensures { result.items ≡ set.to_list self }
     {
         let History { versions } = self;
         versions
@@ -123,7 +122,7 @@ impl History {
     }
 }
 
-/// Copies of all these versions behind those that are there.
+/// Appends copies of the versions of `more` to `versions`.
 fn append_copies(versions: &mut Vec<Version>, more: &[Version]) -> Result<(), Memory>
     ensures { OnOk result (versions.new.items ≡ versions.old.items ++ more.now) }
 {
@@ -133,14 +132,13 @@ fn append_copies(versions: &mut Vec<Version>, more: &[Version]) -> Result<(), Me
     Ok(())
 }
 
-/// Copies of the versions of two ascending lists, ascending, behind those that are there. Of two equal ones one is
-/// taken.
+/// Appends copies of the versions of two ascending lists to `versions`, ascending. One of two equal versions is copied.
 fn append_merged(
     versions: &mut Vec<Version>,
     left: &[Version],
     right: &[Version],
 ) -> Result<(), Memory>
-    ensures { OnOk result (versions.new.items ≡ versions.old.items ++ merged version_cmp left.now right.now) }
+    ensures { OnOk result (versions.new.items ≡ versions.old.items ++ merge version_cmp left.now right.now) }
 {
     let mut i = 0;
     let mut j = 0;

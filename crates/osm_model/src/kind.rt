@@ -1,7 +1,7 @@
 //! The kinds of objects.
 ghost use Rattle.std.specs.Prelude.{◌≡◌, ◌≤◌, ◌∷◌, length};
 ghost use Rattle.osm_model.specs.Kind.{kind_rank, kind_letter};
-ghost use Rattle.osm_model.specs.Joined.{joined};
+ghost use Rattle.osm_model.specs.Joined.{join_with};
 ghost use Rattle.osm_model.specs.Line as text;
 
 /// The kind of an object.
@@ -13,7 +13,7 @@ pub enum Kind {
 }
 
 impl Kind {
-    /// The place of the kind in the order of versions: nodes, ways, relations.
+    /// The index of the kind in the order of versions: nodes, ways, relations.
     pub fn rank(self) -> u8
         ensures { result ≡ kind_rank self }
     {
@@ -24,7 +24,7 @@ impl Kind {
         }
     }
 
-    /// The letter that stands for the kind in OPL: `n`, `w` or `r`.
+    /// The letter of the kind in OPL: `n`, `w` or `r`.
     pub fn letter(self) -> u8
         ensures { result ≡ kind_letter self }
     {
@@ -35,9 +35,9 @@ impl Kind {
         }
     }
 
-    /// The fields behind the tags in the line of a deleted version, each with a space in front of it.
+    /// The fields after the tags in the line of a deleted version, each after a space.
     pub fn empty_fields(self) -> &'static [u8]
-        ensures text { result.now ≡ 32 ∷ joined 32 (text.empty_fields self) }
+        ensures text { result.now ≡ 32 ∷ join_with 32 (text.empty_fields self) }
         ensures short { length result.now ≤ 4 }
     {
         match self {

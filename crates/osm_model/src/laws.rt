@@ -1,14 +1,14 @@
-//! Laws over the definitions, each the contract of a function with an empty body. Nothing is run to use them.
+//! Laws of the definitions, each the contract of a function with an empty body. They run no code.
 ghost use Rattle.osm_model.specs.Laws.{LineTellsAllData, LowerRankIsLess, OrderIsTotal};
 ghost use Rattle.osm_model.specs.KindLaw.{KindsDontFall};
 ghost use Rattle.osm_model.specs.TimeLaw.{TimeLaw};
 
-/// The canonical line tells all data of a version.
+/// The canonical line determines all data of a version.
 pub fn line_tells_all_data()
     ensures { LineTellsAllData }
 {}
 
-/// The order of versions is total, and equal on equal versions alone.
+/// The order of versions is total, and only equal versions tie.
 pub fn order_is_total()
     ensures { OrderIsTotal }
 {}

@@ -5,13 +5,13 @@ ghost use Rattle.std.specs.Str.{chars};
 ghost use Rattle.std.specs.Iterator.{YieldsFirst, item_count};
 ghost use Rattle.osm_model.specs.Data.{VersionData, tags_of};
 ghost use Rattle.osm_model.specs.Escape.{escape};
-ghost use Rattle.osm_model.specs.Piece.{left};
+ghost use Rattle.osm_model.specs.SmallBuffer.{bytes_left};
 ghost use Rattle.osm_model.specs.Line.{list_text, tag_text, reference_text, member_text, line};
-ghost use Rattle.osm_model.specs.Cursor.{after, from_field, from_kind, coming, more_text, items_text, run_text, run_of};
-ghost use Rattle.osm_model.specs.Cursor.{behind, still, Gives, GivesOrEnds};
+ghost use Rattle.osm_model.specs.Cursor.{from_place, from_field, from_kind, from_next, more_text, items_text, chunk_text, chunk_of};
+ghost use Rattle.osm_model.specs.Cursor.{after_chunk, remaining_bytes, Emits, EmitsOrEnds};
 
-use crate::escape::plain_length;
-use crate::piece::Piece;
+use crate::escape::raw_length;
+use crate::small_buffer::SmallBuffer;
 use crate::{Body, Member, Tag, Text, Version};
 
 /// A field of a line.
@@ -25,11 +25,11 @@ enum Field {
     Uid,
     User,
     Tags,
-    /// The fields behind the tags, which the kind of the object decides.
+    /// The fields after the tags, which the kind of the object decides.
     Kind,
 }
 
-/// A place in a line, but for the inside of a text.
+/// A position in a line that isn't inside a text.
 #[derive(Clone, Copy)]
 enum Place<'a> {
     /// Before the space of a field, or at the very beginning.
@@ -39,20 +39,20 @@ enum Place<'a> {
         value: &'a Text,
         more: &'a [Tag],
     },
-    /// Behind a tag.
+    /// After a tag.
     MoreTags {
         tags: &'a [Tag],
     },
-    /// Behind the longitude.
+    /// After the longitude.
     Latitude {
         lat: i32,
     },
-    /// Before a reference, or behind the last one.
+    /// Before a reference, or after the last one.
     References {
         is_first: bool,
         ids: &'a [i64],
     },
-    /// Before a member, or behind the last one.
+    /// Before a member, or after the last one.
     Members {
         is_first: bool,
         members: &'a [Member],
@@ -65,98 +65,106 @@ enum Place<'a> {
     End,
 }
 
-/// What comes next in a line: the rest of a text, and then the line from a place on.
+/// What comes next in a line: the rest of a text, and then the line from a position on.
 #[derive(Clone, Copy)]
-struct Next<'a> {
+struct Continuation<'a> {
     text: &'a str,
     place: Place<'a>,
 }
 
-impl<'a> Next<'a> {
-    fn at(place: Place<'a>) -> Next<'a>
+impl<'a> Continuation<'a> {
+    fn at(place: Place<'a>) -> Continuation<'a>
         ensures text { chars result.text.now ≡ [] }
         ensures place { result.place ≡ place.entry }
     {
-        Next { text: "", place }
+        Continuation { text: "", place }
     }
 
-    fn with_text(text: &'a Text, place: Place<'a>) -> Next<'a>
+    fn with_text(text: &'a Text, place: Place<'a>) -> Continuation<'a>
         ensures text { chars result.text.now ≡ text.now }
         ensures place { result.place ≡ place.entry }
     {
-        Next {
+        Continuation {
             text: text.as_str(),
             place,
         }
     }
 }
 
-/// Fills the piece with a field, and tells what comes behind it.
-fn give_field<'a>(version: &'a Version, field: Field, piece: &mut Piece) -> Next<'a>
-    ensures { Gives version.now (from_field version.now field) piece.new result }
+/// Fills `small_buffer` with a field, and returns what comes after it.
+fn emit_field<'a>(
+    version: &'a Version,
+    field: Field,
+    small_buffer: &mut SmallBuffer,
+) -> Continuation<'a>
+    ensures { Emits version.now (from_field version.now field) small_buffer.new result }
 {
     match field {
         Field::Object => {
-            piece.set_integer(&[version.kind().letter()], version.id());
-            Next::at(Place::Field(Field::Number))
+            small_buffer.set_integer(&[version.kind().letter()], version.id());
+            Continuation::at(Place::Field(Field::Number))
         }
         Field::Number => {
-            piece.set_number(b" v", version.number());
-            Next::at(Place::Field(Field::Visible))
+            small_buffer.set_number(b" v", version.number());
+            Continuation::at(Place::Field(Field::Visible))
         }
         Field::Visible => {
             let deleted = version.body().is_deleted();
-            piece.set_bytes(if deleted { b" dD" } else { b" dV" });
-            Next::at(Place::Field(Field::Changeset))
+            small_buffer.set_bytes(if deleted { b" dD" } else { b" dV" });
+            Continuation::at(Place::Field(Field::Changeset))
         }
         Field::Changeset => {
-            piece.set_number(b" c", version.changeset());
-            Next::at(Place::Field(Field::Time))
+            small_buffer.set_number(b" c", version.changeset());
+            Continuation::at(Place::Field(Field::Time))
         }
         Field::Time => {
-            piece.set_time(b" t", version.time());
-            Next::at(Place::Field(Field::Uid))
+            small_buffer.set_time(b" t", version.time());
+            Continuation::at(Place::Field(Field::Uid))
         }
         Field::Uid => {
-            piece.set_number(b" i", version.uid());
-            Next::at(Place::Field(Field::User))
+            small_buffer.set_number(b" i", version.uid());
+            Continuation::at(Place::Field(Field::User))
         }
         Field::User => {
-            piece.set_bytes(b" u");
-            Next::with_text(version.user(), Place::Field(Field::Tags))
+            small_buffer.set_bytes(b" u");
+            Continuation::with_text(version.user(), Place::Field(Field::Tags))
         }
         Field::Tags => {
-            piece.set_bytes(b" T");
+            small_buffer.set_bytes(b" T");
             first_tag(version)
         }
-        Field::Kind => give_kind_field(version, piece),
+        Field::Kind => emit_kind_field(version, small_buffer),
     }
 }
 
-/// What comes behind the mark of the tags.
-fn first_tag(version: &Version) -> Next<'_>
-    ensures { coming version.now result ≡ list_text tag_text (tags_of version.now.body) ++ from_kind version.now }
+/// What comes after the mark of the tags.
+fn first_tag(version: &Version) -> Continuation<'_>
+    ensures { from_next version.now result ≡ list_text tag_text (tags_of version.now.body) ++ from_kind version.now }
 {
     match version.body().tags().split_first() {
-        Some((tag, more)) => Next::with_text(
+        Some((tag, more)) => Continuation::with_text(
             &tag.key,
             Place::Equals {
                 value: &tag.value,
                 more,
             },
         ),
-        None => Next::at(Place::Field(Field::Kind)),
+        None => Continuation::at(Place::Field(Field::Kind)),
     }
 }
 
-/// Fills the piece with what stands behind a tag.
-fn give_next_tag<'a>(version: &'a Version, tags: &'a [Tag], piece: &mut Piece) -> Next<'a>
-    ensures { Gives version.now (more_text tag_text tags.now ++ from_kind version.now) piece.new result }
+/// Fills `small_buffer` with what comes after a tag.
+fn emit_next_tag<'a>(
+    version: &'a Version,
+    tags: &'a [Tag],
+    small_buffer: &mut SmallBuffer,
+) -> Continuation<'a>
+    ensures { Emits version.now (more_text tag_text tags.now ++ from_kind version.now) small_buffer.new result }
 {
     match tags.split_first() {
         Some((tag, more)) => {
-            piece.set_bytes(b",");
-            Next::with_text(
+            small_buffer.set_bytes(b",");
+            Continuation::with_text(
                 &tag.key,
                 Place::Equals {
                     value: &tag.value,
@@ -164,33 +172,33 @@ fn give_next_tag<'a>(version: &'a Version, tags: &'a [Tag], piece: &mut Piece) -
                 },
             )
         }
-        None => give_kind_field(version, piece),
+        None => emit_kind_field(version, small_buffer),
     }
 }
 
-/// Fills the piece with the first field behind the tags, or with its mark.
-fn give_kind_field<'a>(version: &'a Version, piece: &mut Piece) -> Next<'a>
-    ensures { Gives version.now (from_kind version.now) piece.new result }
+/// Fills `small_buffer` with the first field after the tags, or with its mark.
+fn emit_kind_field<'a>(version: &'a Version, small_buffer: &mut SmallBuffer) -> Continuation<'a>
+    ensures { Emits version.now (from_kind version.now) small_buffer.new result }
 {
     match version.body() {
         Body::Deleted(kind) => {
-            piece.set_bytes(kind.empty_fields());
-            Next::at(Place::End)
+            small_buffer.set_bytes(kind.empty_fields());
+            Continuation::at(Place::End)
         }
         Body::Node { lon, lat, .. } => {
-            piece.set_coordinate(b" x", *lon);
-            Next::at(Place::Latitude { lat: *lat })
+            small_buffer.set_coordinate(b" x", *lon);
+            Continuation::at(Place::Latitude { lat: *lat })
         }
         Body::Way { refs, .. } => {
-            piece.set_bytes(b" N");
-            Next::at(Place::References {
+            small_buffer.set_bytes(b" N");
+            Continuation::at(Place::References {
                 is_first: true,
                 ids: refs.as_slice(),
             })
         }
         Body::Relation { members, .. } => {
-            piece.set_bytes(b" M");
-            Next::at(Place::Members {
+            small_buffer.set_bytes(b" M");
+            Continuation::at(Place::Members {
                 is_first: true,
                 members: members.as_slice(),
             })
@@ -198,12 +206,16 @@ fn give_kind_field<'a>(version: &'a Version, piece: &mut Piece) -> Next<'a>
     }
 }
 
-/// Fills the piece with the first of these references, if there is one.
-fn give_reference<'a>(is_first: bool, ids: &'a [i64], piece: &mut Piece) -> Option<Next<'a>>
-    ensures { (v : VersionData) → GivesOrEnds v (items_text is_first reference_text ids.now) piece.new result }
+/// Fills `small_buffer` with the first of the references `ids`, if there is one.
+fn emit_reference<'a>(
+    is_first: bool,
+    ids: &'a [i64],
+    small_buffer: &mut SmallBuffer,
+) -> Option<Continuation<'a>>
+    ensures { (v : VersionData) → EmitsOrEnds v (items_text is_first reference_text ids.now) small_buffer.new result }
 {
     let (id, more) = ids.split_first()?;
-    piece.set_integer(
+    small_buffer.set_integer(
         if is_first {
             b"n".as_slice()
         } else {
@@ -211,45 +223,53 @@ fn give_reference<'a>(is_first: bool, ids: &'a [i64], piece: &mut Piece) -> Opti
         },
         *id,
     );
-    Some(Next::at(Place::References {
+    Some(Continuation::at(Place::References {
         is_first: false,
         ids: more,
     }))
 }
 
-/// Fills the piece with the object of the first of these members, if there is one.
-fn give_member<'a>(is_first: bool, members: &'a [Member], piece: &mut Piece) -> Option<Next<'a>>
-    ensures { (v : VersionData) → GivesOrEnds v (items_text is_first member_text members.now) piece.new result }
+/// Fills `small_buffer` with the object of the first of `members`, if there is one.
+fn emit_member<'a>(
+    is_first: bool,
+    members: &'a [Member],
+    small_buffer: &mut SmallBuffer,
+) -> Option<Continuation<'a>>
+    ensures { (v : VersionData) → EmitsOrEnds v (items_text is_first member_text members.now) small_buffer.new result }
 {
     let (member, more) = members.split_first()?;
     let mark = [b',', member.kind.letter()];
-    piece.set_integer(if is_first { &mark[1..] } else { &mark[..] }, member.id);
-    Some(Next::at(Place::At {
+    small_buffer.set_integer(if is_first { &mark[1..] } else { &mark[..] }, member.id);
+    Some(Continuation::at(Place::At {
         role: &member.role,
         more,
     }))
 }
 
-/// Fills the piece with what stands at a place, and tells what comes behind it; `None` at the end.
-fn give<'a>(version: &'a Version, place: Place<'a>, piece: &mut Piece) -> Option<Next<'a>>
-    ensures { GivesOrEnds version.now (after version.now place.entry) piece.new result }
+/// Fills `small_buffer` with the bytes at `place`, and returns what comes after them; `None` at the end.
+fn emit<'a>(
+    version: &'a Version,
+    place: Place<'a>,
+    small_buffer: &mut SmallBuffer,
+) -> Option<Continuation<'a>>
+    ensures { EmitsOrEnds version.now (from_place version.now place.entry) small_buffer.new result }
 {
     match place {
-        Place::Field(field) => Some(give_field(version, field, piece)),
+        Place::Field(field) => Some(emit_field(version, field, small_buffer)),
         Place::Equals { value, more } => {
-            piece.set_bytes(b"=");
-            Some(Next::with_text(value, Place::MoreTags { tags: more }))
+            small_buffer.set_bytes(b"=");
+            Some(Continuation::with_text(value, Place::MoreTags { tags: more }))
         }
-        Place::MoreTags { tags } => Some(give_next_tag(version, tags, piece)),
+        Place::MoreTags { tags } => Some(emit_next_tag(version, tags, small_buffer)),
         Place::Latitude { lat } => {
-            piece.set_coordinate(b" y", lat);
-            Some(Next::at(Place::End))
+            small_buffer.set_coordinate(b" y", lat);
+            Some(Continuation::at(Place::End))
         }
-        Place::References { is_first, ids } => give_reference(is_first, ids, piece),
-        Place::Members { is_first, members } => give_member(is_first, members, piece),
+        Place::References { is_first, ids } => emit_reference(is_first, ids, small_buffer),
+        Place::Members { is_first, members } => emit_member(is_first, members, small_buffer),
         Place::At { role, more } => {
-            piece.set_bytes(b"@");
-            Some(Next::with_text(
+            small_buffer.set_bytes(b"@");
+            Some(Continuation::with_text(
                 role,
                 Place::Members {
                     is_first: false,
@@ -261,102 +281,101 @@ fn give<'a>(version: &'a Version, place: Place<'a>, piece: &mut Piece) -> Option
     }
 }
 
-/// Where the bytes of a run stand.
+/// The storage of the bytes of a run.
 #[derive(Clone, Copy)]
-enum Run<'a> {
-    /// In the piece of the cursor.
-    Piece,
+enum Chunk<'a> {
+    /// In the buffer of the cursor.
+    SmallBuffer,
     /// In a text of the version.
     Plain(&'a [u8]),
 }
 
-/// The run at the front of a text, and the rest of the text; `None` for the empty text.
-fn give_text<'a>(text: &'a str, piece: &mut Piece) -> Option<(Run<'a>, &'a str)>
+/// The chunk at the front of a text, and the rest of the text; `None` for the empty text.
+fn emit_text<'a>(text: &'a str, small_buffer: &mut SmallBuffer) -> Option<(Chunk<'a>, &'a str)>
     ensures { MatchOption result
         (chars text.now ≡ [])
-        (λ p. (escape (chars text.now) ≡ run_text p.0 piece.new ++ escape (chars p.1.now))
-        × (0 < length (run_text p.0 piece.new))) }
+        (λ p. (escape (chars text.now) ≡ chunk_text p.0 small_buffer.new ++ escape (chars p.1.now))
+        × (0 < length (chunk_text p.0 small_buffer.new))) }
 {
-    let length = plain_length(text);
+    let length = raw_length(text);
     if length > 0 {
         let (plain, rest) = text.split_at(length);
-        return Some((Run::Plain(plain.as_bytes()), rest));
+        return Some((Chunk::Plain(plain.as_bytes()), rest));
     }
     let mut characters = text.chars();
     let first = characters.next()?;
-    piece.set_escaped(first);
-    Some((Run::Piece, characters.as_str()))
+    small_buffer.set_escaped(first);
+    Some((Chunk::SmallBuffer, characters.as_str()))
 }
 
-/// The bytes of a version's canonical line that are still to be given: those of the run at hand, and what comes
-/// behind it. It takes no memory: it is a place in the version, and at most 32 bytes of the number, time or escape at
-/// hand.
+/// The remaining bytes of a version's canonical line: those of the current run, and what comes after it. It takes no
+/// memory: it holds a position in the version, and at most 32 bytes of the current number, time or escape.
 #[derive(Drop)]
 pub struct LineBytes<'a> {
     version: &'a Version,
-    piece: Piece,
-    run: Run<'a>,
-    next: Next<'a>,
+    small_buffer: SmallBuffer,
+    chunk: Chunk<'a>,
+    next: Continuation<'a>,
 }
 
 impl Version {
     /// The bytes of the canonical OPL line, without a line end.
     pub fn line_bytes(&self) -> LineBytes<'_>
-        ensures bytes { still result ≡ line self.now }
-        ensures runs { behind result ≡ line self.now }
+        ensures bytes { remaining_bytes result ≡ line self.now }
+        ensures runs { after_chunk result ≡ line self.now }
     {
         LineBytes {
             version: self,
-            piece: Piece::new(),
-            run: Run::Piece,
-            next: Next::at(Place::Field(Field::Object)),
+            small_buffer: SmallBuffer::new(),
+            chunk: Chunk::SmallBuffer,
+            next: Continuation::at(Place::Field(Field::Object)),
         }
     }
 }
 
 impl<'a> LineBytes<'a> {
-    /// Lets go what is left of the run at hand, and takes the next run: whether there is one.
+    /// Drops what is left of the current run, takes the next chunk, and returns whether there is one.
     pub fn advance(&mut self) -> bool
         ensures { MatchBool result
-            ((behind self.old ≡ run_of self.new ++ behind self.new) × (0 < length (run_of self.new)))
-            ((behind self.old ≡ []) × (still self.new ≡ [])) }
+            ((after_chunk self.old ≡ chunk_of self.new ++ after_chunk self.new) × (0 < length (chunk_of self.new)))
+            ((after_chunk self.old ≡ []) × (remaining_bytes self.new ≡ [])) }
     {
-        if let Some((run, text)) = give_text(self.next.text, &mut self.piece) {
-            self.run = run;
+        if let Some((chunk, text)) = emit_text(self.next.text, &mut self.small_buffer) {
+            self.chunk = chunk;
             self.next.text = text;
             return true;
         }
-        let Some(next) = give(self.version, self.next.place, &mut self.piece) else {
-            self.run = Run::Plain(&[]);
+        let Some(next) = emit(self.version, self.next.place, &mut self.small_buffer) else {
+            self.chunk = Chunk::Plain(&[]);
             return false;
         };
-        self.run = Run::Piece;
+        self.chunk = Chunk::SmallBuffer;
         self.next = next;
         true
     }
 
-    /// The bytes of the run at hand that are still to be given.
-    pub fn run(&self) -> &[u8]
-        ensures { result.now ≡ run_of self.now }
+    /// The remaining bytes of the current run.
+    pub fn chunk(&self) -> &[u8]
+        ensures { result.now ≡ chunk_of self.now }
     {
-        match self.run {
-            Run::Piece => self.piece.as_slice(),
-            Run::Plain(bytes) => bytes,
+        match self.chunk {
+            Chunk::SmallBuffer => self.small_buffer.as_slice(),
+            Chunk::Plain(bytes) => bytes,
         }
     }
 
-    /// The first byte of the run at hand, which is taken.
+    /// Takes the first byte of the current run.
     fn take(&mut self) -> Option<u8>
-        ensures run { MatchOption result
-            ((run_of self.old ≡ []) × (run_of self.new ≡ []))
-            (λ byte. run_of self.old ≡ byte ∷ run_of self.new) }
-        ensures behind { behind self.new ≡ behind self.old }
+        ensures chunk { MatchOption result
+            ((chunk_of self.old ≡ []) × (chunk_of self.new ≡ []))
+            (λ byte. chunk_of self.old ≡ byte ∷ chunk_of self.new) }
+        ensures behind { after_chunk self.new ≡ after_chunk self.old }
     {
-        match self.run {
-            Run::Piece => self.piece.take(),
-            Run::Plain(bytes) => {
+        match self.chunk {
+            Chunk::SmallBuffer => self.small_buffer.take(),
+            Chunk::Plain(bytes) => {
                 let (first, rest) = bytes.split_first()?;
-                self.run = Run::Plain(rest);
+                self.chunk = Chunk::Plain(rest);
                 Some(*first)
             }
         }
@@ -366,9 +385,9 @@ impl<'a> LineBytes<'a> {
 impl<'a> Iterator for LineBytes<'a> {
     type Item = u8;
 
-    ghost next_gives = { YieldsFirst still };
+    ghost next_gives = { YieldsFirst remaining_bytes };
 
-    ghost remaining = { item_count still };
+    ghost remaining = { item_count remaining_bytes };
 
     fn next(&mut self) -> Option<u8> {
         if let Some(byte) = self.take() {

@@ -13,11 +13,11 @@ use std::marker::Model;
 /// A member of a relation.
 #[derive(Debug, Drop)]
 pub struct Member {
-    /// The kind of the object that is meant.
+    /// The kind of the object that is the member.
     pub kind: Kind,
-    /// The id of the object that is meant.
+    /// The id of the object that is the member.
     pub id: i64,
-    /// What the object is in the relation; may be empty.
+    /// The role of the object in the relation; may be empty.
     pub role: Text,
 }
 
@@ -50,7 +50,7 @@ impl Model for Members {
 }
 
 impl Members {
-    /// The members of a vector, which is taken as it is.
+    /// The members of a vector, which is kept as it is.
     pub fn from_vec(members: Vec<Member>) -> Members
         ensures { result ≡ members.items }
     {

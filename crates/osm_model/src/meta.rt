@@ -1,4 +1,4 @@
-//! What is told of a version beside its object and body.
+//! The metadata of a version: its number and its author.
 ghost use Rattle.std.specs.Prelude.{◌≡◌, [], ◌∷◌, None, IfOk};
 ghost use Rattle.std.specs.List.{list_all};
 ghost use Rattle.osm_model.specs.New.{is_number, is_time, is_dated};
@@ -6,7 +6,7 @@ ghost use Rattle.osm_model.specs.New.{is_number, is_time, is_dated};
 use crate::same::Same;
 use crate::{Memory, Text};
 
-/// The version number of data and its author, in no range yet: `Version::new` tests the ranges.
+/// The version number of data and its author, without ranges: `Version::new` checks the ranges.
 #[derive(Debug, Drop)]
 pub struct Meta {
     /// The version number.
@@ -21,12 +21,12 @@ pub struct Meta {
     pub user: Text,
 }
 
-/// Version numbers, changesets, user ids and times lie below it.
+/// The bound of version numbers, changesets, user ids and times: all are below it.
 const NUMBER_LIMIT: u64 = 1 << 32;
 
 impl Meta {
-    /// No version number, no author and no time, as where nothing is told yet.
-    pub fn nothing() -> Meta
+    /// No version number, no author and no time; a reader fills it.
+    pub fn blank() -> Meta
         ensures { result ≡ record { version = 0; time = None; changeset = 0; uid = 0; user = [] } }
     {
         Meta {

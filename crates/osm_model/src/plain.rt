@@ -1,34 +1,34 @@
 //! Short texts of which each character is written raw.
 //!
 //! Why: such a text is appended to a line by one copy, which takes 0.94 to 0.96 of the time of a merge from o5m to OPL.
-//! Assumes: at most 24 bytes, and that somebody looked at them once (`Text::mark_plain`).
+//! Assumes: at most 24 bytes, which were looked at once (`Text::mark_plain`).
 //! Otherwise: the text is escaped character by character.
 //! Compared by: `a_look_changes_no_text` and `both_writers_write_users_that_are_plain`.
 ghost use Rattle.std.specs.Prelude.{◌≡◌, ◌≤◌, ◌↔◌, length, IsSome, IfSome};
 ghost use Rattle.std.specs.Str.{chars};
 ghost use Rattle.osm_model.specs.Escape.{raw_length, IsPlain};
 
-use crate::escape::plain_length;
+use crate::escape::raw_length;
 use arrayvec::ArrayString;
 
-/// The most bytes of a text that needs no memory of its own: most names of users, keys and values have fewer.
-pub(crate) const SHORT: usize = 24;
+/// The most bytes that a text without memory of its own has: most user names, keys and values have fewer.
+pub(crate) const INLINE_TEXT_BYTES: usize = 24;
 
-/// A short text that stands in a line byte for byte, since each of its characters is written as itself.
+/// A short text that a line has byte for byte, since each of its characters is written as itself.
 #[derive(Debug, Clone, Copy)]
 pub(crate) struct PlainString {
-    string: ArrayString<SHORT>,
+    string: ArrayString<INLINE_TEXT_BYTES>,
     ghost plain: { IsPlain string.bytes },
 }
 
 impl PlainString {
-    /// The string, where each of its characters is written as itself.
-    pub(crate) fn of(string: &ArrayString<SHORT>) -> Option<PlainString>
+    /// The string, if each of its characters is written as itself.
+    pub(crate) fn of(string: &ArrayString<INLINE_TEXT_BYTES>) -> Option<PlainString>
         ensures variant { IsSome result ↔ (raw_length (chars string.now.bytes) ≡ length string.now.bytes) }
         ensures bytes { IfSome result (λ p. p.string.bytes ≡ string.now.bytes) }
     {
         let text = string.as_str();
-        if plain_length(text) != text.len() {
+        if raw_length(text) != text.len() {
             return None;
         }
         Some(PlainString { string: *string })
@@ -44,9 +44,9 @@ impl PlainString {
         self.string.as_str()
     }
 
-    /// The text as a string that may be any.
+    /// The text as a string, without the mark that it is plain.
     #[inline(always)]
-    pub(crate) fn string(&self) -> ArrayString<SHORT>
+    pub(crate) fn string(&self) -> ArrayString<INLINE_TEXT_BYTES>
         ensures { result.bytes ≡ self.now.string.bytes }
     {
         self.string

@@ -1,14 +1,13 @@
-//! Parts of a line, written into `room` before the bytes that are there already.
+//! Parts of a line, written into `room` before the bytes from `end` on.
 //!
-//! Why: a number is written from its last digit on, and the offset where the bytes begin is a parameter and a result,
-//! so it stays in
-//! a register; as a field of a struct it was stored and loaded 25 times for a line.
+//! Why: a number is written from its last digit on. The offset where the bytes begin is a parameter and a result, so it
+//! stays in a register; as a field of a struct it was stored and loaded 25 times for a line.
 //! Assumes: each call has room for the longest form of its part.
-//! Otherwise: nothing; a text that may be longer is appended by `append`.
+//! Otherwise: nothing; `append` appends a text that may be longer.
 //! Compared by: `both_writers_write_one_line` (opl_line).
 ghost use Rattle.std.specs.Prelude.{◌≡◌, ◌++◌, ◌+◌, ◌/◌, ◌%◌, ◌∷◌, ◌≤◌, ◌<◌, ◌^◌, length, drop, replicate};
 ghost use Rattle.std.specs.Option.{ForSome};
-ghost use Rattle.osm_model.specs.Numeral.{numeral, padded};
+ghost use Rattle.osm_model.specs.Numeral.{numeral, pad_zeros};
 ghost use Rattle.osm_model.specs.Decimal.{number_text, sign_text, integer_text};
 ghost use Rattle.osm_model.specs.Coordinate.{fraction_text, coordinate_text};
 ghost use Rattle.osm_model.specs.Time.{date_of, date_text, clock_text, time_text};
@@ -21,7 +20,7 @@ const UNITS_IN_DEGREE: u32 = 10_000_000;
 
 const SECONDS_IN_DAY: u64 = 86_400;
 
-/// One byte.
+/// Writes one byte.
 #[inline(always)]
 pub(crate) fn put_byte(room: &mut [u8], end: usize, byte: u8) -> usize
     requires within { end ≤ length room.old }
@@ -35,7 +34,7 @@ pub(crate) fn put_byte(room: &mut [u8], end: usize, byte: u8) -> usize
     start
 }
 
-/// Some bytes.
+/// Writes `bytes`.
 #[inline(always)]
 pub(crate) fn put(room: &mut [u8], end: usize, bytes: &[u8]) -> usize
     requires within { end ≤ length room.old }
@@ -49,7 +48,7 @@ pub(crate) fn put(room: &mut [u8], end: usize, bytes: &[u8]) -> usize
     start
 }
 
-/// A number in decimal.
+/// Writes a number in decimal.
 #[inline(always)]
 pub(crate) fn put_number(room: &mut [u8], end: usize, number: u64) -> usize
     requires within { end ≤ length room.old }
@@ -62,7 +61,7 @@ pub(crate) fn put_number(room: &mut [u8], end: usize, number: u64) -> usize
     itoa::write_digits(number, room, end)
 }
 
-/// A minus sign, where the integer is below 0.
+/// Writes a minus sign, if the integer is below 0.
 #[inline(always)]
 fn put_sign(room: &mut [u8], end: usize, integer: i64) -> usize
     requires within { end ≤ length room.old }
@@ -79,7 +78,7 @@ fn put_sign(room: &mut [u8], end: usize, integer: i64) -> usize
     }
 }
 
-/// An integer in decimal.
+/// Writes an integer in decimal.
 pub(crate) fn put_integer(room: &mut [u8], end: usize, integer: i64) -> usize
     requires within { end ≤ length room.old }
     requires fits { 21 ≤ end }
@@ -92,7 +91,7 @@ pub(crate) fn put_integer(room: &mut [u8], end: usize, integer: i64) -> usize
     put_sign(room, digits, integer)
 }
 
-/// A coordinate in units of 10^-7 degree.
+/// Writes a coordinate in units of 10^-7 degree.
 pub(crate) fn put_coordinate(room: &mut [u8], end: usize, units: i32) -> usize
     requires within { end ≤ length room.old }
     requires fits { 29 ≤ end }
@@ -107,7 +106,7 @@ pub(crate) fn put_coordinate(room: &mut [u8], end: usize, units: i32) -> usize
     put_sign(room, degrees, i64::from(units))
 }
 
-/// The point and the decimals of a part of a degree, or nothing where it is 0. Most have all seven decimals.
+/// Writes the point and the decimals of a part of a degree, or nothing if the part is 0. Most have all seven decimals.
 #[inline(always)]
 fn put_fraction(room: &mut [u8], end: usize, units: u32) -> usize
     requires within { end ≤ length room.old }
@@ -127,13 +126,13 @@ fn put_fraction(room: &mut [u8], end: usize, units: u32) -> usize
     put_fewer_decimals(room, end, units)
 }
 
-/// The point and seven decimals.
+/// Writes the point and seven decimals.
 #[inline(always)]
 fn put_seven_decimals(room: &mut [u8], end: usize, units: u32) -> usize
     requires within { end ≤ length room.old }
     requires fits { 8 ≤ end }
     requires part { units < 10_000_000 }
-    ensures written { drop result room.new ≡ 46 ∷ padded 7 (number_text units) ++ drop end room.old }
+    ensures written { drop result room.new ≡ 46 ∷ pad_zeros 7 (number_text units) ++ drop end room.old }
     ensures start { result + 8 ≡ end }
     ensures size { length room.new ≡ length room.old }
 {
@@ -154,7 +153,7 @@ fn put_seven_decimals(room: &mut [u8], end: usize, units: u32) -> usize
     put(room, end, &decimals)
 }
 
-/// The point and the decimals of a part of a degree whose last decimals are zeros, which are left out.
+/// Writes the point and the decimals of a part of a degree without the zeros at their end.
 fn put_fewer_decimals(room: &mut [u8], end: usize, units: u32) -> usize
     requires within { end ≤ length room.old }
     requires fits { 20 ≤ end }
@@ -175,14 +174,14 @@ fn put_fewer_decimals(room: &mut [u8], end: usize, units: u32) -> usize
     put_byte(room, decimals, b'.')
 }
 
-/// A number in decimal with zeros in front up to a width.
+/// Writes a number in decimal, with zeros before it up to `width`.
 fn put_padded(room: &mut [u8], end: usize, number: u64, width: usize) -> usize
     requires within { end ≤ length room.old }
     requires room { 20 ≤ end }
     requires some { 0 < width }
     requires narrow { width ≤ 20 }
     requires fits { number < 10 ^ width }
-    ensures written { drop result room.new ≡ padded width (number_text number) ++ drop end room.old }
+    ensures written { drop result room.new ≡ pad_zeros width (number_text number) ++ drop end room.old }
     ensures start { result + width ≡ end }
     ensures size { length room.new ≡ length room.old }
 {
@@ -190,7 +189,7 @@ fn put_padded(room: &mut [u8], end: usize, number: u64, width: usize) -> usize
     put_zeros(room, digits, width - (end - digits))
 }
 
-/// That many zeros.
+/// Writes `count` zeros.
 pub(crate) fn put_zeros(room: &mut [u8], end: usize, count: usize) -> usize
     requires within { end ≤ length room.old }
     requires fits { count ≤ end }
@@ -205,7 +204,7 @@ pub(crate) fn put_zeros(room: &mut [u8], end: usize, count: usize) -> usize
     start
 }
 
-/// `yyyy-mm-ddThh:mm:ssZ`, or nothing where there is no time.
+/// Writes `yyyy-mm-ddThh:mm:ssZ`, or nothing if there is no time.
 #[inline(always)]
 pub(crate) fn put_time(room: &mut [u8], end: usize, time: Option<u64>) -> usize
     requires within { end ≤ length room.old }
@@ -225,7 +224,7 @@ pub(crate) fn put_time(room: &mut [u8], end: usize, time: Option<u64>) -> usize
     put_date(room, mark, (seconds / SECONDS_IN_DAY) as u16)
 }
 
-/// The date that many days after 1970-01-01.
+/// Writes the date that comes `day` days after 1970-01-01.
 #[inline(always)]
 fn put_date(room: &mut [u8], end: usize, day: u16) -> usize
     requires within { end ≤ length room.old }
@@ -252,7 +251,7 @@ fn put_date(room: &mut [u8], end: usize, day: u16) -> usize
     put(room, end, &text)
 }
 
-/// A second of the day as `hh:mm:ss`.
+/// Writes a second of the day as `hh:mm:ss`.
 #[inline(always)]
 fn put_clock(room: &mut [u8], end: usize, second: u32) -> usize
     requires within { end ≤ length room.old }
@@ -278,7 +277,7 @@ fn put_clock(room: &mut [u8], end: usize, second: u32) -> usize
     put(room, end, &text)
 }
 
-/// A number in hexadecimal.
+/// Writes a number in hexadecimal.
 pub(crate) fn put_hex(room: &mut [u8], end: usize, number: u32) -> usize
     requires within { end ≤ length room.old }
     requires fits { 8 ≤ end }
@@ -296,7 +295,7 @@ pub(crate) fn put_hex(room: &mut [u8], end: usize, number: u32) -> usize
     put_byte(room, start, hex_digit(rest))
 }
 
-/// The two digits of each number below 100, one number after the other.
+/// The two digits of each number below 100, in sequence.
 static PAIRS: [u8; 200] = *b"\
     00010203040506070809101112131415161718192021222324\
     25262728293031323334353637383940414243444546474849\

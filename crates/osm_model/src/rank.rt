@@ -4,21 +4,21 @@ ghost use Rattle.osm_model.specs.Rank.{rank_of};
 
 use crate::Version;
 
-/// From here on a rank doesn't tell ids apart.
-const FAR: u64 = (1 << 45) - 1;
+/// From this absolute value on, a rank doesn't distinguish ids.
+const RANKED_ID_LIMIT: u64 = (1 << 45) - 1;
 
-/// From here on a rank doesn't tell version numbers apart.
-const LATE: u64 = (1 << 16) - 1;
+/// From this number on, a rank doesn't distinguish version numbers.
+const RANKED_NUMBER_LIMIT: u64 = (1 << 16) - 1;
 
-/// The rank of a version. Ranks decide nearly all comparisons of versions without a look at their data: a version of a
-/// lower rank is less. Two versions of one rank can differ. Ranks compare as numbers, in one comparison.
+/// The rank of a version. A version of a lower rank is less, so ranks decide nearly all comparisons of versions without
+/// a look at their data. Two versions of one rank can differ. Ranks compare as numbers, in one comparison.
 #[derive(Clone, Copy, Debug, PartialEq, Eq, PartialOrd, Ord)]
 pub struct Rank {
     value: u64,
 }
 
 impl Version {
-    /// The rank: the kind, the sign and the absolute value of the id, and the version number, as far as one word holds
+    /// The rank: the kind, the sign and the absolute value of the id, and the version number, as far as 64 bits hold
     /// them.
     #[inline(always)]
     pub fn rank(&self) -> Rank
@@ -27,10 +27,10 @@ impl Version {
         let id = self.id();
         let class = 2 * u64::from(self.kind().rank()) + u64::from(id > 0);
         let size = id.unsigned_abs();
-        let value = if size < FAR {
-            (((class << 45) + size) << 16) + self.number().min(LATE)
+        let value = if size < RANKED_ID_LIMIT {
+            (((class << 45) + size) << 16) + self.number().min(RANKED_NUMBER_LIMIT)
         } else {
-            ((class << 45) + FAR) << 16
+            ((class << 45) + RANKED_ID_LIMIT) << 16
         };
         Rank { value }
     }

@@ -1,9 +1,9 @@
 //! Versions with their ranks.
 //!
-//! Why: versions are apart in memory, and ranks are beside each other: a sort of lines in any order takes 0.62 to 0.73
-//! of the time.
+//! Why: versions are scattered in memory, and ranks are adjacent: a sort of lines in any order takes 0.62 to 0.73 of
+//! the time.
 //! Assumes: the rank is that of the version, which is an invariant of `Ranked`.
-//! Otherwise: where two ranks are equal, the versions are compared.
+//! Otherwise: if two ranks are equal, the versions are compared.
 //! Compared by: `versions_with_ranks_are_ordered`.
 ghost use Rattle.std.specs.Prelude.{◌≡◌, refl, IfOk};
 ghost use Rattle.std.specs.Ordering.{eq_by_cmp, as_partial_cmp};
@@ -16,11 +16,10 @@ use std::cmp::Ordering;
 use std::marker::Model;
 
 impl Version {
-    /// The order of two versions of which it isn't known that they differ, as of two of one rank: nearly always they
-    /// are equal,
-    /// which is looked at first.
+    /// The order of two versions that may be equal, such as two of one rank. Nearly always they are equal, so equality
+    /// is tested first.
     #[inline(always)]
-    pub(crate) fn cmp_closely(&self, other: &Version) -> Ordering
+    pub(crate) fn cmp_equal_first(&self, other: &Version) -> Ordering
         ensures { result ≡ version_cmp self.now other.now }
     {
         if self == other {
@@ -31,9 +30,8 @@ impl Version {
     }
 }
 
-/// A version, and beside it its rank, by which nearly all comparisons are decided without a look at the version, which
-/// lies
-/// elsewhere in memory. Contracts see the version.
+/// A version with its rank. The rank decides nearly all comparisons without a look at the version, which is elsewhere
+/// in memory. Contracts see the version.
 #[derive(Debug, Drop)]
 pub struct Ranked {
     rank: Rank,
@@ -72,7 +70,7 @@ impl Ranked {
         &self.version
     }
 
-    /// The version alone.
+    /// The version without its rank.
     #[inline(always)]
     pub fn into_version(self) -> Version
         ensures { result ≡ self }
@@ -117,7 +115,7 @@ impl Ord for Ranked {
     #[inline(always)]
     fn cmp(&self, other: &Ranked) -> Ordering {
         match self.rank.cmp(&other.rank) {
-            Ordering::Equal => self.version.cmp_closely(&other.version),
+            Ordering::Equal => self.version.cmp_equal_first(&other.version),
             by_rank => by_rank,
         }
     }

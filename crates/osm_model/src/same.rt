@@ -1,4 +1,4 @@
-//! Equal data, found without a look at the order.
+//! Tests of equality that don't use the order.
 ghost use Rattle.std.specs.Prelude.{◌≡◌, ◌↔◌, IsTrue};
 
 /// Values that can be tested for equality.

@@ -3,7 +3,7 @@
 //! Why: to allocate and free a block costs as much as to read three numbers, and a merge drops one version for each
 //! that it reads.
 //! Assumes: nothing about the memory; a version made in it has the same data as one made in new memory.
-//! Otherwise: where no version was given back, new memory is allocated.
+//! Otherwise: if no version was given back, new memory is allocated.
 //! Compared by: `memory_of_a_version_is_used_again`.
 ghost use Rattle.std.specs.Prelude.{◌≡◌, []};
 
@@ -12,9 +12,8 @@ use std::alloc::Global;
 use std::marker::Model;
 use std::mem;
 
-/// A version that isn't needed any more, and its lists, emptied. A reader that is given one back asks for no memory for
-/// the
-/// next.
+/// A version that isn't needed any more, and its lists, emptied. A reader that gets one back allocates nothing for the
+/// next version.
 #[derive(Drop)]
 pub struct Spare {
     version: Option<Version>,
@@ -23,7 +22,7 @@ pub struct Spare {
     tags: Vec<Tag>,
 }
 
-/// What is made in memory that was used before is what it would be in any, so contracts see nothing of it.
+/// A version made in used memory equals one made in new memory, so contracts see nothing of a `Spare`.
 impl Model for Spare {
     ghost Value = { Unit {0} };
 
@@ -41,7 +40,7 @@ impl Spare {
         }
     }
 
-    /// Takes a version that isn't needed any more.
+    /// Keeps a version that isn't needed any more.
     #[inline(always)]
     pub fn put(&mut self, mut version: Version) {
         if version.body().has_memory() {
@@ -50,7 +49,7 @@ impl Spare {
         self.version = Some(version);
     }
 
-    /// Takes the lists of a version.
+    /// Keeps the lists of a version.
     #[inline(never)]
     fn put_lists(&mut self, version: &mut Version) {
         match version.take_body() {
@@ -73,7 +72,7 @@ impl Spare {
         self.version.take()
     }
 
-    /// A list of references without any.
+    /// An empty list of references.
     #[inline(always)]
     pub fn take_references(&mut self) -> Vec<i64>
         ensures { result.items ≡ [] }
@@ -81,7 +80,7 @@ impl Spare {
         take(&mut self.references)
     }
 
-    /// A list of members without any.
+    /// An empty list of members.
     #[inline(always)]
     pub fn take_members(&mut self) -> Vec<Member>
         ensures { result.items ≡ [] }
@@ -89,7 +88,7 @@ impl Spare {
         take(&mut self.members)
     }
 
-    /// A list of tags without any.
+    /// An empty list of tags.
     #[inline(always)]
     pub fn take_tags(&mut self) -> Vec<Tag>
         ensures { result.items ≡ [] }
@@ -98,7 +97,7 @@ impl Spare {
     }
 }
 
-/// Puts a list in the place of another, if it has room.
+/// Replaces `kept` by `list`, if `list` has room.
 #[inline(always)]
 fn keep<T: Drop>(kept: &mut Vec<T>, list: Vec<T>) {
     if list.capacity() > 0 {

@@ -5,7 +5,7 @@ ghost use Rattle.std.specs.Ordering.{eq_by_cmp, as_partial_cmp};
 ghost use Rattle.std.specs.Cmp.{eq_by_cmp_equiv, partial_equiv_from_equiv, partial_order_from_agreeing_total};
 ghost use Rattle.std.specs.List.{list_all};
 ghost use Rattle.osm_model.specs.Text.{is_text};
-ghost use Rattle.osm_model.specs.Tags.{tag_cmp, tag_cmp_total, normal, texts_of_tags};
+ghost use Rattle.osm_model.specs.Tags.{tag_cmp, tag_cmp_total, normal_tags, texts_of_tags};
 
 use crate::same::{Same, are_same};
 use crate::{Memory, Text};
@@ -89,7 +89,7 @@ impl Model for Tags {
 }
 
 impl Tags {
-    /// The tags of a vector, which is taken as it is.
+    /// The tags of a vector, which is kept as it is.
     pub fn from_vec(tags: Vec<Tag>) -> Tags
         ensures { result ≡ tags.items }
     {
@@ -119,31 +119,31 @@ impl Tags {
         self.tags.capacity() > 0
     }
 
-    /// Puts the tags in ascending order, by the bytes of the key and then of the value, each once. It takes no memory.
+    /// Sorts the tags by the bytes of the key and then of the value, and drops repeats. It takes no memory.
     #[inline(always)]
     pub(crate) fn normalize(&mut self)
-        ensures { self.new ≡ normal self.old }
+        ensures { self.new ≡ normal_tags self.old }
     {
         if !self.are_normal() {
             self.sort();
         }
     }
 
-    /// Puts the tags in ascending order, each once, whatever their order was.
+    /// Sorts the tags and drops repeats, for any order.
     #[cold]
     #[inline(never)]
     fn sort(&mut self)
-        ensures { self.new ≡ normal self.old }
+        ensures { self.new ≡ normal_tags self.old }
     {
         self.tags.sort_unstable();
         self.tags.dedup();
     }
 
-    /// Whether each tag stands below the next one. A tag alone does.
+    /// Whether each tag is below the next one. This holds for a single tag.
     #[tactic(auto, using(crate::proofs::TagLaws::few_normal))]
     #[inline(always)]
     pub(crate) fn are_normal(&self) -> bool
-        ensures { IsTrue result ↔ (normal self.now ≡ self.now) }
+        ensures { IsTrue result ↔ (normal_tags self.now ≡ self.now) }
     {
         self.tags.len() < 2 || are_ascending(&self.tags)
     }
@@ -169,10 +169,10 @@ impl Tags {
     }
 }
 
-/// Whether each tag stands below the next one.
+/// Whether each tag is below the next one.
 #[inline(never)]
 fn are_ascending(tags: &[Tag]) -> bool
-    ensures { IsTrue result ↔ (normal tags.now ≡ tags.now) }
+    ensures { IsTrue result ↔ (normal_tags tags.now ≡ tags.now) }
 {
     tags.is_sorted_by(|left, right| left.cmp(right).is_lt())
 }

@@ -2,7 +2,7 @@
 use crate::version::first_fault;
 use crate::{
     Body, History, Kind, Member, Members, Memory, Meta, Parts, Rank, Ranked, References, Spare,
-    Tag, Tags, Text, ValueFault, Version, behind_escaped, is_id,
+    Tag, Tags, Text, ValueFault, Version, is_id, strip_escaped,
 };
 use std::alloc::{AllocError, Global};
 use std::cmp::Ordering;
@@ -179,9 +179,9 @@ fn texts_grow(rt: HostRuntime) -> Result<(), Fail> {
 
 #[test]
 fn characters_are_known_again(rt: HostRuntime) {
-    assert_eq!(rt; behind_escaped(b"%20%x", ' '), Some(b"x".as_slice()));
-    assert_eq!(rt; behind_escaped(b"ab", 'a'), Some(b"b".as_slice()));
-    assert!(rt; behind_escaped(b"%2C%", ',').is_none());
+    assert_eq!(rt; strip_escaped(b"%20%x", ' '), Some(b"x".as_slice()));
+    assert_eq!(rt; strip_escaped(b"ab", 'a'), Some(b"b".as_slice()));
+    assert!(rt; strip_escaped(b"%2C%", ',').is_none());
 }
 
 #[test]
@@ -209,9 +209,9 @@ fn texts_of_any_length(rt: HostRuntime) -> Result<(), Fail> {
 #[test]
 fn sound_data(rt: HostRuntime) -> Result<(), Fail> {
     let alloc = rt.alloc();
-    let mut meta = Meta::nothing();
+    let mut meta = Meta::blank();
     meta.version = 2;
-    let sound = Version::of_sound_data(
+    let sound = Version::from_checked_data(
         alloc,
         &mut Spare::new(alloc),
         7,
@@ -238,7 +238,7 @@ fn memory_of_a_version_is_used_again(rt: HostRuntime) -> Result<(), Fail> {
     let (lon, lat) = (-5, 6);
     let (meta, body) = (number(alloc, 1), Body::Node { lon, lat, tags });
     assert!(rt; first_fault(9, &meta, &body).is_none());
-    let node = Version::of_sound_data(alloc, &mut spare, 9, meta, body)?;
+    let node = Version::from_checked_data(alloc, &mut spare, 9, meta, body)?;
     assert!(rt; spare.take_references().capacity() >= 3);
     let tags = Tags::from_vec(vec![in alloc; tag(alloc, "e", "f")?]?);
     let same = Version::new(alloc, 9, number(alloc, 1), Body::Node { lon, lat, tags })?;
@@ -250,18 +250,18 @@ fn memory_of_a_version_is_used_again(rt: HostRuntime) -> Result<(), Fail> {
 fn parts_are_filled_in_place(rt: HostRuntime) -> Result<(), Fail> {
     let alloc = rt.alloc();
     let name = Text::from_str(alloc, "a name that is longer than 24 bytes")?;
-    let mut parts = Parts::to_fill(alloc, &mut Spare::new(alloc))?;
+    let mut parts = Parts::recycled_or_new(alloc, &mut Spare::new(alloc))?;
     parts.id = 7;
     parts.meta.version = 2;
     parts.meta.time = Some(9);
-    name.copy_to(&mut parts.meta.user)?;
-    name.copy_to(&mut parts.meta.user)?;
+    name.copy_into(&mut parts.meta.user)?;
+    name.copy_into(&mut parts.meta.user)?;
     let refs = References::from_vec(vec![in alloc; 3, -1]?);
     let tags = no_tags(alloc);
     parts.body.replace(Body::Way { refs, tags });
     parts.body.replace(Body::Deleted(Kind::Way));
     assert!(rt; first_fault(parts.id, &parts.meta, &parts.body).is_none());
-    let way = Version::of_sound_parts(parts);
+    let way = Version::from_checked_parts(parts);
     assert_eq!(rt; way.user().as_str(), name.as_str());
     let mut meta = number(alloc, 2);
     meta.time = Some(9);
@@ -416,9 +416,9 @@ fn a_line_is_given_in_runs(rt: HostRuntime) -> Result<(), Fail> {
     let v = deleted(rt.alloc(), Kind::Way, 1)?;
     let mut bytes = v.line_bytes();
     assert!(rt; bytes.advance());
-    assert_eq!(rt; bytes.run(), b"w1".as_slice());
+    assert_eq!(rt; bytes.chunk(), b"w1".as_slice());
     assert!(rt; bytes.advance());
-    assert_eq!(rt; bytes.run(), b" v1".as_slice());
+    assert_eq!(rt; bytes.chunk(), b" v1".as_slice());
     Ok(())
 }
 
@@ -492,14 +492,14 @@ fn ascending(alloc: Global) -> Result<Vec<Version>, Fail> {
     Ok(versions)
 }
 
-/// Whether every comparison of two versions answers this order.
+/// Whether every comparison of two versions returns `order`.
 fn compare(left: &Version, right: &Version, order: Ordering) -> bool {
     left.cmp(right) == order
         && (left == right) == order.is_eq()
         && left.partial_cmp(right) == Some(order)
 }
 
-/// Comparisons take no memory: with each allocation refused behind those that make the versions this test passes too.
+/// Comparisons take no memory: the test also passes if each allocation after those that make the versions is refused.
 #[test]
 fn versions_are_ordered(rt: HostRuntime) -> Result<(), Fail> {
     let versions = ascending(rt.alloc())?;
@@ -516,7 +516,7 @@ fn rank(alloc: Global, (id, version): (i64, u64)) -> Result<Rank, Fail> {
     Ok(node(alloc, id, version, 0, 0)?.rank())
 }
 
-/// Whether every comparison of two ranks has this order.
+/// Whether every comparison of two ranks returns `order`.
 fn compare_ranks(left: Rank, right: Rank, order: Ordering) -> bool {
     left.cmp(&right) == order && (left < right) == order.is_lt() && (left == right) == order.is_eq()
 }
@@ -529,7 +529,7 @@ fn versions_have_ranks(rt: HostRuntime) -> Result<(), Fail> {
         ((-3, 2), (1, 1), Ordering::Less),
         ((3, 2), (4, 1), Ordering::Less),
         ((3, 3), (3, 2), Ordering::Greater),
-        // of an id that is too far, or a number that is too late, a rank tells nothing
+        // ranks don't distinguish ids that are too far, nor numbers that are too late
         ((1 << 45, 2), (1 << 46, 1), Ordering::Equal),
         ((3, 1 << 16), (3, 1 << 17), Ordering::Equal),
     ] {
@@ -558,7 +558,7 @@ fn versions_with_ranks_are_ordered(rt: HostRuntime) -> Result<(), Fail> {
         for (j, right) in versions.iter().enumerate() {
             assert_eq!(rt; left.cmp(right), i.cmp(&j));
             assert_eq!(rt; left == right, i == j);
-            assert_eq!(rt; left.version().cmp_closely(right.version()), i.cmp(&j));
+            assert_eq!(rt; left.version().cmp_equal_first(right.version()), i.cmp(&j));
         }
     }
     Ok(())

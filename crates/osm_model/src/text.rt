@@ -4,32 +4,32 @@ ghost use Rattle.std.specs.Prelude.{length, encode_utf8_all, string_bytes};
 ghost use Rattle.std.specs.Bool.{OnFalse};
 ghost use Rattle.std.specs.Str.{chars};
 ghost use Rattle.osm_model.specs.Escape.{escape};
-ghost use Rattle.osm_model.specs.Storage.{bytes_of, is_apart};
+ghost use Rattle.osm_model.specs.Storage.{bytes_of, is_heap};
 ghost use Rattle.osm_model.specs.Text.{is_text, is_empty};
 
 use crate::Memory;
-use crate::plain::{PlainString, SHORT};
+use crate::plain::{INLINE_TEXT_BYTES, PlainString};
 use crate::same::Same;
 use arrayvec::ArrayString;
 use std::alloc::Global;
 use std::marker::Model;
 use std::mem;
 
-/// A text, which contracts see as the list of its characters. A short one lies in the value itself.
+/// A text, which contracts see as the list of its characters. The value itself holds the bytes of a short text.
 #[derive(Debug, Drop)]
 pub struct Text {
     storage: Storage,
 }
 
-/// Where the bytes of a text lie.
+/// The storage of the bytes of a text.
 #[derive(Debug, Drop)]
 enum Storage {
-    /// In the value itself, and each character is written as itself in a line.
-    Plain(PlainString),
-    /// In the value itself, and nothing more is known of the characters.
-    Within(ArrayString<SHORT>),
+    /// In the value itself; each character is written as itself in a line.
+    InlineRaw(PlainString),
+    /// In the value itself; it isn't known whether each character is written as itself.
+    Inline(ArrayString<INLINE_TEXT_BYTES>),
     /// In memory of their own.
-    Apart(String),
+    Heap(String),
 }
 
 impl Storage {
@@ -37,12 +37,12 @@ impl Storage {
     #[inline(always)]
     fn as_str(&self) -> &str
         ensures bytes { result.now ≡ bytes_of self.now }
-        ensures short { OnFalse (is_apart self.now) (length result.now ≤ 24) }
+        ensures short { OnFalse (is_heap self.now) (length result.now ≤ 24) }
     {
         match self {
-            Storage::Plain(plain) => plain.as_str(),
-            Storage::Within(string) => string.as_str(),
-            Storage::Apart(string) => string.as_str(),
+            Storage::InlineRaw(plain) => plain.as_str(),
+            Storage::Inline(string) => string.as_str(),
+            Storage::Heap(string) => string.as_str(),
         }
     }
 
@@ -52,9 +52,9 @@ impl Storage {
         ensures { IfOk result (λ p. bytes_of p ≡ bytes_of self.now) }
     {
         match self {
-            Storage::Plain(plain) => Ok(Storage::Plain(*plain)),
-            Storage::Within(string) => Ok(Storage::Within(*string)),
-            Storage::Apart(string) => Ok(Storage::Apart(copy_apart(string)?)),
+            Storage::InlineRaw(plain) => Ok(Storage::InlineRaw(*plain)),
+            Storage::Inline(string) => Ok(Storage::Inline(*string)),
+            Storage::Heap(string) => Ok(Storage::Heap(copy_heap(string)?)),
         }
     }
 
@@ -64,32 +64,32 @@ impl Storage {
         ensures kept { OnErr result (bytes_of self.new ≡ bytes_of self.old) }
     {
         match self {
-            Storage::Plain(plain) => {
+            Storage::InlineRaw(plain) => {
                 let text = plain.as_str();
                 let mut string = plain.string();
                 if string.try_push_str(characters).is_ok() {
-                    *self = Storage::Within(string);
+                    *self = Storage::Inline(string);
                 } else {
-                    *self = Storage::Apart(joined(alloc, text, characters)?);
+                    *self = Storage::Heap(concat(alloc, text, characters)?);
                 }
                 Ok(())
             }
-            Storage::Within(string) => {
+            Storage::Inline(string) => {
                 let within = string.as_str();
-                if within.len() + characters.len() <= SHORT {
+                if within.len() + characters.len() <= INLINE_TEXT_BYTES {
                     string.push_str(characters);
                 } else {
-                    *self = Storage::Apart(joined(alloc, within, characters)?);
+                    *self = Storage::Heap(concat(alloc, within, characters)?);
                 }
                 Ok(())
             }
-            Storage::Apart(string) => Ok(string.push_str(characters)?),
+            Storage::Heap(string) => Ok(string.push_str(characters)?),
         }
     }
 }
 
-/// Characters and more characters behind them, in memory of their own.
-fn joined(alloc: Global, characters: &str, more: &str) -> Result<String, Memory>
+/// `characters` and then `more`, in memory of their own.
+fn concat(alloc: Global, characters: &str, more: &str) -> Result<String, Memory>
     ensures { IfOk result (λ s. string_bytes s ≡ characters.now ++ more.now) }
 {
     let mut string = String::with_capacity(alloc, characters.len() + more.len())?;
@@ -98,9 +98,9 @@ fn joined(alloc: Global, characters: &str, more: &str) -> Result<String, Memory>
     Ok(string)
 }
 
-/// A copy of bytes in memory of their own, out of the way of short texts.
+/// A copy of bytes in memory of their own. It isn't inlined, to keep the code that copies short texts small.
 #[inline(never)]
-fn copy_apart(string: &String) -> Result<String, Memory>
+fn copy_heap(string: &String) -> Result<String, Memory>
     ensures { IfOk result (λ copy. string_bytes copy ≡ string_bytes string.now) }
 {
     Ok(string.clone()?)
@@ -122,7 +122,7 @@ impl Text {
         ensures { result ≡ [] }
     {
         Text {
-            storage: Storage::Within(ArrayString::new()),
+            storage: Storage::Inline(ArrayString::new()),
         }
     }
 
@@ -130,35 +130,35 @@ impl Text {
     ///
     /// # Errors
     ///
-    /// For want of memory alone.
+    /// Only out of memory.
     pub fn from_str(alloc: Global, characters: &str) -> Result<Text, Memory>
         ensures bytes { IfOk result (λ t. encode_utf8_all t ≡ characters.now) }
         ensures characters { IfOk result (λ t. t ≡ chars characters.now) }
     {
         match ArrayString::from(characters) {
             Ok(string) => Ok(Text {
-                storage: Storage::Within(string),
+                storage: Storage::Inline(string),
             }),
             Err(_) => Ok(Text::from_string(String::from_str(alloc, characters)?)),
         }
     }
 
-    /// The text of a string, which is taken as it is.
+    /// The text of a string, which is kept as it is.
     pub fn from_string(string: String) -> Text
         ensures bytes { encode_utf8_all result ≡ string_bytes string }
         ensures characters { result ≡ chars (string_bytes string) }
     {
         Text {
-            storage: Storage::Apart(string),
+            storage: Storage::Heap(string),
         }
     }
 
-    /// The string of the text, where it has one. The string is moved, so no memory is taken. A text has a string if
+    /// The string of the text, if it has one. The string is moved, so no memory is taken. A text has a string if
     /// [`Text::from_string`] made it, or if it has more than 24 bytes.
     ///
     /// # Errors
     ///
-    /// The text itself, where its bytes lie in the value. It has at most 24 bytes then.
+    /// The text itself, if the value itself holds its bytes. The text then has at most 24 bytes.
     pub fn try_into_string(self) -> Result<String, Text>
         ensures bytes { IfOk result (λ s. string_bytes s ≡ encode_utf8_all self) }
         ensures text { IfErr result (λ t. t ≡ self) }
@@ -166,16 +166,16 @@ impl Text {
     {
         let _bytes = self.storage.as_str();
         match self.storage {
-            Storage::Apart(string) => Ok(string),
+            Storage::Heap(string) => Ok(string),
             storage => Err(Text { storage }),
         }
     }
 
-    /// Appends characters, which are copied. After an error the text is as it was.
+    /// Appends characters, which are copied. After an error the text is unchanged.
     ///
     /// # Errors
     ///
-    /// For want of memory alone.
+    /// Only out of memory.
     pub fn push_str(&mut self, alloc: Global, characters: &str) -> Result<(), Memory>
         ensures appended { OnOk result (self.new ≡ self.old ++ chars characters.now) }
         ensures kept { OnErr result (self.new ≡ self.old) }
@@ -183,29 +183,27 @@ impl Text {
         self.storage.push_str(alloc, characters)
     }
 
-    /// Finds out whether the text is plain, and keeps the answer: whether it lies in the value itself, and each of its
-    /// characters
-    /// is written as itself in a line. A text known to be plain, and each copy of it, is written without another look.
-    /// Takes no
-    /// memory.
+    /// Tests whether the text is plain, and keeps the result. A text is plain if the value itself holds its bytes and
+    /// each of its characters is written as itself in a line. A text that is known to be plain, and each copy of it, is
+    /// written without another look. Takes no memory.
     pub fn mark_plain(&mut self)
         ensures { self.new ≡ self.old }
     {
-        if let Storage::Within(string) = &self.storage {
+        if let Storage::Inline(string) = &self.storage {
             if let Some(plain) = PlainString::of(string) {
-                self.storage = Storage::Plain(plain);
+                self.storage = Storage::InlineRaw(plain);
             }
         }
     }
 
-    /// The bytes of the text in a line, where it is known to be plain.
+    /// The bytes of the text in a line, if it is known to be plain.
     #[inline(always)]
     pub(crate) fn plain(&self) -> Option<&[u8]>
         ensures text { IfSome result (λ bytes. bytes.now ≡ escape self.now) }
         ensures short { IfSome result (λ bytes. length bytes.now ≤ 24) }
     {
         match &self.storage {
-            Storage::Plain(plain) => Some(plain.as_str().as_bytes()),
+            Storage::InlineRaw(plain) => Some(plain.as_str().as_bytes()),
             _ => None,
         }
     }
@@ -229,7 +227,8 @@ impl Text {
         })
     }
 
-    /// Replaces the text. It is the assignment `*self = text`, fast where the old text holds no memory of its own.
+    /// Replaces the text. This is the assignment `*self = text`; it is fast where the old text holds no memory of its
+    /// own.
     #[inline(always)]
     pub fn replace(&mut self, text: Text)
         ensures { self.new ≡ text }
@@ -249,31 +248,32 @@ impl Text {
         *self = Text::new();
     }
 
-    /// Replaces another text by an equal one, as [`Text::replace`] does.
+    /// Replaces the text `place` by an equal one, as [`Text::replace`] does.
     ///
     /// # Errors
     ///
-    /// For want of memory alone.
+    /// Only out of memory.
     #[inline(always)]
-    pub fn copy_to(&self, place: &mut Text) -> Result<(), Memory>
+    pub fn copy_into(&self, place: &mut Text) -> Result<(), Memory>
         ensures { OnOk result (place.new ≡ self.now) }
     {
         match (&self.storage, &mut place.storage) {
-            (Storage::Plain(plain), Storage::Plain(own)) => {
+            (Storage::InlineRaw(plain), Storage::InlineRaw(own)) => {
                 *own = *plain;
                 Ok(())
             }
-            (Storage::Within(string), Storage::Within(own)) => {
+            (Storage::Inline(string), Storage::Inline(own)) => {
                 *own = *string;
                 Ok(())
             }
-            _ => self.copy_anew_to(place),
+            _ => self.overwrite_with_copy(place),
         }
     }
 
-    /// Replaces another text by an equal one, where they don't both lie in the value itself and in one way.
+    /// Replaces the text `place` by a new copy: the case in which the two aren't both stored in the value itself in one
+    /// way.
     #[inline(never)]
-    fn copy_anew_to(&self, place: &mut Text) -> Result<(), Memory>
+    fn overwrite_with_copy(&self, place: &mut Text) -> Result<(), Memory>
         ensures { OnOk result (place.new ≡ self.now) }
     {
         place.replace(self.copy()?);
@@ -286,7 +286,7 @@ impl Text {
         ensures { OnFalse result (length (encode_utf8_all self.now) ≤ 24) }
     {
         let _bytes = self.storage.as_str();
-        matches!(self.storage, Storage::Apart(_))
+        matches!(self.storage, Storage::Heap(_))
     }
 
     /// Whether the text has no character.

@@ -26,20 +26,20 @@ use std::mem;
 /// of the id), their numbers, their times with none as 0, visible ones before deleted ones, and the bytes of their
 /// canonical lines. Only equal versions tie. Comparisons take no memory.
 ///
-/// A version is a pointer to its parts, so that it moves at the cost of a word.
+/// A version is a pointer to its parts, so a move copies one word.
 #[derive(Debug, Drop)]
 pub struct Version {
     parts: Box<Parts>,
 }
 
-/// What a version holds, or is to hold: a reader fills the parts of the next version one by one, each in its place.
+/// The parts of a version. A reader fills the parts of the next version one by one, in place.
 #[derive(Debug, Drop)]
 pub struct Parts {
     /// The id of the object.
     pub id: i64,
-    /// The kind of the body, which comparisons ask for.
+    /// The kind of the body, which comparisons read.
     kind: Kind,
-    /// What is told beside the object and its body.
+    /// The metadata.
     pub meta: Meta,
     /// The body.
     pub body: Body,
@@ -82,26 +82,25 @@ pub(crate) fn first_fault(id: i64, meta: &Meta, body: &Body) -> Option<ValueFaul
 }
 
 impl Parts {
-    /// Parts to be filled, in memory of a version that isn't needed any more, or else in new memory. Their body has no
-    /// ids and no
-    /// texts, and their user name has at most 24 bytes: neither holds memory of its own.
+    /// Parts to fill, in the memory of a version that isn't needed any more, or else in new memory. Their body has no
+    /// ids and no texts, and their user name has at most 24 bytes: neither holds memory of its own.
     ///
     /// # Errors
     ///
-    /// For want of memory alone, where none is given.
+    /// Only out of memory, if `spare` has no version.
     #[inline(always)]
-    pub fn to_fill(alloc: Global, spare: &mut Spare) -> Result<Box<Parts>, Memory>
+    pub fn recycled_or_new(alloc: Global, spare: &mut Spare) -> Result<Box<Parts>, Memory>
         ensures { IfOk result (λ parts. IsToFill parts.value.meta parts.value.body) }
     {
         match spare.take_version() {
-            Some(version) => Ok(Parts::emptied(version)),
-            None => Parts::in_new_memory(alloc),
+            Some(version) => Ok(Parts::recycle(version)),
+            None => Parts::allocate(alloc),
         }
     }
 
     /// The parts of a version that isn't needed any more.
     #[inline(always)]
-    fn emptied(version: Version) -> Box<Parts>
+    fn recycle(version: Version) -> Box<Parts>
         ensures { IsToFill result.value.meta result.value.body }
     {
         let Version { mut parts } = version;
@@ -109,30 +108,31 @@ impl Parts {
         parts
     }
 
-    /// Parts in new memory. The answer is taken apart here, so that no room for it is cleared where it isn't asked for.
+    /// Parts in new memory. The result is taken apart here, so that a caller that doesn't get here clears no room for
+    /// it.
     #[inline(always)]
-    fn in_new_memory(alloc: Global) -> Result<Box<Parts>, Memory>
+    fn allocate(alloc: Global) -> Result<Box<Parts>, Memory>
         ensures { IfOk result (λ parts. IsToFill parts.value.meta parts.value.body) }
     {
-        let parts = Parts::nothing(alloc)?;
+        let parts = Parts::blank(alloc)?;
         Ok(parts)
     }
 
-    /// The parts of nothing, in new memory.
+    /// Empty parts, in new memory.
     #[inline(never)]
-    fn nothing(alloc: Global) -> Result<Box<Parts>, Memory>
+    fn blank(alloc: Global) -> Result<Box<Parts>, Memory>
         ensures { IfOk result (λ parts. IsToFill parts.value.meta parts.value.body) }
     {
         let parts = Parts {
             id: 0,
             kind: Kind::Node,
-            meta: Meta::nothing(),
+            meta: Meta::blank(),
             body: Body::Deleted(Kind::Node),
         };
         Ok(Box::new(alloc, parts)?)
     }
 
-    /// Lets go what memory the parts hold; most hold none.
+    /// Frees the memory that the parts hold; most hold none.
     #[inline(always)]
     fn release(&mut self)
         ensures { IsToFill self.new.meta self.new.body }
@@ -156,7 +156,7 @@ impl Parts {
         mem::replace(&mut self.body, Body::Deleted(self.kind))
     }
 
-    /// Takes data in the place of its own.
+    /// Replaces the data.
     #[inline(always)]
     fn fill(&mut self, id: i64, meta: Meta, body: Body)
         ensures id { self.new.id ≡ id }
@@ -164,12 +164,12 @@ impl Parts {
         ensures body { self.new.body ≡ body }
     {
         self.id = id;
-        // What is replaced holds no memory, so it is forgotten and not dropped.
+        // The replaced metadata holds no memory, so it is forgotten and not dropped.
         mem::forget(mem::replace(&mut self.meta, meta));
         self.body.replace(body);
     }
 
-    /// Makes the parts those of a version: the tags ascending, each once.
+    /// Makes the parts those of a version: sorts the tags and drops repeats.
     #[inline(always)]
     fn finish(&mut self)
         ensures id { self.new.id ≡ self.old.id }
@@ -180,7 +180,7 @@ impl Parts {
     {
         self.kind = self.body.kind();
         self.body.normalize();
-        self.body.tell_range();
+        self.body.show_in_range();
     }
 }
 
@@ -189,8 +189,7 @@ impl Version {
     ///
     /// # Errors
     ///
-    /// The first fault in the order of `IdRange`, `NoVersion`, `NumberRange`, `TimeRange`, `NoTime`, `ZeroInText`.
-    /// Where
+    /// The first fault in the order of `IdRange`, `NoVersion`, `NumberRange`, `TimeRange`, `NoTime`, `ZeroInText`. If
     /// there is none, `Memory`, if a growth was refused.
     pub fn new(alloc: Global, id: i64, meta: Meta, body: Body) -> Result<Version, ValueFault>
         ensures value { MatchResult result
@@ -202,21 +201,20 @@ impl Version {
         if let Some(fault) = first_fault(id, &meta, &body) {
             return Err(fault);
         }
-        match Version::of_sound_data(alloc, &mut Spare::new(alloc), id, meta, body) {
+        match Version::from_checked_data(alloc, &mut Spare::new(alloc), id, meta, body) {
             Ok(version) => Ok(version),
             Err(_) => Err(ValueFault::Memory),
         }
     }
 
-    /// The version of data that has no fault, as [`Version::new`] makes it, without its tests, in the memory of a
-    /// version
-    /// that isn't needed any more, where one is given.
+    /// The version of data that has no fault, as [`Version::new`] makes it, without its tests. It is made in the memory
+    /// of a version that isn't needed any more, if `spare` has one.
     ///
     /// # Errors
     ///
-    /// For want of memory alone, where none is given.
+    /// Only out of memory, if `spare` has no version.
     #[inline(always)]
-    pub fn of_sound_data(
+    pub fn from_checked_data(
         alloc: Global,
         spare: &mut Spare,
         id: i64,
@@ -227,14 +225,14 @@ impl Version {
         ensures value { IfOk result (λ version. version ≡ version_of id meta body) }
         ensures valid { IfOk result IsVersion }
     {
-        let mut parts = Parts::to_fill(alloc, spare)?;
+        let mut parts = Parts::recycled_or_new(alloc, spare)?;
         parts.fill(id, meta, body);
-        Ok(Version::of_sound_parts(parts))
+        Ok(Version::from_checked_parts(parts))
     }
 
-    /// The version of parts whose data has no fault, as [`Version::new`] makes it of them, without its tests.
+    /// The version of parts whose data has no fault, as [`Version::new`] makes it, without its tests.
     #[inline(always)]
-    pub fn of_sound_parts(mut parts: Box<Parts>) -> Version
+    pub fn from_checked_parts(mut parts: Box<Parts>) -> Version
         requires { first_fault parts.value.id parts.value.meta parts.value.body ≡ None }
         ensures value { result ≡ version_of parts.value.id parts.value.meta parts.value.body }
         ensures valid { IsVersion result }
@@ -243,7 +241,7 @@ impl Version {
         Version { parts }
     }
 
-    /// The id of the object, and that the version is within its ranges.
+    /// The id of the object. Its contract also says that the version is within its ranges.
     pub fn id(&self) -> i64
         ensures value { result ≡ self.now.id }
         ensures valid { IsVersion self.now }
@@ -301,7 +299,7 @@ impl Version {
         &self.parts.body
     }
 
-    /// The order of the objects: the kind, ids above 0 behind the others, the absolute value of the id.
+    /// The order of the objects: the kind, ids above 0 after the others, the absolute value of the id.
     pub fn object_cmp(&self, other: &Version) -> Ordering
         ensures { result ≡ object_cmp self.now other.now }
     {
@@ -331,7 +329,7 @@ impl Version {
         self.number().cmp(&other.number())
     }
 
-    /// Takes the body out. The version is one of a deleted object then.
+    /// Takes the body out, and leaves that of a deleted object.
     #[inline(always)]
     pub(crate) fn take_body(&mut self) -> Body {
         self.parts.take_body()
@@ -353,7 +351,7 @@ impl Version {
         })
     }
 
-    /// What the order compares before it comes to the bytes of the lines.
+    /// The order of what is compared before the bytes of the lines.
     fn data_cmp(&self, other: &Version) -> Ordering
         ensures { result ≡ data_cmp self.now other.now }
     {

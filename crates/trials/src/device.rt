@@ -4,7 +4,7 @@ use std::io;
 use std::io::{Read, Write};
 use std::str::Split;
 
-/// How many bytes of a file a call moves at most, and behind how many bytes of it every call fails.
+/// The most bytes of a file that a call moves, and the number of bytes after which every call fails.
 #[derive(Clone, Copy)]
 pub struct Pace {
     step: usize,
@@ -12,7 +12,7 @@ pub struct Pace {
 }
 
 impl Pace {
-    /// The pace that these parts of a word tell; what isn't told is without a bound.
+    /// The pace that these parts of a word give; a part that isn't given sets no bound.
     pub fn of_parts(parts: &mut Split<'_, char>) -> Result<Pace> {
         Ok(Pace {
             step: bound(parts)?,
@@ -21,7 +21,7 @@ impl Pace {
     }
 }
 
-/// The number that the next part of a word tells, if there is one.
+/// The number in the next part of a word, if there is one.
 fn bound(parts: &mut Split<'_, char>) -> Result<usize> {
     match parts.next() {
         Some(part) => Ok(part.parse::<usize>()?),
@@ -34,7 +34,7 @@ fn bound(parts: &mut Split<'_, char>) -> Result<usize> {
 pub struct Pieces<'a> {
     rest: &'a [u8],
     step: usize,
-    /// So many bytes are given before every read fails.
+    /// The number of bytes that are given before every read fails.
     left: usize,
 }
 
@@ -72,12 +72,12 @@ pub const ROOM: usize = 65536;
 pub struct Buffer<'a> {
     taken: &'a mut Vec<u8>,
     step: usize,
-    /// So many bytes are taken before every write and every flush fails.
+    /// The number of bytes that are taken before every write and every flush fails.
     left: usize,
 }
 
 impl<'a> Buffer<'a> {
-    /// A writer behind the bytes of the buffer, at this pace.
+    /// A writer that appends to the bytes of the buffer, at this pace.
     pub fn new(taken: &'a mut Vec<u8>, pace: Pace) -> Buffer<'a> {
         Buffer {
             taken,

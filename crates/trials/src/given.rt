@@ -1,4 +1,4 @@
-//! What a call is given: words and files.
+//! The arguments of a call: words and files.
 use crate::device::{Pace, Pieces};
 use anyhow::{Result, bail};
 use osm_files::{Format, FromRead};
@@ -6,14 +6,14 @@ use std::alloc::Global;
 use std::fs;
 use std::rt::Files;
 
-/// A file, and how it is given.
+/// A file, and its pace.
 #[derive(Drop)]
 struct File {
     bytes: Vec<u8>,
     pace: Pace,
 }
 
-/// The words and the files that a call is given.
+/// The words and the files of a call.
 #[derive(Drop)]
 pub struct Given {
     words: Vec<String>,
@@ -34,7 +34,7 @@ impl Given {
         Ok(Given { words, files })
     }
 
-    /// The word at this place.
+    /// The word at this index.
     pub fn word(&self, place: usize) -> Result<&str> {
         match self.words.get(place) {
             Some(word) => Ok(word.as_str()),
@@ -42,17 +42,17 @@ impl Given {
         }
     }
 
-    /// The number of seconds that the word at this place tells.
+    /// The number of seconds in the word at this index.
     pub fn time(&self, place: usize) -> Result<u32> {
         Ok(self.word(place)?.parse::<u32>()?)
     }
 
-    /// The format that the word at this place tells.
+    /// The format that the word at this index names.
     pub fn format(&self, place: usize) -> Result<Format> {
         format_of(self.word(place)?)
     }
 
-    /// The format and the pace of what is written: the first word, as `opl` or `o5m:1:20`.
+    /// The format and the pace of the output: the first word, as `opl` or `o5m:1:20`.
     pub fn output(&self) -> Result<(Format, Pace)> {
         let mut parts = self.word(0)?.split(':');
         let format = format_of(parts.next().unwrap_or(""))?;
@@ -64,7 +64,7 @@ impl Given {
         self.files.len()
     }
 
-    /// The bytes of the file at this place.
+    /// The bytes of the file at this index.
     pub fn file(&self, place: usize) -> Result<&[u8]> {
         match self.files.get(place) {
             Some(file) => Ok(file.bytes.as_slice()),
@@ -72,7 +72,7 @@ impl Given {
         }
     }
 
-    /// The file at this place, to be read at its pace.
+    /// The file at this index, to be read at its pace.
     pub fn reader(&self, place: usize) -> Result<FromRead<Pieces<'_>>> {
         match self.files.get(place) {
             Some(file) => Ok(FromRead::new(Pieces::new(&file.bytes, file.pace))),
@@ -90,7 +90,7 @@ impl Given {
     }
 }
 
-/// Reads the file that a word tells behind its `@`.
+/// Reads the file that a word names after its `@`.
 fn read_file<R: Files + AllocGlobal>(rt: &R, told: &str) -> Result<File> {
     let mut parts = told.split(':');
     let bytes = fs::read(rt, parts.next().unwrap_or(""))?;

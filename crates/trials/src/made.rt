@@ -1,4 +1,4 @@
-//! Calls that make what other calls use.
+//! Calls that make values for other calls.
 use crate::given::Given;
 use crate::told::told;
 use anyhow::Result;
@@ -16,7 +16,7 @@ pub const CALLS: &[&str] = &[
     "Fleet::new",
 ];
 
-/// What a call answers.
+/// The result of a call.
 pub fn answer(alloc: Global, call: &str, given: &Given) -> Result<Vec<u8>> {
     match call {
         "Decoder::new" => drop(Decoder::new(alloc)?),

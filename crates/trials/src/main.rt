@@ -1,17 +1,17 @@
 //! Calls of the libraries: measured, with memory refused, and over devices that fail.
 //!
-//! The arguments are a call, as `load_any`, and what it is given. A file is given as `@NAME`, as `@NAME:STEP` where a
-//! read gives at most STEP bytes, or as `@NAME:STEP:END` where the file fails after END bytes. The program prints the
-//! result of the call.
+//! The arguments are a call, as `load_any`, and its arguments. A file is given as `@NAME`, as `@NAME:STEP` if a read
+//! gives at most STEP bytes, or as `@NAME:STEP:END` if the file fails after END bytes. The program prints the result of
+//! the call.
 //!
-//! `measure` takes a measurement and its amount, and prints what was measured:
+//! `measure` takes a measurement and its amount, and prints the results:
 //!
-//! - `measure versions 200000`: versions compared, and appended as lines, beside a plain copy of the same bytes.
-//! - `measure lines 100`: megabytes of OPL lines, read and written, beside a plain pass over them.
+//! - `measure versions 200000`: versions compared, and appended as lines, together with a plain copy of the same bytes.
+//! - `measure lines 100`: megabytes of OPL lines, read and written, together with a plain pass over them.
 //! - `measure read-sets 1000000`: nodes read from data sets.
 //! - `measure write-sets 1000000`: nodes, and a fifth as many ways, written as data sets.
 //! - `measure take 1000000`: a file of 10,000 changes taken by mirrors that hold that number of versions, and runs of a
-//! fleet.
+//!   fleet.
 //! - `measure file map.opl`: the units of a file only, through a source, and by `load_any`.
 //!
 //! Without arguments the program takes each measurement of a small amount, and then prints the names of the calls, one
@@ -63,7 +63,7 @@ fn main(rt: HostRuntime) -> Result<()> {
     Ok(())
 }
 
-/// What a call answers.
+/// The result of a call.
 fn answer(alloc: Global, call: &str, given: &Given) -> Result<Vec<u8>> {
     if values::CALLS.contains(&call) {
         return values::answer(alloc, call, given);

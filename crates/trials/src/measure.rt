@@ -1,4 +1,4 @@
-//! Measures the crates below the program: how much they do in a second.
+//! Measures the crates below the program: the amounts that they process in a second.
 use anyhow::{Result, bail};
 use std::fs;
 use std::rt::{Clock, Files};
@@ -12,10 +12,10 @@ mod take;
 mod versions;
 mod write_sets;
 
-/// The file that is read where none is named.
+/// The file that is read if none is named.
 const SAMPLE: &[u8] = b"n1 v1 dV x1.5 y2\nn1 v2 dV x1.5 y3\n";
 
-/// Takes a measurement of an amount, and returns what was measured, one line each.
+/// Takes a measurement of an amount, and returns the results, one line each.
 pub(crate) fn measure<R: Files + Clock + AllocGlobal>(
     rt: &R,
     measurement: &str,

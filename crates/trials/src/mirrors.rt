@@ -16,7 +16,7 @@ pub const CALLS: &[&str] = &[
     "read_plan",
 ];
 
-/// What a call answers.
+/// The result of a call.
 pub fn answer(alloc: Global, call: &str, given: &Given) -> Result<Vec<u8>> {
     match call {
         "Mirror::take" => take(alloc, given),
@@ -27,7 +27,7 @@ pub fn answer(alloc: Global, call: &str, given: &Given) -> Result<Vec<u8>> {
     }
 }
 
-/// A mirror that keeps what the first word tells.
+/// A mirror of the kind that the first word names.
 fn mirror(alloc: Global, given: &Given) -> Result<Mirror> {
     match given.word(0)? {
         "full" => Ok(Mirror::new_full(alloc)),
@@ -45,7 +45,7 @@ fn full(alloc: Global, given: &Given) -> Result<Mirror> {
     Ok(mirror)
 }
 
-/// What a mirror that took the first file answers to the second one, and what it holds then.
+/// The result of a take of the second file by a mirror that took the first one, and its history then.
 fn take(alloc: Global, given: &Given) -> Result<Vec<u8>> {
     let mut mirror = mirror(alloc, given)?;
     mirror.take(given.file(0)?)?;
@@ -66,13 +66,13 @@ fn is_equal(left: &Mirror, right: &Mirror) -> Result<bool, Fault> {
     Ok(left.as_slice() == right.as_slice())
 }
 
-/// What a copy of a full mirror holds.
+/// The history of a copy of a full mirror.
 fn copy(alloc: Global, given: &Given) -> Result<Vec<u8>> {
     Ok(full(alloc, given)?.copy()?.write(Format::Opl)?)
 }
 
-/// What two latest mirrors answer that take a file each, pass to each other, and take the first file again, and what
-/// they hold then; and what they hold when all of it has happened once more.
+/// The replies of two latest mirrors that take a file each, pass to each other, and take the first file again, and
+/// their histories then; and their histories after the same events once more.
 fn run(alloc: Global, first: &[u8], second: &[u8]) -> Result<Vec<u8>> {
     let mut fleet = Fleet::new(alloc, &[Keep::Latest, Keep::Latest])?;
     let events = events(first, second);
@@ -115,7 +115,7 @@ fn events<'a>(first: &'a [u8], second: &'a [u8]) -> [Event<'a>; 5] {
     ]
 }
 
-/// Lets events happen.
+/// Runs events.
 fn happen(fleet: &mut Fleet, events: &[Event]) -> Result<Result<Vec<Reply>, Memory>> {
     if !fleet.may_run(events) {
         bail!("an event names a mirror that isn't there");
@@ -123,7 +123,7 @@ fn happen(fleet: &mut Fleet, events: &[Event]) -> Result<Result<Vec<Reply>, Memo
     Ok(fleet.run(events))
 }
 
-/// The replies, in one line, with a blank behind each.
+/// The replies, in one line, with a blank after each.
 fn reply_line(alloc: Global, replies: &[Reply]) -> Result<String> {
     let mut line = String::new(alloc);
     for reply in replies {
@@ -136,7 +136,7 @@ fn reply_line(alloc: Global, replies: &[Reply]) -> Result<String> {
     Ok(line)
 }
 
-/// What each mirror holds.
+/// The history of each mirror.
 fn fleet_lines(alloc: Global, fleet: &Fleet) -> Result<Vec<u8>> {
     let mut lines = Vec::new(alloc);
     for place in 0..fleet.len() {
@@ -145,7 +145,7 @@ fn fleet_lines(alloc: Global, fleet: &Fleet) -> Result<Vec<u8>> {
     Ok(lines)
 }
 
-/// How many mirrors, steps and files a plan has.
+/// The numbers of mirrors, steps and files of a plan.
 fn plan(alloc: Global, text: &[u8]) -> Result<Vec<u8>> {
     let plan = read_plan(alloc, text)?;
     let line = format!(in alloc;

@@ -24,7 +24,7 @@ pub const CALLS: &[&str] = &[
     "fault_text",
 ];
 
-/// What a call answers.
+/// The result of a call.
 pub fn answer(alloc: Global, call: &str, given: &Given) -> Result<Vec<u8>> {
     match call {
         "run_check" => check(alloc, given),
@@ -33,7 +33,7 @@ pub fn answer(alloc: Global, call: &str, given: &Given) -> Result<Vec<u8>> {
     }
 }
 
-/// What a check tells of a file.
+/// The report of a check of a file.
 fn check(alloc: Global, given: &Given) -> Result<Vec<u8>> {
     let CheckReport {
         format,
@@ -49,7 +49,7 @@ fn check(alloc: Global, given: &Given) -> Result<Vec<u8>> {
     told(alloc, line.as_str(), b"")
 }
 
-/// The line of the fault of a file, which is called as the first word tells.
+/// The line of the fault of a file, with the first word as the file's name.
 fn text_of_fault(alloc: Global, given: &Given) -> Result<Vec<u8>> {
     let Err(fault) = run_check(alloc, given.reader(0)?) else {
         bail!("the file has no fault");
@@ -58,7 +58,7 @@ fn text_of_fault(alloc: Global, given: &Given) -> Result<Vec<u8>> {
     told(alloc, line.as_str(), b"")
 }
 
-/// What a run answers that writes, and what it wrote.
+/// The result of a run that writes, and its output.
 fn write(alloc: Global, call: &str, given: &Given) -> Result<Vec<u8>> {
     let (format, pace) = given.output()?;
     let mut taken = Vec::with_capacity(alloc, ROOM)?;
@@ -70,7 +70,7 @@ fn write(alloc: Global, call: &str, given: &Given) -> Result<Vec<u8>> {
     told_run(alloc, outcome, &taken)
 }
 
-/// Runs what writes of several files.
+/// Runs a call that writes the output of several files.
 fn combine<W: Output>(
     alloc: Global,
     call: &str,
@@ -87,7 +87,7 @@ fn combine<W: Output>(
     })
 }
 
-/// Runs what writes of one file what was at a time, or from one time up to another.
+/// Runs a call that writes the versions of one file that were current at a time, or from one time up to another.
 fn filter<W: Output>(
     alloc: Global,
     call: &str,

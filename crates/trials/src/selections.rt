@@ -9,7 +9,7 @@ use std::alloc::Global;
 /// The calls.
 pub const CALLS: &[&str] = &["snapshot", "visible", "at", "between"];
 
-/// What a call answers.
+/// The result of a call.
 pub fn answer(alloc: Global, call: &str, given: &Given) -> Result<Vec<u8>> {
     let history = history_of(alloc, given.file(0)?)?;
     let chosen = match call {
@@ -21,7 +21,7 @@ pub fn answer(alloc: Global, call: &str, given: &Given) -> Result<Vec<u8>> {
     chosen_lines(alloc, chosen)
 }
 
-/// The lines of what was chosen.
+/// The lines of a choice.
 fn chosen_lines(alloc: Global, chosen: Result<History, Memory>) -> Result<Vec<u8>> {
     lines_of(alloc, &chosen?)
 }

@@ -11,7 +11,7 @@ use std::alloc::Global;
 /// The calls.
 pub const CALLS: &[&str] = &["load_any", "FileSource", "Sink", "merge_into"];
 
-/// What a call answers.
+/// The result of a call.
 pub fn answer(alloc: Global, call: &str, given: &Given) -> Result<Vec<u8>> {
     match call {
         "load_any" => load(alloc, given),
@@ -21,7 +21,7 @@ pub fn answer(alloc: Global, call: &str, given: &Given) -> Result<Vec<u8>> {
     }
 }
 
-/// The format of a file, whether it is sorted, and what it holds.
+/// The format of a file, whether it is sorted, and its versions.
 fn load(alloc: Global, given: &Given) -> Result<Vec<u8>> {
     let loaded = load_any(alloc, 0, given.reader(0)?)?;
     let order = if loaded.sorted { "sorted" } else { "unsorted" };
@@ -29,10 +29,10 @@ fn load(alloc: Global, given: &Given) -> Result<Vec<u8>> {
     told(alloc, line.as_str(), &lines_of(alloc, &loaded.history)?)
 }
 
-/// How often a source is asked: more often than a file of a trial has versions.
+/// The number of calls of a source: more than a file of a trial has versions.
 const TURNS: usize = 100;
 
-/// What a source gives, and how it ends.
+/// The versions of a source, and its end.
 fn read(alloc: Global, given: &Given) -> Result<Vec<u8>> {
     let mut source = FileSource::new(alloc, 0, given.reader(0)?)?;
     let mut lines = Vec::new(alloc);
@@ -47,7 +47,7 @@ fn read(alloc: Global, given: &Given) -> Result<Vec<u8>> {
     bail!("a source has no end")
 }
 
-/// Why a source was refused, what it answered then, and what it had given.
+/// Why a source was refused, its next result, and the versions that it had given.
 fn refused(alloc: Global, fault: Fault, then: Option<Fault>, lines: &[u8]) -> Result<Vec<u8>> {
     let Some(then) = then else {
         bail!("a source goes on that was refused");
@@ -59,7 +59,7 @@ fn refused(alloc: Global, fault: Fault, then: Option<Fault>, lines: &[u8]) -> Re
     )
 }
 
-/// What a sink wrote of a file, and why it was refused, if it was.
+/// The output of a sink for a file, and why it was refused, if it was.
 fn write(alloc: Global, given: &Given) -> Result<Vec<u8>> {
     let history = history_of(alloc, given.file(0)?)?;
     let (format, pace) = given.output()?;
@@ -86,7 +86,7 @@ fn put_first<W: Output>(
     sink.end(out)
 }
 
-/// What a merge of sources answers, and what it wrote.
+/// The result of a merge of sources, and its output.
 fn merge(alloc: Global, given: &Given) -> Result<Vec<u8>> {
     let (format, pace) = given.output()?;
     let mut taken = Vec::with_capacity(alloc, ROOM)?;
@@ -114,7 +114,7 @@ fn merge_files<W: Output>(
     Ok(merge_into(alloc, sources, &mut sink, out))
 }
 
-/// The counts of a run, or why it was refused, and what it wrote.
+/// The counts of a run, or why it was refused, and its output.
 pub fn told_run(alloc: Global, outcome: Result<Counts, Fault>, taken: &[u8]) -> Result<Vec<u8>> {
     match outcome {
         Ok(counts) => {

@@ -1,4 +1,4 @@
-//! How answers are told: as lines.
+//! The lines in which results are printed.
 use anyhow::Result;
 use osm_files::{SliceIn, load_any};
 use osm_model::{History, Version};
@@ -12,7 +12,7 @@ pub fn line_of(alloc: Global, version: &Version) -> Result<Vec<u8>> {
     Ok(line)
 }
 
-/// The lines of what a history holds.
+/// The lines of a history.
 pub fn lines_of(alloc: Global, history: &History) -> Result<Vec<u8>> {
     let mut lines = Vec::new(alloc);
     for place in 0..history.len() {
@@ -22,7 +22,7 @@ pub fn lines_of(alloc: Global, history: &History) -> Result<Vec<u8>> {
     Ok(lines)
 }
 
-/// A line, with bytes behind it.
+/// A line, with bytes after it.
 pub fn told(alloc: Global, line: &str, bytes: &[u8]) -> Result<Vec<u8>> {
     let mut told = Vec::new(alloc);
     told.extend_from_slice(line.as_bytes())?;
@@ -31,7 +31,7 @@ pub fn told(alloc: Global, line: &str, bytes: &[u8]) -> Result<Vec<u8>> {
     Ok(told)
 }
 
-/// What a file holds.
+/// The history of a file.
 pub fn history_of(alloc: Global, file: &[u8]) -> Result<History> {
     Ok(load_any(alloc, 0, SliceIn::new(file))?.history)
 }

@@ -10,7 +10,7 @@ use std::alloc::Global;
 /// The calls.
 pub const CALLS: &[&str] = &["read_line", "write_line", "read_set", "write_set"];
 
-/// What a call answers.
+/// The result of a call.
 pub fn answer(alloc: Global, call: &str, given: &Given) -> Result<Vec<u8>> {
     match call {
         "read_line" => read(alloc, given.file(0)?),
@@ -43,19 +43,19 @@ fn read_node(alloc: Global, content: &[u8]) -> Result<Vec<u8>> {
     line_of(alloc, &version)
 }
 
-/// What became of data sets that were to be written.
+/// The outcome of writing data sets.
 #[derive(Drop)]
 enum Outcome {
     /// The data sets.
     Written(Vec<u8>),
-    /// Why one was refused, and what the encoder answered then, if it was refused again.
+    /// Why one was refused, and the encoder's next result, if it was refused again.
     Refused {
         refused: EncodeFault,
         again: Option<EncodeFault>,
     },
 }
 
-/// The data sets of a file. Where they are refused, what the encoder answers then, and what a new one writes.
+/// The data sets of a file. If they are refused, the encoder's next result, and the output of a new one.
 fn write_anew(alloc: Global, file: &[u8]) -> Result<Vec<u8>> {
     let history = history_of(alloc, file)?;
     match write_sets(alloc, &history)? {
@@ -75,7 +75,7 @@ fn write_anew(alloc: Global, file: &[u8]) -> Result<Vec<u8>> {
     }
 }
 
-/// The data sets, where they were written.
+/// The data sets, if they were written.
 fn written(outcome: Outcome) -> Result<Vec<u8>> {
     match outcome {
         Outcome::Written(sets) => Ok(sets),

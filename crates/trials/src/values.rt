@@ -15,7 +15,7 @@ pub const CALLS: &[&str] = &[
     "compare_all",
 ];
 
-/// What a call answers.
+/// The result of a call.
 pub fn answer(alloc: Global, call: &str, given: &Given) -> Result<Vec<u8>> {
     match call {
         "Version::new" => new_version(alloc, u64::from(given.time(0)?)),
@@ -70,7 +70,7 @@ fn from_versions(alloc: Global, given: &Given) -> Result<Vec<u8>> {
     lines_of(alloc, &History::from_versions(versions)?)
 }
 
-/// The union of two files; where it is refused, what both hold afterwards.
+/// The union of two files; if it is refused, the histories of both afterwards.
 fn join(alloc: Global, left: &[u8], right: &[u8]) -> Result<Vec<u8>> {
     let left = history_of(alloc, left)?;
     let right = history_of(alloc, right)?;
@@ -85,7 +85,7 @@ fn join(alloc: Global, left: &[u8], right: &[u8]) -> Result<Vec<u8>> {
     }
 }
 
-/// A copy of a history; where it is refused, what is held afterwards.
+/// A copy of a history; if it is refused, the history afterwards.
 fn copy_history(alloc: Global, file: &[u8]) -> Result<Vec<u8>> {
     let history = history_of(alloc, file)?;
     let outcome = history.copy();

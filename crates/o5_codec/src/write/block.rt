@@ -3,8 +3,8 @@
 //! Why: a data set has many numbers of one to four bytes. One test of room for each number, and straight code for up to
 //! four groups, take 2.3 percent off the instructions of a merge from o5m to o5m.
 //! Assumes: each call has room for what it appends; `make_room` tests for it.
-//! Otherwise: a full block moves its bytes to the vector in front of it. A number of more than four groups is written
-//! by a loop.
+//! Otherwise: a full block moves its bytes to the end of a vector, `front`. A loop writes a number of more than four
+//! groups.
 //! Compared by: `writes_numbers_at_their_limits`.
 ghost use Rattle.std.specs.Prelude.{◌≡◌, ◌≤◌, ◌<◌, ◌+◌, ◌++◌, ◌∷◌, [], length, drop, OnOk};
 ghost use Rattle.o5_codec.specs.Shortest.{shortest_number};
@@ -23,11 +23,11 @@ pub(crate) struct Block {
 }
 
 impl Block {
-    ghost use Rattle.o5_codec.specs.Block.{filled};
+    ghost use Rattle.o5_codec.specs.Block.{filled_bytes};
 
     /// A block without bytes.
     pub(crate) fn new() -> Block
-        ensures { filled result ≡ [] }
+        ensures { filled_bytes result ≡ [] }
     {
         Block {
             bytes: [0; BLOCK_BYTES],
@@ -37,23 +37,23 @@ impl Block {
 
     /// Drops all bytes.
     pub(crate) fn clear(&mut self)
-        ensures bytes { filled self.new ≡ [] }
+        ensures bytes { filled_bytes self.new ≡ [] }
         ensures room { self.new.end ≡ 0 }
     {
         self.end = 0;
     }
 
-    /// Drops all bytes, and leaves room for two in front, which are set later.
+    /// Drops all bytes, and leaves room for two at the front, which are set later.
     pub(crate) fn begin(&mut self)
-        ensures { length (filled self.new) ≡ 2 }
+        ensures { length (filled_bytes self.new) ≡ 2 }
     {
         self.end = 2;
     }
 
     /// Sets the first two bytes.
     pub(crate) fn set_front(&mut self, one: u8, two: u8)
-        requires { 2 ≤ length (filled self.old) }
-        ensures { filled self.new ≡ one ∷ two ∷ drop 2 (filled self.old) }
+        requires { 2 ≤ length (filled_bytes self.old) }
+        ensures { filled_bytes self.new ≡ one ∷ two ∷ drop 2 (filled_bytes self.old) }
     {
         self.bytes[0] = one;
         self.bytes[1] = two;
@@ -62,14 +62,14 @@ impl Block {
     /// The number of bytes.
     pub(crate) fn len(&self) -> usize
         ensures place { result ≡ self.now.end }
-        ensures length { result ≡ length (filled self.now) }
+        ensures length { result ≡ length (filled_bytes self.now) }
     {
         self.end
     }
 
     /// The bytes.
     pub(crate) fn as_slice(&self) -> &[u8]
-        ensures { result.now ≡ filled self.now }
+        ensures { result.now ≡ filled_bytes self.now }
     {
         &self.bytes[..self.end]
     }
@@ -82,7 +82,7 @@ impl Block {
     #[inline(always)]
     pub(crate) fn make_room(&mut self, count: usize, front: &mut Vec<u8>) -> Result<(), Memory>
         requires { count ≤ 128 }
-        ensures bytes { OnOk result (front.new.items ++ filled self.new ≡ front.old.items ++ filled self.old) }
+        ensures bytes { OnOk result (front.new.items ++ filled_bytes self.new ≡ front.old.items ++ filled_bytes self.old) }
         ensures room { OnOk result (self.new.end + count ≤ 128) }
     {
         if self.end <= BLOCK_BYTES - count {
@@ -98,8 +98,8 @@ impl Block {
     /// `Memory` when out of memory.
     #[inline(never)]
     pub(crate) fn flush(&mut self, front: &mut Vec<u8>) -> Result<(), Memory>
-        ensures bytes { OnOk result (front.new.items ≡ front.old.items ++ filled self.old) }
-        ensures moved { OnOk result (filled self.new ≡ []) }
+        ensures bytes { OnOk result (front.new.items ≡ front.old.items ++ filled_bytes self.old) }
+        ensures moved { OnOk result (filled_bytes self.new ≡ []) }
         ensures room { OnOk result (self.new.end ≡ 0) }
     {
         front.extend_from_slice(self.as_slice())?;
@@ -110,7 +110,7 @@ impl Block {
     /// Appends a byte.
     pub(crate) fn push(&mut self, byte: u8)
         requires { self.old.end < 128 }
-        ensures { filled self.new ≡ filled self.old ++ byte ∷ [] }
+        ensures { filled_bytes self.new ≡ filled_bytes self.old ++ byte ∷ [] }
     {
         self.bytes[self.end] = byte;
         self.end += 1;
@@ -119,7 +119,7 @@ impl Block {
     /// Appends bytes.
     pub(crate) fn append(&mut self, bytes: &[u8])
         requires { self.old.end + length bytes.now ≤ 128 }
-        ensures { filled self.new ≡ filled self.old ++ bytes.now }
+        ensures { filled_bytes self.new ≡ filled_bytes self.old ++ bytes.now }
     {
         let end = self.end + bytes.len();
         self.bytes[self.end..end].copy_from_slice(bytes);
@@ -130,7 +130,7 @@ impl Block {
     #[inline(always)]
     pub(crate) fn append_number(&mut self, number: u64)
         requires { self.old.end + 10 ≤ 128 }
-        ensures { filled self.new ≡ filled self.old ++ shortest_number number }
+        ensures { filled_bytes self.new ≡ filled_bytes self.old ++ shortest_number number }
     {
         let end = self.end;
         if number < 128 {
@@ -164,7 +164,7 @@ impl Block {
     #[inline(never)]
     fn append_long_number(&mut self, number: u64)
         requires { self.old.end + 10 ≤ 128 }
-        ensures { filled self.new ≡ filled self.old ++ shortest_number number }
+        ensures { filled_bytes self.new ≡ filled_bytes self.old ++ shortest_number number }
     {
         let mut end = self.end;
         let mut rest = number;

@@ -1,29 +1,29 @@
-//! The bodies of data sets, as they are written.
+//! Writing the bodies of data sets.
 ghost use Rattle.std.specs.Prelude.{◌≡◌, ◌++◌, ◌∷◌, true, length, OnOk};
 ghost use Rattle.std.specs.List.{list_all};
 ghost use Rattle.osm_model.specs.Id.{is_id};
 ghost use Rattle.osm_model.specs.Data.{ids_of};
 ghost use Rattle.osm_model.specs.Members.{ids_of_members};
 ghost use Rattle.o5_codec.specs.Shortest.{shortest_number};
-ghost use Rattle.o5_codec.specs.Appended.{Appended};
+ghost use Rattle.o5_codec.specs.Appended.{AppendsSpelling};
 ghost use Rattle.o5_codec.specs.Writing as spec;
 
-use crate::write::draft::Draft;
-use crate::write::segment::WrittenSegment;
+use crate::write::draft::SetBuffer;
+use crate::write::segment::EncoderSegment;
 use crate::write::string_key::StringKey;
 use osm_model::{Body, Member, Memory, Tag};
 
-impl WrittenSegment {
+impl EncoderSegment {
     /// Appends a body. The section of references or members is made in a buffer of the caller.
     #[tactic(auto, unfolding(crate::specs::Writing::body_written))]
     pub(crate) fn append_body(
         &mut self,
-        out: &mut Draft,
-        section: &mut Draft,
+        out: &mut SetBuffer,
+        section: &mut SetBuffer,
         body: &Body,
     ) -> Result<(), Memory>
         requires { list_all is_id (ids_of body.now) ≡ true }
-        ensures { OnOk result (Appended out.old out.new self.new (spec.body_written body.now self.old)) }
+        ensures { OnOk result (AppendsSpelling out.old out.new self.new (spec.body_written body.now self.old)) }
     {
         match body {
             Body::Deleted(_) => Ok(()),
@@ -48,8 +48,8 @@ impl WrittenSegment {
 
     /// Appends the tags.
     #[inline(always)]
-    fn append_tags(&mut self, out: &mut Draft, tags: &[Tag]) -> Result<(), Memory>
-        ensures { OnOk result (Appended out.old out.new self.new (spec.tags_written tags.now self.old)) }
+    fn append_tags(&mut self, out: &mut SetBuffer, tags: &[Tag]) -> Result<(), Memory>
+        ensures { OnOk result (AppendsSpelling out.old out.new self.new (spec.tags_written tags.now self.old)) }
     {
         if tags.is_empty() {
             return Ok(());
@@ -61,8 +61,8 @@ impl WrittenSegment {
     /// have no tags.
     #[inline(never)]
     #[tactic(auto, unfolding(crate::specs::Writing::tags_written))]
-    fn append_each_tag(&mut self, out: &mut Draft, tags: &[Tag]) -> Result<(), Memory>
-        ensures { OnOk result (Appended out.old out.new self.new (spec.tags_written tags.now self.old)) }
+    fn append_each_tag(&mut self, out: &mut SetBuffer, tags: &[Tag]) -> Result<(), Memory>
+        ensures { OnOk result (AppendsSpelling out.old out.new self.new (spec.tags_written tags.now self.old)) }
     {
         for tag in tags {
             self.append_strings(out, StringKey::of_tag(tag))?;
@@ -74,13 +74,13 @@ impl WrittenSegment {
     #[tactic(auto, unfolding(crate::specs::Writing::section_written))]
     fn append_references(
         &mut self,
-        out: &mut Draft,
-        section: &mut Draft,
+        out: &mut SetBuffer,
+        section: &mut SetBuffer,
         ids: &[i64],
     ) -> Result<(), Memory>
         requires { list_all is_id ids.now ≡ true }
         ensures { OnOk result
-            (Appended out.old out.new self.new (spec.section_written (spec.references_written ids.now) self.old)) }
+            (AppendsSpelling out.old out.new self.new (spec.section_written (spec.references_written ids.now) self.old)) }
     {
         section.clear();
         self.append_each_reference(section, ids)?;
@@ -88,9 +88,9 @@ impl WrittenSegment {
     }
 
     #[tactic(auto, unfolding(crate::specs::Writing::references_written))]
-    fn append_each_reference(&mut self, out: &mut Draft, ids: &[i64]) -> Result<(), Memory>
+    fn append_each_reference(&mut self, out: &mut SetBuffer, ids: &[i64]) -> Result<(), Memory>
         requires { list_all is_id ids.now ≡ true }
-        ensures { OnOk result (Appended out.old out.new self.new (spec.references_written ids.now self.old)) }
+        ensures { OnOk result (AppendsSpelling out.old out.new self.new (spec.references_written ids.now self.old)) }
     {
         for id in ids {
             self.append_reference(out, *id)?;
@@ -102,13 +102,13 @@ impl WrittenSegment {
     #[tactic(auto, unfolding(crate::specs::Writing::section_written))]
     fn append_members(
         &mut self,
-        out: &mut Draft,
-        section: &mut Draft,
+        out: &mut SetBuffer,
+        section: &mut SetBuffer,
         members: &[Member],
     ) -> Result<(), Memory>
         requires { list_all is_id (ids_of_members members.now) ≡ true }
         ensures { OnOk result
-            (Appended out.old out.new self.new (spec.section_written (spec.members_written members.now) self.old)) }
+            (AppendsSpelling out.old out.new self.new (spec.section_written (spec.members_written members.now) self.old)) }
     {
         section.clear();
         self.append_each_member(section, members)?;
@@ -116,9 +116,9 @@ impl WrittenSegment {
     }
 
     #[tactic(auto, unfolding(crate::specs::Writing::members_written))]
-    fn append_each_member(&mut self, out: &mut Draft, members: &[Member]) -> Result<(), Memory>
+    fn append_each_member(&mut self, out: &mut SetBuffer, members: &[Member]) -> Result<(), Memory>
         requires { list_all is_id (ids_of_members members.now) ≡ true }
-        ensures { OnOk result (Appended out.old out.new self.new (spec.members_written members.now self.old)) }
+        ensures { OnOk result (AppendsSpelling out.old out.new self.new (spec.members_written members.now self.old)) }
     {
         for member in members {
             self.append_member(out, member)?;
@@ -127,9 +127,9 @@ impl WrittenSegment {
     }
 
     #[tactic(auto, unfolding(crate::specs::Writing::member_written))]
-    fn append_member(&mut self, out: &mut Draft, member: &Member) -> Result<(), Memory>
+    fn append_member(&mut self, out: &mut SetBuffer, member: &Member) -> Result<(), Memory>
         requires { is_id member.now.id ≡ true }
-        ensures { OnOk result (Appended out.old out.new self.new (spec.member_written member.now self.old)) }
+        ensures { OnOk result (AppendsSpelling out.old out.new self.new (spec.member_written member.now self.old)) }
     {
         self.append_member_id(out, member.kind, member.id)?;
         self.append_strings(out, StringKey::of_member(member.kind, &member.role))?;
@@ -137,10 +137,10 @@ impl WrittenSegment {
     }
 }
 
-/// Appends a section with its length in front.
-fn append_section(out: &mut Draft, section: &Draft) -> Result<(), Memory>
+/// Appends a section after its length.
+fn append_section(out: &mut SetBuffer, section: &SetBuffer) -> Result<(), Memory>
     ensures { OnOk result (out.new ≡ out.old ++ (shortest_number (length section.now) ++ section.now)) }
 {
     out.append_number(section.len())?;
-    out.append_draft(section)
+    out.append_buffer(section)
 }

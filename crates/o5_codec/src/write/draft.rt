@@ -9,31 +9,31 @@ use osm_model::Memory;
 use std::alloc::Global;
 use std::marker::Model;
 
-/// The bytes that a number has at most.
+/// The most bytes of a number.
 const LONGEST_NUMBER: usize = 10;
 
 /// Bytes that grow at their end. The last ones are in a block. Contracts see all of them.
 #[derive(Drop)]
-pub(crate) struct Draft {
+pub(crate) struct SetBuffer {
     front: Vec<u8>,
     block: Block,
 }
 
-impl Model for Draft {
+impl Model for SetBuffer {
     ghost use Rattle.std.specs.Prelude.{List, ℕ, ◌++◌};
-    ghost use Rattle.o5_codec.specs.Block.{filled};
+    ghost use Rattle.o5_codec.specs.Block.{filled_bytes};
 
     ghost Value = { List ℕ };
 
-    ghost view = { λ d. d.front.items ++ filled d.block };
+    ghost view = { λ d. d.front.items ++ filled_bytes d.block };
 }
 
-impl Draft {
+impl SetBuffer {
     /// A draft without bytes.
-    pub(crate) fn new(alloc: Global) -> Draft
+    pub(crate) fn new(alloc: Global) -> SetBuffer
         ensures { result ≡ [] }
     {
-        Draft {
+        SetBuffer {
             front: Vec::new(alloc),
             block: Block::new(),
         }
@@ -47,7 +47,7 @@ impl Draft {
         self.block.clear();
     }
 
-    /// Drops all bytes, and leaves room for two in front, which are set later.
+    /// Drops all bytes, and leaves room for two at the front, which are set later.
     pub(crate) fn begin(&mut self)
         ensures { length self.new ≡ 2 }
     {
@@ -158,7 +158,7 @@ impl Draft {
     /// # Errors
     ///
     /// `Memory` when out of memory; `self` may then have a part of them.
-    pub(crate) fn append_draft(&mut self, other: &Draft) -> Result<(), Memory>
+    pub(crate) fn append_buffer(&mut self, other: &SetBuffer) -> Result<(), Memory>
         ensures { OnOk result (self.new ≡ self.old ++ other.now) }
     {
         self.append(other.front.as_slice())?;

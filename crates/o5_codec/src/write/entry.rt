@@ -5,17 +5,17 @@ ghost use Rattle.std.specs.Bool.{OnTrue};
 ghost use Rattle.std.specs.Cmp.{decided, partial_equiv_from_equiv};
 ghost use Rattle.std.proofs.Common.{ap};
 ghost use Rattle.o5_codec.specs.Table.{is_short};
-ghost use Rattle.o5_codec.specs.Block.{filled};
+ghost use Rattle.o5_codec.specs.Block.{filled_bytes};
 ghost use Rattle.o5_codec.specs.Digest.{digest};
-ghost use Rattle.o5_codec.specs.Formed.{formed, same_form, same_entry, inline_bytes};
+ghost use Rattle.o5_codec.specs.Formed.{formed_entry, same_form, same_entry, inline_bytes};
 ghost use Rattle.o5_codec.specs.Writing.{uid_string, member_string};
 ghost use Rattle.o5_codec.specs.StringKey.{formed_of};
 ghost use Rattle.o5_codec.specs.SameEntry.{same_entry_decides};
 
-use crate::strings::{Form, Strings};
+use crate::strings::{Form, StringPair};
 use crate::table::is_short;
 use crate::write::block::Block;
-use crate::write::draft::Draft;
+use crate::write::draft::SetBuffer;
 use crate::write::string_key::StringKey;
 use osm_model::{Kind, Memory};
 use smallvec::SmallVec;
@@ -29,8 +29,8 @@ const INLINE_BYTES: usize = 24;
 /// A pair or a single string. The bytes are those of the first string and then those of the second. Contracts see the
 /// form and the strings.
 ///
-/// Two entries are compared by their digests first, and the map of the table hashes the digest. It is SipHash with a
-/// fixed key, so strings whose digests are equal have to be searched for.
+/// Two entries are compared by their digests first, and the map of the table hashes the digest. The digest is SipHash
+/// with a fixed key, so only a search could find strings whose digests are equal.
 #[derive(Drop)]
 pub(crate) struct Entry {
     form: Form,
@@ -38,18 +38,18 @@ pub(crate) struct Entry {
     split: usize,
     /// The digest of the bytes.
     digest: u64,
-    /// The user id that the first string spells, where the entry was filled as a user's.
+    /// The user id that the first string spells, if the entry was filled as a user's.
     uid: Option<u64>,
 }
 
 impl Model for Entry {
     ghost use Rattle.std.specs.Prelude.{take, drop};
-    ghost use Rattle.o5_codec.specs.Formed.{FormedEntry, formed};
+    ghost use Rattle.o5_codec.specs.Formed.{FormedEntry, formed_entry};
     ghost use Rattle.o5_codec.specs.EntryInside.{IsEntry};
 
     ghost Value = { FormedEntry };
 
-    ghost view = { λ e. formed e.form (take e.split e.bytes.items) (drop e.split e.bytes.items) };
+    ghost view = { λ e. formed_entry e.form (take e.split e.bytes.items) (drop e.split e.bytes.items) };
 
     ghost invariant = { IsEntry };
 }
@@ -106,14 +106,14 @@ impl Entry {
         }
     }
 
-    fn strings(&self) -> Strings<'_>
+    fn strings(&self) -> StringPair<'_>
         ensures { result ≡ self.now.strings }
     {
         let (first, second) = self.bytes.as_slice().split_at(self.split);
-        Strings { first, second }
+        StringPair { first, second }
     }
 
-    /// Whether it is the entry of the strings of `key`.
+    /// Whether this is the entry of the strings of `key`.
     #[inline(always)]
     pub(crate) fn matches(&self, key: StringKey<'_>) -> bool
         ensures { OnTrue result (self.now ≡ formed_of key.entry) }
@@ -138,7 +138,7 @@ impl Entry {
         }
     }
 
-    /// Whether the strings are few enough bytes to be stored.
+    /// Whether the strings have few enough bytes to be stored.
     pub(crate) fn is_short(&self) -> bool
         ensures { result ≡ is_short self.now.strings }
     {
@@ -146,7 +146,7 @@ impl Entry {
     }
 
     /// Appends the strings inline.
-    pub(crate) fn append_inline(&self, out: &mut Draft) -> Result<(), Memory>
+    pub(crate) fn append_inline(&self, out: &mut SetBuffer) -> Result<(), Memory>
         ensures { OnOk result (out.new ≡ out.old ++ inline_bytes self.now.form self.now.strings) }
     {
         let strings = self.strings();
@@ -204,7 +204,7 @@ impl Entry {
         rest: &[u8],
         second: &[u8],
     ) -> Result<(), Memory>
-        ensures { OnOk result (self.new ≡ formed form (front.now ++ rest.now) second.now) }
+        ensures { OnOk result (self.new ≡ formed_entry form (front.now ++ rest.now) second.now) }
     {
         let mut bytes = SmallVec::new(*self.bytes.allocator());
         bytes.extend_from_slice(front)?;
@@ -235,7 +235,7 @@ fn digest_of(bytes: &[u8]) -> u64
 
 /// The string of a user id.
 fn uid_digits(uid: u64) -> Block
-    ensures { filled result ≡ uid_string uid }
+    ensures { filled_bytes result ≡ uid_string uid }
 {
     let mut digits = Block::new();
     if uid != 0 {
@@ -244,7 +244,7 @@ fn uid_digits(uid: u64) -> Block
     digits
 }
 
-/// Whether a string is the digit of a member's kind and after it this role.
+/// Whether a string is the digit of a member's kind, followed by this role.
 #[inline(always)]
 fn is_member_string(string: &[u8], kind: Kind, role: &[u8]) -> bool
     ensures { OnTrue result (string.now ≡ member_string kind role.now) }

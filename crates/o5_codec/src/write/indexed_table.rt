@@ -1,19 +1,19 @@
 //! The string table of a segment that is written.
 //!
 //! Why: a table has up to 15,000 entries, and a search of it would compare each. The hash map finds an entry by its
-//! digest, and the cache of `slot` finds most of them before that, which saves half of what writing a version costs.
-//! Assumes: the map has exactly the entries of the ring, each with the number of its storing (`IsTable`).
+//! digest, and the cache of `slot` finds most of them before that, which saves half of the cost of writing a version.
+//! Assumes: the map has exactly the entries of the ring, each with its number (`IsTable`).
 //! Otherwise: an entry that neither has is written inline, and stored in both.
 //! Compared by: `refers_as_a_plain_search_does`.
 ghost use Rattle.std.specs.Prelude.{◌≡◌, ◌∷◌, ◌^◌, ◌++◌, [], take, IfOk, OnOk, None, Some, IfSome};
-ghost use Rattle.o5_codec.specs.Table.{limit};
+ghost use Rattle.o5_codec.specs.Table.{table_limit};
 ghost use Rattle.std.specs.HashMap as hash;
-ghost use Rattle.o5_codec.specs.Formed.{same_entry, reference_to, kept, spelled_by, kept_by};
+ghost use Rattle.o5_codec.specs.Formed.{same_entry, reference_to, formed_table_with, strings_bytes, formed_table_after};
 ghost use Rattle.o5_codec.specs.Indexed.{IsNext};
 ghost use Rattle.o5_codec.specs.StringKey.{formed_of};
 
 use crate::table::LIMIT;
-use crate::write::draft::Draft;
+use crate::write::draft::SetBuffer;
 use crate::write::entry::Entry;
 use crate::write::slot::{Slot, SlotCache};
 use crate::write::string_key::StringKey;
@@ -23,16 +23,16 @@ use std::alloc::Global;
 use std::collections::HashMap;
 use std::marker::Model;
 
-/// The entries that references can name, in a ring, and the number of the storing of each in a hash map. Contracts see
-/// the list of the entries, the one stored last first.
+/// The entries that references can name, in a ring, and the number of each in a hash map. Contracts see the list of the
+/// entries, the one stored last first.
 ///
 /// The ring's block is allocated once. Its pages cost no resident memory before an entry is written into them.
 #[derive(Drop)]
 pub(crate) struct IndexedTable {
     ring: HeapCircularBuffer<Entry>,
-    /// The number of each entry's storing in the segment, modulo 2^64.
+    /// The number of each entry: the entries stored before it in the segment, modulo 2^64.
     numbers: HashMap<Entry, u64>,
-    /// The number of the next storing.
+    /// The number of the next entry.
     next: u64,
     /// A cache of `numbers`.
     cache: SlotCache,
@@ -66,7 +66,7 @@ impl IndexedTable {
         })
     }
 
-    /// Forgets all entries.
+    /// Drops all entries.
     pub(crate) fn clear(&mut self)
         ensures { self.new ≡ [] }
     {
@@ -83,12 +83,12 @@ impl IndexedTable {
     /// `Memory` when out of memory.
     pub(crate) fn append(
         &mut self,
-        out: &mut Draft,
+        out: &mut SetBuffer,
         slot: Slot,
         entry: &Entry,
     ) -> Result<(), Memory>
-        ensures bytes { OnOk result (out.new ≡ out.old ++ spelled_by entry.now (reference_to entry.now self.old)) }
-        ensures table { OnOk result (self.new ≡ kept_by entry.now (reference_to entry.now self.old) self.old) }
+        ensures bytes { OnOk result (out.new ≡ out.old ++ strings_bytes entry.now (reference_to entry.now self.old)) }
+        ensures table { OnOk result (self.new ≡ formed_table_after entry.now (reference_to entry.now self.old) self.old) }
     {
         match self.reference_to(entry) {
             Some(reference) => {
@@ -140,7 +140,7 @@ impl IndexedTable {
     /// Stores an entry that the table doesn't have, unless it is too long.
     fn store(&mut self, entry: &Entry) -> Result<(), Memory>
         requires { reference_to entry.now self.old ≡ None }
-        ensures { OnOk result (self.new ≡ kept entry.now self.old) }
+        ensures { OnOk result (self.new ≡ formed_table_with entry.now self.old) }
     {
         if !entry.is_short() {
             return Ok(());
@@ -154,7 +154,7 @@ impl IndexedTable {
     fn put(&mut self, key: Entry, stored: Entry) -> Result<(), Memory>
         requires same { key ≡ stored }
         requires absent { reference_to key self.old ≡ None }
-        ensures { OnOk result (self.new ≡ take limit (stored ∷ self.old)) }
+        ensures { OnOk result (self.new ≡ take table_limit (stored ∷ self.old)) }
     {
         self.numbers.insert(key, self.next)?;
         let after = number_after(self.next);
@@ -166,14 +166,14 @@ impl IndexedTable {
     }
 }
 
-/// Removes an entry from the numbers, and drops it.
+/// Removes an entry from the map, and drops it.
 fn remove(numbers: &mut HashMap<Entry, u64>, entry: Entry)
     ensures { hash.UpdatesBy same_entry (same_entry entry) numbers.old numbers.new None }
 {
     numbers.remove(&entry);
 }
 
-/// The number of the storing after this one.
+/// The number after `number`.
 fn number_after(number: u64) -> u64
     ensures { IsNext (2 ^ 64) number result }
 {

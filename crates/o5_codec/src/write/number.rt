@@ -4,7 +4,7 @@ ghost use Rattle.o5_codec.specs.Number.{unsigned_of};
 ghost use Rattle.o5_codec.specs.Shortest.{shortest_number, shortest_signed};
 
 use crate::write::block::Block;
-use crate::write::draft::Draft;
+use crate::write::draft::SetBuffer;
 use osm_model::Memory;
 
 /// Appends an unsigned number.
@@ -29,13 +29,13 @@ pub(crate) fn append_number(out: &mut Vec<u8>, number: u64) -> Result<(), Memory
 /// As for [`append_number`].
 #[inline(always)]
 #[tactic(auto, unfolding(crate::specs::Shortest::shortest_signed))]
-pub(crate) fn append_signed(out: &mut Draft, number: i64) -> Result<(), Memory>
+pub(crate) fn append_signed(out: &mut SetBuffer, number: i64) -> Result<(), Memory>
     ensures { OnOk result (out.new ≡ out.old ++ shortest_signed number) }
 {
     out.append_number(to_unsigned(number))
 }
 
-/// The unsigned number that stands for a signed one: even ones for 0, 1, 2 and so on, odd ones for -1, -2 and so on.
+/// The unsigned number of a signed one: 0, 1, 2 and so on have even ones, -1, -2 and so on have odd ones.
 fn to_unsigned(number: i64) -> u64
     ensures { result ≡ unsigned_of number }
 {

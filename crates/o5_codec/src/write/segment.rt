@@ -1,14 +1,14 @@
-//! What data sets are written relative to, and the steps of a data set before its body.
+//! The context of a data set that is written, and the steps of a data set before its body.
 ghost use Rattle.std.specs.Prelude.{◌≡◌, ◌<◌, ◌^◌, true, IfOk, OnOk, unwrap_or};
 ghost use Rattle.osm_model.specs.Id.{is_id};
 ghost use Rattle.o5_codec.specs.Encoder.{new_written_segment};
 ghost use Rattle.o5_codec.specs.Formed.{reference_to};
-ghost use Rattle.o5_codec.specs.Appended.{Appended};
+ghost use Rattle.o5_codec.specs.Appended.{AppendsSpelling};
 ghost use Rattle.o5_codec.specs.StringKey.{formed_of};
 ghost use Rattle.o5_codec.specs.Writing as spec;
 
 use crate::base::Bases;
-use crate::write::draft::Draft;
+use crate::write::draft::SetBuffer;
 use crate::write::entry::Entry;
 use crate::write::indexed_table::IndexedTable;
 use crate::write::slot::Slot;
@@ -19,27 +19,27 @@ use std::marker::Model;
 
 /// The part of a segment that later data sets are written relative to. Contracts see the bases and the table.
 #[derive(Drop)]
-pub(crate) struct WrittenSegment {
+pub(crate) struct EncoderSegment {
     bases: Bases,
     table: IndexedTable,
-    /// The entry that is filled and appended, whose buffer is used again.
+    /// The entry that is filled and appended; its buffer is reused.
     entry: Entry,
 }
 
-impl Model for WrittenSegment {
-    ghost use Rattle.o5_codec.specs.Writing.{WrittenSegment};
+impl Model for EncoderSegment {
+    ghost use Rattle.o5_codec.specs.Writing.{EncoderSegment};
 
-    ghost Value = { WrittenSegment };
+    ghost Value = { EncoderSegment };
 
     ghost view = { λ c. record { bases = c.bases; table = c.table } };
 }
 
-impl WrittenSegment {
+impl EncoderSegment {
     /// The beginning of a segment.
-    pub(crate) fn new(alloc: Global) -> Result<WrittenSegment, Memory>
+    pub(crate) fn new(alloc: Global) -> Result<EncoderSegment, Memory>
         ensures { IfOk result (λ c. c ≡ new_written_segment) }
     {
-        Ok(WrittenSegment {
+        Ok(EncoderSegment {
             bases: Bases::new(),
             table: IndexedTable::new(alloc)?,
             entry: Entry::new(alloc),
@@ -58,11 +58,11 @@ impl WrittenSegment {
     #[tactic(auto, unfolding(crate::specs::Writing::content_written))]
     pub(crate) fn append_content(
         &mut self,
-        out: &mut Draft,
-        section: &mut Draft,
+        out: &mut SetBuffer,
+        section: &mut SetBuffer,
         v: &Version,
     ) -> Result<(), Memory>
-        ensures { OnOk result (Appended out.old out.new self.new (spec.content_written v.now self.old)) }
+        ensures { OnOk result (AppendsSpelling out.old out.new self.new (spec.content_written v.now self.old)) }
     {
         self.append_id(out, v.id())?;
         out.append_number(v.number())?;
@@ -74,26 +74,26 @@ impl WrittenSegment {
 
     /// Appends the id of an object.
     #[tactic(auto, unfolding(crate::specs::Writing::id_written))]
-    fn append_id(&mut self, out: &mut Draft, id: i64) -> Result<(), Memory>
+    fn append_id(&mut self, out: &mut SetBuffer, id: i64) -> Result<(), Memory>
         requires { is_id id ≡ true }
-        ensures { OnOk result (Appended out.old out.new self.new (spec.id_written id self.old)) }
+        ensures { OnOk result (AppendsSpelling out.old out.new self.new (spec.id_written id self.old)) }
     {
         self.bases.id.append(out, id)
     }
 
-    /// Appends a time, 0 being none.
+    /// Appends a time; 0 is none.
     #[tactic(auto, unfolding(crate::specs::Writing::time_written))]
-    fn append_time(&mut self, out: &mut Draft, time: u32) -> Result<(), Memory>
-        ensures { OnOk result (Appended out.old out.new self.new (spec.time_written time self.old)) }
+    fn append_time(&mut self, out: &mut SetBuffer, time: u32) -> Result<(), Memory>
+        ensures { OnOk result (AppendsSpelling out.old out.new self.new (spec.time_written time self.old)) }
     {
         self.bases.time.append(out, time)
     }
 
-    /// Appends changeset and user, where there is a time.
+    /// Appends changeset and user, if there is a time.
     #[tactic(auto, unfolding(crate::specs::Writing::author_written))]
-    fn append_author(&mut self, out: &mut Draft, v: &Version) -> Result<(), Memory>
+    fn append_author(&mut self, out: &mut SetBuffer, v: &Version) -> Result<(), Memory>
         requires { v.now.changeset < 2 ^ 32 }
-        ensures { OnOk result (Appended out.old out.new self.new (spec.author_written v.now self.old)) }
+        ensures { OnOk result (AppendsSpelling out.old out.new self.new (spec.author_written v.now self.old)) }
     {
         match v.time() {
             None => Ok(()),
@@ -106,8 +106,8 @@ impl WrittenSegment {
     }
 
     #[tactic(auto, unfolding(crate::specs::Writing::changeset_written))]
-    fn append_changeset(&mut self, out: &mut Draft, changeset: u32) -> Result<(), Memory>
-        ensures { OnOk result (Appended out.old out.new self.new (spec.changeset_written changeset self.old)) }
+    fn append_changeset(&mut self, out: &mut SetBuffer, changeset: u32) -> Result<(), Memory>
+        ensures { OnOk result (AppendsSpelling out.old out.new self.new (spec.changeset_written changeset self.old)) }
     {
         self.bases.changeset.append(out, changeset)
     }
@@ -119,11 +119,11 @@ impl WrittenSegment {
     #[tactic(auto, unfolding(crate::specs::Writing::strings_written))]
     pub(crate) fn append_strings(
         &mut self,
-        out: &mut Draft,
+        out: &mut SetBuffer,
         key: StringKey<'_>,
     ) -> Result<(), Memory>
         ensures { OnOk result
-            (Appended out.old out.new self.new (spec.strings_written (formed_of key.entry) self.old)) }
+            (AppendsSpelling out.old out.new self.new (spec.strings_written (formed_of key.entry) self.old)) }
     {
         if let Some(reference) = self.table.cached_reference(key) {
             return out.append_number(reference);
@@ -136,12 +136,12 @@ impl WrittenSegment {
     #[tactic(auto, unfolding(crate::specs::Writing::member_id_written))]
     pub(crate) fn append_member_id(
         &mut self,
-        out: &mut Draft,
+        out: &mut SetBuffer,
         kind: Kind,
         id: i64,
     ) -> Result<(), Memory>
         requires { is_id id ≡ true }
-        ensures { OnOk result (Appended out.old out.new self.new (spec.member_id_written kind id self.old)) }
+        ensures { OnOk result (AppendsSpelling out.old out.new self.new (spec.member_id_written kind id self.old)) }
     {
         match kind {
             Kind::Node => self.bases.node_member.append(out, id),
@@ -152,25 +152,25 @@ impl WrittenSegment {
 
     /// Appends the reference of a way.
     #[tactic(auto, unfolding(crate::specs::Writing::reference_written))]
-    pub(crate) fn append_reference(&mut self, out: &mut Draft, id: i64) -> Result<(), Memory>
+    pub(crate) fn append_reference(&mut self, out: &mut SetBuffer, id: i64) -> Result<(), Memory>
         requires { is_id id ≡ true }
-        ensures { OnOk result (Appended out.old out.new self.new (spec.reference_written id self.old)) }
+        ensures { OnOk result (AppendsSpelling out.old out.new self.new (spec.reference_written id self.old)) }
     {
         self.bases.reference.append(out, id)
     }
 
     /// Appends a longitude.
     #[tactic(auto, unfolding(crate::specs::Writing::longitude_written))]
-    pub(crate) fn append_longitude(&mut self, out: &mut Draft, lon: i32) -> Result<(), Memory>
-        ensures { OnOk result (Appended out.old out.new self.new (spec.longitude_written lon self.old)) }
+    pub(crate) fn append_longitude(&mut self, out: &mut SetBuffer, lon: i32) -> Result<(), Memory>
+        ensures { OnOk result (AppendsSpelling out.old out.new self.new (spec.longitude_written lon self.old)) }
     {
         self.bases.lon.append(out, lon)
     }
 
     /// Appends a latitude.
     #[tactic(auto, unfolding(crate::specs::Writing::latitude_written))]
-    pub(crate) fn append_latitude(&mut self, out: &mut Draft, lat: i32) -> Result<(), Memory>
-        ensures { OnOk result (Appended out.old out.new self.new (spec.latitude_written lat self.old)) }
+    pub(crate) fn append_latitude(&mut self, out: &mut SetBuffer, lat: i32) -> Result<(), Memory>
+        ensures { OnOk result (AppendsSpelling out.old out.new self.new (spec.latitude_written lat self.old)) }
     {
         self.bases.lat.append(out, lat)
     }

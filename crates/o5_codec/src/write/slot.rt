@@ -1,11 +1,11 @@
-//! A cache of the numbers that the writer's string table has in its hash map.
+//! A cache of the numbers in the hash map of the writer's string table.
 //!
 //! Why: the map hashes all bytes of an entry, and the entry has to be filled before. The cache finds an entry by a few
 //! of its bytes. To write a version takes 704 instructions instead of 1,405, which is 30 percent of a merge from o5m to
 //! o5m.
-//! Assumes: nothing. Several entries share a slot, and an entry that leaves the table stays in its slot, so the table
+//! Assumes: nothing. Several entries share a slot, and an entry that leaves the table remains in its slot, so the table
 //! compares the entry that the cache names. No byte that is written depends on the cache.
-//! Otherwise: where the entry is another one, the table asks its map.
+//! Otherwise: if the entry is another one, the table looks in its map.
 //! Compared by: `refers_as_a_plain_search_does`.
 use crate::write::string_key::StringKey;
 use osm_model::Memory;
@@ -14,10 +14,10 @@ use std::alloc::Global;
 /// The number of slots.
 const SLOTS: usize = 65_536;
 
-/// A slot keeps the number of a storing modulo this. A table has fewer entries.
+/// A slot keeps the number of an entry modulo this. A table has fewer entries.
 const NUMBERS: u64 = 65_536;
 
-/// For each slot, the number of the entry that was written last. The table may not have that entry any more.
+/// For each slot, the number of the entry that was written last. The table may have dropped that entry.
 #[derive(Drop)]
 pub(crate) struct SlotCache {
     numbers: Vec<u16>,
@@ -31,7 +31,7 @@ impl SlotCache {
         })
     }
 
-    /// The number of entries that were stored later than the one in the slot. `next` is the number of the next storing.
+    /// The number of entries that were stored later than the one in the slot. `next` is the number of the next entry.
     #[inline(always)]
     pub(crate) fn stored_later(&self, slot: Slot, next: u64) -> Option<u16> {
         let number = *self.numbers.get(slot.index())?;
@@ -51,7 +51,7 @@ fn lowest_bits(number: u64) -> u16 {
     (number % NUMBERS) as u16
 }
 
-/// One of the slots. Entries that are written again and again mostly have slots of their own.
+/// One of the slots. Most entries that are written again and again have slots of their own.
 #[derive(Clone, Copy, Debug, PartialEq, Eq)]
 pub(crate) struct Slot(u64);
 
@@ -72,7 +72,7 @@ impl Slot {
         Slot(first.wrapping_mul(31).wrapping_add(second))
     }
 
-    /// Its index among the slots.
+    /// The index among the slots.
     fn index(self) -> usize {
         (self.0 % SLOTS as u64) as usize
     }

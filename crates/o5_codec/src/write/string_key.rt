@@ -1,4 +1,4 @@
-//! The strings that the writer appends, as the parts of a version have them.
+//! The strings that the writer appends, as references to the parts of a version.
 use osm_model::{Kind, Tag, Text};
 
 /// The strings of a user, of a tag or of a member. Contracts see the entry that has them.

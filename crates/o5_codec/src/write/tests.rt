@@ -2,9 +2,9 @@
 ghost use Rattle.std.specs.Prelude.{◌≡◌, false};
 
 use crate::number::read_number;
-use crate::write::draft::Draft;
+use crate::write::draft::SetBuffer;
 use crate::write::entry::Entry;
-use crate::write::segment::WrittenSegment;
+use crate::write::segment::EncoderSegment;
 use crate::write::string_key::StringKey;
 use crate::{Decoder, Encoder};
 use osm_model::{Body, Kind, Meta, Tag, Tags, Text, Version};
@@ -38,7 +38,7 @@ impl Writer {
     }
 }
 
-/// The bytes that stand in hexadecimal.
+/// The bytes that `digits` has in hexadecimal.
 fn bytes_of(alloc: Global, digits: &str) -> Result<Vec<u8>, Fail> {
     let mut bytes = Vec::new(alloc);
     for byte in digits.split_whitespace() {
@@ -57,7 +57,7 @@ fn kind_of(type_byte: u8) -> Result<Kind, Fail> {
     }
 }
 
-/// The version of a data set, behind a reset if one stands there.
+/// The version of a data set, after a reset if there is one.
 fn read_back(reader: &mut Decoder, set: &[u8]) -> Result<Version, Fail> {
     let set = match set {
         [0xff, behind @ ..] => {
@@ -89,7 +89,8 @@ fn check(
     Ok(())
 }
 
-/// A version by a data set that spells it in a segment of its own, its line, and the data set that is written.
+/// Checks a row: a data set that spells a version in a segment of its own, the version's line, and the data set that is
+/// written.
 fn check_row(
     rt: &impl Abort,
     alloc: Global,
@@ -106,7 +107,7 @@ fn check_row(
     check(rt, writer, reader, &version, &bytes_of(alloc, written)?)
 }
 
-/// Checks rows. At an empty row another encoder begins.
+/// Checks rows. Another encoder begins at an empty row.
 fn check_rows(rt: &impl Abort, alloc: Global, rows: &str) -> Result<(), Fail> {
     for file in rows.split("\n\n") {
         check_file(rt, alloc, file)?;
@@ -216,7 +217,7 @@ fn pass_on(writer: &mut Writer, reader: &mut Decoder, version: &Version) -> Resu
     Ok(())
 }
 
-/// An encoder and a decoder behind a node with so many tags.
+/// An encoder and a decoder after a node with `count` tags.
 fn behind_many_tags(alloc: Global, count: u32) -> Result<(Writer, Decoder), Fail> {
     let mut writer = Writer::new(alloc)?;
     let mut reader = Decoder::new(alloc)?;
@@ -237,7 +238,7 @@ fn check_digits(
     check(rt, writer, reader, version, &expected)
 }
 
-/// Writes node 1 with so many tags, and node 2 with one tag, whose data set is compared.
+/// Writes node 1 with `count` tags, and node 2 with one tag, whose data set is compared.
 fn check_second(
     rt: &impl Abort,
     alloc: Global,
@@ -264,7 +265,8 @@ fn refers_to_the_last_15000_pairs(rt: HostRuntime) -> Result<(), Fail> {
     check_second(&rt, alloc, 15_001, "00002", "10 07 02 01 00 00 00 98 75")
 }
 
-/// The table as the format has it: the numbers of the entries stored last, the latest at the end, and a search of them.
+/// The table as the format defines it: the numbers of the entries stored last, the latest at the end, and a search of
+/// them.
 #[derive(Drop)]
 struct Plain {
     stored: Vec<u32>,
@@ -272,7 +274,7 @@ struct Plain {
 }
 
 impl Plain {
-    fn append(&mut self, out: &mut Draft, number: u32, key: StringKey<'_>) -> Result<(), Fail> {
+    fn append(&mut self, out: &mut SetBuffer, number: u32, key: StringKey<'_>) -> Result<(), Fail> {
         for (place, other) in self.stored.iter().enumerate() {
             if *other == number {
                 return Ok(out.append_number((self.stored.len() - place) as u64)?);
@@ -291,13 +293,13 @@ impl Plain {
 }
 
 /// The bytes of a draft.
-fn all_of(alloc: Global, draft: &Draft) -> Result<Vec<u8>, Fail> {
+fn all_of(alloc: Global, draft: &SetBuffer) -> Result<Vec<u8>, Fail> {
     let mut bytes = Vec::new(alloc);
     draft.append_to(&mut bytes)?;
     Ok(bytes)
 }
 
-/// As many letters as an entry may have, but two.
+/// A text with two letters fewer than an entry may have.
 fn long_text(alloc: Global) -> Result<String, Fail> {
     let mut text = String::new(alloc);
     for _ in 0..248u32 {
@@ -306,7 +308,7 @@ fn long_text(alloc: Global) -> Result<String, Fail> {
     Ok(text)
 }
 
-/// The strings of a number: those of a user, a tag or a member, now and then long ones.
+/// The strings of a number: those of a user, a tag or a member; some of them are long.
 fn key_of<'a>(number: u32, digits: &'a [u8], long: &'a [u8]) -> StringKey<'a> {
     match number % 16 {
         0..=3 => StringKey::User {
@@ -336,16 +338,16 @@ fn key_of<'a>(number: u32, digits: &'a [u8], long: &'a [u8]) -> StringKey<'a> {
 fn append_to_both(
     rt: &impl Abort,
     alloc: Global,
-    segment: &mut WrittenSegment,
+    segment: &mut EncoderSegment,
     plain: &mut Plain,
     number: u32,
     long: &[u8],
 ) -> Result<(), Fail> {
     let digits = format!(in alloc; "{number}")?;
     let key = key_of(number, digits.as_str().as_bytes(), long);
-    let mut written = Draft::new(alloc);
+    let mut written = SetBuffer::new(alloc);
     segment.append_strings(&mut written, key)?;
-    let mut expected = Draft::new(alloc);
+    let mut expected = SetBuffer::new(alloc);
     plain.append(&mut expected, number, key)?;
     let written = all_of(alloc, &written)?;
     assert_eq!(rt; written.as_slice(), all_of(alloc, &expected)?.as_slice());
@@ -355,7 +357,7 @@ fn append_to_both(
 #[test]
 fn refers_as_a_plain_search_does(rt: HostRuntime) -> Result<(), Fail> {
     let alloc = rt.alloc();
-    let mut segment = WrittenSegment::new(alloc)?;
+    let mut segment = EncoderSegment::new(alloc)?;
     let mut plain = Plain {
         stored: Vec::new(alloc),
         entry: Entry::new(alloc),

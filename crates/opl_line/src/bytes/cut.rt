@@ -1,16 +1,16 @@
 //! Texts cut at some of their bytes.
 ghost use Rattle.std.specs.Prelude.{◌≡◌, ◌∷◌, ◌<◌, ℕ, ◌||◌, ◌==◌, length, IfSome, option_copied};
-ghost use Rattle.opl_line.specs.Cut.{is_end, split_first, cut, pieces_of};
+ghost use Rattle.opl_line.specs.Delimiter.{is_end, split_first, split_all, pieces_of};
 
 use super::scan::{ByteClass, find};
 use std::simd::prelude::*;
 
-/// How many bytes are looked at together.
-const LANES: usize = 16;
+/// The number of bytes that one step looks at.
+const CUT_LANES: usize = 16;
 
-/// Where a text is cut.
+/// The bytes at which a text is cut.
 #[derive(Clone, Copy, Debug)]
-pub(crate) enum Cut {
+pub(crate) enum Delimiter {
     /// At each space and each tab.
     Blanks,
     /// At each comma.
@@ -25,13 +25,13 @@ pub(crate) enum Cut {
     Points,
 }
 
-impl Cut {
-    /// What stands before the first byte that is cut at, and what stands behind it, if there is one.
+impl Delimiter {
+    /// The text before the first byte that is cut at, and the text after it, if there is such a byte.
     #[inline(always)]
     pub(crate) fn split(self, text: &str) -> (&str, Option<&str>)
         ensures first { result.0.now ≡ (split_first (is_end self) text.now).0 }
         ensures behind { option_copied result.1 ≡ (split_first (is_end self) text.now).1 }
-        ensures pieces { cut (is_end self) text.now ≡ result.0.now ∷ pieces_of (is_end self) (option_copied result.1) }
+        ensures pieces { split_all (is_end self) text.now ≡ result.0.now ∷ pieces_of (is_end self) (option_copied result.1) }
         ensures shorter { IfSome result.1 (λ behind. length behind.now < length text.now) }
     {
         match find(self, text.as_bytes()) {
@@ -40,7 +40,7 @@ impl Cut {
         }
     }
 
-    /// The bytes before the first one that is cut at, and those behind it, if there is one.
+    /// The bytes before the first one that is cut at, and those after it, if there is such a byte.
     #[inline(always)]
     pub(crate) fn split_bytes(self, bytes: &[u8]) -> (&[u8], Option<&[u8]>)
         ensures first { result.0.now ≡ (split_first (is_end self) bytes.now).0 }
@@ -58,22 +58,22 @@ impl Cut {
         ensures { (byte : ℕ) → is_end self byte ≡ (byte == result.0 || byte == result.1) }
     {
         match self {
-            Cut::Blanks => (b' ', b'\t'),
-            Cut::Commas => (b',', b','),
-            Cut::Equals => (b'=', b'='),
-            Cut::Ats => (b'@', b'@'),
-            Cut::Percents => (b'%', b'%'),
-            Cut::Points => (b'.', b'.'),
+            Delimiter::Blanks => (b' ', b'\t'),
+            Delimiter::Commas => (b',', b','),
+            Delimiter::Equals => (b'=', b'='),
+            Delimiter::Ats => (b'@', b'@'),
+            Delimiter::Percents => (b'%', b'%'),
+            Delimiter::Points => (b'.', b'.'),
         }
     }
 }
 
-impl ByteClass<LANES> for Cut {
+impl ByteClass<CUT_LANES> for Delimiter {
     ghost has = { is_end };
 
     #[inline(always)]
     fn marks(self, bytes: &[u8], from: usize) -> u64 {
-        let lanes = Simd::<u8, LANES>::from_slice(&bytes[from..]);
+        let lanes = Simd::<u8, CUT_LANES>::from_slice(&bytes[from..]);
         let (one, other) = self.ends();
         let ends = lanes.simd_eq(Simd::splat(one)) | lanes.simd_eq(Simd::splat(other));
         ends.to_bitmask()

@@ -1,7 +1,7 @@
-//! Bytes of a class, looked for many at a time.
+//! A search for bytes of a class, many at a time.
 //!
-//! Why: lines are read and cut at bytes of a class, and 8 to 64 bytes are compared by one instruction.
-//! Assumes: there are as many bytes left.
+//! Why: lines are read and cut at bytes of a class, and one instruction compares 8 to 64 bytes.
+//! Assumes: as many bytes are left.
 //! Otherwise: the last bytes are compared one by one.
 //! Compared by: `line_ends_are_found`.
 ghost use Rattle.std.specs.Prelude.{◌≡◌, ◌+◌, ◌<◌, ◌≤◌, ℕ, Bool, not, length, position};
@@ -14,7 +14,7 @@ pub(crate) trait ByteClass<const LANES: usize>: Copy {
     /// Which bytes are of the class.
     ghost has: { Self → ℕ → Bool };
 
-    /// Which of the bytes from a place on are of the class: a bit for each, the lowest for the first.
+    /// Marks the bytes from `from` on that are of the class: a bit for each byte, the lowest for the first.
     fn marks(self, bytes: &[u8], from: usize) -> u64
         requires { from + LANES ≤ length bytes.now }
         ensures { result ≡ marks_of (has self) (chunk from LANES bytes.now) };
@@ -24,7 +24,7 @@ pub(crate) trait ByteClass<const LANES: usize>: Copy {
         ensures { result ≡ has self byte };
 }
 
-/// The place of the first byte of a class. So many bytes are looked at together, and the rest one by one.
+/// The offset of the first byte of a class. One step looks at `LANES` bytes; the last bytes are looked at one by one.
 #[inline(always)]
 pub(crate) fn find<const LANES: usize, C: ByteClass<LANES>>(class: C, bytes: &[u8]) -> Option<usize>
     requires some { 0 < LANES }
@@ -47,7 +47,7 @@ pub(crate) fn find<const LANES: usize, C: ByteClass<LANES>>(class: C, bytes: &[u
     None
 }
 
-/// How many of the bytes that are looked at together, from a place on, stand before the first of a class.
+/// The number of bytes before the first one of a class among the `LANES` bytes from `from` on.
 #[inline(always)]
 fn run<const LANES: usize, C: ByteClass<LANES>>(class: C, bytes: &[u8], from: usize) -> usize
     requires few { LANES ≤ 64 }

@@ -1,8 +1,8 @@
 //! Lines as texts.
 //!
-//! Why: to find out that a line is ASCII costs less than to test that it is UTF-8, and most lines are.
+//! Why: a test for ASCII costs less than one for UTF-8, and most lines are ASCII.
 //! Assumes: for the fast test, that the line has at least 64 bytes.
-//! Otherwise: the line is tested by `simdutf8`.
+//! Otherwise: `simdutf8` tests the line.
 //! Compared by: `faulty_texts` and `lines_of_each_kind`.
 ghost use Rattle.std.specs.Prelude.{◌≡◌, ◌+◌, ◌<◌, ◌≤◌, ℕ, length, slice_index, MatchOption, IsUtf8};
 ghost use Rattle.std.specs.Bool.{OnTrue};
@@ -11,10 +11,10 @@ ghost use Rattle.std.specs.Str.{IsAscii};
 use std::simd::prelude::*;
 use std::str;
 
-/// How many bytes are looked at together.
-const LANES: usize = 64;
+/// The number of bytes that one step looks at.
+const UTF8_LANES: usize = 64;
 
-/// The line as a text, if it is UTF-8. Most lines are ASCII, which takes less to find out.
+/// The line as a text, if it is UTF-8. Most lines are ASCII, for which the test costs less.
 #[inline(always)]
 pub(crate) fn to_str(line: &[u8]) -> Option<&str>
     ensures { MatchOption result (¬ IsUtf8 line.now) (λ text. text.now ≡ line.now) }
@@ -31,20 +31,20 @@ pub(crate) fn to_str(line: &[u8]) -> Option<&str>
 fn is_long_ascii(line: &[u8]) -> bool
     ensures { OnTrue result (IsAscii line.now) }
 {
-    if line.len() < LANES {
+    if line.len() < UTF8_LANES {
         return false;
     }
     let mut seen = 0;
-    'lanes: while line.len() - seen >= LANES {
+    'lanes: while line.len() - seen >= UTF8_LANES {
         if !are_ascii(line, seen) {
             return false;
         }
-        seen += LANES;
+        seen += UTF8_LANES;
     }
-    are_ascii(line, line.len() - LANES)
+    are_ascii(line, line.len() - UTF8_LANES)
 }
 
-/// Whether the 64 bytes from a place on are ASCII.
+/// Whether the 64 bytes from `from` on are ASCII.
 #[inline(always)]
 fn are_ascii(bytes: &[u8], from: usize) -> bool
     requires { from + 64 ≤ length bytes.now }

@@ -26,7 +26,7 @@ pub(crate) fn read_deleted(content: &[u8]) -> Result<bool, OplReason>
     }
 }
 
-/// A changeset or a user id, 0 where there is none.
+/// A changeset or a user id, 0 if there is none.
 pub(crate) fn read_count(content: &[u8]) -> Result<u64, OplReason>
     ensures { result ≡ spec.reading_count content.now }
 {
@@ -47,7 +47,7 @@ pub(crate) fn read_optional_time(content: &[u8]) -> Result<Option<u64>, OplReaso
 }
 
 /// A coordinate, if there is one.
-pub(crate) fn read_place(content: &[u8]) -> Result<Option<i32>, OplReason>
+pub(crate) fn read_optional_coordinate(content: &[u8]) -> Result<Option<i32>, OplReason>
     ensures { result ≡ spec.reading_optional reading_coordinate content.now }
 {
     if content.is_empty() {

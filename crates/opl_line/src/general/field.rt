@@ -1,21 +1,23 @@
-//! What the fields of an OPL line say.
+//! The fields of an OPL line.
 ghost use Rattle.std.specs.Prelude.{◌≡◌, ◌⊎◌, Ok, Err, MatchResult, option_copied};
-ghost use Rattle.opl_line.specs.declared.bytes.cut.Cut.TheVariants.{Blanks};
+ghost use Rattle.opl_line.specs.declared.bytes.cut.Delimiter.TheVariants.{Blanks};
 ghost use Rattle.opl_line.specs.declared.reason.OplReason.TheVariants.{Memory};
-ghost use Rattle.opl_line.specs.Cut.{is_end, pieces_of};
+ghost use Rattle.opl_line.specs.Delimiter.{is_end, pieces_of};
 
-use super::content::{read_count, read_deleted, read_number_32, read_optional_time, read_place};
+use super::content::{
+    read_count, read_deleted, read_number_32, read_optional_coordinate, read_optional_time,
+};
 use super::item::read_list;
 use super::text::read_text;
 use crate::OplReason;
-use crate::bytes::cut::Cut;
+use crate::bytes::cut::Delimiter;
 use osm_model::{Kind, Members, References, Tags, Text};
 use std::alloc::Global;
 
-/// What each field of a line says; `None` if the line does not have the field.
+/// The content of each field of a line; `None` if the line does not have the field.
 #[derive(Debug, Drop)]
 pub(crate) struct Fields {
-    /// `v`: the version number, of which 0 means none.
+    /// `v`: the version number; 0 means none.
     pub(crate) number: Option<u64>,
     /// `d`: whether the object was deleted.
     pub(crate) deleted: Option<bool>,
@@ -42,9 +44,9 @@ pub(crate) struct Fields {
 impl Fields {
     ghost use Rattle.opl_line.specs.Field as spec;
 
-    /// What no field says.
-    pub(crate) fn nothing_said() -> Fields
-        ensures { result ≡ spec.nothing_said }
+    /// The contents of no field.
+    pub(crate) fn no_fields() -> Fields
+        ensures { result ≡ spec.no_fields }
     {
         Fields {
             number: None,
@@ -61,11 +63,11 @@ impl Fields {
         }
     }
 
-    /// Adds what the fields after a line's first blank say, of an object of this kind.
+    /// Adds the contents of the fields after a line's first blank, for an object of this kind.
     ///
     /// # Errors
     ///
-    /// That of the leftmost faulty field; `Memory`.
+    /// The reason of the leftmost faulty field; `Memory`.
     pub(crate) fn read(
         &mut self,
         alloc: Global,
@@ -81,14 +83,14 @@ impl Fields {
     {
         let mut rest = text;
         'fields: while let Some(text) = rest {
-            let (field, behind) = Cut::Blanks.split(text);
+            let (field, behind) = Delimiter::Blanks.split(text);
             self.add(alloc, kind, field)?;
             rest = behind;
         }
         Ok(())
     }
 
-    /// Adds what one more field says. An empty one says nothing.
+    /// Adds the content of one more field. An empty field has none.
     fn add(&mut self, alloc: Global, kind: Kind, field: &str) -> Result<(), OplReason>
         ensures { MatchResult result
             (λ _. spec.reading_field kind field.now self.old ≡ Ok self.new)
@@ -126,7 +128,7 @@ impl Fields {
         }
     }
 
-    /// Adds what the content after a letter says.
+    /// Adds the content after a letter.
     fn add_content(
         &mut self,
         alloc: Global,
@@ -164,8 +166,12 @@ impl Fields {
             (λ reason. (reason ≡ Memory) ⊎ (spec.with_body_field kind letter content.now self.old ≡ Err reason)) }
     {
         match (kind, letter) {
-            (Kind::Node, b'x') => self.longitude = Some(read_place(content.as_bytes())?),
-            (Kind::Node, b'y') => self.latitude = Some(read_place(content.as_bytes())?),
+            (Kind::Node, b'x') => self.longitude = Some(read_optional_coordinate(
+                content.as_bytes(),
+            )?),
+            (Kind::Node, b'y') => self.latitude = Some(read_optional_coordinate(
+                content.as_bytes(),
+            )?),
             (Kind::Way, b'N') => self.references = Some(References::from_vec(read_list(
                 alloc, content,
             )?)),

@@ -1,21 +1,21 @@
 //! The items of lists in OPL lines.
 ghost use Rattle.std.specs.Prelude.{◌≡◌, ◌⊎◌, Ok, Err, None, Some, drop, MatchOption, MatchResult};
 ghost use Rattle.opl_line.specs.declared.reason.OplReason.TheVariants.{Memory};
-ghost use Rattle.opl_line.specs.Answer.{Answers};
+ghost use Rattle.opl_line.specs.Answer.{OplAnswers};
 ghost use Rattle.opl_line.specs.Item as spec;
 
 use super::text::read_text;
 use crate::OplReason;
-use crate::bytes::cut::Cut;
+use crate::bytes::cut::Delimiter;
 use crate::number::read_id;
 use osm_model::{Kind, Member, Tag};
 use std::alloc::Global;
 
-/// The bytes of a usual item and its comma, as `n123456789,`. Room is made for so many items as such have place in the
-/// content, so that commas alone can't ask for much memory.
+/// The bytes of a usual item and its comma, as `n123456789,`. A list gets room for as many usual items as its content
+/// has space for, so that a content of commas can't ask for much memory.
 pub(crate) const USUAL_ITEM: usize = 11;
 
-/// What can stand in a list.
+/// An item of a list.
 pub(crate) trait Item: Drop + Sized {
     ghost use Rattle.std.specs.Prelude.{List, ℕ, Result};
     ghost use Rattle.opl_line.specs.declared.reason.OplReason.{OplReason};
@@ -26,17 +26,17 @@ pub(crate) trait Item: Drop + Sized {
     ///
     /// # Errors
     ///
-    /// `BadList` where the text has not the item's form, `OutOfRange` where an id is out of range, `BadText` where a
-    /// part of it is no text; `Memory`.
+    /// `BadList` if the text doesn't have the item's form, `OutOfRange` if an id is out of range, `BadText` if a part
+    /// of it is no text; `Memory`.
     fn read(alloc: Global, text: &str) -> Result<Self, OplReason>
-        ensures { Answers (reading text.now) result };
+        ensures { OplAnswers (reading text.now) result };
 }
 
 /// The items of a list, which has a comma between each two.
 ///
 /// # Errors
 ///
-/// That of the first faulty item; `Memory`.
+/// The reason of the first faulty item; `Memory`.
 pub(crate) fn read_list<T: Item>(alloc: Global, content: &str) -> Result<Vec<T>, OplReason>
     ensures { MatchResult result
         (λ items. spec.reading_list T.reading content.now ≡ Ok items.items)
@@ -48,7 +48,7 @@ pub(crate) fn read_list<T: Item>(alloc: Global, content: &str) -> Result<Vec<T>,
     let mut items: Vec<T> = Vec::with_capacity(alloc, content.len() / USUAL_ITEM + 1)?;
     let mut rest = Some(content);
     'items: while let Some(text) = rest {
-        let (item, behind) = Cut::Commas.split(text);
+        let (item, behind) = Delimiter::Commas.split(text);
         items.push(T::read(alloc, item)?)?;
         rest = behind;
     }
@@ -60,10 +60,10 @@ impl Item for Tag {
     ghost reading = { spec.reading_tag };
 
     fn read(alloc: Global, text: &str) -> Result<Tag, OplReason> {
-        let (key, Some(behind)) = Cut::Equals.split(text) else {
+        let (key, Some(behind)) = Delimiter::Equals.split(text) else {
             return Err(OplReason::BadList);
         };
-        let (value, more) = Cut::Equals.split(behind);
+        let (value, more) = Delimiter::Equals.split(behind);
         if more.is_some() {
             return Err(OplReason::BadList);
         }
@@ -73,7 +73,7 @@ impl Item for Tag {
     }
 }
 
-/// The id of a node behind its letter, as `n1`.
+/// The id of a node after its letter, as `n1`.
 impl Item for i64 {
     ghost reading = { spec.reading_reference };
 
@@ -90,7 +90,7 @@ impl Item for Member {
     ghost reading = { spec.reading_member };
 
     fn read(alloc: Global, text: &str) -> Result<Member, OplReason> {
-        let (object, Some(role)) = Cut::Ats.split(text) else {
+        let (object, Some(role)) = Delimiter::Ats.split(text) else {
             return Err(OplReason::BadList);
         };
         let (kind, id) = read_object_name(object.as_bytes())?;
@@ -107,7 +107,7 @@ fn read_object_name(text: &[u8]) -> Result<(Kind, i64), OplReason>
     Ok((kind, read_item_id(digits)?))
 }
 
-/// The kind that the first letter of a text stands for, and what stands behind it; `None` where it stands for none.
+/// The kind whose letter a text begins with, and the bytes after it; `None` if it begins with no such letter.
 pub(crate) fn split_kind(text: &[u8]) -> Option<(Kind, &[u8])>
     ensures { MatchOption result
         (spec.first_kind text.now ≡ None)
@@ -117,7 +117,7 @@ pub(crate) fn split_kind(text: &[u8]) -> Option<(Kind, &[u8])>
     Some((kind_of_letter(*letter)?, rest))
 }
 
-/// The kind that a letter stands for.
+/// The kind of a letter.
 pub(crate) fn kind_of_letter(letter: u8) -> Option<Kind>
     ensures { result ≡ spec.kind_of_letter letter }
 {
@@ -136,7 +136,7 @@ fn read_item_id(digits: &[u8]) -> Result<i64, OplReason>
     read_id(digits).map_err(item_reason)
 }
 
-/// The reason for which an item is refused whose id is refused for a reason.
+/// The reason of an item whose id has the reason `reason`.
 fn item_reason(reason: OplReason) -> OplReason
     ensures { result ≡ spec.item_reason reason }
 {

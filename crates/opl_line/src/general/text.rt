@@ -2,14 +2,14 @@
 ghost use Rattle.std.specs.Prelude.{◌≡◌, ◌⊎◌, ◌<◌, true, false, not, None, position};
 ghost use Rattle.std.specs.Prelude.{length, string_bytes, option_copied, MatchOption, MatchResult, IfOk, IfSome};
 ghost use Rattle.std.specs.List.{list_all};
-ghost use Rattle.opl_line.specs.declared.bytes.cut.Cut.TheVariants.{Percents};
+ghost use Rattle.opl_line.specs.declared.bytes.cut.Delimiter.TheVariants.{Percents};
 ghost use Rattle.opl_line.specs.declared.reason.OplReason.TheVariants.{Memory, BadText};
-ghost use Rattle.opl_line.specs.Answer.{Answers};
-ghost use Rattle.opl_line.specs.Cut.{is_end, split_first, cut, pieces_of};
+ghost use Rattle.opl_line.specs.Answer.{OplAnswers};
+ghost use Rattle.opl_line.specs.Delimiter.{is_end, split_first, split_all, pieces_of};
 ghost use Rattle.opl_line.specs.Text as spec;
 
 use crate::OplReason;
-use crate::bytes::cut::Cut;
+use crate::bytes::cut::Delimiter;
 use osm_model::Text;
 use std::alloc::Global;
 
@@ -17,9 +17,9 @@ use std::alloc::Global;
 ///
 /// # Errors
 ///
-/// `BadText` where a character is raw that must be escaped, or where an escape is faulty; `Memory`.
+/// `BadText` if a character is raw that must be escaped, or if an escape is faulty; `Memory`.
 pub(crate) fn read_text(alloc: Global, text: &str) -> Result<Text, OplReason>
-    ensures { Answers (spec.reading_text text.now) result }
+    ensures { OplAnswers (spec.reading_text text.now) result }
 {
     let Some((raw, escapes)) = split_accepted(text) else {
         return Err(OplReason::BadText);
@@ -38,17 +38,17 @@ pub(crate) fn read_text(alloc: Global, text: &str) -> Result<Text, OplReason>
     Ok(Text::from_string(out))
 }
 
-/// Appends the character of an escape, which stands behind its percent sign, and the raw piece that follows it. What
-/// stands behind the next percent sign is answered.
+/// Appends the character of an escape, which follows its percent sign, and the raw piece after it. Returns the text
+/// after the next percent sign.
 fn append_escape<'a>(out: &mut String, escape: &'a str) -> Result<Option<&'a str>, OplReason>
     ensures text { MatchResult result
-        (λ more. spec.text_from (string_bytes out.old) (cut (is_end Percents) escape.now)
+        (λ more. spec.text_from (string_bytes out.old) (split_all (is_end Percents) escape.now)
         ≡ spec.text_from (string_bytes out.new) (pieces_of (is_end Percents) (option_copied more)))
         (λ reason. (reason ≡ Memory) ⊎ ((reason ≡ BadText)
-        × (spec.text_from (string_bytes out.old) (cut (is_end Percents) escape.now) ≡ None))) }
+        × (spec.text_from (string_bytes out.old) (split_all (is_end Percents) escape.now) ≡ None))) }
     ensures shorter { IfOk result (λ more. IfSome more (λ behind. length behind.now < length escape.now)) }
 {
-    let (digits, Some(behind)) = Cut::Percents.split(escape) else {
+    let (digits, Some(behind)) = Delimiter::Percents.split(escape) else {
         return Err(OplReason::BadText);
     };
     let Some(character) = scalar_of(digits.as_bytes()) else {
@@ -62,8 +62,8 @@ fn append_escape<'a>(out: &mut String, escape: &'a str) -> Result<Option<&'a str
     Ok(more)
 }
 
-/// The raw characters that a text begins with, and what stands behind the percent sign that ends them, if there is one;
-/// `None` where another character ends them, which must be escaped.
+/// The raw characters that a text begins with, and the text after the percent sign that ends them, if there is one;
+/// `None` if another character ends them, which must be escaped.
 fn split_accepted(text: &str) -> Option<(&str, Option<&str>)>
     ensures parts { MatchOption result
         (list_all spec.stands_for_itself (split_first (is_end Percents) text.now).0 ≡ false)

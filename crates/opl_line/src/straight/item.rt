@@ -13,17 +13,17 @@ use crate::general::item::{USUAL_ITEM, kind_of_letter};
 use osm_model::{Kind, Member, Spare, Tag};
 use std::alloc::Global;
 
-/// What can stand in a list.
+/// An item of a list.
 pub(crate) trait StraightItem: Drop + Sized {
     ghost form: { Self → List ℕ };
 
     ghost is_valid: { Self → Bool };
 
-    /// A list without items, in memory that isn't needed any more, if there is some.
+    /// An empty list, in memory that isn't needed any more, if there is some.
     fn take_list(spare: &mut Spare) -> Vec<Self>
         ensures { result.items ≡ [] };
 
-    /// The item that a text begins with, and what stands behind it.
+    /// The item that a text begins with, and the text after it.
     fn parse(alloc: Global, text: &[u8]) -> Option<(Self, &[u8])>
         ensures text { IfSome result (λ read. text.now ≡ form read.0 ++ read.1.now) }
         ensures valid { IfSome result (λ read. is_valid read.0 ≡ true) };
@@ -48,7 +48,7 @@ impl StraightItem for Tag {
     }
 }
 
-/// The id of a node behind its letter, as `n1`.
+/// The id of a node after its letter, as `n1`.
 impl StraightItem for i64 {
     ghost form = { reference_text };
 
@@ -83,7 +83,7 @@ impl StraightItem for Member {
     }
 }
 
-/// The kind and the id of an object, as `w1`, and what stands behind them.
+/// The kind and the id of an object, as `w1`, and the text after them.
 #[inline(always)]
 pub(crate) fn parse_object(text: &[u8]) -> Option<((Kind, i64), &[u8])>
     ensures text { IfSome result (λ read. text.now ≡ kind_letter read.0.0 ∷ (integer_text read.0.1 ++ read.1.now)) }
@@ -97,7 +97,7 @@ pub(crate) fn parse_object(text: &[u8]) -> Option<((Kind, i64), &[u8])>
     Some(((kind, id), behind))
 }
 
-/// What stands behind a byte that a text begins with.
+/// The text after `byte`, if the text begins with it.
 #[inline(always)]
 pub(crate) fn strip_byte(text: &[u8], byte: u8) -> Option<&[u8]>
     ensures { IfSome result (λ behind. text.now ≡ byte ∷ behind.now) }
@@ -108,7 +108,7 @@ pub(crate) fn strip_byte(text: &[u8], byte: u8) -> Option<&[u8]>
     Some(&text[1..])
 }
 
-/// The items of a list, with a comma between each two, and what stands behind them.
+/// The items of a list, with a comma between each two, and the text after them.
 #[inline(always)]
 pub(crate) fn parse_list<'a, T: StraightItem>(
     alloc: Global,
@@ -124,7 +124,7 @@ pub(crate) fn parse_list<'a, T: StraightItem>(
     parse_items(alloc, spare, text)
 }
 
-/// A list for the items that a text begins with: one that has been used before, or with room for usual ones.
+/// A list for the items that a text begins with: a used list, or one with room for usual items.
 #[inline(always)]
 fn list_for<T: StraightItem>(spare: &mut Spare, text: &[u8]) -> Option<Vec<T>>
     ensures { IfSome result (λ items. items.items ≡ []) }

@@ -18,7 +18,7 @@ const MOST_ID_DIGITS: usize = 18;
 /// The bytes of a time.
 const TIME_LENGTH: usize = 20;
 
-/// A version number, a changeset or a user id, and what stands behind it.
+/// A version number, a changeset or a user id, and the text after it.
 #[inline(always)]
 pub(crate) fn parse_number(text: &[u8]) -> Option<(u64, &[u8])>
     ensures text { IfSome result (λ read. text.now ≡ number_text read.0 ++ read.1.now) }
@@ -31,7 +31,7 @@ pub(crate) fn parse_number(text: &[u8]) -> Option<(u64, &[u8])>
     Some((number, behind))
 }
 
-/// An id, and what stands behind it.
+/// An id, and the text after it.
 #[inline(always)]
 pub(crate) fn parse_id(text: &[u8]) -> Option<(i64, &[u8])>
     ensures text { IfSome result (λ read. text.now ≡ integer_text read.0 ++ read.1.now) }
@@ -46,7 +46,7 @@ pub(crate) fn parse_id(text: &[u8]) -> Option<(i64, &[u8])>
     Some((if is_negative { -id } else { id }, behind))
 }
 
-/// A time, if there is one, and what stands behind it.
+/// A time, if there is one, and the text after it.
 #[inline(always)]
 pub(crate) fn parse_time(text: &[u8]) -> (Option<u64>, &[u8])
     ensures text { text.now ≡ time_text result.0 ++ result.1.now }
@@ -61,7 +61,7 @@ pub(crate) fn parse_time(text: &[u8]) -> (Option<u64>, &[u8])
     }
 }
 
-/// A coordinate, and what stands behind it.
+/// A coordinate, and the text after it.
 #[inline(always)]
 pub(crate) fn parse_coordinate(text: &[u8]) -> Option<(i32, &[u8])>
     ensures { IfSome result (λ read. text.now ≡ coordinate_text read.0 ++ read.1.now) }
@@ -77,7 +77,7 @@ pub(crate) fn parse_coordinate(text: &[u8]) -> Option<(i32, &[u8])>
     Some((place, behind))
 }
 
-/// The units of a coordinate without its sign, and what stands behind it.
+/// The units of a coordinate without its sign, and the text after it.
 #[inline(always)]
 fn degrees(text: &[u8]) -> Option<(u64, &[u8])>
     ensures text { IfSome result (λ read. text.now ≡ degrees_text read.0 ++ read.1.now) }
@@ -88,7 +88,7 @@ fn degrees(text: &[u8]) -> Option<(u64, &[u8])>
     Some((whole * DEGREE + units, behind))
 }
 
-/// The units of a part of a degree, and what stands behind it.
+/// The units of a part of a degree, and the text after it.
 #[inline(always)]
 fn fraction(text: &[u8]) -> Option<(u64, &[u8])>
     ensures text { IfSome result (λ read. text.now ≡ fraction_text read.0 ++ read.1.now) }
@@ -104,7 +104,7 @@ fn fraction(text: &[u8]) -> Option<(u64, &[u8])>
     Some((decimals * scale(count), &text[1 + count..]))
 }
 
-/// A number of so many digits at most, with no leading zero, and what stands behind it.
+/// A number of at most `most` digits without a leading zero, and the text after it.
 #[inline(always)]
 fn numeral(text: &[u8], most: usize) -> Option<(u64, &[u8])>
     requires { most ≤ 19 }

@@ -6,24 +6,24 @@ ghost use Rattle.osm_model.specs.Text.{is_text};
 ghost use Rattle.osm_model.specs.Escape.{escape, escape_char, is_raw_byte};
 ghost use Rattle.opl_line.specs.Straight.{AreRaw};
 
-use crate::bytes::cut::Cut;
+use crate::bytes::cut::Delimiter;
 use crate::bytes::scan::{ByteClass, find};
 use crate::general::text::scalar_of;
-use osm_model::{Text, behind_escaped};
+use osm_model::{Text, strip_escaped};
 use std::alloc::Global;
 use std::simd::prelude::*;
 use std::str;
 
-/// How many bytes are looked at together.
-const LANES: usize = 16;
+/// The number of bytes that one step looks at.
+const TEXT_LANES: usize = 16;
 
-/// A text, and what stands behind it.
+/// A text, and the bytes after it.
 #[inline(always)]
 pub(crate) fn parse_text(alloc: Global, bytes: &[u8]) -> Option<(Text, &[u8])>
     ensures text { IfSome result (λ read. bytes.now ≡ escape read.0 ++ read.1.now) }
     ensures valid { IfSome result (λ read. is_text read.0 ≡ true) }
 {
-    let length = raw_length(bytes);
+    let length = unescaped_length(bytes);
     if length < bytes.len() && needs_decoding(bytes[length]) {
         return decode_text(alloc, bytes);
     }
@@ -35,9 +35,9 @@ pub(crate) fn parse_text(alloc: Global, bytes: &[u8]) -> Option<(Text, &[u8])>
     Some((text, &bytes[length..]))
 }
 
-/// How many raw characters of one byte stand before the first other one.
+/// The number of raw characters of one byte before the first other one.
 #[inline(always)]
-fn raw_length(bytes: &[u8]) -> usize
+fn unescaped_length(bytes: &[u8]) -> usize
     ensures within { result ≤ length bytes.now }
     ensures raw { list_all is_raw_byte (take result bytes.now) ≡ true }
 {
@@ -52,12 +52,12 @@ fn raw_length(bytes: &[u8]) -> usize
 #[derive(Clone, Copy, Debug)]
 struct WriterEscapes;
 
-impl ByteClass<LANES> for WriterEscapes {
+impl ByteClass<TEXT_LANES> for WriterEscapes {
     ghost has = { λ _ byte. not (is_raw_byte byte) };
 
     #[inline(always)]
     fn marks(self, bytes: &[u8], from: usize) -> u64 {
-        let lanes = Simd::<u8, LANES>::from_slice(&bytes[from..]);
+        let lanes = Simd::<u8, TEXT_LANES>::from_slice(&bytes[from..]);
         let controls = lanes.simd_le(Simd::splat(b' '));
         let edges = controls | lanes.simd_ge(Simd::splat(0x7F));
         let percents = edges | lanes.simd_eq(Simd::splat(b'%'));
@@ -81,13 +81,13 @@ fn is_raw_byte(byte: u8) -> bool
     matches!(byte, 0x21..=0x24 | 0x26..=0x2B | 0x2D..=0x3C | 0x3E..=0x3F | 0x41..=0x7E)
 }
 
-/// Whether a text goes on at a byte that is no raw character by itself.
+/// Whether a text continues at a byte that is no raw character by itself.
 #[inline(always)]
 fn needs_decoding(byte: u8) -> bool {
     byte == b'%' || byte >= 0x80
 }
 
-/// A text with escapes or with characters outside ASCII, and what stands behind it.
+/// A text with escapes or with characters outside ASCII, and the bytes after it.
 #[inline(never)]
 fn decode_text(alloc: Global, bytes: &[u8]) -> Option<(Text, &[u8])>
     ensures text { IfSome result (λ read. bytes.now ≡ escape read.0 ++ read.1.now) }
@@ -115,27 +115,27 @@ fn decode_text(alloc: Global, bytes: &[u8]) -> Option<(Text, &[u8])>
     }
 }
 
-/// The raw characters that a text begins with, and what stands behind them.
+/// The raw characters that a text begins with, and the bytes after them.
 fn split_raw(text: &[u8]) -> (&str, &[u8])
     ensures text { text.now ≡ result.0.now ++ result.1.now }
     ensures raw { AreRaw result.0.now }
 {
     let mut end = 0;
     'characters: while end < text.len() {
-        let width = raw_width(&text[end..]);
+        let width = unescaped_width(&text[end..]);
         if width == 0 {
             break 'characters;
         }
         end += width;
     }
-    // SAFETY: these bytes are raw characters of one or two bytes, each tested in `raw_width`.
+    // SAFETY: these bytes are raw characters of one or two bytes, each tested in `unescaped_width`.
     let raw = unsafe { str::from_utf8_unchecked(&text[..end]) };
     (raw, &text[end..])
 }
 
-/// How many bytes the first character of a text takes, where it is raw, and else 0.
+/// The number of bytes of the first character of a text, if it is raw, and else 0.
 #[inline(always)]
-fn raw_width(text: &[u8]) -> usize
+fn unescaped_width(text: &[u8]) -> usize
     ensures within { result ≤ length text.now }
     ensures raw { AreRaw (take result text.now) }
 {
@@ -163,14 +163,14 @@ fn is_raw_pair(lead: u8, next: u8) -> bool
     }
 }
 
-/// The character of the escape that a text begins with, and what stands behind it.
+/// The character of the escape that a text begins with, and the bytes after it.
 fn parse_escape(text: &[u8]) -> Option<(char, &[u8])>
     ensures text { IfSome result (λ read. text.now ≡ escape_char read.0 ++ read.1.now) }
     ensures valid { IfSome result (λ read. is_text (read.0 ∷ []) ≡ true) }
 {
     let (_, behind) = text.split_first()?;
-    let (digits, _) = Cut::Percents.split_bytes(behind);
+    let (digits, _) = Delimiter::Percents.split_bytes(behind);
     let character = scalar_of(digits)?;
-    let next = behind_escaped(text, character)?;
+    let next = strip_escaped(text, character)?;
     Some((character, next))
 }

@@ -15,45 +15,43 @@ use std::marker::Model;
 /// The changeset, the time and the user of versions that were uploaded together, with their fields in a canonical line.
 /// Neighbours in a file often were, and then these fields need not be read again.
 ///
-/// Each version is noted whose line doesn't say the same as what is kept. As soon as two in a row are of one changeset
-/// and
-/// time, what the second one says is kept, so that lines of which no two say the same cost nearly nothing.
+/// Each version is noted whose line doesn't repeat what is kept. When two such versions in sequence have one changeset
+/// and time, the fields of the second one are kept. So lines of which no two repeat these fields cost nearly nothing.
 #[derive(Drop)]
-pub(crate) struct Upload {
+pub(crate) struct SharedAuthor {
     /// The changeset and the time of the version noted last.
     last_changeset: u64,
     last_time: Option<u64>,
-    /// What is kept; the number of the version among it says nothing.
+    /// The kept metadata; its version number is unused.
     meta: Meta,
-    /// Its fields, from the changeset to the user name, or nothing where none is kept.
+    /// The kept fields, from the changeset to the user name, or nothing if none are kept.
     fields: Vec<u8>,
 }
 
-/// A line is read as the same with what is kept and without it, so contracts see nothing of it.
-impl Model for Upload {
-    ghost use Rattle.opl_line.specs.Upload.{HoldsUpload};
+/// The kept fields don't change how a line is read, so contracts see nothing of them.
+impl Model for SharedAuthor {
+    ghost use Rattle.opl_line.specs.SharedAuthor.{HoldsSharedAuthor};
 
     ghost Value = { Unit {0} };
 
     ghost view = { λ _. tt };
 
-    ghost invariant = { HoldsUpload };
+    ghost invariant = { HoldsSharedAuthor };
 }
 
-impl Upload {
+impl SharedAuthor {
     /// No upload yet.
-    pub(crate) fn new(alloc: Global) -> Upload {
-        Upload {
+    pub(crate) fn new(alloc: Global) -> SharedAuthor {
+        SharedAuthor {
             last_changeset: 0,
             last_time: None,
-            meta: Meta::nothing(),
+            meta: Meta::blank(),
             fields: Vec::new(alloc),
         }
     }
 
-    /// Of a line's text from the changeset on, what it says of a version of this number, and what stands behind the
-    /// user name,
-    /// where it begins with the fields that are kept and a blank ends them.
+    /// Reads `text`, a line from the changeset on, if it begins with the kept fields and a blank ends them. Returns the
+    /// metadata of a version of the number `version`, and the text after the user name.
     #[inline(always)]
     pub(crate) fn read<'a>(&self, version: u64, text: &'a [u8]) -> Option<(Meta, &'a [u8])>
         ensures { IfSome result (λ read. IsAuthored text.now version read.0 read.1.now) }
@@ -78,9 +76,8 @@ impl Upload {
         Some((meta, behind))
     }
 
-    /// Notes what a line says of a version from the changeset to the user name, and keeps it where the version noted
-    /// before was
-    /// of the same changeset and time.
+    /// Notes the fields of a version from the changeset to the user name, and keeps them if the version noted before
+    /// had the same changeset and time.
     #[inline(always)]
     pub(crate) fn note(&mut self, meta: &Meta, text: &[u8], behind: &[u8])
         requires { IsAuthored text.now meta.now.version meta.now behind.now }
@@ -92,7 +89,7 @@ impl Upload {
         self.last_time = meta.time;
     }
 
-    /// Keeps what a line says of a version from the changeset to the user name, or nothing where memory is wanting.
+    /// Keeps the fields of a version from the changeset to the user name, or nothing when out of memory.
     #[inline(never)]
     fn keep(&mut self, meta: &Meta, text: &[u8], behind: &[u8])
         requires { IsAuthored text.now meta.now.version meta.now behind.now }
@@ -109,7 +106,7 @@ impl Upload {
     }
 }
 
-/// The fields that say this of a version, at the front of a text.
+/// The fields of the metadata `meta`, at the front of a text.
 fn fields_of<'a>(meta: &Meta, text: &'a [u8], behind: &[u8]) -> &'a [u8]
     requires { IsAuthored text.now meta.now.version meta.now behind.now }
     ensures { AreFieldsOf meta.now result.now }
@@ -117,7 +114,7 @@ fn fields_of<'a>(meta: &Meta, text: &'a [u8], behind: &[u8]) -> &'a [u8]
     &text[..text.len() - behind.len()]
 }
 
-/// What stands behind these first bytes of a text.
+/// The bytes of `text` after `first`, if it begins with them.
 #[inline(always)]
 fn behind<'a>(text: &'a [u8], first: &[u8]) -> Option<&'a [u8]>
     ensures { IfSome result (λ behind. text.now ≡ first.now ++ behind.now) }

@@ -1,4 +1,4 @@
-//! A history given away.
+//! A history as a source.
 use super::HistorySource;
 use crate::input::SliceIn;
 use crate::load::load_any;
@@ -6,7 +6,7 @@ use crate::tests::UNSORTED;
 use crate::texts::{push_fault, push_given};
 use std::alloc::Global;
 
-/// What a history gives as a source that was loaded from a file.
+/// The versions that a history gives as a source, if the history was loaded from a file.
 fn held_text(alloc: Global, file: &[u8]) -> String {
     let mut text = String::new(alloc);
     match load_any(alloc, 0, SliceIn::new(file)) {

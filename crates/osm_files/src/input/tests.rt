@@ -14,7 +14,7 @@ fn push_read<I: Input>(text: &mut String, input: &mut I) {
     let _ = writeln!(text, "{given}");
 }
 
-/// What four reads give.
+/// The results of four reads.
 fn read_text<I: Input>(alloc: Global, input: &mut I) -> String {
     let mut text = String::new(alloc);
     for _ in 0..4 {
@@ -23,7 +23,7 @@ fn read_text<I: Input>(alloc: Global, input: &mut I) -> String {
     text
 }
 
-/// What four reads give of a reader that gives one byte a read and then fails.
+/// The results of four reads of a reader that gives one byte a read and then fails.
 fn broken_text(alloc: Global) -> String {
     let read = Cell::new(0usize);
     let pieces = Pieces {

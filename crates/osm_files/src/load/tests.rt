@@ -7,7 +7,7 @@ use crate::tests::{NODE_THEN_DELETION, UNSORTED};
 use crate::texts::{loaded_text, push_fault};
 use std::alloc::Global;
 
-/// What loading the input returns that gives these bytes one by one, and then ends or fails.
+/// The result of loading an input that gives these bytes one by one, and then ends or fails.
 fn dripping_text(alloc: Global, bytes: &[u8], fails: bool) -> String {
     loaded_text(alloc, 3, Dripping { rest: bytes, fails })
 }
@@ -42,7 +42,7 @@ fn files_are_loaded(rt: HostRuntime) {
     }
 }
 
-/// Whether the file of a node and its deletion is refused after `length` bytes where the input fails there.
+/// Whether the file of a node and its deletion is refused after `length` bytes if the input fails there.
 fn is_refused_after(alloc: Global, length: usize) -> bool {
     let mut text = String::new(alloc);
     let fault = Fault {

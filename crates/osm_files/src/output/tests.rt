@@ -16,7 +16,7 @@ fn push_outcome(text: &mut String, outcome: Result<(), Fault>) {
     }
 }
 
-/// Appends what is returned by a write of a line to the output 2 after 10 bytes, by a write of nothing, and by a flush.
+/// Appends the results of a write of a line to the output 2 after 10 bytes, of a write of nothing, and of a flush.
 fn push_writes<W: Output>(text: &mut String, out: &mut W) {
     push_outcome(text, write_all(out, 2, 10, b"n1 v1\n"));
     let is_written = out.write(b"").is_ok();
@@ -29,7 +29,7 @@ fn push_taken(text: &mut String, taken: &[u8]) {
     let _ = text.push_str(str::from_utf8(taken).unwrap_or("?"));
 }
 
-/// What memory returns to these writes, and what it took.
+/// The results of these writes to memory, and the bytes that it took.
 fn memory_text(alloc: Global) -> String {
     let mut text = String::new(alloc);
     let mut out = VecOut::new(alloc);
@@ -38,7 +38,7 @@ fn memory_text(alloc: Global) -> String {
     text
 }
 
-/// What a device of this room returns to these writes, and what it took.
+/// The results of these writes to a device of this room, and the bytes that it took.
 fn device_text(alloc: Global, room: usize, full: Full) -> String {
     let mut text = String::new(alloc);
     let mut taken = Vec::new(alloc);
@@ -74,7 +74,8 @@ fn outputs_take_what_they_have_room_for(rt: HostRuntime) {
     }
 }
 
-/// What memory returns to a write that would make the output 1 too long, and to one that would not; and what it took.
+/// The results of a write to memory that would make the output 1 too long, and of one that would not; and the bytes
+/// that it took.
 fn long_text(alloc: Global) -> String {
     let mut text = String::new(alloc);
     let mut out = VecOut::new(alloc);

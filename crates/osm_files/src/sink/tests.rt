@@ -77,7 +77,7 @@ fn way_without_references(rt: HostRuntime) {
     assert!(rt; is_written(rt.alloc(), WAYS, sets));
 }
 
-/// What writing a node and its deletion as o5m returns, to a device of this room; and whether the device took the first
+/// The result of writing a node and its deletion as o5m to a device of this room; and whether the device took the first
 /// `room` bytes of the file.
 fn write_to_device(
     alloc: Global,
@@ -124,7 +124,7 @@ fn flush_that_fails_is_a_write_fault(rt: HostRuntime) {
     }
 }
 
-/// What a new sink returns to a version and to its end, or why it can't begin.
+/// The results of a new sink for a version and its end, or the fault of its beginning.
 fn put_one<W: Output>(
     sink: &mut Sink,
     out: &mut W,
@@ -138,7 +138,7 @@ fn put_one<W: Output>(
     Ok([put, end])
 }
 
-/// What a sink of this format returns that is the output 2, to a deletion and to its end.
+/// The results of a sink of this format, to the output 2, for a deletion and its end.
 fn put_deletion<W: Output>(
     alloc: Global,
     format: Format,

@@ -1,4 +1,4 @@
-//! Where runs may be split.
+//! Splits of runs.
 use crate::sorted_run::{BytesAtSplit, SortedRun};
 
 /// Two lines, which end in LF and in CR, and a third one.
@@ -16,7 +16,7 @@ fn byte_before(file: &[u8], offset: usize) -> Option<u8> {
     }
 }
 
-/// What splitting the run of the file at the offset returns.
+/// The result of splitting the run of the file at the offset.
 fn split(file: &[u8], run: SortedRun, offset: usize) -> Option<(SortedRun, SortedRun)> {
     let bytes = BytesAtSplit {
         first: file.get(run.start as usize).copied(),

@@ -5,7 +5,7 @@ use crate::tests::{NODE_THEN_DELETION, UNSORTED};
 use crate::texts::{given_text, push_fault, push_given, push_source};
 use std::alloc::Global;
 
-/// What the source of a file gives that is opened to learn the file's format, and that format.
+/// The versions of a source that is opened to learn the file's format, and that format.
 fn opened_text(alloc: Global, file: &[u8]) -> String {
     let mut text = String::new(alloc);
     match FileSource::open(alloc, 2, SliceIn::new(file)) {
@@ -18,16 +18,16 @@ fn opened_text(alloc: Global, file: &[u8]) -> String {
     text
 }
 
-/// What the source of a file gives that is read beside 499 others.
+/// The versions of a source that is one of 500.
 fn beside_text(alloc: Global, file: &[u8]) -> String {
     let mut text = String::new(alloc);
-    let opened = FileSource::beside(alloc, 2, SliceIn::new(file), 500);
+    let opened = FileSource::with_peers(alloc, 2, SliceIn::new(file), 500);
     push_source(alloc, &mut text, opened);
     text
 }
 
-/// A group is sorted and has no repeats; a fault comes instead of its group; lists of versions that were given back are
-/// used again.
+/// A group is sorted and has no repeats; a fault replaces its group; lists of versions that were given back are used
+/// again.
 const GIVEN: [(&[u8], &str); 7] = [
     (
         b"n1 v1 x2 y1\nn1 v1 x1 y1\nn1 v1 x2 y1\nn2 v1 x1 y1",

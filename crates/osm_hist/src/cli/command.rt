@@ -1,4 +1,4 @@
-//! The words that the program knows, with their help.
+//! The arguments that the program takes, with their help.
 use clap::{Arg, ArgAction, Command};
 use osm_files::FORMAT_NAMES;
 use std::alloc::{AllocError, Global};
@@ -6,15 +6,23 @@ use std::alloc::{AllocError, Global};
 /// The program's version.
 const VERSION: &str = "0.1.0";
 
-/// What the program's help says besides.
+/// The option for a list of files.
+pub(super) const LIST: &str = "files0-from";
+
+/// The usage of `time-filter`.
+const TIME_FILTER_USAGE: &str =
+    "osm_hist time-filter [OPTIONS] --output <OUT> <FILE> <TIME> [TIME]\n       \
+    osm_hist time-filter [OPTIONS] --output <OUT> --files0-from <LIST> <TIME> [TIME]";
+
+/// The end of the program's help.
 const PROGRAM: &str = "Without a command, standard input is merged to standard output, as OPL.\n\n\
     Memory: files that are sorted are read one version at a time, however large they are.";
 
-/// What the help of `merge` says of memory, with an example.
+/// The end of the help of `merge`: memory and an example.
 const MERGE: &str = "Memory: each file is read one version at a time.\n\n\
     Example: osm_hist merge --output all.opl monday.opl tuesday.o5m";
 
-/// What the help of a command that makes a file of files in any order says of memory, with an example.
+/// The end of the help of a command that takes files in any order: memory and an example.
 macro_rules! any_order_help {
     ($example:literal) => {
         concat!(
@@ -25,13 +33,13 @@ macro_rules! any_order_help {
     };
 }
 
-/// What the help of `check` says of memory, with an example.
+/// The end of the help of `check`: several files, memory and an example.
 const CHECK: &str =
     "Of several files each gets a line that begins with its name; where one is refused, the others are still checked.\n\n\
     Memory: a sorted file is read one version at a time. A file that isn't sorted is held in memory, and so is a pipe, which \
     can't be read twice. With --sorted none is held.\n\nExample: osm_hist check download.o5m";
 
-/// What the help of `plan` says of the lines of a plan.
+/// The end of the help of `plan`: the lines of a plan, memory and an example.
 const PLAN: &str =
     "PLAN is a text of lines. The lines `full` and `latest` stand first, one for each mirror, numbered from 0; \
     then `take M FILE`, `pass M N FORMAT` and `restart M FORMAT`; then `write M FORMAT FILE`. For example, two mirrors of which \
@@ -39,18 +47,18 @@ const PLAN: &str =
     Memory: all files that are taken and all that the mirrors hold are in memory.\n\n\
     Example: osm_hist plan mirrors.plan";
 
-/// A command, or the refusal of memory for it.
+/// A command, or out of memory.
 type Made<'a> = Result<Command<'a>, AllocError>;
 
-/// The command that reads the arguments.
+/// The command that parses the arguments.
 pub(super) fn command<'a>(alloc: Global) -> Made<'a> {
     let commands = [
-        merge_command(alloc),
-        apply_command(alloc),
-        time_filter_command(alloc),
-        sort_command(alloc),
-        check_command(alloc),
-        plan_command(alloc),
+        with_arg(merge_command(alloc), hints_arg(alloc)),
+        with_arg(apply_command(alloc), hints_arg(alloc)),
+        with_arg(time_filter_command(alloc), hints_arg(alloc)),
+        with_arg(sort_command(alloc), hints_arg(alloc)),
+        with_arg(check_command(alloc), hints_arg(alloc)),
+        with_arg(plan_command(alloc), hints_arg(alloc)),
     ];
     let program = Command::new(alloc, "osm_hist")
         .about("Merges, cuts and checks files of OpenStreetMap histories")
@@ -62,7 +70,7 @@ pub(super) fn command<'a>(alloc: Global) -> Made<'a> {
     commands.into_iter().fold(program, with_command)
 }
 
-/// A command with one more command below it.
+/// Adds the subcommand `command` to `program`.
 fn with_command<'a>(program: Made<'a>, command: Made<'a>) -> Made<'a> {
     match (program, command) {
         (Ok(program), Ok(command)) => program.subcommand(command),
@@ -70,10 +78,18 @@ fn with_command<'a>(program: Made<'a>, command: Made<'a>) -> Made<'a> {
     }
 }
 
-/// A command with one more argument.
+/// Adds an argument to a command.
 fn with_arg<'a>(command: Made<'a>, arg: Arg<'a>) -> Made<'a> {
     match command {
         Ok(command) => command.arg(arg),
+        Err(error) => Err(error),
+    }
+}
+
+/// Adds an argument to a command, unless making the argument ran out of memory.
+fn with_made_arg<'a>(command: Made<'a>, arg: Result<Arg<'a>, AllocError>) -> Made<'a> {
+    match arg {
+        Ok(arg) => with_arg(command, arg),
         Err(error) => Err(error),
     }
 }
@@ -83,7 +99,7 @@ fn merge_command<'a>(alloc: Global) -> Made<'a> {
         .about("Merges sorted files into one")
         .after_help(MERGE);
     let help = "The files to be merged, each sorted, in OPL, o5m or o5c; - is standard input";
-    with_arg(writing(alloc, command), files_arg(alloc, help))
+    with_files(alloc, writing(alloc, command), help)
 }
 
 fn apply_command<'a>(alloc: Global) -> Made<'a> {
@@ -102,20 +118,24 @@ fn apply_command<'a>(alloc: Global) -> Made<'a> {
         with_arg(writing(alloc, command), history),
         sorted_arg(alloc),
     );
-    with_arg(command, files_arg(alloc, help))
+    with_files(alloc, command, help)
 }
 
 fn time_filter_command<'a>(alloc: Global) -> Made<'a> {
     let command = Command::new(alloc, "time-filter")
         .about("Writes the objects as they stood at a moment, or their versions of a period")
+        .override_usage(TIME_FILTER_USAGE)
         .after_help(any_order_help!(
             "time-filter --output new-year.opl history.opl 2020-01-01T00:00:00Z"
         ));
     let help = "The file of a history, in OPL, o5m or o5c; - is standard input";
     let file = required_arg(alloc, "files", "FILE", help);
-    let time = required_arg(alloc, "time", "TIME", "The moment, as 2014-05-06T07:08:09Z");
-    let command = with_arg(with_arg(writing(alloc, command), sorted_arg(alloc)), file);
-    with_arg(with_arg(command, time), end_arg(alloc))
+    let command = with_arg(
+        with_arg(writing(alloc, command), sorted_arg(alloc)),
+        list_arg(alloc),
+    );
+    let command = with_made_arg(with_arg(command, file), time_arg(alloc));
+    with_made_arg(command, end_arg(alloc))
 }
 
 fn sort_command<'a>(alloc: Global) -> Made<'a> {
@@ -124,7 +144,7 @@ fn sort_command<'a>(alloc: Global) -> Made<'a> {
         .after_help(any_order_help!("sort --output sorted.opl unsorted.opl"));
     let help = "The files to be sorted, in OPL, o5m or o5c; - is standard input";
     let command = with_arg(writing(alloc, command), sorted_arg(alloc));
-    with_arg(command, files_arg(alloc, help))
+    with_files(alloc, command, help)
 }
 
 fn check_command<'a>(alloc: Global) -> Made<'a> {
@@ -133,7 +153,7 @@ fn check_command<'a>(alloc: Global) -> Made<'a> {
         .about("Prints a file's format, its versions and objects, and whether it is sorted")
         .after_help(CHECK)
         .arg(sorted_arg(alloc));
-    with_arg(command, files_arg(alloc, help))
+    with_files(alloc, with_arg(command, whole_arg(alloc)), help)
 }
 
 fn plan_command<'a>(alloc: Global) -> Made<'a> {
@@ -145,7 +165,7 @@ fn plan_command<'a>(alloc: Global) -> Made<'a> {
         .arg(required_arg(alloc, "plan", "PLAN", "The file of the plan"))
 }
 
-/// A command with the options of one that writes a file.
+/// Adds the options of a command that writes a file.
 fn writing<'a>(alloc: Global, command: Command<'a>) -> Made<'a> {
     let sync = flag_arg(
         alloc,
@@ -157,8 +177,17 @@ fn writing<'a>(alloc: Global, command: Command<'a>) -> Made<'a> {
         "progress",
         "Tells on standard error, while it runs, how much was read and written",
     );
+    let summary = flag_arg(
+        alloc,
+        "summary",
+        "Tells on standard error, in one line after success, what was read and written",
+    );
     let command = with_arg(command.arg(output_arg(alloc)), format_arg(alloc));
-    with_arg(with_arg(command, sync), progress)
+    let command = with_arg(command, shard_arg(alloc));
+    with_arg(
+        with_arg(with_arg(with_arg(command, sync), progress), summary),
+        whole_arg(alloc),
+    )
 }
 
 fn output_arg<'a>(alloc: Global) -> Arg<'a> {
@@ -180,17 +209,53 @@ fn format_arg<'a>(alloc: Global) -> Arg<'a> {
         .help("Its format, whatever its name ends in")
 }
 
-fn end_arg<'a>(alloc: Global) -> Arg<'a> {
+fn time_arg<'a>(alloc: Global) -> Result<Arg<'a>, AllocError> {
+    Arg::new(alloc, "time")
+        .value_name("TIME")
+        .action(ArgAction::Set)
+        .help("The moment, as 2014-05-06T07:08:09Z")
+        .required_unless_present(LIST)
+}
+
+fn end_arg<'a>(alloc: Global) -> Result<Arg<'a>, AllocError> {
     Arg::new(alloc, "end")
         .value_name("TIME")
         .action(ArgAction::Set)
         .help("The end of the period that begins then: all versions of that period are written")
+        .conflicts_with(LIST)
 }
 
-fn files_arg<'a>(alloc: Global, help: &'a str) -> Arg<'a> {
-    required_arg(alloc, "files", "FILE", help)
+/// Adds the arguments for the input files, or for a list of them.
+fn with_files<'a>(alloc: Global, command: Made<'a>, help: &'a str) -> Made<'a> {
+    with_made_arg(with_arg(command, list_arg(alloc)), files_arg(alloc, help))
+}
+
+fn files_arg<'a>(alloc: Global, help: &'a str) -> Result<Arg<'a>, AllocError> {
+    let files = Arg::new(alloc, "files")
+        .value_name("FILE")
         .num_args(1..)
         .action(ArgAction::Append)
+        .help(help)
+        .required_unless_present(LIST)?;
+    files.conflicts_with(LIST)
+}
+
+fn list_arg<'a>(alloc: Global) -> Arg<'a> {
+    Arg::new(alloc, LIST)
+        .long(LIST)
+        .value_name("LIST")
+        .action(ArgAction::Set)
+        .help("Reads the names of the files from LIST, each ended by NUL; - is standard input")
+}
+
+fn shard_arg<'a>(alloc: Global) -> Arg<'a> {
+    Arg::new(alloc, "shard")
+        .long("shard")
+        .value_name("K/N")
+        .action(ArgAction::Set)
+        .help(
+            "Writes part K of N; all parts as OPL, in sequence, are the output; the files are sorted",
+        )
 }
 
 fn sorted_arg<'a>(alloc: Global) -> Arg<'a> {
@@ -201,7 +266,23 @@ fn sorted_arg<'a>(alloc: Global) -> Arg<'a> {
     )
 }
 
-/// A word that has to be given.
+fn hints_arg<'a>(alloc: Global) -> Arg<'a> {
+    flag_arg(
+        alloc,
+        "hints",
+        "Says after a refusal what to do, as on a terminal",
+    )
+}
+
+fn whole_arg<'a>(alloc: Global) -> Arg<'a> {
+    flag_arg(
+        alloc,
+        "whole",
+        "Refuses an OPL file whose last line has no line feed, since it may be cut",
+    )
+}
+
+/// A required argument.
 fn required_arg<'a>(alloc: Global, name: &'a str, value_name: &'a str, help: &'a str) -> Arg<'a> {
     Arg::new(alloc, name)
         .value_name(value_name)

@@ -1,4 +1,4 @@
-//! Files by name and standard streams, opened to be read.
+//! Files and standard streams, opened to be read, and buffered outputs.
 ghost use Rattle.std.specs.Prelude.{◌≤◌, length, IfOk};
 ghost use Rattle.std.specs.Counts.{IsPrefixLen};
 
@@ -12,10 +12,13 @@ use std::io::{BufWriter, ErrorKind, Read, Write};
 use std::rt::Files;
 use std::{fs, io};
 
-/// The bytes of the buffer before what is written.
+/// The size of the buffer of an output, in bytes.
 const BUFFER: usize = 65536;
 
-/// A writer as an output, through a buffer.
+/// The name of standard input in the line of a refusal.
+pub(super) const STANDARD_INPUT: &str = "standard input";
+
+/// A writer as an output with a buffer.
 pub(super) type BufferedOut<W> = ToWrite<BufWriter<W>>;
 
 /// A file, or standard input. A read that a signal interrupts is tried again.
@@ -34,7 +37,7 @@ impl<F: Read, S: Read> Read for Stream<F, S> {
     }
 }
 
-/// Reads, and tries again where a signal interrupts the read.
+/// Reads. A read that a signal interrupts is tried again.
 pub(super) fn read_retried<R: Read>(reader: &mut R, buffer: &mut [u8]) -> io::Result<usize>
     ensures bound { IfOk result (λ n. IsPrefixLen n buffer.new) }
 {
@@ -47,7 +50,7 @@ pub(super) fn read_retried<R: Read>(reader: &mut R, buffer: &mut [u8]) -> io::Re
     Err(io::Error::from(ErrorKind::Interrupted))
 }
 
-/// Writes, and tries again where a signal interrupts the write.
+/// Writes. A write that a signal interrupts is tried again.
 pub(super) fn write_retried<W: Write>(writer: &mut W, bytes: &[u8]) -> io::Result<usize>
     ensures bound { IfOk result (λ n. n ≤ length bytes.now) }
 {
@@ -61,12 +64,12 @@ pub(super) fn write_retried<W: Write>(writer: &mut W, bytes: &[u8]) -> io::Resul
 }
 
 impl<F: OpenFile, S> Stream<F, S> {
-    /// Whether it can be read again from its start: a pipe, a device or standard input can't.
+    /// Whether the stream can be read again from its start. A pipe, a device and standard input can't.
     pub(super) fn can_be_read_again(&self) -> bool {
         self.size().is_some()
     }
 
-    /// Its bytes, where they are known: those of a pipe, a device or standard input aren't.
+    /// The size of the stream in bytes, if it is known. A pipe, a device and standard input have none.
     pub(super) fn size(&self) -> Option<u64> {
         match self {
             Stream::File(file) => match file.metadata() {
@@ -77,7 +80,7 @@ impl<F: OpenFile, S> Stream<F, S> {
         }
     }
 
-    /// Which file it is, where that is known. Standard input may be a file, too.
+    /// The identity of the file, if it is known. Standard input may be a file, too.
     pub(super) fn id<R: Files>(&self, rt: &R) -> Option<FileId> {
         let metadata = match self {
             Stream::File(file) => file.metadata(),
@@ -90,16 +93,24 @@ impl<F: OpenFile, S> Stream<F, S> {
     }
 }
 
-/// The name of a file to be read in the line of a fault, by the argument for it.
+/// Appends an item to a list. Unlike that of `Vec::push`, the error doesn't hold the item.
+pub(super) fn push<T: Drop>(items: &mut Vec<T>, item: T) -> Result<(), AllocError> {
+    match items.push(item) {
+        Ok(()) => Ok(()),
+        Err(_) => Err(AllocError),
+    }
+}
+
+/// The name in the line of a fault of the input file that the argument `word` names.
 pub(super) fn input_name<'a>(word: &'a str) -> &'a str {
     if word == STANDARD {
-        "standard input"
+        STANDARD_INPUT
     } else {
         word
     }
 }
 
-/// The names of files to be read in the lines of faults, by the arguments for them.
+/// The names in the lines of faults of the input files that the arguments `words` name.
 pub(super) fn input_names<'a>(
     alloc: Global,
     words: &[&'a str],
@@ -111,7 +122,7 @@ pub(super) fn input_names<'a>(
     Ok(names)
 }
 
-/// The file of this name, opened to be read.
+/// Opens the file `name` to be read.
 pub(super) fn open<'a, R: Files>(rt: &R, name: &'a str) -> Result<R::File, Refusal<'a>> {
     match File::open(rt, name) {
         Ok(file) => Ok(file),
@@ -119,8 +130,8 @@ pub(super) fn open<'a, R: Files>(rt: &R, name: &'a str) -> Result<R::File, Refus
     }
 }
 
-/// Opens what these arguments mean, in their order, in place of what was open. Standard input is among them at most
-/// once, where it is given.
+/// Drops the open `streams` and opens those that `words` name, in their order. `words` names standard input at most
+/// once.
 pub(super) fn open_all<'a, R: Files, I: Read + Drop>(
     rt: &R,
     words: &[&'a str],
@@ -134,7 +145,7 @@ pub(super) fn open_all<'a, R: Files, I: Read + Drop>(
     Ok(())
 }
 
-/// What this argument means, opened: standard input, which is taken, or a file.
+/// Opens the stream that `word` names: a file, or standard input, which is taken from `input`.
 pub(super) fn open_word<'a, R: Files, I: Read + Drop>(
     rt: &R,
     word: &'a str,
@@ -154,7 +165,7 @@ pub(super) fn open_word<'a, R: Files, I: Read + Drop>(
     }
 }
 
-/// The bytes of the file of this name.
+/// Reads the file `name`.
 pub(super) fn read<'a, R: Files + AllocGlobal>(
     rt: &R,
     name: &'a str,
@@ -166,8 +177,8 @@ pub(super) fn read<'a, R: Files + AllocGlobal>(
     }
 }
 
-/// A writer as an output, through a buffer. What a refused run has written goes to the writer as well, when the buffer
-/// is dropped.
+/// Makes an output with a buffer from `writer`. When the buffer is dropped, the bytes of a refused run go to the
+/// writer, too.
 pub(super) fn buffered_out<W: Write + Drop>(
     alloc: Global,
     writer: W,

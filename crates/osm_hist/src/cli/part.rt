@@ -1,7 +1,7 @@
-//! OUT.part: the file that a run writes, and renames to OUT at the end. It belongs to one run at a time.
+//! OUT.part: the file that a run writes and renames to OUT at the end. It belongs to one run at a time.
 //!
-//! A run holds a lock on its OUT.part. The lock ends with the process, so the next run takes over what a killed run
-//! left.
+//! A run holds a lock on its OUT.part. The lock ends with the process, so the next run can remove the file that a
+//! killed run left and make its own.
 use super::files::Stream;
 use super::refusal::Refusal;
 use std::alloc::Global;
@@ -14,15 +14,15 @@ use std::{fs, io};
 /// The ending of the name of OUT.part.
 const ENDING: &str = ".part";
 
-/// How often a run tries to get OUT.part while other runs make and rename files of that name.
+/// The number of attempts to get OUT.part while other runs make and rename files of that name.
 const ATTEMPTS: usize = 16;
 
-/// The bits of a mode that say who may read, write and run a file.
+/// The bits of a file's mode that permit reading, writing and running it.
 const PERMISSION_BITS: u32 = 0o777;
 
-/// What OUT.part asks of an open file besides `OpenFile`.
+/// The operations that OUT.part needs of an open file in addition to `OpenFile`.
 pub(crate) trait PartFile: OpenFile {
-    /// Locks the file for this handle, until it is closed.
+    /// Locks the file for this handle until the handle is closed.
     fn try_lock(&self) -> Result<(), TryLockError>;
 
     /// Gives the file to an owner and a group; `None` leaves the owner as it is.
@@ -39,7 +39,7 @@ impl PartFile for File {
     }
 }
 
-/// What tells a file from all others: its device and its number there.
+/// The identity of a file: its device and its number on that device.
 #[derive(Clone, Copy, Debug, PartialEq, Eq)]
 pub(super) struct FileId {
     device: u64,
@@ -56,13 +56,13 @@ impl FileId {
     }
 }
 
-/// What comes of one attempt to get OUT.part.
+/// The outcome of one attempt to get OUT.part.
 enum Attempt<F> {
-    /// The file was made, and is locked.
+    /// The file is made and locked.
     Made(F, FileId),
-    /// Another run made or renamed a file of that name meanwhile.
+    /// Another run made or renamed a file of that name in the meantime.
     Again,
-    /// The name can't be had.
+    /// The run can't make a file of that name.
     CannotCreate,
     /// The file of that name is an input.
     IsInput,
@@ -71,21 +71,21 @@ enum Attempt<F> {
 /// OUT.part, open and locked.
 #[derive(Drop)]
 pub(super) struct Part<F> {
-    /// Its name.
+    /// The file's name.
     name: String,
     /// The file.
     file: F,
-    /// Which file it is.
+    /// The file's identity.
     id: FileId,
 }
 
-/// Whether a name is that of the OUT.part of an output.
+/// Whether `name` is the name of the OUT.part of `output`.
 pub(super) fn is_part(name: &str, output: &str) -> bool {
     name.strip_suffix(ENDING) == Some(output)
 }
 
 impl<F: PartFile + Seek + Write> Part<F> {
-    /// Makes OUT.part, which is none of the inputs. It gets the mode and the owner of an OUT that is there.
+    /// Makes OUT.part, which must not be one of `inputs`. It gets the mode and the owner of an existing OUT.
     pub(super) fn make<'a, R: Files<File = F>, I>(
         rt: &R,
         alloc: Global,
@@ -105,7 +105,7 @@ impl<F: PartFile + Seek + Write> Part<F> {
         &mut self.file
     }
 
-    /// Empties the file, so that it is written anew.
+    /// Empties the file, so that the run can write it again.
     pub(super) fn empty(&mut self) -> io::Result<()> {
         match self.file.seek(SeekFrom::Start(0)) {
             Ok(_) => self.file.set_len(0),
@@ -113,7 +113,8 @@ impl<F: PartFile + Seek + Write> Part<F> {
         }
     }
 
-    /// Renames the file to OUT, with `fsync` after its bytes are on the disk, and then puts the new name there.
+    /// Renames the file to OUT. With `fsync`, the bytes of the file are synced before the rename, and its new name
+    /// after it.
     pub(super) fn complete<'a, R: Files<File = F>>(
         &self,
         rt: &R,
@@ -133,7 +134,7 @@ impl<F: PartFile + Seek + Write> Part<F> {
         Ok(())
     }
 
-    /// Removes the file, where the name is still its own. Where it can't be removed it stays.
+    /// Removes the file if its name is still its own. If it can't be removed, it stays.
     pub(super) fn discard<R: Files>(&self, rt: &R) {
         if is_named(rt, self.name.as_str(), self.id) {
             let _ = fs::remove_file(rt, self.name.as_str());
@@ -141,7 +142,7 @@ impl<F: PartFile + Seek + Write> Part<F> {
     }
 }
 
-/// Tries to get OUT.part until it is had or refused.
+/// Tries to get OUT.part until it is made or refused.
 fn attempts<R: Files, I>(
     rt: &R,
     name: &str,
@@ -164,7 +165,7 @@ where
     Attempt::CannotCreate
 }
 
-/// Makes a file that isn't there, and locks it.
+/// Makes the file, unless one of that name exists, and locks it.
 fn create<R: Files>(rt: &R, name: &str, output: &str) -> Attempt<R::File>
 where
     R::File: PartFile,
@@ -176,7 +177,7 @@ where
     }
 }
 
-/// Locks a file that was just made, and gives it what it takes over from OUT.
+/// Locks a file that was just made, and gives it the mode and the owner of OUT.
 fn own<R: Files>(rt: &R, name: &str, output: &str, file: R::File) -> Attempt<R::File>
 where
     R::File: PartFile,
@@ -200,18 +201,18 @@ where
     Attempt::CannotCreate
 }
 
-/// What comes of locking a file.
+/// The outcome of locking a file.
 #[derive(Clone, Copy, Debug, PartialEq, Eq)]
 pub(super) enum Lock {
-    /// This run has it.
+    /// This run has the lock.
     Held,
-    /// Another run has it.
+    /// Another run has the lock.
     OfAnother,
     /// The system failed.
     Failed,
 }
 
-/// Locks a file for this run. Where the file system has no locks, the run does without.
+/// Locks a file for this run. If the file system has no locks, the run continues without one.
 pub(super) fn take_lock<F: PartFile>(file: &F) -> Lock {
     match file.try_lock() {
         Ok(()) => Lock::Held,
@@ -221,7 +222,8 @@ pub(super) fn take_lock<F: PartFile>(file: &F) -> Lock {
     }
 }
 
-/// Gives OUT.part the mode of an OUT that is there and is a regular file, and its owner where that is permitted.
+/// Gives OUT.part the mode of OUT, and its owner if that is permitted. If OUT isn't an existing regular file, nothing
+/// changes.
 fn take_after<R: Files>(rt: &R, output: &str, file: &R::File, metadata: &Metadata) -> io::Result<()>
 where
     R::File: PartFile,
@@ -234,7 +236,7 @@ where
     };
     let (uid, gid) = (old.uid(), old.gid());
     if (uid, gid) != (metadata.uid(), metadata.gid()) && file.set_owner(Some(uid), gid).is_err() {
-        // A group may often be given where the owner may not.
+        // Setting the group is often permitted when setting the owner isn't.
         let _ = file.set_owner(None, gid);
     }
     let mode = old.mode() & PERMISSION_BITS;
@@ -244,8 +246,8 @@ where
     file.set_permissions(Permissions::from_mode(mode))
 }
 
-/// Removes the regular file that a killed run left. A link, a folder, a device, a file that another run has locked and
-/// an input stay.
+/// Removes the regular file that a killed run left. A link, a folder, a device, an input and a file that another run
+/// has locked stay.
 fn remove_leftover<R: Files, I>(
     rt: &R,
     name: &str,
@@ -260,7 +262,7 @@ where
         Err(error) if error.kind() == ErrorKind::NotFound => return Attempt::Again,
         Err(_) => return Attempt::CannotCreate,
     }
-    // A killed run may have left a file that nobody may write.
+    // A killed run may have left a file that nobody is permitted to write.
     let opened = match File::options().write(true).open(rt, name) {
         Err(error) if error.kind() == ErrorKind::PermissionDenied => File::open(rt, name),
         opened => opened,
@@ -272,7 +274,7 @@ where
     }
 }
 
-/// Removes an open file of this name where no other run has locked it, it still has that name, and it is no input.
+/// Removes the open `file` if no other run has locked it, it still has the name `name`, and it isn't an input.
 fn remove_locked<R: Files, I>(
     rt: &R,
     name: &str,
@@ -302,7 +304,7 @@ where
     }
 }
 
-/// Whether a name is that of this file, itself and not through a link.
+/// Whether `name` is the name of the file `id` itself, and not of a link to it.
 fn is_named<R: Files>(rt: &R, name: &str, id: FileId) -> bool {
     match fs::symlink_metadata(rt, name) {
         Ok(metadata) => metadata.is_file() && FileId::of(&metadata) == id,
@@ -310,7 +312,7 @@ fn is_named<R: Files>(rt: &R, name: &str, id: FileId) -> bool {
     }
 }
 
-/// Puts the names of the folder of a file on the disk.
+/// Syncs the names in the folder of a file to the disk.
 fn sync_folder<R: Files>(rt: &R, name: &str) -> io::Result<()> {
     let folder = match name.rsplit_once('/') {
         Some(("", _)) => "/",

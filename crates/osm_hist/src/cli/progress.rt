@@ -1,4 +1,4 @@
-//! What a run tells of itself on standard error while it goes on.
+//! Reports on standard error during a run.
 use super::files::Stream;
 use osm_files::Fault;
 use osm_mirror::{Counts, Progress};
@@ -9,31 +9,40 @@ use std::io::{IsTerminal, Read, Write};
 use std::time::{Clock, Duration};
 use std::{fmt, io};
 
-/// The least time between two reports, in milliseconds.
+/// The least time between two reports on a terminal, in milliseconds.
 const INTERVAL: u128 = 500;
 
-/// What brings a terminal to the start of its line, and clears that.
+/// The least time between two reports elsewhere, in milliseconds.
+const LINE_INTERVAL: u128 = 60_000;
+
+/// Moves a terminal to the start of its line, and clears the line.
 const CLEAR_LINE: &str = "\r\x1b[K";
 
-/// What a run has done up to a moment.
+/// Makes a terminal cut a line at its width instead of wrapping it.
+const CUT_LINES: &str = "\x1b[?7l";
+
+/// Makes a terminal wrap lines again.
+const WRAP_LINES: &str = "\x1b[?7h";
+
+/// The work that a run has done up to a moment.
 #[derive(Clone, Copy, Debug)]
 struct Done {
-    /// The bytes that it read.
+    /// The number of bytes that the run read.
     bytes: u64,
-    /// The versions that it read.
+    /// The number of versions that the run read.
     read: u64,
-    /// The versions that it wrote.
+    /// The number of versions that the run wrote.
     written: u64,
 }
 
-/// What a report says.
+/// The content of a report.
 #[derive(Clone, Copy, Debug)]
 struct Report {
-    /// What was done.
+    /// The work done.
     done: Done,
-    /// The bytes of all files to be read, where that is known.
+    /// The size of all input files in bytes, if it is known.
     size: Option<u64>,
-    /// The milliseconds that it took.
+    /// The time since the run began, in milliseconds.
     time: u128,
 }
 
@@ -44,11 +53,14 @@ impl Display for Report {
             read,
             written,
         } = self.done;
+        if let Some(size) = self.size {
+            self.fmt_rest(f, size)?;
+        }
         write!(f, "{bytes}")?;
         if let Some(size) = self.size {
             write!(f, " of {size}")?;
         }
-        // Thousands of bytes a millisecond are millions a second.
+        // Bytes per millisecond, divided by 1000, are megabytes per second.
         let rate = u128::from(bytes) / self.time.max(1) / 1000;
         write!(
             f,
@@ -57,34 +69,55 @@ impl Display for Report {
     }
 }
 
-/// Reports on a run while it goes on, at most once in half a second: in place on a terminal, and in lines elsewhere.
+impl Report {
+    /// Writes the percentage of the bytes read, and the time that the rest takes at the same rate.
+    fn fmt_rest<W: fmt::Write>(&self, f: &mut Formatter<W>, size: u64) -> fmt::Result {
+        let bytes = u128::from(self.done.bytes);
+        let rest = u128::from(size.saturating_sub(self.done.bytes));
+        let percent = bytes.saturating_mul(100) / u128::from(size).max(1);
+        let seconds = self.time.saturating_mul(rest) / bytes.max(1) / 1000;
+        let (minutes, seconds) = (seconds / 60, seconds % 60);
+        write!(f, "{percent} %, {minutes}:{seconds:02} left, ")
+    }
+}
+
+/// Reports during a run. On a terminal a report overwrites the one before, at most once in half a second. Elsewhere
+/// each report is a line, at most once a minute.
 #[derive(Drop)]
 pub(super) struct Meter<'a, C, E> {
-    /// What tells the time.
+    /// The clock that measures the run.
     clock: &'a C,
-    /// Where reports go.
+    /// The writer that gets the reports.
     err: RefCell<&'a mut E>,
-    /// Whether reports are wanted.
+    /// Whether reports are wanted during the run.
     is_wanted: bool,
-    /// When the run began.
+    /// The time when the run began.
     start: Duration,
-    /// When it last reported.
+    /// The least time between two reports, in milliseconds.
+    interval: u128,
+    /// The time of the last report.
     last: Cell<Duration>,
-    /// What it has done.
+    /// The work done.
     done: Cell<Done>,
-    /// The bytes of all files to be read, where that is known.
+    /// The size of all input files in bytes, if it is known.
     size: Cell<Option<u64>>,
 }
 
 impl<'a, C: Clock, E: Write + IsTerminal> Meter<'a, C, E> {
-    /// Begins.
+    /// A meter of a run that begins now.
     pub(super) fn new(clock: &'a C, err: &'a mut E, is_wanted: bool) -> Meter<'a, C, E> {
         let start = now(clock);
+        let interval = if err.is_terminal() {
+            INTERVAL
+        } else {
+            LINE_INTERVAL
+        };
         Meter {
             clock,
             err: RefCell::new(err),
             is_wanted,
             start,
+            interval,
             last: Cell::new(start),
             done: Cell::new(Done {
                 bytes: 0,
@@ -95,7 +128,7 @@ impl<'a, C: Clock, E: Write + IsTerminal> Meter<'a, C, E> {
         }
     }
 
-    /// Begins with these files anew.
+    /// Sets the work done to zero, and the size to that of `files`.
     pub(super) fn read_files<F: OpenFile, S>(&self, files: &[Option<Stream<F, S>>]) {
         let mut size = Some(0_u64);
         for file in files.iter().flatten() {
@@ -112,7 +145,7 @@ impl<'a, C: Clock, E: Write + IsTerminal> Meter<'a, C, E> {
         });
     }
 
-    /// Takes note of so many bytes that were read, and reports if it is time to.
+    /// Adds `count` to the bytes that the run read, and reports if the interval has passed.
     fn take_note(&self, count: usize) {
         if !self.is_wanted {
             return;
@@ -121,13 +154,13 @@ impl<'a, C: Clock, E: Write + IsTerminal> Meter<'a, C, E> {
         let bytes = done.bytes.saturating_add(count as u64);
         self.done.set(Done { bytes, ..done });
         let now = now(self.clock);
-        if now.saturating_sub(self.last.get()).as_millis() >= INTERVAL {
+        if now.saturating_sub(self.last.get()).as_millis() >= self.interval {
             self.last.set(now);
             self.report(now);
         }
     }
 
-    /// Reports.
+    /// Writes a report on the run at the time `now`.
     fn report(&self, now: Duration) {
         let report = Report {
             done: self.done.get(),
@@ -137,16 +170,31 @@ impl<'a, C: Clock, E: Write + IsTerminal> Meter<'a, C, E> {
         let Ok(mut err) = self.err.try_borrow_mut() else {
             return;
         };
-        // Where standard error fails, nobody can be told.
+        // If standard error fails, nothing can report it.
         let _ = if err.is_terminal() {
-            write!(err, "{CLEAR_LINE}{report}")
+            write!(err, "{CLEAR_LINE}{CUT_LINES}{report}{WRAP_LINES}")
         } else {
             writeln!(err, "{report}")
         };
         let _ = err.flush();
     }
 
-    /// Ends with the counts of the run, where it wasn't refused.
+    /// The milliseconds since the run began.
+    pub(super) fn elapsed(&self) -> u128 {
+        now(self.clock).saturating_sub(self.start).as_millis()
+    }
+
+    /// Prints a line.
+    pub(super) fn print<T: Display>(&self, line: &T) {
+        let Ok(mut err) = self.err.try_borrow_mut() else {
+            return;
+        };
+        // If standard error fails, nothing can report it.
+        let _ = writeln!(err, "{line}");
+        let _ = err.flush();
+    }
+
+    /// Ends the reports, with the counts of the run unless it was refused.
     pub(super) fn end(&self, outcome: &Result<Counts, Fault>) {
         if !self.is_wanted {
             return;
@@ -154,7 +202,7 @@ impl<'a, C: Clock, E: Write + IsTerminal> Meter<'a, C, E> {
         let Ok(mut err) = self.err.try_borrow_mut() else {
             return;
         };
-        // Where standard error fails, nobody can be told.
+        // If standard error fails, nothing can report it.
         if err.is_terminal() {
             let _ = write!(err, "{CLEAR_LINE}");
         }
@@ -185,17 +233,17 @@ impl<'m, 'a, C, E> Progress for &'m Meter<'a, C, E> {
     }
 }
 
-/// A reader whose bytes are noted.
+/// A reader whose bytes are counted by a meter.
 #[derive(Drop)]
 pub(super) struct Metered<'m, 'a, F, C, E> {
     /// The reader.
     reader: F,
-    /// What takes note.
+    /// The meter that counts the bytes.
     meter: &'m Meter<'a, C, E>,
 }
 
 impl<'m, 'a, F, C, E> Metered<'m, 'a, F, C, E> {
-    /// A reader, and what takes note of its bytes.
+    /// A reader whose bytes are counted by `meter`.
     pub(super) fn new(reader: F, meter: &'m Meter<'a, C, E>) -> Metered<'m, 'a, F, C, E> {
         Metered { reader, meter }
     }
@@ -209,10 +257,13 @@ impl<'m, 'a, F: Read, C: Clock, E: Write + IsTerminal> Read for Metered<'m, 'a, 
     }
 }
 
-/// The time, or 0 where none is to be had.
+/// The time of `clock`, or 0 if the clock fails.
 fn now<C: Clock>(clock: &C) -> Duration {
     match clock.monotonic() {
         Ok(now) => now,
         Err(_) => Duration::ZERO,
     }
 }
+
+#[cfg(test)]
+mod tests;

@@ -1,20 +1,22 @@
-//! Why a command is refused, with the line and the exit status that it gets.
+//! Refusals of a command, with their lines and exit statuses.
 use clap::error::ErrorKind;
-use osm_files::Fault;
+use osm_files::{Fault, Reason};
 use osm_mirror::{Memory, PlanFault, PlanReason, fault_text};
 use std::alloc::{AllocError, AllocFailed, Global};
 use std::io::Write;
 use thiserror::Error;
 
-/// Why a command is refused. Its text is the line for standard error, without its end.
+/// The reason for which a command is refused. Its text is the line for standard error, without its line feed.
 #[derive(Debug, Drop, Error)]
 pub(crate) enum Refusal<'a> {
-    /// A mistake in the words, with the text of `clap`, which ends its lines itself.
+    /// A mistake in the arguments. The text of `clap` has its own line feeds.
     #[error("{0}")]
     Words(clap::Error),
-    /// The words aren't UTF-8.
-    #[error("the words are not UTF-8")]
-    WordsNotUtf8,
+    /// An argument isn't UTF-8.
+    #[error("the words are not UTF-8: {argument}")]
+    WordsNotUtf8 {
+        argument: String,
+    },
     /// A time isn't an OPL time within the range of times.
     #[error("{time}: not a moment")]
     NotMoment {
@@ -25,20 +27,49 @@ pub(crate) enum Refusal<'a> {
     NotAfterFirst {
         time: &'a str,
     },
-    /// Standard input is to be read more than once.
+    /// A shard isn't K/N with K from 1 to N and N up to 9999.
+    #[error("{shard}: not a shard")]
+    NotShard {
+        shard: &'a str,
+    },
+    /// A file of a run for a shard isn't a regular file.
+    #[error("{name}: not a regular file")]
+    NotRegular {
+        name: &'a str,
+    },
+    /// No file of a run for a shard is OPL.
+    #[error("--shard: no file is OPL")]
+    ShardWithoutOpl,
+    /// Standard input is given more than once.
     #[error("standard input: given twice")]
     StandardInputTwice,
-    /// A file to be read is the one that is written before it is renamed.
+    /// A list of files has no names.
+    #[error("{name}: no names")]
+    ListEmpty {
+        name: &'a str,
+    },
+    /// A list of files has an empty name, which is name `number`.
+    #[error("{name}: name {number}: empty")]
+    ListNameEmpty {
+        name: &'a str,
+        number: usize,
+    },
+    /// A list of files isn't UTF-8.
+    #[error("{name}: not UTF-8")]
+    ListNotUtf8 {
+        name: &'a str,
+    },
+    /// An input is OUT.part.
     #[error("{output}.part: input is the output")]
     InputIsOutput {
         output: &'a str,
     },
-    /// A file can't be opened.
+    /// A file can't be opened or read.
     #[error("{name}: cannot read")]
     CannotRead {
         name: &'a str,
     },
-    /// The file that is written before it is renamed can't be made.
+    /// OUT.part can't be made.
     #[error("{output}.part: cannot create")]
     CannotCreate {
         output: &'a str,
@@ -48,38 +79,50 @@ pub(crate) enum Refusal<'a> {
     CannotWrite {
         name: &'a str,
     },
-    /// The file that was written can't be put on the disk.
+    /// The output can't be synced to the disk.
     #[error("{output}.part: cannot sync")]
     CannotSync {
         output: &'a str,
     },
-    /// The file that was written can't be renamed.
+    /// OUT.part can't be renamed to OUT.
     #[error("{output}: cannot rename")]
     CannotRename {
         output: &'a str,
     },
-    /// A file is refused, with this line.
+    /// A file is refused, and `line` reports it.
     #[error("{line}")]
     File {
         line: String,
+        /// The fault, if a hint may follow.
+        fault: Option<NamedFault<'a>>,
     },
-    /// A plan is refused, at this line of it.
+    /// A plan is refused at line `line`.
     #[error("{name}: line {line}: {}", .reason.name())]
     Plan {
         name: &'a str,
         line: u64,
         reason: PlanReason,
     },
-    /// Memory was refused.
+    /// The program is out of memory.
     #[error("out of memory")]
     Memory,
-    /// Standard output doesn't take what is printed.
+    /// Standard output can't be written.
     #[error("standard output: cannot write")]
     StandardOutput,
 }
 
+/// A fault of the file `name`.
+#[derive(Clone, Copy, Debug)]
+pub(crate) struct NamedFault<'a> {
+    pub(crate) name: &'a str,
+    pub(crate) place: u64,
+    pub(crate) reason: Reason,
+    /// The system's number of a write error.
+    pub(crate) error: Option<i32>,
+}
+
 impl<'a> Refusal<'a> {
-    /// The refusal of words by `clap`.
+    /// The refusal of the arguments by `clap`.
     pub(crate) fn of_words(error: clap::Error) -> Refusal<'a> {
         match error.kind() {
             ErrorKind::OutOfMemory => Refusal::Memory,
@@ -87,20 +130,31 @@ impl<'a> Refusal<'a> {
         }
     }
 
-    /// The refusal of a file, by the names of the inputs and of the output.
+    /// The refusal of a file. `inputs` and `output` are the names of the files. `error` is the system's number of a
+    /// write error, if it is known.
     pub(crate) fn of_fault(
         alloc: Global,
         fault: &Fault,
-        inputs: &[&str],
-        output: &str,
+        inputs: &[&'a str],
+        output: &'a str,
+        error: Option<i32>,
     ) -> Refusal<'a> {
+        let named = NamedFault {
+            name: *inputs.get(fault.input).unwrap_or(&output),
+            place: fault.place,
+            reason: fault.reason,
+            error,
+        };
         match fault_text(alloc, fault, inputs, output) {
-            Ok(line) => Refusal::File { line },
+            Ok(line) => Refusal::File {
+                line,
+                fault: Some(named),
+            },
             Err(Memory) => Refusal::Memory,
         }
     }
 
-    /// The refusal of the plan in a file of this name.
+    /// The refusal of the plan in the file `name`.
     pub(crate) fn of_plan(fault: PlanFault, name: &'a str) -> Refusal<'a> {
         match fault.reason {
             PlanReason::Memory => Refusal::Memory,
@@ -112,17 +166,17 @@ impl<'a> Refusal<'a> {
         }
     }
 
-    /// This refusal, of what a plan names, as one that holds no name of the plan, which may be dropped.
+    /// This refusal as a line. The line borrows no name from the plan, so the plan can be dropped.
     pub(crate) fn in_plan<'b>(self, alloc: Global) -> Refusal<'b> {
         match format!(in alloc; "{self}") {
-            Ok(line) => Refusal::File { line },
+            Ok(line) => Refusal::File { line, fault: None },
             Err(_) => Refusal::Memory,
         }
     }
 
-    /// Writes the line, and answers the exit status.
+    /// Writes the line and returns the exit status.
     pub(crate) fn report<E: Write + Drop>(&self, mut err: E) -> u8 {
-        // Where standard error fails, nobody can be told.
+        // If standard error fails, nothing can report it.
         let _ = match self {
             Refusal::Words(error) => write!(err, "{error}"),
             refusal => writeln!(err, "{refusal}"),
@@ -134,10 +188,16 @@ impl<'a> Refusal<'a> {
     fn status(&self) -> u8 {
         match self {
             Refusal::Words(_)
-            | Refusal::WordsNotUtf8
+            | Refusal::WordsNotUtf8 { .. }
             | Refusal::NotMoment { .. }
             | Refusal::NotAfterFirst { .. }
+            | Refusal::NotShard { .. }
+            | Refusal::NotRegular { .. }
+            | Refusal::ShardWithoutOpl
             | Refusal::StandardInputTwice
+            | Refusal::ListEmpty { .. }
+            | Refusal::ListNameEmpty { .. }
+            | Refusal::ListNotUtf8 { .. }
             | Refusal::InputIsOutput { .. }
             | Refusal::Plan { .. } => 2,
             _ => 1,

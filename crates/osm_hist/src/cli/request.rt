@@ -1,6 +1,8 @@
-//! What the words of a command ask for.
-use super::command::command;
+//! Requests: the arguments of a command, parsed.
+use super::command::{LIST, command};
+use super::list::names_of;
 use super::refusal::Refusal;
+use super::shard::Shard;
 use super::target::STANDARD;
 use clap::error::ErrorKind;
 use clap::{ArgMatches, Command, Error};
@@ -9,45 +11,92 @@ use osm_mirror::{Selection, read_moment};
 use std::alloc::{AllocError, Global};
 use std::convert::AsStr;
 
-/// What the words ask for.
+/// The request that the arguments make.
 #[derive(Drop)]
 pub(super) enum Request<'a> {
-    /// Files, of which one is made.
+    /// A run that makes one file from files.
     Files(FileRun<'a>),
-    /// Files, each checked.
+    /// A check of files.
     Check(FileCheck<'a>),
-    /// A plan, run.
+    /// A run of a plan.
     Plan(PlanRun<'a>),
-    /// Help or the version, which is this text.
+    /// Help or the version, with this text.
     Help(Error),
 }
 
-/// A run over files that makes one.
+/// A command that makes one file from files.
+#[derive(Clone, Copy, Debug, PartialEq, Eq)]
+pub(super) enum FileCommand {
+    Merge,
+    Apply,
+    TimeFilter,
+    Sort,
+}
+
+impl FileCommand {
+    /// The command with the name `name`.
+    fn named(name: &str) -> FileCommand {
+        match name {
+            "apply" => FileCommand::Apply,
+            "time-filter" => FileCommand::TimeFilter,
+            "sort" => FileCommand::Sort,
+            _ => FileCommand::Merge,
+        }
+    }
+
+    /// The name of the command.
+    pub(super) fn name(self) -> &'static str {
+        match self {
+            FileCommand::Merge => "merge",
+            FileCommand::Apply => "apply",
+            FileCommand::TimeFilter => "time-filter",
+            FileCommand::Sort => "sort",
+        }
+    }
+}
+
+/// A run that makes one file from files.
 #[derive(Drop)]
 pub(super) struct FileRun<'a> {
-    /// The name of the file to be written.
+    /// The command.
+    pub(super) command: FileCommand,
+    /// The name of the output.
     pub(super) output: &'a str,
-    /// Its format.
+    /// The format of the output.
     pub(super) format: Format,
-    /// The names of the files to be read.
+    /// The names of the input files.
     pub(super) files: Vec<&'a str>,
-    /// Which of the versions that they hold are written.
+    /// The list that has these names instead, if one is given.
+    pub(super) list: Option<&'a str>,
+    /// The versions of the input files that are written.
     pub(super) selection: Selection,
-    /// Whether each of them has to be sorted.
+    /// The shard of the output that is written, or none if all of it is written.
+    pub(super) shard: Option<Shard>,
+    /// Whether each input file has to be sorted.
     pub(super) sorted: bool,
-    /// Whether what is written is on the disk before it is renamed.
+    /// Whether each OPL file has to end its last line.
+    pub(super) whole: bool,
+    /// Whether the output is synced to the disk before it is renamed.
     pub(super) fsync: bool,
-    /// Whether it tells of itself while it goes on.
+    /// Whether the run reports its progress.
     pub(super) progress: bool,
+    /// Whether the run prints a summary at its end.
+    pub(super) summary: bool,
 }
 
 /// A check of files, one after the other.
 #[derive(Drop)]
 pub(super) struct FileCheck<'a> {
-    /// Their names.
+    /// The names of the files.
     pub(super) files: Vec<&'a str>,
-    /// Whether each of them has to be sorted.
+    /// The list that has these names instead, if one is given.
+    pub(super) list: Option<&'a str>,
+    /// Whether each file has to be sorted.
     pub(super) sorted: bool,
+    /// Whether each OPL file has to end its last line.
+    pub(super) whole: bool,
+    /// Whether hints are asked for.
+    pub(super) hints: bool,
 }
 
 /// A run of a plan.
@@ -58,11 +107,45 @@ pub(super) struct PlanRun<'a> {
 }
 
 impl<'a> Request<'a> {
-    /// What these words ask for, which are the words after the program's name.
+    /// The list of files that the arguments name, if they name one.
+    pub(super) fn list(&self) -> Option<&'a str> {
+        match self {
+            Request::Files(run) => run.list,
+            Request::Check(check) => check.list,
+            _ => None,
+        }
+    }
+
+    /// This request with the names in its list of files, whose text is `text`.
     ///
     /// # Errors
     ///
-    /// A mistake in the words, times included, or want of memory.
+    /// A mistake in the list, or out of memory.
+    pub(super) fn with_list(
+        mut self,
+        alloc: Global,
+        text: &'a str,
+    ) -> Result<Request<'a>, Refusal<'a>> {
+        let Some(list) = self.list() else {
+            return Ok(self);
+        };
+        let names = names_of(alloc, list, text)?;
+        if names_standard_input_twice(names.as_slice()) {
+            return Err(Refusal::StandardInputTwice);
+        }
+        match &mut self {
+            Request::Files(run) => run.files = names,
+            Request::Check(check) => check.files = names,
+            _ => {}
+        }
+        Ok(self)
+    }
+
+    /// The request that `words` make. They are the arguments after the program's name.
+    ///
+    /// # Errors
+    ///
+    /// A mistake in the arguments, times included, or out of memory.
     pub(super) fn parse<S: AsStr>(
         alloc: Global,
         words: &'a [S],
@@ -79,7 +162,7 @@ impl<'a> Request<'a> {
         }
     }
 
-    /// What these arguments ask for, as the command reads them.
+    /// The request that `words` make. `command` parses them.
     fn of_words<S: AsStr>(
         alloc: Global,
         command: &mut Command<'a>,
@@ -96,15 +179,15 @@ impl<'a> Request<'a> {
         }
     }
 
-    /// What the matches ask for. They always ask for something, since `clap` has seen that all that is required is
-    /// there.
+    /// The request that `matches` make. There always is one, since `clap` has checked that all required arguments are
+    /// given.
     fn of_matches(
         alloc: Global,
         matches: &ArgMatches<'a>,
     ) -> Result<Option<Request<'a>>, Refusal<'a>> {
         match matches.subcommand() {
             Some(("check", words)) => {
-                Ok(FileCheck::of_matches(alloc, words)?.map(|check| Request::Check(check)))
+                Ok(Some(Request::Check(FileCheck::of_matches(alloc, words)?)))
             }
             Some(("plan", words)) => Ok(
                 words
@@ -119,7 +202,7 @@ impl<'a> Request<'a> {
     }
 }
 
-/// The refusal where no command is given.
+/// The refusal of arguments that have no command.
 fn missing_command<'a>(command: &mut Command<'a>) -> Refusal<'a> {
     match command.error(ErrorKind::MissingSubcommand, "a command is missing") {
         Ok(error) => Refusal::of_words(error),
@@ -128,22 +211,27 @@ fn missing_command<'a>(command: &mut Command<'a>) -> Refusal<'a> {
 }
 
 impl<'a> FileRun<'a> {
-    /// Standard input, merged to standard output.
+    /// The run without arguments, which merges standard input to standard output.
     fn of_no_words(alloc: Global) -> Result<FileRun<'a>, Refusal<'a>> {
         let mut files = Vec::new(alloc);
         files.push(STANDARD)?;
         Ok(FileRun {
+            command: FileCommand::Merge,
             output: STANDARD,
             format: Format::Opl,
             files,
+            list: None,
             selection: Selection::All,
+            shard: None,
             sorted: true,
+            whole: false,
             fsync: false,
             progress: false,
+            summary: false,
         })
     }
 
-    /// The run for which the words after a command of this name ask.
+    /// The run for which the arguments of the command `name` ask.
     fn of_matches(
         alloc: Global,
         name: &str,
@@ -151,19 +239,21 @@ impl<'a> FileRun<'a> {
     ) -> Result<Option<FileRun<'a>>, Refusal<'a>> {
         let output = words.get_str("output");
         let format = words.get_str("format").and_then(|name| Format::named(name));
-        let files = words.get_strs("files");
-        if files.is_some_and(|files| names_standard_input_twice(files)) {
-            return Err(Refusal::StandardInputTwice);
-        }
-        match (output, format, files, selection(name, words)?) {
-            (Some(output), Some(format), Some(files), Some(selection)) => Ok(Some(FileRun {
+        let files = files_given(alloc, words)?;
+        match (output, format, selection(name, words)?) {
+            (Some(output), Some(format), Some(selection)) => Ok(Some(FileRun {
+                command: FileCommand::named(name),
                 output,
                 format,
-                files: Vec::from_slice(alloc, files)?,
+                files,
+                list: words.get_str(LIST),
                 selection,
+                shard: shard(words)?,
                 sorted: name == "merge" || words.get_flag("sorted"),
+                whole: words.get_flag("whole"),
                 fsync: words.get_flag("fsync"),
                 progress: words.get_flag("progress"),
+                summary: words.get_flag("summary"),
             })),
             _ => Ok(None),
         }
@@ -172,35 +262,38 @@ impl<'a> FileRun<'a> {
 
 impl<'a> FileCheck<'a> {
     /// The check for which the arguments of `check` ask.
-    fn of_matches(
-        alloc: Global,
-        words: &ArgMatches<'a>,
-    ) -> Result<Option<FileCheck<'a>>, Refusal<'a>> {
-        let Some(files) = words.get_strs("files") else {
-            return Ok(None);
-        };
-        if names_standard_input_twice(files) {
-            return Err(Refusal::StandardInputTwice);
-        }
-        Ok(Some(FileCheck {
-            files: Vec::from_slice(alloc, files)?,
+    fn of_matches(alloc: Global, words: &ArgMatches<'a>) -> Result<FileCheck<'a>, Refusal<'a>> {
+        Ok(FileCheck {
+            files: files_given(alloc, words)?,
+            list: words.get_str(LIST),
             sorted: words.get_flag("sorted"),
-        }))
+            whole: words.get_flag("whole"),
+            hints: words.get_flag("hints"),
+        })
     }
 }
 
-/// Whether standard input is among these words more than once.
+/// The names of the files among the arguments. With a list of files there are none.
+fn files_given<'a>(alloc: Global, words: &ArgMatches<'a>) -> Result<Vec<&'a str>, Refusal<'a>> {
+    match words.get_strs("files") {
+        Some(files) if names_standard_input_twice(files) => Err(Refusal::StandardInputTwice),
+        Some(files) if words.get_str(LIST).is_none() => Ok(Vec::from_slice(alloc, files)?),
+        _ => Ok(Vec::new(alloc)),
+    }
+}
+
+/// Whether standard input is in `files` more than once.
 fn names_standard_input_twice(files: &[&str]) -> bool {
     files.iter().filter(|file| **file == STANDARD).count() > 1
 }
 
-/// Which versions a command of this name writes; none, where it isn't a command that writes a file.
+/// The versions that the command `name` writes, or none if the command doesn't write a file.
 fn selection<'a>(name: &str, words: &ArgMatches<'a>) -> Result<Option<Selection>, Refusal<'a>> {
     match name {
         "merge" | "sort" => Ok(Some(Selection::All)),
         "apply" if words.get_flag("with-history") => Ok(Some(Selection::All)),
         "apply" => Ok(Some(Selection::NewestVisible)),
-        "time-filter" => match (words.get_str("time"), words.get_str("end")) {
+        "time-filter" => match times(words) {
             (Some(time), None) => Ok(Some(Selection::StateVisible(moment(time)?))),
             (Some(from), Some(to)) => Ok(Some(period(from, to)?)),
             (None, _) => Ok(None),
@@ -209,7 +302,27 @@ fn selection<'a>(name: &str, words: &ArgMatches<'a>) -> Result<Option<Selection>
     }
 }
 
-/// What stood in the period between two moments.
+/// The times of `time-filter`. With a list of files, `files` is the first time and `time` is the second.
+fn times<'a>(words: &ArgMatches<'a>) -> (Option<&'a str>, Option<&'a str>) {
+    if words.get_str(LIST).is_some() {
+        (words.get_str("files"), words.get_str("time"))
+    } else {
+        (words.get_str("time"), words.get_str("end"))
+    }
+}
+
+/// The shard for which the arguments ask.
+fn shard<'a>(words: &ArgMatches<'a>) -> Result<Option<Shard>, Refusal<'a>> {
+    match words.get_str("shard") {
+        None => Ok(None),
+        Some(text) => match Shard::parse(text) {
+            Some(shard) => Ok(Some(shard)),
+            None => Err(Refusal::NotShard { shard: text }),
+        },
+    }
+}
+
+/// The versions that are valid in the period from `first` up to, but not at, `second`.
 fn period<'a>(first: &'a str, second: &'a str) -> Result<Selection, Refusal<'a>> {
     let from = moment(first)?;
     let to = moment(second)?;
@@ -219,7 +332,7 @@ fn period<'a>(first: &'a str, second: &'a str) -> Result<Selection, Refusal<'a>>
     Ok(Selection::Between { from, to })
 }
 
-/// The moment that a word spells.
+/// The moment that `time` spells.
 fn moment<'a>(time: &'a str) -> Result<u32, Refusal<'a>> {
     read_moment(time.as_bytes()).ok_or(Refusal::NotMoment { time })
 }

@@ -1,6 +1,6 @@
-//! The sorted runs of a file that isn't sorted. The file is split before each version that is out of order, into a few
-//! runs, so that the program need not hold it.
-use super::checking::is_unsorted;
+//! The sorted runs of a file that isn't sorted. The file is split before each version that is out of order. If there
+//! are few runs, the program reads them at the same time and need not hold the file in memory.
+use super::file_check::is_unsorted;
 use super::files::{Stream, open, read_retried};
 use super::refusal::Refusal;
 use osm_files::{BytesAtSplit, FromRead, SortedRun, SplitFile};
@@ -16,7 +16,7 @@ pub(super) const MOST_RUNS: usize = 128;
 pub(super) enum OrderCheck {
     /// The run is sorted.
     Sorted,
-    /// The version at this offset of the file is the run's first whose key is below that of the version before it.
+    /// The version at this offset of the file is the run's first with a key below that of the version before it.
     Unsorted(u64),
     /// The run can't be read.
     Refused,
@@ -25,14 +25,14 @@ pub(super) enum OrderCheck {
 /// A reader of a run.
 pub(super) type RunReader<F> = Chain<Chain<&'static [u8], Take<F>>, &'static [u8]>;
 
-/// A reader of a run, made of a reader of its file that is at the run's start.
+/// Makes a reader of `run` from a reader of its file, which is at the run's start.
 pub(super) fn run_reader<F: Read>(run: SortedRun, file: F) -> RunReader<F> {
     run.bytes_before()
         .chain(file.take(run.size))
         .chain(run.bytes_after())
 }
 
-/// Reads a run of the file of this name, and returns the order of its versions.
+/// Reads a run of the file `name` and returns the order of its versions.
 pub(super) fn check_order<'a, R: Files + AllocGlobal>(
     rt: &R,
     name: &'a str,
@@ -48,8 +48,8 @@ pub(super) fn check_order<'a, R: Files + AllocGlobal>(
     }
 }
 
-/// Splits the file of this name into at most `most` sorted runs. The version at `offset` is its first that is out of
-/// order. It returns none if the file can't be split, if it has more runs, or if a run can't be read.
+/// Splits the file `name` into at most `most` sorted runs. The version at `offset` is the file's first that is out of
+/// order. The result is none if the file can't be split, if it has more runs, or if a run can't be read.
 pub(super) fn split_into_runs<'a, R: Files + AllocGlobal>(
     rt: &R,
     name: &'a str,
@@ -71,8 +71,8 @@ pub(super) fn split_into_runs<'a, R: Files + AllocGlobal>(
     Ok(None)
 }
 
-/// Splits the rest of the file of this name before the version at this offset, and returns whether it could be split.
-/// The front of an o5 file is read, since the byte before the offset may be no reset.
+/// Splits the rest of the file `name` before the version at `offset`, and returns whether it could be split. The front
+/// of an o5 file is read to check it, since the byte before `offset` may not be a reset.
 fn split_before<'a, R: Files + AllocGlobal>(
     rt: &R,
     name: &'a str,
@@ -93,8 +93,12 @@ fn split_before<'a, R: Files + AllocGlobal>(
     }
 }
 
-/// The byte at this offset of the file, if one can be read there.
-fn byte_at<'a, R: Files>(rt: &R, name: &'a str, offset: u64) -> Result<Option<u8>, Refusal<'a>> {
+/// The byte at `offset` of the file `name`, if it can be read.
+pub(super) fn byte_at<'a, R: Files>(
+    rt: &R,
+    name: &'a str,
+    offset: u64,
+) -> Result<Option<u8>, Refusal<'a>> {
     let mut byte = [0u8; 1];
     match read_retried(&mut open_at(rt, name, offset)?, &mut byte) {
         Ok(1) => Ok(Some(byte[0])),
@@ -102,7 +106,7 @@ fn byte_at<'a, R: Files>(rt: &R, name: &'a str, offset: u64) -> Result<Option<u8
     }
 }
 
-/// The file of this name, opened to be read from this offset.
+/// Opens the file `name`, to be read from `offset`.
 pub(super) fn open_at<'a, R: Files>(
     rt: &R,
     name: &'a str,

@@ -1,4 +1,4 @@
-//! Where a run writes: a file that is made, a pipe or a device that is there, or standard output.
+//! Targets of a run: a file that the run makes, an existing pipe or device, or standard output.
 use super::files::{Stream, write_retried};
 use super::part::{Part, PartFile, is_part};
 use super::refusal::Refusal;
@@ -8,22 +8,22 @@ use std::io::{Seek, Write};
 use std::rt::Files;
 use std::{fs, io};
 
-/// The argument for standard input among the files to be read, and for standard output as the one to be written.
+/// The argument for standard input as an input file, and for standard output as OUT.
 pub(super) const STANDARD: &str = "-";
 
-/// Where a run writes.
+/// The target of a run.
 #[derive(Clone, Copy, Debug)]
 pub(super) enum Target<'a> {
-    /// The file of this name, which is written as OUT.part that is renamed at the end.
+    /// The file of this name. The run writes it as OUT.part and renames it at the end.
     File(&'a str),
-    /// A pipe or a device of this name, which is there and is written as it is.
+    /// The existing pipe or device of this name. The run writes it as it is.
     Device(&'a str),
     /// Standard output.
     StandardOutput,
 }
 
 impl<'a> Target<'a> {
-    /// What the argument after `--output` means.
+    /// The target that the argument of `--output` names.
     pub(super) fn of_word<R: Files>(rt: &R, word: &'a str) -> Target<'a> {
         if word == STANDARD {
             Target::StandardOutput
@@ -32,7 +32,7 @@ impl<'a> Target<'a> {
         }
     }
 
-    /// What has this name. A name of standard output means it even where that is a file, which must not be
+    /// The target with the name `name`. `/dev/stdout` is standard output even if that is a file, since no file must be
     /// renamed over the device.
     pub(super) fn of_name<R: Files>(rt: &R, name: &'a str) -> Target<'a> {
         if name == "/dev/stdout" {
@@ -44,7 +44,7 @@ impl<'a> Target<'a> {
         }
     }
 
-    /// Refuses a file to be read that has the name of OUT.part.
+    /// Refuses an input file that has the name of OUT.part.
     pub(super) fn refuse_part(self, files: &[&'a str]) -> Result<(), Refusal<'a>> {
         match self {
             Target::File(output) if files.iter().any(|name| is_part(name, output)) => {
@@ -54,7 +54,7 @@ impl<'a> Target<'a> {
         }
     }
 
-    /// Its name in the line of a fault.
+    /// The name of the target in the line of a fault.
     pub(super) fn name(self) -> &'a str {
         match self {
             Target::File(name) | Target::Device(name) => name,
@@ -62,7 +62,7 @@ impl<'a> Target<'a> {
         }
     }
 
-    /// Opens what is written: OUT.part, made for this run, or what is there.
+    /// Opens the target: an OUT.part that is made for this run, an existing pipe or device, or standard output.
     pub(super) fn open<R: Files, I, O: Drop>(
         self,
         rt: &R,
@@ -86,7 +86,7 @@ impl<'a> Target<'a> {
         }
     }
 
-    /// Empties OUT.part, so that it is written anew.
+    /// Empties OUT.part, so that the run can write it again.
     pub(super) fn empty<F: PartFile + Seek + Write, O>(
         self,
         destination: &mut Destination<F, O>,
@@ -100,7 +100,7 @@ impl<'a> Target<'a> {
         }
     }
 
-    /// Ends a run whose bytes were written: OUT.part becomes OUT.
+    /// Completes a run whose bytes were written: OUT.part becomes OUT.
     pub(super) fn complete<R: Files, O>(
         self,
         rt: &R,
@@ -117,7 +117,7 @@ impl<'a> Target<'a> {
     }
 }
 
-/// What a run writes to, open.
+/// An open target.
 #[derive(Drop)]
 pub(super) enum Destination<F, O> {
     /// OUT.part, which becomes OUT.
@@ -129,7 +129,7 @@ pub(super) enum Destination<F, O> {
 }
 
 impl<F: PartFile + Seek + Write, O> Destination<F, O> {
-    /// Whether it can be written anew.
+    /// Whether the target can be emptied and written again.
     pub(super) fn can_be_emptied(&self) -> bool {
         match self {
             Destination::Part(_) => true,
@@ -137,7 +137,7 @@ impl<F: PartFile + Seek + Write, O> Destination<F, O> {
         }
     }
 
-    /// Ends a run that was refused: it leaves no OUT.part.
+    /// Removes OUT.part after a refusal.
     pub(super) fn discard<R: Files>(&self, rt: &R) {
         if let Destination::Part(part) = self {
             part.discard(rt);

@@ -1,5 +1,5 @@
-//! Commands in a folder of their own: the exit status, what is printed, and which files there are. `tests/commands`
-//! tests the built program.
+//! Tests of commands, each in its own folder: the exit status, the text that is printed, and the files that exist.
+//! `tests/commands` tests the built program.
 use super::part::{Lock, PartFile, take_lock};
 use super::run_words;
 use std::alloc::Global;
@@ -10,19 +10,19 @@ use std::test::Fail;
 use std::time::Clock;
 use std::{env, fs, io, str};
 
-/// What a merge of the files a.opl and b.opl writes.
+/// The output of a merge of a.opl and b.opl.
 const MERGED: &str = "n1 v1 dV c0 t i0 u T x1.5 y2\nn1 v2 dV c0 t i0 u T x1.5 y3\n";
 
-/// The file of a node and its deletion.
+/// A file with a node and its deletion.
 const NODE_THEN_DELETION: &[u8] =
     b"\xff\xe0\x04o5m2\x10\x0b\x02\x01\x02\x02\x00\x01\x00a\x00\x00\x00\x10\x05\x00\x02\x02\x00\x01\xfe";
 
-/// The plan of two mirrors that take a file each and pass it on.
+/// A plan of two mirrors that take a file each and pass it on.
 const TWO_MIRRORS: &[u8] =
     b"latest\nlatest\ntake 0 node.opl\ntake 1 gone.opl\npass 0 1 o5c\npass 1 0 opl\ntake 0 node.opl\n\
     write 0 opl x.opl\nwrite 1 opl y.opl\n";
 
-/// The files that the commands find.
+/// The files in the folder of each test.
 const FILES: [(&str, &[u8]); 11] = [
     ("a.opl", b"n1 v1 dV x1.5 y2\n"),
     ("b.opl", b"n1 v2 dV x1.5 y3\n"),
@@ -57,7 +57,7 @@ impl Write for Broken {
     }
 }
 
-/// A standard error that keeps what it is given.
+/// A standard error that keeps the bytes written.
 #[derive(Drop)]
 struct Log {
     bytes: Vec<u8>,
@@ -87,7 +87,7 @@ impl IsTerminal for &mut Log {
     }
 }
 
-/// The status of a command, and what it printed on standard output and on standard error.
+/// The status of a command, and the text that it printed on standard output and standard error.
 fn outcome<R: Files + Clock + AllocGlobal, I: Read + Drop>(
     rt: &R,
     words: &[&str],
@@ -103,12 +103,12 @@ where
     outcome.unwrap_or(String::new(rt.alloc()))
 }
 
-/// Bytes as a text.
+/// The text of `bytes`.
 fn text(bytes: &[u8]) -> &str {
     str::from_utf8(bytes).unwrap_or("no UTF-8")
 }
 
-/// Makes a folder of this name with the files, and works in it.
+/// Makes the folder `folder` with the files, and enters it.
 fn enter(rt: &HostRuntime, folder: &str) -> io::Result<()> {
     let _ = fs::remove_dir_all(rt, folder);
     fs::create_dir(rt, folder)?;
@@ -119,7 +119,7 @@ fn enter(rt: &HostRuntime, folder: &str) -> io::Result<()> {
     Ok(())
 }
 
-/// The text of a file, or what there is in its place.
+/// The text of the file `name`, or an empty text if it can't be read.
 fn content<R: Files + AllocGlobal>(rt: &R, name: &str) -> String {
     fs::read_to_string(rt, name).unwrap_or(String::new(rt.alloc()))
 }
@@ -194,7 +194,7 @@ fn standard_input(rt: HostRuntime) {
     assert_eq!(rt; failing.as_str(), "1 standard input: 0: ReadFault\n");
 }
 
-/// What a command says whose standard output fails.
+/// The status and the error text of a command whose standard output fails.
 fn unprinted<R: Files + Clock + AllocGlobal>(rt: &R, words: &[&str]) -> String
 where
     R::File: PartFile,
@@ -281,7 +281,7 @@ fn out_part_belongs_to_one_run(rt: HostRuntime) -> Result<(), Fail> {
     Ok(())
 }
 
-/// A file whose lock has this outcome.
+/// A file whose lock has the outcome `outcome`, or is held by another run.
 #[derive(Drop)]
 struct Locking {
     outcome: Option<ErrorKind>,

@@ -1,4 +1,4 @@
-//! What is selected of histories, worked out by hand.
+//! Selections of histories, worked out by hand.
 use super::{at, between, snapshot, visible};
 use crate::rows::{
     AT_9_EAST, AT_10_EAST, CAME_AT_10, DELETED_AT_30, DELETED_NEXT, DELETED_TOO, MOVED_AT_5,
@@ -16,7 +16,7 @@ const SNAPSHOTS: &[(Lines, Lines)] = &[
     (&[], &[]),
 ];
 
-/// Whether the snapshot of these lines is those.
+/// Whether the snapshot of `lines` is `newest`.
 fn is_snapshot(alloc: Global, lines: &[&[u8]], newest: &[&[u8]]) -> bool {
     holds(alloc, snapshot(alloc, &history(alloc, lines)), newest)
 }
@@ -42,7 +42,7 @@ const SEEN: &[(Lines, Lines)] = &[
     (&[DELETED_NEXT], &[]),
 ];
 
-/// Whether those of these lines that are visible are those.
+/// Whether the visible ones of `lines` are `seen`.
 fn is_visible_part(alloc: Global, lines: &[&[u8]], seen: &[&[u8]]) -> bool {
     holds(alloc, visible(alloc, &history(alloc, lines)), seen)
 }
@@ -64,7 +64,7 @@ const STATES: &[(Lines, u32, Lines)] = &[
     (TIMELESS, 0, &[DELETED_NEXT]),
 ];
 
-/// Whether the state of these lines at this time is those.
+/// Whether the state of `lines` at `time` is `state`.
 fn is_state(alloc: Global, lines: &[&[u8]], time: u32, state: &[&[u8]]) -> bool {
     holds(alloc, at(alloc, &history(alloc, lines), time), state)
 }
@@ -88,7 +88,7 @@ const PERIODS: &[(Lines, u32, u32, Lines)] = &[
     (TIMELESS, 1, 2, &[DELETED_NEXT]),
 ];
 
-/// Whether the history of these lines from one time up to another one is those.
+/// Whether the history of `lines` from `from` up to `to` is `period`.
 fn is_period(alloc: Global, lines: &[&[u8]], from: u32, to: u32, period: &[&[u8]]) -> bool {
     holds(
         alloc,

@@ -1,6 +1,6 @@
-//! Merges of sources in memory, with what is written worked out by hand.
+//! Merges of sources in memory, with their output worked out by hand.
 use super::{Counts, Selection, merge_into, merge_selected};
-use crate::progress::Silent;
+use crate::progress::NoProgress;
 use crate::rows::{
     AT_9_EAST, AT_10_EAST, CAME_AT_10, DELETED_AT_30, DELETED_NEXT, DELETED_TOO, MOVED_AT_5,
     MOVED_AT_20, OTHER_AT_20, OTHER_MOVED_AT_20, VISIBLE, WAY, history, history_of, text,
@@ -11,13 +11,13 @@ use std::alloc::{AllocGlobal, Global};
 use std::cell::Cell;
 use std::process::Abort;
 
-/// A source of the versions of a history, which counts what it gave.
+/// A source of the versions of a history, which counts the versions that it gave.
 #[derive(Drop)]
 struct Held<'a> {
     history: History,
-    /// So many versions were given.
+    /// The number of versions that were given.
     place: usize,
-    /// Why the rest can't be given, if it can't.
+    /// The fault of the rest, if it can't be given.
     fault: Option<Fault>,
     number: usize,
     has_failed: bool,
@@ -26,14 +26,14 @@ struct Held<'a> {
 
 impl Source for Held<'_> {
     ghost use Rattle.std.specs.Prelude.{◌≡◌, drop, length, refl};
-    ghost use Rattle.osm_model.specs.Sets.{listed};
+    ghost use Rattle.osm_model.specs.Sets.{to_list};
     ghost use Rattle.osm_merge.specs.Rest.{rest_from, rest_unless, rest_ascends};
 
     ghost can_give = { λ s still. still ≡ rest_unless s.has_failed s.number (rest_from s.history s.place s.fault) };
 
     ghost one = { λ s. rest_unless s.has_failed s.number (rest_from s.history s.place s.fault) };
 
-    ghost left = { λ s. length (drop s.place (listed s.history)) };
+    ghost left = { λ s. length (drop s.place (to_list s.history)) };
 
     ghost number = { λ s. s.number };
 
@@ -66,14 +66,14 @@ impl Source for Held<'_> {
     }
 }
 
-/// Which call merges: the one that writes all, or the one that selects.
+/// The call that merges: the one that writes all, or the one that selects.
 #[derive(Clone, Copy)]
 enum Call {
     Merge,
     Select(Selection),
 }
 
-/// What a call over these sources returns, whose output has the number of the sources.
+/// The result of a call over these sources, to the output whose number is the number of the sources.
 fn merge_to<S: Source + Drop, W: Output>(
     alloc: Global,
     call: Call,
@@ -88,12 +88,12 @@ fn merge_to<S: Source + Drop, W: Output>(
     match call {
         Call::Merge => merge_into(alloc, sources, &mut sink, out),
         Call::Select(selection) => {
-            merge_selected(alloc, selection, sources, &mut sink, out, &mut Silent)
+            merge_selected(alloc, selection, sources, &mut sink, out, &mut NoProgress)
         }
     }
 }
 
-/// Sources of these lines, of which the one that the fault names ends with it.
+/// Sources of these lines. The source that the fault names ends with the fault.
 fn sources_of<'a>(
     alloc: Global,
     sources: &[&[&[u8]]],
@@ -114,7 +114,7 @@ fn sources_of<'a>(
     inputs
 }
 
-/// What a call over sources of these lines returns, and what it wrote.
+/// The result of a call over sources of these lines, and the bytes that it wrote.
 fn merged(
     alloc: Global,
     call: Call,
@@ -129,7 +129,7 @@ fn merged(
     (outcome, out.into_vec())
 }
 
-/// Sources of these lines, the call over them, how many versions are read, and the lines that are written.
+/// Sources of these lines, the call over them, the number of versions read, and the lines written.
 type Row = (
     &'static [&'static [&'static [u8]]],
     Call,
@@ -137,7 +137,7 @@ type Row = (
     &'static [&'static [u8]],
 );
 
-/// Whether the call over sources of these lines writes those, and counts both.
+/// Whether the call over sources of these lines writes the lines of the row, and counts both.
 fn is_merged(alloc: Global, row: &Row) -> bool {
     let (sources, call, read, lines) = row;
     let (outcome, written) = merged(alloc, *call, Format::Opl, sources, None);
@@ -148,7 +148,7 @@ fn is_merged(alloc: Global, row: &Row) -> bool {
     }
 }
 
-/// Sees that the merges of these rows write their lines, and count them.
+/// Asserts that the merges of these rows write their lines, and count them.
 fn assert_rows<R: AllocGlobal + Abort>(rt: &R, rows: &[Row]) {
     for row in rows {
         assert!(rt; is_merged(rt.alloc(), row));
@@ -216,8 +216,8 @@ const N7: &[u8] = b"n7 v1 dV c0 t i0 u T x1 y1\n";
 const N8: &[u8] = b"n8 v1 dV c0 t i0 u T x1 y1\n";
 
 /// Sources, and the least and the most comparisons of their merge. Of two sources with the same three versions five
-/// games are played, and three versions are compared with the one put last, as the first has none before it, and two of
-/// the others are known to repeat one.
+/// games are played. Three versions are compared with the one put last: the first has none before it, and two of the
+/// others are known repeats.
 const COMPARISONS: &[(&[&[&[u8]]], u64, u64)] = &[
     (&[], 0, 0),
     (&[&[FIRST, SECOND]], 1, 2),
@@ -226,7 +226,7 @@ const COMPARISONS: &[(&[&[&[u8]]], u64, u64)] = &[
     (&[&[N1, N2, N3], &[N1, N2, N3]], 8, 8),
 ];
 
-/// How many comparisons a merge of these sources makes.
+/// The number of comparisons of a merge of these sources.
 fn compared(alloc: Global, sources: &[&[&[u8]]]) -> Option<u64> {
     let (outcome, _) = merged(alloc, Call::Merge, Format::Opl, sources, None);
     match outcome {
@@ -250,8 +250,8 @@ const CUT: Fault = Fault {
     reason: Reason::NoEnd,
 };
 
-/// Whether the call over sources of these lines, of which the second is cut, returns the fault after it wrote those
-/// lines.
+/// Whether the call over sources of these lines, of which the second is cut, returns the fault after it wrote the
+/// expected lines.
 fn is_cut(
     alloc: Global,
     call: Call,
@@ -276,7 +276,7 @@ fn read_ahead(rt: HostRuntime) {
         )
     );
     assert!(rt; is_cut(rt.alloc(), Call::Merge, Format::O5m, &[&[FIRST], &[]], &[]));
-    // The version of node 3 is held back, since the one behind it isn't known.
+    // The version of node 3 is pending, since the one after it isn't known.
     let newest: [&[&[u8]]; 2] = [&[N1, N4], &[NEXT_OF_1, N3]];
     let call = Call::Select(Selection::Newest);
     assert!(rt; is_cut(rt.alloc(), call, Format::Opl, &newest, &[NEXT_OF_1]));
@@ -284,7 +284,7 @@ fn read_ahead(rt: HostRuntime) {
 
 const NEXT_OF_1: &[u8] = b"n1 v2 dV c0 t i0 u T x1 y1\n";
 
-/// An output that notes how many versions the sources gave for which it took no line yet.
+/// An output that notes the number of versions that the sources gave and that it has no line of yet.
 #[derive(Drop)]
 struct Ahead<'a> {
     given: &'a Cell<usize>,
@@ -325,7 +325,7 @@ fn every_third(alloc: Global, first: u32) -> History {
     history_of(alloc, text.as_bytes())
 }
 
-/// What a merge of three such sources returns.
+/// The result of a merge of three such sources.
 fn merge_thirds<W: Output>(
     alloc: Global,
     given: &Cell<usize>,

@@ -1,11 +1,11 @@
-//! Histories taken in, beside the plain union and its snapshot.
+//! Histories taken in, compared with the plain union and its snapshot.
 use super::{absorb, absorb_newest};
 use crate::chosen::snapshot;
 use crate::rows::history_of;
 use osm_model::{History, Memory};
 use std::alloc::Global;
 
-/// A version of this number of `count` nodes, whose ids are `apart` from each other.
+/// Versions of the number `number` of `count` nodes, whose ids are `apart` from each other.
 fn nodes(alloc: Global, count: u32, apart: u32, number: u32) -> History {
     let mut text = String::new(alloc);
     for place in 0..count {
@@ -15,8 +15,8 @@ fn nodes(alloc: Global, count: u32, apart: u32, number: u32) -> History {
     history_of(alloc, text.as_bytes())
 }
 
-/// What is taken into these 300 versions: nothing, older and newer versions, the same ones, all objects and some,
-/// others behind.
+/// Arguments of `nodes` for histories that are taken into these 300 versions: nothing, older and newer versions, the
+/// same ones, all objects and some, others after them.
 const TAKEN: &[(u32, u32, u32)] = &[
     (0, 1, 1),
     (5, 50, 1),

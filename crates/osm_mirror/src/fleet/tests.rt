@@ -1,4 +1,4 @@
-//! Fleets of mirrors of both kinds, and the snapshots that they come to.
+//! Fleets of mirrors of both kinds, and the snapshots to which they converge.
 use super::Fleet;
 use crate::event::{Event, Reply};
 use crate::keep::Keep;
@@ -29,10 +29,10 @@ const FILES: [&[u8]; 5] = [
     b"n2 v1 dV x1\n",
 ];
 
-/// The snapshot of all that the files hold.
+/// The snapshot of all versions of the files.
 const NEWEST: &[u8] = b"n1 v2 dD c0 t i0 u T x y\nn2 v1 dV c0 t i0 u T x9 y1\n";
 
-/// Lets these events happen, and returns the replies; none where the events name other mirrors.
+/// Runs these events, and returns the replies; none if the events name other mirrors.
 fn run(alloc: Global, fleet: &mut Fleet, events: &[Event]) -> Vec<Reply> {
     if fleet.may_run(events)
         && let Ok(replies) = fleet.run(events)
@@ -42,7 +42,7 @@ fn run(alloc: Global, fleet: &mut Fleet, events: &[Event]) -> Vec<Reply> {
     Vec::new(alloc)
 }
 
-/// What the mirror of this number holds, as OPL.
+/// The file of the mirror of this number, as OPL.
 fn written(alloc: Global, fleet: &Fleet, place: usize) -> Vec<u8> {
     if place < fleet.len()
         && let Ok(file) = fleet.mirror(place).write(Format::Opl)
@@ -52,7 +52,7 @@ fn written(alloc: Global, fleet: &Fleet, place: usize) -> Vec<u8> {
     Vec::new(alloc)
 }
 
-/// The snapshot of what the mirror of this number holds, as OPL.
+/// The snapshot of the mirror of this number, as OPL.
 fn newest(alloc: Global, fleet: &Fleet, place: usize) -> Vec<u8> {
     let mut latest = Mirror::new_latest(alloc);
     let file = written(alloc, fleet, place);
@@ -64,7 +64,7 @@ fn newest(alloc: Global, fleet: &Fleet, place: usize) -> Vec<u8> {
     file
 }
 
-/// Whether each mirror of a fleet has the snapshot of all that the files hold.
+/// Whether each mirror of a fleet has the snapshot of all versions of the files.
 fn has_one_map(alloc: Global, fleet: &Fleet) -> bool {
     for place in 0..fleet.len() {
         if newest(alloc, fleet, place).as_slice() != NEWEST {
@@ -74,7 +74,7 @@ fn has_one_map(alloc: Global, fleet: &Fleet) -> bool {
     fleet.len() == KINDS.len()
 }
 
-/// The number of replies to these events of nine new mirrors, which have one snapshot then; 0 where they have not.
+/// The number of replies of nine new mirrors to these events, if they have one snapshot then; 0 if they have not.
 fn replies_to_one_map(alloc: Global, events: &[Event]) -> usize {
     let Ok(mut fleet) = Fleet::new(alloc, &KINDS) else {
         return 0;
@@ -142,7 +142,7 @@ fn mirrors_in_a_star(rt: HostRuntime) {
     assert_eq!(rt; replies_in_a_star(rt.alloc()), 23);
 }
 
-/// An event that looks like chance: the digits of a number say which mirrors, which file and which format.
+/// A pseudorandom event: the digits of a number determine the mirrors, the file and the format.
 fn chance(number: usize) -> Event<'static> {
     let mirror = number % KINDS.len();
     let other = number / 9 % KINDS.len();
@@ -161,7 +161,7 @@ fn chance(number: usize) -> Event<'static> {
     }
 }
 
-/// Sixty events by chance, before the mirrors meet.
+/// Sixty pseudorandom events, before the mirrors meet.
 fn replies_by_chance(alloc: Global) -> usize {
     let mut events = Vec::new(alloc);
     let mut number: usize = 1;
@@ -192,7 +192,7 @@ fn two_mirrors_events<'a>(events: &mut Vec<Event<'a>>) {
     }
 }
 
-/// The number of replies to these, after which the snapshot of the full mirror is what the latest one holds; 0 where it
+/// The number of replies to these, if the snapshot of the full mirror then is the history of the latest one; 0 if it
 /// isn't.
 fn replies_of_two_mirrors(alloc: Global) -> usize {
     let Ok(mut fleet) = Fleet::new(alloc, &[Keep::Full, Keep::Latest]) else {
@@ -219,7 +219,7 @@ fn push_reply(text: &mut String, reply: &Reply) {
     };
 }
 
-/// The replies of new mirrors of these kinds, and what the last one writes then.
+/// The replies of new mirrors of these kinds, and the file that the last one writes then.
 fn fleet_text(alloc: Global, kinds: &[Keep], events: &[Event]) -> String {
     let mut text = String::new(alloc);
     let Ok(mut fleet) = Fleet::new(alloc, kinds) else {

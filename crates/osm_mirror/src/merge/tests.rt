@@ -1,4 +1,4 @@
-//! Whole files merged, with what is written and refused worked out by hand.
+//! Whole files merged, with their output and their faults worked out by hand.
 use crate::merge::run_merge;
 use osm_files::{Fault, Format, FromRead, Input, Reason, SliceIn, ToWrite, VecOut};
 use osm_merge::Counts;
@@ -22,7 +22,7 @@ fn readers<'a>(alloc: Global, files: &'a [&'a [u8]]) -> Vec<SliceIn<'a>> {
     inputs
 }
 
-/// What a merge of these files in this format returns, and the bytes that it wrote.
+/// The result of a merge of these files in this format, and the bytes that it wrote.
 fn merged<R: Input + Drop>(
     alloc: Global,
     inputs: Vec<R>,
@@ -33,7 +33,7 @@ fn merged<R: Input + Drop>(
     (outcome, out.into_vec())
 }
 
-/// What a merge of these files to OPL writes, and then what it counts, or why it is refused.
+/// The output of a merge of these files to OPL, and then its counts, or its fault.
 fn merged_text(alloc: Global, files: &[&[u8]]) -> String {
     let mut text = String::new(alloc);
     let (outcome, written) = merged(alloc, readers(alloc, files), Format::Opl);
@@ -48,7 +48,7 @@ fn merged_text(alloc: Global, files: &[&[u8]]) -> String {
 /// Files, and the text of their merge to OPL.
 type Row = (&'static [&'static [u8]], &'static str);
 
-/// Sees that the merges of these rows give their texts.
+/// Asserts that the merges of these rows give their texts.
 fn assert_rows<R: AllocGlobal + Abort>(rt: &R, rows: &[Row]) {
     for (files, text) in rows {
         assert_eq!(rt; merged_text(rt.alloc(), files).as_str(), *text);
@@ -282,7 +282,7 @@ fn hostile_numbers(rt: HostRuntime) {
 const NODE_THEN_DELETION: &[u8] =
     b"\xff\xe0\x04o5m2\x10\x0b\x02\x01\x02\x02\x00\x01\x00a\x00\x00\x00\x10\x05\x00\x02\x02\x00\x01\xfe";
 
-/// The text of a merge of this file, of which `length` bytes are left.
+/// The text of a merge of the first `length` bytes of this file.
 fn cut_text(alloc: Global, length: usize) -> String {
     merged_text(alloc, &[NODE_THEN_DELETION.get(..length).unwrap_or(b"?")])
 }
@@ -315,7 +315,7 @@ fn cut_file(rt: HostRuntime) {
     assert_rows(&rt, BYTE_AFTER_THE_END);
 }
 
-/// The bytes that a merge of these files in this format writes; none where it is refused.
+/// The bytes that a merge of these files in this format writes; none if it is refused.
 fn written(alloc: Global, files: &[&[u8]], format: Format) -> Vec<u8> {
     let (outcome, written) = merged(alloc, readers(alloc, files), format);
     if outcome.is_ok() {
@@ -328,7 +328,7 @@ fn written(alloc: Global, files: &[&[u8]], format: Format) -> Vec<u8> {
 /// Files, a format, and the bytes that are written.
 type Written = (&'static [&'static [u8]], Format, &'static [u8]);
 
-/// Sees that the merges of these rows write their bytes.
+/// Asserts that the merges of these rows write their bytes.
 fn assert_written<R: AllocGlobal + Abort>(rt: &R, rows: &[Written]) {
     for (files, format, bytes) in rows {
         assert_eq!(rt; written(rt.alloc(), files, *format).as_slice(), *bytes);
@@ -432,7 +432,7 @@ fn old_order_files(rt: HostRuntime) {
     assert_written(&rt, OLD_ORDER);
 }
 
-/// How many comparisons a merge of these files makes; the most there are where it is refused.
+/// The number of comparisons of a merge of these files; the greatest number if it is refused.
 fn compared(alloc: Global, files: &[&[u8]]) -> u64 {
     let mut out = VecOut::new(alloc);
     match run_merge(alloc, readers(alloc, files), Format::Opl, &mut out) {
@@ -545,8 +545,8 @@ impl Read for Slow<'_> {
     }
 }
 
-/// What a merge of two files to OPL writes that come by `step` bytes a read, and why it is refused, if it is. The
-/// second file may fail.
+/// The output of a merge to OPL of two files that come by `step` bytes a read, and its fault, if it has one. The second
+/// file may fail.
 fn slow_text(alloc: Global, files: [&[u8]; 2], step: usize, fails: bool) -> String {
     let mut inputs = Vec::new(alloc);
     let [rest, second] = files;
@@ -589,8 +589,8 @@ fn a_reader_that_fails_is_named(rt: HostRuntime) {
     );
 }
 
-/// What a merge in this format writes of `count` files that hold the same versions, in each format by turns, the first
-/// one being the one at this place.
+/// The output of a merge in this format of `count` files that hold the same versions, in each format by turns,
+/// beginning with the file at the index `first`.
 fn in_turns(
     alloc: Global,
     files: [&[u8]; 3],
@@ -610,7 +610,7 @@ fn in_turns(
     }
 }
 
-/// Whether `count` files by turns make these files, whichever is first.
+/// Whether `count` files by turns make these files, for each first one.
 fn is_same_in_turns(alloc: Global, files: [&[u8]; 3], count: usize) -> bool {
     for first in 0..3usize {
         for (format, file) in [Format::Opl, Format::O5m, Format::O5c]

@@ -1,4 +1,4 @@
-//! Mirrors over small files, with what they write worked out by hand.
+//! Mirrors over small files, with their output worked out by hand.
 use super::Mirror;
 use crate::keep::{Keep, Taken};
 use osm_files::{Fault, Format};
@@ -12,7 +12,7 @@ const DELETED: &[u8] = b"n1 v2 dD\n";
 const NODE_THEN_DELETION: &[u8] =
     b"\xff\xe0\x04o5m2\x10\x0b\x02\x01\x02\x02\x00\x01\x00a\x00\x00\x00\x10\x05\x00\x02\x02\x00\x01\xfe";
 
-/// A mirror that keeps this, and holds nothing yet.
+/// A mirror that keeps `keep`, and holds nothing yet.
 fn new_mirror(alloc: Global, keep: Keep) -> Mirror {
     match keep {
         Keep::Full => Mirror::new_full(alloc),
@@ -20,7 +20,7 @@ fn new_mirror(alloc: Global, keep: Keep) -> Mirror {
     }
 }
 
-/// Appends how many versions a mirror took, or why it took none.
+/// Appends the number of versions that a mirror took, or the fault.
 fn push_taken(text: &mut String, outcome: Result<Taken, Fault>) {
     let _ = match outcome {
         Ok(taken) => writeln!(text, "{} taken", taken.versions),
@@ -28,7 +28,7 @@ fn push_taken(text: &mut String, outcome: Result<Taken, Fault>) {
     };
 }
 
-/// Appends what a mirror writes as OPL.
+/// Appends the file of a mirror, as OPL.
 fn push_written(text: &mut String, mirror: &Mirror) {
     let Ok(file) = mirror.write(Format::Opl) else {
         return;
@@ -36,7 +36,7 @@ fn push_written(text: &mut String, mirror: &Mirror) {
     let _ = text.push_str(str::from_utf8(&file).unwrap_or("?"));
 }
 
-/// What a mirror returns to these files that keeps this, and what it writes then.
+/// The results of a mirror that keeps `keep` for these files, and its file then.
 fn mirror_text(alloc: Global, keep: Keep, files: &[&[u8]]) -> String {
     let mut text = String::new(alloc);
     let mut mirror = new_mirror(alloc, keep);
@@ -47,7 +47,7 @@ fn mirror_text(alloc: Global, keep: Keep, files: &[&[u8]]) -> String {
     text
 }
 
-/// What a mirror keeps, the files that it takes, and the text of these calls.
+/// A kind of mirror, the files that it takes, and the text of these calls.
 type Row = (Keep, &'static [&'static [u8]], &'static str);
 
 /// Mirrors that take one file, and mirrors that take another one after it.
@@ -91,7 +91,7 @@ fn deletion_from_second_file(rt: HostRuntime) {
     }
 }
 
-/// The file of a node and its deletion, of which `length` bytes are left.
+/// The first `length` bytes of the file of a node and its deletion.
 fn cut(length: usize) -> &'static [u8] {
     NODE_THEN_DELETION.get(..length).unwrap_or(b"")
 }
@@ -114,8 +114,8 @@ fn cut_file(rt: HostRuntime) {
     assert_eq!(rt; mirror_text(rt.alloc(), Keep::Full, &files).as_str(), text);
 }
 
-/// What a latest mirror returns to a file, and what it and a copy of it write then; and the number of versions that the
-/// copy holds.
+/// The result of a latest mirror for a file, the files of the mirror and of a copy of it then, and the number of
+/// versions of the copy.
 fn copied_text(alloc: Global, file: &[u8]) -> String {
     let mut text = String::new(alloc);
     let mut mirror = Mirror::new_latest(alloc);

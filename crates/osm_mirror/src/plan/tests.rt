@@ -1,4 +1,4 @@
-//! Plans read, as formats.md and the program's table have them, and written back.
+//! Plans read, in the forms of docs/FORMATS.md and of the program's table, and written back.
 use crate::{Keep, Plan, PlanReason, Step, read_plan};
 use std::alloc::{AllocError, Global};
 
@@ -35,7 +35,7 @@ fn push_step(text: &mut String, step: &Step) -> Result<(), AllocError> {
     }
 }
 
-/// The lines of the plan that these bytes spell, or the first line that is faulty and why.
+/// The lines of the plan that these bytes spell, or the first faulty line and its reason.
 fn plan_text(alloc: Global, bytes: &[u8]) -> String {
     let mut text = String::new(alloc);
     match read_plan(alloc, bytes) {

@@ -1,5 +1,5 @@
 //! Plain stretches of texts.
-use crate::escape::plain_length;
+use crate::escape::raw_length;
 
 #[test]
 fn measures_plain_text(rt: HostRuntime) {
@@ -16,6 +16,6 @@ fn measures_plain_text(rt: HostRuntime) {
         ("x\u{20AC}", 1),
         ("\x7F", 0),
     ] {
-        assert_eq!(rt; plain_length(text), length);
+        assert_eq!(rt; raw_length(text), length);
     }
 }

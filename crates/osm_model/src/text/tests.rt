@@ -1,10 +1,10 @@
-//! Texts that were looked at, and found to be plain or not.
+//! Texts that `mark_plain` found to be plain or not.
 use crate::same::Same;
 use crate::{Body, Kind, Meta, Tags, Text, Version};
 use std::alloc::Global;
 use std::test::Fail;
 
-/// Texts, how they stand in a line, and whether they are plain.
+/// Texts, their form in a line, and whether they are plain.
 const TEXTS: [(&str, &str, bool); 8] = [
     ("", "", true),
     ("Main-Street_1", "Main-Street_1", true),
@@ -20,7 +20,7 @@ const TEXTS: [(&str, &str, bool); 8] = [
     ),
 ];
 
-/// A text that was looked at.
+/// A text after `mark_plain`.
 fn looked_at(alloc: Global, characters: &str) -> Result<Text, Fail> {
     let mut text = Text::from_str(alloc, characters)?;
     text.mark_plain();
@@ -104,7 +104,7 @@ fn copies_of_plain_texts_are_plain(rt: HostRuntime) -> Result<(), Fail> {
         (&other, false),
         (&plain, true),
     ] {
-        text.copy_to(&mut place)?;
+        text.copy_into(&mut place)?;
         assert_eq!(rt;
             (place.as_str(), place.plain().is_some()),
             (text.as_str(), is_plain)
@@ -130,7 +130,7 @@ fn what_is_behind_a_plain_text_may_not_be(rt: HostRuntime) -> Result<(), Fail> {
     Ok(())
 }
 
-/// The form in which a text of these characters is given back: its string or the text.
+/// The result of `try_into_string` for a text of these characters: the string or the text.
 fn given_back(text: Text, characters: &str) -> &'static str {
     let (form, is_kept) = match text.try_into_string() {
         Ok(string) => ("string", string.as_str() == characters),

@@ -1,4 +1,4 @@
-//! A file's units read alone, through a `FileSource` to its end, and by `load_any`.
+//! A file read in three ways: its units only, through a `FileSource` to its end, and by `load_any`.
 use super::rate::megabytes;
 use anyhow::{Result, bail};
 use o5_codec::{Decoder, read_number};
@@ -12,7 +12,7 @@ use std::time::Instant;
 /// The bytes of the header of o5 files.
 const HEADER: usize = 7;
 
-/// Reads each line by itself, and answers how many versions they hold.
+/// Reads each line by itself, and returns the number of versions.
 fn read_lines(alloc: Global, bytes: &[u8]) -> Result<u64> {
     let mut versions: u64 = 0;
     let mut rest = bytes;
@@ -39,7 +39,7 @@ fn kind_of(byte: u8) -> Option<Kind> {
     }
 }
 
-/// Reads each data set by itself, and answers how many versions they hold.
+/// Reads each data set by itself, and returns the number of versions.
 fn read_data_sets(alloc: Global, bytes: &[u8]) -> Result<u64> {
     let mut decoder = Decoder::new(alloc)?;
     let mut versions: u64 = 0;
@@ -69,7 +69,7 @@ fn read_data_sets(alloc: Global, bytes: &[u8]) -> Result<u64> {
     Ok(versions)
 }
 
-/// Reads the units of a file alone.
+/// Reads only the units of a file.
 fn read_units(alloc: Global, bytes: &[u8], format: Format) -> Result<u64> {
     match format {
         Format::Opl => read_lines(alloc, bytes),
@@ -77,7 +77,7 @@ fn read_units(alloc: Global, bytes: &[u8], format: Format) -> Result<u64> {
     }
 }
 
-/// Reads a source to its end, and answers how many versions it gave.
+/// Reads a source to its end, and returns the number of versions that it gave.
 fn read_source(alloc: Global, bytes: &[u8]) -> Result<u64> {
     let mut source = FileSource::new(alloc, 0, SliceIn::new(bytes))?;
     let mut versions: u64 = 0;

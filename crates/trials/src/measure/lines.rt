@@ -12,7 +12,7 @@ use std::time::Instant;
 /// The bytes of a megabyte.
 pub const MEGABYTE: u64 = 1_000_000;
 
-/// Appends what every line begins with, as osmium writes it.
+/// Appends the fields that every line begins with, as osmium writes them.
 fn append_front(text: &mut String, letter: char, number: u32) -> Result<()> {
     write!(
         text,
@@ -69,7 +69,7 @@ fn append_sample(text: &mut String, number: u32) -> Result<()> {
     Ok(())
 }
 
-/// At least so many bytes of lines.
+/// At least `bytes` bytes of lines.
 fn samples(alloc: Global, bytes: u64) -> Result<String> {
     let mut text = String::new(alloc);
     for number in 0..u32::MAX {
@@ -92,12 +92,12 @@ fn read_all(alloc: Global, text: &str) -> Result<Vec<Version>> {
     Ok(versions)
 }
 
-/// How many lines end in these bytes.
+/// The number of lines that end in these bytes.
 fn count_lines(bytes: &[u8]) -> usize {
     bytes.iter().filter(|byte| **byte == b'\n').count()
 }
 
-/// Makes so many bytes of lines and measures them.
+/// Makes `bytes` bytes of lines and measures them.
 pub fn measure<R: Clock + AllocGlobal>(rt: &R, bytes: u64) -> Result<String> {
     let alloc = rt.alloc();
     let text = samples(alloc, bytes)?;

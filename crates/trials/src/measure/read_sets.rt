@@ -7,10 +7,10 @@ use std::alloc::Global;
 use std::rt::Clock;
 use std::time::Instant;
 
-/// How often the measure goes over all nodes.
+/// The number of passes of the measure over all nodes.
 const ROUNDS: u64 = 5;
 
-/// How many users there are.
+/// The number of users.
 const USERS: u32 = 100;
 
 /// Appends an unsigned number in groups of seven bits, the lowest first.
@@ -72,7 +72,7 @@ fn nodes(alloc: Global, count: u32) -> Result<Vec<Vec<u8>>> {
     Ok(nodes)
 }
 
-/// Reads all nodes, and answers how many have a user.
+/// Reads all nodes, and returns the number of those that have a user.
 fn read_all(alloc: Global, nodes: &[Vec<u8>]) -> Result<u64> {
     let mut decoder = Decoder::new(alloc)?;
     let mut count: u64 = 0;
@@ -86,7 +86,7 @@ fn read_all(alloc: Global, nodes: &[Vec<u8>]) -> Result<u64> {
     Ok(count)
 }
 
-/// Makes so many nodes and measures how fast they are read.
+/// Makes `count` nodes and measures how fast they are read.
 pub fn measure<R: Clock + AllocGlobal>(rt: &R, count: u32) -> Result<String> {
     let alloc = rt.alloc();
     let nodes = nodes(alloc, count)?;

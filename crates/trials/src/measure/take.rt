@@ -28,7 +28,7 @@ fn version(alloc: Global, id: u32, number: u64) -> Result<Version> {
     Ok(Version::new(alloc, i64::from(id) + 1, meta, body)?)
 }
 
-/// The file of this version of so many nodes, the ids of which are so far apart.
+/// The file of version `number` of `count` nodes, whose ids are `apart` from each other.
 fn file(alloc: Global, count: u32, apart: u32, number: u64) -> Result<Vec<u8>> {
     let mut bytes = Vec::new(alloc);
     for place in 0..count {
@@ -49,7 +49,7 @@ fn pass(mirror: &Mirror) -> u64 {
     sum
 }
 
-/// Measures how long a mirror takes to take changes, beside a pass over what it holds.
+/// Measures how long a mirror takes to take changes, compared with a pass over its versions.
 fn measure_take<R: Clock + AllocGlobal>(
     rt: &R,
     mut mirror: Mirror,
@@ -72,7 +72,7 @@ fn measure_take<R: Clock + AllocGlobal>(
     )?)
 }
 
-/// Measures a run of so many events over two mirrors and a small file: takes, passes and restarts in turn.
+/// Measures a run of `count` events over two mirrors and a small file: takes, passes and restarts in turn.
 fn measure_run<R: Clock + AllocGlobal>(rt: &R, count: u32, small: &[u8]) -> Result<String> {
     let alloc = rt.alloc();
     let mut fleet = Fleet::new(alloc, &[Keep::Full, Keep::Latest])?;
@@ -103,7 +103,7 @@ fn measure_run<R: Clock + AllocGlobal>(rt: &R, count: u32, small: &[u8]) -> Resu
     Ok(format!(in alloc; "{} events: {} us\n", replies.len(), running.as_micros())?)
 }
 
-/// Measures a take by mirrors of each kind that hold so many versions, and runs of 1,000 and of 2,000 events.
+/// Measures a take by mirrors of each kind that hold `count` versions, and runs of 1,000 and of 2,000 events.
 pub fn measure<R: Clock + AllocGlobal>(rt: &R, count: u32) -> Result<String> {
     let alloc = rt.alloc();
     let map = file(alloc, count, 1, 1)?;

@@ -8,7 +8,7 @@ use std::cmp::Ordering;
 use std::rt::Clock;
 use std::time::Instant;
 
-/// How often each measure goes over all versions.
+/// The number of passes of each measure over all versions.
 const ROUNDS: u64 = 10;
 
 /// The bytes after which a buffer of lines is emptied.
@@ -64,7 +64,7 @@ fn versions(alloc: Global, count: u32) -> Result<Vec<Version>> {
     Ok(versions)
 }
 
-/// How many neighbours ascend.
+/// The number of neighbours that ascend.
 fn ascents(versions: &[Version]) -> u64 {
     let mut count: u64 = 0;
     for pair in versions.windows(2) {
@@ -77,7 +77,7 @@ fn ascents(versions: &[Version]) -> u64 {
     count
 }
 
-/// Appends all lines to a buffer that is emptied now and then, and answers how many bytes they have.
+/// Appends all lines to a buffer that is emptied now and then, and returns the number of bytes.
 pub fn append_lines(alloc: Global, versions: &[Version]) -> Result<u64> {
     let mut buffer = Vec::with_capacity(alloc, 2 * BUFFER)?;
     let mut bytes: u64 = 0;
@@ -102,7 +102,7 @@ fn all_lines(alloc: Global, versions: &[Version]) -> Result<Vec<u8>> {
     Ok(lines)
 }
 
-/// Copies all lines into a buffer that is emptied now and then, and answers how many bytes they have.
+/// Copies all lines into a buffer that is emptied now and then, and returns the number of bytes.
 fn copy_lines(alloc: Global, lines: &[u8]) -> Result<u64> {
     let mut buffer = Vec::with_capacity(alloc, 2 * BUFFER)?;
     let mut bytes: u64 = 0;
@@ -114,7 +114,7 @@ fn copy_lines(alloc: Global, lines: &[u8]) -> Result<u64> {
     Ok(bytes)
 }
 
-/// Makes so many versions and measures them.
+/// Makes `count` versions and measures them.
 pub fn measure<R: Clock + AllocGlobal>(rt: &R, count: u32) -> Result<String> {
     let alloc = rt.alloc();
     let versions = versions(alloc, count)?;

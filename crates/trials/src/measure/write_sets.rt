@@ -8,10 +8,10 @@ use std::alloc::Global;
 use std::rt::Clock;
 use std::time::Instant;
 
-/// How often the measure goes over all versions.
+/// The number of passes of the measure over all versions.
 const ROUNDS: u64 = 5;
 
-/// How many users there are.
+/// The number of users.
 const USERS: u32 = 2000;
 
 fn meta(alloc: Global, number: u32) -> Result<Meta> {
@@ -71,7 +71,7 @@ fn ways(alloc: Global, count: u32) -> Result<Vec<Version>> {
     Ok(ways)
 }
 
-/// Writes all versions, whose kinds may not fall, and answers how many bytes they are.
+/// Writes all versions, whose kinds may not fall, and returns the number of bytes.
 fn write_all(alloc: Global, versions: &[Version]) -> Result<u64> {
     let mut encoder = Encoder::new(alloc)?;
     let mut last = Kind::Node;
@@ -89,7 +89,7 @@ fn write_all(alloc: Global, versions: &[Version]) -> Result<u64> {
     Ok(size)
 }
 
-/// Writes all versions so many times, and answers the versions a second and the bytes of one time.
+/// Writes all versions several times, and returns the versions a second and the bytes of one time.
 fn measure_writing<R: Clock + AllocGlobal>(rt: &R, versions: &[Version]) -> Result<(u128, u64)> {
     let start = Instant::now(rt)?;
     let mut size: u64 = 0;
@@ -100,7 +100,7 @@ fn measure_writing<R: Clock + AllocGlobal>(rt: &R, versions: &[Version]) -> Resu
     Ok((rate(written, start.elapsed(rt)?), size))
 }
 
-/// Makes so many nodes, and a fifth as many ways, and measures how fast they are written.
+/// Makes `count` nodes, and a fifth as many ways, and measures how fast they are written.
 pub fn measure<R: Clock + AllocGlobal>(rt: &R, count: u32) -> Result<String> {
     let alloc = rt.alloc();
     let (node_rate, node_size) = measure_writing(rt, &nodes(alloc, count)?)?;

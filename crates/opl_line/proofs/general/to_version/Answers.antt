@@ -4,8 +4,8 @@ use Rattle.opl_line.specs.Reading.{meta_of, reading_body}
 use Rattle.opl_line.proofs.WithinLaws.{sound}
 use Rattle.opl_line.proofs.general.to_version.Goals as goal
 
-pub of_sound_data-requires : goal.of_sound_data-requires
-of_sound_data-requires c =
+pub from_checked_data-requires : goal.from_checked_data-requires
+from_checked_data-requires c =
     let same : c.to_meta-meta.result ≡ meta_of c.args.fields.now = search rules in
     let some : (c.to_meta-meta.result.version == 0) ≡ false = search rules in
     let dated : is_dated c.to_meta-meta.result ≡ true = search rules in
@@ -22,4 +22,4 @@ returns c =
     let read : reading_body c.args.kind c.args.fields.now ≡ Ok c.in_ok-body.body = search rules in
     let is = sound c.args.kind c.args.id c.args.fields.now c.to_meta-meta.result c.in_ok-body.body same c.requires.id c.requires.within some
     dated read in
-    is.whole ∙ sym (ap (λ v. Ok v) (rw (to_z-of_z c.ranges.id) at c.in_ok-of_sound_data.ensures.value))
+    is.whole ∙ sym (ap (λ v. Ok v) (rw (to_z-of_z c.ranges.id) at c.in_ok-from_checked_data.ensures.value))

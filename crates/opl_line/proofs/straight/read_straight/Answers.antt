@@ -10,8 +10,8 @@ use Rattle.opl_line.specs.Reading.{reading_line}
 use Rattle.opl_line.proofs.CanonicalLineLaws.{no_fault, is_read}
 use Rattle.opl_line.proofs.straight.read_straight.Goals as goal
 
-pub of_sound_data-requires : goal.of_sound_data-requires
-of_sound_data-requires c =
+pub from_checked_data-requires : goal.from_checked_data-requires
+from_checked_data-requires c =
     let head = c.in_ok-head.head in
     let some : eqb head.meta.version 0 ≡ false = search rules in
     let dated : is_dated head.meta ≡ true = search rules in
@@ -19,7 +19,7 @@ of_sound_data-requires c =
     rw same (no_fault c.args.line.now c.in_ok-head.behind.now head.kind head.id head.is_deleted head.meta c.in_ok-body.body
     c.in_ok-head.ensures c.in_ok-body.ensures some dated)
 
--- what is true of the version that is made is true of the one that is returned
+-- a property of the version that is made holds for the one that is returned
 of_made : (P : VersionData → Type 0) (made : Result VersionData Memory) → IfOk made P → IfSome (result_ok made) P
 of_made P (Ok v) h = h
 of_made P (Err memory) h = tt
@@ -36,10 +36,10 @@ returns c =
     let some : eqb head.meta.version 0 ≡ false = search rules in
     let dated : is_dated head.meta ≡ true = search rules in
     let same : to_z w64 (of_z w64 head.id) ≡ head.id = search rules in
-    let value : IfOk c.of_sound_data.result (λ v. v ≡ version_of head.id head.meta body) = rw same at c.of_sound_data.ensures.value in
+    let value : IfOk c.from_checked_data.result (λ v. v ≡ version_of head.id head.meta body) = rw same at c.from_checked_data.ensures.value in
     let R : VersionData → Type 0 = λ v. reading_line c.args.line.now ≡ Ok (Some v) in
     let made = both IsVersion (λ v. v ≡ version_of head.id head.meta body) R
     (is_read c.args.line.now c.in_ok-head.behind.now head.kind head.id head.is_deleted head.meta body c.in_ok-head.ensures
     c.in_ok-body.ensures some dated)
-    c.of_sound_data.result c.of_sound_data.ensures.valid value in
-    subst (λ o. IfSome o R) (sym c.ok.ensures.value) (of_made R c.of_sound_data.result made)
+    c.from_checked_data.result c.from_checked_data.ensures.valid value in
+    subst (λ o. IfSome o R) (sym c.ok.ensures.value) (of_made R c.from_checked_data.result made)

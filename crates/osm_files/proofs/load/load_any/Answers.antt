@@ -14,7 +14,7 @@ returns-in-Ok-clause-loaded g c =
     IfOk-weaker c.gathered.result _ _ (λ loaded e. (x.0, x.1, loads c.args.input x.0 c.in-Ok.format vs c.in-Ok.sorted loaded x.2 e))
     c.gathered.ensures.loaded
 
--- memory was refused
+-- memory ran out
 pub returns-in-Ok-clause-refused : goal.returns-in-Ok-clause-refused
 returns-in-Ok-clause-refused g c =
     let one = g.R.Input.one c.args.reader in

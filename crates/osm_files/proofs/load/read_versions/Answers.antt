@@ -4,8 +4,8 @@ use Rattle.std.proofs.lemmas.Result.{err_from_is_err_and}
 use Rattle.osm_model.specs.Data.{VersionData}
 use Rattle.osm_model.specs.Order.{key_cmp}
 use Rattle.osm_files.specs.Load.{format_of}
-use Rattle.osm_files.specs.Position.{Position, Told, telling, ahead, still_to_come, GoesOn}
-use Rattle.osm_files.specs.Source.{Step}
+use Rattle.osm_files.specs.Position.{Position, KnownPosition, with_coming, bytes_ahead, units_or_failed, GoesOn}
+use Rattle.osm_files.specs.Source.{SourceStep}
 use Rattle.osm_files.specs.Stream.{Placed}
 use Rattle.osm_files.proofs.LoadLaws.{LoadsOn, fresh, load_step, load_ends, load_stops, is_read, stops, stops_at_once, loads_begin}
 use Rattle.osm_files.proofs.LoadLaws.{sorted_on}
@@ -16,13 +16,13 @@ units-init g c =
     rw c.requires.empty (record {
       loads = λ later k. (
           let z = c.in_ok-format.ensures.tells later k in
-          let begins = ap (λ (v : Position _). telling v z.0) c.requires.begins in (
+          let begins = ap (λ (v : Position _). with_coming v z.0) c.requires.begins in (
             z.0,
             subst (λ (v : Position _). g.R.Input.can_give v.coming z.0) c.requires.begins z.1,
             (
-              loads_begin (fresh c.args.reading.now.input (Some z.0)) (telling c.format.new.self later)
-                  (subst (λ (q : Told). GoesOn q (telling c.format.new.self later)) begins z.2.0) refl,
-              subst (λ (q : Told). IfSome (ahead q) (λ x. c.in_ok-format.format ≡ format_of x.bytes)) begins z.2.1,
+              loads_begin (fresh c.args.reading.now.input (Some z.0)) (with_coming c.format.new.self later)
+                  (subst (λ (q : KnownPosition). GoesOn q (with_coming c.format.new.self later)) begins z.2.0) refl,
+              subst (λ (q : KnownPosition). IfSome (bytes_ahead q) (λ x. c.in_ok-format.format ≡ format_of x.bytes)) begins z.2.1,
             ),
           ));
       sorted = (λ t k d from within. absurd (omega (arith, within)), λ s. refl);
@@ -38,12 +38,12 @@ units-preserved g c =
           let y = (rw c.in-Some.is at c.in_ok-unit.ensures.step) later k in
           let x = c.units.invariant.loads y.0 y.1 in
           let p = fresh c.args.reading.now.input (Some x.0) in
-          let on = load_step (still_to_come p) vs (still_to_come (telling c.units.reading y.0))
-          (still_to_come (telling c.next.new.self later)) x.2.0 u y.2 in (
+          let on = load_step (units_or_failed p) vs (units_or_failed (with_coming c.units.reading y.0))
+          (units_or_failed (with_coming c.next.new.self later)) x.2.0 u y.2 in (
             x.0,
             x.1,
             (
-              subst (λ (xs : List VersionData). LoadsOn (still_to_come p) xs (still_to_come (telling c.next.new.self later)))
+              subst (λ (xs : List VersionData). LoadsOn (units_or_failed p) xs (units_or_failed (with_coming c.next.new.self later)))
                   (sym {A = List VersionData} added) on,
               x.2.1,
             ),
@@ -59,8 +59,8 @@ returns-in_default-clause-read g c =
     let y = (rw c.in_default.is at c.in_ok-unit.ensures.step) later (g.R.Input.possible c.next.new.self.coming) in
     let x = c.units.invariant.loads y.0 y.1 in
     let p = fresh c.args.reading.now.input (Some x.0) in
-    let all = load_ends (still_to_come p) vs (still_to_come (telling c.units.reading y.0))
-    (still_to_come (telling c.next.new.self later)) x.2.0 y.2 in
+    let all = load_ends (units_or_failed p) vs (units_or_failed (with_coming c.units.reading y.0))
+    (units_or_failed (with_coming c.next.new.self later)) x.2.0 y.2 in
     (x.0, x.1, is_read c.args.reading.now.input x.0 c.in_ok-format.format vs c.units.sorted x.2.1 c.units.invariant.sorted all)
 
 pub returns-in_err-unit-clause-refused : goal.returns-in_err-unit-clause-refused
@@ -74,26 +74,26 @@ returns-in_err-unit-clause-refused g c =
       x.0,
       x.1,
       stops c.args.reading.now.input x.0 c.in_err-unit.field-0.0
-          (load_stops (still_to_come p) c.units.versions.items (still_to_come (telling c.units.reading y.0))
-          (still_to_come (telling c.next.new.self later)) x.2.0 c.in_err-unit.field-0.0 y.2),
+          (load_stops (units_or_failed p) c.units.versions.items (units_or_failed (with_coming c.units.reading y.0))
+          (units_or_failed (with_coming c.next.new.self later)) x.2.0 c.in_err-unit.field-0.0 y.2),
     ))
 
 pub returns-in_err-format-clause-refused : goal.returns-in_err-format-clause-refused
 returns-in_err-format-clause-refused g c =
     let later = g.R.Input.one c.format.new.self.coming in
     let y = c.in_err-format.ensures.refused later (g.R.Input.possible c.format.new.self.coming) in
-    let step = subst (λ (q : Told). Step {A = Placed} (still_to_come q) (Err c.in_err-format.field-0.0)
-    (still_to_come (telling c.format.new.self later))) (ap (λ v. telling v y.0) c.requires.begins) y.2 in
+    let step = subst (λ (q : KnownPosition). SourceStep {A = Placed} (units_or_failed q) (Err c.in_err-format.field-0.0)
+    (units_or_failed (with_coming c.format.new.self later))) (ap (λ v. with_coming v y.0) c.requires.begins) y.2 in
     let e = err_from_is_err_and c.from_residual.result c.from_residual.ensures.1 in
     rw (e.1, e.2) ((
       y.0,
       subst (λ (v : Position _). g.R.Input.can_give v.coming y.0) c.requires.begins y.1,
       stops c.args.reading.now.input y.0 c.in_err-format.field-0.0
-          (stops_at_once (still_to_come (fresh c.args.reading.now.input (Some y.0)))
-          (still_to_come (telling c.format.new.self later)) c.in_err-format.field-0.0 step),
+          (stops_at_once (units_or_failed (fresh c.args.reading.now.input (Some y.0)))
+          (units_or_failed (with_coming c.format.new.self later)) c.in_err-format.field-0.0 step),
     ))
 
--- memory was refused
+-- memory ran out
 pub returns-in_err-sorted-clause-refused : goal.returns-in_err-sorted-clause-refused
 returns-in_err-sorted-clause-refused g c =
     let y = (rw c.in-Some.is at c.in_ok-unit.ensures.step) (g.R.Input.one c.next.new.self.coming)

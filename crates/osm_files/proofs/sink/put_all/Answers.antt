@@ -2,7 +2,7 @@ use Rattle.std.proofs.Common.{◌≡◌, ◌+◌, ◌<◌, ◌∷◌, ◌++◌, 
 use Rattle.std.proofs.lemmas.List.{take_all}
 use Rattle.std.proofs.lemmas.Result.{err_from_is_err_and}
 use Rattle.osm_model.specs.Data.{VersionData}
-use Rattle.osm_model.specs.Sets.{listed}
+use Rattle.osm_model.specs.Sets.{to_list}
 use Rattle.osm_model.proofs.SetLaws.{strict-listed}
 use Rattle.osm_files.specs.Change.{change_of}
 use Rattle.osm_files.specs.Spell.{spell_list}
@@ -17,7 +17,7 @@ returns-in_err-begin-clause-written g c =
     let change = change_of g.W.Output c.args.out.now c.begin.new.out in
     let fault = c.in_err-begin.field-0.0 in
     let p = err_from_is_err_and c.from_residual.result c.from_residual.ensures.1 in
-    rw (p.1, p.2) (cut_before_end n change f [] (listed c.args.history.now) fault
+    rw (p.1, p.2) (cut_before_end n change f [] (to_list c.args.history.now) fault
     (begin_err f n c.args.sink.now c.requires.unused c.begin.new.self change fault c.in_err-begin.ensures.calls))
 
 pub puts-init : goal.puts-init
@@ -33,7 +33,7 @@ put-requires-clause-open g c = (ap (λ s. s.begun) c.puts.invariant.0.state, ap 
 
 pub put-requires-clause-follows : goal.put-requires-clause-follows
 put-requires-clause-follows g c = λ going.
-    let xs = listed c.args.history.now in
+    let xs = to_list c.args.history.now in
     let i = c.puts.place in
     let v = c.get.result.now in
     let change = change_of g.W.Output c.args.out.now c.puts.out in
@@ -45,7 +45,7 @@ pub returns-in_err-put-clause-written : goal.returns-in_err-put-clause-written
 returns-in_err-put-clause-written g c =
     let f = c.args.sink.now.format in
     let n = c.args.sink.now.number in
-    let xs = listed c.args.history.now in
+    let xs = to_list c.args.history.now in
     let i = c.puts.place in
     let v = c.get.result.now in
     let before = c.args.out.now in
@@ -63,7 +63,7 @@ pub puts-preserved : goal.puts-preserved
 puts-preserved g c =
     let f = c.args.sink.now.format in
     let n = c.args.sink.now.number in
-    let xs = listed c.args.history.now in
+    let xs = to_list c.args.history.now in
     let i = c.puts.place in
     let v = c.get.result.now in
     let before = c.args.out.now in
@@ -82,7 +82,7 @@ pub returns-clause-written : goal.returns-clause-written
 returns-clause-written g c =
     let f = c.args.sink.now.format in
     let n = c.args.sink.now.number in
-    let xs = listed c.args.history.now in
+    let xs = to_list c.args.history.now in
     let i = c.puts.place in
     let before = c.args.out.now in
     let now = c.end.new.out in

@@ -1,7 +1,7 @@
 use Rattle.std.proofs.Common.{◌≡◌, ◌-◌, ◌≤◌, sym, subst, arith, take, drop, length, length-drop}
 use Rattle.std.proofs.Math.Seq.{take-add}
 use Rattle.std.proofs.lemmas.List.{take_all}
-use Rattle.osm_files.specs.Output.{Appended}
+use Rattle.osm_files.specs.Output.{IsAppended}
 use Rattle.osm_files.proofs.Appending.{appended_on}
 use Rattle.osm_files.proofs.write.write_rest.Goals as goal
 
@@ -13,7 +13,7 @@ writes-preserved g c =
     record {
       within = omega (arith, within, length-drop done bytes);
       appended =
-          subst (Appended (g.W.Output.holds c.args.out.now) (g.W.Output.holds c.write.new.self)) (sym (take-add done count bytes))
+          subst (IsAppended (g.W.Output.holds c.args.out.now) (g.W.Output.holds c.write.new.self)) (sym (take-add done count bytes))
           (appended_on (g.W.Output.holds c.args.out.now) (g.W.Output.holds c.writes.out) (g.W.Output.holds c.write.new.self)
           (take done bytes) (take count (drop done bytes)) c.writes.invariant.appended (rw rest at c.in-Ok.ensures.taken));
       lasts = λ h. c.writes.invariant.lasts c.in-Ok.ensures.fails.0;

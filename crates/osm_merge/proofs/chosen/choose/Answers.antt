@@ -1,8 +1,8 @@
 use Rattle.std.proofs.Common.{rules, ◌≡◌, ◌∙◌, ◌<◌, ◌≤◌, sym, ap, ◌++◌, length}
 use Rattle.std.proofs.lemmas.Result.{IfOk-weaker}
-use Rattle.osm_model.specs.Sets.{listed, from_list}
-use Rattle.osm_merge.specs.Selected.{selected}
-use Rattle.osm_merge.specs.Pass.{only}
+use Rattle.osm_model.specs.Sets.{to_list, from_list}
+use Rattle.osm_merge.specs.Selected.{selection_of}
+use Rattle.osm_merge.specs.Pass.{singleton_if}
 use Rattle.osm_merge.proofs.Choosing.{choose_skip, choose_first, choose_next, choose_none, choose_last}
 use Rattle.osm_merge.proofs.chosen.choose.Goals.{then-passes+in-Some+in_ok-copy_if, then-passes+in_default, else-passes}
 use Rattle.osm_merge.proofs.chosen.choose.Goals.{in-Some-held+in_ok-copy_if-2, in_default-held}
@@ -11,7 +11,7 @@ use Rattle.osm_merge.proofs.chosen.choose.Goals as goal
 pub loop-place-preserved : goal.loop-place-preserved
 loop-place-preserved c =
     let s = c.args.selection in
-    let list = listed c.args.history.now in
+    let list = to_list c.args.history.now in
     let w = c.get-version.result.now in
     let inside : c.loop-place.place < length list = search rules in
     elim c.if-passes.branch [
@@ -20,7 +20,7 @@ loop-place-preserved c =
           b.get-before.result.now c.loop-place.chosen.items c.if-passes.chosen.items
           c.loop-place.invariant (sym b.if-passes.ensures) b.in-Some.is b.get-before.ensures b.held-is
           (ap (λ v. v.items) b.chosen-is ∙ b.in_ok-copy_if.ensures
-          ∙ ap (λ stays. c.loop-place.chosen.items ++ only stays b.get-before.result.now) b.keeps.ensures)
+          ∙ ap (λ stays. c.loop-place.chosen.items ++ singleton_if stays b.get-before.result.now) b.keeps.ensures)
       | then-passes+in_default b ↦
           choose_first s list c.loop-place.place w inside c.get-version.ensures c.loop-place.held c.if-passes.held c.loop-place.chosen.items
           c.if-passes.chosen.items
@@ -35,15 +35,15 @@ pub returns : goal.returns
 returns c =
     let s = c.args.selection in
     let set = c.args.history.now in
-    let whole : length (listed set) ≤ c.loop-place.place = search rules in
-    let chosen : from_list c.match-held-2.chosen.items ≡ selected s set =
+    let whole : length (to_list set) ≤ c.loop-place.place = search rules in
+    let chosen : from_list c.match-held-2.chosen.items ≡ selection_of s set =
     elim c.match-held-2.branch [
       | in-Some-held+in_ok-copy_if-2 b ↦
           choose_last s set c.loop-place.place whole c.loop-place.held b.in-Some-held.last b.get-last.result.now c.loop-place.chosen.items
           c.match-held-2.chosen.items
           c.loop-place.invariant b.in-Some-held.is b.get-last.ensures
           (ap (λ v. v.items) b.chosen-is ∙ b.in_ok-copy_if-2.ensures
-          ∙ ap (λ stays. c.loop-place.chosen.items ++ only stays b.get-last.result.now) b.stays.ensures)
+          ∙ ap (λ stays. c.loop-place.chosen.items ++ singleton_if stays b.get-last.result.now) b.stays.ensures)
       | in_default-held b ↦
           choose_none s set c.loop-place.place whole c.loop-place.held c.loop-place.chosen.items c.match-held-2.chosen.items
           c.loop-place.invariant b.in_default-held.is (ap (λ v. v.items) b.chosen-is)

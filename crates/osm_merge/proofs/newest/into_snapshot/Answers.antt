@@ -1,5 +1,5 @@
 use Rattle.std.proofs.Common.{rules, ◌<◌, ◌≤◌, length, arith, ap, ◌∙◌, vec_len}
-use Rattle.osm_model.specs.Sets.{listed}
+use Rattle.osm_model.specs.Sets.{to_list}
 use Rattle.osm_merge.proofs.NewestLaws.{some_item, settling_begins, settling_skips, settling_moves, settled_list, settled_ascends}
 use Rattle.osm_merge.proofs.NewestLaws.{settled_set}
 use Rattle.osm_merge.proofs.newest.into_snapshot.Goals.{then-is_newest, else-is_newest}
@@ -25,24 +25,24 @@ versions-preserved c =
     let is = rw c.deref.ensures.value at c.is_newest.ensures d in
     elim c.if-is_newest.branch [
       | then-is_newest b ↦
-          settling_moves (listed c.args.history) items c.versions.place c.versions.kept c.versions.invariant inside d c.is_newest.result is
+          settling_moves (to_list c.args.history) items c.versions.place c.versions.kept c.versions.invariant inside d c.is_newest.result is
           b.swap.new.self.items c.if-is_newest.versions.items c.if-is_newest.kept b.if-is_newest.true b.swap.ensures.by_index
           (ap (λ v. v.items) b.versions-is) b.kept-is
       | else-is_newest b ↦
-          settling_skips (listed c.args.history) items c.versions.place c.versions.kept c.versions.invariant inside d c.is_newest.result is
+          settling_skips (to_list c.args.history) items c.versions.place c.versions.kept c.versions.invariant inside d c.is_newest.result is
           c.if-is_newest.versions.items c.if-is_newest.kept b.if-is_newest.false (ap (λ v. v.items) b.versions-is) b.kept-is
     ]
 
 pub from_ascending-requires : goal.from_ascending-requires
 from_ascending-requires c =
-    let end : length (listed c.args.history) ≤ c.versions.place = search rules in
+    let end : length (to_list c.args.history) ≤ c.versions.place = search rules in
     settled_ascends c.args.history c.truncate.new.self.items
     (c.truncate.ensures.items ∙ settled_list c.args.history c.versions.versions.items c.versions.place c.versions.kept
     c.versions.invariant end)
 
 pub returns : goal.returns
 returns c =
-    let end : length (listed c.args.history) ≤ c.versions.place = search rules in
+    let end : length (to_list c.args.history) ≤ c.versions.place = search rules in
     c.from_ascending.ensures
     ∙ settled_set c.args.history c.truncate.new.self.items
     (c.truncate.ensures.items ∙ settled_list c.args.history c.versions.versions.items c.versions.place c.versions.kept

@@ -1,6 +1,6 @@
-use Rattle.osm_model.specs.Sets.{listed}
+use Rattle.osm_model.specs.Sets.{to_list}
 use Rattle.osm_merge.proofs.NewestLaws.{IsSettling}
 use Rattle.osm_merge.proofs.newest.into_snapshot.Given as goal
 
 abbrev pub invariant-versions : goal.invariant-versions
-invariant-versions l = IsSettling (listed l.fn.history) l.versions.items l.place l.kept
+invariant-versions l = IsSettling (to_list l.fn.history) l.versions.items l.place l.kept

@@ -2,7 +2,7 @@ use Rattle.std.proofs.Common.{◌≡◌, ap, sym, ◌∙◌, subst}
 use Rattle.std.specs.List.Sorted.{IsStrictlySortedBy}
 use Rattle.std.specs.Result.{MatchResult}
 use Rattle.osm_model.specs.Order.{object_cmp}
-use Rattle.osm_model.specs.Sets.{listed, union}
+use Rattle.osm_model.specs.Sets.{to_list, union}
 use Rattle.osm_model.specs.VersionSet.{VersionSet}
 use Rattle.osm_merge.specs.Selected.{snapshot}
 use Rattle.osm_merge.proofs.TakenLaws.{snapshot_ascends, kept_ascends, newest_enough}
@@ -12,7 +12,7 @@ pub take_in-requires-clause-held_ascends : goal.take_in-requires-clause-held_asc
 take_in-requires-clause-held_ascends c = kept_ascends c.args.held.now c.requires
 
 pub take_in-requires-clause-more_ascends : goal.take_in-requires-clause-more_ascends
-take_in-requires-clause-more_ascends c = subst (λ (s : VersionSet). IsStrictlySortedBy object_cmp (listed s)) (sym c.into_snapshot.ensures)
+take_in-requires-clause-more_ascends c = subst (λ (s : VersionSet). IsStrictlySortedBy object_cmp (to_list s)) (sym c.into_snapshot.ensures)
     (snapshot_ascends c.args.more)
 
 pub returns : goal.returns

@@ -2,14 +2,14 @@ use Rattle.std.proofs.Common.{◌++◌, ◌∷◌, [], length, take, arith, sym,
 use Rattle.std.proofs.lemmas.List.{length-take-le}
 use Rattle.std.specs.List.Sorted.{IsStrictlySortedBy}
 use Rattle.osm_model.specs.Data.{VersionData}
-use Rattle.osm_merge.specs.Taking.{order_of, joined}
+use Rattle.osm_merge.specs.Taking.{order_of, merge_by}
 use Rattle.osm_merge.proofs.TakingLaws.{taking_step, taking_ends}
 use Rattle.osm_merge.proofs.taking.move_joined.Goals as goal
 
 pub more-init : goal.more-init
 more-init c = record {
   ascends = subst (IsStrictlySortedBy (order_of c.args.order)) (sym c.from_vec-held.ensures.items) c.requires.ascends;
-  makes = λ i. c.args.room.now.items ++ joined (order_of c.args.order) (c.from_vec-held.ensures.items i)
+  makes = λ i. c.args.room.now.items ++ merge_by (order_of c.args.order) (c.from_vec-held.ensures.items i)
       (c.into_iter-version-iterator.ensures.into_iter_gives.0 i);
   room =
       omega (

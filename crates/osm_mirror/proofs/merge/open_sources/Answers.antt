@@ -1,5 +1,5 @@
 use Rattle.std.proofs.Common.{arith, ◌≡◌, ◌∙◌, ◌+◌, ◌++◌, [], ◌∷◌, sym, ap, length}
-use Rattle.osm_files.specs.Groups.{opened_file}
+use Rattle.osm_files.specs.Groups.{new_source}
 use Rattle.osm_mirror.proofs.MergeLaws.{opened_more, length_opened}
 use Rattle.osm_mirror.proofs.merge.open_sources.Goals as goal
 
@@ -10,5 +10,5 @@ loop-reader-preserved g c =
     let place : length before ≡ 0 + length c.loop-reader.yielded =
     omega (arith, ap length c.loop-reader.invariant, length_opened 0 c.loop-reader.yielded) in
     c.in_ok-push_source.ensures.pushed
-    ∙ (λ i. c.loop-reader.invariant i ++ opened_file (place i) reader ∷ [])
+    ∙ (λ i. c.loop-reader.invariant i ++ new_source (place i) reader ∷ [])
     ∙ sym (opened_more 0 c.loop-reader.yielded reader)

@@ -1,6 +1,6 @@
 use Rattle.std.proofs.Common.{◌≡◌}
-use Rattle.osm_mirror.specs.Merge.{opened}
+use Rattle.osm_mirror.specs.Merge.{new_sources}
 use Rattle.osm_mirror.proofs.merge.open_sources.Given as goal
 
 abbrev pub invariant-loop-reader : goal.invariant-loop-reader
-invariant-loop-reader g l = l.sources.items ≡ opened 0 l.yielded
+invariant-loop-reader g l = l.sources.items ≡ new_sources 0 l.yielded

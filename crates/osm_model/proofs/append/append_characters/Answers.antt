@@ -10,19 +10,19 @@ use Rattle.osm_model.proofs.append.append_characters.Goals as goal
 pub returns-in_default-clause-appended : goal.returns-in_default-clause-appended
 returns-in_default-clause-appended c =
     let now = c.extend_from_slice.new.self.items in
-    let plain = plain_stretch _ c.characters.out.items c.characters.rest.now _ _ now c.characters.invariant.1 c.plain_length.ensures.escape
+    let plain = plain_stretch _ c.characters.out.items c.characters.rest.now _ _ now c.characters.invariant.1 c.raw_length.ensures.escape
     (search rules) in
-    let back : drop c.plain_length.result c.characters.rest.now ≡ c.chars-characters.result.rest.now = search rules in
+    let back : drop c.raw_length.result c.characters.rest.now ≡ c.chars-characters.result.rest.now = search rules in
     let none = text_end c.chars-characters.result.rest.now c.in_default.ensures.steps.0.0 in
     sym (plain ∙ ap (λ bytes. now ++ escape (chars bytes)) back ∙ ap (λ cs. now ++ escape cs) none ∙ append-nil now)
 
 pub characters-preserved : goal.characters-preserved
 characters-preserved c =
     let now = c.extend_from_slice.new.self.items in
-    let plain = plain_stretch _ c.characters.out.items c.characters.rest.now _ _ now c.characters.invariant.1 c.plain_length.ensures.escape
+    let plain = plain_stretch _ c.characters.out.items c.characters.rest.now _ _ now c.characters.invariant.1 c.raw_length.ensures.escape
     (search rules) in
-    let back : drop c.plain_length.result c.characters.rest.now ≡ c.chars-characters.result.rest.now = search rules in
-    let utf8 = IsUtf8-drop c.characters.rest.now c.plain_length.result c.characters.invariant.0 c.plain_length.ensures.boundary in
+    let back : drop c.raw_length.result c.characters.rest.now ≡ c.chars-characters.result.rest.now = search rules in
+    let utf8 = IsUtf8-drop c.characters.rest.now c.raw_length.result c.characters.invariant.0 c.raw_length.ensures.boundary in
     let more = text_more c.chars-characters.result.rest.now c.next.new.self.rest.now _ _ _ utf8 back c.in-Some.ensures.steps.0 refl in
     let rest = c.as_str-rest-in-characters in (
       rest.utf8,

@@ -6,6 +6,6 @@ use Rattle.osm_model.proofs.append.append_list.Given as goal
 
 abbrev pub invariant-loop-item : goal.invariant-loop-item
 invariant-loop-item g l =
-    (l.fn.out.items ++ (l.fn.mark ++ list_text g.T.Listed.text l.items) ≡ l.out.items
-    ++ more_text g.T.Listed.text (drop l.item-index l.more))
+    (l.fn.out.items ++ (l.fn.mark ++ list_text g.T.ListItem.text l.items) ≡ l.out.items
+    ++ more_text g.T.ListItem.text (drop l.item-index l.more))
     × Extends l.fn.out.items l.out.items

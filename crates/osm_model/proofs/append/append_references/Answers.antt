@@ -7,8 +7,8 @@ use Rattle.osm_model.proofs.append.append_references.Goals as goal
 pub loop-rest-init : goal.loop-rest-init
 loop-rest-init c = (
   list_begins reference_text c.in-Some.first.now c.args.ids.now c.in-Some.more.now
-      (32 ∷ 78 ∷ []) c.args.out.now.items c.append_behind.new.out.items (search rules) c.in_ok-append_behind.ensures.appended,
-  c.append_behind.ensures.kept,
+      (32 ∷ 78 ∷ []) c.args.out.now.items c.append_after.new.out.items (search rules) c.in_ok-append_after.ensures.appended,
+  c.append_after.ensures.kept,
 )
 
 pub loop-rest-preserved : goal.loop-rest-preserved

@@ -1,5 +1,5 @@
 use Rattle.std.proofs.Common.{◌≡◌, ◌<◌, ◌≤◌, ◌^◌}
-use Rattle.osm_model.specs.Numeral.{padded}
+use Rattle.osm_model.specs.Numeral.{pad_zeros}
 use Rattle.osm_model.specs.Decimal.{number_text}
 use Rattle.osm_model.specs.Coordinate.{without_last_zeros}
 use Rattle.osm_model.proofs.put.put_fewer_decimals.Given as goal
@@ -9,7 +9,7 @@ invariant-loop-digits l = record {
   some : 0 < l.digits;
   fits : l.digits < 10 ^ l.places;
   narrow : l.places ≤ 7;
-  same : without_last_zeros (padded l.places (number_text l.digits)) ≡ without_last_zeros (padded 7 (number_text l.units));
+  same : without_last_zeros (pad_zeros l.places (number_text l.digits)) ≡ without_last_zeros (pad_zeros 7 (number_text l.units));
 }
 
 abbrev pub decreases-loop-digits : goal.decreases-loop-digits

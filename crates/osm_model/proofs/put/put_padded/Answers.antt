@@ -1,5 +1,5 @@
 use Rattle.std.proofs.Common.{arith, append_assoc, ◌≡◌, ◌-◌, ◌++◌, length, drop, replicate, sym, ap, ◌∙◌}
-use Rattle.osm_model.specs.Numeral.{padded}
+use Rattle.osm_model.specs.Numeral.{pad_zeros}
 use Rattle.osm_model.specs.Decimal.{number_text}
 use Rattle.osm_model.proofs.DecimalLaws.{length-number-le}
 use Rattle.osm_model.proofs.put.put_padded.Goals as goal
@@ -10,7 +10,7 @@ overflow_sub-width c =
     omega arith
 
 pub returns-clause-written : goal.returns-clause-written
-unfolding padded
+unfolding pad_zeros
 returns-clause-written c =
     let zeros : c.args.width - (c.args.end - c.put_number-digits.result) ≡ c.args.width - length (number_text c.args.number) =
     omega arith in

@@ -2,8 +2,8 @@ use Rattle.std.proofs.Common.{◌≡◌, to_z, of_z, w64, rules}
 use Rattle.o5_codec.proofs.SoundSets.{set_faultless}
 use Rattle.o5_codec.proofs.segment.Segment.read_set.Goals as goal
 
-pub of_sound_parts-requires : goal.of_sound_parts-requires
-of_sound_parts-requires c =
+pub from_checked_parts-requires : goal.from_checked_parts-requires
+from_checked_parts-requires c =
     let same : to_z w64 (of_z w64 c.in_ok-id.id) ≡ c.in_ok-id.id = search rules in
     rw (c.deref_mut-3.ensures.value, c.deref_mut-2.ensures.value, same)
     (set_faultless c.args.kind c.args.self.now c.args.content.now _ _ _ c.requires c.in_ok-id.ensures c.in_ok-rest.ensures

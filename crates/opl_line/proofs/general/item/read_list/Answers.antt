@@ -1,6 +1,6 @@
 use Rattle.std.proofs.Common.{◌≡◌, inl, inr, ⊎_elim, Some, None, Err, rules, option_copied, ◌∙◌, sym, ap}
-use Rattle.opl_line.specs.declared.bytes.cut.Cut.TheVariants.{Commas}
-use Rattle.opl_line.specs.Cut.{is_end, pieces_of}
+use Rattle.opl_line.specs.declared.bytes.cut.Delimiter.TheVariants.{Commas}
+use Rattle.opl_line.specs.Delimiter.{is_end, pieces_of}
 use Rattle.opl_line.proofs.ItemLaws.{reading_on, one_item, refused_item, all_items}
 use Rattle.opl_line.proofs.general.item.read_list.Goals as goal
 

@@ -2,8 +2,8 @@ use Rattle.std.proofs.Common.{◌≡◌, ◌∷◌, [], ◌++◌, Some, None, fa
 use Rattle.std.specs.List.{list_all}
 use Rattle.std.specs.String.{string_bytes}
 use Rattle.std.specs.Char.{encode_utf8}
-use Rattle.opl_line.specs.declared.bytes.cut.Cut.TheVariants.{Percents}
-use Rattle.opl_line.specs.Cut.{is_end, split_first, cut, pieces_of}
+use Rattle.opl_line.specs.declared.bytes.cut.Delimiter.TheVariants.{Percents}
+use Rattle.opl_line.specs.Delimiter.{is_end, split_first, split_all, pieces_of}
 use Rattle.opl_line.specs.Text.{stands_for_itself, scalar_of, text_from}
 use Rattle.opl_line.proofs.CutLaws.{cut_split}
 use Rattle.opl_line.proofs.TextLaws.{never_ended, bad_scalar, bad_raw, one_escape}
@@ -11,12 +11,12 @@ use Rattle.opl_line.proofs.general.text.append_escape.Goals as goal
 
 pub returns-in_default-clause-text : goal.returns-in_default-clause-text
 returns-in_default-clause-text c =
-    let e : cut (is_end Percents) c.args.escape.now ≡ c.split.result.0.now ∷ [] = search rules in
+    let e : split_all (is_end Percents) c.args.escape.now ≡ c.split.result.0.now ∷ [] = search rules in
     inr (refl, never_ended (string_bytes c.args.out.now) c.split.result.0.now _ e)
 
 pub returns-in_default-scalar_of-clause-text : goal.returns-in_default-scalar_of-clause-text
 returns-in_default-scalar_of-clause-text c =
-    let e : cut (is_end Percents) c.args.escape.now ≡ c.split.result.0.now ∷ cut (is_end Percents) c.in_default-Some.behind.now =
+    let e : split_all (is_end Percents) c.args.escape.now ≡ c.split.result.0.now ∷ split_all (is_end Percents) c.in_default-Some.behind.now =
     search rules in
     let none : scalar_of c.split.result.0.now ≡ None = search rules in
     inr (
@@ -27,7 +27,7 @@ returns-in_default-scalar_of-clause-text c =
 
 pub returns-in_default-split_accepted-clause-text : goal.returns-in_default-split_accepted-clause-text
 returns-in_default-split_accepted-clause-text c =
-    let e : cut (is_end Percents) c.args.escape.now ≡ c.split.result.0.now ∷ cut (is_end Percents) c.in_default-Some.behind.now =
+    let e : split_all (is_end Percents) c.args.escape.now ≡ c.split.result.0.now ∷ split_all (is_end Percents) c.in_default-Some.behind.now =
     search rules in
     let other : list_all stands_for_itself (split_first (is_end Percents) c.in_default-Some.behind.now).0 ≡ false = search rules in
     inr (
@@ -38,12 +38,12 @@ returns-in_default-split_accepted-clause-text c =
 
 pub returns-clause-text : goal.returns-clause-text
 returns-clause-text c =
-    let e : cut (is_end Percents) c.args.escape.now ≡ c.split.result.0.now ∷ cut (is_end Percents) c.in_default-Some.behind.now =
+    let e : split_all (is_end Percents) c.args.escape.now ≡ c.split.result.0.now ∷ split_all (is_end Percents) c.in_default-Some.behind.now =
     search rules in
     let raw : list_all stands_for_itself c.in-Some-split_accepted.raw.now ≡ true = search rules in
     let parts : split_first (is_end Percents) c.in_default-Some.behind.now
     ≡ (c.in-Some-split_accepted.raw.now, option_copied c.in-Some-split_accepted.more) = search rules in
-    let f : cut (is_end Percents) c.in_default-Some.behind.now ≡ c.in-Some-split_accepted.raw.now
+    let f : split_all (is_end Percents) c.in_default-Some.behind.now ≡ c.in-Some-split_accepted.raw.now
     ∷ pieces_of (is_end Percents) (option_copied c.in-Some-split_accepted.more) =
     cut_split (is_end Percents) c.in_default-Some.behind.now ∙ ap (λ s. s.0 ∷ pieces_of (is_end Percents) s.1) parts in
     let some : scalar_of c.split.result.0.now ≡ Some c.in-Some.character = search rules in

@@ -4,8 +4,8 @@ use Rattle.std.specs.List.{list_all}
 use Rattle.std.specs.Option.{option_map, ok_or}
 use Rattle.std.specs.String.{string_bytes}
 use Rattle.opl_line.specs.declared.reason.OplReason.TheVariants.{BadText}
-use Rattle.opl_line.specs.declared.bytes.cut.Cut.TheVariants.{Percents}
-use Rattle.opl_line.specs.Cut.{is_end, split_first, pieces_of}
+use Rattle.opl_line.specs.declared.bytes.cut.Delimiter.TheVariants.{Percents}
+use Rattle.opl_line.specs.Delimiter.{is_end, split_first, pieces_of}
 use Rattle.opl_line.specs.Text.{stands_for_itself, text_of, text_of_pieces}
 use Rattle.opl_line.proofs.TextLaws.{all_read}
 use Rattle.opl_line.proofs.RawLaws.{raw_text}

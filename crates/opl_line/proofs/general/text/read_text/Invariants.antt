@@ -1,7 +1,7 @@
 use Rattle.std.proofs.Common.{◌≡◌, option_copied}
 use Rattle.std.specs.String.{string_bytes}
-use Rattle.opl_line.specs.declared.bytes.cut.Cut.TheVariants.{Percents}
-use Rattle.opl_line.specs.Cut.{is_end, pieces_of}
+use Rattle.opl_line.specs.declared.bytes.cut.Delimiter.TheVariants.{Percents}
+use Rattle.opl_line.specs.Delimiter.{is_end, pieces_of}
 use Rattle.opl_line.specs.Text.{text_of, text_from}
 use Rattle.opl_line.proofs.CutLaws.{left_of}
 use Rattle.opl_line.proofs.general.text.read_text.Given as goal

@@ -1,6 +1,6 @@
 use Rattle.std.proofs.Common.{◌≡◌, ◌<◌, true, ◌++◌, sym, ap, ◌∙◌, rules}
 use Rattle.osm_model.specs.Decimal.{number_text, integer_text}
-use Rattle.opl_line.specs.Number.{is_negative, without_sign, signed}
+use Rattle.opl_line.specs.Number.{is_negative, without_sign, with_sign}
 use Rattle.opl_line.proofs.CanonicalPartLaws.{integer_read, some_signed}
 use Rattle.opl_line.proofs.straight.part.parse_id.Goals as goal
 use Rattle.opl_line.proofs.straight.part.parse_id.Goals.{then-is_negative-2, else-is_negative-2}
@@ -15,7 +15,7 @@ returns-clause-text c =
     let some : is_negative text ≡ true → 0 < n = some_signed c.split_sign-is_negative.result.0
     (is_negative text) n c.split_sign-is_negative.ensures.sign c.else-is_negative.either in
     let sign : c.split_sign-is_negative.result.0 ≡ is_negative text = c.split_sign-is_negative.ensures.sign in
-    let same : signed (is_negative text) n ≡ c.if-is_negative-2.result = elim c.if-is_negative-2.branch [
+    let same : with_sign (is_negative text) n ≡ c.if-is_negative-2.result = elim c.if-is_negative-2.branch [
       | then-is_negative-2 w ↦ search rules
       | else-is_negative-2 w ↦ search rules
     ] in

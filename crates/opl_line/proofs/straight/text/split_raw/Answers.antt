@@ -7,7 +7,7 @@ use Rattle.opl_line.proofs.straight.text.split_raw.Goals as goal
 pub characters-preserved : goal.characters-preserved
 characters-preserved c =
     let text = c.args.text.now in
-    let width = c.raw_width-width in
+    let width = c.unescaped_width-width in
     let end = c.characters.end in
     let more : AreRaw (take width.result (drop end text)) =
     subst (λ t. AreRaw (take width.result t)) (take_rest text end) width.ensures.raw in

@@ -3,9 +3,9 @@ use Rattle.std.proofs.lemmas.Result.{err_from_is_err_and}
 use Rattle.std.specs.Ordering.{is_lt, is_gt}
 use Rattle.osm_model.specs.Order.{key_cmp}
 use Rattle.osm_files.specs.Fault.{fault_at}
-use Rattle.osm_files.specs.Position.{Position, telling, Keeps, still_to_come}
-use Rattle.osm_files.specs.Groups.{gathered}
-use Rattle.osm_files.specs.Source.{Step}
+use Rattle.osm_files.specs.Position.{Position, with_coming, Keeps, units_or_failed}
+use Rattle.osm_files.specs.Groups.{still_with_ready}
+use Rattle.osm_files.specs.Source.{SourceStep}
 use Rattle.osm_files.specs.Stream.{Placed}
 use Rattle.osm_files.specs.declared.reason.Reason.TheVariants.{Unsorted}
 use Rattle.osm_files.proofs.FillLaws.{kept}
@@ -16,10 +16,10 @@ use Rattle.osm_files.proofs.group.Group.gather.Goals as goal
 pub units-init : goal.units-init
 units-init g c = record {
   number = refl;
-  keeps = (let from = gathered c.args.units.now.input in let group = c.args.self.now.first ∷ c.args.self.now.others.items in
+  keeps = (let from = still_with_ready c.args.units.now.input in let group = c.args.self.now.first ∷ c.args.self.now.others.items in
       unread g.R.Input.can_give c.args.units.now c.args.units.now
-      (λ p q. Keeps (from (still_to_come p) group []) (from (still_to_come q) group [])) refl
-      (λ d. kept (from (still_to_come (telling c.args.units.now d)) group [])));
+      (λ p q. Keeps (from (units_or_failed p) group []) (from (units_or_failed q) group [])) refl
+      (λ d. kept (from (units_or_failed (with_coming c.args.units.now d)) group [])));
   first = refl;
   group = c.requires.group;
   left = omega arith;
@@ -33,8 +33,8 @@ returns-in_err-unit-clause-refuses g c =
     let x = c.units.invariant.keeps y.0 y.1 in (
       x.0,
       x.1,
-      refuses_read c.args.units.now.input (still_to_come (telling c.args.units.now x.0)) c.args.self.now.others.items
-          (still_to_come (telling c.units.units y.0)) (still_to_come (telling c.next.new.self later)) c.args.self.now.first
+      refuses_read c.args.units.now.input (units_or_failed (with_coming c.args.units.now x.0)) c.args.self.now.others.items
+          (units_or_failed (with_coming c.units.units y.0)) (units_or_failed (with_coming c.next.new.self later)) c.args.self.now.first
           c.units.self.others.items x.2 c.in_err-unit.field-0.0 y.2,
     ))
 
@@ -44,8 +44,8 @@ returns-in_default-clause-gathers g c = λ later k.
     let x = c.units.invariant.keeps y.0 y.1 in (
       x.0,
       x.1,
-      ends_group c.args.units.now.input (still_to_come (telling c.args.units.now x.0)) c.args.self.now.others.items
-          (still_to_come (telling c.units.units y.0)) (still_to_come (telling c.next.new.self later)) c.args.self.now.first
+      ends_group c.args.units.now.input (units_or_failed (with_coming c.args.units.now x.0)) c.args.self.now.others.items
+          (units_or_failed (with_coming c.units.units y.0)) (units_or_failed (with_coming c.next.new.self later)) c.args.self.now.first
           c.units.self.others.items x.2 c.units.invariant.group y.2,
     )
 
@@ -58,8 +58,8 @@ returns-then-is_lt-clause-gathers g c = λ later k.
     let x = c.units.invariant.keeps y.0 y.1 in (
       x.0,
       x.1,
-      begins_next c.args.units.now.input (still_to_come (telling c.args.units.now x.0)) c.args.self.now.others.items
-          (still_to_come (telling c.units.units y.0)) (still_to_come (telling c.next.new.self later)) c.args.self.now.first
+      begins_next c.args.units.now.input (units_or_failed (with_coming c.args.units.now x.0)) c.args.self.now.others.items
+          (units_or_failed (with_coming c.units.units y.0)) (units_or_failed (with_coming c.next.new.self later)) c.args.self.now.first
           c.units.self.others.items x.2 c.units.invariant.group u y.2 less,
     )
 
@@ -74,12 +74,12 @@ returns-then-is_gt-clause-refuses g c = λ later k.
     let x = c.units.invariant.keeps y.0 y.1 in (
       x.0,
       x.1,
-      refuses_unsorted c.args.units.now.input (still_to_come (telling c.args.units.now x.0)) c.args.self.now.others.items
-          (still_to_come (telling c.units.units y.0)) (still_to_come (telling c.next.new.self later)) c.args.self.now.first
+      refuses_unsorted c.args.units.now.input (units_or_failed (with_coming c.args.units.now x.0)) c.args.self.now.others.items
+          (units_or_failed (with_coming c.units.units y.0)) (units_or_failed (with_coming c.next.new.self later)) c.args.self.now.first
           c.units.self.others.items x.2 u
-          c.refuse.result (still_to_come (telling c.refuse.new.self later)) c.next.new.self.input y.2 greater
+          c.refuse.result (units_or_failed (with_coming c.refuse.new.self later)) c.next.new.self.input y.2 greater
           (c.refuse.ensures.fault ∙ ap (λ n. fault_at n u.place Unsorted) (c.next.ensures.number ∙ c.units.invariant.number))
-          (ap (λ (v : Position _). still_to_come (telling v later)) failed),
+          (ap (λ (v : Position _). units_or_failed (with_coming v later)) failed),
     )
 
 pub returns-in-Err-clause-refuses : goal.returns-in-Err-clause-refuses
@@ -93,7 +93,7 @@ returns-in-Err-clause-refuses g c = λ later k.
         inl c.refuse-in-Err.ensures.fault,
         (
           c.next.new.self.input,
-          ap (λ (v : Position _). still_to_come (telling v later)) c.refuse-in-Err.ensures.failed,
+          ap (λ (v : Position _). units_or_failed (with_coming v later)) c.refuse-in-Err.ensures.failed,
         ),
       ),
     )
@@ -109,15 +109,15 @@ units-preserved g c =
     ∙ ap is_lt (sym c.key_cmp-order.ensures) ∙ sym c.is_lt.ensures ∙ c.if-is_lt.false in
     let not_below : is_gt (key_cmp first u.version) ≡ false = ap (λ v. is_gt (key_cmp v u.version)) (sym c.units.invariant.first)
     ∙ ap is_gt (sym c.key_cmp-order.ensures) ∙ sym c.is_gt.ensures ∙ c.if-is_gt.false in
-    let from = gathered input in
+    let from = still_with_ready input in
     rw c.in_default-push.ensures.items (record {
       number = c.next.ensures.number ∙ c.units.invariant.number;
       first = c.units.invariant.first;
       keeps = then_on g.R.Input.can_give c.args.units.now c.units.units c.next.new.self
-          (λ p q. Keeps (from (still_to_come p) (first ∷ others) []) (from (still_to_come q) (first ∷ c.units.self.others.items) []))
-          (λ p q. Step {A = Placed} (still_to_come p) (Ok (Some u)) (still_to_come q)) _
-          (λ a b d k h. joins_group input (still_to_come a) others (still_to_come b)
-          (still_to_come d) first c.units.self.others.items k u h not_above not_below) c.units.invariant.keeps
+          (λ p q. Keeps (from (units_or_failed p) (first ∷ others) []) (from (units_or_failed q) (first ∷ c.units.self.others.items) []))
+          (λ p q. SourceStep {A = Placed} (units_or_failed p) (Ok (Some u)) (units_or_failed q)) _
+          (λ a b d k h. joins_group input (units_or_failed a) others (units_or_failed b)
+          (units_or_failed d) first c.units.self.others.items k u h not_above not_below) c.units.invariant.keeps
           (rw c.in-Some.is at c.in_ok-unit.ensures.step);
       group = group_joined first c.units.self.others.items u.version c.units.invariant.group not_above not_below;
       left = omega (arith, c.units.invariant.left, less, length-append c.units.self.others.items (u.version ∷ []));

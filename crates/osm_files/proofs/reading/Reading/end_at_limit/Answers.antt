@@ -1,6 +1,6 @@
 use Rattle.std.proofs.Common.{◌≡◌, ◌∙◌, ◌+◌, ◌<◌, ◌^◌, refl, sym, inr, ap, subst, arith, [], Ok, length, take, length-take, append-nil}
 use Rattle.osm_files.specs.Fault.{too_long_fault, fault_at}
-use Rattle.osm_files.specs.Input.{whole, breaks}
+use Rattle.osm_files.specs.Input.{whole_input, broken_input}
 use Rattle.osm_files.specs.Position.{Position}
 use Rattle.osm_files.specs.declared.reason.Reason.TheVariants.{ReadFault}
 use Rattle.osm_files.proofs.ReaderLaws.{fill_ended, fill_stopped, fill_limit}
@@ -13,7 +13,7 @@ returns-in-Ok-eq0-clause-on g c =
     let none : c.read.result ≡ Ok 0 = rw c.in-Ok-eq0.field-0-test at c.in-Ok-eq0.is in
     fill_ended can c.args.self.now _ [] c.requires.unended refl (ap (λ v. v.input) is) (ap (λ v. v.place) is) (ap (λ v. v.stand) is)
     (ap (λ v. v.failed) is) (ap (λ v. v.held) is ∙ sym (append-nil c.args.self.now.held)) refl
-    (subst (λ (v : Position _). can v.coming (whole [])) is (c.read.ensures.end none (omega arith)))
+    (subst (λ (v : Position _). can v.coming (whole_input [])) is (c.read.ensures.end none (omega arith)))
 
 pub returns-in-Ok-clause-stops : goal.returns-in-Ok-clause-stops
 returns-in-Ok-clause-stops g c =
@@ -41,5 +41,5 @@ returns-in-Err-clause-stops g c =
     let p = c.args.self.now in
     let is = c.self.view_is in
     fill_stopped can p (g.R.Input.one p.coming) ReadFault c.refuse-in-Err.result (g.R.Input.possible p.coming) (inr refl)
-    (λ e. subst (λ (v : Position _). can v.coming (breaks [])) is c.in-Err.ensures.broken) c.requires.unended
+    (λ e. subst (λ (v : Position _). can v.coming (broken_input [])) is c.in-Err.ensures.broken) c.requires.unended
     (c.refuse-in-Err.ensures.fault ∙ (λ i. fault_at ((is i).input) (c.requires.place i) ReadFault))

@@ -1,6 +1,6 @@
 use Rattle.std.proofs.Common.{◌≡◌, ◌∙◌, ◌+◌, ◌++◌, refl, ap, subst, [], length, Ok, Err}
 use Rattle.osm_files.specs.Fault.{fault_at}
-use Rattle.osm_files.specs.Input.{whole, breaks}
+use Rattle.osm_files.specs.Input.{whole_input, broken_input}
 use Rattle.osm_files.specs.Position.{Position}
 use Rattle.osm_files.specs.declared.reason.Reason.TheVariants.{ReadFault}
 use Rattle.osm_files.proofs.ReaderLaws.{fill_ended, fill_stopped}
@@ -14,7 +14,7 @@ returns-in-Ok-eq0-clause-on g c =
     let none : c.read_more.result ≡ Ok 0 = rw c.in-Ok-eq0.field-0-test at c.in-Ok-eq0.is in
     fill_ended can c.args.self.now _ more.0 c.requires refl (ap (λ v. v.input) is) (ap (λ v. v.place) is) (ap (λ v. v.stand) is)
     (ap (λ v. v.failed) is) (more.2 ∙ ap (λ v. v.held ++ more.0) is) (more.3 ∙ c.in-Ok-eq0.field-0-test)
-    (subst (λ (v : Position _). can v.coming (whole [])) is (c.read_more.ensures.end none))
+    (subst (λ (v : Position _). can v.coming (whole_input [])) is (c.read_more.ensures.end none))
 
 pub returns-in-Err-clause-stops : goal.returns-in-Err-clause-stops
 returns-in-Err-clause-stops g c =
@@ -23,7 +23,7 @@ returns-in-Err-clause-stops g c =
     let broken : c.in-Err.reason ≡ ReadFault → c.read_more.result ≡ Err ReadFault = λ e. rw e at c.in-Err.is in
     fill_stopped can c.args.self.now (g.R.Input.one c.args.self.now.coming) c.in-Err.reason c.refuse.result
     (g.R.Input.possible c.args.self.now.coming) c.in-Err.ensures.reason
-    (λ e. subst (λ (v : Position _). can v.coming (breaks [])) is (c.read_more.ensures.broken (broken e)))
+    (λ e. subst (λ (v : Position _). can v.coming (broken_input [])) is (c.read_more.ensures.broken (broken e)))
     c.requires
     (c.refuse.ensures.fault ∙ ap (λ n. fault_at c.self.inside.input (c.self.inside.place + n) c.in-Err.reason) c.len.ensures
     ∙ (λ i. fault_at ((is i).input) ((is i).place + length ((is i).held)) c.in-Err.reason))

@@ -5,21 +5,21 @@ use Rattle.osm_files.proofs.ReaderLaws.{unread, has_gone, gone_none, gone_read, 
 use Rattle.osm_files.proofs.ReaderLaws.{unit_further, unit_lessens, unit_refused, fill_refused}
 use Rattle.osm_files.proofs.ReadingLaws.{held_size, none_there, some_found, none_found, none_same, none_still, failed_already}
 use Rattle.osm_files.specs.Fault.{fault_at, failed_fault}
-use Rattle.osm_files.specs.Position.{stand_at, telling, still_to_come}
-use Rattle.osm_files.specs.Source.{Step}
+use Rattle.osm_files.specs.Position.{state_at, with_coming, units_or_failed}
+use Rattle.osm_files.specs.Source.{SourceStep}
 use Rattle.osm_files.specs.Stream.{Placed}
 use Rattle.osm_files.proofs.reading.Reading.next.Goals as goal
 
 pub returns-then-self-clause-step : goal.returns-then-self-clause-step
 returns-then-self-clause-step g c =
     let p = c.args.self.now in
-    unread g.R.Input.can_give p p (λ a b. Step {A = Placed} (still_to_come a) (Err c.failed.result) (still_to_come b)) refl
-    (λ d. failed_already (telling p d) c.failed.result (sym (ap (λ v. v.failed) c.self.view_is) ∙ c.if-self.true)
+    unread g.R.Input.can_give p p (λ a b. SourceStep {A = Placed} (units_or_failed a) (Err c.failed.result) (units_or_failed b)) refl
+    (λ d. failed_already (with_coming p d) c.failed.result (sym (ap (λ v. v.failed) c.self.view_is) ∙ c.if-self.true)
     (c.failed.ensures ∙ ap (λ v. failed_fault v.input) c.self.view_is))
 
 pub units-init : goal.units-init
 units-init g c =
-    record { on = has_gone g.R.Input.can_give c.args.self.now; within = omega arith; none = none_in_nothing (stand_at c.args.self.now) }
+    record { on = has_gone g.R.Input.can_give c.args.self.now; within = omega arith; none = none_in_nothing (state_at c.args.self.now) }
 
 pub pass-requires : goal.pass-requires
 pass-requires g c =
@@ -71,7 +71,7 @@ units-preserved-in-None g c =
           gone_further g.R.Input.can_give c.args.self.now m c.pass.new.self c.units.invariant.on
           (unit_passes g.R.Input.can_give m q c.pass.new.self u c.read_held.ensures.bound found c.pass.ensures.gone c.in-None.ensures.gave);
       within = omega arith;
-      none = none_in_nothing (stand_at c.pass.new.self);
+      none = none_in_nothing (state_at c.pass.new.self);
     }
 
 pub returns-in-Ok-None-clause-step : goal.returns-in-Ok-None-clause-step

@@ -1,5 +1,5 @@
 use Rattle.std.proofs.Common.{◌≡◌, ◌≤◌, None, length, take}
-use Rattle.osm_files.specs.Position.{stand_at}
+use Rattle.osm_files.specs.Position.{state_at}
 use Rattle.osm_files.specs.Units.{unit_at}
 use Rattle.osm_files.proofs.ReaderLaws.{HasGone, left_over}
 use Rattle.osm_files.proofs.reading.Reading.next.Given as goal
@@ -8,7 +8,7 @@ abbrev pub invariant-units : goal.invariant-units
 invariant-units g l = record {
   on : HasGone g.R.Input.can_give l.initial.self l.self;
   within : l.searched ≤ length l.self.held;
-  none : unit_at (stand_at l.self) (take l.searched l.self.held) ≡ None;
+  none : unit_at (state_at l.self) (take l.searched l.self.held) ≡ None;
 }
 
 abbrev pub decreases-units : goal.decreases-units

@@ -1,5 +1,5 @@
 use Rattle.std.proofs.Common.{◌∙◌, ap, sym, subst, Ok, Some}
-use Rattle.osm_files.specs.Groups.{FileStand, BeginsOn}
+use Rattle.osm_files.specs.Groups.{FileSourceData, BeginsOn}
 use Rattle.osm_files.proofs.SourceSteps.{open_source, begins_held}
 use Rattle.osm_files.proofs.source.FileSource.begin.Goals as goal
 
@@ -13,5 +13,5 @@ invariant_of-self-in-None g c = open_source g.R.Input.can_give c.begin_next.new.
 
 pub returns-in-Some-clause-begins : goal.returns-in-Some-clause-begins
 returns-in-Some-clause-begins g c =
-    subst (λ (s : FileStand _). BeginsOn g.R.Input.can_give s.units s.group (Ok (Some c.in-Some.first)) c.self.inside.units) c.self.view_is
+    subst (λ (s : FileSourceData _). BeginsOn g.R.Input.can_give s.units s.group (Ok (Some c.in-Some.first)) c.self.inside.units) c.self.view_is
     (begins_held g.R.Input.can_give c.self.inside.units c.self.inside.pending c.in-Some.first (sym c.in-Some.ensures.value))

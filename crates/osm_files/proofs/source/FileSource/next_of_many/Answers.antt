@@ -4,7 +4,7 @@ use Rattle.std.proofs.lemmas.List.{nil_from_length}
 use Rattle.std.proofs.lemmas.Result.{err_from_is_err_and}
 use Rattle.std.specs.Vec.Iter.{into_iter_items}
 use Rattle.osm_model.specs.Data.{VersionData}
-use Rattle.osm_files.specs.Groups.{ascending, FileStand, FileSteps, RefusesOn, IsGroup, begun, standing}
+use Rattle.osm_files.specs.Groups.{to_ascending, FileSourceData, FileSteps, RefusesOn, IsGroup, with_group, source_data}
 use Rattle.osm_files.proofs.GroupLaws.{ascending_some, one_in, some_from}
 use Rattle.osm_files.proofs.SourceSteps.{open_source, memory_step, gather_refused, gathered_memory, gathered_given, gathered_open}
 use Rattle.osm_files.proofs.source.FileSource.next_of_many.Goals as goal
@@ -17,9 +17,9 @@ pub returns-in-Err-clause-step : goal.returns-in-Err-clause-step
 returns-in-Err-clause-step g c =
     let i = c.self.inside in
     let group = c.args.first ∷ c.args.second ∷ [] in
-    let new = standing c.refuse.new.self (option_to_list i.pending) (into_iter_items i.ready) in
-    subst (λ (x : FileStand _). FileSteps g.R.Input.can_give (begun x group) (Err c.refuse.result) new) c.self.view_is
-    (memory_step g.R.Input.can_give (standing i.units group []) new c.refuse.result c.refuse.ensures.fault c.refuse.ensures.failed
+    let new = source_data c.refuse.new.self (option_to_list i.pending) (into_iter_items i.ready) in
+    subst (λ (x : FileSourceData _). FileSteps g.R.Input.can_give (with_group x group) (Err c.refuse.result) new) c.self.view_is
+    (memory_step g.R.Input.can_give (source_data i.units group []) new c.refuse.result c.refuse.ensures.fault c.refuse.ensures.failed
     (ap (λ v. v.ready) c.self.view_is ∙ c.requires.nothing))
 
 -- the group that starts with the two is theirs
@@ -39,11 +39,11 @@ returns-in_err-self-inside-clause-step g c =
     let i = c.self.inside in
     let group = c.args.first ∷ c.args.second ∷ [] in
     let fault = c.in_err-self-inside.field-0.0 in
-    let new = standing c.gather.new.units (option_to_list i.pending) (into_iter_items i.ready) in
+    let new = source_data c.gather.new.units (option_to_list i.pending) (into_iter_items i.ready) in
     let refuses = subst (λ (xs : List VersionData). RefusesOn g.R.Input.can_give i.units xs fault c.gather.new.units) c.in-Ok.ensures
     c.in_err-self-inside.ensures.refuses in
     let p = err_from_is_err_and c.from_residual.result c.from_residual.ensures.1 in
-    rw (p.1, p.2) (subst (λ (x : FileStand _). FileSteps g.R.Input.can_give (begun x group) (Err fault) new) c.self.view_is
+    rw (p.1, p.2) (subst (λ (x : FileSourceData _). FileSteps g.R.Input.can_give (with_group x group) (Err fault) new) c.self.view_is
     (gather_refused g.R.Input.can_give i.units group fault new (ap (λ v. v.ready) c.self.view_is ∙ c.requires.nothing) refuses))
 
 pub invariant_of-self-in-Err-into_ascending : goal.invariant_of-self-in-Err-into_ascending
@@ -54,10 +54,10 @@ pub returns-in-Err-into_ascending-clause-step : goal.returns-in-Err-into_ascendi
 returns-in-Err-into_ascending-clause-step g c =
     let i = c.self.inside in
     let refused = c.refuse-in-Err-into_ascending in
-    let new = standing refused.new.self (option_to_list c.in_ok-self-inside.field-0) (into_iter_items i.ready) in
-    subst (λ (x : FileStand _). FileSteps g.R.Input.can_give (begun x (c.args.first ∷ c.args.second ∷ [])) (Err refused.result) new)
+    let new = source_data refused.new.self (option_to_list c.in_ok-self-inside.field-0) (into_iter_items i.ready) in
+    subst (λ (x : FileSourceData _). FileSteps g.R.Input.can_give (with_group x (c.args.first ∷ c.args.second ∷ [])) (Err refused.result) new)
     c.self.view_is
-    (subst (λ (xs : List VersionData). FileSteps g.R.Input.can_give (standing i.units xs []) (Err refused.result) new) c.in-Ok.ensures
+    (subst (λ (xs : List VersionData). FileSteps g.R.Input.can_give (source_data i.units xs []) (Err refused.result) new) c.in-Ok.ensures
     (gathered_memory g.R.Input.can_give i.units c.in-Ok.group c.gather.new.units c.gather.new.self c.in_ok-self-inside.field-0
     c.in_ok-self-inside.ensures.gathers refused.result refused.new.self
     (into_iter_items i.ready) refused.ensures.fault refused.ensures.failed
@@ -65,7 +65,7 @@ returns-in-Err-into_ascending-clause-step g c =
 
 pub invariant_of-self-in-Ok-into_ascending : goal.invariant_of-self-in-Ok-into_ascending
 invariant_of-self-in-Ok-into_ascending g c =
-    let all = ap (λ v. ascending (v ∷ c.gather.new.self.others.items)) (sym c.gather.ensures.first)
+    let all = ap (λ v. to_ascending (v ∷ c.gather.new.self.others.items)) (sym c.gather.ensures.first)
     ∙ sym c.in-Ok-into_ascending.ensures.given ∙ c.next.ensures.items in
     gathered_open g.R.Input.can_give c.self.inside.units c.in-Ok.group c.gather.new.units c.gather.new.self c.in_ok-self-inside.field-0
     c.in_ok-self-inside.ensures.gathers c.next.result
@@ -75,16 +75,16 @@ pub returns-in-Ok-into_ascending-clause-step : goal.returns-in-Ok-into_ascending
 returns-in-Ok-into_ascending-clause-step g c =
     let i = c.self.inside in
     let group = c.gather.new.self in
-    let new = standing c.gather.new.units (option_to_list c.in_ok-self-inside.field-0) (into_iter_items c.next.new.self) in
-    let all = ap (λ v. ascending (v ∷ group.others.items)) (sym c.gather.ensures.first) ∙ sym c.in-Ok-into_ascending.ensures.given
+    let new = source_data c.gather.new.units (option_to_list c.in_ok-self-inside.field-0) (into_iter_items c.next.new.self) in
+    let all = ap (λ v. to_ascending (v ∷ group.others.items)) (sym c.gather.ensures.first) ∙ sym c.in-Ok-into_ascending.ensures.given
     ∙ c.next.ensures.items in
     let some : is_some c.next.result ≡ true = some_from c.next.result
     (λ e. (let none = rw e at c.next.ensures.cases in
     ascending_some group.first group.others.items (sym c.in-Ok-into_ascending.ensures.given
     ∙ nil_from_length _ (omega (arith, none, c.in-Ok-into_ascending.versions.rest.ok))))) in
-    subst (λ (x : FileStand _). FileSteps g.R.Input.can_give (begun x (c.args.first ∷ c.args.second ∷ [])) (Ok c.next.result) new)
+    subst (λ (x : FileSourceData _). FileSteps g.R.Input.can_give (with_group x (c.args.first ∷ c.args.second ∷ [])) (Ok c.next.result) new)
     c.self.view_is
-    (subst (λ (xs : List VersionData). FileSteps g.R.Input.can_give (standing i.units xs []) (Ok c.next.result) new) c.in-Ok.ensures
+    (subst (λ (xs : List VersionData). FileSteps g.R.Input.can_give (source_data i.units xs []) (Ok c.next.result) new) c.in-Ok.ensures
     (gathered_given g.R.Input.can_give i.units c.in-Ok.group c.gather.new.units group c.in_ok-self-inside.field-0
     c.in_ok-self-inside.ensures.gathers c.next.result (into_iter_items c.next.new.self) all some))
 
@@ -100,5 +100,5 @@ returns-in-Ok-into_ascending-clause-fewer g c = λ some.
       c.in-Ok-into_ascending.ensures.fewer,
       size,
       one_in c.next.result some,
-      ap (λ (v : FileStand _). v.units.place) c.self.view_is,
+      ap (λ (v : FileSourceData _). v.units.place) c.self.view_is,
     )

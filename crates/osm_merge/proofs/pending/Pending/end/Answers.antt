@@ -1,7 +1,7 @@
 use Rattle.std.proofs.Common.{◌++◌}
 use Rattle.std.proofs.lemmas.Result.{err_from_is_err_and}
 use Rattle.osm_files.specs.Change.{change_of}
-use Rattle.osm_files.specs.Spell.{spelled_open, ended}
+use Rattle.osm_files.specs.Spell.{open_file_bytes, file_end}
 use Rattle.osm_files.proofs.SinkLaws.{cut_in, end_ok, end_err}
 use Rattle.osm_merge.specs.Pass.{put_at_end}
 use Rattle.osm_merge.proofs.pending.Pending.end.Goals as goal
@@ -12,7 +12,7 @@ returns-in_err-put_decided-clause-file g c =
     let p = err_from_is_err_and c.from_residual.result c.from_residual.ensures.1 in
     rw (p.1, p.2) (λ format number put before has.
     cut_in number (change_of g.W.Output before c.put_decided.new.out)
-    (spelled_open format (put ++ more)) (ended format) c.in_err-put_decided.field-0.0
+    (open_file_bytes format (put ++ more)) (file_end format) c.in_err-put_decided.field-0.0
     (c.in_err-put_decided.ensures.puts format number put before has))
 
 pub returns-clause-file : goal.returns-clause-file

@@ -1,6 +1,6 @@
 use Rattle.std.proofs.Common.{List, ap, sym, subst, ◌∙◌, cond, option_copied, option_to_list}
 use Rattle.osm_model.specs.Data.{VersionData}
-use Rattle.osm_merge.specs.Pass.{only, leaves, keeps}
+use Rattle.osm_merge.specs.Pass.{singleton_if, pending_if_kept, keeps}
 use Rattle.osm_merge.specs.Put.{PutsMore}
 use Rattle.osm_merge.proofs.pending.Pending.put_decided.Goals as goal
 
@@ -10,7 +10,7 @@ returns-in-Some-clause-puts g c =
     subst (λ (more : List VersionData). PutsMore g.W.Output more c.args.sink.now c.put_if.new.sink c.args.out.now c.put_if.new.out
     c.put_if.result)
     (ap option_to_list (sym (ap option_copied c.in-Some.is))
-    ∙ ap (λ b. cond b (option_to_list next) (leaves c.args.self.now.selection c.args.self.now.held next)) c.if-puts_at_once.ensures)
+    ∙ ap (λ b. cond b (option_to_list next) (pending_if_kept c.args.self.now.selection c.args.self.now.held next)) c.if-puts_at_once.ensures)
     c.put_if.ensures.puts
 
 pub returns-in-Some-held-clause-puts : goal.returns-in-Some-held-clause-puts
@@ -20,8 +20,8 @@ returns-in-Some-held-clause-puts g c =
     subst (λ (more : List VersionData). PutsMore g.W.Output more c.args.sink.now c.put_if-in-Some-held.new.sink c.args.out.now
     c.put_if-in-Some-held.new.out
     c.put_if-in-Some-held.result)
-    (ap (only c.keeps_before-stays.result) c.version-held.ensures
-    ∙ ap (λ b. only b c.in-Some-held.held) (c.keeps_before-stays.ensures ∙ ap (λ v. keeps selection v next) c.version-held.ensures)
-    ∙ ap (λ h. leaves selection h next) (sym c.in-Some-held.is)
-    ∙ ap (λ b. cond b (option_to_list next) (leaves selection c.args.self.now.held next)) c.if-puts_at_once.ensures)
+    (ap (singleton_if c.keeps_before-stays.result) c.version-held.ensures
+    ∙ ap (λ b. singleton_if b c.in-Some-held.held) (c.keeps_before-stays.ensures ∙ ap (λ v. keeps selection v next) c.version-held.ensures)
+    ∙ ap (λ h. pending_if_kept selection h next) (sym c.in-Some-held.is)
+    ∙ ap (λ b. cond b (option_to_list next) (pending_if_kept selection c.args.self.now.held next)) c.if-puts_at_once.ensures)
     c.put_if-in-Some-held.ensures.puts

@@ -1,6 +1,6 @@
 use Rattle.std.proofs.Common.{◌≡◌, map, take}
-use Rattle.osm_mirror.specs.Mirror.{fresh}
+use Rattle.osm_mirror.specs.Mirror.{new_mirror}
 use Rattle.osm_mirror.proofs.fleet.Fleet.new.Given as goal
 
 abbrev pub invariant-loop-keep : goal.invariant-loop-keep
-invariant-loop-keep l = l.mirrors.items ≡ map fresh (take l.keep-index l.kinds)
+invariant-loop-keep l = l.mirrors.items ≡ map new_mirror (take l.keep-index l.kinds)

@@ -1,5 +1,5 @@
 use Rattle.std.proofs.Common.{sym, subst}
-use Rattle.osm_files.specs.Source.{Steps}
+use Rattle.osm_files.specs.Source.{SourceSteps}
 use Rattle.osm_mirror.specs.declared.source.RunSource.{RunSource}
 use Rattle.osm_mirror.specs.declared.source.RunSource.TheVariants.{Streamed, Held}
 use Rattle.osm_mirror.specs.Still.{SourceCanGive}
@@ -7,10 +7,10 @@ use Rattle.osm_mirror.proofs.source.RunSourceSource.next.Goals as goal
 
 pub returns-in-Streamed-clause-step : goal.returns-in-Streamed-clause-step
 returns-in-Streamed-clause-step g c =
-    subst (λ (s : RunSource _). Steps (SourceCanGive g.R.Input.can_give) s c.next.result (Streamed c.next.new.self))
+    subst (λ (s : RunSource _). SourceSteps (SourceCanGive g.R.Input.can_give) s c.next.result (Streamed c.next.new.self))
     (sym c.in-Streamed.is) c.next.ensures.step
 
 pub returns-in-Held-clause-step : goal.returns-in-Held-clause-step
 returns-in-Held-clause-step g c =
-    subst (λ (s : RunSource _). Steps (SourceCanGive g.R.Input.can_give) s c.next-in-Held.result (Held c.next-in-Held.new.self))
+    subst (λ (s : RunSource _). SourceSteps (SourceCanGive g.R.Input.can_give) s c.next-in-Held.result (Held c.next-in-Held.new.self))
     (sym c.in-Held.is) c.next-in-Held.ensures.step

@@ -1,6 +1,6 @@
 use Rattle.std.proofs.Common.{rules}
-use Rattle.osm_model.proofs.VersionLaws.{listed-view}
+use Rattle.osm_model.proofs.VersionLaws.{to_list-view}
 use Rattle.osm_model.proofs.history.History.len.Goals as goal
 
 pub returns : goal.returns
-returns c = rw (← c.self.view_is, listed-view _ c.self.invariant) (search rules)
+returns c = rw (← c.self.view_is, to_list-view _ c.self.invariant) (search rules)

@@ -2,8 +2,8 @@ use Rattle.std.proofs.Common.{sym}
 use Rattle.osm_model.proofs.TextLaws.{text_bytes, short_text}
 use Rattle.osm_model.proofs.text.Text.try_into_string.Goals as goal
 
-pub returns-in-Apart-clause-bytes : goal.returns-in-Apart-clause-bytes
-returns-in-Apart-clause-bytes c = rw (← c.self.view_is, c.in-Apart.is) (sym (text_bytes c.in-Apart.string))
+pub returns-in-Heap-clause-bytes : goal.returns-in-Heap-clause-bytes
+returns-in-Heap-clause-bytes c = rw (← c.self.view_is, c.in-Heap.is) (sym (text_bytes c.in-Heap.string))
 
 pub returns-in_default : goal.returns-in_default
 returns-in_default c =
@@ -11,5 +11,5 @@ returns-in_default c =
     record {
       bytes = tt;
       text = c.self.view_is;
-      short = short_text _ _ _ bytes.utf8 bytes.ensures.bytes c.self.view_is bytes.ensures.short c.in_default.not-Apart;
+      short = short_text _ _ _ bytes.utf8 bytes.ensures.bytes c.self.view_is bytes.ensures.short c.in_default.not-Heap;
     }

@@ -1,5 +1,5 @@
 use Rattle.std.proofs.Common.{[], sym, ◌∙◌, ap, ◌++◌}
-use Rattle.osm_model.specs.Cursor.{coming}
+use Rattle.osm_model.specs.Cursor.{from_next}
 use Rattle.osm_model.proofs.CursorLaws.{coming_is, line-from_object}
 use Rattle.osm_model.proofs.version.Version.line_bytes.Goals as goal
 
@@ -8,4 +8,4 @@ returns-clause-runs c = coming_is c.args.self.now c.at.result [] _ c.at.ensures.
     ∙ sym (line-from_object c.args.self.now)
 
 pub returns-clause-bytes : goal.returns-clause-bytes
-returns-clause-bytes c = ap (λ t. t ++ coming c.args.self.now c.at.result) c.new.ensures ∙ returns-clause-runs c
+returns-clause-bytes c = ap (λ t. t ++ from_next c.args.self.now c.at.result) c.new.ensures ∙ returns-clause-runs c

@@ -1,6 +1,6 @@
 use Rattle.std.proofs.Common.{◌≡◌, inl, inr, ⊎_elim, Some, None, Err, rules, option_copied, ◌∙◌, ap}
-use Rattle.opl_line.specs.declared.bytes.cut.Cut.TheVariants.{Blanks}
-use Rattle.opl_line.specs.Cut.{is_end, pieces_of}
+use Rattle.opl_line.specs.declared.bytes.cut.Delimiter.TheVariants.{Blanks}
+use Rattle.opl_line.specs.Delimiter.{is_end, pieces_of}
 use Rattle.opl_line.proofs.FieldLaws.{one_field, refused_field, all_fields}
 use Rattle.opl_line.proofs.general.field.Fields.read.Goals as goal
 

@@ -1,6 +1,6 @@
 use Rattle.std.proofs.Common.{◌≡◌, option_copied}
-use Rattle.opl_line.specs.declared.bytes.cut.Cut.TheVariants.{Blanks}
-use Rattle.opl_line.specs.Cut.{is_end, pieces_of}
+use Rattle.opl_line.specs.declared.bytes.cut.Delimiter.TheVariants.{Blanks}
+use Rattle.opl_line.specs.Delimiter.{is_end, pieces_of}
 use Rattle.opl_line.specs.Field.{reading_fields}
 use Rattle.opl_line.proofs.CutLaws.{left_of}
 use Rattle.opl_line.proofs.general.field.Fields.read.Given as goal

@@ -1,7 +1,0 @@
-use Rattle.std.proofs.Common.{drop}
-use Rattle.o5_codec.specs.Writing.{reference_written}
-use Rattle.o5_codec.proofs.TurnSteps.{Turns}
-use Rattle.o5_codec.proofs.write.segment.WrittenSegment.append_each_reference.Given as goal
-
-abbrev pub invariant-loop-id : goal.invariant-loop-id
-invariant-loop-id l = Turns reference_written l.ids (drop l.id-index l.ids) l.fn.out l.out l.fn.self l.self

@@ -1,0 +1,164 @@
+//! The bytes that came from an input and weren't read.
+ghost use Rattle.std.specs.Prelude.{◌≡◌, ◌⊎◌, ◌<◌, ◌≤◌, Ok, Err, ◌+◌, [], length, take, drop, IfOk, IfErr, OnOk, OnErr};
+ghost use Rattle.osm_files.specs.Input.{whole_input, broken_input, GaveMore};
+ghost use Rattle.osm_files.specs.declared.reason.Reason.TheVariants as reason;
+
+use crate::input::{Broken, Input};
+use crate::reason::Reason;
+use std::alloc::Global;
+use std::marker::Model;
+
+/// The most bytes that one read asks for.
+const MAX_CHUNK: usize = 65536;
+
+/// The fewest bytes that one read asks for, if the limit on a file's length leaves as many.
+const MIN_CHUNK: usize = 4096;
+
+/// The bytes that came from an input and weren't read. Contracts see their list.
+#[derive(Drop)]
+pub(crate) struct ReadBuffer {
+    /// The room into which input is read. The bytes from `from` on and before `end` are held.
+    room: Vec<u8>,
+    from: usize,
+    end: usize,
+    /// The number of bytes that one read asks for.
+    chunk: usize,
+}
+
+impl Model for ReadBuffer {
+    ghost use Rattle.std.specs.Prelude.{List, ℕ, ◌<◌, ◌≤◌, ◌-◌, length, take, drop};
+
+    ghost Value = { List ℕ };
+
+    ghost view = { λ h. take (h.end - h.from) (drop h.from h.room.items) };
+
+    ghost invariant = { λ h. (h.from ≤ h.end) × (h.end ≤ length h.room.items) × (0 < h.chunk) × (h.chunk ≤ 65536) };
+}
+
+impl ReadBuffer {
+    /// No bytes yet.
+    pub(crate) fn new(alloc: Global) -> ReadBuffer
+        ensures { result ≡ [] }
+    {
+        ReadBuffer {
+            room: Vec::new(alloc),
+            from: 0,
+            end: 0,
+            chunk: MAX_CHUNK,
+        }
+    }
+
+    /// Asks for about `chunk` bytes at a time from now on: 4096 at least, and 65536 at most.
+    pub(crate) fn set_chunk_size(&mut self, chunk: usize)
+        ensures { self.new ≡ self.old }
+    {
+        self.chunk = chunk.min(MAX_CHUNK).max(MIN_CHUNK);
+    }
+
+    /// The bytes.
+    pub(crate) fn as_slice(&self) -> &[u8]
+        ensures { result.now ≡ self.now }
+    {
+        &self.room[self.from..self.end]
+    }
+
+    /// The number of the bytes.
+    pub(crate) fn len(&self) -> usize
+        ensures { result ≡ length self.now }
+    {
+        self.end - self.from
+    }
+
+    /// Drops the first bytes, which were read.
+    pub(crate) fn skip(&mut self, count: usize)
+        requires { count ≤ length self.old }
+        ensures { self.new ≡ drop count self.old }
+    {
+        self.from += count;
+    }
+
+    /// Moves the bytes to the front of the room, unless they are there.
+    fn compact(&mut self)
+        ensures { self.new ≡ self.old }
+    {
+        if self.from == 0 {
+            return;
+        }
+        self.room.copy_within(self.from..self.end, 0);
+        self.end -= self.from;
+        self.from = 0;
+    }
+
+    /// Reads at most `most` more bytes and returns the number of bytes read; 0 at the end of input.
+    ///
+    /// # Errors
+    ///
+    /// `ReadFault` if the input fails, or `Memory`. The bytes are unchanged.
+    #[inline(never)]
+    pub(crate) fn read_more<R: Input>(
+        &mut self,
+        reader: &mut R,
+        most: usize,
+    ) -> Result<usize, Reason>
+        requires { 0 < most }
+        ensures gave { IfOk result (GaveMore R.can_give reader.old reader.new self.old self.new) }
+        ensures most { IfOk result (λ count. count ≤ most) }
+        ensures end { result ≡ Ok 0 → R.can_give reader.old (whole_input []) }
+        ensures broken { result ≡ Err reason.ReadFault → R.can_give reader.old (broken_input []) }
+        ensures reason { IfErr result (λ refused. (refused ≡ reason.Memory) ⊎ (refused ≡ reason.ReadFault)) }
+        ensures unchanged { OnErr result (self.new ≡ self.old) }
+    {
+        self.compact();
+        if let Err(refused) = make_room(&mut self.room, self.end, self.chunk) {
+            return Err(refused);
+        }
+        match read_at(reader, &mut self.room, self.end, most.min(self.chunk)) {
+            Ok(count) => {
+                self.end += count;
+                Ok(count)
+            }
+            Err(_) => Err(Reason::ReadFault),
+        }
+    }
+}
+
+/// Reads at most `most` bytes into `room[end..]` and returns the number of bytes read.
+fn read_at<R: Input>(
+    reader: &mut R,
+    room: &mut Vec<u8>,
+    end: usize,
+    most: usize,
+) -> Result<usize, Broken>
+    requires some { 0 < most }
+    requires within { end + most ≤ length room.old.items }
+    ensures gave { IfOk result (λ count.
+        GaveMore R.can_give reader.old reader.new (take end room.old.items) (take (end + count) room.new.items) count) }
+    ensures most { IfOk result (λ count. count ≤ most) }
+    ensures end { result ≡ Ok 0 → R.can_give reader.old (whole_input []) }
+    ensures broken { OnErr result (R.can_give reader.old (broken_input [])) }
+    ensures kept { take end room.new.items ≡ take end room.old.items }
+    ensures size { length room.new.items ≡ length room.old.items }
+{
+    match reader.read(&mut room[end..end + most]) {
+        Ok(count) => Ok(count),
+        Err(broken) => Err(broken),
+    }
+}
+
+/// Makes room for `chunk` bytes after the first `end`.
+fn make_room(room: &mut Vec<u8>, end: usize, chunk: usize) -> Result<(), Reason>
+    requires within { end ≤ length room.old.items }
+    requires few { chunk ≤ 65536 }
+    ensures room { OnOk result (end + chunk ≤ length room.new.items) }
+    ensures kept { take end room.new.items ≡ take end room.old.items }
+    ensures longer { length room.old.items ≤ length room.new.items }
+    ensures memory { IfErr result (λ refused. refused ≡ reason.Memory) }
+{
+    if room.len() - end >= chunk {
+        return Ok(());
+    }
+    match room.resize(end + chunk, 0) {
+        Ok(()) => Ok(()),
+        Err(_) => Err(Reason::Memory),
+    }
+}

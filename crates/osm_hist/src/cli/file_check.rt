@@ -1,0 +1,136 @@
+//! Checks of files.
+use super::files::{Stream, input_name, open, open_word};
+use super::input::{Failure, LastLine, Noted, fault_by_failures, file_input, no_failures};
+use super::refusal::Refusal;
+use super::request::FileCheck;
+use super::{hint, print};
+use osm_files::{Fault, Reason};
+use osm_mirror::{CheckReport, run_check, run_check_sorted};
+use std::alloc::Global;
+use std::io::{IsTerminal, Read, Write};
+use std::rt::Files;
+
+/// Prints for each file what it holds and whether it is sorted. A refusal of a file is reported, and the check
+/// continues with the next file, unless standard output fails. The last refusal is returned.
+pub(super) fn check_files<
+    'a,
+    R: Files + AllocGlobal,
+    I: Read + Drop,
+    O: Write,
+    E: Write + IsTerminal,
+>(
+    rt: &R,
+    check: &FileCheck<'a>,
+    mut input: Option<I>,
+    out: &mut O,
+    err: &mut E,
+) -> Result<(), Refusal<'a>> {
+    let mut last = None;
+    for word in &check.files {
+        let outcome = match report_of(rt, check, *word, &mut input) {
+            Ok(report) => print_report(rt.alloc(), check, *word, &report, out),
+            Err(refusal) => Err(refusal),
+        };
+        if let Err(refusal) = outcome {
+            let cannot_print = matches!(refusal, Refusal::StandardOutput);
+            report_refusal(rt, last.replace(refusal), err, check.hints);
+            if cannot_print {
+                break;
+            }
+        }
+    }
+    match last {
+        Some(refusal) => Err(refusal),
+        None => Ok(()),
+    }
+}
+
+/// Reports a refusal, if there is one.
+fn report_refusal<'a, R: Files, E: Write + IsTerminal>(
+    rt: &R,
+    refusal: Option<Refusal<'a>>,
+    err: &mut E,
+    hints: bool,
+) {
+    if let Some(refusal) = refusal {
+        hint::report(rt, &refusal, err, hints);
+    }
+}
+
+/// Prints the report on a file. With several files the line begins with the file's name.
+fn print_report<'a, O: Write>(
+    alloc: Global,
+    check: &FileCheck<'a>,
+    word: &'a str,
+    report: &CheckReport,
+    out: &mut O,
+) -> Result<(), Refusal<'a>> {
+    let order = if report.sorted { "sorted" } else { "unsorted" };
+    let format = report.format.name();
+    let (versions, objects) = (report.versions, report.objects);
+    let (name, mark) = if check.files.len() > 1 {
+        (input_name(word), ": ")
+    } else {
+        ("", "")
+    };
+    let line = format!(in alloc;
+        "{name}{mark}{format}: {versions} versions, {objects} objects, {order}\n"
+    )?;
+    print(out, &line)
+}
+
+/// Checks the file that `word` names.
+fn report_of<'a, R: Files + AllocGlobal, I: Read + Drop>(
+    rt: &R,
+    check: &FileCheck<'a>,
+    word: &'a str,
+    input: &mut Option<I>,
+) -> Result<CheckReport, Refusal<'a>> {
+    let failures = no_failures(rt.alloc(), 1)?;
+    let outcome = match failures.first() {
+        Some(failure) => report_noting(rt, check, word, input, failure)?,
+        None => return Err(Refusal::Memory),
+    };
+    match outcome {
+        Ok(report) => Ok(report),
+        Err(fault) => {
+            let fault = fault_by_failures(&fault, failures.as_slice());
+            Err(refused(rt.alloc(), word, &fault))
+        }
+    }
+}
+
+/// Checks the file that `word` names, and notes its reader's error in `failure`. The file is held in memory only if
+/// unsorted files aren't refused, and it is unsorted or can't be read again.
+fn report_noting<'a, R: Files + AllocGlobal, I: Read + Drop>(
+    rt: &R,
+    check: &FileCheck<'a>,
+    word: &'a str,
+    input: &mut Option<I>,
+    failure: &Failure,
+) -> Result<Result<CheckReport, Fault>, Refusal<'a>> {
+    let alloc = rt.alloc();
+    let last_line = LastLine::wanted(check.whole);
+    let file = open_word(rt, word, input)?;
+    if !check.sorted && !file.can_be_read_again() {
+        return Ok(run_check(alloc, file_input(Noted::new(file, failure), last_line)));
+    }
+    match run_check_sorted(alloc, file_input(Noted::new(file, failure), last_line)) {
+        Err(fault) if is_unsorted(&fault) && !check.sorted => {
+            let again: Stream<R::File, I> = Stream::File(open(rt, word)?);
+            Ok(run_check(alloc, file_input(Noted::new(again, failure), last_line)))
+        }
+        outcome => Ok(outcome),
+    }
+}
+
+/// Whether a file is refused only because it isn't sorted.
+pub(super) fn is_unsorted(fault: &Fault) -> bool {
+    fault.reason == Reason::Unsorted
+}
+
+/// The refusal of a file.
+fn refused<'a>(alloc: Global, word: &'a str, fault: &Fault) -> Refusal<'a> {
+    let name = input_name(word);
+    Refusal::of_fault(alloc, fault, &[name], name, None)
+}

@@ -1,0 +1,56 @@
+//! Lists of files. `--files0-from` names a file that holds names, each ended by NUL.
+use super::files::{input_name, open_word};
+use super::refusal::Refusal;
+use super::target::STANDARD;
+use std::alloc::Global;
+use std::io::{ErrorKind, Read};
+use std::rt::Files;
+
+/// The beginning of an argument that names a list.
+pub(super) const OPTION: &str = "--files0-from";
+
+/// Reads the text of `list`, where `-` is standard input. Without a list the text is empty.
+pub(super) fn read_list<'a, R: Files + AllocGlobal, I: Read + Drop>(
+    rt: &R,
+    list: Option<&'a str>,
+    input: &mut Option<I>,
+) -> Result<String, Refusal<'a>> {
+    let mut text = String::new(rt.alloc());
+    let Some(word) = list else {
+        return Ok(text);
+    };
+    let name = input_name(word);
+    let mut file = open_word(rt, word, input)?;
+    match file.read_to_string(&mut text) {
+        Ok(_) => Ok(text),
+        Err(error) => match error.kind() {
+            ErrorKind::OutOfMemory => Err(Refusal::Memory),
+            ErrorKind::InvalidData => Err(Refusal::ListNotUtf8 { name }),
+            _ => Err(Refusal::CannotRead { name }),
+        },
+    }
+}
+
+/// The names in `text`, which is the text of `list`. The last name may lack its NUL.
+pub(super) fn names_of<'a>(
+    alloc: Global,
+    list: &'a str,
+    text: &'a str,
+) -> Result<Vec<&'a str>, Refusal<'a>> {
+    let name = input_name(list);
+    if text.is_empty() {
+        return Err(Refusal::ListEmpty { name });
+    }
+    let mut names = Vec::new(alloc);
+    for file in text.strip_suffix('\0').unwrap_or(text).split('\0') {
+        if file.is_empty() {
+            let number = names.len().saturating_add(1);
+            return Err(Refusal::ListNameEmpty { name, number });
+        }
+        if file == STANDARD && list == STANDARD {
+            return Err(Refusal::StandardInputTwice);
+        }
+        names.push(file)?;
+    }
+    Ok(names)
+}

@@ -1,0 +1,501 @@
+-- Lines that are split at an offset, and the search for the offset at which a file is cut.
+use Rattle.std.proofs.Common.{◌≡◌, ◌⊎◌, inl, inr, ⊎_elim, ℕ, zero, suc, ◌+◌, ◌≤◌, ◌<◌, ◌^◌, Bool, true, false, not, cond, List, [], ◌∷◌, ◌==◌}
+use Rattle.std.proofs.Common.{◌++◌, length, take, drop, refl, sym, ap, ◌∙◌, subst, arith, Option, Some, None, IfSome, Result, Ok, Err, append-nil}
+use Rattle.std.proofs.Common.{append_assoc, take-append-drop, get_or}
+use Rattle.std.proofs.lemmas.Bool.{false≢true}
+use Rattle.std.specs.declared.cmp.Ordering.{Ordering}
+use Rattle.std.specs.declared.cmp.Ordering.TheVariants.{Less, Equal, Greater}
+use Rattle.std.specs.Ordering.{ordering_then, is_lt}
+use Rattle.std.specs.List.{filter, AllByRecursion}
+use Rattle.std.specs.List.Sorted.{IsSorted}
+use Rattle.std.proofs.lemmas.List.{append_cancel_right}
+use Rattle.osm_model.specs.Data.{VersionData}
+use Rattle.osm_model.specs.Order.{key_cmp, object_cmp}
+use Rattle.osm_model.specs.Pairwise.{Pairwise}
+use Rattle.opl_line.specs.Delimiter.{is_line_end, split_all, split_first, pieces_of, with_byte}
+use Rattle.opl_line.specs.Spells.{Spells}
+use Rattle.opl_line.proofs.CutLaws.{cut_split}
+use Rattle.osm_files.specs.declared.input.Broken.{Broken}
+use Rattle.osm_files.specs.Input.{Coming, whole_input, Gave}
+use Rattle.osm_files.specs.Lines.{after_line, lines_from, IsLineStart, IsFirstOf, ReadsFrom}
+use Rattle.osm_files.specs.Opl.{is_read, OplFile}
+use Rattle.osm_files.specs.Units.{InOpl, BeforeHeader, start_of}
+use Rattle.osm_files.specs.Verdict.{is_below}
+use Rattle.osm_files.proofs.FileLaws.{Rises, sorted_all}
+use Rattle.osm_files.proofs.FirstLaws.{one_opl}
+use Rattle.osm_merge.specs.declared.object.Object.{Object}
+use Rattle.osm_merge.specs.Slice.{object_of, reaches, is_under}
+use Rattle.osm_merge.proofs.SliceLaws.{not_below}
+use Rattle.osm_mirror.specs.CutOffset.{IsCutAt, IsCutOf, BeginsLines, BeginsLinesOf, StartsOpl, GivesOpl, first_is_under}
+use Rattle.osm_mirror.specs.CutOffset.{IsFirstUnder}
+use Rattle.osm_mirror.proofs.SortedRunLaws.{lines_of, lines_after}
+
+-- ---- bytes that are split before the beginning of a line
+-- the bytes up to the end of a line
+pub record Ended (front : List ℕ) : Type 0 where
+  pub text : List ℕ
+  pub last : ℕ
+  pub ends : is_line_end last ≡ true
+  pub is : front ≡ text ++ last ∷ []
+
+-- the rest are the lines that begin after the front
+pub record SplitLines (bytes rest : List ℕ) : Type 0 where
+  pub front : List ℕ
+  pub whole : bytes ≡ front ++ rest
+  pub ends : (front ≡ []) ⊎ (rest ≡ []) ⊎ Ended front
+
+-- the rest are the lines after the first one
+record SplitFirst (bytes rest : List ℕ) : Type 0 where
+  front : List ℕ
+  whole : bytes ≡ front ++ rest
+  ends : (rest ≡ []) ⊎ Ended front
+
+longer_front : (b : ℕ) (front : List ℕ) → Ended front → Ended (b ∷ front)
+longer_front b front e = record { text = b ∷ e.text; last = e.last; ends = e.ends; is = ap (λ f. b ∷ f) e.is }
+
+split_after : (bytes : List ℕ) → SplitFirst bytes (after_line bytes)
+split_after [] = record { front = []; whole = refl; ends = inl refl }
+split_after (b ∷ bytes) =
+    elim (is_line_end b) as (λ t. is_line_end b ≡ t → SplitFirst (b ∷ bytes) (cond t bytes (after_line bytes))) [
+      | true ↦ λ e. record { front = b ∷ []; whole = refl; ends = inr (record { text = []; last = b; ends = e; is = refl }) }
+      | false ↦ λ e. let more = split_after bytes in record {
+        front = b ∷ more.front;
+        whole = ap (λ f. b ∷ f) more.whole;
+        ends = ⊎_elim (λ none. inl none) (λ ended. inr (longer_front b more.front ended)) more.ends;
+      }
+    ] refl
+
+ended_after : (before front : List ℕ) → Ended front → Ended (before ++ front)
+ended_after before front e = record {
+  text = before ++ e.text;
+  last = e.last;
+  ends = e.ends;
+  is = ap (λ f. before ++ f) e.is ∙ sym (append_assoc before e.text (e.last ∷ []));
+}
+
+pub split_lines : (offset : ℕ) (bytes : List ℕ) → SplitLines bytes (lines_from offset bytes)
+split_lines zero bytes = record { front = []; whole = refl; ends = inl refl }
+split_lines (suc offset) bytes = let more = split_after (drop offset bytes) in record {
+  front = take offset bytes ++ more.front;
+  whole =
+      sym (take-append-drop offset bytes) ∙ ap (λ f. take offset bytes ++ f) more.whole
+      ∙ sym (append_assoc (take offset bytes) more.front (after_line (drop offset bytes)));
+  ends = ⊎_elim (λ none. inr (inl none)) (λ ended. inr (inr (ended_after (take offset bytes) more.front ended))) more.ends;
+}
+
+-- ---- versions of split lines
+-- versions in two parts, of which these spell the first and the rest the second
+pub record SplitVersions (front rest : List ℕ) (versions : List VersionData) : Type 0 where
+  pub earlier : List VersionData
+  pub later : List VersionData
+  pub are : versions ≡ earlier ++ later
+  pub first : OplFile front earlier
+  pub second : OplFile rest later
+
+record SplitPairs (xs more : List (List ℕ)) (versions : List VersionData) : Type 0 where
+  earlier : List VersionData
+  later : List VersionData
+  are : versions ≡ earlier ++ later
+  first : Pairwise Spells xs earlier
+  second : Pairwise Spells more later
+
+split_pairs : (xs more : List (List ℕ)) (versions : List VersionData) → Pairwise Spells (xs ++ more) versions →
+    SplitPairs xs more versions
+split_pairs [] more versions h = record { earlier = []; later = versions; are = refl; first = tt; second = h }
+split_pairs (x ∷ xs) more [] h = absurd h
+split_pairs (x ∷ xs) more (v ∷ versions) (one, h) = let others = split_pairs xs more versions h in record {
+  earlier = v ∷ others.earlier;
+  later = others.later;
+  are = ap (λ vs. v ∷ vs) others.are;
+  first = (one, others.first);
+  second = others.second;
+}
+
+split_ended : (bytes front rest : List ℕ) (versions : List VersionData) → bytes ≡ front ++ rest → Ended front → OplFile bytes versions →
+    SplitVersions front rest versions
+split_ended bytes front rest versions whole_input e file =
+    let is : bytes ≡ e.text ++ e.last ∷ rest = whole_input ∙ ap (λ f. f ++ rest) e.is ∙ append_assoc e.text (e.last ∷ []) rest in
+    let all : OplFile (e.text ++ e.last ∷ rest) versions = subst (λ (b : List ℕ). OplFile b versions) is file in
+    let pairs = split_pairs (lines_of e.text) (lines_of rest) versions
+    (subst (λ (ls : List (List ℕ)). Pairwise Spells ls versions) (lines_after e.last e.ends e.text rest) all) in
+    let last_one : lines_of (e.text ++ e.last ∷ []) ≡ lines_of e.text =
+    lines_after e.last e.ends e.text [] ∙ append-nil (lines_of e.text) in
+    record {
+      earlier = pairs.earlier;
+      later = pairs.later;
+      are = pairs.are;
+      first = subst (λ (b : List ℕ). OplFile b pairs.earlier) (sym e.is)
+          (subst (λ (ls : List (List ℕ)). Pairwise Spells ls pairs.earlier) (sym last_one) pairs.first);
+      second = pairs.second;
+    }
+
+pub split_versions : (bytes rest : List ℕ) (s : SplitLines bytes rest) (versions : List VersionData) → OplFile bytes versions →
+    SplitVersions s.front rest versions
+split_versions bytes rest s versions file =
+    ⊎_elim (λ none. record {
+      earlier = [];
+      later = versions;
+      are = refl;
+      first = subst (λ (b : List ℕ). OplFile b []) (sym none) tt;
+      second = subst (λ (b : List ℕ). OplFile b versions) (s.whole ∙ ap (λ f. f ++ rest) none) file;
+    })
+    (⊎_elim (λ none. record {
+      earlier = versions;
+      later = [];
+      are = sym (append-nil versions);
+      first = subst (λ (b : List ℕ). OplFile b versions) (s.whole ∙ ap (λ r. s.front ++ r) none ∙ append-nil s.front) file;
+      second = subst (λ (b : List ℕ). OplFile b []) (sym none) tt;
+    })
+    (λ ended. split_ended bytes s.front rest versions s.whole ended file)) s.ends
+
+-- ---- one offset further
+next_drop : (offset : ℕ) (bytes : List ℕ) → ((drop offset bytes ≡ []) × (drop (suc offset) bytes ≡ []))
+    ⊎ ((b : ℕ) × (drop offset bytes ≡ b ∷ drop (suc offset) bytes))
+next_drop zero [] = inl (refl, refl)
+next_drop zero (b ∷ bytes) = inr (b, refl)
+next_drop (suc offset) [] = inl (refl, refl)
+next_drop (suc offset) (b ∷ bytes) = next_drop offset bytes
+
+-- the lines are the same, or the first one is left out
+next_lines : (offset : ℕ) (bytes : List ℕ) → (lines_from (suc offset) bytes ≡ lines_from offset bytes)
+    ⊎ (lines_from (suc offset) bytes ≡ after_line (lines_from offset bytes))
+next_lines zero bytes = inr refl
+next_lines (suc offset) bytes =
+    ⊎_elim (λ none. inl (ap after_line none.1 ∙ sym (ap after_line none.0)))
+    (λ (b, is). elim (is_line_end b) as (λ t. is_line_end b ≡ t →
+    (after_line (drop (suc offset) bytes) ≡ after_line (drop offset bytes))
+    ⊎ (after_line (drop (suc offset) bytes) ≡ after_line (after_line (drop offset bytes)))) [
+      | true ↦ λ e. inr (ap after_line (sym (ap after_line is ∙ ap (λ t. cond t (drop (suc offset) bytes) (after_line (drop (suc offset) bytes))) e)))
+      | false ↦ λ e. inl (sym (ap after_line is ∙ ap (λ t. cond t (drop (suc offset) bytes) (after_line (drop (suc offset) bytes))) e))
+    ] refl) (next_drop offset bytes)
+
+-- what is after the first end of a line, as the rest of a cut
+abbrev rest_of : Option (List ℕ) → List ℕ
+rest_of None = []
+rest_of (Some rest) = rest
+
+rest_lengthened : (b : ℕ) (s : List ℕ × Option (List ℕ)) → rest_of s.1 ≡ rest_of (with_byte b s).1
+rest_lengthened b (line, rest) = refl
+
+after_is : (bytes : List ℕ) → after_line bytes ≡ rest_of (split_first is_line_end bytes).1
+after_is [] = refl
+after_is (b ∷ bytes) =
+    elim (is_line_end b) as (λ t. cond t bytes (after_line bytes) ≡ rest_of (cond t ([], Some bytes) (with_byte b (split_first is_line_end bytes))).1) [
+      | true ↦ refl
+      | false ↦ after_is bytes ∙ rest_lengthened b (split_first is_line_end bytes)
+    ]
+
+-- without its first line, a file has its versions but the first, or all of them
+record Shorter (rest : List ℕ) (versions : List VersionData) : Type 0 where
+  later : List VersionData
+  file : OplFile rest later
+  are : (versions ≡ later) ⊎ ((v : VersionData) × (versions ≡ v ∷ later))
+
+taken : (line : List ℕ) (pieces : List (List ℕ)) (versions : List VersionData) → Pairwise Spells (line ∷ filter is_read pieces) versions →
+    (later : List VersionData) × Pairwise Spells (filter is_read pieces) later
+    × ((versions ≡ later) ⊎ ((v : VersionData) × (versions ≡ v ∷ later)))
+taken line pieces [] h = absurd h
+taken line pieces (v ∷ versions) h = (versions, h.1, inr (v, refl))
+
+shorter_pairs : (line : List ℕ) (pieces : List (List ℕ)) (versions : List VersionData) → Pairwise Spells (filter is_read (line ∷ pieces)) versions →
+    (later : List VersionData) × Pairwise Spells (filter is_read pieces) later
+    × ((versions ≡ later) ⊎ ((v : VersionData) × (versions ≡ v ∷ later)))
+shorter_pairs line pieces versions =
+    elim (is_read line) as (λ t. Pairwise Spells (cond t (line ∷ filter is_read pieces) (filter is_read pieces)) versions →
+    (later : List VersionData) × Pairwise Spells (filter is_read pieces) later
+    × ((versions ≡ later) ⊎ ((v : VersionData) × (versions ≡ v ∷ later)))) [
+      | true ↦ taken line pieces versions
+      | false ↦ λ h. (versions, h, inl refl)
+    ]
+
+rest_pieces : (rest : Option (List ℕ)) (later : List VersionData) → Pairwise Spells (filter is_read (pieces_of is_line_end rest)) later →
+    OplFile (rest_of rest) later
+rest_pieces None later h = h
+rest_pieces (Some bytes) later h = h
+
+shorter : (bytes : List ℕ) (versions : List VersionData) → OplFile bytes versions → Shorter (after_line bytes) versions
+shorter bytes versions file =
+    let s = split_first is_line_end bytes in
+    let pairs = shorter_pairs s.0 (pieces_of is_line_end s.1) versions
+    (subst (λ (ls : List (List ℕ)). Pairwise Spells (filter is_read ls) versions) (cut_split is_line_end bytes) file) in
+    record {
+      later = pairs.0;
+      file = subst (λ (b : List ℕ). OplFile b pairs.0) (sym (after_is bytes)) (rest_pieces s.1 pairs.0 pairs.1);
+      are = pairs.2;
+    }
+
+nothing_left : (t : Bool) → cond {A = List ℕ} t [] [] ≡ []
+nothing_left true = refl
+nothing_left false = refl
+
+last_line : (b : ℕ) (bytes : List ℕ) → after_line (drop (length bytes) (b ∷ bytes)) ≡ []
+last_line b [] = nothing_left (is_line_end b)
+last_line b (c ∷ bytes) = last_line c bytes
+
+-- no line begins at the end of a file
+at_end : (bytes : List ℕ) → lines_from (length bytes) bytes ≡ []
+at_end [] = refl
+at_end (b ∷ bytes) = last_line b bytes
+
+-- ---- sorted versions and a bound
+not_less : (r s : Ordering) → is_lt (ordering_then r s) ≡ false → is_lt r ≡ false
+not_less Less s e = absurd (false≢true (sym e))
+not_less Equal s e = refl
+not_less Greater s e = refl
+
+is_not : (b : Bool) → not b ≡ true → b ≡ false
+is_not true h = absurd (false≢true h)
+is_not false h = refl
+
+module _ (bound : Object) where
+  abbrev under : VersionData → Bool
+  under = is_under (Some bound)
+
+  abbrev over : VersionData → Bool
+  over = reaches (Some bound)
+
+  over_on : (v w : VersionData) → is_lt (key_cmp w v) ≡ false → over v ≡ true → over w ≡ true
+  over_on v w up h = ap not (not_below (object_of w) (object_of v) bound (not_less (object_cmp w v) _ up) (is_not _ h))
+
+  under_on : (v w : VersionData) → is_lt (key_cmp w v) ≡ false → under w ≡ true → under v ≡ true
+  under_on v w up h =
+      elim (under v) as (λ t. under v ≡ t → t ≡ true) [
+        | true ↦ λ e. refl
+        | false ↦ λ e. absurd (false≢true (sym (is_not (under w) (over_on v w up (ap not e))) ∙ h))
+      ] refl
+
+  all_over : (v : VersionData) (vs : List VersionData) → Rises (Some v) vs → over v ≡ true → AllByRecursion (λ w. over w ≡ true) vs
+  all_over v [] up h = tt
+  all_over v (w ∷ vs) up h = let next = over_on v w up.0 h in (next, all_over w vs up.1 next)
+
+  rises_later : (before : Option VersionData) (xs ys : List VersionData) → Rises before (xs ++ ys) → (b : Option VersionData) × Rises b ys
+  rises_later before [] ys up = (before, up)
+  rises_later before (x ∷ xs) ys up = rises_later (Some x) xs ys up.1
+
+  all_under : (x : VersionData) (xs ys : List VersionData) (v : VersionData) → Rises (Some x) (xs ++ v ∷ ys) → under v ≡ true →
+      AllByRecursion (λ w. under w ≡ true) (x ∷ xs)
+  all_under x [] ys v up h = (under_on x v up.0 h, tt)
+  all_under x (y ∷ xs) ys v up h =
+      let others = all_under y xs ys v up.1 h in (under_on x y up.0 others.0, others)
+
+  earlier_under : (xs ys : List VersionData) (v : VersionData) → Rises None (xs ++ v ∷ ys) → under v ≡ true →
+      AllByRecursion (λ w. under w ≡ true) xs
+  earlier_under [] ys v up h = tt
+  earlier_under (x ∷ xs) ys v up h = all_under x xs ys v up.1 h
+
+  under_append : (xs : List VersionData) (v : VersionData) → AllByRecursion (λ w. under w ≡ true) xs → under v ≡ true →
+      AllByRecursion (λ w. under w ≡ true) (xs ++ v ∷ [])
+  under_append [] v h k = (k, tt)
+  under_append (x ∷ xs) v h k = (h.0, under_append xs v h.1 k)
+
+  filter_under : (xs ys : List VersionData) → AllByRecursion (λ w. under w ≡ true) xs → AllByRecursion (λ w. over w ≡ true) ys →
+      filter under (xs ++ ys) ≡ xs
+  filter_under [] [] h k = refl
+  filter_under [] (y ∷ ys) h k = rw (is_not (under y) k.0) (filter_under [] ys h k.1)
+  filter_under (x ∷ xs) ys h k = rw h.0 (ap (λ t. x ∷ t) (filter_under xs ys h.1 k))
+
+  filter_over : (xs ys : List VersionData) → AllByRecursion (λ w. under w ≡ true) xs → AllByRecursion (λ w. over w ≡ true) ys →
+      filter over (xs ++ ys) ≡ ys
+  filter_over [] [] h k = refl
+  filter_over [] (y ∷ ys) h k = rw k.0 (ap (λ t. y ∷ t) (filter_over [] ys h k.1))
+  filter_over (x ∷ xs) ys h k = rw (ap not h.0) (filter_over xs ys h.1 k)
+
+  -- ---- the search
+  -- the lines from an offset on spell the versions after some that are all below the bound
+  pub record Low (bytes : List ℕ) (versions : List VersionData) (offset : ℕ) : Type 0 where
+    pub earlier : List VersionData
+    pub later : List VersionData
+    pub are : versions ≡ earlier ++ later
+    pub lines : OplFile (lines_from offset bytes) later
+    pub below : AllByRecursion (λ w. under w ≡ true) earlier
+
+  -- the lines from an offset on spell versions of which none is below the bound
+  pub record High (bytes : List ℕ) (versions : List VersionData) (offset : ℕ) : Type 0 where
+    pub earlier : List VersionData
+    pub later : List VersionData
+    pub are : versions ≡ earlier ++ later
+    pub lines : OplFile (lines_from offset bytes) later
+    pub above : AllByRecursion (λ w. over w ≡ true) later
+
+  module _ (bytes : List ℕ) (versions : List VersionData) (file : OplFile bytes versions) (sorted : IsSorted key_cmp versions) where
+    low_first : Low bytes versions 0
+    low_first = record { earlier = []; later = versions; are = refl; lines = file; below = tt }
+
+    parts_at : (offset : ℕ) → SplitVersions (split_lines offset bytes).front (lines_from offset bytes) versions
+    parts_at offset = split_versions bytes (lines_from offset bytes) (split_lines offset bytes) versions file
+
+    low_next : (offset : ℕ) (earlier later : List VersionData) → versions ≡ earlier ++ later → OplFile (lines_from offset bytes) later →
+        true ≡ first_is_under bound later → Low bytes versions (suc offset)
+    low_next offset earlier [] are lines is = absurd (false≢true (sym is))
+    low_next offset earlier (v ∷ later) are lines is =
+        let below = earlier_under earlier later v (subst (Rises None) are (sorted_all versions sorted)) (sym is) in
+        ⊎_elim (λ same. record {
+          earlier = earlier;
+          later = v ∷ later;
+          are = are;
+          lines = subst (λ (b : List ℕ). OplFile b (v ∷ later)) (sym same) lines;
+          below = below;
+        })
+        (λ next. let rest = shorter (lines_from offset bytes) (v ∷ later) lines in
+        let lines_rest : OplFile (lines_from (suc offset) bytes) rest.later = subst (λ (b : List ℕ). OplFile b rest.later) (sym next) rest.file in
+        ⊎_elim (λ all. record {
+          earlier = earlier;
+          later = rest.later;
+          are = are ∙ ap (λ t. earlier ++ t) all;
+          lines = lines_rest;
+          below = below;
+        })
+        (λ (w, one). record {
+          earlier = earlier ++ w ∷ [];
+          later = rest.later;
+          are = are ∙ ap (λ t. earlier ++ t) one ∙ sym (append_assoc earlier (w ∷ []) rest.later);
+          lines = lines_rest;
+          below = under_append earlier w below (let same : v ≡ w = cc in rw (sym same) (sym is));
+        }) rest.are) (next_lines offset bytes)
+
+    pub low_step : (offset : ℕ) → ((later : List VersionData) → OplFile (lines_from offset bytes) later → true ≡ first_is_under bound later) →
+        Low bytes versions (suc offset)
+    low_step offset first = let parts = parts_at offset in
+        low_next offset parts.earlier parts.later parts.are parts.second (first parts.later parts.second)
+
+    high_at : (offset : ℕ) (earlier later : List VersionData) → versions ≡ earlier ++ later → OplFile (lines_from offset bytes) later →
+        false ≡ first_is_under bound later → High bytes versions offset
+    high_at offset earlier [] are lines is = record { earlier = earlier; later = []; are = are; lines = lines; above = tt }
+    high_at offset earlier (v ∷ later) are lines is =
+        let up = rises_later None earlier (v ∷ later) (subst (Rises None) are (sorted_all versions sorted)) in
+        let over_it : over v ≡ true = ap not (sym is) in
+        record {
+          earlier = earlier;
+          later = v ∷ later;
+          are = are;
+          lines = lines;
+          above = (over_it, all_over v later up.1.1 over_it);
+        }
+
+    pub high_step : (offset : ℕ) → ((later : List VersionData) → OplFile (lines_from offset bytes) later → false ≡ first_is_under bound later) →
+        High bytes versions offset
+    high_step offset first = let parts = parts_at offset in
+        high_at offset parts.earlier parts.later parts.are parts.second (first parts.later parts.second)
+
+    cut_is : (offset start : ℕ) → Low bytes versions offset → High bytes versions offset → drop start bytes ≡ lines_from offset bytes →
+        OplFile (take start bytes) (filter under versions) × OplFile (drop start bytes) (filter over versions)
+    cut_is offset start low high begins =
+        let parts = parts_at offset in
+        let later : parts.later ≡ low.later = one_opl (lines_from offset bytes) parts.later low.later parts.second low.lines in
+        let same : high.later ≡ low.later = one_opl (lines_from offset bytes) high.later low.later high.lines low.lines in
+        let earlier : parts.earlier ≡ low.earlier =
+        append_cancel_right parts.earlier low.earlier low.later (ap (λ t. parts.earlier ++ t) (sym later) ∙ sym parts.are ∙ low.are) in
+        let above : AllByRecursion (λ w. over w ≡ true) low.later = subst (AllByRecursion (λ w. over w ≡ true)) same high.above in
+        let front : (split_lines offset bytes).front ≡ take start bytes =
+        append_cancel_right (split_lines offset bytes).front (take start bytes) (lines_from offset bytes)
+        (sym (split_lines offset bytes).whole ∙ sym (take-append-drop start bytes) ∙ ap (λ r. take start bytes ++ r) begins) in
+        let unders : filter under versions ≡ low.earlier = ap (filter under) low.are ∙ filter_under low.earlier low.later low.below above in
+        let overs : filter over versions ≡ low.later = ap (filter over) low.are ∙ filter_over low.earlier low.later low.below above in (
+          subst (λ (b : List ℕ). OplFile b (filter under versions)) front
+              (subst (OplFile (split_lines offset bytes).front) (earlier ∙ sym unders) parts.first),
+          subst (λ (b : List ℕ). OplFile b (filter over versions)) (sym begins)
+              (subst (OplFile (lines_from offset bytes)) (sym overs) low.lines),
+        )
+
+  -- the offsets between which a sorted file is cut
+  abbrev Between : List ℕ → ℕ → ℕ → Type 0
+  Between all low high = length all < 2 ^ 62 → (versions : List VersionData) → OplFile all versions → IsSorted key_cmp versions →
+      Low all versions low × High all versions high
+
+  abbrev pub Halving : Option (List ℕ) → ℕ → ℕ → Type 0
+  Halving bytes low high = (low ≤ high) × IfSome bytes (λ all. Between all low high)
+
+  pub halving_first : (bytes : Option (List ℕ)) (size : ℕ) → IfSome bytes (λ all. size ≡ length all) → Halving bytes 0 size
+  halving_first None size is = (omega arith, tt)
+  halving_first (Some all) size is = (
+    omega arith,
+    λ short versions file sorted. (
+      low_first all versions file sorted,
+      record {
+        earlier = versions;
+        later = [];
+        are = sym (append-nil versions);
+        lines = subst (λ (b : List ℕ). OplFile b []) (sym (ap (λ n. lines_from n all) is ∙ at_end all)) tt;
+        above = tt;
+      },
+    ),
+  )
+
+  pub halving_low : (bytes : Option (List ℕ)) (low middle high next : ℕ) → Halving bytes low high → middle < high → next ≡ middle + 1 →
+      IsFirstUnder bytes bound middle true → Halving bytes next high
+  halving_low None low middle high next h near is first = (omega (arith, near, is), tt)
+  halving_low (Some all) low middle high next h near is first = (
+    omega (arith, near, is),
+    λ short versions file sorted.
+        let e : next ≡ suc middle = omega (arith, is) in (
+          rw e (low_step all versions file sorted middle (λ later lines. first short later lines)),
+          (h.1 short versions file sorted).1,
+        ),
+  )
+
+  pub halving_high : (bytes : Option (List ℕ)) (low middle high : ℕ) → Halving bytes low high → low ≤ middle →
+      IsFirstUnder bytes bound middle false → Halving bytes low middle
+  halving_high None low middle high h near first = (omega (arith, near), tt)
+  halving_high (Some all) low middle high h near first = (
+    omega (arith, near),
+    λ short versions file sorted. (
+      (h.1 short versions file sorted).0,
+      high_step all versions file sorted middle (λ later lines. first short later lines),
+    ),
+  )
+
+  pub halved : (bytes : Option (List ℕ)) (low high start : ℕ) → Halving bytes low high → high ≤ low → IsLineStart bytes low start →
+      IsCutOf bytes bound start
+  halved None low high start h end begins = tt
+  halved (Some all) low high start h end begins = λ short versions file sorted.
+      let both = h.1 short versions file sorted in
+      let e : high ≡ low = omega (arith, h.0, end) in
+      cut_is all versions file sorted low start both.0 (rw e at both.1) begins
+
+-- where the lines begin
+pub begins_of : (bytes : Option (List ℕ)) (from start : ℕ) → IsLineStart bytes from start → StartsOpl bytes start → BeginsLinesOf bytes start
+begins_of None from start begins opl = tt
+begins_of (Some all) from start begins opl = record { from = from; lines = begins; start = opl }
+
+-- the first version of some is below the bound
+pub first_under : (bound : Object) (v : VersionData) (versions : List VersionData) → IsFirstOf (Some v) versions →
+    is_under (Some bound) v ≡ first_is_under bound versions
+first_under bound v [] is = cc
+first_under bound v (w ∷ versions) is = let same : v ≡ w = cc in ap (is_under (Some bound)) same
+
+pub none_under : (bound : Object) (versions : List VersionData) → IsFirstOf None versions → false ≡ first_is_under bound versions
+none_under bound [] is = refl
+none_under bound (w ∷ versions) is = cc
+
+abbrev value_of : Result Bool Broken → Bool
+value_of (Ok b) = b
+value_of (Err broken) = true
+
+pub ok_is : (b : Bool) → ◌≡◌ {A = Result Bool Broken} (Ok b) (Ok false) → b ≡ false
+ok_is b is = ap value_of is
+
+-- ---- the first byte
+module _ {R : Type 0} (can : R → Coming → Type 0) where
+  pub ends_opl : (reader : R) → can reader (whole_input []) → GivesOpl can reader
+  ends_opl reader ended bytes only = ap (λ (c : Coming). start_of c.bytes) (sym (only (whole_input []) ended))
+
+  pub begins_opl : (one : R → Coming) → ((r : R) → can r (one r)) → (reader next : R) (byte : ℕ) → Gave can reader next (byte ∷ []) →
+      (byte == 255) ≡ false → GivesOpl can reader
+  begins_opl one possible reader next byte gave other bytes only =
+      let y = gave (one next) (possible next) in
+      let is : byte ∷ (one next).bytes ≡ bytes = ap (λ c. c.bytes) (sym y.2 ∙ only y.0 y.1) in
+      ap start_of (sym is) ∙ ap (λ t. cond t BeforeHeader InOpl) other
+
+  pub opl_of : (bytes : Option (List ℕ)) (offset : ℕ) (reader : R) → ReadsFrom can bytes offset reader → GivesOpl can reader →
+      StartsOpl bytes offset
+  opl_of None offset reader reads opl = tt
+  opl_of (Some all) offset reader reads opl = opl (drop offset all) reads
+
+  -- one byte was read, or none
+  pub begins_so : (one : R → Coming) → ((r : R) → can r (one r)) → (reader next : R) (count : ℕ) (buffer : List ℕ) → count ≤ 1 →
+      length buffer ≡ 1 → Gave can reader next (take count buffer) → (count == 0) ≡ false → (get_or buffer 0 0 == 255) ≡ false →
+      GivesOpl can reader
+  begins_so one possible reader next zero buffer few size gave some other = cc
+  begins_so one possible reader next (suc (suc n)) buffer few size gave some other = absurd (omega (arith, few))
+  begins_so one possible reader next (suc zero) [] few size gave some other = absurd (omega (arith, size))
+  begins_so one possible reader next (suc zero) (b ∷ buffer) few size gave some other = begins_opl one possible reader next b gave other

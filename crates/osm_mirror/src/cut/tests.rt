@@ -1,0 +1,49 @@
+//! Where files are cut at objects.
+use super::cut_offset;
+use osm_merge::Object;
+use osm_model::Kind;
+use std::alloc::Global;
+
+/// Versions of two nodes and a way. Their lines begin at 0, 9, 22 and 31.
+const FILE: &[u8] = b"n1 v1 dD\nn1 v2 dD\n# c\nn3 v1 dD\nw1 v1 dD";
+
+/// The offset at which a file is cut.
+fn cut_text(alloc: Global, file: &[u8], kind: Kind, id: i64) -> String {
+    let mut text = String::new(alloc);
+    match cut_offset(alloc, &file, 2, Object { kind, id }) {
+        Ok(offset) => {
+            let _ = write!(text, "{offset}");
+        }
+        Err(fault) => {
+            let _ = write!(text, "{fault}");
+        }
+    }
+    text
+}
+
+#[test]
+fn files_are_cut_at_objects(rt: HostRuntime) {
+    for (file, kind, id, text) in [
+        (FILE, Kind::Node, 1, "0"),
+        (FILE, Kind::Node, 2, "18"),
+        (FILE, Kind::Node, 3, "18"),
+        (FILE, Kind::Way, 1, "31"),
+        (FILE, Kind::Relation, 1, "39"),
+        (b"".as_slice(), Kind::Node, 1, "0"),
+        (b"# c".as_slice(), Kind::Node, 1, "0"),
+        (
+            b"n1 v1 dD\n\xff".as_slice(),
+            Kind::Node,
+            2,
+            "file 2, byte 9: NotUtf8",
+        ),
+        (
+            b"n1\n".as_slice(),
+            Kind::Node,
+            2,
+            "file 2, byte 0: NoVersion",
+        ),
+    ] {
+        assert_eq!(rt; cut_text(rt.alloc(), file, kind, id).as_str(), text);
+    }
+}

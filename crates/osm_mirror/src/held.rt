@@ -1,0 +1,189 @@
+//! The commands that read all of their inputs before they write.
+ghost use Rattle.std.specs.Prelude.{◌≡◌, [], ◌∷◌, map, IfOk, IfErr, OnOk};
+ghost use Rattle.osm_files.specs.Fault.{memory_fault};
+ghost use Rattle.osm_files.specs.Input.{GivesOne};
+ghost use Rattle.osm_files.specs.Output.{IsGoodThroughout};
+ghost use Rattle.osm_files.specs.Change.{change_of};
+ghost use Rattle.osm_merge.specs.Giving.{SomeInputsGive};
+ghost use Rattle.osm_merge.specs.Selected.{selection_of, visible, at, between};
+ghost use Rattle.osm_merge.specs.Merged.{Grows};
+ghost use Rattle.osm_mirror.specs.Command.{IsWritten, IsNotWritten, apply_result, any_order_file};
+
+use crate::input::{InputFile, Order};
+use crate::run::run_selected;
+use osm_files::{Fault, Format, Input, Output};
+use osm_merge::{Counts, NoProgress, Selection};
+use std::alloc::Global;
+
+/// Sorts and merges files whose versions may have any order: appends the one file of this format that holds the
+/// versions of all inputs, each once.
+///
+/// `read` is the sum of the numbers of versions of the inputs, `written` counts those written, `compared` is 0.
+///
+/// # Errors
+///
+/// The inputs are numbered from 0, and the output has the number of the inputs. If an input can't be read, the fault
+/// has its number, the reason and the offset, and nothing was written; if several can't, it is the fault of one of
+/// them. `WriteFault` if the output failed, `TooLong` if a file has 2^62 bytes or more, `Memory` if a growth was
+/// refused. The output written then is a front of the file.
+pub fn run_sort<R: Input + Drop, W: Output>(
+    alloc: Global,
+    inputs: Vec<R>,
+    format: Format,
+    out: &mut W,
+) -> Result<Counts, Fault>
+    ensures written { IfOk result (λ counts. SomeInputsGive R.can_give inputs.items (λ all.
+        IsWritten (λ set. set) all format (change_of W.Output out.old out.new) counts)) }
+    ensures refused { IfErr result (λ fault. SomeInputsGive R.can_give inputs.items (λ all.
+        IsNotWritten W.Output (λ set. set) all format out.old out.new fault)) }
+    ensures kept { Grows (change_of W.Output out.old out.new) }
+    ensures good { OnOk result (IsGoodThroughout (change_of W.Output out.old out.new)) }
+{
+    run_held(alloc, Selection::All, inputs, format, out)
+}
+
+/// Applies changes: appends the one file of this format that holds the newest one of each object among the versions of
+/// all inputs, if it isn't a deletion; with history, all versions. The distribution of the versions over the inputs
+/// makes no difference.
+///
+/// `read` is the sum of the numbers of versions of the inputs, `written` counts those written, `compared` is 0.
+///
+/// # Errors
+///
+/// The inputs are numbered from 0, and the output has the number of the inputs. If an input can't be read, the fault
+/// has its number, the reason and the offset, and nothing was written; if several can't, it is the fault of one of
+/// them. `WriteFault` if the output failed, `TooLong` if a file has 2^62 bytes or more, `Memory` if a growth was
+/// refused. The output written then is a front of the file.
+pub fn run_apply<R: Input + Drop, W: Output>(
+    alloc: Global,
+    inputs: Vec<R>,
+    with_history: bool,
+    format: Format,
+    out: &mut W,
+) -> Result<Counts, Fault>
+    ensures written { IfOk result (λ counts. SomeInputsGive R.can_give inputs.items (λ all.
+        IsWritten (apply_result with_history) all format (change_of W.Output out.old out.new) counts)) }
+    ensures refused { IfErr result (λ fault. SomeInputsGive R.can_give inputs.items (λ all.
+        IsNotWritten W.Output (apply_result with_history) all format out.old out.new fault)) }
+    ensures kept { Grows (change_of W.Output out.old out.new) }
+    ensures good { OnOk result (IsGoodThroughout (change_of W.Output out.old out.new)) }
+{
+    if with_history {
+        run_held(alloc, Selection::All, inputs, format, out)
+    } else {
+        run_held(alloc, Selection::NewestVisible, inputs, format, out)
+    }
+}
+
+/// The map at a moment: appends the one file of this format that holds the newest one of each object among the versions
+/// up to the moment, if it isn't a deletion.
+///
+/// `read` is the number of versions of the input, `written` counts those written, `compared` is 0.
+///
+/// # Errors
+///
+/// The input has the number 0 and the output 1. If the input can't be read, the fault has its reason and the offset,
+/// and nothing was written. `WriteFault` if the output failed, `TooLong` if a file has 2^62 bytes or more, `Memory` if
+/// a growth was refused. The output written then is a front of the file.
+pub fn run_time_filter<R: Input + Drop, W: Output>(
+    alloc: Global,
+    input: R,
+    time: u32,
+    format: Format,
+    out: &mut W,
+) -> Result<Counts, Fault>
+    ensures written { IfOk result (λ counts. GivesOne (R.can_give input) (λ c.
+        IsWritten (λ set. visible (at set time)) (c ∷ []) format (change_of W.Output out.old out.new) counts)) }
+    ensures refused { IfErr result (λ fault. GivesOne (R.can_give input) (λ c.
+        IsNotWritten W.Output (λ set. visible (at set time)) (c ∷ []) format out.old out.new fault)) }
+    ensures kept { Grows (change_of W.Output out.old out.new) }
+    ensures good { OnOk result (IsGoodThroughout (change_of W.Output out.old out.new)) }
+{
+    run_one(alloc, Selection::StateVisible(time), input, format, out)
+}
+
+/// The history of a period: appends the one file of this format that holds the versions, deletions too, that came
+/// before `to` and were current at `from` or later.
+///
+/// `read` is the number of versions of the input, `written` counts those written, `compared` is 0.
+///
+/// # Errors
+///
+/// The input has the number 0 and the output 1. If the input can't be read, the fault has its reason and the offset,
+/// and nothing was written. `WriteFault` if the output failed, `TooLong` if a file has 2^62 bytes or more, `Memory` if
+/// a growth was refused. The output written then is a front of the file.
+pub fn run_period_filter<R: Input + Drop, W: Output>(
+    alloc: Global,
+    input: R,
+    from: u32,
+    to: u32,
+    format: Format,
+    out: &mut W,
+) -> Result<Counts, Fault>
+    ensures written { IfOk result (λ counts. GivesOne (R.can_give input) (λ c.
+        IsWritten (λ set. between set from to) (c ∷ []) format (change_of W.Output out.old out.new) counts)) }
+    ensures refused { IfErr result (λ fault. GivesOne (R.can_give input) (λ c.
+        IsNotWritten W.Output (λ set. between set from to) (c ∷ []) format out.old out.new fault)) }
+    ensures kept { Grows (change_of W.Output out.old out.new) }
+    ensures good { OnOk result (IsGoodThroughout (change_of W.Output out.old out.new)) }
+{
+    run_one(alloc, Selection::Between { from, to }, input, format, out)
+}
+
+/// Writes the selection of the versions of one file, which may have any order.
+fn run_one<R: Input + Drop, W: Output>(
+    alloc: Global,
+    selection: Selection,
+    input: R,
+    format: Format,
+    out: &mut W,
+) -> Result<Counts, Fault>
+    ensures written { IfOk result (λ counts. GivesOne (R.can_give input) (λ c.
+        IsWritten (selection_of selection) (c ∷ []) format (change_of W.Output out.old out.new) counts)) }
+    ensures refused { IfErr result (λ fault. GivesOne (R.can_give input) (λ c.
+        IsNotWritten W.Output (selection_of selection) (c ∷ []) format out.old out.new fault)) }
+    ensures kept { Grows (change_of W.Output out.old out.new) }
+    ensures good { OnOk result (IsGoodThroughout (change_of W.Output out.old out.new)) }
+{
+    let mut inputs = Vec::new(alloc);
+    inputs.push(input)?;
+    run_held(alloc, selection, inputs, format, out)
+}
+
+/// Writes the selection of the versions of files, which may have any order.
+fn run_held<R: Input + Drop, W: Output>(
+    alloc: Global,
+    selection: Selection,
+    inputs: Vec<R>,
+    format: Format,
+    out: &mut W,
+) -> Result<Counts, Fault>
+    ensures written { IfOk result (λ counts. SomeInputsGive R.can_give inputs.items (λ all.
+        IsWritten (selection_of selection) all format (change_of W.Output out.old out.new) counts)) }
+    ensures refused { IfErr result (λ fault. SomeInputsGive R.can_give inputs.items (λ all.
+        IsNotWritten W.Output (selection_of selection) all format out.old out.new fault)) }
+    ensures kept { Grows (change_of W.Output out.old out.new) }
+    ensures good { OnOk result (IsGoodThroughout (change_of W.Output out.old out.new)) }
+{
+    let files = of_any_order(alloc, inputs)?;
+    let counts = run_selected(alloc, selection, files, format, out, &mut NoProgress)?;
+    Ok(Counts {
+        compared: 0,
+        ..counts
+    })
+}
+
+/// The readers as files whose versions may have any order.
+fn of_any_order<R: Drop>(alloc: Global, inputs: Vec<R>) -> Result<Vec<InputFile<R>>, Fault>
+    ensures files { IfOk result (λ files. files.items ≡ map any_order_file inputs.items) }
+    ensures memory { IfErr result (λ fault. fault ≡ memory_fault) }
+{
+    let mut files = Vec::new(alloc);
+    'inputs: for reader in inputs {
+        files.push(InputFile {
+            reader,
+            order: Order::Any,
+        })?;
+    }
+    Ok(files)
+}

@@ -1,5 +1,0 @@
-use Rattle.std.proofs.lemmas.Str.{chars-nil}
-use Rattle.osm_model.proofs.line_bytes.Next.at.Goals as goal
-
-pub returns-clause-text : goal.returns-clause-text
-returns-clause-text c = chars-nil

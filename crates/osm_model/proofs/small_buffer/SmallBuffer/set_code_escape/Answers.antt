@@ -1,0 +1,16 @@
+use Rattle.std.proofs.Common.{◌≡◌, ◌∷◌, ◌++◌, ◌-◌, [], length, replicate, arith, rules, append_assoc, ap, sym, ◌∙◌}
+use Rattle.std.proofs.lemmas.List.{drop_all}
+use Rattle.osm_model.specs.Numeral.{numeral, pad_zeros}
+use Rattle.osm_model.specs.Escape.{code_escape, escape_width}
+use Rattle.osm_model.proofs.small_buffer.SmallBuffer.set_code_escape.Goals as goal
+
+pub returns : goal.returns
+unfolding code_escape pad_zeros
+returns c =
+    let code = c.args.code in
+    let zeros : c.saturating_sub-zeros.result ≡ escape_width code - length (numeral 16 code) =
+    rw (c.saturating_sub-zeros.ensures, c.escape_width.ensures.value) (ap (λ n. escape_width code - n) (omega arith)) in
+    let mark = c.put_byte-end.ensures.written ∙ ap (λ t. 37 ∷ t) (drop_all 32 c.args.self.now.bytes (search rules)) in
+    let behind = c.put_hex-digits.ensures.written ∙ ap (λ t. numeral 16 code ++ t) mark in
+    let all = c.put_zeros-padded.ensures.written ∙ (λ i. replicate (zeros i) 48 ++ behind i) in
+    c.put_byte-self.ensures.written ∙ ap (λ t. 37 ∷ t) (all ∙ sym (append_assoc _ (numeral 16 code) (37 ∷ [])))
