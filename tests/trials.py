@@ -1,7 +1,7 @@
-"""What tests/{growth,devices,collisions} share: the program of crates/trials, which makes one call a run, and worked rows for it.
+"""The program of crates/trials, which makes one call a run, and rows of its calls, for tests/{growth,devices,collisions,fuzz}.
 
-As a program it builds the trials, where they are not built. Without the kit's command rt they can't be built, and the scripts that
-make them skip.
+Run as a script, this file builds the program of crates/trials if it isn't up to date. The build needs the kit's command rt.
+Without rt the scripts that run the program skip their tests.
 """
 import shutil
 import subprocess
@@ -17,13 +17,18 @@ SECONDS = 60
 
 
 def octets(text):
-    """The bytes that are told in hexadecimal digits, H being the header of o5m."""
+    """The bytes of hexadecimal digits. H is the header of o5m."""
     return bytes.fromhex(text.replace("H", "ff e0 04 6f 35 6d 32"))
 
 
 def node(version, place):
-    """The canonical line of a version of node 1."""
+    """The canonical line of a version of node 1. `place` has its coordinates."""
     return f"n1 v{version} dV c0 t i0 u T {place}\n".encode()
+
+
+def deletion(version):
+    """The canonical line of a deletion without an author. `version` has the object and the version number, as 'n1 v2'."""
+    return f"{version} dD c0 t i0 u T{' N' * version.startswith('w')}{' x y' * version.startswith('n')}\n".encode()
 
 
 NODE = b"n1 v1 dV c1 t1970-01-01T00:00:01Z i1 ua T x0 y0\n"
@@ -43,7 +48,7 @@ AT_5 = b"n1 v2 dV c0 t1970-01-01T00:00:05Z i0 u T x2 y1\n"
 MANY = "".join(
     f"r{number} v1 dV c7 t2014-05-06T07:08:09Z i{number} uanna%20%{number} Tkey=value{number},name=tree Mn{number}@in,w2@out\n"
     for number in range(1, 41)).encode()
-# Versions of one key, which differ in what is compared last.
+# Groups of versions of one key. The versions of a group differ in the fields that are compared last.
 TIES = "".join(
     f"{line}\n" for line in (
         *(f"n1 v1 dV c1 t1970-01-01T00:00:01Z i1 u{'a' * 30}{user} T x1 y{place}" for user in "ab" for place in (1, 2)),
@@ -53,7 +58,7 @@ TIES = "".join(
     )).encode()
 PLAN = b"latest\nlatest\ntake 0 a.opl\ntake 1 b.opl\npass 0 1 o5c\npass 1 0 opl\ntake 0 a.opl\nwrite 0 opl x.opl\nwrite 1 opl y.opl\n"
 
-# Files by their names, as the rows call them.
+# The files that the rows name, each with its content.
 FILES = {
     "a.opl": b"n1 v1 dV x1 y1\n",
     "b.opl": b"n1 v2 dD\n",
@@ -78,21 +83,23 @@ FILES = {
     "many.opl": MANY,
     "two.plan": PLAN,
     "ties.opl": TIES,
+    # Lines begin at 0, 9, 18, 22 and 31; the third one is a comment.
+    "slice.opl": b"n1 v1 dD\nn1 v2 dD\n# c\nn3 v1 dD\nw1 v1 dD",
 }
 IDS = b"".join(f"n{number} v1 dV c0 t i0 u T x1 y1\n".encode() for number in (0, -1, -2, 3))
 
 
 def counts(read, written):
-    """How a run tells what it did."""
+    """The first line that a run prints: the numbers of versions read and written."""
     return f"read {read}, written {written}\n".encode()
 
 
 class Row:
-    """A call, what it is given, and what it answers."""
+    """A call with its arguments, and the output that it has to print."""
 
     def __init__(self, words, answer, refused=None):
         self.words, self.answer = words.split(), answer
-        # Whether this is how a call is refused that tells more than the refusal.
+        # Whether an output is the permitted one of a refused call that prints more than its refusal.
         self.refused = refused or (lambda told: False)
 
     def __str__(self):
@@ -100,24 +107,24 @@ class Row:
 
 
 def behind(line, kept):
-    """The refusal that tells this line, and then what is kept."""
+    """Accepts the output of a refusal: `line`, and then exactly `kept`."""
     return lambda told: told == line + b"\n" + kept
 
 
 def front_of(line, whole):
-    """The refusal that tells this line, and then a front of the whole answer."""
+    """Accepts the output of a refusal: `line`, and then a front of `whole`."""
     head = line + b"\n"
     return lambda told: told.startswith(head) and whole.startswith(told[len(head):])
 
 
 def run_row(words, read, written, file, refused=b""):
-    """A run that writes a file; of a refused one, this or (for None) any front of it was written."""
+    """The row of a run that writes `file`. A refused run has written `refused`, or any front of `file` if `refused` is None."""
     told = front_of(MEMORY_FAULT, file) if refused is None else behind(MEMORY_FAULT, refused)
     return Row(words, counts(read, written) + file, told)
 
 
 def is_refused_fleet(told):
-    """Whether two mirrors were refused memory once, and came to hold the deletion in the second run."""
+    """Whether the first run of two mirrors ran out of memory once, and both held the deletion after the second run."""
     line, _, rest = told.partition(b"\n")
     replies = line.split()
     once, _, twice = rest.partition(b"then\n")
@@ -127,7 +134,7 @@ def is_refused_fleet(told):
     return one_memory and twice == GONE + GONE and once.replace(CREATED, b"").replace(GONE, b"") == b""
 
 
-# How often `compare_all` compares. It asks for as much memory each time.
+# How often `compare_all` compares all versions. The number doesn't change the memory that it asks for.
 ROUNDS = (0, 1, 2)
 
 ROWS = [
@@ -180,11 +187,21 @@ ROWS = [
     Row("run_check @pair.o5m", b"o5m: 2 versions, 1 objects, sorted\n"),
     Row("run_check @unsorted.opl", b"opl: 2 versions, 2 objects, unsorted\n"),
     Row("fault_text cut.o5m @cut.o5m", b"cut.o5m: 27: NoEnd\n", behind(MEMORY_WORDS, b"")),
+    Row("line_start 10 @slice.opl", b"18\n"),
+    Row("first_version 10 @slice.opl", deletion("n3 v1")),
+    Row("first_version 32 @slice.opl", b"none\n"),
+    Row("cut_offset n2 @slice.opl", b"18\n"),
+    Row("cut_offset w1 @slice.opl", b"31\n"),
+    run_row("run_slice opl - n2 @slice.opl @slice.opl", 4, 2, deletion("n1 v1") + GONE, None),
+    run_row("run_slice opl n3 - @slice.opl", 2, 2, deletion("n3 v1") + deletion("w1 v1"), None),
+    run_row("run_slice o5m n1 n2 @pair.o5m @node.opl", 3, 2, NODE_THEN_DELETION, None),
+    run_row("run_slice_of_parts opl n1 n2 @pair.o5m", 2, 2, NODE + DELETION, None),
+    run_row("run_slice_of_parts o5m - w1 @pair.opl @node.o5m", 3, 2, NODE_THEN_DELETION, None),
 ]
 
 
 class Trials(Counts):
-    """Runs of the trials in a folder that holds their files."""
+    """Runs the program of crates/trials in a folder that has FILES."""
 
     def __init__(self, room):
         super().__init__()
@@ -194,14 +211,14 @@ class Trials(Counts):
             (self.room / name).write_bytes(content)
 
     def run(self, words, **given):
-        """Makes a call, and answers the status and what was printed, standard output and error."""
+        """Makes a call. Returns the status, standard output and standard error."""
         run = subprocess.run(
             [self.program, *words], cwd=self.room, stdin=subprocess.DEVNULL, capture_output=True, timeout=SECONDS, check=False, **given)
         return run.returncode, run.stdout, run.stderr
 
 
 def skip_without_kit():
-    """Ends the script, with nothing passed and nothing failed, where the kit's command isn't on the PATH."""
+    """If the kit's command rt isn't on the PATH, ends the script with nothing passed and nothing failed."""
     if not shutil.which("rt"):
         print("skipped: the kit's command rt is not on the PATH")
         print("0 passed, 0 failed")
@@ -209,7 +226,7 @@ def skip_without_kit():
 
 
 def build():
-    """Proves and builds the program, unless rt ci left it and no source is newer."""
+    """Proves and builds the program of crates/trials, unless it exists and no source is newer."""
     program = CRATE / "out/trials"
     if program.exists():
         made = program.stat().st_mtime
@@ -224,7 +241,7 @@ def build():
 
 
 def in_room(trial):
-    """Makes the trials in a new folder."""
+    """Builds the program, calls `trial` with Trials in a new folder, and ends the script."""
     build()
     with tempfile.TemporaryDirectory() as folder:
         trials = Trials(folder)

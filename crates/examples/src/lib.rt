@@ -1,4 +1,4 @@
-//! A caller of each library crate, proved, as that crate's CALLING.md shows it.
+//! One proved caller of each library crate. The CALLING.md of the crate shows its caller.
 #![tactic(auto)]
 
 mod content;

@@ -1,4 +1,4 @@
-//! The callers, each on its happy path.
+//! Tests of each caller with input that has no fault.
 use crate::{canonical, first_version, one_file, to_o5m, visible_map, with_version};
 use osm_files::{SliceIn, load_any};
 use osm_model::{History, Kind};

@@ -35,7 +35,7 @@ step_reason k s content reason refused =
     let P : Result (VersionData × Segment) O5Reason → Type 0 = λ r. Named r in
     subst P ((set_refused k s content reason).1 refused) (set_named k s content)
 
--- A content that has a reason spells nothing and has no other reason.
+-- A content that has a reason spells no version and has no other reason.
 pub only_reason : (k : Kind) (s : Segment) (content : List ℕ) (reason : O5Reason) → SetReason k s content reason →
     IsTheOnlyReason k s content reason
 only_reason k s content reason refused = record {

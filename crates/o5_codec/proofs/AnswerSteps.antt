@@ -7,11 +7,11 @@ module _ {X Y : Type 0} (reading : Result X O5Reason) (next : X → Result Y O5R
   pub refused_first : (reason : O5Reason) → reading ≡ Err reason → and_then reading next ≡ Err reason
   refused_first reason first = ap (λ r. and_then r next) first
 
-  -- After a reading that succeeds the next one decides.
+  -- If the first reading succeeds, the result is that of the next one.
   pub read_next : (x : X) → reading ≡ Ok x → and_then reading next ≡ next x
   read_next x first = ap (λ r. and_then r next) first
 
--- one result is only one variant, with one value
+-- a result isn't both a value and a refusal
 pub not_refused : {X E : Type 0} (r : Result X E) (x : X) (e : E) → r ≡ Ok x → r ≡ Err e → ⊥
 not_refused r x e read refused = (let clash : Ok x ≡ Err e = sym read ∙ refused in cc)
 

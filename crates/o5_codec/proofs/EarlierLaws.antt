@@ -48,7 +48,7 @@ any_more : (test : VersionData → Bool) (objects : List VersionData) (v : Versi
     list_any test objects || test v ≡ list_any test (objects ++ v ∷ [])
 any_more test objects v = ap (λ b. list_any test objects || b) (sym (or-false (test v))) ∙ sym (list_any-append test objects (v ∷ []))
 
--- which lists these objects have
+-- `seen` agrees with the lists that some objects have
 abbrev Lists : ListsSeen → List VersionData → Type 0
 Lists seen objects = Told seen (list_any has_references objects) (list_any has_node_members objects)
 
@@ -58,12 +58,12 @@ lists_more objects s k content x spells h =
     told_as _ _ _ _ _ _ refl (any_more has_references objects x.0) (any_more has_node_members objects x.0)
     (set_seen k s content x (list_any has_references objects) (list_any has_node_members objects) spells h)
 
--- these lists determine the bases and the table of a segment
+-- the bases and the table of a segment are those of some objects and entries
 record IsTold (s : Segment) (objects : List VersionData) (entries : List EntryStrings) : Type 0 where
   bases_are : s.bases ≡ bases_of objects
   table_is : s.table ≡ table_of entries
 
--- one more data set
+-- the same after one more data set
 told_more : (objects : List VersionData) (entries : List EntryStrings) (s : Segment) (k : Kind) (content : List ℕ) (x : VersionData × Segment) →
     IsTold s objects entries → (spells : SpellsSet k s content x) →
     IsTold x.1 (objects ++ x.0 ∷ []) (entries ++ inline_entries k s content x spells)
@@ -72,7 +72,7 @@ told_more objects entries s k content x told spells = record {
   table_is = set_table k s content x spells entries told.table_is;
 }
 
--- more data sets
+-- the same after several more data sets
 all_told : (objects : List VersionData) (entries : List EntryStrings) (s : Segment) (sets : List (Kind × List ℕ)) (versions : List VersionData)
     (inline : List EntryStrings) (end : Segment) →
     IsTold s objects entries → Lists s.seen objects → SpellSets s sets versions inline end →
@@ -134,11 +134,11 @@ sets_only s (set ∷ sets) (v ∷ versions) inline end (middle, later, spells, a
     ∙ read_next (sets_at middle sets) _ _ (sets_only middle sets versions later end more)
 
 -- ---- one data set after others
-pub sets_go_on : (s : Segment) (sets : List (Kind × List ℕ)) (versions : List VersionData) (inline : List EntryStrings) (end : Segment) (k : Kind)
+pub sets_continue : (s : Segment) (sets : List (Kind × List ℕ)) (versions : List VersionData) (inline : List EntryStrings) (end : Segment) (k : Kind)
     (content : List ℕ) (x : VersionData × Segment) →
     SpellSets s sets versions inline end → (spells : SpellsSet k end content x) →
     SpellSets s (sets ++ (k, content) ∷ []) (versions ++ x.0 ∷ []) (inline ++ inline_entries k end content x spells) x.1
-sets_go_on s [] [] inline end k content x before spells =
+sets_continue s [] [] inline end k content x before spells =
     let P : Segment → Type 0 = λ y. (last : SpellsSet k y content x) →
     SpellSets s ((k, content) ∷ []) (x.0 ∷ []) (inline ++ inline_entries k y content x last) x.1 in
     subst P before.1 (λ last. (
@@ -149,9 +149,9 @@ sets_go_on s [] [] inline end k content x before spells =
           ∙ sym (append-nil (inline_entries k s content x last)),
       (refl, refl),
     )) spells
-sets_go_on s [] (v ∷ versions) inline end k content x before spells = absurd before
-sets_go_on s (set ∷ sets) [] inline end k content x before spells = absurd before
-sets_go_on s (set ∷ sets) (v ∷ versions) inline end k content x (middle, later, first, all, more) spells =
+sets_continue s [] (v ∷ versions) inline end k content x before spells = absurd before
+sets_continue s (set ∷ sets) [] inline end k content x before spells = absurd before
+sets_continue s (set ∷ sets) (v ∷ versions) inline end k content x (middle, later, first, all, more) spells =
     let here = inline_entries set.0 s set.1 (v, middle) first in
     let last = inline_entries k end content x spells in (
       middle,
@@ -159,5 +159,5 @@ sets_go_on s (set ∷ sets) (v ∷ versions) inline end k content x (middle, lat
       first,
       ap (λ es. es ++ last) all
           ∙ append_assoc here later last,
-      sets_go_on middle sets versions later end k content x more spells,
+      sets_continue middle sets versions later end k content x more spells,
     )

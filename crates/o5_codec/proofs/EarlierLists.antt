@@ -1,4 +1,4 @@
--- The objects of a segment determine which of the two lists that exclude each other it had.
+-- The objects of a segment determine which of two kinds of lists it had: references of ways, or node members.
 use Rattle.std.proofs.Common.{◌≡◌, ◌∙◌, ap, sym, refl, ℕ, ℤ, Bool, true, false, ◌||◌, ◌&&◌, List, [], ◌∷◌, ◌++◌, arith, Ok, if◌then◌else◌}
 use Rattle.std.proofs.Math.Bool.{or-false, or_assoc}
 use Rattle.osm_model.specs.declared.kind.Kind.{Kind}
@@ -11,17 +11,17 @@ use Rattle.o5_codec.specs.declared.segment.Segment.{Segment}
 use Rattle.o5_codec.specs.declared.segment.ListsSeen.{ListsSeen}
 use Rattle.o5_codec.specs.declared.segment.ListsSeen.TheVariants.{Neither, References, NodeMembers}
 use Rattle.o5_codec.specs.Body.{with_section, with_member}
-use Rattle.o5_codec.specs.Spelling.{ItemsStand, ReferenceStands, MemberStands, BodyStands, SpellsSet}
+use Rattle.o5_codec.specs.Spelling.{ItemsInAll, ReferenceAtFront, MemberAtFront, BodyInAll, SpellsSet}
 use Rattle.o5_codec.specs.Earlier.{references, members_of, node_id, node_ids, is_some_of, has_references, has_node_members}
 use Rattle.o5_codec.proofs.StepLaws.{reference_only}
 use Rattle.o5_codec.proofs.SoundStrings.{same_value}
 use Rattle.o5_codec.proofs.EarlierSteps.{meta_end, tags_end, references_end}
 
--- the lists of a segment, by whether it had the one and the other
+-- the lists of a segment, by whether it had references and whether it had node members
 abbrev pub lists_with : Bool → Bool → ListsSeen
 lists_with refs nodes = if refs then References else (if nodes then NodeMembers else Neither)
 
--- it never had both
+-- `seen` agrees with the two flags, which aren't both true
 abbrev pub Told : ListsSeen → Bool → Bool → Type 0
 Told seen refs nodes = (seen ≡ lists_with refs nodes) × (refs && nodes ≡ false)
 
@@ -34,7 +34,7 @@ some_append : {X : Type 0} (xs ys : List X) → is_some_of (xs ++ ys) ≡ is_som
 some_append [] ys = refl
 some_append (x ∷ xs) ys = refl
 
-same_emptiness : (s : Segment) (section : List ℕ) (ids : List ℤ) (end : Segment) → ItemsStand ReferenceStands s section ids end →
+same_emptiness : (s : Segment) (section : List ℕ) (ids : List ℤ) (end : Segment) → ItemsInAll ReferenceAtFront s section ids end →
     is_some_of section ≡ is_some_of ids
 same_emptiness s [] [] end stands = refl
 same_emptiness s [] (id ∷ ids) end stands = absurd (let one = (reference_only s [] (id, stands.0, stands.1) stands.2).1 in omega arith)
@@ -61,7 +61,7 @@ member_seen kind.Way id refs nodes seen one h = told_as _ seen refs refs nodes _
 member_seen kind.Relation id refs nodes seen one h =
     told_as _ seen refs refs nodes _ (sym (same_value _ _ h)) refl (sym (or-false nodes)) (refl, one)
 
-one_member : (s : Segment) (bytes : List ℕ) (x : Member × Segment × List ℕ) (refs nodes : Bool) → MemberStands s bytes x →
+one_member : (s : Segment) (bytes : List ℕ) (x : Member × Segment × List ℕ) (refs nodes : Bool) → MemberAtFront s bytes x →
     Told s.seen refs nodes →
     Told x.1.seen refs (nodes || is_some_of (node_id x.0.kind x.0.id))
 one_member s bytes x refs nodes (d, e, m, seen, id, ds, es, ms, sees, ids, role, kind_is, id_is, after) h =
@@ -69,7 +69,7 @@ one_member s bytes x refs nodes (d, e, m, seen, id, ds, es, ms, sees, ids, role,
     (member_seen m.0 x.0.id refs nodes seen h.1 (ap (λ l. with_member l m.0) (sym h.0) ∙ sees))
 
 members_seen : (s : Segment) (bytes : List ℕ) (members : List Member) (end : Segment) (refs nodes : Bool) →
-    ItemsStand MemberStands s bytes members end → Told s.seen refs nodes →
+    ItemsInAll MemberAtFront s bytes members end → Told s.seen refs nodes →
     Told end.seen refs (nodes || is_some_of (node_ids members))
 members_seen s bytes [] end refs nodes stands h = told_as s.seen end.seen refs refs nodes _ (ap (λ z. z.seen) (sym stands.1)) refl
     (sym (or-false nodes)) h
@@ -80,7 +80,7 @@ members_seen s bytes (m ∷ members) end refs nodes stands h =
     ∙ ap (λ b. nodes || b) (sym (some_append (node_id m.kind m.id) (node_ids members))))
     (members_seen stands.0 stands.1 members end refs (nodes || is_some_of (node_id m.kind m.id)) stands.3 first)
 
--- by a body
+-- the same after one more body
 abbrev ToldBy : ListsSeen → Bool → Bool → Body → Type 0
 ToldBy seen refs nodes body = Told seen (refs || is_some_of (references body)) (nodes || is_some_of (node_ids (members_of body)))
 
@@ -90,11 +90,11 @@ by_body seen other refs nodes body same h is t =
     told_as seen other _ _ _ _ h (ap (λ b. refs || is_some_of (references b)) is)
     (ap (λ b. nodes || is_some_of (node_ids (members_of b))) is) t
 
--- a body with neither
+-- a body with neither list changes nothing
 neither : (seen other : ListsSeen) (refs nodes : Bool) → other ≡ seen → Told seen refs nodes → Told other (refs || false) (nodes || false)
 neither seen other refs nodes same t = told_as seen other refs _ nodes _ same (sym (or-false refs)) (sym (or-false nodes)) t
 
-body_seen : (k : Kind) (s : Segment) (bytes : List ℕ) (x : Body × Segment) (refs nodes : Bool) → BodyStands k s bytes x →
+body_seen : (k : Kind) (s : Segment) (bytes : List ℕ) (x : Body × Segment) (refs nodes : Bool) → BodyInAll k s bytes x →
     Told s.seen refs nodes → ToldBy x.1.seen refs nodes x.0
 body_seen k s [] x refs nodes stands h =
     by_body s.seen x.1.seen refs nodes (Deleted k) x.0 (ap (λ z. z.1.seen) stands) (sym (ap (λ z. z.0) stands))
@@ -130,8 +130,8 @@ set_seen k s content x refs nodes spells h =
     let id = spells.id in
     let meta = spells.meta in
     let body = spells.body in
-    let behind = meta_end id.1 id.2 meta spells.meta_stands in
-    let before = told_as s.seen meta.1.seen refs refs nodes nodes (behind.seen_is ∙ ap (λ z. z.seen) spells.id_stands.3) refl refl h in
+    let behind = meta_end id.1 id.2 meta spells.meta_at_front in
+    let before = told_as s.seen meta.1.seen refs refs nodes nodes (behind.seen_is ∙ ap (λ z. z.seen) spells.id_at_front.3) refl refl h in
     by_body body.1.seen x.1.seen refs nodes (normal_body body.0) x.0.body (ap (λ z. z.1.seen) spells.made)
     (ap (λ z. z.0.body) (sym spells.made))
-    (same_lists body.1.seen refs nodes body.0 (body_seen k meta.1 meta.2 body refs nodes spells.body_stands before))
+    (same_lists body.1.seen refs nodes body.0 (body_seen k meta.1 meta.2 body refs nodes spells.body_at_front before))

@@ -22,8 +22,8 @@ use Rattle.o5_codec.specs.Table.{table_with, table_of}
 use Rattle.o5_codec.specs.Base.{moved_id}
 use Rattle.o5_codec.specs.Segment.{time_of, meta_of}
 use Rattle.o5_codec.specs.Body.{moved_member}
-use Rattle.o5_codec.specs.Spelling.{StringsStand, AuthorBehind, AuthorStands, MetaStands, TagStands, MemberStands, ItemsStand}
-use Rattle.o5_codec.specs.Spelling.{ReferenceStands, NodeStands, WayStands, RelationStands, BodyStands, SpellsSet}
+use Rattle.o5_codec.specs.Spelling.{StringsAtFront, AuthorAfterChangeset, AuthorAtFront, MetaAtFront, TagAtFront, MemberAtFront, ItemsInAll}
+use Rattle.o5_codec.specs.Spelling.{ReferenceAtFront, NodeInAll, WayInAll, RelationInAll, BodyInAll, SpellsSet}
 use Rattle.o5_codec.specs.Earlier.{last_from, changesets, longitudes, latitudes, references, members_of, node_id, way_id, relation_id}
 use Rattle.o5_codec.specs.Earlier.{node_ids, way_ids, relation_ids, inline_strings, inline_user, inline_author, inline_tag, inline_tags}
 use Rattle.o5_codec.specs.Earlier.{inline_member, inline_members, inline_body, inline_entries}
@@ -43,7 +43,7 @@ grows_then s middle end first second one more entries h =
     more (entries ++ first) (one entries h) ∙ ap table_of (append_assoc entries first second)
 
 strings_table : (form : Form) (table : List EntryStrings) (bytes : List ℕ) (x : EntryStrings × List EntryStrings × List ℕ)
-    (stands : StringsStand form table bytes x) (entries : List EntryStrings) →
+    (stands : StringsAtFront form table bytes x) (entries : List EntryStrings) →
     table ≡ table_of entries → x.1 ≡ table_of (entries ++ inline_strings form table bytes x stands)
 strings_table form table bytes x (inl inline) entries h = inline.3 ∙ ap (table_with x.0) h ∙ sym (table_more entries x.0)
 strings_table form table bytes x (inr reference) entries h = reference.3 ∙ h ∙ ap table_of (sym (append-nil entries))
@@ -75,7 +75,7 @@ record Behind (changeset : ℕ) (s : Segment) (x : Author × Segment × List ℕ
   seen_is : x.1.seen ≡ s.seen
   table_is : Grows s x.1 inline
 
-behind_end : (changeset : ℕ) (s : Segment) (bytes : List ℕ) (x : Author × Segment × List ℕ) (stands : AuthorBehind changeset s bytes x) →
+behind_end : (changeset : ℕ) (s : Segment) (bytes : List ℕ) (x : Author × Segment × List ℕ) (stands : AuthorAfterChangeset changeset s bytes x) →
     Behind changeset s x (inline_user changeset s bytes x stands)
 behind_end changeset s [] x stands = record {
   changeset_is = ap (λ z. z.0.changeset) stands;
@@ -99,7 +99,7 @@ pub record AfterMeta (s : Segment) (x : Meta × Segment × List ℕ) (inline : L
   pub table_is : Grows s x.1 inline
 
 meta_by_author : (s : Segment) (v : ℕ × List ℕ) (t : ℕ × Segment × List ℕ) (x : Meta × Segment × List ℕ) (a : Author × Segment × List ℕ) →
-    t.1 ≡ record s { bases = record s.bases { time = t.0 } } → (stands : AuthorStands t.0 t.1 t.2 a) → x ≡ (meta_of v.0 t.0 a.0, a.1, a.2) →
+    t.1 ≡ record s { bases = record s.bases { time = t.0 } } → (stands : AuthorAtFront t.0 t.1 t.2 a) → x ≡ (meta_of v.0 t.0 a.0, a.1, a.2) →
     AfterMeta s x (inline_author t.0 t.1 t.2 a stands)
 meta_by_author s v t x a timed (inl none) made =
     let same : x.1 ≡ t.1 = ap (λ z. z.1) made ∙ ap (λ z. z.1) none.1 in
@@ -127,7 +127,7 @@ meta_by_author s v t x a timed (inr some) made =
     }
 
 -- The metadata of a data set moves the bases and adds its inline entries.
-pub meta_end : (s : Segment) (bytes : List ℕ) (x : Meta × Segment × List ℕ) (stands : MetaStands s bytes x) →
+pub meta_end : (s : Segment) (bytes : List ℕ) (x : Meta × Segment × List ℕ) (stands : MetaAtFront s bytes x) →
     AfterMeta s x (inline_author stands.1.0 stands.1.1 stands.1.2 stands.2 stands.5)
 meta_end s bytes x stands = meta_by_author s stands.0 stands.1 x stands.2 stands.4.3 stands.5 stands.6
 
@@ -138,7 +138,7 @@ pub record Kept (s end : Segment) (inline : List EntryStrings) : Type 0 where
   pub seen_is : end.seen ≡ s.seen
   pub table_is : Grows s end inline
 
-tag_end : (s : Segment) (bytes : List ℕ) (x : Tag × Segment × List ℕ) (stands : TagStands s bytes x) →
+tag_end : (s : Segment) (bytes : List ℕ) (x : Tag × Segment × List ℕ) (stands : TagAtFront s bytes x) →
     Kept s x.1 (inline_tag s bytes x stands)
 tag_end s bytes x stands = record {
   bases_are = ap (λ z. z.bases) stands.4;
@@ -146,8 +146,8 @@ tag_end s bytes x stands = record {
   table_is = λ entries h. ap (λ z. z.table) stands.4 ∙ strings_table Pair s.table bytes (stands.0, stands.1, x.2) stands.2 entries h;
 }
 
--- Tags change the table only, by their inline entries.
-pub tags_end : (s : Segment) (bytes : List ℕ) (tags : List Tag) (end : Segment) (stands : ItemsStand TagStands s bytes tags end) →
+-- Tags change only the table, by their inline entries.
+pub tags_end : (s : Segment) (bytes : List ℕ) (tags : List Tag) (end : Segment) (stands : ItemsInAll TagAtFront s bytes tags end) →
     Kept s end (inline_tags s bytes tags end stands)
 tags_end s bytes [] end stands = record {
   bases_are = ap (λ z. z.bases) (sym stands.1);
@@ -169,8 +169,8 @@ pub record Referred (s end : Segment) (ids : List ℤ) : Type 0 where
   pub seen_is : end.seen ≡ s.seen
   pub table_is : end.table ≡ s.table
 
--- References move the base of references only.
-pub references_end : (s : Segment) (bytes : List ℕ) (ids : List ℤ) (end : Segment) → ItemsStand ReferenceStands s bytes ids end →
+-- References move only the base of references.
+pub references_end : (s : Segment) (bytes : List ℕ) (ids : List ℤ) (end : Segment) → ItemsInAll ReferenceAtFront s bytes ids end →
     Referred s end ids
 references_end s bytes [] end stands = record {
   bases_are = ap (λ z. z.bases) (sym stands.1);
@@ -195,7 +195,7 @@ member_bases b members = record b {
   relation_member = last_from b.relation_member (relation_ids members);
 }
 
--- the bases after a member of this kind and id
+-- the bases after a member of the kind `k` and the id `id`
 abbrev pub bases_with : Bases → Kind → ℤ → Bases
 bases_with b k id = record b {
   node_member = last_from b.node_member (node_id k id);
@@ -217,7 +217,7 @@ moved_bases b kind.Relation difference id h =
     let same : (f.0, record b { relation_member = f.0 }) ≡ id = same_value _ _ f.2 in
     ap (λ z. z.1) (sym same) ∙ ap (λ (n : ℤ). record b { relation_member = n }) (ap (λ z. z.0) same)
 
--- The last of two lists in sequence is the last of the second after the last of the first.
+-- The last value of two lists in sequence is the last of the second list, or of the first if the second is empty.
 pub last_append : {X : Type 0} (x : X) (xs ys : List X) → last_from x (xs ++ ys) ≡ last_from (last_from x xs) ys
 last_append x [] ys = refl
 last_append x (z ∷ xs) ys = last_append z xs ys
@@ -235,7 +235,7 @@ record Joined (s end : Segment) (members : List Member) (inline : List EntryStri
   bases_are : end.bases ≡ member_bases s.bases members
   table_is : Grows s end inline
 
-member_end : (s : Segment) (bytes : List ℕ) (x : Member × Segment × List ℕ) (stands : MemberStands s bytes x) →
+member_end : (s : Segment) (bytes : List ℕ) (x : Member × Segment × List ℕ) (stands : MemberAtFront s bytes x) →
     (x.1.bases ≡ bases_with s.bases x.0.kind x.0.id) × Grows s x.1 (inline_member s bytes x stands)
 member_end s bytes x (d, e, m, seen, id, ds, es, ms, sees, ids, role, kind_is, id_is, after) = (
   ap (λ z. z.bases) after ∙ moved_bases s.bases m.0 d.0 id ids ∙ (λ i. bases_with s.bases (sym kind_is i) (sym id_is i)),
@@ -243,7 +243,7 @@ member_end s bytes x (d, e, m, seen, id, ds, es, ms, sees, ids, role, kind_is, i
 )
 
 members_end : (s : Segment) (bytes : List ℕ) (members : List Member) (end : Segment)
-    (stands : ItemsStand MemberStands s bytes members end) →
+    (stands : ItemsInAll MemberAtFront s bytes members end) →
     Joined s end members (inline_members s bytes members end stands)
 members_end s bytes [] end stands = record {
   bases_are = ap (λ z. z.bases) (sym stands.1);
@@ -279,7 +279,7 @@ pub record AfterBody (s : Segment) (x : Body × Segment) (inline : List EntryStr
   pub bases_are : x.1.bases ≡ body_bases s.bases x.0
   pub table_is : Grows s x.1 inline
 
-node_end : (s : Segment) (bytes : List ℕ) (x : Body × Segment) (stands : NodeStands s bytes x) →
+node_end : (s : Segment) (bytes : List ℕ) (x : Body × Segment) (stands : NodeInAll s bytes x) →
     AfterBody s x (inline_tags stands.1.1 stands.1.2 stands.2 x.1 stands.5)
 node_end s bytes x (lon, lat, tags, lons, lats, tagged, made) =
     let behind = tags_end lat.1 lat.2 tags x.1 tagged in
@@ -290,7 +290,7 @@ node_end s bytes x (lon, lat, tags, lons, lats, tagged, made) =
       table_is = λ entries h. behind.table_is entries (ap (λ z. z.table) before ∙ h);
     }
 
-way_end : (s : Segment) (bytes : List ℕ) (x : Body × Segment) (stands : WayStands s bytes x) →
+way_end : (s : Segment) (bytes : List ℕ) (x : Body × Segment) (stands : WayInAll s bytes x) →
     AfterBody s x (inline_tags stands.2.1 stands.0.1 stands.3 x.1 stands.7)
 way_end s bytes x (section, seen, ids, tags, cut, list, referred, tagged, made) =
     let behind = tags_end ids.1 section.1 tags x.1 tagged in
@@ -300,7 +300,7 @@ way_end s bytes x (section, seen, ids, tags, cut, list, referred, tagged, made) 
       table_is = λ entries h. behind.table_is entries (before.table_is ∙ h);
     }
 
-relation_end : (s : Segment) (bytes : List ℕ) (x : Body × Segment) (stands : RelationStands s bytes x) →
+relation_end : (s : Segment) (bytes : List ℕ) (x : Body × Segment) (stands : RelationInAll s bytes x) →
     AfterBody s x (inline_members s stands.0.0 stands.1.0 stands.1.1 stands.4 ++ inline_tags stands.1.1 stands.0.1 stands.2 x.1 stands.5)
 relation_end s bytes x (section, members, tags, cut, joined, tagged, made) =
     let behind = tags_end members.1 section.1 tags x.1 tagged in
@@ -310,7 +310,7 @@ relation_end s bytes x (section, members, tags, cut, joined, tagged, made) =
       table_is = grows_then s members.1 x.1 _ _ before.table_is behind.table_is;
     }
 
-body_end : (k : Kind) (s : Segment) (bytes : List ℕ) (x : Body × Segment) (stands : BodyStands k s bytes x) →
+body_end : (k : Kind) (s : Segment) (bytes : List ℕ) (x : Body × Segment) (stands : BodyInAll k s bytes x) →
     AfterBody s x (inline_body k s bytes x stands)
 body_end k s [] x stands = record {
   bases_are = ap (λ z. z.1.bases) stands ∙ ap (body_bases s.bases) (sym (ap (λ z. z.0) stands));
@@ -331,9 +331,9 @@ set_bases k s content x spells =
     let id = spells.id in
     let meta = spells.meta in
     let body = spells.body in
-    let started : id.1.bases ≡ record s.bases { id = id.0 } = ap (λ z. z.bases) spells.id_stands.3 in
-    let behind = meta_end id.1 id.2 meta spells.meta_stands in
-    let last = body_end k meta.1 meta.2 body spells.body_stands in
+    let started : id.1.bases ≡ record s.bases { id = id.0 } = ap (λ z. z.bases) spells.id_at_front.3 in
+    let behind = meta_end id.1 id.2 meta spells.meta_at_front in
+    let last = body_end k meta.1 meta.2 body spells.body_at_front in
     ap (λ z. z.1.bases) spells.made ∙ last.bases_are
     ∙ ap (λ b. body_bases b body.0) (behind.bases_are ∙ ap (λ b. meta_bases b meta.0) started)
     ∙ same_bases _ body.0 ∙ ap (bases_after s.bases) (sym (ap (λ z. z.0) spells.made))
@@ -344,7 +344,7 @@ pub set_table : (k : Kind) (s : Segment) (content : List ℕ) (x : VersionData �
 set_table k s content x spells entries h =
     let id = spells.id in
     let meta = spells.meta in
-    let behind = meta_end id.1 id.2 meta spells.meta_stands in
-    let last = body_end k meta.1 meta.2 spells.body spells.body_stands in
-    let started : id.1.table ≡ table_of entries = ap (λ z. z.table) spells.id_stands.3 ∙ h in
+    let behind = meta_end id.1 id.2 meta spells.meta_at_front in
+    let last = body_end k meta.1 meta.2 spells.body spells.body_at_front in
+    let started : id.1.table ≡ table_of entries = ap (λ z. z.table) spells.id_at_front.3 ∙ h in
     ap (λ z. z.1.table) spells.made ∙ grows_then id.1 meta.1 spells.body.1 _ _ behind.table_is last.table_is entries started

@@ -13,7 +13,7 @@ agree true b there back = sym (there refl)
 agree false true there back = back refl
 agree false false there back = refl
 
--- the entry of these bytes, whose first string ends at `split`
+-- the entry whose two strings are together `bytes`, and whose first string ends at `split`
 abbrev pub cut : Form → ℕ → List ℕ → FormedEntry
 cut form split bytes = formed_entry form (take split bytes) (drop split bytes)
 
@@ -27,7 +27,7 @@ both_equal f g i xs ys form e =
     let second : bytes_eq (drop i xs) (drop i ys) ≡ true = (bytes_decides (drop i xs) (drop i ys)).1 (ap (drop i) e) in
     λ k. form k && (first k && second k)
 
--- if the forms and the splits are the same, the bytes decide
+-- entries with the same form and split are the same exactly if their bytes are equal
 pub same_bytes : (f g : Form) (i j : ℕ) (xs ys : List ℕ) → i ≡ j → same_form f g ≡ true →
     bytes_eq xs ys ≡ same_entry (cut f i xs) (cut g j ys)
 same_bytes f g i j xs ys place form =

@@ -20,13 +20,13 @@ same = decided same_entry same_entry_decides
 apart : (e f k : FormedEntry) → same_entry e f ≡ false → same_entry e k ≡ true → same_entry f k ≡ false
 apart e f k n y = same.symm f k ∙ sym (same.congr e k f y) ∙ n
 
--- the result of another entry after a change at e
+-- a change at the entry `e` leaves the value of another entry unchanged
 others_stay : {X : Type 0} (e f : FormedEntry) (old new : List (FormedEntry × X)) → KeepsOthers same_entry (λ k. same_entry e k) old new →
     same_entry e f ≡ false → lookup (λ k. same_entry f k) new ≡ lookup (λ k. same_entry f k) old
 unfolding KeepsOthers
 others_stay e f old new h n = h (λ k. same_entry f k) (λ x y. same.congr f x y) (λ k. apart e f k n)
 
--- A reference, if there is one, is at most a bound.
+-- A reference, if there is one, is from 1 to a bound.
 abbrev pub Within : ℕ → Option ℕ → Type 0
 Within k None = Unit {0}
 Within k (Some i) = (0 < i) × (i ≤ k)
@@ -146,7 +146,7 @@ stored_over m most next after table e number number' small h absent up changed =
     stored_one m (suc most) next after table e number number' (fewer m (suc most) most next table number h (omega (arith, h.few)))
     (omega (arith, h.few)) (omega (arith, h.few)) absent up changed
 
--- the item that a push to a ring of this capacity evicts
+-- the item that a push to a ring of the capacity `capacity` evicts
 abbrev pub gone_from : {X : Type 0} → ℕ → List X → X → Option X
 gone_from capacity xs x = if nat_lt (length xs) capacity then None else slice_get (xs ++ x ∷ []) 0
 
@@ -198,12 +198,12 @@ put_full m most next after capacity xs e last number number' number'' small full
           (subst (λ t. IsIndexed m (suc most) after t number') turned over) removed) (omega arith)))
     ]
 
--- the reference of a number that is below `next`, or isn't
+-- the reference of an entry whose number is below `next`
 pub found_low : (m most next n : ℕ) (r : Option ℕ) → Numbered m next r (Some n) → Within most r → most < m → n < next → r ≡ Some (next - n)
 found_low m most next n None h w small lt = absurd h
 found_low m most next n (Some i) h w small lt = ap (λ k. Some k) (elim h.1 [ inl a ↦ omega arith | inr b ↦ absurd (omega arith) ])
 
--- A number from the next one on was given before the count wrapped.
+-- The reference of an entry whose number isn't below `next`: the number was given before the count wrapped around.
 pub found_high : (m most next n : ℕ) (r : Option ℕ) → Numbered m next r (Some n) → Within most r → next ≤ n → r ≡ Some (next + m - n)
 found_high m most next n None h w le = absurd h
 found_high m most next n (Some i) h w le = ap (λ k. Some k) (elim h.1 [ inl a ↦ absurd (omega arith) | inr b ↦ omega arith ])
@@ -213,7 +213,7 @@ pub number_below : (m next n : ℕ) (r : Option ℕ) → Numbered m next r (Some
 number_below m next n None h = absurd h
 number_below m next n (Some i) h = h.0
 
--- if the number isn't below `next`, there are enough numbers up to m
+-- a number that isn't below `next` is at most `most` below `next + m`
 pub room_above : (m most next n : ℕ) (r : Option ℕ) → Numbered m next r (Some n) → Within most r → next ≤ n → next + m ≤ n + most
 room_above m most next n None h w le = absurd h
 room_above m most next n (Some i) h w le = elim h.1 [ inl a ↦ absurd (omega arith) | inr b ↦ omega arith ]
@@ -222,7 +222,7 @@ within_up : (k m : ℕ) (r : Option ℕ) → k ≤ m → Within k r → Within m
 within_up k m None le w = tt
 within_up k m (Some i) le w = (w.0, omega arith)
 
--- An entry that has a number is in the table, at the reference that goes with the number.
+-- An entry that has a number is in the table, at the reference that belongs to the number.
 pub found_in : (m most next : ℕ) (table : List FormedEntry) (number : FormedEntry → Option ℕ) (e : FormedEntry) (n : ℕ) →
     IsIndexed m most next table number → Some n ≡ number e →
     Numbered m next (reference_to e table) (Some n) × Within most (reference_to e table)
@@ -250,7 +250,7 @@ pub limit_is_small : table_limit < 2 ^ 64
 unfolding table_limit
 limit_is_small = omega arith
 
--- an entry of a table of distinct ones has the reference of its index
+-- an entry of a table without repeats has the reference that its index gives
 pub standing : (table : List FormedEntry) (i : ℕ) (e : FormedEntry) → AreDistinct table → slice_get table i ≡ Some e →
     reference_to e table ≡ Some (i + 1)
 standing [] i e distinct at = absurd (cc)

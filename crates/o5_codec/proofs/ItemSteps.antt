@@ -11,12 +11,12 @@ use Rattle.o5_codec.specs.Segment.{ReadStep}
 use Rattle.o5_codec.specs.Items.{items_up_to, items_at, and_one_more}
 
 module _ {X : Type 0} where
-  -- items after those that were read
+  -- a reading of items, with the items that were read before it in front
   abbrev pub behind : List X → Result (List X × Segment) O5Reason → Result (List X × Segment) O5Reason
   behind done (Ok x) = Ok (done ++ x.0, x.1)
   behind done (Err reason) = Err reason
 
-  -- these items were read, and these bytes are left
+  -- the items `done` were read from the front of `bytes`, and the bytes `rest` are left
   pub record HasItems (item_at : Segment → List ℕ → ReadStep X) (start : Segment) (bytes : List ℕ) (done : List X) (s : Segment)
       (rest : List ℕ) : Type 0 where
     pub room : length rest + length done ≤ length bytes
@@ -41,12 +41,12 @@ module _ {X : Type 0} (item_at : Segment → List ℕ → ReadStep X) where
         ∙ sym (behind_none (items_up_to item_at most s bytes)));
   }
 
-  -- No bytes are no items.
+  -- No bytes are read as no items.
   pub items_none : (s : Segment) (bytes : List ℕ) → bytes ≡ [] → items_at item_at s bytes ≡ Ok ([], s)
   unfolding items_at items_up_to
   items_none s bytes none = rw none refl
 
-  -- Where no bytes are left, the items that were read are all.
+  -- If no bytes are left, the items that were read are all items.
   pub items_end : (start : Segment) (bytes : List ℕ) (done : List X) (s : Segment) (rest : List ℕ) →
       HasItems item_at start bytes done s rest → rest ≡ [] → items_at item_at start bytes ≡ Ok (done, s)
   unfolding items_up_to
@@ -78,18 +78,18 @@ module _ {X : Type 0} (item_at : Segment → List ℕ → ReadStep X) where
       h.left (suc most) (omega (arith, h.room))
       ∙ ap (λ r. behind done (and_then r (λ y. and_then (items_up_to item_at most y.1 y.2) (λ more. Ok (y.0 ∷ more.0, more.1))))) is
 
-  -- Where an item can't be read, neither can the items.
-  pub items_wanting : (start : Segment) (bytes : List ℕ) (done : List X) (s : Segment) (rest : List ℕ) (reason : O5Reason) →
+  -- If an item can't be read, the list can't be read.
+  pub items_fail : (start : Segment) (bytes : List ℕ) (done : List X) (s : Segment) (rest : List ℕ) (reason : O5Reason) →
       HasItems item_at start bytes done s rest → (rest ≡ [] → ⊥) → (reason ≡ Memory) ⊎ (item_at s rest ≡ Err reason) →
       (reason ≡ Memory) ⊎ (items_at item_at start bytes ≡ Err reason)
-  items_wanting start bytes done s rest reason h some (inl memory) = inl memory
-  items_wanting start bytes done s rest reason h some (inr is) = inr (items_refused start bytes done s rest reason h some is)
+  items_fail start bytes done s rest reason h some (inl memory) = inl memory
+  items_fail start bytes done s rest reason h some (inr is) = inr (items_refused start bytes done s rest reason h some is)
 
   abbrev payload : {Y : Type 0} → Y → Result Y O5Reason → Y
   payload y (Ok x) = x
   payload y (Err reason) = y
 
-  -- the reading of a list with one more item
+  -- if a list with one more item is read, the item is read
   one_more : (done : List X) (reading : Result (X × Segment × List ℕ) O5Reason) (list : List X) (next : Segment) (after : List ℕ) →
       and_one_more done reading ≡ Ok (list, next, after) → (x : X) × (reading ≡ Ok (x, next, after)) × (done ++ x ∷ [] ≡ list)
   one_more done (Ok x) list next after e =
@@ -112,7 +112,7 @@ module _ {X : Type 0} (item_at : Segment → List ℕ → ReadStep X) where
       subst (λ (xs : List X). HasItems item_at start bytes xs next after) one.2
       (items_more start bytes done s rest one.0 next after h one.1 short)
 
-  -- Where an item can't be added, the items can't be read.
+  -- If an item can't be added, the list can't be read.
   pub items_not_added : (start : Segment) (bytes : List ℕ) (done : List X) (s : Segment) (rest : List ℕ) (reason : O5Reason) →
       HasItems item_at start bytes done s rest → (rest ≡ [] → ⊥) → (reason ≡ Memory) ⊎ (and_one_more done (item_at s rest) ≡ Err reason) →
       (reason ≡ Memory) ⊎ (items_at item_at start bytes ≡ Err reason)
@@ -120,7 +120,7 @@ module _ {X : Type 0} (item_at : Segment → List ℕ → ReadStep X) where
   items_not_added start bytes done s rest reason h some (inr is) =
       inr (items_refused start bytes done s rest reason h some (no_more done (item_at s rest) reason is))
 
--- consequences of the test of the loop
+-- A list whose length isn't 0 isn't empty.
 pub filled_by_test : {X : Type 0} (xs : List X) → false ≡ eqb (length xs) 0 → xs ≡ [] → ⊥
 filled_by_test [] test e = cc
 filled_by_test (x ∷ xs) test e = cc

@@ -58,7 +58,7 @@ take_twice (suc n) zero xs h = absurd (omega arith)
 take_twice (suc n) (suc m) [] h = refl
 take_twice (suc n) (suc m) (x ∷ xs) h = ap (λ ys. x ∷ ys) (take_twice n m xs (omega arith))
 
--- To cut a list before an item is added changes nothing once it is cut after it.
+-- A list that is cut after an item is added is the same, whether or not it was cut before.
 pub cons_twice : {X : Type 0} (n : ℕ) (x : X) (xs : List X) → take n (x ∷ take n xs) ≡ take n (x ∷ xs)
 cons_twice zero x xs = refl
 cons_twice (suc n) x xs = ap (λ ys. x ∷ ys) (take_twice n (suc n) xs (omega arith))

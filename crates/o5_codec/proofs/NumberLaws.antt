@@ -7,7 +7,7 @@ use Rattle.o5_codec.specs.declared.reason.O5Reason.{O5Reason}
 use Rattle.o5_codec.specs.declared.reason.O5Reason.TheVariants.{BadNumber}
 use Rattle.o5_codec.specs.Answer.{and_then}
 use Rattle.o5_codec.specs.Number.{groups_at, with_low, within_word, number_at, AreGroups, SpellsNumber, unsigned_of, signed_of, signed_at}
-use Rattle.o5_codec.specs.Spelling.{NumberStands, SignedStands}
+use Rattle.o5_codec.specs.Spelling.{NumberAtFront, SignedAtFront}
 use Rattle.o5_codec.proofs.SoundStrings.{first_ok, tested_ok}
 
 low_ok : (low : ℕ) (r : Result (ℕ × List ℕ) O5Reason) (x : ℕ × List ℕ) → with_low low r ≡ Ok x →
@@ -50,7 +50,7 @@ pub below : (n m : ℕ) → ltb n m ≡ true → n < m
 below n m h = grind (arith, nat_tests)
 
 -- A number that is read is spelled by the bytes before the rest.
-pub number_found : (bytes : List ℕ) (x : ℕ × List ℕ) → number_at bytes ≡ Ok x → NumberStands bytes x
+pub number_found : (bytes : List ℕ) (x : ℕ × List ℕ) → number_at bytes ≡ Ok x → NumberAtFront bytes x
 unfolding number_at
 number_found bytes x h =
     let f = first_ok (groups_at 10 bytes) within_word x h in
@@ -58,11 +58,11 @@ number_found bytes x h =
     let g = groups_found 10 bytes f.0 f.1 in
     let fits : f.0.0 < 2 ^ 64 = below f.0.0 (2 ^ 64) t.0 in
     let same : f.0 ≡ x = t.1 in
-    let P : ℕ × List ℕ → Type 0 = λ y. NumberStands bytes y in
+    let P : ℕ × List ℕ → Type 0 = λ y. NumberAtFront bytes y in
     subst P same (g.0, record { short = g.1; fits = fits; groups = g.2 }, g.3)
 
 -- A number that is spelled is read.
-pub number_only : (bytes : List ℕ) (x : ℕ × List ℕ) → NumberStands bytes x → number_at bytes ≡ Ok x
+pub number_only : (bytes : List ℕ) (x : ℕ × List ℕ) → NumberAtFront bytes x → number_at bytes ≡ Ok x
 unfolding number_at
 number_only bytes x s =
     ap (λ b. and_then (groups_at 10 b) within_word) s.2
@@ -72,8 +72,8 @@ nonempty : (front rest : List ℕ) (n : ℕ) → AreGroups front n → length re
 nonempty [] rest n g = absurd g
 nonempty (b ∷ front) rest n g = omega (arith, length-append front rest)
 
--- A number takes a byte at least.
-pub number_shorter : (bytes : List ℕ) (x : ℕ × List ℕ) → NumberStands bytes x → length x.1 < length bytes
+-- A number takes at least one byte.
+pub number_shorter : (bytes : List ℕ) (x : ℕ × List ℕ) → NumberAtFront bytes x → length x.1 < length bytes
 number_shorter bytes x s = rw s.2 (nonempty s.0 x.1 x.0 s.1.groups)
 
 unsigned_signed : (n : ℕ) → unsigned_of (signed_of n) ≡ n
@@ -89,23 +89,23 @@ signed_unsigned (negsuc n) = let odd : (2 * n + 1) % 2 ≡ 1 = omega arith in le
     rw (odd, half) refl
 
 -- A signed number that is read is spelled by the bytes before the rest.
-pub signed_found : (bytes : List ℕ) (x : ℤ × List ℕ) → signed_at bytes ≡ Ok x → SignedStands bytes x
+pub signed_found : (bytes : List ℕ) (x : ℤ × List ℕ) → signed_at bytes ≡ Ok x → SignedAtFront bytes x
 unfolding signed_at
 signed_found bytes x h =
     let f = first_ok (number_at bytes) _ x h in
     let same : (signed_of f.0.0, f.0.1) ≡ x = cc in
     let g = number_found bytes f.0 f.1 in
-    let P : ℤ × List ℕ → Type 0 = λ y. SignedStands bytes y in
+    let P : ℤ × List ℕ → Type 0 = λ y. SignedAtFront bytes y in
     let N : ℕ → Type 0 = λ n. SpellsNumber g.0 n in
     subst P same (g.0, subst N (sym (unsigned_signed f.0.0)) g.1, g.2)
 
 -- A signed number that is spelled is read.
-pub signed_only : (bytes : List ℕ) (x : ℤ × List ℕ) → SignedStands bytes x → signed_at bytes ≡ Ok x
+pub signed_only : (bytes : List ℕ) (x : ℤ × List ℕ) → SignedAtFront bytes x → signed_at bytes ≡ Ok x
 unfolding signed_at
 signed_only bytes x s =
     ap (λ r. and_then r (λ y. Ok (signed_of y.0, y.1))) (number_only bytes (unsigned_of x.0, x.1) s)
     ∙ ap (λ m. Ok (m, x.1)) (signed_unsigned x.0)
 
--- A signed number takes a byte at least.
-pub signed_shorter : (bytes : List ℕ) (x : ℤ × List ℕ) → SignedStands bytes x → length x.1 < length bytes
+-- A signed number takes at least one byte.
+pub signed_shorter : (bytes : List ℕ) (x : ℤ × List ℕ) → SignedAtFront bytes x → length x.1 < length bytes
 signed_shorter bytes x s = number_shorter bytes (unsigned_of x.0, x.1) s

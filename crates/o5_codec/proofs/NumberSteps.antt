@@ -66,7 +66,7 @@ unfolding groups_at
 groups_none zero = refl
 groups_none (suc room) = refl
 
--- A number that isn't ended is BadNumber.
+-- A number that isn't ended is refused as BadNumber.
 pub read_none : (bytes : List ℕ) (i value weight : ℕ) → Read bytes i value weight → i < 10 → i ≡ length bytes →
     number_at bytes ≡ Err BadNumber
 unfolding number_at
@@ -89,7 +89,7 @@ read_end bytes i value weight b r is small inside low fits =
     ∙ (let e : value + weight * b ≡ value + b * weight = omega arith in ap (λ n. Ok (n, rest)) e) in
     ap (λ r. and_then r within_word) read ∙ rw (lt-ltb (value + b * weight) (2 ^ 64) fits, take_rest bytes (i + 1)) refl
 
--- a number whose last group is read, as a sum that is written in any way
+-- the same as `read_end`, for a value that is any expression of the sum
 pub read_sum : (bytes : List ℕ) (i value weight b sum : ℕ) → Read bytes i value weight → b ≡ get_or bytes i 0 → i < 10 → i < length bytes →
     b < 128 → sum ≡ value + b * weight → sum < 2 ^ 64 →
     number_at bytes ≡ Ok (sum, take (length bytes - (i + 1)) (drop (i + 1) bytes))
@@ -97,7 +97,7 @@ read_sum bytes i value weight b sum r is small inside low same fits =
     read_end bytes i value weight b r is small inside low (omega arith)
     ∙ ap (λ n. Ok (n, take (length bytes - (i + 1)) (drop (i + 1) bytes))) (sym same)
 
--- a last group that doesn't fit, or one that isn't the last
+-- a tenth group that makes the number 2^64 or more, or that isn't the last, is refused as BadNumber
 over : (value weight b : ℕ) (rest : List ℕ) → 2 ^ 64 ≤ value + weight * b →
     and_then (scaled value weight (groups_at 1 (b ∷ rest))) within_word ≡ Err BadNumber
 unfolding groups_at
@@ -107,7 +107,7 @@ over value weight b rest h =
       | inr high ↦ rw (le-ltb b 128 high) refl
     ]
 
--- a tenth byte that is above 1
+-- a tenth byte above 1 is refused as BadNumber
 pub read_over : (bytes : List ℕ) (i value weight b : ℕ) → Read bytes i value weight → b ≡ get_or bytes i 0 → i ≡ 9 → i < length bytes →
     2 ≤ b → number_at bytes ≡ Err BadNumber
 unfolding number_at
@@ -119,7 +119,7 @@ read_over bytes i value weight b r is nine inside high =
     ∙ ap (λ x. scaled value weight (groups_at 1 (x ∷ drop (i + 1) bytes))) (sym is) in
     ap (λ r. and_then r within_word) left ∙ over value weight b (drop (i + 1) bytes) (rw p (omega arith))
 
--- Nine groups are nine groups, however they are counted.
+-- A count of groups that equals 9 can be replaced by 9.
 pub read_to_nine : (bytes : List ℕ) (i value weight : ℕ) → Read bytes i value weight → i ≡ 9 → Read bytes 9 value weight
 read_to_nine bytes i value weight r nine = let P : ℕ → Type 0 = λ n. Read bytes n value weight in subst P nine r
 

@@ -19,17 +19,17 @@ use Rattle.o5_codec.specs.Number.{groups_at, with_low, within_word, number_at, s
 use Rattle.o5_codec.specs.Base.{moved_id, moved_number, moved_coordinate}
 use Rattle.o5_codec.specs.StringPair.{split_at_end, string_at, inline_at, spelled_at, entry_or_fault, strings_of, table_after, strings_at}
 use Rattle.o5_codec.specs.Text.{text_of, tag_of, user_of}
-use Rattle.o5_codec.specs.Segment.{ReadStep, with_bases, id_at, nonzero_version, version_at, time_at, changeset_at, user_at, author, author_behind}
+use Rattle.o5_codec.specs.Segment.{ReadStep, with_bases, id_at, nonzero_version, version_at, time_at, changeset_at, user_at, author, author_after_changeset}
 use Rattle.o5_codec.specs.Segment.{author_at, meta_at}
 use Rattle.o5_codec.specs.Items.{items_up_to, items_at}
 use Rattle.o5_codec.specs.Body.{with_seen, tag_at, longitude_at, latitude_at, node_at, cut_at, section_at, with_section, reference_at}
 use Rattle.o5_codec.specs.Body.{way_at, kind_and_role, with_member, moved_member, member_at, relation_at, body_at, set_at}
-use Rattle.o5_codec.specs.Spelling.{NumberStands, SignedStands, InlineStands, StringsStand, IdStands, TimeStands, ChangesetStands}
-use Rattle.o5_codec.specs.Spelling.{LongitudeStands, LatitudeStands, ReferenceStands, VersionStands, MetaStands, TagStands, MemberStands}
-use Rattle.o5_codec.specs.Spelling.{SectionStands}
+use Rattle.o5_codec.specs.Spelling.{NumberAtFront, SignedAtFront, InlineAtFront, StringsAtFront, IdAtFront, TimeAtFront, ChangesetAtFront}
+use Rattle.o5_codec.specs.Spelling.{LongitudeAtFront, LatitudeAtFront, ReferenceAtFront, VersionAtFront, MetaAtFront, TagAtFront, MemberAtFront}
+use Rattle.o5_codec.specs.Spelling.{SectionAtFront}
 use Rattle.o5_codec.specs.Refusal.{Nothing, Then, NumberRefused, SignedRefused, InlineRefused, ReferenceMissing, StringsRefused}
-use Rattle.o5_codec.specs.Refusal.{MovedRefused, VersionRefused, UserRefused, BehindRefused, AuthorRefused, MetaRefused, TagRefused}
-use Rattle.o5_codec.specs.Refusal.{ReferenceRefused, MemberRefused, RefusedBehind, ItemsRefused, TagsRefused, NodeRefused, SectionRefused}
+use Rattle.o5_codec.specs.Refusal.{MovedRefused, VersionRefused, UserRefused, UserOrEndRefused, AuthorRefused, MetaRefused, TagRefused}
+use Rattle.o5_codec.specs.Refusal.{ReferenceRefused, MemberRefused, RefusedAfterItems, ItemsRefused, TagsRefused, NodeRefused, SectionRefused}
 use Rattle.o5_codec.specs.Refusal.{WayRefused, RelationRefused, BodyRefused, SetReason}
 use Rattle.o5_codec.proofs.AnswerSteps.{read_next, not_refused}
 use Rattle.o5_codec.proofs.NumberLaws.{number_found, number_only, signed_found, signed_only}
@@ -46,30 +46,30 @@ pub same_reason : {X : Type 0} (a b : O5Reason) → (let refused : Result X O5Re
 same_reason a b h = cc
 
 then_found : {X Y : Type 0} (reading : Result X O5Reason) (next : X → Result Y O5Reason) (reason : O5Reason) (first : Type 0)
-    (Stands later : X → Type 0) →
-    (reading ≡ Err reason → first) → ((x : X) → reading ≡ Ok x → Stands x) → ((x : X) → next x ≡ Err reason → later x) →
-    and_then reading next ≡ Err reason → Then first Stands later
-then_found (Ok x) next reason first Stands later refused found behind h = inr (x, found x refl, behind x h)
-then_found (Err f) next reason first Stands later refused found behind h = inl (refused (ap (λ e. Err e) (same_reason f reason h)))
+    (AtFront later : X → Type 0) →
+    (reading ≡ Err reason → first) → ((x : X) → reading ≡ Ok x → AtFront x) → ((x : X) → next x ≡ Err reason → later x) →
+    and_then reading next ≡ Err reason → Then first AtFront later
+then_found (Ok x) next reason first AtFront later refused found behind h = inr (x, found x refl, behind x h)
+then_found (Err f) next reason first AtFront later refused found behind h = inl (refused (ap (λ e. Err e) (same_reason f reason h)))
 
 then_only : {X Y : Type 0} (reading : Result X O5Reason) (next : X → Result Y O5Reason) (reason : O5Reason) (first : Type 0)
-    (Stands later : X → Type 0) →
-    (first → reading ≡ Err reason) → ((x : X) → Stands x → reading ≡ Ok x) → ((x : X) → later x → next x ≡ Err reason) →
-    Then first Stands later → and_then reading next ≡ Err reason
-then_only reading next reason first Stands later refused only behind (inl h) = ap (λ r. and_then r next) (refused h)
-then_only reading next reason first Stands later refused only behind (inr h) = read_next reading next h.0 (only h.0 h.1) ∙ behind h.0 h.2
+    (AtFront later : X → Type 0) →
+    (first → reading ≡ Err reason) → ((x : X) → AtFront x → reading ≡ Ok x) → ((x : X) → later x → next x ≡ Err reason) →
+    Then first AtFront later → and_then reading next ≡ Err reason
+then_only reading next reason first AtFront later refused only behind (inl h) = ap (λ r. and_then r next) (refused h)
+then_only reading next reason first AtFront later refused only behind (inr h) = read_next reading next h.0 (only h.0 h.1) ∙ behind h.0 h.2
 
--- one step, then those after it
+-- a reading in two steps is refused exactly if the first step is, or the first is spelled and the second is refused
 then_same : {X Y : Type 0} (reading : Result X O5Reason) (next : X → Result Y O5Reason) (reason : O5Reason) (first : Type 0)
-    (Stands later : X → Type 0) →
-    Same (reading ≡ Err reason) first → ((x : X) → Same (reading ≡ Ok x) (Stands x)) → ((x : X) → Same (next x ≡ Err reason) (later x)) →
-    Same (and_then reading next ≡ Err reason) (Then first Stands later)
-then_same reading next reason first Stands later refused stands behind = (
-  then_found reading next reason first Stands later refused.0 (λ x. (stands x).0) (λ x. (behind x).0),
-  then_only reading next reason first Stands later refused.1 (λ x. (stands x).1) (λ x. (behind x).1),
+    (AtFront later : X → Type 0) →
+    Same (reading ≡ Err reason) first → ((x : X) → Same (reading ≡ Ok x) (AtFront x)) → ((x : X) → Same (next x ≡ Err reason) (later x)) →
+    Same (and_then reading next ≡ Err reason) (Then first AtFront later)
+then_same reading next reason first AtFront later refused stands behind = (
+  then_found reading next reason first AtFront later refused.0 (λ x. (stands x).0) (λ x. (behind x).0),
+  then_only reading next reason first AtFront later refused.1 (λ x. (stands x).1) (λ x. (behind x).1),
 )
 
--- a last step only makes its value
+-- a last step that only makes a value adds no refusal
 last_same : {X Y : Type 0} (reading : Result X O5Reason) (value : X → Y) (reason : O5Reason) (first : Type 0) →
     Same (reading ≡ Err reason) first → Same (and_then reading (λ x. Ok (value x)) ≡ Err reason) first
 last_same (Ok x) value reason first refused = (λ h. cc, λ f. absurd (not_refused (Ok x) x reason refl (refused.1 f)))
@@ -78,12 +78,12 @@ last_same (Err f) value reason first refused = (
   λ g. ap (λ e. Err e) (same_reason f reason (refused.1 g)),
 )
 
--- a step with one reason is refused if nothing is spelled
-only_reason : {X : Type 0} (reading : Result X O5Reason) (only reason : O5Reason) (Stands : X → Type 0) →
+-- a step that has only one reason is refused exactly if the bytes spell nothing of its form
+only_reason : {X : Type 0} (reading : Result X O5Reason) (only reason : O5Reason) (AtFront : X → Type 0) →
     ((f : O5Reason) → reading ≡ Err f → f ≡ only) →
-    ((x : X) → Same (reading ≡ Ok x) (Stands x)) → Same (reading ≡ Err reason) ((reason ≡ only) × Nothing Stands)
-only_reason (Ok x) only reason Stands single stands = (λ h. cc, λ h. absurd (h.1 x ((stands x).0 refl)))
-only_reason (Err f) only reason Stands single stands =
+    ((x : X) → Same (reading ≡ Ok x) (AtFront x)) → Same (reading ≡ Err reason) ((reason ≡ only) × Nothing AtFront)
+only_reason (Ok x) only reason AtFront single stands = (λ h. cc, λ h. absurd (h.1 x ((stands x).0 refl)))
+only_reason (Err f) only reason AtFront single stands =
     (λ h. (single reason h, λ x s. not_refused (Err f) x f ((stands x).1 s) refl), λ h. ap (λ e. Err e) (single f refl ∙ sym h.0))
 
 low_reason : (low : ℕ) (r : Result (ℕ × List ℕ) O5Reason) (f : O5Reason) → with_low low r ≡ Err f → r ≡ Err f
@@ -115,21 +115,21 @@ number_reason : (bytes : List ℕ) (f : O5Reason) → number_at bytes ≡ Err f 
 unfolding number_at
 number_reason bytes f h = within_reason (groups_at 10 bytes) f (groups_reason 10 bytes) h
 
-number_same : (bytes : List ℕ) (x : ℕ × List ℕ) → Same (number_at bytes ≡ Ok x) (NumberStands bytes x)
+number_same : (bytes : List ℕ) (x : ℕ × List ℕ) → Same (number_at bytes ≡ Ok x) (NumberAtFront bytes x)
 number_same bytes x = (number_found bytes x, number_only bytes x)
 
 number_refused : (bytes : List ℕ) (reason : O5Reason) → Same (number_at bytes ≡ Err reason) (NumberRefused bytes reason)
-number_refused bytes reason = only_reason (number_at bytes) BadNumber reason (NumberStands bytes) (number_reason bytes) (number_same bytes)
+number_refused bytes reason = only_reason (number_at bytes) BadNumber reason (NumberAtFront bytes) (number_reason bytes) (number_same bytes)
 
 signed_reason : (bytes : List ℕ) (f : O5Reason) → signed_at bytes ≡ Err f → f ≡ BadNumber
 unfolding signed_at
 signed_reason bytes f h = value_reason (number_at bytes) _ f (number_reason bytes) h
 
-signed_same : (bytes : List ℕ) (x : ℤ × List ℕ) → Same (signed_at bytes ≡ Ok x) (SignedStands bytes x)
+signed_same : (bytes : List ℕ) (x : ℤ × List ℕ) → Same (signed_at bytes ≡ Ok x) (SignedAtFront bytes x)
 signed_same bytes x = (signed_found bytes x, signed_only bytes x)
 
 signed_refused : (bytes : List ℕ) (reason : O5Reason) → Same (signed_at bytes ≡ Err reason) (SignedRefused bytes reason)
-signed_refused bytes reason = only_reason (signed_at bytes) BadNumber reason (SignedStands bytes) (signed_reason bytes) (signed_same bytes)
+signed_refused bytes reason = only_reason (signed_at bytes) BadNumber reason (SignedAtFront bytes) (signed_reason bytes) (signed_same bytes)
 
 -- ---- strings
 ended_reason : (bytes : List ℕ) (place : Option ℕ) (f : O5Reason) → split_at_end bytes place ≡ Err f → f ≡ BadText
@@ -155,7 +155,7 @@ inline_reason Single bytes f h = value_reason (string_at bytes) _ f (string_reas
 inline_refused : (form : Form) (bytes : List ℕ) (reason : O5Reason) →
     Same (inline_at form bytes ≡ Err reason) (InlineRefused form bytes reason)
 inline_refused form bytes reason =
-    only_reason (inline_at form bytes) BadText reason (InlineStands form bytes) (inline_reason form bytes)
+    only_reason (inline_at form bytes) BadText reason (InlineAtFront form bytes) (inline_reason form bytes)
     (λ x. (inline_found form bytes x, inline_only form bytes x))
 
 abbrev with_table_and : List EntryStrings → List ℕ → EntryStrings → Result (EntryStrings × List EntryStrings × List ℕ) O5Reason
@@ -175,7 +175,7 @@ missing : (table : List EntryStrings) (rest : List ℕ) (o : Option EntryStrings
 missing table rest None reason = (λ h. (refl, sym (same_reason BadReference reason h)), λ h. ap (λ e. Err e) (sym h.1))
 missing table rest (Some e) reason = (λ h. cc, λ h. (let clash = h.0 in cc))
 
--- a value that is made between two steps
+-- a step that only makes a value can be joined with the next step
 joined : {X Y Z : Type 0} (r : Result X O5Reason) (value : X → Y) (next : Y → Result Z O5Reason) →
     and_then (and_then r (λ x. Ok (value x))) next ≡ and_then r (λ x. next (value x))
 joined (Ok x) value next = refl
@@ -215,40 +215,40 @@ strings_refused form table (b ∷ bytes) reason =
         λ s. inline_again form table bytes reason s r.1,
       ))
       | false ↦ (let r = then_same (number_at (b ∷ bytes)) (λ y. behind (Reference y.0, y.1)) reason (NumberRefused (b ∷ bytes) reason)
-          (NumberStands (b ∷ bytes)) (λ x. (entry_at table x.0 ≡ None) × (reason ≡ BadReference))
+          (NumberAtFront (b ∷ bytes)) (λ x. (entry_at table x.0 ≡ None) × (reason ≡ BadReference))
           (number_refused (b ∷ bytes) reason) (number_same (b ∷ bytes)) (λ x. missing table x.1 (entry_at table x.0) reason) in
           let same = joined (number_at (b ∷ bytes)) (λ y. (Reference y.0, y.1)) behind in
           (λ h. inr (refl, r.0 (sym same ∙ h)), λ s. reference_again table (b ∷ bytes) reason s (λ m. same ∙ r.1 m)))
     ]
 
 strings_same : (form : Form) (table : List EntryStrings) (bytes : List ℕ) (x : EntryStrings × List EntryStrings × List ℕ) →
-    Same (strings_at form table bytes ≡ Ok x) (StringsStand form table bytes x)
+    Same (strings_at form table bytes ≡ Ok x) (StringsAtFront form table bytes x)
 strings_same form table bytes x = (strings_found form table bytes x, strings_only form table bytes x)
 
 -- ---- steps
 moved_refused : {X : Type 0} (moved : ℤ → Result X O5Reason) (after : X → Segment) (bytes : List ℕ) (reason : O5Reason) →
     Same (and_then (signed_at bytes) (moved_on moved after) ≡ Err reason) (MovedRefused moved bytes reason)
 moved_refused moved after bytes reason =
-    then_same (signed_at bytes) (moved_on moved after) reason (SignedRefused bytes reason) (SignedStands bytes)
+    then_same (signed_at bytes) (moved_on moved after) reason (SignedRefused bytes reason) (SignedAtFront bytes)
     (λ x. moved x.0 ≡ Err reason)
     (signed_refused bytes reason) (signed_same bytes) (λ x. last_same (moved x.0) _ reason _ (λ h. h, λ h. h))
 
 version_refused : (bytes : List ℕ) (reason : O5Reason) → Same (version_at bytes ≡ Err reason) (VersionRefused bytes reason)
 unfolding version_at
 version_refused bytes reason =
-    then_same (number_at bytes) nonzero_version reason (NumberRefused bytes reason) (NumberStands bytes) (λ x. nonzero_version x ≡ Err reason)
+    then_same (number_at bytes) nonzero_version reason (NumberRefused bytes reason) (NumberAtFront bytes) (λ x. nonzero_version x ≡ Err reason)
     (number_refused bytes reason) (number_same bytes) (λ x. (λ h. h, λ h. h))
 
 user_refused : (s : Segment) (bytes : List ℕ) (reason : O5Reason) → Same (user_at s bytes ≡ Err reason) (UserRefused s bytes reason)
 unfolding user_at
 user_refused s bytes reason =
-    then_same (strings_at Pair s.table bytes) _ reason (StringsRefused Pair s.table bytes reason) (StringsStand Pair s.table bytes)
+    then_same (strings_at Pair s.table bytes) _ reason (StringsRefused Pair s.table bytes reason) (StringsAtFront Pair s.table bytes)
     (λ x. user_of x.0 ≡ Err reason)
     (strings_refused Pair s.table bytes reason) (strings_same Pair s.table bytes) (λ x. last_same (user_of x.0) _ reason _ (λ h. h, λ h. h))
 
 behind_refused : (changeset : ℕ) (s : Segment) (bytes : List ℕ) (reason : O5Reason) →
-    Same (author_behind (changeset, s, bytes) ≡ Err reason) (BehindRefused s bytes reason)
-unfolding author_behind
+    Same (author_after_changeset (changeset, s, bytes) ≡ Err reason) (UserOrEndRefused s bytes reason)
+unfolding author_after_changeset
 behind_refused changeset s [] reason = (λ h. cc, λ h. absurd h)
 behind_refused changeset s (b ∷ bytes) reason = last_same (user_at s (b ∷ bytes)) _ reason _ (user_refused s (b ∷ bytes) reason)
 
@@ -256,14 +256,14 @@ author_refused : (time : ℕ) (s : Segment) (bytes : List ℕ) (reason : O5Reaso
     Same (author_at time s bytes ≡ Err reason) (AuthorRefused time s bytes reason)
 unfolding author_at changeset_at
 author_refused time s bytes reason =
-    elim (eqb time 0) as (λ t. Same ((if t then Ok (author 0 0 [], s, bytes) else and_then (changeset_at s bytes) author_behind)
+    elim (eqb time 0) as (λ t. Same ((if t then Ok (author 0 0 [], s, bytes) else and_then (changeset_at s bytes) author_after_changeset)
     ≡ Err reason)
-    ((t ≡ false) × Then (MovedRefused (moved_number s.bases.changeset) bytes reason) (ChangesetStands s bytes)
-    (λ x. BehindRefused x.1 x.2 reason))) [
+    ((t ≡ false) × Then (MovedRefused (moved_number s.bases.changeset) bytes reason) (ChangesetAtFront s bytes)
+    (λ x. UserOrEndRefused x.1 x.2 reason))) [
       | true ↦ (λ h. cc, λ h. (let clash = h.0 in cc))
       | false ↦ (let after : ℕ → Segment = λ c. with_bases s (record s.bases { changeset = c }) in
-          let r = then_same (changeset_at s bytes) author_behind reason (MovedRefused (moved_number s.bases.changeset) bytes reason)
-          (ChangesetStands s bytes) (λ x. BehindRefused x.1 x.2 reason)
+          let r = then_same (changeset_at s bytes) author_after_changeset reason (MovedRefused (moved_number s.bases.changeset) bytes reason)
+          (ChangesetAtFront s bytes) (λ x. UserOrEndRefused x.1 x.2 reason)
           (moved_refused (moved_number s.bases.changeset) after bytes reason)
           (λ x. (moved_found (moved_number s.bases.changeset) after bytes x, moved_only (moved_number s.bases.changeset) after bytes x))
           (λ x. behind_refused x.0 x.1 x.2 reason) in
@@ -273,10 +273,10 @@ author_refused time s bytes reason =
 meta_refused : (s : Segment) (bytes : List ℕ) (reason : O5Reason) → Same (meta_at s bytes ≡ Err reason) (MetaRefused s bytes reason)
 unfolding meta_at time_at
 meta_refused s bytes reason =
-    then_same (version_at bytes) _ reason (VersionRefused bytes reason) (VersionStands bytes) _ (version_refused bytes reason)
+    then_same (version_at bytes) _ reason (VersionRefused bytes reason) (VersionAtFront bytes) _ (version_refused bytes reason)
     (λ v. (version_found bytes v, version_only bytes v)) (λ v.
     let after : ℕ → Segment = λ time. with_bases s (record s.bases { time = time }) in
-    then_same (time_at s v.1) _ reason (MovedRefused (moved_number s.bases.time) v.1 reason) (TimeStands s v.1) _
+    then_same (time_at s v.1) _ reason (MovedRefused (moved_number s.bases.time) v.1 reason) (TimeAtFront s v.1) _
     (moved_refused (moved_number s.bases.time) after v.1 reason)
     (λ t. (moved_found (moved_number s.bases.time) after v.1 t, moved_only (moved_number s.bases.time) after v.1 t)) (λ t.
     last_same (author_at t.0 t.1 t.2) _ reason _ (author_refused t.0 t.1 t.2 reason)))
@@ -285,7 +285,7 @@ meta_refused s bytes reason =
 tag_refused : (s : Segment) (bytes : List ℕ) (reason : O5Reason) → Same (tag_at s bytes ≡ Err reason) (TagRefused s bytes reason)
 unfolding tag_at
 tag_refused s bytes reason =
-    then_same (strings_at Pair s.table bytes) _ reason (StringsRefused Pair s.table bytes reason) (StringsStand Pair s.table bytes)
+    then_same (strings_at Pair s.table bytes) _ reason (StringsRefused Pair s.table bytes reason) (StringsAtFront Pair s.table bytes)
     (λ x. tag_of x.0 ≡ Err reason)
     (strings_refused Pair s.table bytes reason) (strings_same Pair s.table bytes) (λ x. last_same (tag_of x.0) _ reason _ (λ h. h, λ h. h))
 
@@ -298,24 +298,24 @@ reference_refused s bytes reason = moved_refused (moved_id s.bases.reference)
 member_refused : (s : Segment) (bytes : List ℕ) (reason : O5Reason) → Same (member_at s bytes ≡ Err reason) (MemberRefused s bytes reason)
 unfolding member_at
 member_refused s bytes reason =
-    then_same (signed_at bytes) _ reason (SignedRefused bytes reason) (SignedStands bytes) _ (signed_refused bytes reason)
+    then_same (signed_at bytes) _ reason (SignedRefused bytes reason) (SignedAtFront bytes) _ (signed_refused bytes reason)
     (signed_same bytes) (λ d.
-    then_same (strings_at Single s.table d.1) _ reason (StringsRefused Single s.table d.1 reason) (StringsStand Single s.table d.1) _
+    then_same (strings_at Single s.table d.1) _ reason (StringsRefused Single s.table d.1 reason) (StringsAtFront Single s.table d.1) _
     (strings_refused Single s.table d.1 reason) (strings_same Single s.table d.1) (λ x.
     then_same (kind_and_role x.0.first) _ reason _ _ _ (λ h. h, λ h. h) (λ m. (λ h. h, λ h. h)) (λ m.
     then_same (with_member s.seen m.0) _ reason _ _ _ (λ h. h, λ h. h) (λ seen. (λ h. h, λ h. h)) (λ seen.
     then_same (moved_member s.bases m.0 d.0) _ reason _ _ _ (λ h. h, λ h. h) (λ id. (λ h. h, λ h. h)) (λ id.
     last_same (text_of m.1) _ reason _ (λ h. h, λ h. h))))))
 
-module _ {X : Type 0} (item_at : Segment → List ℕ → ReadStep X) (Stands : Segment → List ℕ → X × Segment × List ℕ → Type 0)
+module _ {X : Type 0} (item_at : Segment → List ℕ → ReadStep X) (AtFront : Segment → List ℕ → X × Segment × List ℕ → Type 0)
     (Refused : Segment → List ℕ → O5Reason → Type 0)
-    (found : (s : Segment) (bytes : List ℕ) (x : X × Segment × List ℕ) → item_at s bytes ≡ Ok x → Stands s bytes x)
-    (only : (s : Segment) (bytes : List ℕ) (x : X × Segment × List ℕ) → Stands s bytes x →
+    (found : (s : Segment) (bytes : List ℕ) (x : X × Segment × List ℕ) → item_at s bytes ≡ Ok x → AtFront s bytes x)
+    (only : (s : Segment) (bytes : List ℕ) (x : X × Segment × List ℕ) → AtFront s bytes x →
     (item_at s bytes ≡ Ok x) × (length x.2 < length bytes))
     (refused : (s : Segment) (bytes : List ℕ) (reason : O5Reason) → Same (item_at s bytes ≡ Err reason) (Refused s bytes reason))
     (reason : O5Reason) where
   up_to_refused : (most : ℕ) (s : Segment) (bytes : List ℕ) → length bytes ≤ most → items_up_to item_at most s bytes ≡ Err reason →
-      ItemsRefused Stands Refused s bytes reason
+      ItemsRefused AtFront Refused s bytes reason
   unfolding items_up_to
   up_to_refused most s [] room h = cc
   up_to_refused zero s (b ∷ bytes) room h = absurd (omega arith)
@@ -335,7 +335,7 @@ module _ {X : Type 0} (item_at : Segment → List ℕ → ReadStep X) (Stands : 
       ]
 
   up_to_again : (xs : List X) (most : ℕ) (s : Segment) (bytes : List ℕ) → length bytes ≤ most →
-      RefusedBehind Stands Refused reason xs s bytes → items_up_to item_at most s bytes ≡ Err reason
+      RefusedAfterItems AtFront Refused reason xs s bytes → items_up_to item_at most s bytes ≡ Err reason
   unfolding items_up_to
   up_to_again [] most s [] room h = absurd (h.1 refl)
   up_to_again [] zero s (b ∷ bytes) room h = absurd (omega arith)
@@ -350,7 +350,7 @@ module _ {X : Type 0} (item_at : Segment → List ℕ → ReadStep X) (Stands : 
       read_next (item_at s (b ∷ bytes)) _ _ one.0 ∙ ap (λ r. and_then r (λ more. Ok (x ∷ more.0, more.1)))
       (up_to_again xs most h.0 h.1 (omega arith) h.3)
 
-  items_refused : (s : Segment) (bytes : List ℕ) → Same (items_at item_at s bytes ≡ Err reason) (ItemsRefused Stands Refused s bytes reason)
+  items_refused : (s : Segment) (bytes : List ℕ) → Same (items_at item_at s bytes ≡ Err reason) (ItemsRefused AtFront Refused s bytes reason)
   unfolding items_at
   items_refused s bytes = (
     up_to_refused (length bytes) s bytes (omega arith),
@@ -358,7 +358,7 @@ module _ {X : Type 0} (item_at : Segment → List ℕ → ReadStep X) (Stands : 
   )
 
 tags_refused : (s : Segment) (bytes : List ℕ) (reason : O5Reason) → Same (items_at tag_at s bytes ≡ Err reason) (TagsRefused s bytes reason)
-tags_refused s bytes reason = items_refused tag_at TagStands TagRefused tag_found tag_only tag_refused reason s bytes
+tags_refused s bytes reason = items_refused tag_at TagAtFront TagRefused tag_found tag_only tag_refused reason s bytes
 
 -- ---- bodies
 abbrev cut_by : Bool → ℕ × List ℕ → Result (List ℕ × List ℕ) O5Reason
@@ -375,22 +375,22 @@ cut_refused x reason =
 section_refused : (bytes : List ℕ) (reason : O5Reason) → Same (section_at bytes ≡ Err reason) (SectionRefused bytes reason)
 unfolding section_at
 section_refused bytes reason =
-    then_same (number_at bytes) cut_at reason (NumberRefused bytes reason) (NumberStands bytes)
+    then_same (number_at bytes) cut_at reason (NumberRefused bytes reason) (NumberAtFront bytes)
     (λ x. (length x.1 < x.0) × (reason ≡ BadSection))
     (number_refused bytes reason) (number_same bytes) (λ x. cut_refused x reason)
 
-section_same : (bytes : List ℕ) (x : List ℕ × List ℕ) → Same (section_at bytes ≡ Ok x) (SectionStands bytes x)
+section_same : (bytes : List ℕ) (x : List ℕ × List ℕ) → Same (section_at bytes ≡ Ok x) (SectionAtFront bytes x)
 section_same bytes x = (section_found bytes x, section_only bytes x)
 
 node_refused : (s : Segment) (bytes : List ℕ) (reason : O5Reason) → Same (node_at s bytes ≡ Err reason) (NodeRefused s bytes reason)
 unfolding node_at longitude_at latitude_at
 node_refused s bytes reason =
     let after : ℤ → Segment = λ v. with_bases s (record s.bases { lon = v }) in
-    then_same (longitude_at s bytes) _ reason _ (LongitudeStands s bytes) _
+    then_same (longitude_at s bytes) _ reason _ (LongitudeAtFront s bytes) _
     (moved_refused (moved_coordinate s.bases.lon) after bytes reason)
     (λ x. (moved_found (moved_coordinate s.bases.lon) after bytes x, moved_only (moved_coordinate s.bases.lon) after bytes x)) (λ lon.
     let behind : ℤ → Segment = λ v. with_bases lon.1 (record lon.1.bases { lat = v }) in
-    then_same (latitude_at lon.1 lon.2) _ reason _ (LatitudeStands lon.1 lon.2) _
+    then_same (latitude_at lon.1 lon.2) _ reason _ (LatitudeAtFront lon.1 lon.2) _
     (moved_refused (moved_coordinate lon.1.bases.lat) behind lon.2 reason)
     (λ x. (moved_found (moved_coordinate lon.1.bases.lat) behind lon.2 x, moved_only (moved_coordinate lon.1.bases.lat) behind lon.2 x))
     (λ lat.
@@ -399,15 +399,15 @@ node_refused s bytes reason =
 way_refused : (s : Segment) (bytes : List ℕ) (reason : O5Reason) → Same (way_at s bytes ≡ Err reason) (WayRefused s bytes reason)
 unfolding way_at
 way_refused s bytes reason =
-    then_same (section_at bytes) _ reason (SectionRefused bytes reason) (SectionStands bytes) _ (section_refused bytes reason)
+    then_same (section_at bytes) _ reason (SectionRefused bytes reason) (SectionAtFront bytes) _ (section_refused bytes reason)
     (section_same bytes) (λ section.
     then_same (with_section s.seen section.0) _ reason _ _ _ (λ h. h, λ h. h) (λ seen. (λ h. h, λ h. h)) (λ seen.
     then_same (items_at reference_at (with_seen s seen) section.0) _ reason _ _ _
-    (items_refused reference_at ReferenceStands ReferenceRefused reference_found reference_only reference_refused reason
+    (items_refused reference_at ReferenceAtFront ReferenceRefused reference_found reference_only reference_refused reason
     (with_seen s seen) section.0)
     (λ ids. (
-      items_found reference_at ReferenceStands reference_found (with_seen s seen) section.0 ids,
-      items_only reference_at ReferenceStands reference_only (with_seen s seen) section.0 ids.0 ids.1,
+      items_found reference_at ReferenceAtFront reference_found (with_seen s seen) section.0 ids,
+      items_only reference_at ReferenceAtFront reference_only (with_seen s seen) section.0 ids.0 ids.1,
     )) (λ ids.
     last_same (items_at tag_at ids.1 section.1) _ reason _ (tags_refused ids.1 section.1 reason))))
 
@@ -415,13 +415,13 @@ relation_refused : (s : Segment) (bytes : List ℕ) (reason : O5Reason) →
     Same (relation_at s bytes ≡ Err reason) (RelationRefused s bytes reason)
 unfolding relation_at
 relation_refused s bytes reason =
-    then_same (section_at bytes) _ reason (SectionRefused bytes reason) (SectionStands bytes) _ (section_refused bytes reason)
+    then_same (section_at bytes) _ reason (SectionRefused bytes reason) (SectionAtFront bytes) _ (section_refused bytes reason)
     (section_same bytes) (λ section.
     then_same (items_at member_at s section.0) _ reason _ _ _
-    (items_refused member_at MemberStands MemberRefused member_found member_only member_refused reason s section.0)
+    (items_refused member_at MemberAtFront MemberRefused member_found member_only member_refused reason s section.0)
     (λ members. (
-      items_found member_at MemberStands member_found s section.0 members,
-      items_only member_at MemberStands member_only s section.0 members.0 members.1,
+      items_found member_at MemberAtFront member_found s section.0 members,
+      items_only member_at MemberAtFront member_only s section.0 members.0 members.1,
     )) (λ members.
     last_same (items_at tag_at members.1 section.1) _ reason _ (tags_refused members.1 section.1 reason)))
 
@@ -439,8 +439,8 @@ pub set_refused : (k : Kind) (s : Segment) (content : List ℕ) (reason : O5Reas
 unfolding set_at id_at
 set_refused k s content reason =
     let after : ℤ → Segment = λ v. with_bases s (record s.bases { id = v }) in
-    then_same (id_at s content) _ reason _ (IdStands s content) _ (moved_refused (moved_id s.bases.id) after content reason)
+    then_same (id_at s content) _ reason _ (IdAtFront s content) _ (moved_refused (moved_id s.bases.id) after content reason)
     (λ x. (moved_found (moved_id s.bases.id) after content x, moved_only (moved_id s.bases.id) after content x)) (λ id.
-    then_same (meta_at id.1 id.2) _ reason (MetaRefused id.1 id.2 reason) (MetaStands id.1 id.2) _ (meta_refused id.1 id.2 reason)
+    then_same (meta_at id.1 id.2) _ reason (MetaRefused id.1 id.2 reason) (MetaAtFront id.1 id.2) _ (meta_refused id.1 id.2 reason)
     (λ m. (meta_found id.1 id.2 m, meta_only id.1 id.2 m)) (λ m.
     last_same (body_at k m.1 m.2) _ reason _ (body_refused k m.1 m.2 reason)))

@@ -1,4 +1,4 @@
--- A content is refused for a reason of its steps: never for lack of memory, an earlier refusal or the end of a file.
+-- A content is refused for a reason of its steps: never for out of memory, an earlier refusal or the end of a file.
 use Rattle.std.proofs.Common.{◌≡◌, ℕ, ℤ, pos, negsuc, zero, suc, ◌-◌, ◌^◌, Bool, true, eqb, leb, ltb, List, [], ◌∷◌, length, take, drop}
 use Rattle.std.proofs.Common.{Option, Some, None, refl, Result, Ok, Err, if◌then◌else◌}
 use Rattle.std.specs.Prelude.{unsigned_abs, position}
@@ -26,12 +26,12 @@ use Rattle.o5_codec.specs.Number.{with_low, groups_at, within_word, number_at, s
 use Rattle.o5_codec.specs.Base.{moved_id, within_range, number_within, moved_number, moved_coordinate}
 use Rattle.o5_codec.specs.StringPair.{is_zero, split_at_end, string_at, inline_at, spelled_at, entry_or_fault, strings_of, strings_at}
 use Rattle.o5_codec.specs.Text.{text_of, tag_of, whole_number, uid_of, user_of}
-use Rattle.o5_codec.specs.Segment.{ReadStep, id_at, nonzero_version, version_at, time_at, changeset_at, user_at, author_behind, author_at, meta_at}
+use Rattle.o5_codec.specs.Segment.{ReadStep, id_at, nonzero_version, version_at, time_at, changeset_at, user_at, author_after_changeset, author_at, meta_at}
 use Rattle.o5_codec.specs.Items.{items_up_to, items_at}
 use Rattle.o5_codec.specs.Body.{with_seen, tag_at, longitude_at, latitude_at, node_at, cut_at, section_at, with_section, reference_at}
 use Rattle.o5_codec.specs.Body.{way_at, member_kind, kind_and_role, with_member, moved_member, member_at, relation_at, body_at, set_at}
 
--- if it is refused, the reason is one of the steps
+-- if a reading is refused, the reason is that of a step
 abbrev pub Named : {X : Type 0} → Result X O5Reason → Type 0
 Named (Ok x) = Unit {0}
 Named (Err reason) = is_step_reason reason ≡ true
@@ -173,15 +173,15 @@ unfolding user_at
 user_named s bytes = named_then (strings_at Pair s.table bytes) _ (strings_named Pair s.table bytes)
     (λ x. named_last (user_of x.0) _ (user_of_named x.0))
 
-behind_named : (x : ℕ × Segment × List ℕ) → Named (author_behind x)
-unfolding author_behind
+behind_named : (x : ℕ × Segment × List ℕ) → Named (author_after_changeset x)
+unfolding author_after_changeset
 behind_named (changeset, s, []) = tt
 behind_named (changeset, s, b ∷ bytes) = named_last (user_at s (b ∷ bytes)) _ (user_named s (b ∷ bytes))
 
 author_named : (time : ℕ) (s : Segment) (bytes : List ℕ) → Named (author_at time s bytes)
 unfolding author_at
-author_named time s bytes = named_if (eqb time 0) _ (and_then (changeset_at s bytes) author_behind) tt
-    (named_then (changeset_at s bytes) author_behind (changeset_named s bytes) behind_named)
+author_named time s bytes = named_if (eqb time 0) _ (and_then (changeset_at s bytes) author_after_changeset) tt
+    (named_then (changeset_at s bytes) author_after_changeset (changeset_named s bytes) behind_named)
 
 meta_named : (s : Segment) (bytes : List ℕ) → Named (meta_at s bytes)
 unfolding meta_at

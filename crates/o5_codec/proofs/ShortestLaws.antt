@@ -1,4 +1,4 @@
--- No fewer bytes than those that are written spell a number.
+-- No bytes that spell a number are fewer than those that are written for it.
 use Rattle.std.proofs.Common.{◌≡◌, ℕ, zero, suc, ◌+◌, ◌*◌, ◌/◌, ◌<◌, ◌≤◌, List, [], ◌∷◌, length, refl, arith, inl, inr, subst}
 use Rattle.std.specs.List.{All}
 use Rattle.std.proofs.lemmas.Bool.{le-ltb, lt-ltb, cases_lt}
@@ -38,7 +38,7 @@ groups_least (suc more) n (b ∷ c ∷ bytes) bound groups = elim (cases_lt n 12
       let both = more_groups more n big in omega arith)
 ]
 
--- No fewer bytes than those that are written spell a number.
+-- No bytes that spell a number are fewer than those that are written for it.
 pub numbers_shortest : WrittenNumbersAreShortest
 unfolding shortest_number
 numbers_shortest n small = (shortest_spells n small, λ bytes bound spells. groups_least 9 n bytes bound spells.groups)

@@ -175,7 +175,7 @@ body_range kind.Node s (b ∷ bytes) x h = node_range s (b ∷ bytes) x h
 body_range kind.Way s (b ∷ bytes) x h = way_range s (b ∷ bytes) x h
 body_range kind.Relation s (b ∷ bytes) x h = relation_range s (b ∷ bytes) x h
 
--- a data set spells a version
+-- a version that is read in a sound segment is within its ranges, and the segment after it is sound
 pub set_version : (k : Kind) (s : Segment) (content : List ℕ) (x : VersionData × Segment) → is_sound s ≡ true → set_at k s content ≡ Ok x →
     IsVersion x.0 × (is_sound x.1 ≡ true)
 unfolding set_at
@@ -188,7 +188,7 @@ set_version k s content x sound h =
     let faultless = set_faultless k s content id.0 meta.0 body.0 sound id.1 meta.1 body.1 in
     subst P same (valid_version id.0.0 meta.0.0 body.0.0 faultless.0 (body_range k meta.0.1 meta.0.2 body.0 body.1), faultless.1)
 
--- What data sets in a sound segment spell are versions, and the segment after them is sound.
+-- Versions that are read in sequence in a sound segment are within their ranges, and the segment after them is sound.
 pub sets_versions : (s : Segment) (sets : List (Kind × List ℕ)) (x : List VersionData × Segment) → is_sound s ≡ true →
     sets_at s sets ≡ Ok x → All IsVersion x.0 × (is_sound x.1 ≡ true)
 sets_versions s [] x sound h =

@@ -27,7 +27,7 @@ use Rattle.o5_codec.specs.Base.{moved_id, within_range, number_within, moved_num
 use Rattle.o5_codec.specs.StringPair.{strings_at}
 use Rattle.o5_codec.specs.Text.{text_of, tag_of, whole_number, uid_of, user_of}
 use Rattle.o5_codec.specs.Segment.{ReadStep, with_bases, with_table, id_at, nonzero_version, version_at, time_at, changeset_at, user_at, author}
-use Rattle.o5_codec.specs.Segment.{author_behind, author_at, time_of, meta_of, meta_at}
+use Rattle.o5_codec.specs.Segment.{author_after_changeset, author_at, time_of, meta_of, meta_at}
 use Rattle.o5_codec.specs.Items.{items_up_to, items_at}
 use Rattle.o5_codec.specs.Body.{tag_at, kind_and_role, moved_member, with_member, member_at, reference_at, longitude_at, latitude_at}
 use Rattle.o5_codec.specs.Sound.{has_no_zero, is_entry, is_sound}
@@ -158,9 +158,9 @@ abbrev is_author : Author → Bool
 is_author a = is_number a.changeset && (is_number a.uid && is_text a.user)
 
 behind_ok : (x : ℕ × Segment × List ℕ) (y : Author × Segment × List ℕ) → is_number x.0 ≡ true → is_sound x.1 ≡ true →
-    author_behind x ≡ Ok y →
+    author_after_changeset x ≡ Ok y →
     (is_author y.0 ≡ true) × (is_sound y.1 ≡ true)
-unfolding author_behind
+unfolding author_after_changeset
 behind_ok (changeset, s, []) y number sound h =
     let same : (author changeset 0 [], s, []) ≡ y = cc in
     (ap (λ z. is_author z.0) (sym same) ∙ and_true _ _ number refl, ap (λ z. is_sound z.1) (sym same) ∙ sound)
@@ -200,13 +200,13 @@ meta_ok s bytes x sound h =
     let time = time_ok s v.0.1 t.0 sound t.1 in
     let same : (meta_of v.0.0 t.0.0 a.0.0, a.0.1, a.0.2) ≡ x = cc in
     elim (eqb t.0.0 0) as (λ b. eqb t.0.0 0 ≡ b → (if b then Ok (author 0 0 [], t.0.1, t.0.2)
-    else and_then (changeset_at t.0.1 t.0.2) author_behind) ≡ Ok a.0 →
+    else and_then (changeset_at t.0.1 t.0.2) author_after_changeset) ≡ Ok a.0 →
     (is_meta x.0 ≡ true) × (is_sound x.1 ≡ true)) [
       | true ↦ λ none is. (let made : (author 0 0 [], t.0.1, t.0.2) ≡ a.0 = cc in (
         ap (λ y. is_meta y.0) (sym same) ∙ ap (λ y. is_meta (meta_of v.0.0 t.0.0 y.0)) (sym made) ∙ untimed_ok v.0.0 t.0.0 version none,
         ap (λ y. is_sound y.1) (sym same) ∙ ap (λ y. is_sound y.1) (sym made) ∙ time.1,
       ))
-      | false ↦ λ some is. (let c = first_ok (changeset_at t.0.1 t.0.2) author_behind a.0 is in
+      | false ↦ λ some is. (let c = first_ok (changeset_at t.0.1 t.0.2) author_after_changeset a.0 is in
           let changeset = changeset_ok t.0.1 t.0.2 c.0 time.1 c.1 in
           let made = behind_ok c.0 a.0 changeset.0 changeset.1 c.2 in (
             ap (λ y. is_meta y.0) (sym same) ∙ timed_ok v.0.0 t.0.0 a.0.0 version time.0 some made.0,

@@ -1,4 +1,4 @@
--- Strings have no zero byte, so that texts of them have no character U+0000.
+-- Strings have no zero byte, so their texts have no character U+0000.
 use Rattle.std.proofs.Common.{◌≡◌, ℕ, zero, suc, ◌+◌, Bool, true, false, not, eqb, ltb, cond, ◌&&◌, List, [], ◌∷◌, length, take, drop, refl}
 use Rattle.std.proofs.Common.{ap, sym, ◌∙◌, arith, Result, Ok, Err, Option, Some, None, if◌then◌else◌}
 use Rattle.std.specs.List.{list_all, list_any, prefix_len, slice_get}
@@ -20,7 +20,7 @@ use Rattle.o5_codec.specs.StringPair.{split_at_end, string_at, entry_of, inline_
 use Rattle.o5_codec.specs.Text.{text_of}
 use Rattle.o5_codec.specs.Sound.{has_no_zero, is_entry}
 
--- a second reading that succeeds follows a first one that does
+-- if two readings in sequence succeed, each of the two does
 pub first_ok : {X Y : Type 0} (reading : Result X O5Reason) (next : X → Result Y O5Reason) (y : Y) → and_then reading next ≡ Ok y →
     (x : X) × (reading ≡ Ok x) × (next x ≡ Ok y)
 first_ok (Ok x) next y h = (x, refl, h)
@@ -33,13 +33,13 @@ value_read X = Result X O5Reason
 pub same_value : {X : Type 0} (x y : X) → (let read : value_read X = Ok x in read ≡ Ok y) → x ≡ y
 same_value x y h = cc
 
--- a reading under a test
+-- if a reading that depends on a test succeeds, the test is true
 pub tested_ok : {X : Type 0} (test : Bool) (x y : X) (reason : O5Reason) → (if test then Ok x else Err reason) ≡ Ok y →
     (test ≡ true) × (x ≡ y)
 tested_ok true x y reason h = (refl, cc)
 tested_ok false x y reason h = cc
 
--- Where a conjunction is true, both parts are.
+-- If a conjunction is true, both parts are.
 pub both_true : (a b : Bool) → a && b ≡ true → (a ≡ true) × (b ≡ true)
 both_true true b h = (refl, h)
 both_true false b h = cc
@@ -48,7 +48,7 @@ both_true false b h = cc
 pub and_true : (a b : Bool) → a ≡ true → b ≡ true → a && b ≡ true
 and_true a b h g = rw (h, g) refl
 
--- the elements before the first that fails
+-- the elements before the first one that fails a test pass it
 prefix_passes : {X : Type 0} (p : X → Bool) (xs : List X) → list_all p (take (prefix_len p xs) xs) ≡ true
 prefix_passes p [] = refl
 prefix_passes p (x ∷ xs) =
@@ -92,7 +92,7 @@ inline_ok Single bytes x h =
     let same : (entry_of f.0.0 [], f.0.1) ≡ x = cc in
     ap (λ y. is_entry y.0) (sym same) ∙ and_true _ _ (string_ok bytes f.0 f.1) refl
 
--- a string spelled inline has no zero byte
+-- whether strings that are spelled inline have no zero byte
 abbrev pub is_spelled : StringRef → Bool
 is_spelled (Inline e) = is_entry e
 is_spelled (Reference n) = true
@@ -124,7 +124,7 @@ table_after_ok : (x : StringRef) (table : List EntryStrings) → is_spelled x �
 table_after_ok (Inline e) table h g = stored_ok e table h g
 table_after_ok (Reference n) table h g = g
 
--- An entry that is returned is there.
+-- An entry that is returned was found.
 pub referred_ok : (o : Option EntryStrings) (e : EntryStrings) → entry_or_fault o ≡ Ok e → o ≡ Some e
 referred_ok None e h = cc
 referred_ok (Some f) e h = let same : f ≡ e = cc in ap (λ y. Some y) same
@@ -138,7 +138,7 @@ strings_of_ok : (table : List EntryStrings) (x : StringRef) (e : EntryStrings) �
 strings_of_ok table (Inline f) e h g is = let same : f ≡ e = cc in ap is_entry (sym same) ∙ h
 strings_of_ok table (Reference n) e h g is = entry_ok table n e g (referred_ok (entry_at table n) e is)
 
--- Strings that are read of a sound table have no zero byte, and the table stays sound.
+-- Strings that are read with a sound table have no zero byte, and the table stays sound.
 pub strings_ok : (form : Form) (table : List EntryStrings) (bytes : List ℕ) (x : EntryStrings × List EntryStrings × List ℕ) → list_all is_entry table ≡ true →
     strings_at form table bytes ≡ Ok x → (is_entry x.0 ≡ true) × (list_all is_entry x.1 ≡ true)
 unfolding strings_at

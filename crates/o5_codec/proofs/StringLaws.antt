@@ -16,7 +16,7 @@ use Rattle.o5_codec.specs.Table.{table_with, entry_at}
 use Rattle.o5_codec.specs.Number.{number_at}
 use Rattle.o5_codec.specs.StringPair.{split_at_end, string_at, entry_of, inline_at, spelled_at, strings_of, table_after, strings_at}
 use Rattle.o5_codec.specs.Sound.{has_no_zero}
-use Rattle.o5_codec.specs.Spelling.{NumberStands, StringStands, InlineStands, StringsStand}
+use Rattle.o5_codec.specs.Spelling.{NumberAtFront, StringAtFront, InlineAtFront, StringsAtFront}
 use Rattle.o5_codec.proofs.AnswerSteps.{read_next}
 use Rattle.o5_codec.proofs.SoundStrings.{first_ok, both_true, string_ok, referred_ok}
 use Rattle.o5_codec.proofs.NumberLaws.{number_found, number_only, number_shorter}
@@ -47,7 +47,7 @@ zero_behind (b ∷ string) rest h =
     let both = both_true (not (eqb b 0)) (has_no_zero string) h in
     rw both.0 (let e = zero_behind string rest both.1 in omega arith)
 
-pub string_found : (bytes : List ℕ) (x : List ℕ × List ℕ) → string_at bytes ≡ Ok x → StringStands bytes x
+pub string_found : (bytes : List ℕ) (x : List ℕ × List ℕ) → string_at bytes ≡ Ok x → StringAtFront bytes x
 unfolding string_at
 string_found bytes x h = (
   string_ok bytes x h,
@@ -69,36 +69,36 @@ string_there string rest h =
     ap (λ n. split_at_end (string ++ 0 ∷ rest) (cond (ltb n (length (string ++ 0 ∷ rest))) (Some n) None)) place
     ∙ rw (inside, take-append_seam string (0 ∷ rest), drop-append-add string (0 ∷ rest) 1) refl
 
-pub string_only : (bytes : List ℕ) (x : List ℕ × List ℕ) → StringStands bytes x → string_at bytes ≡ Ok x
+pub string_only : (bytes : List ℕ) (x : List ℕ × List ℕ) → StringAtFront bytes x → string_at bytes ≡ Ok x
 string_only bytes x s = ap string_at s.1 ∙ string_there x.0 x.1 s.0
 
-string_shorter : (bytes : List ℕ) (x : List ℕ × List ℕ) → StringStands bytes x → length x.1 < length bytes
+string_shorter : (bytes : List ℕ) (x : List ℕ × List ℕ) → StringAtFront bytes x → length x.1 < length bytes
 string_shorter bytes x s = rw s.1 (omega (arith, length-append x.0 (0 ∷ x.1)))
 
--- Inline strings that are read are spelled so.
-pub inline_found : (form : Form) (bytes : List ℕ) (x : EntryStrings × List ℕ) → inline_at form bytes ≡ Ok x → InlineStands form bytes x
+-- If inline strings are read, the bytes spell them.
+pub inline_found : (form : Form) (bytes : List ℕ) (x : EntryStrings × List ℕ) → inline_at form bytes ≡ Ok x → InlineAtFront form bytes x
 unfolding inline_at
 inline_found Pair bytes x h =
     let f = first_ok (string_at bytes) _ x h in
     let g = first_ok (string_at f.0.1) _ x f.2 in
     let same : (entry_of f.0.0 g.0.0, g.0.1) ≡ x = cc in
-    let P : EntryStrings × List ℕ → Type 0 = λ y. InlineStands Pair bytes y in
+    let P : EntryStrings × List ℕ → Type 0 = λ y. InlineAtFront Pair bytes y in
     subst P same (f.0.1, string_found bytes f.0 f.1, string_found f.0.1 g.0 g.1)
 inline_found Single bytes x h =
     let f = first_ok (string_at bytes) _ x h in
     let same : (entry_of f.0.0 [], f.0.1) ≡ x = cc in
-    let P : EntryStrings × List ℕ → Type 0 = λ y. InlineStands Single bytes y in
+    let P : EntryStrings × List ℕ → Type 0 = λ y. InlineAtFront Single bytes y in
     subst P same (string_found bytes f.0 f.1, refl)
 
 -- Inline strings that are spelled are read.
-pub inline_only : (form : Form) (bytes : List ℕ) (x : EntryStrings × List ℕ) → InlineStands form bytes x → inline_at form bytes ≡ Ok x
+pub inline_only : (form : Form) (bytes : List ℕ) (x : EntryStrings × List ℕ) → InlineAtFront form bytes x → inline_at form bytes ≡ Ok x
 unfolding inline_at
 inline_only Pair bytes x s = read_next (string_at bytes) _ _ (string_only bytes (x.0.first, s.0) s.1)
     ∙ read_next (string_at s.0) _ _ (string_only s.0 (x.0.second, x.1) s.2)
 inline_only Single bytes x s = read_next (string_at bytes) _ _ (string_only bytes (x.0.first, x.1) s.0)
     ∙ ap (λ second. Ok (entry_of x.0.first second, x.1)) (sym s.1)
 
-inline_shorter : (form : Form) (bytes : List ℕ) (x : EntryStrings × List ℕ) → InlineStands form bytes x → length x.1 < length bytes
+inline_shorter : (form : Form) (bytes : List ℕ) (x : EntryStrings × List ℕ) → InlineAtFront form bytes x → length x.1 < length bytes
 inline_shorter Pair bytes x s = omega (arith, string_shorter bytes (x.0.first, s.0) s.1, string_shorter s.0 (x.0.second, x.1) s.2)
 inline_shorter Single bytes x s = string_shorter bytes (x.0.first, x.1) s.0
 
@@ -109,9 +109,9 @@ referred_value : (table : List EntryStrings) (x : StringRef) (n : ℕ) (e : Entr
     entry_at table n ≡ Some e
 referred_value table x n e is h = referred_ok (entry_at table n) e (ap (strings_of table) (sym is) ∙ h)
 
--- Strings that are read are spelled so.
+-- If strings are read, the bytes spell them.
 pub strings_found : (form : Form) (table : List EntryStrings) (bytes : List ℕ) (x : EntryStrings × List EntryStrings × List ℕ) →
-    strings_at form table bytes ≡ Ok x → StringsStand form table bytes x
+    strings_at form table bytes ≡ Ok x → StringsAtFront form table bytes x
 unfolding strings_at spelled_at
 strings_found form table [] x h = cc
 strings_found form table (b ∷ bytes) x h =
@@ -121,18 +121,18 @@ strings_found form table (b ∷ bytes) x h =
     (λ y. and_then (strings_of table y.0) (λ e. Ok (e, table_after y.0 table, y.1))) x h in
     let k = first_ok (strings_of table f.0.0) _ x f.2 in
     let same : (k.0, table_after f.0.0 table, f.0.1) ≡ x = cc in
-    let P : EntryStrings × List EntryStrings × List ℕ → Type 0 = λ y. StringsStand form table (b ∷ bytes) y in
+    let P : EntryStrings × List EntryStrings × List ℕ → Type 0 = λ y. StringsAtFront form table (b ∷ bytes) y in
     subst P same (elim (eqb b 0) as (λ t. eqb b 0 ≡ t →
     (if t then and_then (inline_at form bytes) (λ y. Ok (Inline y.0, y.1))
     else and_then (number_at (b ∷ bytes)) (λ y. Ok (Reference y.0, y.1))) ≡ Ok f.0 →
-    StringsStand form table (b ∷ bytes) (k.0, table_after f.0.0 table, f.0.1)) [
+    StringsAtFront form table (b ∷ bytes) (k.0, table_after f.0.0 table, f.0.1)) [
       | true ↦ λ t e. (let g = first_ok (inline_at form bytes) _ f.0 e in
           let made : (Inline g.0.0, g.0.1) ≡ f.0 = cc in
           let kind : f.0.0 ≡ Inline g.0.0 = ap (λ y. y.0) (sym made) in
           let rest : g.0.1 ≡ f.0.1 = ap (λ y. y.1) made in
           let entry : g.0.0 ≡ k.0 = inline_value table f.0.0 g.0.0 k.0 kind k.1 in
           let zero_byte : b ≡ 0 = grind (arith, nat_tests) in
-          let Q : EntryStrings × List ℕ → Type 0 = λ y. InlineStands form bytes y in
+          let Q : EntryStrings × List ℕ → Type 0 = λ y. InlineAtFront form bytes y in
           let both : g.0 ≡ (k.0, f.0.1) = (λ i. (entry i, rest i)) in
           inl (
             bytes,
@@ -145,7 +145,7 @@ strings_found form table (b ∷ bytes) x h =
           let made : (Reference g.0.0, g.0.1) ≡ f.0 = cc in
           let kind : f.0.0 ≡ Reference g.0.0 = ap (λ y. y.0) (sym made) in
           let rest : g.0.1 ≡ f.0.1 = ap (λ y. y.1) made in
-          let Q : List ℕ → Type 0 = λ r. NumberStands (b ∷ bytes) (g.0.0, r) in
+          let Q : List ℕ → Type 0 = λ r. NumberAtFront (b ∷ bytes) (g.0.0, r) in
           inr (
             g.0.0,
             subst Q rest (number_found (b ∷ bytes) g.0 g.1),
@@ -154,20 +154,20 @@ strings_found form table (b ∷ bytes) x h =
           ))
     ] refl f.1)
 
-zero_number : (bytes : List ℕ) (x : ℕ × List ℕ) → NumberStands (0 ∷ bytes) x → x.0 ≡ 0
+zero_number : (bytes : List ℕ) (x : ℕ × List ℕ) → NumberAtFront (0 ∷ bytes) x → x.0 ≡ 0
 zero_number bytes x ([], s, e) = absurd s.groups
 zero_number bytes x (b ∷ [], s, e) = s.groups.1 ∙ (let same : 0 ∷ bytes ≡ b ∷ x.1 = e in cc)
 zero_number bytes x (b ∷ c ∷ front, s, e) = (let same : 0 ≡ b = (let lists : 0 ∷ bytes ≡ b ∷ c ∷ front ++ x.1 = e in cc) in
     absurd (omega (arith, s.groups.0)))
 
 strings_there : (form : Form) (table : List EntryStrings) (n : ℕ) (bytes : List ℕ) (x : EntryStrings × List EntryStrings × List ℕ) →
-    NumberStands bytes (n, x.2) → entry_at table n ≡ Some x.0 → x.1 ≡ table → strings_at form table bytes ≡ Ok x
+    NumberAtFront bytes (n, x.2) → entry_at table n ≡ Some x.0 → x.1 ≡ table → strings_at form table bytes ≡ Ok x
 unfolding strings_at spelled_at
 strings_there form table n [] x s e t = absurd (let short = number_shorter [] (n, x.2) s in omega arith)
 strings_there form table n (b ∷ bytes) x s e t =
     let some : eqb b 0 ≡ false = (elim (eqb b 0) as (λ t. eqb b 0 ≡ t → t ≡ false) [
       | true ↦ λ z. (let is : b ≡ 0 = grind (arith, nat_tests) in
-          let Q : ℕ → Type 0 = λ c. NumberStands (c ∷ bytes) (n, x.2) in
+          let Q : ℕ → Type 0 = λ c. NumberAtFront (c ∷ bytes) (n, x.2) in
           let none : n ≡ 0 = zero_number bytes (n, x.2) (subst Q is s) in
           let clash : entry_at table 0 ≡ Some x.0 = ap (entry_at table) (sym none) ∙ e in cc)
       | false ↦ λ z. refl
@@ -175,15 +175,15 @@ strings_there form table n (b ∷ bytes) x s e t =
     rw (some, number_only (b ∷ bytes) (n, x.2) s, e) (ap (λ u. Ok (x.0, u, x.2)) (sym t))
 
 -- Strings that are spelled are read.
-pub strings_only : (form : Form) (table : List EntryStrings) (bytes : List ℕ) (x : EntryStrings × List EntryStrings × List ℕ) → StringsStand form table bytes x →
+pub strings_only : (form : Form) (table : List EntryStrings) (bytes : List ℕ) (x : EntryStrings × List EntryStrings × List ℕ) → StringsAtFront form table bytes x →
     strings_at form table bytes ≡ Ok x
 unfolding strings_at spelled_at
 strings_only form table bytes x (inl s) =
     ap (strings_at form table) s.1 ∙ rw (inline_only form s.0 (x.0, x.2) s.2) (ap (λ u. Ok (x.0, u, x.2)) (sym s.3))
 strings_only form table bytes x (inr s) = strings_there form table s.0 bytes x s.1 s.2 s.3
 
--- Strings take a byte at least.
+-- Strings take at least one byte.
 pub strings_shorter : (form : Form) (table : List EntryStrings) (bytes : List ℕ) (x : EntryStrings × List EntryStrings × List ℕ) →
-    StringsStand form table bytes x → length x.2 < length bytes
+    StringsAtFront form table bytes x → length x.2 < length bytes
 strings_shorter form table bytes x (inl s) = rw s.1 (omega (arith, inline_shorter form s.0 (x.0, x.2) s.2))
 strings_shorter form table bytes x (inr s) = number_shorter bytes (s.0, x.2) s.1

@@ -14,22 +14,22 @@ use Rattle.o5_codec.specs.Appended.{AppendsSpelling}
 -- No steps append nothing.
 pub turn_none : (bytes : List ℕ) (s : EncoderSegment) → AppendsSpelling bytes bytes s (sequence [] s)
 unfolding sequence
-turn_none bytes s = record { bytes = sym (append-nil bytes); context = refl }
+turn_none bytes s = record { bytes = sym (append-nil bytes); segment = refl }
 
--- A step and then the other steps append what all of them spell.
+-- A step and then the other steps append the bytes that all steps spell.
 pub turn_next : (step : WriteStep) (steps : List WriteStep) (b0 b1 b2 : List ℕ) (s0 s1 s2 : EncoderSegment) →
     AppendsSpelling b0 b1 s1 (step s0) → AppendsSpelling b1 b2 s2 (sequence steps s1) → AppendsSpelling b0 b2 s2 (sequence (step ∷ steps) s0)
 unfolding sequence
 turn_next step steps b0 b1 b2 s0 s1 s2 first rest =
     let P : EncoderSegment → Type 0 = λ s. AppendsSpelling b1 b2 s2 (sequence steps s) in
-    let behind : AppendsSpelling b1 b2 s2 (sequence steps (step s0).1) = subst P first.context rest in
+    let behind : AppendsSpelling b1 b2 s2 (sequence steps (step s0).1) = subst P first.segment rest in
     record {
       bytes = behind.bytes ∙ ap (λ b. b ++ (sequence steps (step s0).1).0) first.bytes
           ∙ append_assoc b0 (step s0).0 (sequence steps (step s0).1).0;
-      context = behind.context;
+      segment = behind.segment;
     }
 
--- A single step appends what the sequence of it spells.
+-- A single step appends the bytes that the sequence of only this step spells.
 pub turn_last : (step : WriteStep) (b0 b1 : List ℕ) (s0 s1 : EncoderSegment) → AppendsSpelling b0 b1 s1 (step s0) →
     AppendsSpelling b0 b1 s1 (sequence (step ∷ []) s0)
 turn_last step b0 b1 s0 s1 first = turn_next step [] b0 b1 b1 s0 s1 s1 first (turn_none b1 s1)
@@ -37,7 +37,7 @@ turn_last step b0 b1 s0 s1 first = turn_next step [] b0 b1 b1 s0 s1 s1 first (tu
 -- Fixed bytes leave the segment as it is.
 pub plainly : (bytes before after : List ℕ) (s : EncoderSegment) → after ≡ before ++ bytes → AppendsSpelling before after s (fixed_bytes bytes s)
 unfolding fixed_bytes
-plainly bytes before after s e = record { bytes = e; context = refl }
+plainly bytes before after s e = record { bytes = e; segment = refl }
 
 module _ {X : Type 0} (step : X → WriteStep) where
   -- the steps that are left complete the bytes of all steps
@@ -57,7 +57,7 @@ module _ {X : Type 0} (step : X → WriteStep) where
         subst P (sym is) (turn_next (step x) (map step more) now next after s t reached one k));
   }
 
-  -- Where no step is left, all steps were appended.
+  -- If no step is left, all steps were appended.
   pub turns_end : (all rest : List X) (before now : List ℕ) (start s : EncoderSegment) → Turns all rest before now start s → rest ≡ [] →
       AppendsSpelling before now s (sequence (map step all) start)
   turns_end all rest before now start s h is =

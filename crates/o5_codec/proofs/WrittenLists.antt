@@ -15,11 +15,11 @@ use Rattle.o5_codec.specs.Decoder.{new_segment}
 use Rattle.o5_codec.specs.Body.{section_at, set_at}
 use Rattle.o5_codec.specs.Spelling.{SpellsSet}
 use Rattle.o5_codec.specs.Shortest.{shortest_number}
-use Rattle.o5_codec.specs.Writing.{content_written}
-use Rattle.o5_codec.specs.Agreement.{segment_behind, IsContext, MayHaveSeen}
-use Rattle.o5_codec.specs.Encoder.{Written, new_written_segment, initial_written, type_byte, begins_segment, reset_before, context_for}
-use Rattle.o5_codec.specs.Encoder.{data_set, context_of, spelled_set, written_after}
-use Rattle.o5_codec.specs.WritingLaws.{segment_for, segment_after, IsBehind, content_after, IsReadNext, WrittenSetsAreRead, SetsStand}
+use Rattle.o5_codec.specs.Writing.{content_spelling}
+use Rattle.o5_codec.specs.Agreement.{reader_segment, IsEncoderSegment, MayHaveSeen}
+use Rattle.o5_codec.specs.Encoder.{WriterState, new_encoder_segment, initial_writer, type_byte, begins_segment, reset_before, segment_to_use}
+use Rattle.o5_codec.specs.Encoder.{data_set, segment_before, spelled_set, writer_after}
+use Rattle.o5_codec.specs.WritingLaws.{segment_for, segment_after, AreInStep, content_after, IsReadNext, WrittenSetsAreRead, SetsInAll}
 use Rattle.o5_codec.specs.WritingLaws.{spelled_sets, WrittenListsAreRead}
 use Rattle.o5_codec.proofs.AnswerSteps.{one_value}
 use Rattle.o5_codec.proofs.StepLaws.{section_only, set_only}
@@ -32,7 +32,7 @@ none_yet kind.Node = refl
 none_yet kind.Way = inl refl
 none_yet kind.Relation = inl refl
 
-new_is_context : IsContext new_written_segment
+new_is_context : IsEncoderSegment new_encoder_segment
 unfolding table_limit
 new_is_context = record {
   few = omega arith;
@@ -43,8 +43,8 @@ new_is_context = record {
   lat = search rules;
 }
 
-begin : IsBehind initial_written Neither
-begin = record { context = new_is_context; lists = refl }
+begin : AreInStep initial_writer Neither
+begin = record { segment = new_is_context; lists = refl }
 
 one_kind : (j k : Kind) → begins_segment j k ≡ false → j ≡ k
 one_kind kind.Node kind.Node h = refl
@@ -58,21 +58,21 @@ one_kind kind.Relation kind.Way h = cc
 one_kind kind.Relation kind.Relation h = refl
 
 -- read back relative to the context that a reset leaves, or to the one before
-next_by : (begins : Bool) (w : Written) (seen : ListsSeen) (v : VersionData) → begins_segment w.last (kind_of v.body) ≡ begins →
-    IsBehind w seen → IsVersion v →
-    length (content_written v (context_for begins w.context)).0 < 2 ^ 64 →
+next_by : (begins : Bool) (w : WriterState) (seen : ListsSeen) (v : VersionData) → begins_segment w.last (kind_of v.body) ≡ begins →
+    AreInStep w seen → IsVersion v →
+    length (content_spelling v (segment_to_use begins w.segment)).0 < 2 ^ 64 →
     (after : ListsSeen) × MayHaveSeen (kind_of v.body) after ×
-    SpellsSet (kind_of v.body) (segment_for begins (segment_after w seen)) (content_written v (context_for begins w.context)).0
-    (v, segment_behind (content_written v (context_for begins w.context)).1 after) ×
-    IsContext (content_written v (context_for begins w.context)).1
+    SpellsSet (kind_of v.body) (segment_for begins (segment_after w seen)) (content_spelling v (segment_to_use begins w.segment)).0
+    (v, reader_segment (content_spelling v (segment_to_use begins w.segment)).1 after) ×
+    IsEncoderSegment (content_spelling v (segment_to_use begins w.segment)).1
 next_by true w seen v is h valid small =
-    let r = set_back v new_written_segment Neither valid new_is_context (none_yet (kind_of v.body)) small in
-    (r.after, r.may, r.spells, r.context)
+    let r = set_back v new_encoder_segment Neither valid new_is_context (none_yet (kind_of v.body)) small in
+    (r.after, r.may, r.spells, r.segment)
 next_by false w seen v is h valid small =
-    let r = set_back v w.context seen valid h.context
-    (subst (λ k. MayHaveSeen k seen) (one_kind w.last (kind_of v.body) is) h.lists) small in (r.after, r.may, r.spells, r.context)
+    let r = set_back v w.segment seen valid h.segment
+    (subst (λ k. MayHaveSeen k seen) (one_kind w.last (kind_of v.body) is) h.lists) small in (r.after, r.may, r.spells, r.segment)
 
-content_room : (w : Written) (v : VersionData) → length (spelled_set w v) < 2 ^ 64 → length (content_after w v) < 2 ^ 64
+content_room : (w : WriterState) (v : VersionData) → length (spelled_set w v) < 2 ^ 64 → length (content_after w v) < 2 ^ 64
 unfolding spelled_set
 content_room w v small =
     let k : Kind = kind_of v.body in
@@ -82,14 +82,14 @@ content_room w v small =
       length-append (type_byte k ∷ shortest_number (length (content_after w v))) (content_after w v),
     )
 
-next_back : (w : Written) (seen : ListsSeen) (v : VersionData) → IsBehind w seen → IsVersion v → length (content_after w v) < 2 ^ 64 →
+next_back : (w : WriterState) (seen : ListsSeen) (v : VersionData) → AreInStep w seen → IsVersion v → length (content_after w v) < 2 ^ 64 →
     IsReadNext w seen v
-unfolding context_of written_after
+unfolding segment_before writer_after
 next_back w seen v h valid small =
     let r = next_by (begins_segment w.last (kind_of v.body)) w seen v refl h valid small in
-    record { after = r.0; spells = r.2; behind = record { context = r.3; lists = r.1 } }
+    record { after = r.0; spells = r.2; behind = record { segment = r.3; lists = r.1 } }
 
--- What is written for a version is read as that version and no other.
+-- The bytes written for a version are read as that version and no other.
 pub sets_read : WrittenSetsAreRead
 sets_read = (begin, λ w seen v h valid small. next_back w seen v h valid (content_room w v small))
 
@@ -98,26 +98,26 @@ parted : (k : Kind) (reset content rest : List ℕ) →
     (reset ++ data_set k content) ++ rest ≡ reset ++ type_byte k ∷ ((shortest_number (length content) ++ content) ++ rest)
 parted k reset content rest = append_assoc reset (data_set k content) rest
 
-lists_stand : (versions : List VersionData) (w : Written) (seen : ListsSeen) → IsBehind w seen → All IsVersion versions →
+lists_stand : (versions : List VersionData) (w : WriterState) (seen : ListsSeen) → AreInStep w seen → All IsVersion versions →
     length (spelled_sets w versions) < 2 ^ 64 →
-    SetsStand (segment_after w seen) (spelled_sets w versions) versions
+    SetsInAll (segment_after w seen) (spelled_sets w versions) versions
 unfolding spelled_set
 lists_stand [] w seen h valid small = refl
 lists_stand (v ∷ versions) w seen h valid small =
     let k : Kind = kind_of v.body in
     let content : List ℕ = content_after w v in
-    let rest : List ℕ = spelled_sets (written_after w v) versions in
+    let rest : List ℕ = spelled_sets (writer_after w v) versions in
     let lengths : length (spelled_set w v ++ rest) ≡ length (spelled_set w v) + length rest = length-append (spelled_set w v) rest in
     let room : length content < 2 ^ 64 = content_room w v (omega arith) in
     let r = next_back w seen v h (valid 0 v (omega arith)) room in (
       begins_segment w.last k,
       (shortest_number (length content) ++ content) ++ rest,
       (content, rest),
-      segment_after (written_after w v) r.after,
+      segment_after (writer_after w v) r.after,
       parted k (reset_before (begins_segment w.last k)) content rest,
       section_back content rest room,
       r.spells,
-      lists_stand versions (written_after w v) r.after r.behind (λ k d inside. valid (suc k) d (omega arith)) (omega arith),
+      lists_stand versions (writer_after w v) r.after r.behind (λ k d inside. valid (suc k) d (omega arith)) (omega arith),
     )
 
 -- ---- no other list
@@ -160,7 +160,7 @@ never_empty : (b : Bool) (k : Kind) (x : List ℕ) → [] ≡ reset_before b ++ 
 never_empty true k x e = cc
 never_empty false k x e = cc
 
-pub one_list : (versions others : List VersionData) (s : Segment) (bytes : List ℕ) → SetsStand s bytes versions → SetsStand s bytes others →
+pub one_list : (versions others : List VersionData) (s : Segment) (bytes : List ℕ) → SetsInAll s bytes versions → SetsInAll s bytes others →
     others ≡ versions
 one_list [] [] s bytes h g = refl
 one_list [] (w ∷ others) s bytes h g = absurd (never_empty g.0 (kind_of w.body) g.1 (sym h ∙ g.4))
@@ -174,13 +174,13 @@ one_list (v ∷ versions) (w ∷ others) s bytes (b, set, x, after, is, cut, spe
     let same : (w, after') ≡ (v, after) = one_value (set_at (kind_of v.body) (segment_for b s) x.0) (w, after') (v, after)
     (sym here ∙ set_only (kind_of w.body) (segment_for b' s) x'.0 (w, after') spells')
     (set_only (kind_of v.body) (segment_for b s) x.0 (v, after) spells) in
-    let later : SetsStand after x.1 others = subst (λ bytes. SetsStand after bytes others) (ap (λ z. z.1) parts)
-    (subst (λ t. SetsStand t x'.1 others) (ap (λ z. z.1) same) more') in
+    let later : SetsInAll after x.1 others = subst (λ bytes. SetsInAll after bytes others) (ap (λ z. z.1) parts)
+    (subst (λ t. SetsInAll t x'.1 others) (ap (λ z. z.1) same) more') in
     let rest : others ≡ versions = one_list versions others after x.1 more later in
     λ i. (same i).0 ∷ rest i
 
--- What is written for a list of versions is read as that list and no other.
+-- The bytes written for a list of versions are read as that list and no other.
 pub lists_read : WrittenListsAreRead
 lists_read versions valid small =
-    let stands = lists_stand versions initial_written Neither begin valid small in
-    (stands, λ others h. one_list versions others new_segment (spelled_sets initial_written versions) stands h)
+    let stands = lists_stand versions initial_writer Neither begin valid small in
+    (stands, λ others h. one_list versions others new_segment (spelled_sets initial_writer versions) stands h)

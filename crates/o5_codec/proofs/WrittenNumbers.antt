@@ -9,7 +9,7 @@ use Rattle.osm_model.specs.Id.{is_id}
 use Rattle.o5_codec.specs.declared.reason.O5Reason.TheVariants.{OutOfRange}
 use Rattle.o5_codec.specs.Number.{AreGroups, SpellsNumber, unsigned_of}
 use Rattle.o5_codec.specs.Base.{moved_id, within_range, number_within, moved_number, moved_coordinate}
-use Rattle.o5_codec.specs.Spelling.{NumberStands, SignedStands}
+use Rattle.o5_codec.specs.Spelling.{NumberAtFront, SignedAtFront}
 use Rattle.o5_codec.proofs.NumberLaws.{longer, below}
 use Rattle.o5_codec.specs.Shortest.{groups_of, shortest_number, shortest_signed, difference}
 
@@ -37,14 +37,14 @@ unfolding shortest_number
 shortest_spells n small = record { short = groups_short 9 n; fits = small; groups = groups_spell 9 n (omega arith) }
 
 -- A number that is written is read back.
-pub number_back : (n : ℕ) (rest : List ℕ) → n < 2 ^ 64 → NumberStands (shortest_number n ++ rest) (n, rest)
+pub number_back : (n : ℕ) (rest : List ℕ) → n < 2 ^ 64 → NumberAtFront (shortest_number n ++ rest) (n, rest)
 number_back n rest small = (shortest_number n, shortest_spells n small, refl)
 
-signed_back : (d : ℤ) (rest : List ℕ) → unsigned_of d < 2 ^ 64 → SignedStands (shortest_signed d ++ rest) (d, rest)
+signed_back : (d : ℤ) (rest : List ℕ) → unsigned_of d < 2 ^ 64 → SignedAtFront (shortest_signed d ++ rest) (d, rest)
 unfolding shortest_signed
 signed_back d rest small = (shortest_number (unsigned_of d), shortest_spells (unsigned_of d) small, refl)
 
--- a difference of numbers, each below a bound on either side of 0
+-- a signed number whose absolute value is below 2^63 is encoded by a number below 2^64
 small_unsigned : (d : ℤ) → unsigned_abs d < 2 ^ 63 → unsigned_of d < 2 ^ 64
 small_unsigned (pos n) h = omega arith
 small_unsigned (negsuc n) h = omega arith
@@ -52,36 +52,36 @@ small_unsigned (negsuc n) h = omega arith
 pub again : (a b : ℤ) → a +ℤ (b -ℤ a) ≡ b
 again a b = omega (arith, ints)
 
--- The difference of two ids is spelled as it is written.
-pub id_difference : (a b : ℤ) (rest : List ℕ) → is_id a ≡ true → is_id b ≡ true → SignedStands (difference a b ++ rest) (b -ℤ a, rest)
+-- The bytes written for the difference of two ids spell it.
+pub id_difference : (a b : ℤ) (rest : List ℕ) → is_id a ≡ true → is_id b ≡ true → SignedAtFront (difference a b ++ rest) (b -ℤ a, rest)
 id_difference a b rest ha hb =
     let sa : unsigned_abs a < 2 ^ 62 = below _ _ ha in
     let sb : unsigned_abs b < 2 ^ 62 = below _ _ hb in
     signed_back (b -ℤ a) rest (small_unsigned (b -ℤ a) (omega (arith, ints)))
 
--- The difference of two ids leads from the one to the other.
+-- The base moves from one id to another by their difference.
 pub id_moved : (a b : ℤ) → is_id b ≡ true → moved_id a (b -ℤ a) ≡ Ok b
 id_moved a b h = ap (λ n. if is_id n then Ok n else Err OutOfRange) (again a b) ∙ rw h refl
 
--- The difference of two numbers of 32 bits is spelled as it is written.
+-- The bytes written for the difference of two numbers of 32 bits spell it.
 pub number_difference : (a b : ℕ) (rest : List ℕ) → a < 2 ^ 32 → b < 2 ^ 32 →
-    SignedStands (difference (pos a) (pos b) ++ rest) (pos b -ℤ pos a, rest)
+    SignedAtFront (difference (pos a) (pos b) ++ rest) (pos b -ℤ pos a, rest)
 number_difference a b rest ha hb = signed_back (pos b -ℤ pos a) rest (small_unsigned (pos b -ℤ pos a) (omega (arith, ints)))
 
 -- A number below 2^32 is within its range.
 pub number_ranged : (n : ℕ) → n < 2 ^ 32 → within_range n ≡ Ok n
 number_ranged n h = rw (lt-ltb n (2 ^ 32) h) refl
 
--- The difference of two numbers of 32 bits leads from the one to the other.
+-- The base moves from one number of 32 bits to another by their difference.
 pub number_moved : (a b : ℕ) → b < 2 ^ 32 → moved_number a (pos b -ℤ pos a) ≡ Ok b
 number_moved a b h = ap number_within (again (pos a) (pos b)) ∙ number_ranged b h
 
--- The difference of two coordinates is spelled as it is written.
+-- The bytes written for the difference of two coordinates spell it.
 pub coordinate_difference : (a b : ℤ) (rest : List ℕ) → FitsSigned w32 a → FitsSigned w32 b →
-    SignedStands (difference a b ++ rest) (b -ℤ a, rest)
+    SignedAtFront (difference a b ++ rest) (b -ℤ a, rest)
 coordinate_difference a b rest ha hb = signed_back (b -ℤ a) rest (small_unsigned (b -ℤ a) (omega (arith, ints)))
 
--- The difference of two coordinates leads from the one to the other.
+-- The base moves from one coordinate to another by their difference.
 pub coordinate_moved : (a b : ℤ) → FitsSigned w32 a → FitsSigned w32 b → moved_coordinate a (b -ℤ a) ≡ Ok b
 coordinate_moved a b ha hb =
     let small : unsigned_abs (b -ℤ a) < 2 ^ 32 = omega (arith, ints) in

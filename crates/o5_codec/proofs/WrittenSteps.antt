@@ -9,27 +9,27 @@ use Rattle.osm_model.specs.declared.tags.Tag.{Tag}
 use Rattle.osm_model.specs.Id.{is_id}
 use Rattle.osm_model.specs.Text.{is_text}
 use Rattle.o5_codec.specs.declared.segment.ListsSeen.{ListsSeen}
-use Rattle.o5_codec.specs.Spelling.{IdStands, TimeStands, ChangesetStands, LongitudeStands, LatitudeStands, ReferenceStands, VersionStands}
-use Rattle.o5_codec.specs.Spelling.{UserStands, TagStands, ItemsStand}
+use Rattle.o5_codec.specs.Spelling.{IdAtFront, TimeAtFront, ChangesetAtFront, LongitudeAtFront, LatitudeAtFront, ReferenceAtFront, VersionAtFront}
+use Rattle.o5_codec.specs.Spelling.{UserAtFront, TagAtFront, ItemsInAll}
 use Rattle.o5_codec.specs.Shortest.{shortest_number}
 use Rattle.o5_codec.specs.Formed.{FormedEntry}
-use Rattle.o5_codec.specs.Writing.{EncoderSegment, sequence, id_written, time_written, changeset_written, longitude_written}
-use Rattle.o5_codec.specs.Writing.{latitude_written, reference_written, strings_written, user_entry, tag_entry, tag_written}
-use Rattle.o5_codec.specs.Agreement.{strings_in, segment_behind, IsContext}
+use Rattle.o5_codec.specs.Writing.{EncoderSegment, sequence, id_spelling, time_spelling, changeset_spelling, longitude_spelling}
+use Rattle.o5_codec.specs.Writing.{latitude_spelling, reference_spelling, strings_spelling, user_entry, tag_entry, tag_spelling}
+use Rattle.o5_codec.specs.Agreement.{strings_in, reader_segment, IsEncoderSegment}
 use Rattle.o5_codec.proofs.SoundStrings.{both_true}
 use Rattle.o5_codec.proofs.WrittenNumbers.{number_back, id_difference, id_moved, number_difference, number_moved, coordinate_difference}
 use Rattle.o5_codec.proofs.WrittenNumbers.{coordinate_moved}
 use Rattle.o5_codec.proofs.WrittenStrings.{strings_back, strings_few, user_back, tag_back, user_spellable, tag_spellable}
 
 -- ---- one value
-pub id_back : (c : EncoderSegment) (seen : ListsSeen) (id : ℤ) (rest : List ℕ) → IsContext c → is_id id ≡ true →
-    IdStands (segment_behind c seen) ((id_written id c).0 ++ rest) (id, segment_behind (id_written id c).1 seen, rest)
-unfolding id_written
+pub id_back : (c : EncoderSegment) (seen : ListsSeen) (id : ℤ) (rest : List ℕ) → IsEncoderSegment c → is_id id ≡ true →
+    IdAtFront (reader_segment c seen) ((id_spelling id c).0 ++ rest) (id, reader_segment (id_spelling id c).1 seen, rest)
+unfolding id_spelling
 id_back c seen id rest ok h = (id -ℤ c.bases.id, id_difference c.bases.id id rest ok.ids.id h, id_moved c.bases.id id h, refl)
 
 -- An id that is written leaves the bases within their ranges.
-pub id_keeps : (c : EncoderSegment) (id : ℤ) → IsContext c → is_id id ≡ true → IsContext (id_written id c).1
-unfolding id_written
+pub id_keeps : (c : EncoderSegment) (id : ℤ) → IsEncoderSegment c → is_id id ≡ true → IsEncoderSegment (id_spelling id c).1
+unfolding id_spelling
 id_keeps c id ok h = record {
   few = ok.few;
   ids = record {
@@ -47,9 +47,9 @@ id_keeps c id ok h = record {
 }
 
 -- A time that is written is read back.
-pub time_back : (c : EncoderSegment) (seen : ListsSeen) (time : ℕ) (rest : List ℕ) → IsContext c → time < 2 ^ 32 →
-    TimeStands (segment_behind c seen) ((time_written time c).0 ++ rest) (time, segment_behind (time_written time c).1 seen, rest)
-unfolding time_written
+pub time_back : (c : EncoderSegment) (seen : ListsSeen) (time : ℕ) (rest : List ℕ) → IsEncoderSegment c → time < 2 ^ 32 →
+    TimeAtFront (reader_segment c seen) ((time_spelling time c).0 ++ rest) (time, reader_segment (time_spelling time c).1 seen, rest)
+unfolding time_spelling
 time_back c seen time rest ok h = (
   pos time -ℤ pos c.bases.time,
   number_difference c.bases.time time rest ok.time h,
@@ -58,8 +58,8 @@ time_back c seen time rest ok h = (
 )
 
 -- A time that is written leaves the bases within their ranges.
-pub time_keeps : (c : EncoderSegment) (time : ℕ) → IsContext c → time < 2 ^ 32 → IsContext (time_written time c).1
-unfolding time_written
+pub time_keeps : (c : EncoderSegment) (time : ℕ) → IsEncoderSegment c → time < 2 ^ 32 → IsEncoderSegment (time_spelling time c).1
+unfolding time_spelling
 time_keeps c time ok h = record {
   few = ok.few;
   ids = record {
@@ -76,10 +76,10 @@ time_keeps c time ok h = record {
 }
 
 -- A changeset that is written is read back.
-pub changeset_back : (c : EncoderSegment) (seen : ListsSeen) (changeset : ℕ) (rest : List ℕ) → IsContext c → changeset < 2 ^ 32 →
-    ChangesetStands (segment_behind c seen) ((changeset_written changeset c).0 ++ rest)
-    (changeset, segment_behind (changeset_written changeset c).1 seen, rest)
-unfolding changeset_written
+pub changeset_back : (c : EncoderSegment) (seen : ListsSeen) (changeset : ℕ) (rest : List ℕ) → IsEncoderSegment c → changeset < 2 ^ 32 →
+    ChangesetAtFront (reader_segment c seen) ((changeset_spelling changeset c).0 ++ rest)
+    (changeset, reader_segment (changeset_spelling changeset c).1 seen, rest)
+unfolding changeset_spelling
 changeset_back c seen changeset rest ok h = (
   pos changeset -ℤ pos c.bases.changeset,
   number_difference c.bases.changeset changeset rest ok.changeset h,
@@ -88,8 +88,8 @@ changeset_back c seen changeset rest ok h = (
 )
 
 -- A changeset that is written leaves the bases within their ranges.
-pub changeset_keeps : (c : EncoderSegment) (changeset : ℕ) → IsContext c → changeset < 2 ^ 32 → IsContext (changeset_written changeset c).1
-unfolding changeset_written
+pub changeset_keeps : (c : EncoderSegment) (changeset : ℕ) → IsEncoderSegment c → changeset < 2 ^ 32 → IsEncoderSegment (changeset_spelling changeset c).1
+unfolding changeset_spelling
 changeset_keeps c changeset ok h = record {
   few = ok.few;
   ids = record {
@@ -106,10 +106,10 @@ changeset_keeps c changeset ok h = record {
 }
 
 -- A longitude that is written is read back.
-pub longitude_back : (c : EncoderSegment) (seen : ListsSeen) (lon : ℤ) (rest : List ℕ) → IsContext c → FitsSigned w32 lon →
-    LongitudeStands (segment_behind c seen) ((longitude_written lon c).0 ++ rest)
-    (lon, segment_behind (longitude_written lon c).1 seen, rest)
-unfolding longitude_written
+pub longitude_back : (c : EncoderSegment) (seen : ListsSeen) (lon : ℤ) (rest : List ℕ) → IsEncoderSegment c → FitsSigned w32 lon →
+    LongitudeAtFront (reader_segment c seen) ((longitude_spelling lon c).0 ++ rest)
+    (lon, reader_segment (longitude_spelling lon c).1 seen, rest)
+unfolding longitude_spelling
 longitude_back c seen lon rest ok h = (
   lon -ℤ c.bases.lon,
   coordinate_difference c.bases.lon lon rest ok.lon h,
@@ -118,8 +118,8 @@ longitude_back c seen lon rest ok h = (
 )
 
 -- A longitude that is written leaves the bases within their ranges.
-pub longitude_keeps : (c : EncoderSegment) (lon : ℤ) → IsContext c → FitsSigned w32 lon → IsContext (longitude_written lon c).1
-unfolding longitude_written
+pub longitude_keeps : (c : EncoderSegment) (lon : ℤ) → IsEncoderSegment c → FitsSigned w32 lon → IsEncoderSegment (longitude_spelling lon c).1
+unfolding longitude_spelling
 longitude_keeps c lon ok h = record {
   few = ok.few;
   ids = record {
@@ -136,9 +136,9 @@ longitude_keeps c lon ok h = record {
 }
 
 -- A latitude that is written is read back.
-pub latitude_back : (c : EncoderSegment) (seen : ListsSeen) (lat : ℤ) (rest : List ℕ) → IsContext c → FitsSigned w32 lat →
-    LatitudeStands (segment_behind c seen) ((latitude_written lat c).0 ++ rest) (lat, segment_behind (latitude_written lat c).1 seen, rest)
-unfolding latitude_written
+pub latitude_back : (c : EncoderSegment) (seen : ListsSeen) (lat : ℤ) (rest : List ℕ) → IsEncoderSegment c → FitsSigned w32 lat →
+    LatitudeAtFront (reader_segment c seen) ((latitude_spelling lat c).0 ++ rest) (lat, reader_segment (latitude_spelling lat c).1 seen, rest)
+unfolding latitude_spelling
 latitude_back c seen lat rest ok h = (
   lat -ℤ c.bases.lat,
   coordinate_difference c.bases.lat lat rest ok.lat h,
@@ -147,8 +147,8 @@ latitude_back c seen lat rest ok h = (
 )
 
 -- A latitude that is written leaves the bases within their ranges.
-pub latitude_keeps : (c : EncoderSegment) (lat : ℤ) → IsContext c → FitsSigned w32 lat → IsContext (latitude_written lat c).1
-unfolding latitude_written
+pub latitude_keeps : (c : EncoderSegment) (lat : ℤ) → IsEncoderSegment c → FitsSigned w32 lat → IsEncoderSegment (latitude_spelling lat c).1
+unfolding latitude_spelling
 latitude_keeps c lat ok h = record {
   few = ok.few;
   ids = record {
@@ -164,9 +164,9 @@ latitude_keeps c lat ok h = record {
   lat = h;
 }
 
-reference_back : (c : EncoderSegment) (seen : ListsSeen) (id : ℤ) (rest : List ℕ) → IsContext c → is_id id ≡ true →
-    ReferenceStands (segment_behind c seen) ((reference_written id c).0 ++ rest) (id, segment_behind (reference_written id c).1 seen, rest)
-unfolding reference_written
+reference_back : (c : EncoderSegment) (seen : ListsSeen) (id : ℤ) (rest : List ℕ) → IsEncoderSegment c → is_id id ≡ true →
+    ReferenceAtFront (reader_segment c seen) ((reference_spelling id c).0 ++ rest) (id, reader_segment (reference_spelling id c).1 seen, rest)
+unfolding reference_spelling
 reference_back c seen id rest ok h = (
   id -ℤ c.bases.reference,
   id_difference c.bases.reference id rest ok.ids.reference h,
@@ -174,8 +174,8 @@ reference_back c seen id rest ok h = (
   refl,
 )
 
-reference_keeps : (c : EncoderSegment) (id : ℤ) → IsContext c → is_id id ≡ true → IsContext (reference_written id c).1
-unfolding reference_written
+reference_keeps : (c : EncoderSegment) (id : ℤ) → IsEncoderSegment c → is_id id ≡ true → IsEncoderSegment (reference_spelling id c).1
+unfolding reference_spelling
 reference_keeps c id ok h = record {
   few = ok.few;
   ids = record {
@@ -193,7 +193,7 @@ reference_keeps c id ok h = record {
 }
 
 -- A version number that is written is read back.
-pub version_back : (n : ℕ) (rest : List ℕ) → 0 < n → n < 2 ^ 32 → VersionStands (shortest_number n ++ rest) (n, rest)
+pub version_back : (n : ℕ) (rest : List ℕ) → 0 < n → n < 2 ^ 32 → VersionAtFront (shortest_number n ++ rest) (n, rest)
 version_back n rest some small = (
   n,
   number_back n rest (omega arith),
@@ -201,8 +201,8 @@ version_back n rest some small = (
 )
 
 -- ---- strings
-pub strings_keep : (e : FormedEntry) (c : EncoderSegment) → IsContext c → IsContext (strings_written e c).1
-unfolding strings_written
+pub strings_keep : (e : FormedEntry) (c : EncoderSegment) → IsEncoderSegment c → IsEncoderSegment (strings_spelling e c).1
+unfolding strings_spelling
 strings_keep e c ok = record {
   few = strings_few e c.table ok.few;
   ids = ok.ids;
@@ -213,26 +213,26 @@ strings_keep e c ok = record {
 }
 
 -- A user that is written is read back.
-pub user_stands : (c : EncoderSegment) (seen : ListsSeen) (uid : ℕ) (user : List ℕ) (rest : List ℕ) → IsContext c → uid < 2 ^ 32 →
+pub user_at_front : (c : EncoderSegment) (seen : ListsSeen) (uid : ℕ) (user : List ℕ) (rest : List ℕ) → IsEncoderSegment c → uid < 2 ^ 32 →
     is_text user ≡ true →
-    UserStands (segment_behind c seen) ((strings_written (user_entry uid user) c).0 ++ rest)
-    ((uid, user), segment_behind (strings_written (user_entry uid user) c).1 seen, rest)
-unfolding strings_written
-user_stands c seen uid user rest ok small text = (
+    UserAtFront (reader_segment c seen) ((strings_spelling (user_entry uid user) c).0 ++ rest)
+    ((uid, user), reader_segment (strings_spelling (user_entry uid user) c).1 seen, rest)
+unfolding strings_spelling
+user_at_front c seen uid user rest ok small text = (
   (user_entry uid user).strings,
-  strings_in (strings_written (user_entry uid user) c).1.table,
+  strings_in (strings_spelling (user_entry uid user) c).1.table,
   strings_back (user_entry uid user) c.table rest (user_spellable uid user text) ok.few,
   user_back uid user small text,
   refl,
 )
 
-tag_stands : (c : EncoderSegment) (seen : ListsSeen) (tag : Tag) (rest : List ℕ) → IsContext c → is_text tag.key ≡ true →
+tag_at_front : (c : EncoderSegment) (seen : ListsSeen) (tag : Tag) (rest : List ℕ) → IsEncoderSegment c → is_text tag.key ≡ true →
     is_text tag.value ≡ true →
-    TagStands (segment_behind c seen) ((tag_written tag c).0 ++ rest) (tag, segment_behind (tag_written tag c).1 seen, rest)
-unfolding strings_written
-tag_stands c seen tag rest ok key value = (
+    TagAtFront (reader_segment c seen) ((tag_spelling tag c).0 ++ rest) (tag, reader_segment (tag_spelling tag c).1 seen, rest)
+unfolding strings_spelling
+tag_at_front c seen tag rest ok key value = (
   (tag_entry tag).strings,
-  strings_in (strings_written (tag_entry tag) c).1.table,
+  strings_in (strings_spelling (tag_entry tag) c).1.table,
   strings_back (tag_entry tag) c.table rest (tag_spellable tag key value) ok.few,
   tag_back tag key value,
   refl,
@@ -243,44 +243,44 @@ abbrev pub are_texts : Tag → Bool
 are_texts tag = is_text tag.key && is_text tag.value
 
 -- Tags that are written are read back.
-pub tags_back : (tags : List Tag) (c : EncoderSegment) (seen : ListsSeen) → IsContext c → list_all are_texts tags ≡ true →
-    ItemsStand TagStands (segment_behind c seen) (sequence (map tag_written tags) c).0 tags
-    (segment_behind (sequence (map tag_written tags) c).1 seen)
+pub tags_back : (tags : List Tag) (c : EncoderSegment) (seen : ListsSeen) → IsEncoderSegment c → list_all are_texts tags ≡ true →
+    ItemsInAll TagAtFront (reader_segment c seen) (sequence (map tag_spelling tags) c).0 tags
+    (reader_segment (sequence (map tag_spelling tags) c).1 seen)
 unfolding sequence
 tags_back [] c seen ok texts = (refl, refl)
 tags_back (tag ∷ tags) c seen ok texts =
     let all = both_true (are_texts tag) (list_all are_texts tags) texts in
     let own = both_true (is_text tag.key) (is_text tag.value) all.0 in (
-      segment_behind (tag_written tag c).1 seen,
-      (sequence (map tag_written tags) (tag_written tag c).1).0,
-      tag_stands c seen tag (sequence (map tag_written tags) (tag_written tag c).1).0 ok own.0 own.1,
-      tags_back tags (tag_written tag c).1 seen (strings_keep (tag_entry tag) c ok) all.1,
+      reader_segment (tag_spelling tag c).1 seen,
+      (sequence (map tag_spelling tags) (tag_spelling tag c).1).0,
+      tag_at_front c seen tag (sequence (map tag_spelling tags) (tag_spelling tag c).1).0 ok own.0 own.1,
+      tags_back tags (tag_spelling tag c).1 seen (strings_keep (tag_entry tag) c ok) all.1,
     )
 
 -- Tags that are written leave the bases within their ranges.
-pub tags_keep : (tags : List Tag) (c : EncoderSegment) → IsContext c → IsContext (sequence (map tag_written tags) c).1
+pub tags_keep : (tags : List Tag) (c : EncoderSegment) → IsEncoderSegment c → IsEncoderSegment (sequence (map tag_spelling tags) c).1
 unfolding sequence
 tags_keep [] c ok = ok
-tags_keep (tag ∷ tags) c ok = tags_keep tags (tag_written tag c).1 (strings_keep (tag_entry tag) c ok)
+tags_keep (tag ∷ tags) c ok = tags_keep tags (tag_spelling tag c).1 (strings_keep (tag_entry tag) c ok)
 
 -- References that are written are read back.
-pub references_back : (ids : List ℤ) (c : EncoderSegment) (seen : ListsSeen) → IsContext c → list_all is_id ids ≡ true →
-    ItemsStand ReferenceStands (segment_behind c seen) (sequence (map reference_written ids) c).0 ids
-    (segment_behind (sequence (map reference_written ids) c).1 seen)
+pub references_back : (ids : List ℤ) (c : EncoderSegment) (seen : ListsSeen) → IsEncoderSegment c → list_all is_id ids ≡ true →
+    ItemsInAll ReferenceAtFront (reader_segment c seen) (sequence (map reference_spelling ids) c).0 ids
+    (reader_segment (sequence (map reference_spelling ids) c).1 seen)
 unfolding sequence
 references_back [] c seen ok h = (refl, refl)
 references_back (id ∷ ids) c seen ok h =
     let all = both_true (is_id id) (list_all is_id ids) h in (
-      segment_behind (reference_written id c).1 seen,
-      (sequence (map reference_written ids) (reference_written id c).1).0,
-      reference_back c seen id (sequence (map reference_written ids) (reference_written id c).1).0 ok all.0,
-      references_back ids (reference_written id c).1 seen (reference_keeps c id ok all.0) all.1,
+      reader_segment (reference_spelling id c).1 seen,
+      (sequence (map reference_spelling ids) (reference_spelling id c).1).0,
+      reference_back c seen id (sequence (map reference_spelling ids) (reference_spelling id c).1).0 ok all.0,
+      references_back ids (reference_spelling id c).1 seen (reference_keeps c id ok all.0) all.1,
     )
 
 -- References that are written leave the bases within their ranges.
-pub references_keep : (ids : List ℤ) (c : EncoderSegment) → IsContext c → list_all is_id ids ≡ true →
-    IsContext (sequence (map reference_written ids) c).1
+pub references_keep : (ids : List ℤ) (c : EncoderSegment) → IsEncoderSegment c → list_all is_id ids ≡ true →
+    IsEncoderSegment (sequence (map reference_spelling ids) c).1
 unfolding sequence
 references_keep [] c ok h = ok
 references_keep (id ∷ ids) c ok h = let all = both_true (is_id id) (list_all is_id ids) h in
-    references_keep ids (reference_written id c).1 (reference_keeps c id ok all.0) all.1
+    references_keep ids (reference_spelling id c).1 (reference_keeps c id ok all.0) all.1

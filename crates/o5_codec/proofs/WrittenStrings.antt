@@ -20,7 +20,7 @@ use Rattle.o5_codec.specs.Text.{text_of, tag_of, uid_of, user_of, whole_number}
 use Rattle.o5_codec.specs.Body.{kind_and_role}
 use Rattle.o5_codec.specs.Sound.{has_no_zero}
 use Rattle.o5_codec.specs.Number.{number_at}
-use Rattle.o5_codec.specs.Spelling.{NumberStands, InlineStands, StringsStand}
+use Rattle.o5_codec.specs.Spelling.{NumberAtFront, InlineAtFront, StringsAtFront}
 use Rattle.o5_codec.specs.Shortest.{groups_of, shortest_number}
 use Rattle.o5_codec.specs.Formed.{FormedEntry, same_entry, inline_bytes, reference_to, formed_table_with, strings_bytes, formed_table_after}
 use Rattle.o5_codec.specs.Agreement.{strings_in}
@@ -54,7 +54,7 @@ named e (x ∷ table) n is = elim (cases_Bool (same_entry e x)) [
   | inr other ↦ named_later e x table (reference_to e table) n (named e table) (sym (cond-false (same_entry e x) (Some 1) _ other) ∙ is)
 ]
 
--- storing drops the forms, or forms are dropped and then strings stored
+-- to store an entry and drop the forms is the same as to drop the forms and store the strings
 pub kept_strings : (e : FormedEntry) (table : List FormedEntry) → strings_in (formed_table_with e table) ≡ table_with e.strings (strings_in table)
 kept_strings e table = elim (cases_Bool (is_short e.strings)) [
   | inl short ↦ ap strings_in (cond-true (is_short e.strings) _ table short)
@@ -70,7 +70,7 @@ kept_few e table few = elim (cases_Bool (is_short e.strings)) [
   | inr long ↦ subst (λ t. length t ≤ table_limit) (sym (cond-false (is_short e.strings) (take table_limit (e ∷ table)) table long)) few
 ]
 
--- strings that can be spelled: without zero bytes, and a single one without a second string
+-- strings that can be spelled: they have no zero bytes, and a single string has an empty second string
 pub record IsSpellable (e : FormedEntry) : Type 0 where
   pub first : has_no_zero e.strings.first ≡ true
   pub second : has_no_zero e.strings.second ≡ true
@@ -78,7 +78,7 @@ pub record IsSpellable (e : FormedEntry) : Type 0 where
 
 inline_back : (form : Form) (strings : EntryStrings) (rest : List ℕ) → has_no_zero strings.first ≡ true → has_no_zero strings.second ≡ true →
     (form ≡ Single → strings.second ≡ []) →
-    (inline : List ℕ) × (inline_bytes form strings ++ rest ≡ 0 ∷ inline) × InlineStands form inline (strings, rest)
+    (inline : List ℕ) × (inline_bytes form strings ++ rest ≡ 0 ∷ inline) × InlineAtFront form inline (strings, rest)
 inline_back Pair strings rest first second single = (
   strings.first ++ 0 ∷ (strings.second ++ 0 ∷ rest),
   simp append_assoc,
@@ -92,15 +92,15 @@ reference_small n table w few = omega (arith, w.1)
 
 by_reference : (e : FormedEntry) (table : List FormedEntry) (r : Option ℕ) (rest : List ℕ) → IsSpellable e → length table ≤ table_limit →
     reference_to e table ≡ r → Within (length table) r →
-    StringsStand e.form (strings_in table) (strings_bytes e r ++ rest) (e.strings, strings_in (formed_table_after e r table), rest)
+    StringsAtFront e.form (strings_in table) (strings_bytes e r ++ rest) (e.strings, strings_in (formed_table_after e r table), rest)
 by_reference e table None rest ok few is w =
     let inline = inline_back e.form e.strings rest ok.first ok.second ok.single in
     inl (inline.0, inline.1, inline.2, kept_strings e table)
 by_reference e table (Some n) rest ok few is w = inr (n, number_back n rest (reference_small n table w few), named e table n is, refl)
 
--- the strings are read back, and the tables remain equal
+-- the strings are read back, and the tables of writer and reader remain equal
 pub strings_back : (e : FormedEntry) (table : List FormedEntry) (rest : List ℕ) → IsSpellable e → length table ≤ table_limit →
-    StringsStand e.form (strings_in table) (strings_bytes e (reference_to e table) ++ rest)
+    StringsAtFront e.form (strings_in table) (strings_bytes e (reference_to e table) ++ rest)
     (e.strings, strings_in (formed_table_after e (reference_to e table) table), rest)
 strings_back e table rest ok few = by_reference e table (reference_to e table) rest ok few refl (within e table)
 
@@ -108,7 +108,7 @@ few_by : (e : FormedEntry) (table : List FormedEntry) (r : Option ℕ) → lengt
 few_by e table None few = kept_few e table few
 few_by e table (Some n) few = few
 
--- Strings that are written leave the table within its size.
+-- After strings are written, the table is within its limit.
 pub strings_few : (e : FormedEntry) (table : List FormedEntry) → length table ≤ table_limit →
     length (formed_table_after e (reference_to e table) table) ≤ table_limit
 strings_few e table few = few_by e table (reference_to e table) few
@@ -142,7 +142,7 @@ uid_no_zero uid = elim (cases_Bool (eqb uid 0)) [
       ∙ groups_no_zero 9 uid (let apart : uid ≡ 0 → ⊥ = grind (arith, nat_tests) in omega arith)
 ]
 
-uid_from : (bytes : List ℕ) (n : ℕ) → NumberStands bytes (n, []) → n < 2 ^ 32 → uid_of bytes ≡ Ok n
+uid_from : (bytes : List ℕ) (n : ℕ) → NumberAtFront bytes (n, []) → n < 2 ^ 32 → uid_of bytes ≡ Ok n
 unfolding uid_of
 uid_from [] n s small = absurd (let short = number_shorter [] (n, []) s in omega arith)
 uid_from (b ∷ bytes) n s small = read_next (number_at (b ∷ bytes)) whole_number _ (number_only (b ∷ bytes) (n, []) s)

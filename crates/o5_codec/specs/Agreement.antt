@@ -16,18 +16,18 @@ use Rattle.o5_codec.specs.Writing.{EncoderSegment}
 abbrev pub strings_in : List FormedEntry → List EntryStrings
 strings_in table = map (λ e. e.strings) table
 
--- the segment of a reader: the same bases, the strings of the table, and which lists the segment had
-abbrev pub segment_behind : EncoderSegment → ListsSeen → Segment
-segment_behind c seen = record { bases = c.bases; table = strings_in c.table; seen = seen }
+-- the segment of a reader: the bases of the writer, the strings of the writer's table, and which lists the segment had
+abbrev pub reader_segment : EncoderSegment → ListsSeen → Segment
+reader_segment c seen = record { bases = c.bases; table = strings_in c.table; seen = seen }
 
--- the lists that a segment of objects of this kind may have had
+-- the lists that a segment of objects of one kind may have had
 abbrev pub MayHaveSeen : Kind → ListsSeen → Type 0
 MayHaveSeen kind.Node seen = seen ≡ Neither
 MayHaveSeen kind.Way seen = (seen ≡ Neither) ⊎ (seen ≡ References)
 MayHaveSeen kind.Relation seen = (seen ≡ Neither) ⊎ (seen ≡ NodeMembers)
 
 -- the bases are within the ranges of their fields, and the table isn't too long
-pub record IsContext (c : EncoderSegment) : Type 0 where
+pub record IsEncoderSegment (c : EncoderSegment) : Type 0 where
   pub few : length c.table ≤ table_limit
   pub ids : AreIds c.bases
   pub time : c.bases.time < 2 ^ 32

@@ -1,7 +1,7 @@
 -- The author of a version (the OSM wiki's page Elements).
 use Rattle.std.specs.Prelude.{ℕ, List}
 
--- the user name as its characters
+-- changeset, user id, and the characters of the user name
 pub record Author : Type 0 where
   pub changeset : ℕ
   pub uid : ℕ

@@ -8,11 +8,11 @@ use Rattle.o5_codec.specs.declared.reason.O5Reason.TheVariants.{OutOfRange}
 use Rattle.o5_codec.specs.Answer.{and_then}
 use Rattle.o5_codec.specs.Number.{signed_at}
 
--- a value by its difference at the front, and the bytes after it
+-- the value whose difference is at the front, and the bytes after it
 abbrev pub read_difference : {X : Type 0} → (ℤ → Result X O5Reason) → List ℕ → Result (X × List ℕ) O5Reason
 read_difference moved bytes = and_then (signed_at bytes) (λ x. and_then (moved x.0) (λ v. Ok (v, x.1)))
 
--- an id, a reference or the id of a member
+-- the sum of a base and a difference: an id, a reference or the id of a member
 abbrev pub moved_id : ℤ → ℤ → Result ℤ O5Reason
 moved_id base difference = if is_id (base +ℤ difference) then Ok (base +ℤ difference) else Err OutOfRange
 
@@ -24,7 +24,7 @@ abbrev pub number_within : ℤ → Result ℕ O5Reason
 number_within (pos n) = within_range n
 number_within (negsuc n) = Err OutOfRange
 
--- a time or a changeset
+-- the sum of a base and a difference: a time or a changeset
 abbrev pub moved_number : ℕ → ℤ → Result ℕ O5Reason
 moved_number base difference = number_within (pos base +ℤ difference)
 

@@ -1,6 +1,6 @@
 -- The bodies of objects (the OSM wiki's page on o5m).
--- Own rules of this project: coordinates are reduced, no segment has both a way with references and a relation with a
--- node member, and the ranges.
+-- Own rules of this project: coordinates are reduced modulo 2^32, no segment has both a way with references and a
+-- relation with a node member, and values have ranges.
 use Rattle.std.specs.Prelude.{ℕ, ℤ, ◌==◌, nat_le, List, [], ◌∷◌, length, take, drop, Result, Ok, Err, if◌then◌else◌}
 use Rattle.osm_model.specs.declared.kind.Kind.{Kind}
 use Rattle.osm_model.specs.declared.kind.Kind.TheVariants as kind
@@ -46,7 +46,7 @@ unfoldable pub latitude_at : Segment → List ℕ → ReadStep ℤ
 latitude_at s bytes = and_then (signed_at bytes) (λ x. and_then (moved_coordinate s.bases.lat x.0) (λ lat.
     Ok (lat, with_bases s (record s.bases { lat = lat }), x.1)))
 
--- a node at this location: its tags
+-- the body of a node at a location: the bytes are its tags
 abbrev pub node_body_at : ℤ → ℤ → Segment → List ℕ → WholeReading Body
 node_body_at lon lat s bytes = and_then (items_at tag_at s bytes) (λ tags. Ok (Node lon lat tags.0, tags.1))
 
@@ -54,20 +54,21 @@ node_body_at lon lat s bytes = and_then (items_at tag_at s bytes) (λ tags. Ok (
 unfoldable pub node_at : Segment → List ℕ → WholeReading Body
 node_at s bytes = and_then (longitude_at s bytes) (λ x. and_then (latitude_at x.1 x.2) (λ y. node_body_at x.0 y.0 y.1 y.2))
 
--- the section of a given length, and the bytes after it
+-- the section whose length was read, and the bytes after it
 abbrev pub cut_at : ℕ × List ℕ → Result (List ℕ × List ℕ) O5Reason
 cut_at x = if nat_le x.0 (length x.1) then Ok (take x.0 x.1, drop x.0 x.1) else Err BadSection
 
+-- a section after its length, and the bytes after the section
 unfoldable pub section_at : List ℕ → Result (List ℕ × List ℕ) O5Reason
 section_at bytes = and_then (number_at bytes) cut_at
 
--- a way with references, in a segment that had these lists
+-- the lists that a segment has had after a way with references
 abbrev pub with_references : ListsSeen → Result ListsSeen O5Reason
 with_references Neither = Ok References
 with_references References = Ok References
 with_references NodeMembers = Err MixedSegment
 
--- a way with this section of references
+-- the lists that a segment has had after a way with a section of references, which may be empty
 abbrev pub with_section : ListsSeen → List ℕ → Result ListsSeen O5Reason
 with_section seen [] = Ok seen
 with_section seen (b ∷ bytes) = with_references seen
@@ -94,19 +95,19 @@ abbrev pub kind_and_role : List ℕ → Result (Kind × List ℕ) O5Reason
 kind_and_role [] = Err BadMemberType
 kind_and_role (b ∷ role) = and_then (member_kind b) (λ k. Ok (k, role))
 
--- a node member, in a segment that had these lists
+-- the lists that a segment has had after a node member
 abbrev pub with_node_member : ListsSeen → Result ListsSeen O5Reason
 with_node_member Neither = Ok NodeMembers
 with_node_member References = Err MixedSegment
 with_node_member NodeMembers = Ok NodeMembers
 
--- a member of this kind
+-- the lists that a segment has had after a member of some kind
 abbrev pub with_member : ListsSeen → Kind → Result ListsSeen O5Reason
 with_member seen kind.Node = with_node_member seen
 with_member seen kind.Way = Ok seen
 with_member seen kind.Relation = Ok seen
 
--- the id of a member, by its difference to that of the member of its kind before it, and the bases after it
+-- the id of a member, by its difference to the id of the last member of its kind, and the bases after it
 abbrev pub moved_member : Bases → Kind → ℤ → Result (ℤ × Bases) O5Reason
 moved_member bases kind.Node difference =
     and_then (moved_id bases.node_member difference) (λ id. Ok (id, record bases { node_member = id }))
@@ -140,7 +141,7 @@ unfoldable pub body_at : Kind → Segment → List ℕ → WholeReading Body
 body_at k s [] = Ok (Deleted k, s)
 body_at k s (b ∷ bytes) = visible_at k s (b ∷ bytes)
 
--- the version that a data set has, and the segment after it
+-- the version that the content of a data set has, and the segment after it
 unfoldable pub set_at : Kind → Segment → List ℕ → WholeReading VersionData
 set_at k s content =
     and_then (id_at s content) (λ x. and_then (meta_at x.1 x.2) (λ m. and_then (body_at k m.1 m.2) (λ b.

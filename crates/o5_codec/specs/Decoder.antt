@@ -35,7 +35,7 @@ pub record DecoderState : Type 0 where
 abbrev pub reading_in : Segment → DecoderState
 reading_in s = record { segment = s; failed = false }
 
--- after a data set of this kind was read, or refused: the result, with the state before and the state after
+-- the result of reading the content of a data set, with the state before and the state after
 pub record Reads (k : Kind) (content : List ℕ) (old new : DecoderState) (answer : Result VersionData O5Reason) : Type 0 where
   pub read : MatchResult answer
       (λ v. (old.failed ≡ false) × (new.failed ≡ false) × (set_at k old.segment content ≡ Ok (v, new.segment)))

@@ -23,8 +23,8 @@ use Rattle.o5_codec.specs.Entry.{EntryStrings}
 use Rattle.o5_codec.specs.Table.{table_of}
 use Rattle.o5_codec.specs.Answer.{and_then}
 use Rattle.o5_codec.specs.Body.{set_at}
-use Rattle.o5_codec.specs.Spelling.{StringsStand, AuthorBehind, AuthorStands, TagStands, MemberStands, ItemsStand}
-use Rattle.o5_codec.specs.Spelling.{NodeStands, WayStands, RelationStands, BodyStands, SpellsSet}
+use Rattle.o5_codec.specs.Spelling.{StringsAtFront, AuthorAfterChangeset, AuthorAtFront, TagAtFront, MemberAtFront, ItemsInAll}
+use Rattle.o5_codec.specs.Spelling.{NodeInAll, WayInAll, RelationInAll, BodyInAll, SpellsSet}
 
 -- ---- the values that a version spells for a field, in their order
 
@@ -86,7 +86,7 @@ way_ids members = flat_map (λ m. way_id m.kind m.id) members
 abbrev pub relation_ids : List Member → List ℤ
 relation_ids members = flat_map (λ m. relation_id m.kind m.id) members
 
--- ---- the segment after these objects and entries
+-- ---- the segment after some objects and inline entries
 
 -- the last value of a list, or `x` if there is none
 abbrev pub last_from : {X : Type 0} → X → List X → X
@@ -111,6 +111,7 @@ bases_of objects = record {
   relation_member = last_spelled (pos 0) (λ v. relation_ids (members_of v.body)) objects;
 }
 
+-- a list that isn't empty
 abbrev pub is_some_of : {X : Type 0} → List X → Bool
 is_some_of [] = false
 is_some_of (x ∷ xs) = true
@@ -123,70 +124,70 @@ has_references v = is_some_of (references v.body)
 abbrev pub has_node_members : VersionData → Bool
 has_node_members v = is_some_of (node_ids (members_of v.body))
 
--- which of the two these objects had; no segment has both
+-- which of the two kinds of lists some objects have; no segment has both kinds
 abbrev pub lists_of : List VersionData → ListsSeen
 lists_of objects =
     if list_any has_references objects then References else
     (if list_any has_node_members objects then NodeMembers else Neither)
 
--- the segment that had these objects, and these entries inline
+-- the segment after some objects and inline entries
 abbrev pub segment_of : List VersionData → List EntryStrings → Segment
 segment_of objects entries = record { bases = bases_of objects; table = table_of entries; seen = lists_of objects }
 
 -- ---- the inline entries in the bytes that spell a version, in their order
 
 abbrev pub inline_strings : (form : Form) (table : List EntryStrings) (bytes : List ℕ) (x : EntryStrings × List EntryStrings × List ℕ) →
-    StringsStand form table bytes x → List EntryStrings
+    StringsAtFront form table bytes x → List EntryStrings
 inline_strings form table bytes x (inl inline) = x.0 ∷ []
 inline_strings form table bytes x (inr reference) = []
 
 abbrev pub inline_user : (changeset : ℕ) (s : Segment) (bytes : List ℕ) (x : Author × Segment × List ℕ) →
-    AuthorBehind changeset s bytes x → List EntryStrings
+    AuthorAfterChangeset changeset s bytes x → List EntryStrings
 inline_user changeset s [] x stands = []
 inline_user changeset s (b ∷ bytes) x stands =
     let user = stands.1 in
     inline_strings Pair s.table (b ∷ bytes) (user.0, user.1, x.2) user.2
 
 abbrev pub inline_author : (time : ℕ) (s : Segment) (bytes : List ℕ) (x : Author × Segment × List ℕ) →
-    AuthorStands time s bytes x → List EntryStrings
+    AuthorAtFront time s bytes x → List EntryStrings
 inline_author time s bytes x (inl none) = []
 inline_author time s bytes x (inr author) = inline_user author.1.0.0 author.1.0.1 author.1.0.2 x author.1.2
 
--- the inline entries of a list, by those of its items
-abbrev pub inline_items : {X : Type 0} (Stands : Segment → List ℕ → X × Segment × List ℕ → Type 0) →
-    ((s : Segment) (bytes : List ℕ) (x : X × Segment × List ℕ) → Stands s bytes x → List EntryStrings) →
-    (s : Segment) (bytes : List ℕ) (xs : List X) (end : Segment) → ItemsStand Stands s bytes xs end → List EntryStrings
-inline_items Stands of_item s bytes [] end stands = []
-inline_items Stands of_item s bytes (x ∷ xs) end stands =
-    of_item s bytes (x, stands.0, stands.1) stands.2 ++ inline_items Stands of_item stands.0 stands.1 xs end stands.3
+-- the inline entries of the items of a list, in sequence
+abbrev pub inline_items : {X : Type 0} (AtFront : Segment → List ℕ → X × Segment × List ℕ → Type 0) →
+    ((s : Segment) (bytes : List ℕ) (x : X × Segment × List ℕ) → AtFront s bytes x → List EntryStrings) →
+    (s : Segment) (bytes : List ℕ) (xs : List X) (end : Segment) → ItemsInAll AtFront s bytes xs end → List EntryStrings
+inline_items AtFront of_item s bytes [] end stands = []
+inline_items AtFront of_item s bytes (x ∷ xs) end stands =
+    of_item s bytes (x, stands.0, stands.1) stands.2 ++ inline_items AtFront of_item stands.0 stands.1 xs end stands.3
 
-abbrev pub inline_tag : (s : Segment) (bytes : List ℕ) (x : Tag × Segment × List ℕ) → TagStands s bytes x → List EntryStrings
+abbrev pub inline_tag : (s : Segment) (bytes : List ℕ) (x : Tag × Segment × List ℕ) → TagAtFront s bytes x → List EntryStrings
 inline_tag s bytes x stands = inline_strings Pair s.table bytes (stands.0, stands.1, x.2) stands.2
 
 abbrev pub inline_tags : (s : Segment) (bytes : List ℕ) (tags : List Tag) (end : Segment) →
-    ItemsStand TagStands s bytes tags end → List EntryStrings
-inline_tags = inline_items TagStands inline_tag
+    ItemsInAll TagAtFront s bytes tags end → List EntryStrings
+inline_tags = inline_items TagAtFront inline_tag
 
-abbrev pub inline_member : (s : Segment) (bytes : List ℕ) (x : Member × Segment × List ℕ) → MemberStands s bytes x →
+abbrev pub inline_member : (s : Segment) (bytes : List ℕ) (x : Member × Segment × List ℕ) → MemberAtFront s bytes x →
     List EntryStrings
 inline_member s bytes x stands = inline_strings Single s.table stands.0.1 (stands.1.0, stands.1.1, x.2) stands.6
 
 abbrev pub inline_members : (s : Segment) (bytes : List ℕ) (members : List Member) (end : Segment) →
-    ItemsStand MemberStands s bytes members end → List EntryStrings
-inline_members = inline_items MemberStands inline_member
+    ItemsInAll MemberAtFront s bytes members end → List EntryStrings
+inline_members = inline_items MemberAtFront inline_member
 
-abbrev pub inline_node : (s : Segment) (bytes : List ℕ) (x : Body × Segment) → NodeStands s bytes x → List EntryStrings
+abbrev pub inline_node : (s : Segment) (bytes : List ℕ) (x : Body × Segment) → NodeInAll s bytes x → List EntryStrings
 inline_node s bytes x stands = inline_tags stands.1.1 stands.1.2 stands.2 x.1 stands.5
 
-abbrev pub inline_way : (s : Segment) (bytes : List ℕ) (x : Body × Segment) → WayStands s bytes x → List EntryStrings
+abbrev pub inline_way : (s : Segment) (bytes : List ℕ) (x : Body × Segment) → WayInAll s bytes x → List EntryStrings
 inline_way s bytes x stands = inline_tags stands.2.1 stands.0.1 stands.3 x.1 stands.7
 
-abbrev pub inline_relation : (s : Segment) (bytes : List ℕ) (x : Body × Segment) → RelationStands s bytes x → List EntryStrings
+abbrev pub inline_relation : (s : Segment) (bytes : List ℕ) (x : Body × Segment) → RelationInAll s bytes x → List EntryStrings
 inline_relation s bytes x stands =
     inline_members s stands.0.0 stands.1.0 stands.1.1 stands.4 ++
     inline_tags stands.1.1 stands.0.1 stands.2 x.1 stands.5
 
-abbrev pub inline_body : (k : Kind) (s : Segment) (bytes : List ℕ) (x : Body × Segment) → BodyStands k s bytes x →
+abbrev pub inline_body : (k : Kind) (s : Segment) (bytes : List ℕ) (x : Body × Segment) → BodyInAll k s bytes x →
     List EntryStrings
 inline_body k s [] x stands = []
 inline_body kind.Node s (b ∷ bytes) x stands = inline_node s (b ∷ bytes) x stands
@@ -197,14 +198,14 @@ inline_body kind.Relation s (b ∷ bytes) x stands = inline_relation s (b ∷ by
 abbrev pub inline_entries : (k : Kind) (s : Segment) (content : List ℕ) (x : VersionData × Segment) →
     SpellsSet k s content x → List EntryStrings
 inline_entries k s content x spells =
-    let meta = spells.meta_stands in
+    let meta = spells.meta_at_front in
     inline_author meta.1.0 meta.1.1 meta.1.2 meta.2 meta.5 ++
-    inline_body k spells.meta.1 spells.meta.2 spells.body spells.body_stands
+    inline_body k spells.meta.1 spells.meta.2 spells.body spells.body_at_front
 
 -- ---- data sets in sequence
 
--- contents, each with its kind, spell these versions in sequence, with these inline entries, from one segment to the
--- segment after them
+-- contents, each with its kind, spell versions in sequence: `inline` are the inline entries of all contents, `s` is the
+-- segment before the contents, and `end` the segment after them
 abbrev pub SpellSets : Segment → List (Kind × List ℕ) → List VersionData → List EntryStrings → Segment → Type 0
 SpellSets s [] [] inline end = (inline ≡ []) × (s ≡ end)
 SpellSets s [] (v ∷ versions) inline end = ⊥

@@ -44,12 +44,12 @@ reference_to e (x ∷ table) = if same_entry e x then Some 1 else option_map (λ
 abbrev pub formed_table_with : FormedEntry → List FormedEntry → List FormedEntry
 formed_table_with e table = if is_short e.strings then take table_limit (e ∷ table) else table
 
--- an entry with this reference, and without one
+-- the bytes of an entry: its reference if it has one, else its inline form
 abbrev pub strings_bytes : FormedEntry → Option ℕ → List ℕ
 strings_bytes e None = inline_bytes e.form e.strings
 strings_bytes e (Some n) = shortest_number n
 
--- a reference stores nothing
+-- the table after an entry is written: a reference stores nothing
 abbrev pub formed_table_after : FormedEntry → Option ℕ → List FormedEntry → List FormedEntry
 formed_table_after e None table = formed_table_with e table
 formed_table_after e (Some n) table = table

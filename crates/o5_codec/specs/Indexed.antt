@@ -7,14 +7,15 @@ abbrev pub AreDistinct : List FormedEntry → Type 0
 AreDistinct [] = Unit {0}
 AreDistinct (e ∷ table) = (reference_to e table ≡ None) × AreDistinct table
 
--- the reference agrees with the number; `next` is the number of the next entry, and numbers count modulo m
+-- An entry has a reference exactly if it has a number, and then the two add up to `next` modulo m. `next` is the number
+-- of the next entry.
 abbrev pub Numbered : ℕ → ℕ → Option ℕ → Option ℕ → Type 0
 Numbered m next None None = Unit {0}
 Numbered m next (Some i) (Some n) = (n < m) × ((n + i ≡ next) ⊎ (n + i ≡ next + m))
 Numbered m next None (Some n) = ⊥
 Numbered m next (Some i) None = ⊥
 
--- the table's entries are distinct, and only these have numbers
+-- the entries of the table are distinct, and exactly these entries have numbers
 pub record IsIndexed (m limit next : ℕ) (table : List FormedEntry) (number : FormedEntry → Option ℕ) : Type 0 where
   pub few : length table ≤ limit
   pub below : next < m

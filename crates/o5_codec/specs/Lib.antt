@@ -29,7 +29,7 @@ pub mod Agreement
 pub mod WritingLaws
 pub mod Block
 pub mod Decoded
-pub mod StoredInside
+pub mod TableEntryInside
 pub mod EntryInside
-pub mod Digest
+pub mod EntryHash
 pub mod StringKey

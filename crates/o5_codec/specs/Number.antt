@@ -27,17 +27,18 @@ unsigned_of (negsuc n) = 2 * n + 1
 abbrev pub SpellsSigned : List ℕ → ℤ → Type 0
 SpellsSigned bytes m = SpellsNumber bytes (unsigned_of m)
 
--- a lowest group before the others
+-- a number that was read, with one more group below its lowest one
 abbrev pub with_low : ℕ → Result (ℕ × List ℕ) O5Reason → Result (ℕ × List ℕ) O5Reason
 with_low low (Ok x) = Ok (low + 128 * x.0, x.1)
 with_low low (Err reason) = Err reason
 
--- the number at the front, of at most room bytes, and the bytes after it
+-- the number at the front, of at most `room` bytes, and the bytes after it
 unfoldable pub groups_at : ℕ → List ℕ → Result (ℕ × List ℕ) O5Reason
 groups_at zero bytes = Err BadNumber
 groups_at (suc room) [] = Err BadNumber
 groups_at (suc room) (b ∷ bytes) = if nat_lt b 128 then Ok (b, bytes) else with_low (b - 128) (groups_at room bytes)
 
+-- a number that was read, if it is below 2^64
 abbrev pub within_word : ℕ × List ℕ → Result (ℕ × List ℕ) O5Reason
 within_word x = if nat_lt x.0 (2 ^ 64) then Ok x else Err BadNumber
 

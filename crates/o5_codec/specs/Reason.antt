@@ -19,7 +19,8 @@ o5_reason_name Truncated = codes "Truncated"
 o5_reason_name Memory = codes "Memory"
 o5_reason_name Failed = codes "Failed"
 
--- the reasons of the steps: the others are out of memory, an earlier refusal, and a file that ends within a data set
+-- whether a reason is that of a step; the others are out of memory, an earlier refusal, and a file that ends within a
+-- data set
 abbrev pub is_step_reason : O5Reason → Bool
 is_step_reason BadNumber = true
 is_step_reason OutOfRange = true

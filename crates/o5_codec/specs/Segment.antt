@@ -29,7 +29,7 @@ unfoldable pub id_at : Segment → List ℕ → ReadStep ℤ
 id_at s bytes = and_then (signed_at bytes) (λ x. and_then (moved_id s.bases.id x.0) (λ id.
     Ok (id, with_bases s (record s.bases { id = id }), x.1)))
 
--- a version number
+-- a version number from 1 to 4294967295, and the bytes after it
 abbrev pub nonzero_version : ℕ × List ℕ → Result (ℕ × List ℕ) O5Reason
 nonzero_version x = if x.0 == 0 then Err NoVersion else and_then (within_range x.0) (λ n. Ok (n, x.1))
 
@@ -53,15 +53,15 @@ abbrev pub author : ℕ → ℕ → List ℕ → Author
 author changeset uid user = record { changeset = changeset; uid = uid; user = user }
 
 -- the user after a changeset; none if the data set ends (own rule of this project)
-unfoldable pub author_behind : ℕ × Segment × List ℕ → ReadStep Author
-author_behind (changeset, s, []) = Ok (author changeset 0 [], s, [])
-author_behind (changeset, s, b ∷ bytes) =
+unfoldable pub author_after_changeset : ℕ × Segment × List ℕ → ReadStep Author
+author_after_changeset (changeset, s, []) = Ok (author changeset 0 [], s, [])
+author_after_changeset (changeset, s, b ∷ bytes) =
     and_then (user_at s (b ∷ bytes)) (λ x. Ok (author changeset x.0.0 x.0.1, x.1, x.2))
 
 -- changeset and user; they are omitted if there is no time
 unfoldable pub author_at : ℕ → Segment → List ℕ → ReadStep Author
 author_at time s bytes =
-    if time == 0 then Ok (author 0 0 [], s, bytes) else and_then (changeset_at s bytes) author_behind
+    if time == 0 then Ok (author 0 0 [], s, bytes) else and_then (changeset_at s bytes) author_after_changeset
 
 abbrev pub time_of : ℕ → Option ℕ
 time_of time = if time == 0 then None else Some time
@@ -76,11 +76,11 @@ meta_at s bytes =
     and_then (version_at bytes) (λ v. and_then (time_at s v.1) (λ t. and_then (author_at t.0 t.1 t.2) (λ a.
     Ok (meta_of v.0 t.0 a.0, a.1, a.2))))
 
--- metadata, the author replaced by the one read
+-- metadata, with its author replaced by the author that was read
 abbrev pub and_author : Meta → ReadStep Author → ReadStep Meta
 and_author m reading =
     and_then reading (λ a. Ok (record m { changeset = a.0.changeset; uid = a.0.uid; user = a.0.user }, a.1, a.2))
 
--- metadata, the user replaced by the one read
+-- metadata, with its user replaced by the user that was read
 abbrev pub and_user_read : Meta → ReadStep (ℕ × List ℕ) → ReadStep Meta
 and_user_read m reading = and_then reading (λ x. Ok (record m { uid = x.0.0; user = x.0.1 }, x.1, x.2))

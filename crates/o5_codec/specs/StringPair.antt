@@ -47,17 +47,18 @@ abbrev pub entry_or_fault : Option EntryStrings → Result EntryStrings O5Reason
 entry_or_fault None = Err BadReference
 entry_or_fault (Some e) = Ok e
 
--- the strings that are spelled; a reference takes both of the entry, however it was stored (own rule of this project)
+-- the strings that are spelled. A reference names both strings of an entry, in whichever form the entry was stored,
+-- which is an own rule of this project.
 abbrev pub strings_of : List EntryStrings → StringRef → Result EntryStrings O5Reason
 strings_of table (Inline e) = Ok e
 strings_of table (Reference n) = entry_or_fault (entry_at table n)
 
--- the table afterwards; a reference stores nothing
+-- the table after some strings; a reference stores nothing
 abbrev pub table_after : StringRef → List EntryStrings → List EntryStrings
 table_after (Inline e) table = table_with e table
 table_after (Reference n) table = table
 
--- the strings at the front, the table afterwards, and the bytes after the strings
+-- the strings at the front, the table after them, and the bytes after them
 unfoldable pub strings_at : Form → List EntryStrings → List ℕ → Result (EntryStrings × List EntryStrings × List ℕ) O5Reason
 strings_at form table bytes =
     and_then (spelled_at form bytes) (λ x. and_then (strings_of table x.0) (λ e. Ok (e, table_after x.0 table, x.1)))

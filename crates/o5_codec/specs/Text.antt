@@ -19,7 +19,7 @@ unfoldable pub tag_of : EntryStrings → Result Tag O5Reason
 tag_of e =
     and_then (text_of e.first) (λ key. and_then (text_of e.second) (λ value. Ok (record { key = key; value = value })))
 
--- a number with nothing after it
+-- a number that was read, if no bytes come after it
 abbrev pub whole_number : ℕ × List ℕ → Result ℕ O5Reason
 whole_number (n, []) = within_range n
 whole_number (n, b ∷ bytes) = Err BadNumber
@@ -33,6 +33,6 @@ uid_of (b ∷ bytes) = and_then (number_at (b ∷ bytes)) whole_number
 unfoldable pub user_of : EntryStrings → Result (ℕ × List ℕ) O5Reason
 user_of e = and_then (uid_of e.first) (λ uid. and_then (text_of e.second) (λ name. Ok (uid, name)))
 
--- metadata, the user replaced by the one read
+-- metadata, with its user replaced by the user that was read
 abbrev pub and_user : Meta → Result (ℕ × List ℕ) O5Reason → Result Meta O5Reason
 and_user m reading = and_then reading (λ user. Ok (record m { uid = user.0; user = user.1 }))

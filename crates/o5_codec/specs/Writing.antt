@@ -8,7 +8,7 @@ use Rattle.osm_model.specs.declared.tags.Tag.{Tag}
 use Rattle.osm_model.specs.declared.members.Member.{Member}
 use Rattle.osm_model.specs.declared.body.Body.{Body}
 use Rattle.osm_model.specs.declared.body.Body.TheVariants.{Deleted, Node, Way, Relation}
-use Rattle.osm_model.specs.Kind.{kind_rank}
+use Rattle.osm_model.specs.Kind.{kind_order}
 use Rattle.osm_model.specs.Data.{VersionData}
 use Rattle.o5_codec.specs.declared.base.Bases.{Bases}
 use Rattle.o5_codec.specs.declared.strings.Form.TheVariants.{Pair, Single}
@@ -39,38 +39,38 @@ sequence (step ∷ steps) s = ((step s).0 ++ (sequence steps (step s).1).0, (seq
 unfoldable pub fixed_bytes : List ℕ → WriteStep
 fixed_bytes bytes s = (bytes, s)
 
-unfoldable pub id_written : ℤ → WriteStep
-id_written id s = (difference s.bases.id id, after_bases s (record s.bases { id = id }))
+unfoldable pub id_spelling : ℤ → WriteStep
+id_spelling id s = (difference s.bases.id id, after_bases s (record s.bases { id = id }))
 
-unfoldable pub time_written : ℕ → WriteStep
-time_written time s = (difference (pos s.bases.time) (pos time), after_bases s (record s.bases { time = time }))
+unfoldable pub time_spelling : ℕ → WriteStep
+time_spelling time s = (difference (pos s.bases.time) (pos time), after_bases s (record s.bases { time = time }))
 
-unfoldable pub changeset_written : ℕ → WriteStep
-changeset_written changeset s =
+unfoldable pub changeset_spelling : ℕ → WriteStep
+changeset_spelling changeset s =
     (difference (pos s.bases.changeset) (pos changeset), after_bases s (record s.bases { changeset = changeset }))
 
--- a coordinate's difference is the plain one of the two values
-unfoldable pub longitude_written : ℤ → WriteStep
-longitude_written lon s = (difference s.bases.lon lon, after_bases s (record s.bases { lon = lon }))
+-- the difference of two coordinates isn't reduced modulo 2^32
+unfoldable pub longitude_spelling : ℤ → WriteStep
+longitude_spelling lon s = (difference s.bases.lon lon, after_bases s (record s.bases { lon = lon }))
 
-unfoldable pub latitude_written : ℤ → WriteStep
-latitude_written lat s = (difference s.bases.lat lat, after_bases s (record s.bases { lat = lat }))
+unfoldable pub latitude_spelling : ℤ → WriteStep
+latitude_spelling lat s = (difference s.bases.lat lat, after_bases s (record s.bases { lat = lat }))
 
-unfoldable pub reference_written : ℤ → WriteStep
-reference_written id s = (difference s.bases.reference id, after_bases s (record s.bases { reference = id }))
+unfoldable pub reference_spelling : ℤ → WriteStep
+reference_spelling id s = (difference s.bases.reference id, after_bases s (record s.bases { reference = id }))
 
 -- each kind of members has its own base
-unfoldable pub member_id_written : Kind → ℤ → WriteStep
-member_id_written kind.Node id s =
+unfoldable pub member_id_spelling : Kind → ℤ → WriteStep
+member_id_spelling kind.Node id s =
     (difference s.bases.node_member id, after_bases s (record s.bases { node_member = id }))
-member_id_written kind.Way id s =
+member_id_spelling kind.Way id s =
     (difference s.bases.way_member id, after_bases s (record s.bases { way_member = id }))
-member_id_written kind.Relation id s =
+member_id_spelling kind.Relation id s =
     (difference s.bases.relation_member id, after_bases s (record s.bases { relation_member = id }))
 
--- a pair or a single string: a reference if the table has it, else inline
-unfoldable pub strings_written : FormedEntry → WriteStep
-strings_written e s =
+-- a pair or a single string: a reference if the table has the entry, else the inline form
+unfoldable pub strings_spelling : FormedEntry → WriteStep
+strings_spelling e s =
     (strings_bytes e (reference_to e s.table), record s { table = formed_table_after e (reference_to e s.table) s.table })
 
 -- a user id as a string; 0 is the empty one
@@ -85,47 +85,47 @@ tag_entry tag = formed_entry Pair (encode_utf8_all tag.key) (encode_utf8_all tag
 
 -- the digit of a member's kind, and then the bytes of its role
 abbrev pub member_string : Kind → List ℕ → List ℕ
-member_string k role = (48 + kind_rank k) ∷ role
+member_string k role = (48 + kind_order k) ∷ role
 
 abbrev pub member_entry : Kind → List ℕ → FormedEntry
 member_entry k role = formed_entry Single (member_string k (encode_utf8_all role)) []
 
-abbrev pub tag_written : Tag → WriteStep
-tag_written tag = strings_written (tag_entry tag)
+abbrev pub tag_spelling : Tag → WriteStep
+tag_spelling tag = strings_spelling (tag_entry tag)
 
-unfoldable pub tags_written : List Tag → WriteStep
-tags_written tags = sequence (map tag_written tags)
+unfoldable pub tags_spelling : List Tag → WriteStep
+tags_spelling tags = sequence (map tag_spelling tags)
 
-unfoldable pub member_written : Member → WriteStep
-member_written m = sequence (member_id_written m.kind m.id ∷ strings_written (member_entry m.kind m.role) ∷ [])
+unfoldable pub member_spelling : Member → WriteStep
+member_spelling m = sequence (member_id_spelling m.kind m.id ∷ strings_spelling (member_entry m.kind m.role) ∷ [])
 
--- a section after its length
-unfoldable pub section_written : WriteStep → WriteStep
-section_written step s = (shortest_number (length (step s).0) ++ (step s).0, (step s).1)
+-- the length of a section, and then the section
+unfoldable pub section_spelling : WriteStep → WriteStep
+section_spelling step s = (shortest_number (length (step s).0) ++ (step s).0, (step s).1)
 
-unfoldable pub references_written : List ℤ → WriteStep
-references_written ids = sequence (map reference_written ids)
+unfoldable pub references_spelling : List ℤ → WriteStep
+references_spelling ids = sequence (map reference_spelling ids)
 
-unfoldable pub members_written : List Member → WriteStep
-members_written members = sequence (map member_written members)
+unfoldable pub members_spelling : List Member → WriteStep
+members_spelling members = sequence (map member_spelling members)
 
 -- changeset and user; nothing if there is no time
 abbrev pub author_steps : Option ℕ → VersionData → List WriteStep
 author_steps None v = []
-author_steps (Some t) v = changeset_written v.changeset ∷ strings_written (user_entry v.uid v.user) ∷ []
+author_steps (Some t) v = changeset_spelling v.changeset ∷ strings_spelling (user_entry v.uid v.user) ∷ []
 
-unfoldable pub author_written : VersionData → WriteStep
-author_written v = sequence (author_steps v.time v)
+unfoldable pub author_spelling : VersionData → WriteStep
+author_spelling v = sequence (author_steps v.time v)
 
--- a visible body even if it is empty; nothing for a deletion
-unfoldable pub body_written : Body → WriteStep
-body_written (Deleted k) = sequence []
-body_written (Node lon lat tags) = sequence (longitude_written lon ∷ latitude_written lat ∷ tags_written tags ∷ [])
-body_written (Way refs tags) = sequence (section_written (references_written refs) ∷ tags_written tags ∷ [])
-body_written (Relation members tags) = sequence (section_written (members_written members) ∷ tags_written tags ∷ [])
+-- the parts of a visible body, even if its lists are empty; nothing for a deletion
+unfoldable pub body_spelling : Body → WriteStep
+body_spelling (Deleted k) = sequence []
+body_spelling (Node lon lat tags) = sequence (longitude_spelling lon ∷ latitude_spelling lat ∷ tags_spelling tags ∷ [])
+body_spelling (Way refs tags) = sequence (section_spelling (references_spelling refs) ∷ tags_spelling tags ∷ [])
+body_spelling (Relation members tags) = sequence (section_spelling (members_spelling members) ∷ tags_spelling tags ∷ [])
 
 -- the content of a version's data set; no time spells time 0
-unfoldable pub content_written : VersionData → WriteStep
-content_written v =
-    sequence (id_written v.id ∷ fixed_bytes (shortest_number v.number) ∷ time_written (unwrap_or v.time 0) ∷ author_written v ∷
-    body_written v.body ∷ [])
+unfoldable pub content_spelling : VersionData → WriteStep
+content_spelling v =
+    sequence (id_spelling v.id ∷ fixed_bytes (shortest_number v.number) ∷ time_spelling (unwrap_or v.time 0) ∷ author_spelling v ∷
+    body_spelling v.body ∷ [])

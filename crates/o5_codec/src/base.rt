@@ -9,8 +9,8 @@ ghost use Rattle.o5_codec.specs.Shortest.{difference};
 
 use crate::O5Reason;
 use crate::number::{read_signed, strip_zero};
-use crate::write::draft::SetBuffer;
 use crate::write::number::append_signed;
+use crate::write::set_buffer::SetBuffer;
 use osm_model::{Memory, is_id};
 use std::marker::Model;
 
@@ -90,7 +90,7 @@ impl IdBase {
         Ok((id, rest))
     }
 
-    /// The id with this difference. The base moves to it.
+    /// The sum of the base and `difference`, which is an id. The base moves to the id.
     ///
     /// # Errors
     ///
@@ -100,7 +100,7 @@ impl IdBase {
         ensures value { result ≡ spec.moved_id self.old difference }
         ensures base { IfOk result (λ id. self.new ≡ id) }
     {
-        // The base lies so near to 0 that a sum that wraps around is no id.
+        // The base is so near 0 that a sum that wraps around is no id.
         let id = self.id.wrapping_add(difference);
         if !is_id(id) {
             return Err(O5Reason::OutOfRange);
@@ -109,7 +109,7 @@ impl IdBase {
         Ok(id)
     }
 
-    /// Appends an id by its difference. The base moves to it.
+    /// Appends an id by its difference to the base. The base moves to the id.
     ///
     /// # Errors
     ///
@@ -162,7 +162,7 @@ impl NumberBase {
         Ok((number, rest))
     }
 
-    /// The number with this difference. The base moves to it.
+    /// The sum of the base and `difference`. The base moves to the sum.
     ///
     /// # Errors
     ///
@@ -181,7 +181,7 @@ impl NumberBase {
         Ok(number)
     }
 
-    /// Appends a number by its difference. The base moves to it.
+    /// Appends a number by its difference to the base. The base moves to the number.
     ///
     /// # Errors
     ///
@@ -228,7 +228,7 @@ impl CoordinateBase {
         Ok((coordinate, rest))
     }
 
-    /// The coordinate with this difference: the sum, reduced modulo 2^32 to 32 bits. The base moves to it.
+    /// The sum of the base and `difference`, reduced modulo 2^32 to 32 bits. The base moves to the result.
     ///
     /// # Errors
     ///
@@ -246,7 +246,8 @@ impl CoordinateBase {
         Ok(coordinate)
     }
 
-    /// Appends a coordinate by its plain difference. The base moves to it.
+    /// Appends a coordinate by its difference to the base, which isn't reduced modulo 2^32. The base moves to the
+    /// coordinate.
     ///
     /// # Errors
     ///
@@ -262,11 +263,11 @@ impl CoordinateBase {
     }
 }
 
-/// A number up to 4294967295.
+/// `number`, if it is at most 4294967295.
 ///
 /// # Errors
 ///
-/// `OutOfRange` if it is above.
+/// `OutOfRange` if `number` is above.
 pub(crate) fn within_range(number: u64) -> Result<u32, O5Reason>
     ensures { result ≡ spec.within_range number }
 {
@@ -277,7 +278,7 @@ pub(crate) fn within_range(number: u64) -> Result<u32, O5Reason>
     }
 }
 
-/// The number of 32 bits that is the same modulo 2^32.
+/// The signed number of 32 bits that is equal to `sum` modulo 2^32.
 fn reduced(sum: i64) -> i32
     ensures { result ≡ int_wrap w32 sum }
 {

@@ -1,6 +1,6 @@
 //! The bodies of data sets.
 ghost use Rattle.std.specs.Prelude.{◌≡◌, ◌<◌, [], length, IfOk};
-ghost use Rattle.o5_codec.specs.Answer.{O5Gives, O5Answers};
+ghost use Rattle.o5_codec.specs.Answer.{O5Gives, O5Reads};
 ghost use Rattle.o5_codec.specs.Items.{items_at, and_one_more};
 ghost use Rattle.o5_codec.specs.Body as spec;
 
@@ -13,7 +13,7 @@ use crate::text::to_text;
 use osm_model::{Body, Kind, Member, Members, Memory, References, Spare, Tag, Tags};
 
 impl ListsSeen {
-    /// The lists that the segment had after a way with this section of references.
+    /// The lists that the segment has had after a way whose section of references is `section`.
     fn with_section(self, section: &[u8]) -> Result<ListsSeen, O5Reason>
         ensures { result ≡ spec.with_section self section.now }
     {
@@ -26,7 +26,7 @@ impl ListsSeen {
         }
     }
 
-    /// The lists that the segment had after a member of this kind.
+    /// The lists that the segment has had after a member of the kind `kind`.
     fn with_member(self, kind: Kind) -> Result<ListsSeen, O5Reason>
         ensures { result ≡ spec.with_member self kind }
     {
@@ -39,7 +39,7 @@ impl ListsSeen {
 }
 
 impl Bases {
-    /// The id of a member of this kind, by its difference.
+    /// The id of a member of the kind `kind`, by its difference to the base. The base moves to the id.
     fn move_member(&mut self, kind: Kind, difference: i64) -> Result<i64, O5Reason>
         ensures { O5Gives (λ id. (id, self.new)) (spec.moved_member self.old kind difference) result }
     {
@@ -52,8 +52,8 @@ impl Bases {
 }
 
 impl Segment {
-    /// Reads the body of an object of `kind`, to the end of the bytes, and replaces `body`, which holds no memory. An
-    /// object without a byte was deleted.
+    /// Reads the body of an object of `kind`, to the end of the bytes, and replaces `body`, which holds no memory. If
+    /// `bytes` is empty, the object was deleted.
     #[tactic(auto, unfolding(crate::specs::Body::body_at))]
     pub(crate) fn read_body(
         &mut self,
@@ -62,7 +62,7 @@ impl Segment {
         spare: &mut Spare,
         body: &mut Body,
     ) -> Result<(), O5Reason>
-        ensures { O5Answers (λ _. (body.new, self.new)) (spec.body_at kind self.old bytes.now) result }
+        ensures { O5Reads (λ _. (body.new, self.new)) (spec.body_at kind self.old bytes.now) result }
     {
         if bytes.is_empty() {
             body.replace(Body::Deleted(kind));
@@ -75,6 +75,7 @@ impl Segment {
         }
     }
 
+    /// Reads the location and the tags of a node to the end of the bytes, and replaces `body` by the node.
     #[tactic(auto, unfolding(crate::specs::Body::node_at))]
     fn read_node(
         &mut self,
@@ -82,11 +83,11 @@ impl Segment {
         spare: &mut Spare,
         body: &mut Body,
     ) -> Result<(), O5Reason>
-        ensures { O5Answers (λ _. (body.new, self.new)) (spec.node_at self.old bytes.now) result }
+        ensures { O5Reads (λ _. (body.new, self.new)) (spec.node_at self.old bytes.now) result }
     {
         let (lon, rest) = self.read_longitude(bytes)?;
         let (lat, rest) = self.read_latitude(rest)?;
-        // Most nodes have no tags, and an empty list then needn't be moved.
+        // Most nodes have no tags. This path moves no list of tags.
         if rest.is_empty() {
             let tags = self.no_tags();
             body.replace(Body::Node { lon, lat, tags });
@@ -106,13 +107,14 @@ impl Segment {
         spare: &mut Spare,
         body: &mut Body,
     ) -> Result<(), O5Reason>
-        ensures { O5Answers (λ _. (body.new, self.new)) (spec.node_body_at lon lat self.old bytes.now) result }
+        ensures { O5Reads (λ _. (body.new, self.new)) (spec.node_body_at lon lat self.old bytes.now) result }
     {
         let tags = self.read_each_tag(bytes, spare)?;
         body.replace(Body::Node { lon, lat, tags });
         Ok(())
     }
 
+    /// The longitude, and the bytes after it.
     #[tactic(auto, unfolding(crate::specs::Body::longitude_at))]
     fn read_longitude<'a>(&mut self, bytes: &'a [u8]) -> Result<(i32, &'a [u8]), O5Reason>
         ensures { O5Gives (λ x. (x.0, self.new, x.1.now)) (spec.longitude_at self.old bytes.now) result }
@@ -120,6 +122,7 @@ impl Segment {
         self.bases.lon.read(bytes)
     }
 
+    /// The latitude, and the bytes after it.
     #[tactic(auto, unfolding(crate::specs::Body::latitude_at))]
     fn read_latitude<'a>(&mut self, bytes: &'a [u8]) -> Result<(i32, &'a [u8]), O5Reason>
         ensures { O5Gives (λ x. (x.0, self.new, x.1.now)) (spec.latitude_at self.old bytes.now) result }
@@ -127,9 +130,10 @@ impl Segment {
         self.bases.lat.read(bytes)
     }
 
+    /// Reads the section of references and the tags of a way to the end of the bytes, and replaces `body` by the way.
     #[tactic(auto, unfolding(crate::specs::Body::way_at))]
     fn read_way(&mut self, bytes: &[u8], spare: &mut Spare, body: &mut Body) -> Result<(), O5Reason>
-        ensures { O5Answers (λ _. (body.new, self.new)) (spec.way_at self.old bytes.now) result }
+        ensures { O5Reads (λ _. (body.new, self.new)) (spec.way_at self.old bytes.now) result }
     {
         let (section, rest) = read_section(bytes)?;
         self.seen = self.seen.with_section(section)?;
@@ -139,6 +143,8 @@ impl Segment {
         Ok(())
     }
 
+    /// Reads the section of members and the tags of a relation to the end of the bytes, and replaces `body` by the
+    /// relation.
     #[tactic(auto, unfolding(crate::specs::Body::relation_at))]
     fn read_relation(
         &mut self,
@@ -146,7 +152,7 @@ impl Segment {
         spare: &mut Spare,
         body: &mut Body,
     ) -> Result<(), O5Reason>
-        ensures { O5Answers (λ _. (body.new, self.new)) (spec.relation_at self.old bytes.now) result }
+        ensures { O5Reads (λ _. (body.new, self.new)) (spec.relation_at self.old bytes.now) result }
     {
         let (section, rest) = read_section(bytes)?;
         let members = self.read_members(section, spare)?;
@@ -155,9 +161,9 @@ impl Segment {
         Ok(())
     }
 
-    /// References to the end of the bytes.
+    /// Reads references to the end of the bytes.
     fn read_references(&mut self, bytes: &[u8], spare: &mut Spare) -> Result<References, O5Reason>
-        ensures { O5Answers (λ ids. (ids, self.new)) (items_at spec.reference_at self.old bytes.now) result }
+        ensures { O5Reads (λ ids. (ids, self.new)) (items_at spec.reference_at self.old bytes.now) result }
     {
         let mut ids = room_for_references(bytes, spare)?;
         let mut rest = bytes;
@@ -169,6 +175,7 @@ impl Segment {
         Ok(References::from_vec(ids))
     }
 
+    /// The next reference of a way, and the bytes after it.
     #[tactic(auto, unfolding(crate::specs::Body::reference_at))]
     fn read_reference<'a>(&mut self, bytes: &'a [u8]) -> Result<(i64, &'a [u8]), O5Reason>
         ensures value { O5Gives (λ x. (x.0, self.new, x.1.now)) (spec.reference_at self.old bytes.now) result }
@@ -177,9 +184,9 @@ impl Segment {
         self.bases.reference.read(bytes)
     }
 
-    /// Members to the end of the bytes.
+    /// Reads members to the end of the bytes.
     fn read_members(&mut self, bytes: &[u8], spare: &mut Spare) -> Result<Members, O5Reason>
-        ensures { O5Answers (λ members. (members, self.new)) (items_at spec.member_at self.old bytes.now) result }
+        ensures { O5Reads (λ members. (members, self.new)) (items_at spec.member_at self.old bytes.now) result }
     {
         let mut members = spare.take_members();
         let mut rest = bytes;
@@ -191,9 +198,10 @@ impl Segment {
         Ok(Members::from_vec(members))
     }
 
+    /// The next member of a relation, and the bytes after it.
     #[tactic(auto, unfolding(crate::specs::Body::member_at, crate::specs::StringPair::strings_at))]
     fn read_member<'a>(&mut self, bytes: &'a [u8]) -> Result<(Member, &'a [u8]), O5Reason>
-        ensures value { O5Answers (λ x. (x.0, self.new, x.1.now)) (spec.member_at self.old bytes.now) result }
+        ensures value { O5Reads (λ x. (x.0, self.new, x.1.now)) (spec.member_at self.old bytes.now) result }
         ensures shorter { IfOk result (λ x. length x.1.now < length bytes.now) }
     {
         let (difference, rest) = read_signed(bytes)?;
@@ -207,10 +215,10 @@ impl Segment {
         Ok((Member { kind, id, role }, rest))
     }
 
-    /// Tags to the end of the bytes.
+    /// Reads tags to the end of the bytes.
     #[inline(always)]
     fn read_tags(&mut self, bytes: &[u8], spare: &mut Spare) -> Result<Tags, O5Reason>
-        ensures { O5Answers (λ tags. (tags, self.new)) (items_at spec.tag_at self.old bytes.now) result }
+        ensures { O5Reads (λ tags. (tags, self.new)) (items_at spec.tag_at self.old bytes.now) result }
     {
         if bytes.is_empty() {
             return Ok(self.no_tags());
@@ -218,6 +226,7 @@ impl Segment {
         self.read_each_tag(bytes, spare)
     }
 
+    /// An empty list of tags.
     #[inline(always)]
     fn no_tags(&self) -> Tags
         ensures { result ≡ [] }
@@ -225,11 +234,11 @@ impl Segment {
         Tags::from_vec(Vec::new(self.table.allocator()))
     }
 
-    /// Tags to the end of the bytes, which are not empty. This is a function of its own only for the optimizer, since
-    /// most objects have no tags.
+    /// Reads tags to the end of the bytes, which are not empty. This is a function of its own only for the optimizer,
+    /// since most objects have no tags.
     #[inline(never)]
     fn read_each_tag(&mut self, bytes: &[u8], spare: &mut Spare) -> Result<Tags, O5Reason>
-        ensures { O5Answers (λ tags. (tags, self.new)) (items_at spec.tag_at self.old bytes.now) result }
+        ensures { O5Reads (λ tags. (tags, self.new)) (items_at spec.tag_at self.old bytes.now) result }
     {
         let mut tags = spare.take_tags();
         let mut rest = bytes;
@@ -239,11 +248,12 @@ impl Segment {
         Ok(Tags::from_vec(tags))
     }
 
-    /// Adds a tag to a list. Returns the bytes after it. Handed on by results, a tag was moved four times.
+    /// Reads a tag and adds it to `tags`. Returns the bytes after the tag. If functions returned the tag, it would be
+    /// moved four times.
     #[inline(always)]
     #[tactic(auto, unfolding(crate::specs::Body::tag_at, crate::specs::StringPair::strings_at))]
     fn add_tag<'a>(&mut self, bytes: &'a [u8], tags: &mut Vec<Tag>) -> Result<&'a [u8], O5Reason>
-        ensures value { O5Answers (λ rest. (tags.new.items, self.new, rest.now))
+        ensures value { O5Reads (λ rest. (tags.new.items, self.new, rest.now))
             (and_one_more tags.old.items (spec.tag_at self.old bytes.now)) result }
         ensures shorter { IfOk result (λ rest. length rest.now < length bytes.now) }
     {
@@ -254,7 +264,8 @@ impl Segment {
     }
 }
 
-/// A list for the references of these bytes: one that has been used before, or with room for as many as there are.
+/// An empty list for the references in `bytes`: a list of `spare` that was used before, or a new one with room for all
+/// references.
 fn room_for_references(bytes: &[u8], spare: &mut Spare) -> Result<Vec<i64>, Memory>
     ensures { IfOk result (λ ids. ids.items ≡ []) }
 {
@@ -277,7 +288,7 @@ fn read_section(bytes: &[u8]) -> Result<(&[u8], &[u8]), O5Reason>
     Ok(rest.split_at(length as usize))
 }
 
-/// The kind of a member by its first byte, and the role after it.
+/// The kind of a member, by the first byte of `text`, and the role after that byte.
 fn split_kind(text: &[u8]) -> Result<(Kind, &[u8]), O5Reason>
     ensures { O5Gives (λ x. (x.0, x.1.now)) (spec.kind_and_role text.now) result }
 {

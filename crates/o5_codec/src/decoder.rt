@@ -1,6 +1,6 @@
 //! Reading data sets.
 ghost use Rattle.std.specs.Prelude.{◌≡◌, ◌⊎◌, Ok, true, false, IfOk, IfErr, OnOk};
-ghost use Rattle.o5_codec.specs.Answer.{O5Answers};
+ghost use Rattle.o5_codec.specs.Answer.{O5Reads};
 ghost use Rattle.o5_codec.specs.Body.{set_at};
 ghost use Rattle.o5_codec.specs.Sound.{is_sound};
 ghost use Rattle.o5_codec.specs.Decoder.{new_segment, reading_in, Reads};
@@ -20,7 +20,7 @@ use std::marker::Model;
 pub struct Decoder {
     segment: Segment,
     failed: bool,
-    /// The memory that isn't needed any more; the next version is made in it.
+    /// The memory of versions that were given back; the next version is made in it.
     spare: Spare,
 }
 
@@ -41,7 +41,7 @@ impl Decoder {
     ///
     /// # Errors
     ///
-    /// `Memory` if that room can't be allocated.
+    /// `Memory` if the string table can't be allocated.
     pub fn new(alloc: Global) -> Result<Decoder, Memory>
         ensures { IfOk result (λ d. d ≡ reading_in new_segment) }
     {
@@ -52,7 +52,7 @@ impl Decoder {
         })
     }
 
-    /// The version that the content of a data set has, for an object of this kind.
+    /// Reads the version of an object of `kind` from the content of a data set.
     ///
     /// # Errors
     ///
@@ -75,7 +75,7 @@ impl Decoder {
         }
     }
 
-    /// Takes back a version that isn't needed any more. The next one is made in its memory, so none is allocated.
+    /// Takes back a version that isn't needed any more. The next version is made in its memory.
     #[inline(always)]
     pub fn reuse(&mut self, version: Version)
         ensures { self.new ≡ self.old }
@@ -112,7 +112,7 @@ impl Segment {
         self.seen = ListsSeen::Neither;
     }
 
-    /// The version of a data set, in memory that isn't needed any more, if there is some.
+    /// Reads the version of a data set. The version is made in the memory of `spare`, if `spare` has some.
     #[tactic(auto, unfolding(crate::specs::Body::set_at))]
     fn read_set(
         &mut self,
@@ -121,7 +121,7 @@ impl Segment {
         spare: &mut Spare,
     ) -> Result<Version, O5Reason>
         requires { is_sound self.old ≡ true }
-        ensures value { O5Answers (λ v. (v, self.new)) (set_at kind self.old content.now) result }
+        ensures value { O5Reads (λ v. (v, self.new)) (set_at kind self.old content.now) result }
         ensures sound { OnOk result (is_sound self.new ≡ true) }
     {
         let mut parts = Parts::recycled_or_new(self.table.allocator(), spare)?;
@@ -129,7 +129,7 @@ impl Segment {
         parts.id = id;
         let rest = self.read_meta(rest, &mut parts.meta)?;
         self.read_body(kind, rest, spare, &mut parts.body)?;
-        // A data set that is read is within all ranges.
+        // A version that is read is within all ranges.
         Ok(Version::from_checked_parts(parts))
     }
 }

@@ -5,23 +5,24 @@ ghost use Rattle.osm_model.specs.Extends.{Extends};
 ghost use Rattle.o5_codec.specs.Encoder as spec;
 
 use crate::EncodeFault;
-use crate::write::draft::SetBuffer;
 use crate::write::number::append_number;
 use crate::write::segment::EncoderSegment;
+use crate::write::set_buffer::SetBuffer;
 use osm_model::{Kind, Memory, Version};
 use std::alloc::Global;
 use std::marker::Model;
 
-/// Writes the data sets of o5m and o5c files in sequence, each relative to those before it in its segment. A version
-/// has one form.
+/// Writes the data sets of o5m and o5c files in sequence, each relative to those before it in its segment. The bytes of
+/// a version depend only on the version and on the versions written before it.
 #[derive(Drop)]
 pub struct Encoder {
     last: Kind,
-    context: EncoderSegment,
+    segment: EncoderSegment,
     failed: bool,
     alloc: Global,
-    /// Buffers that are reused: a data set, with room for its type and length at the front, and a section within it.
+    /// A buffer for a data set, with room for the type and the length before the content. It is reused.
     set: SetBuffer,
+    /// A buffer for the section of references or members within a data set. It is reused.
     section: SetBuffer,
 }
 
@@ -30,21 +31,21 @@ impl Model for Encoder {
 
     ghost Value = { EncoderState };
 
-    ghost view = { λ e. record { written = record { last = e.last; context = e.context }; failed = e.failed } };
+    ghost view = { λ e. record { written = record { last = e.last; segment = e.segment }; failed = e.failed } };
 }
 
 impl Encoder {
-    /// An encoder after the header of a file, with room for all entries of its string table.
+    /// An encoder after the header of a file. Its string table has room for all entries.
     ///
     /// # Errors
     ///
-    /// `Memory` if that room can't be allocated.
+    /// `Memory` if the string table can't be allocated.
     pub fn new(alloc: Global) -> Result<Encoder, Memory>
-        ensures { IfOk result (λ e. e ≡ spec.writing_on spec.initial_written) }
+        ensures { IfOk result (λ e. e ≡ spec.writing_on spec.initial_writer) }
     {
         Ok(Encoder {
             last: Kind::Node,
-            context: EncoderSegment::new(alloc)?,
+            segment: EncoderSegment::new(alloc)?,
             failed: false,
             alloc,
             set: SetBuffer::new(alloc),
@@ -52,8 +53,8 @@ impl Encoder {
         })
     }
 
-    /// The data set of a version, after a reset if the version begins a segment. The kind may not be below that of the
-    /// version written last.
+    /// Returns the data set of a version, after a reset if the version begins a segment. The kind of `v` may not be
+    /// below that of the version written last: nodes come first, then ways, then relations.
     ///
     /// # Errors
     ///
@@ -69,8 +70,8 @@ impl Encoder {
         Ok(set)
     }
 
-    /// Appends the data set of a version, as [`Encoder::write_set`] gives it. After an error `out` has the bytes that
-    /// it had before.
+    /// Appends the data set of a version, as [`Encoder::write_set`] returns it. An error leaves the bytes of `out`
+    /// unchanged.
     ///
     /// # Errors
     ///
@@ -95,19 +96,19 @@ impl Encoder {
     }
 
     /// Appends the data set of a version, if the encoder hasn't failed.
-    #[tactic(auto, using(crate::proofs::FrontLaws::behind_two), unfolding(crate::specs::Encoder::context_of, crate::specs::Encoder::spelled_set, crate::specs::Encoder::written_after))]
+    #[tactic(auto, using(crate::proofs::FrontLaws::behind_two), unfolding(crate::specs::Encoder::segment_before, crate::specs::Encoder::spelled_set, crate::specs::Encoder::writer_after))]
     fn append_version(&mut self, out: &mut Vec<u8>, v: &Version) -> Result<(), Memory>
         ensures bytes { OnOk result (out.new.items ≡ out.old.items ++ spec.spelled_set self.old.written v.now) }
         ensures written { OnOk result
-            (self.new ≡ record { written = spec.written_after self.old.written v.now; failed = self.old.failed }) }
+            (self.new ≡ record { written = spec.writer_after self.old.written v.now; failed = self.old.failed }) }
         ensures unchanged { OnErr result (out.new.items ≡ out.old.items) }
     {
         let kind = v.kind();
         let begins = begins_segment(self.last, kind);
-        begin_if(begins, &mut self.context);
+        begin_if(begins, &mut self.segment);
         self.last = kind;
         self.set.begin();
-        self.context
+        self.segment
             .append_content(&mut self.set, &mut self.section, v)?;
         append_whole(out, begins, kind, &mut self.set)
     }
@@ -117,20 +118,20 @@ impl Encoder {
 fn begins_segment(last: Kind, kind: Kind) -> bool
     ensures { result ≡ spec.begins_segment last kind }
 {
-    last.rank() != kind.rank()
+    last.index() != kind.index()
 }
 
-/// Begins a segment, if one begins.
-fn begin_if(begins: bool, context: &mut EncoderSegment)
-    ensures { context.new ≡ spec.context_for begins context.old }
+/// Clears `segment` if a segment begins.
+fn begin_if(begins: bool, segment: &mut EncoderSegment)
+    ensures { segment.new ≡ spec.segment_to_use begins segment.old }
 {
     if begins {
-        context.clear();
+        segment.clear();
     }
 }
 
-/// Appends a data set whose content has room for two bytes before it, and a reset before the data set if it begins a
-/// segment. After an error `out` has the bytes that it had before.
+/// Appends a data set, after a reset if the data set begins a segment. `set` has room for two bytes, and then the
+/// content. An error leaves the bytes of `out` unchanged.
 fn append_whole(
     out: &mut Vec<u8>,
     begins: bool,
@@ -152,7 +153,7 @@ fn append_whole(
     }
 }
 
-/// Appends the parts of a data set in sequence.
+/// Appends a data set, like `append_whole`. After an error `out` may have a part of the data set.
 #[inline(always)]
 fn append_parts(
     out: &mut Vec<u8>,
@@ -172,7 +173,7 @@ fn append_parts(
     append_short_set(out, kind, set)
 }
 
-/// Appends a data set whose content is short and that begins no segment.
+/// Appends a data set with less than 128 bytes of content that begins no segment.
 #[inline(always)]
 fn append_short_set(out: &mut Vec<u8>, kind: Kind, set: &mut SetBuffer) -> Result<(), Memory>
     requires some { 2 ≤ length set.old }
@@ -208,6 +209,7 @@ fn append_any_set(
     set.append_behind_front(out)
 }
 
+/// The byte that begins the data set of an object of this kind.
 fn type_byte(kind: Kind) -> u8
     ensures { result ≡ spec.type_byte kind }
 {

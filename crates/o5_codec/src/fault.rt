@@ -5,7 +5,7 @@ use thiserror::Error;
 /// Why an encoder doesn't write a version.
 #[derive(Clone, Copy, Debug, PartialEq, Eq, Error)]
 pub enum EncodeFault {
-    /// A growth of memory was refused.
+    /// An allocation failed.
     #[error("out of memory")]
     Memory,
     /// An earlier version ran out of memory.

@@ -38,7 +38,7 @@ pub fn sets_are_refused()
     ensures { law.SetsAreRefused }
 {}
 
-/// The string table is that of the inline entries of the segment so far.
+/// The string table that is built entry by entry is that of the list of all inline entries of the segment so far.
 pub fn table_holds_the_last_entries()
     ensures { law.TableOfEntries }
 {}
@@ -48,8 +48,8 @@ pub fn spelled_or_refused()
     ensures { law.SpelledOrRefused }
 {}
 
-/// A content with such a reason spells no version and has no other reason. The reason is never out of memory, an
-/// earlier refusal, or the end of a file.
+/// If there is a reason why a content spells no version, the content spells none and has no other reason. The reason is
+/// never out of memory, an earlier refusal, or the end of a file.
 pub fn one_reason()
     ensures { law.OneReason }
 {}
@@ -59,15 +59,15 @@ pub fn lists_are_read()
     ensures { law.ListsAreRead }
 {}
 
-/// One more data set after others spells one more version, and its inline entries come after theirs.
-pub fn sets_go_on()
+/// One more data set after others spells one more version. Its inline entries come after those of the others.
+pub fn sets_continue()
     ensures { law.SetsGoOn }
 {}
 
 /// The lists of a segment's objects and entries determine it: each base is the value last spelled for its field, else
 /// 0; the string table is that of all inline entries; and the objects determine which lists it had.
-pub fn segments_are_told_by_lists()
-    ensures { law.SegmentsAreToldByLists }
+pub fn lists_determine_segments()
+    ensures { law.ListsDetermineSegments }
 {}
 
 /// No segment has both a way with references and a relation with a node member.
@@ -75,7 +75,7 @@ pub fn lists_are_not_mixed()
     ensures { law.ListsAreNotMixed }
 {}
 
-/// All that is read from a new segment on is within the ranges of versions.
+/// Each version that is read from the start of a segment on is within the ranges of versions.
 pub fn sets_make_versions()
     ensures { law.SetsMakeVersions }
 {}
@@ -86,12 +86,12 @@ pub fn sound_sets_make_versions()
     ensures { law.SoundSetsMakeVersions }
 {}
 
-/// A number that is written is spelled, and by no fewer bytes.
+/// The bytes written for a number spell the number, and no shorter bytes do.
 pub fn written_numbers_are_shortest()
     ensures { writing.WrittenNumbersAreShortest }
 {}
 
-/// The bytes written for a version are read as this version and no other, and encoder and reader continue with equal
+/// The bytes written for a version are read as that version and no other, and encoder and reader continue with equal
 /// contexts.
 pub fn written_sets_are_read()
     ensures { writing.WrittenSetsAreRead }

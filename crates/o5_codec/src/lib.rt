@@ -10,9 +10,9 @@ pub mod laws;
 mod number;
 mod reason;
 mod segment;
-mod stored;
 mod strings;
 mod table;
+mod table_entry;
 mod text;
 mod write;
 

@@ -12,16 +12,16 @@ ghost use Rattle.o5_codec.specs.Number.{number_at, signed_at, signed_of};
 
 use crate::O5Reason;
 
-/// The mark of a group before another one, as a part of the sum of the groups.
+/// The continuation bit of the first group, as a part of the sum of the groups.
 const CONTINUATION_BITS_1: u64 = 128;
 
-/// The marks of the first two groups.
+/// The continuation bits of the first two groups.
 const CONTINUATION_BITS_2: u64 = CONTINUATION_BITS_1 + 128 * 128;
 
-/// The marks of the first three groups.
+/// The continuation bits of the first three groups.
 const CONTINUATION_BITS_3: u64 = CONTINUATION_BITS_2 + 128 * 16_384;
 
-/// The marks of the first four groups.
+/// The continuation bits of the first four groups.
 const CONTINUATION_BITS_4: u64 = CONTINUATION_BITS_3 + 128 * 2_097_152;
 
 /// The unsigned number at the front, and the bytes after it.
@@ -86,7 +86,7 @@ fn read_few_groups(bytes: &[u8]) -> Option<(u64, &[u8])>
 
 /// The unsigned number of any length at the front, and the bytes after it.
 ///
-/// This function exists only for the optimizer: it takes the result of `read_groups` apart, so that no room for that
+/// This function exists only for the optimizer: it takes the result of `read_groups` apart, so that no space for that
 /// result is cleared when `read_few_groups` reads the number.
 #[inline(always)]
 fn read_any_groups(bytes: &[u8]) -> Result<(u64, &[u8]), O5Reason>
@@ -127,7 +127,7 @@ fn read_groups(bytes: &[u8]) -> Result<(u64, &[u8]), O5Reason>
     Ok((value + last * weight, &bytes[10..]))
 }
 
-/// The number of numbers that end in these bytes.
+/// Counts the numbers that end within `bytes`.
 pub(crate) fn count_ended(bytes: &[u8]) -> usize {
     bytes.iter().filter(|byte| **byte < 128).count()
 }
@@ -147,7 +147,7 @@ pub(crate) fn read_signed(bytes: &[u8]) -> Result<(i64, &[u8]), O5Reason>
     Ok((to_signed(number), rest))
 }
 
-/// The bytes after the signed number 0, if the front has it in its shortest form.
+/// The bytes after the first one, if that is the signed number 0 in its shortest form.
 #[inline(always)]
 #[tactic(auto, unfolding(crate::specs::Number::signed_at, crate::specs::Number::number_at, crate::specs::Number::groups_at))]
 pub(crate) fn strip_zero(bytes: &[u8]) -> Option<&[u8]>
@@ -158,7 +158,7 @@ pub(crate) fn strip_zero(bytes: &[u8]) -> Option<&[u8]>
     if *first == 0 { Some(rest) } else { None }
 }
 
-/// The signed number of an unsigned one: even ones are 0, 1, 2 and so on, odd ones are -1, -2 and so on.
+/// The signed number that an unsigned one encodes: even numbers encode 0, 1, 2 and so on, odd numbers -1, -2 and so on.
 #[inline(always)]
 fn to_signed(number: u64) -> i64
     ensures { result ≡ signed_of number }

@@ -36,10 +36,10 @@ pub enum O5Reason {
     /// A segment has both a way with references and a relation with a node member.
     #[error("mixed segment")]
     MixedSegment,
-    /// The file ends within the data set. Only whole files are refused for it.
+    /// The file ends within the data set. A decoder never returns this reason; a reader of whole files does.
     #[error("truncated")]
     Truncated,
-    /// A growth of memory was refused.
+    /// An allocation failed.
     #[error("out of memory")]
     Memory,
     /// An earlier data set was refused.

@@ -1,6 +1,6 @@
 //! The segment that data sets are read relative to, and the steps of a data set before its body.
 ghost use Rattle.std.specs.Prelude.{◌≡◌};
-ghost use Rattle.o5_codec.specs.Answer.{O5Gives, O5Answers};
+ghost use Rattle.o5_codec.specs.Answer.{O5Gives, O5Reads};
 ghost use Rattle.o5_codec.specs.Segment as spec;
 
 use crate::O5Reason;
@@ -45,7 +45,7 @@ impl Segment {
         bytes: &'a [u8],
         meta: &mut Meta,
     ) -> Result<&'a [u8], O5Reason>
-        ensures { O5Answers (λ rest. (meta.new, self.new, rest.now)) (spec.meta_at self.old bytes.now) result }
+        ensures { O5Reads (λ rest. (meta.new, self.new, rest.now)) (spec.meta_at self.old bytes.now) result }
     {
         let (version, rest) = read_version(bytes)?;
         meta.version = u64::from(version);
@@ -54,6 +54,7 @@ impl Segment {
         self.read_author(time, rest, meta)
     }
 
+    /// The time in seconds, or 0 for no time, and the bytes after it.
     #[tactic(auto, unfolding(crate::specs::Segment::time_at))]
     fn read_time<'a>(&mut self, bytes: &'a [u8]) -> Result<(u32, &'a [u8]), O5Reason>
         ensures { O5Gives (λ x. (x.0, self.new, x.1.now)) (spec.time_at self.old bytes.now) result }
@@ -61,8 +62,8 @@ impl Segment {
         self.bases.time.read(bytes)
     }
 
-    /// Reads changeset and user of a version with this time, where 0 is none, into `meta`. Returns the bytes after
-    /// them.
+    /// Reads the changeset and the user of a version into `meta`. Returns the bytes after them. If `time` is 0, the
+    /// version has no time, and neither of the two.
     #[tactic(auto, unfolding(crate::specs::Segment::author_at))]
     fn read_author<'a>(
         &mut self,
@@ -70,7 +71,7 @@ impl Segment {
         bytes: &'a [u8],
         meta: &mut Meta,
     ) -> Result<&'a [u8], O5Reason>
-        ensures { O5Answers (λ rest. (meta.new, self.new, rest.now))
+        ensures { O5Reads (λ rest. (meta.new, self.new, rest.now))
             (spec.and_author meta.old (spec.author_at time self.old bytes.now)) result }
     {
         if time == 0 {
@@ -84,15 +85,16 @@ impl Segment {
         self.read_author_behind(rest, meta)
     }
 
-    /// Reads the user into `meta`, which has the changeset already. Returns the bytes after it.
-    #[tactic(auto, unfolding(crate::specs::Segment::author_behind))]
+    /// Reads the user into `meta`, which has the changeset already. Returns the bytes after the user. If `bytes` is
+    /// empty, the version has no user.
+    #[tactic(auto, unfolding(crate::specs::Segment::author_after_changeset))]
     fn read_author_behind<'a>(
         &mut self,
         bytes: &'a [u8],
         meta: &mut Meta,
     ) -> Result<&'a [u8], O5Reason>
-        ensures { O5Answers (λ rest. (meta.new, self.new, rest.now))
-            (spec.and_author meta.old (spec.author_behind (meta.old.changeset, self.old, bytes.now))) result }
+        ensures { O5Reads (λ rest. (meta.new, self.new, rest.now))
+            (spec.and_author meta.old (spec.author_after_changeset (meta.old.changeset, self.old, bytes.now))) result }
     {
         if bytes.is_empty() {
             meta.uid = 0;
@@ -102,6 +104,7 @@ impl Segment {
         self.read_user(bytes, meta)
     }
 
+    /// The changeset, and the bytes after it.
     #[tactic(auto, unfolding(crate::specs::Segment::changeset_at))]
     fn read_changeset<'a>(&mut self, bytes: &'a [u8]) -> Result<(u32, &'a [u8]), O5Reason>
         ensures { O5Gives (λ x. (x.0, self.new, x.1.now)) (spec.changeset_at self.old bytes.now) result }
@@ -112,7 +115,7 @@ impl Segment {
     /// Reads user id and user name into `meta`. Returns the bytes after them.
     #[tactic(auto, unfolding(crate::specs::Segment::user_at, crate::specs::StringPair::strings_at))]
     fn read_user<'a>(&mut self, bytes: &'a [u8], meta: &mut Meta) -> Result<&'a [u8], O5Reason>
-        ensures { O5Answers (λ rest. (meta.new, self.new, rest.now))
+        ensures { O5Reads (λ rest. (meta.new, self.new, rest.now))
             (spec.and_user_read meta.old (spec.user_at self.old bytes.now)) result }
     {
         let (spelled, rest) = read_spelled(Form::Pair, bytes)?;
@@ -135,7 +138,7 @@ fn read_version(bytes: &[u8]) -> Result<(u32, &[u8]), O5Reason>
     Ok((version, rest))
 }
 
-/// A time; 0 is none.
+/// The time of a version; 0 means that the version has none.
 fn time_of(time: u32) -> Option<u64>
     ensures { result ≡ spec.time_of time }
 {

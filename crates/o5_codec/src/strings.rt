@@ -61,9 +61,10 @@ pub(crate) fn read_spelled(form: Form, bytes: &[u8]) -> Result<(StringRef<'_>, &
     Ok((StringRef::Reference(reference), rest))
 }
 
-/// The strings after the zero byte that begins them inline, as they are spelled, and the bytes after them.
+/// The inline strings at the front, as a `StringRef`, and the bytes after them. The zero byte that begins inline
+/// strings comes before `bytes`.
 ///
-/// This function exists only for the optimizer: it takes the result of `read_inline` apart, so that no room for that
+/// This function exists only for the optimizer: it takes the result of `read_inline` apart, so that no space for that
 /// result is cleared when a reference is read.
 #[inline(always)]
 fn spelled_inline(form: Form, bytes: &[u8]) -> Result<(StringRef<'_>, &[u8]), O5Reason>
@@ -74,7 +75,8 @@ fn spelled_inline(form: Form, bytes: &[u8]) -> Result<(StringRef<'_>, &[u8]), O5
     Ok((StringRef::Inline(strings), rest))
 }
 
-/// The strings after the zero byte that begins them inline, and the bytes after them.
+/// The inline strings at the front, and the bytes after them. The zero byte that begins inline strings comes before
+/// `bytes`.
 #[inline(never)]
 #[tactic(auto, unfolding(crate::specs::StringPair::inline_at))]
 fn read_inline(form: Form, bytes: &[u8]) -> Result<(StringPair<'_>, &[u8]), O5Reason>

@@ -1,13 +1,13 @@
 //! The string table of a segment.
 ghost use Rattle.std.specs.Prelude.{◌≡◌, [], ◌∷◌, take, IfOk, OnOk, option_copied};
-ghost use Rattle.o5_codec.specs.Answer.{O5Gives, O5Answers, and_then, and_added};
+ghost use Rattle.o5_codec.specs.Answer.{O5Gives, O5Reads, and_then, and_added};
 ghost use Rattle.o5_codec.specs.Table.{table_limit, is_short, table_with, entry_at};
 ghost use Rattle.o5_codec.specs.Text.{tag_of, user_of, and_user};
 ghost use Rattle.o5_codec.specs.StringPair.{entry_of, strings_of, table_after};
 
 use crate::O5Reason;
-use crate::stored::TableEntry;
 use crate::strings::{StringPair, StringRef};
+use crate::table_entry::TableEntry;
 use crate::text::{add_tag, put_user};
 use circular_buffer::HeapCircularBuffer;
 use osm_model::{Memory, Meta, Tag};
@@ -20,9 +20,9 @@ pub(crate) const LIMIT: usize = 15_000;
 /// The most bytes that the two strings of a stored entry have together.
 pub(crate) const LONGEST: usize = 250;
 
-/// The entries that references can name, in a ring. Contracts see their list, the one stored last first.
+/// The entries that references can name, in a ring. Contracts see the list of the entries, the newest first.
 ///
-/// The ring's block is allocated once. Its pages cost no resident memory before an entry is written into them.
+/// The ring is allocated once. A page of it costs no resident memory until an entry is written into the page.
 #[derive(Drop)]
 pub(crate) struct Table {
     ring: HeapCircularBuffer<TableEntry>,
@@ -41,7 +41,7 @@ impl Model for Table {
 }
 
 impl Table {
-    /// The empty table, with room for all its entries.
+    /// An empty table with room for `LIMIT` entries.
     pub(crate) fn new(alloc: Global) -> Result<Table, Memory>
         ensures { IfOk result (λ t. t ≡ []) }
     {
@@ -61,7 +61,7 @@ impl Table {
         self.ring.clear();
     }
 
-    /// Stores strings that are inline, unless they are too long.
+    /// Stores strings that are inline, unless they are too long. A reference stores nothing.
     #[inline(always)]
     pub(crate) fn store(&mut self, spelled: &StringRef<'_>) -> Result<(), Memory>
         ensures { OnOk result (self.new ≡ table_after spelled.now self.old) }
@@ -93,7 +93,7 @@ impl Table {
         self.ring.push_back(entry);
     }
 
-    /// The strings that are inline or that a reference names.
+    /// The inline strings, or the strings of the entry that the reference names.
     ///
     /// # Errors
     ///
@@ -114,14 +114,14 @@ impl Table {
         }
     }
 
-    /// Writes the user id and the user name of strings, which are inline or which a reference names, into `meta`.
+    /// Writes the user id and the user name of `spelled`, which is inline or a reference, into `meta`.
     ///
     /// # Errors
     ///
     /// `BadReference` if the table has no such entry, else as for [`put_user`].
     #[inline(always)]
     pub(crate) fn put_user(&self, spelled: &StringRef<'_>, meta: &mut Meta) -> Result<(), O5Reason>
-        ensures { O5Answers (λ _. meta.new)
+        ensures { O5Reads (λ _. meta.new)
             (and_user meta.old (and_then (strings_of self.now spelled.now) user_of)) result }
     {
         match spelled {
@@ -133,7 +133,7 @@ impl Table {
         }
     }
 
-    /// Adds the tag of strings, which are inline or which a reference names, to `tags`.
+    /// Adds the tag of `spelled`, which is inline or a reference, to `tags`.
     ///
     /// # Errors
     ///
@@ -144,7 +144,7 @@ impl Table {
         spelled: &StringRef<'_>,
         tags: &mut Vec<Tag>,
     ) -> Result<(), O5Reason>
-        ensures { O5Answers (λ _. tags.new.items)
+        ensures { O5Reads (λ _. tags.new.items)
             (and_added tags.old.items (and_then (strings_of self.now spelled.now) tag_of)) result }
     {
         match spelled {
@@ -156,6 +156,7 @@ impl Table {
         }
     }
 
+    /// The entry that a reference names: 1 is the entry stored last, and 0 names none.
     #[inline(always)]
     fn get(&self, reference: u64) -> Option<&TableEntry>
         ensures { option_copied result ≡ entry_at self.now reference }

@@ -5,7 +5,8 @@ use std::alloc::Global;
 use std::process::Abort;
 use std::test::Fail;
 
-/// The kind of a letter at the front, `w` or `r`, or a node without a letter, and the digits after it.
+/// The kind of the object, and the digits of its content. The letter `w` before the digits means a way, `r` a relation,
+/// and no letter a node.
 fn split_kind(content: &str) -> (Kind, &str) {
     if let Some(digits) = content.strip_prefix("w ") {
         return (Kind::Way, digits);
@@ -16,8 +17,8 @@ fn split_kind(content: &str) -> (Kind, &str) {
     (Kind::Node, content)
 }
 
-/// Reads a content, written in hexadecimal, and compares the line of its version, or the name of its reason. The next
-/// version is made in the memory of this one.
+/// Reads a content in hexadecimal digits, and compares the line of its version, or the name of its reason, with
+/// `expected`. The decoder takes the version back, so the next one is made in its memory.
 fn read(
     rt: &impl Abort,
     alloc: Global,
@@ -42,7 +43,8 @@ fn read(
     Ok(())
 }
 
-/// Reads rows of a content and what it spells. A segment begins at the row `reset`, and a decoder at an empty row.
+/// Reads rows, each a content and the line or reason expected for it. A segment begins at the row `reset`, and a new
+/// decoder at an empty row.
 fn read_all(rt: &impl Abort, alloc: Global, rows: &str) -> Result<(), Fail> {
     let mut decoder = Decoder::new(alloc)?;
     for row in rows.lines() {
@@ -448,7 +450,7 @@ fn reads_texts(rt: HostRuntime) -> Result<(), Fail> {
     read_all(&rt, rt.alloc(), rows)
 }
 
-/// A decoder after a node with this content.
+/// A decoder that has read a node with the content `content`.
 fn decoder_behind(alloc: Global, content: &[u8]) -> Result<Decoder, Fail> {
     let mut decoder = Decoder::new(alloc)?;
     let version = decoder.read_set(Kind::Node, content)?;
@@ -456,7 +458,7 @@ fn decoder_behind(alloc: Global, content: &[u8]) -> Result<Decoder, Fail> {
     Ok(decoder)
 }
 
-/// Reads a content after a node with the first one, as `read` does.
+/// Reads a content as `read` does, after a node with the content `first`.
 fn read_behind(
     rt: &impl Abort,
     alloc: Global,

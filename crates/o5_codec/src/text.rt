@@ -1,13 +1,13 @@
 //! Texts in the strings of data sets.
 //!
-//! Why: nearly all strings are ASCII, and ASCII is UTF-8. The test of UTF-8 took a twentieth of reading a line, and
-//! more of reading a data set.
+//! Why: nearly all strings are ASCII, and ASCII is UTF-8. The test of UTF-8 took a twentieth of the time of reading a
+//! line, and more of that of reading a data set.
 //! Assumes: nothing; `is_ascii` looks at every byte.
-//! Otherwise: a string with another byte is tested by `simdutf8`.
+//! Otherwise: `simdutf8` tests a string that has another byte.
 //! Compared by: `reads_texts`.
 ghost use Rattle.std.specs.Prelude.{◌≡◌, Ok, IfOk, IfSome, encode_utf8_all};
 ghost use Rattle.std.specs.Str.{chars};
-ghost use Rattle.o5_codec.specs.Answer.{O5Gives, O5Answers, and_added};
+ghost use Rattle.o5_codec.specs.Answer.{O5Gives, O5Reads, and_added};
 ghost use Rattle.o5_codec.specs.Text.{text_of, tag_of, uid_of, user_of, and_user};
 
 use crate::O5Reason;
@@ -24,13 +24,13 @@ use std::alloc::Global;
 /// `NotUtf8` if it isn't UTF-8.
 #[inline(always)]
 pub(crate) fn to_text(alloc: Global, bytes: &[u8]) -> Result<Text, O5Reason>
-    ensures { O5Answers (λ text. text) (text_of bytes.now) result }
+    ensures { O5Reads (λ text. text) (text_of bytes.now) result }
 {
     let text = to_str(bytes)?;
     Ok(Text::from_str(alloc, text)?)
 }
 
-/// A string as a slice of a text.
+/// A string as a `&str`.
 #[inline(always)]
 fn to_str(bytes: &[u8]) -> Result<&str, O5Reason>
     ensures text { O5Gives (λ text. chars text.now) (text_of bytes.now) result }
@@ -43,7 +43,7 @@ fn to_str(bytes: &[u8]) -> Result<&str, O5Reason>
     any_to_str(bytes)
 }
 
-/// A string with characters of any kind as a slice of a text. This is a function of its own only for the optimizer.
+/// A string with any characters as a `&str`. This is a function of its own only for the optimizer.
 #[inline(never)]
 fn any_to_str(bytes: &[u8]) -> Result<&str, O5Reason>
     ensures text { O5Gives (λ text. chars text.now) (text_of bytes.now) result }
@@ -55,7 +55,7 @@ fn any_to_str(bytes: &[u8]) -> Result<&str, O5Reason>
     }
 }
 
-/// Adds the tag of a pair to a list.
+/// Adds the tag of a pair to `tags`.
 ///
 /// # Errors
 ///
@@ -67,7 +67,7 @@ pub(crate) fn add_tag(
     strings: &StringPair<'_>,
     tags: &mut Vec<Tag>,
 ) -> Result<(), O5Reason>
-    ensures { O5Answers (λ _. tags.new.items) (and_added tags.old.items (tag_of strings.now)) result }
+    ensures { O5Reads (λ _. tags.new.items) (and_added tags.old.items (tag_of strings.now)) result }
 {
     let key = to_text(alloc, strings.first)?;
     let value = to_text(alloc, strings.second)?;
@@ -86,7 +86,7 @@ pub(crate) fn put_user(
     strings: &StringPair<'_>,
     meta: &mut Meta,
 ) -> Result<(), O5Reason>
-    ensures { O5Answers (λ _. meta.new) (and_user meta.old (user_of strings.now)) result }
+    ensures { O5Reads (λ _. meta.new) (and_user meta.old (user_of strings.now)) result }
 {
     let uid = to_uid(strings.first)?;
     let name = to_text(alloc, strings.second)?;
@@ -95,7 +95,8 @@ pub(crate) fn put_user(
     Ok(())
 }
 
-/// The text of a string, if it is UTF-8. Its copies are written many times, so it is marked if it is plain.
+/// The text of a string, or `None` if the string isn't UTF-8. The text is marked if it is plain, since copies of it are
+/// written many times.
 ///
 /// # Errors
 ///
@@ -118,7 +119,7 @@ pub(crate) fn known_text(alloc: Global, bytes: &[u8]) -> Result<Option<Text>, Me
 ///
 /// # Errors
 ///
-/// `BadNumber` if the string is no number, `OutOfRange` if that is above 4294967295.
+/// `BadNumber` if the string is no number, `OutOfRange` if the number is above 4294967295.
 #[tactic(auto, unfolding(crate::specs::Text::uid_of))]
 pub(crate) fn to_uid(bytes: &[u8]) -> Result<u32, O5Reason>
     ensures { O5Gives (λ uid. uid) (uid_of bytes.now) result }

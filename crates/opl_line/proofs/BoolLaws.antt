@@ -1,7 +1,7 @@
 -- Conjunctions and disjunctions of tests, split.
 use Rattle.std.proofs.Common.{◌≡◌, Bool, true, false, not, ◌||◌, refl}
 
--- Where a disjunction is false, both parts are.
+-- If a disjunction is false, so are both parts.
 pub neither : (x y : Bool) → (x || y) ≡ false → (x ≡ false) × (y ≡ false)
 neither true y e = cc
 neither false y e = (refl, e)

@@ -17,7 +17,7 @@ use Rattle.opl_line.specs.Answer.{as_value}
 use Rattle.opl_line.specs.Canonical.{NumberIsReadBack, IdIsReadBack}
 use Rattle.opl_line.specs.declared.reason.OplReason.TheVariants.{BadNumber, OutOfRange}
 
--- the value of a sequence of digits, and that all are digits
+-- all bytes are digits, and they write the number `n`
 pub record IsRead (base : ℕ) (step : ℕ → ℕ → ℕ) (is_one : ℕ → Bool) (n : ℕ) (text : List ℕ) : Type 0 where
   pub value : fold step 0 text ≡ n
   pub digits : list_all is_one text ≡ true
@@ -56,7 +56,7 @@ module _ (base : ℕ) (step : ℕ → ℕ → ℕ) (is_one : ℕ → Bool) (low 
       (is_read most (n / base) (let product : 2 * (n / base) ≤ base * (n / base) = mul-le-mul_right (n / base) low in
       let whole : base * (n / base) + n % base ≡ n = omega arith in omega arith))) (cases_lt n base)
 
--- leading zeros
+-- leading zeros don't change the number
 pub zeros_read : (base : ℕ) (step : ℕ → ℕ → ℕ) (is_one : ℕ → Bool) (k n : ℕ) (text : List ℕ) → step 0 48 ≡ 0 → is_one 48 ≡ true →
     IsRead base step is_one n text → IsRead base step is_one n (replicate k 48 ++ text)
 zeros_read base step is_one zero n text none one is = is

@@ -26,7 +26,7 @@ use Rattle.opl_line.specs.Straight.{head_text, tail_text, IsHead, IsTail}
 use Rattle.opl_line.proofs.MadeLaws.{Passes, without_fault, made}
 use Rattle.opl_line.proofs.WholeLineLaws.{data_is_read}
 
--- items that are valid have valid parts
+-- tags that are valid have texts that are valid
 valid_tags : (tags : List Tag) → list_all (λ tag. is_text tag.key && is_text tag.value) tags ≡ true →
     list_all is_text (texts_of_tags tags) ≡ true
 valid_tags [] all = refl
@@ -124,10 +124,10 @@ module _ (text behind : List ℕ) (k : Kind) (id : ℤ) (deleted : Bool) (meta :
       record {
         ids = (λ i. head.object i && tail.ids i);
         number = some;
-        numbers = (λ i. head.number i && (head.upload.changeset i && (head.upload.uid i && true)));
-        time = head.upload.time;
+        numbers = (λ i. head.number i && (head.shared_author.changeset i && (head.shared_author.uid i && true)));
+        time = head.shared_author.time;
         dated = dated;
-        texts = (λ i. head.upload.user i && tail.texts i);
+        texts = (λ i. head.shared_author.user i && tail.texts i);
       }
 
   spelled : text ≡ line (data_of_line id meta b)

@@ -28,7 +28,7 @@ record IsDigit (d : ℕ) : Type 0 where
 digit : (d : ℕ) → is_ascii_digit d ≡ true → IsDigit d
 digit d is = let range = and_parts _ _ is in record { low = leb-true 48 d range.0; high = leb-true d 57 range.1 }
 
--- one digit
+-- the text of a number of one digit is the digit
 number_one : (d : ℕ) → is_ascii_digit d ≡ true → number_text (with_digit 0 d) ≡ d ∷ []
 unfolding number_text
 number_one d is =
@@ -38,7 +38,7 @@ number_one d is =
     let value : with_digit 0 d ≡ d - 48 = omega arith in
     ap (numeral 10) value ∙ numeral-digit 10 (d - 48) (omega arith) (omega arith) ∙ ap (λ c. c ∷ []) (digit_back d is)
 
--- a digit more
+-- a further digit after a number above 0 is appended to its text
 number_more : (n d : ℕ) → 0 < n → is_ascii_digit d ≡ true → number_text (with_digit n d) ≡ number_text n ++ d ∷ []
 unfolding number_text
 number_more n d some is =
@@ -60,7 +60,7 @@ numbers_more n (d ∷ ds) some all =
 positive_first : (d : ℕ) → 48 ≤ d → d ≢ 48 → 0 < with_digit 0 d
 positive_first d low apart = grind arith
 
--- digits of which the first is no zero, or a single digit
+-- the text of a number is the digits that write it, if they have no leading zero
 pub numeral_text : (ds : List ℕ) → 0 < length ds → list_all is_ascii_digit ds ≡ true → (1 < length ds → get_or ds 0 0 ≢ 48) →
     number_text (decimal_value ds) ≡ ds
 numeral_text [] some all first = absurd (omega arith)
@@ -85,7 +85,7 @@ next_decimal width n d is =
     pad_zeros-step 10 width (with_digit n d) (omega arith)
     ∙ (λ i. pad_zeros (suc width) (numeral 10 (front i)) ++ (ap digit_char last ∙ digit_back d is) i ∷ [])
 
--- decimals, with the zeros before them
+-- digits that follow a number are appended to its padded text
 decimals_more : (width n : ℕ) (ds : List ℕ) → list_all is_ascii_digit ds ≡ true →
     pad_zeros (length ds + suc width) (number_text (fold with_digit n ds)) ≡ pad_zeros (suc width) (number_text n) ++ ds
 decimals_more width n [] all =
@@ -135,7 +135,7 @@ scaled_below zeros places digits fits =
     ∙ ap (λ n. 10 * n) (pow-add 10 places zeros) in
     rw all (omega arith)
 
--- decimals, and as many zeros after them as there is room for
+-- zeros after decimals don't change the decimals without the zeros at their end
 scaled : (zeros places digits : ℕ) → 0 < digits → digits < 10 ^ places →
     without_last_zeros (pad_zeros (zeros + places) (number_text (digits * 10 ^ zeros)))
     ≡ without_last_zeros (pad_zeros places (number_text digits))
@@ -160,7 +160,7 @@ positive_last : (v : ℕ) → v % 10 ≢ 0 → 0 < v
 positive_last zero last = absurd (last refl)
 positive_last (suc v) last = omega arith
 
--- decimals of which the last is no zero
+-- decimals whose last digit isn't 0 are those of the fraction's text
 pub fraction_read : (ds : List ℕ) → length ds ≤ 7 → list_all is_ascii_digit ds ≡ true → decimal_value ds % 10 ≢ 0 →
     fraction_text (decimal_value ds * 10 ^ (7 - length ds)) ≡ 46 ∷ ds
 fraction_read [] few all last = absurd (last refl)
@@ -255,14 +255,14 @@ place_read text behind n some is =
     sign_split text ∙ ap (λ t. sign_of (is_negative text) ++ t) is ∙ sym (append_assoc (sign_of (is_negative text)) (degrees_text n) behind)
     ∙ ap (λ t. t ++ behind) (sym (coordinate_signed (is_negative text) n some))
 
--- the first of several bytes
+-- if a text doesn't begin with a zero, neither does its front
 pub no_zero : (text : List ℕ) (count : ℕ) → get_or text 0 0 ≢ 48 → 1 < length (take count text) → get_or (take count text) 0 0 ≢ 48
 no_zero [] zero other more = absurd (omega arith)
 no_zero [] (suc count) other more = absurd (omega arith)
 no_zero (b ∷ bs) zero other more = absurd (omega arith)
 no_zero (b ∷ bs) (suc count) other more = other
 
--- digits write a number below the power of their count
+-- `count` digits write a number below 10^`count`
 below_power_of : (digits : List ℕ) (count : ℕ) → list_all is_ascii_digit digits ≡ true → length digits ≡ count →
     decimal_value digits < 10 ^ count
 below_power_of [] zero all long = omega arith
@@ -278,7 +278,7 @@ fraction_fits text count n scale within few all value by =
     let fits : decimal_value (take count text) < 10 ^ count = below_power_of (take count text) count all long in
     rw (value, by) (fraction_below (decimal_value (take count text)) count few fits)
 
--- a part of a degree after its point
+-- a point and the decimals after it are a fraction's text
 pub fraction_front : (text decimals : List ℕ) (count n scale : ℕ) → decimals ≡ drop 1 text → get_or text 0 0 ≡ 46 →
     count ≤ length decimals → count ≤ 7 → list_all is_ascii_digit (take count decimals) ≡ true →
     n ≡ decimal_value (take count decimals) → scale ≡ 10 ^ (7 - count) → n % 10 ≢ 0 →

@@ -138,7 +138,7 @@ read_more bytes text rest more form behind now so_far e is valid n = record {
   valid = ap is_text n ∙ text_append text more so_far.valid valid;
 }
 
--- more raw characters
+-- raw characters after the text that was read are read, too
 pub read_raw : (bytes text rest raw behind now : List ℕ) → IsReadTo bytes text rest → AreRaw raw → rest ≡ raw ++ behind →
     now ≡ text ++ chars raw → IsReadTo bytes now behind
 read_raw bytes text rest raw behind now so_far are e n =
@@ -147,7 +147,7 @@ read_raw bytes text rest raw behind now so_far are e n =
     let valid : is_text cs ≡ true = (λ i. raw_scalars cs are.raw i && not (raw_no_zero cs are.raw i)) in
     read_more bytes text rest cs raw behind now so_far e (raw_escape cs are.raw ∙ sym are.spelled) valid (n ∙ ap (λ t. text ++ t) same)
 
--- only the raw characters at the front
+-- the raw characters at the front are read
 pub read_front : (bytes text : List ℕ) (end : ℕ) → list_all is_raw_byte (take end bytes) ≡ true → text ≡ chars (take end bytes) →
     IsReadTo bytes text (take (length bytes - end) (drop end bytes))
 read_front bytes text end raw e =
@@ -156,7 +156,7 @@ read_front bytes text end raw e =
     read_raw bytes [] bytes (take end bytes) (take (length bytes - end) (drop end bytes)) text (read_nothing bytes [] refl)
     (raw_bytes (take end bytes) raw) whole e
 
--- one more escape
+-- an escape after the text that was read is read, too
 pub read_escape : (bytes text rest behind now : List ℕ) (c : ℕ) → IsReadTo bytes text rest → rest ≡ escape_char c ++ behind →
     is_text (c ∷ []) ≡ true → now ≡ text ++ chars (encode c) → IsReadTo bytes now behind
 read_escape bytes text rest behind now c so_far e valid n =
@@ -165,7 +165,7 @@ read_escape bytes text rest behind now c so_far e valid n =
     let same : chars (encode c) ≡ c ∷ [] = text_chars (encode c) (c ∷ []) (c ∷ [], (scalar_c, whole)) (sym whole) in
     read_more bytes text rest (c ∷ []) (escape_char c) behind now so_far e (append-nil (escape_char c)) valid (n ∙ ap (λ t. text ++ t) same)
 
--- an escape is not empty
+-- after an escape fewer bytes are left than before
 pub shorter : (rest raw behind next : List ℕ) (c : ℕ) → rest ≡ raw ++ behind → behind ≡ escape_char c ++ next → length next < length rest
 shorter rest raw behind next c e f = omega (
   arith,

@@ -38,7 +38,7 @@ is_so : {X : Type 0} (test : Bool) (o : Option X) (x : X) → cond test o None �
 is_so true o x e = refl
 is_so false o x e = cc
 
--- the result of a test that holds
+-- the value of a test that succeeds
 so_value : {X : Type 0} (test : Bool) (x y : X) → cond test (Some x) None ≡ Some y → x ≡ y
 so_value true x y e = cc
 so_value false x y e = cc
@@ -73,7 +73,7 @@ two (a ∷ b ∷ rest) n long e =
     let second : b ≡ 48 + n % 10 = omega arith in
     record { small = omega arith; spelled = λ i. first i ∷ second i ∷ rest }
 
--- and one below 10,000 in four
+-- a number below 10,000 in four digits
 record IsFour (n : ℕ) (now behind : List ℕ) : Type 0 where
   small : n < 10_000
   spelled : now ≡ pair (n / 100) ++ pair (n % 100) ++ behind
@@ -109,7 +109,7 @@ four (a ∷ b ∷ c ∷ d ∷ rest) n long e =
     let fourth : d ≡ 48 + n % 100 % 10 = omega arith in
     record { small = omega arith; spelled = λ i. first i ∷ second i ∷ third i ∷ fourth i ∷ rest }
 
--- the text of a time that was read
+-- the text of a date that was read, and the text after it
 record IsDate (text : List ℕ) (days : ℕ) (behind : List ℕ) : Type 0 where
   year : ℕ
   month : ℕ

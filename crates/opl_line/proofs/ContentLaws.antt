@@ -21,7 +21,7 @@ use Rattle.opl_line.specs.Number.{reading_id}
 use Rattle.opl_line.specs.Item.{reading_items, reading_list, tag_of_pieces, reading_tag, item_reason, reading_item_id, reading_reference}
 use Rattle.opl_line.specs.Item.{kind_of_letter, reading_named, reading_object_name, member_of_parts, reading_member}
 use Rattle.opl_line.specs.Delimiter.{is_end, split_first, with_first_byte, split_all, pieces_of}
-use Rattle.opl_line.specs.Text.{stands_for_itself, is_hex_digit, hex_value, is_hex, scalar_of, with_escape, text_from, text_of_pieces}
+use Rattle.opl_line.specs.Text.{is_literal, is_hex_digit, hex_value, is_hex, scalar_of, with_escape, text_from, text_of_pieces}
 use Rattle.opl_line.specs.Text.{text_of, reading_text}
 use Rattle.opl_line.specs.Content.{SpellsText, raw, escaped, SpellsCharacters, SpellsTag, SpellsReference, SpellsObject, SpellsMember}
 use Rattle.opl_line.specs.Content.{SpellsList}
@@ -30,7 +30,7 @@ use Rattle.opl_line.proofs.AnswerLaws.{both, became, same_success}
 use Rattle.opl_line.proofs.CutLaws.{cut_split, split_front, split_never}
 use Rattle.opl_line.proofs.TextLaws.{one_escape}
 
--- Bytes that all pass a test pass a weaker one.
+-- Bytes that all pass a test all pass a weaker one.
 pub all_weaker : (p q : ℕ → Bool) → ((x : ℕ) → p x ≡ true → q x ≡ true) → (xs : List ℕ) → list_all p xs ≡ true → list_all q xs ≡ true
 all_weaker p q h [] all = refl
 all_weaker p q h (x ∷ xs) all =
@@ -38,7 +38,7 @@ all_weaker p q h (x ∷ xs) all =
     ap (λ t. t && list_all q xs) (h x parts.0) ∙ all_weaker p q h xs parts.1
 
 -- A byte that stands for itself is no percent sign.
-pub raw_no_percent : (b : ℕ) → stands_for_itself b ≡ true → not (eqb b 37) ≡ true
+pub raw_no_percent : (b : ℕ) → is_literal b ≡ true → not (eqb b 37) ≡ true
 raw_no_percent b e = grind (arith, nat_tests)
 
 hex_no_percent : (b : ℕ) → is_hex_digit b ≡ true → not (eqb b 37) ≡ true
@@ -55,7 +55,7 @@ scalar_digits digits c =
       | false ↦ λ is e. cc
     ] refl
 
--- the text that was read already stays in front
+-- the text that was read before remains at the front
 from_behind : (start done : List ℕ) (pieces : List (List ℕ)) →
     text_from (start ++ done) pieces ≡ option_map (λ t. start ++ t) (text_from done pieces)
 unfolding text_from
@@ -65,7 +65,7 @@ from_behind start done (escape ∷ piece ∷ more) =
     elim (scalar_of escape) as (λ s. option_and_then (λ text. text_from text more) (with_escape (start ++ done) piece s)
     ≡ option_map (λ t. start ++ t) (option_and_then (λ text. text_from text more) (with_escape done piece s))) [
       | None ↦ refl
-      | Some c ↦ elim (list_all stands_for_itself piece) as
+      | Some c ↦ elim (list_all is_literal piece) as
           (λ b. option_and_then (λ text. text_from text more) (cond b (Some (start ++ done ++ encode c ++ piece)) None)
           ≡ option_map (λ t. start ++ t) (option_and_then (λ text. text_from text more) (cond b (Some (done ++ encode c ++ piece)) None))) [
             | true ↦ ap (λ t. text_from t more) (ap (λ t. t ++ piece) (append_assoc start done (encode c))
@@ -75,12 +75,12 @@ from_behind start done (escape ∷ piece ∷ more) =
     ]
 
 -- ---- texts that are spelled are read
-text_complete_behind : (front digits rest text : List ℕ) (c : ℕ) → list_all stands_for_itself front ≡ true → scalar_of digits ≡ Some c →
+text_complete_behind : (front digits rest text : List ℕ) (c : ℕ) → list_all is_literal front ≡ true → scalar_of digits ≡ Some c →
     text_of rest ≡ Some text → text_of (front ++ 37 ∷ (digits ++ 37 ∷ rest)) ≡ Some (front ++ (encode c ++ text))
 text_complete_behind front digits rest text c all some read =
     let percent = is_end Percents in
     let at = split_front percent front (digits ++ 37 ∷ rest) 37
-    (all_weaker stands_for_itself (λ b. not (eqb b 37)) raw_no_percent front all) refl in
+    (all_weaker is_literal (λ b. not (eqb b 37)) raw_no_percent front all) refl in
     let escape = split_front percent digits rest 37 (all_weaker is_hex_digit (λ b. not (eqb b 37)) hex_no_percent digits
     (scalar_digits digits c some)) refl in
     let parts = split_first percent rest in
@@ -88,7 +88,7 @@ text_complete_behind front digits rest text c all some read =
     ∙ ap (λ s. s.0 ∷ pieces_of percent s.1) escape in
     ap text_of_pieces at
     ∙ ap (λ t. cond t (text_from front (split_all percent (digits ++ 37 ∷ rest))) None) all
-    ∙ (elim (list_all stands_for_itself parts.0) as (λ b. list_all stands_for_itself parts.0 ≡ b →
+    ∙ (elim (list_all is_literal parts.0) as (λ b. list_all is_literal parts.0 ≡ b →
     cond b (text_from parts.0 (pieces_of percent parts.1)) None ≡ Some text →
     text_from front (split_all percent (digits ++ 37 ∷ rest)) ≡ Some (front ++ (encode c ++ text))) [
       | true ↦ λ is e.
@@ -102,7 +102,7 @@ text_complete_behind front digits rest text c all some read =
 text_complete : (bytes out : List ℕ) → SpellsText bytes out → text_of bytes ≡ Some out
 unfolding text_from
 text_complete bytes out (raw text all) =
-    ap text_of_pieces (split_never (is_end Percents) text (all_weaker stands_for_itself (λ b. not (eqb b 37)) raw_no_percent text all))
+    ap text_of_pieces (split_never (is_end Percents) text (all_weaker is_literal (λ b. not (eqb b 37)) raw_no_percent text all))
     ∙ ap (λ t. cond t (Some text) None) all
 text_complete bytes out (escaped front digits rest text c all some spelled) =
     text_complete_behind front digits rest text c all some (text_complete rest text spelled)
@@ -142,7 +142,7 @@ record Behind (start bytes out : List ℕ) : Type 0 where
   told : out ≡ start ++ text
   spelled : SpellsText bytes text
 
-spelled_from : (pieces : List (List ℕ)) (start front out : List ℕ) → list_all stands_for_itself front ≡ true →
+spelled_from : (pieces : List (List ℕ)) (start front out : List ℕ) → list_all is_literal front ≡ true →
     text_from (start ++ front) pieces ≡ Some out → Behind start (front ++ behind_percents pieces) out
 unfolding text_from behind_percents
 spelled_from [] start front out all e =
@@ -159,8 +159,8 @@ spelled_from (escape ∷ piece ∷ more) start front out all read =
     option_and_then (λ text. text_from text more) (with_escape (start ++ front) piece s) ≡ Some out →
     Behind start (front ++ 37 ∷ (escape ++ 37 ∷ (piece ++ behind_percents more))) out) [
       | None ↦ λ none e. cc
-      | Some c ↦ λ some. elim (list_all stands_for_itself piece) as
-          (λ b. list_all stands_for_itself piece ≡ b → option_and_then (λ text. text_from text more)
+      | Some c ↦ λ some. elim (list_all is_literal piece) as
+          (λ b. list_all is_literal piece ≡ b → option_and_then (λ text. text_from text more)
           (cond b (Some (start ++ front ++ encode c ++ piece)) None) ≡ Some out →
           Behind start (front ++ 37 ∷ (escape ++ 37 ∷ (piece ++ behind_percents more))) out) [
             | true ↦ λ is e.
@@ -177,7 +177,7 @@ spelled_from (escape ∷ piece ∷ more) start front out all read =
 text_sound : (bytes out : List ℕ) → text_of bytes ≡ Some out → SpellsText bytes out
 text_sound bytes out =
     let parts = split_first (is_end Percents) bytes in
-    elim (list_all stands_for_itself parts.0) as (λ b. list_all stands_for_itself parts.0 ≡ b →
+    elim (list_all is_literal parts.0) as (λ b. list_all is_literal parts.0 ≡ b →
     cond b (text_from parts.0 (pieces_of (is_end Percents) parts.1)) None ≡ Some out → SpellsText bytes out) [
       | true ↦ λ all e.
           let found = spelled_from (pieces_of (is_end Percents) parts.1) [] parts.0 out all e in

@@ -93,7 +93,7 @@ module _ (p : ℕ → Bool) (bytes : List ℕ) where
       let at : position_or_len p bytes ≡ n = position_or_len_is p bytes n 0 (omega arith) none (λ _. here) in
       rw (at, lt-ltb n (length bytes) within) refl
 
-  -- Where no byte passes up to the end, none passes.
+  -- If no byte of a text passes, a search finds none.
   pub first_nowhere : NoneBelow (length bytes) → None ≡ position p bytes
   first_nowhere none =
       let at : position_or_len p bytes ≡ length bytes =
@@ -116,7 +116,7 @@ ends_ascii Ats b e = grind (arith, nat_tests)
 ends_ascii Percents b e = grind (arith, nat_tests)
 ends_ascii Points b e = grind (arith, nat_tests)
 
--- so a text may be cut before and after them
+-- a text may be cut before a delimiter
 pub cut_before : (at : Delimiter) (text : List ℕ) (n : ℕ) → position (is_end at) text ≡ Some n → IsCharBoundary text n
 cut_before at text n found = let s = split_at (is_end at) text n found in
     IsCharBoundary-before_ascii text n s.within (ends_ascii at _ s.passes)
@@ -126,13 +126,13 @@ pub cut_behind : (at : Delimiter) (text : List ℕ) (n : ℕ) → IsUtf8 text �
 cut_behind at text n utf8 found = let s = split_at (is_end at) text n found in
     IsCharBoundary-after_ascii text n utf8 s.within (ends_ascii at _ s.passes)
 
--- the length of the text after a first piece
+-- a number that is less after each split: the length of the remaining text and 1, or 0 if there is none
 abbrev pub left_of : Option (List ℕ) → ℕ
 left_of None = 0
 left_of (Some bytes) = length bytes + 1
 
 module _ (p : ℕ → Bool) where
-  -- the split of a text that has no earlier end
+  -- a text is split at its first delimiter
   pub split_front : (front rest : List ℕ) (b : ℕ) → list_all (λ x. not (p x)) front ≡ true → p b ≡ true →
       split_first p (front ++ b ∷ rest) ≡ (front, Some rest)
   split_front [] rest b none is = rw is refl

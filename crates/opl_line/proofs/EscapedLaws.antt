@@ -15,44 +15,44 @@ use Rattle.osm_model.specs.Escape.{escape_width, code_escape, escape_char, escap
 use Rattle.osm_model.specs.Text.{has_zero}
 use Rattle.osm_model.proofs.NumeralLaws.{length-numeral-le}
 use Rattle.osm_model.proofs.EscapeLaws.{escape_char-raw, escape_char-other}
-use Rattle.opl_line.specs.Text.{stands_for_itself, is_hex_digit, with_hex_digit, hex_value, is_hex, scalar_of}
+use Rattle.opl_line.specs.Text.{is_literal, is_hex_digit, with_hex_digit, hex_value, is_hex, scalar_of}
 use Rattle.opl_line.specs.Content.{SpellsText, raw, escaped}
 use Rattle.opl_line.specs.Canonical.{TextIsReadBack}
 use Rattle.opl_line.proofs.BoolLaws.{neither, not_true}
 use Rattle.opl_line.proofs.CanonicalLaws.{IsRead, is_read, zeros_read}
 
 -- raw bytes in front of a text
-raw_front : (front bytes out : List ℕ) → list_all stands_for_itself front ≡ true → SpellsText bytes out →
+raw_front : (front bytes out : List ℕ) → list_all is_literal front ≡ true → SpellsText bytes out →
     SpellsText (front ++ bytes) (front ++ out)
-raw_front front bytes out all (raw text more) = raw (front ++ text) (list_all-append stands_for_itself front text ∙ (λ i. all i && more i))
+raw_front front bytes out all (raw text more) = raw (front ++ text) (list_all-append is_literal front text ∙ (λ i. all i && more i))
 raw_front front bytes out all (escaped f digits rest text c more some spelled) =
     let P : List ℕ → Type 0 = λ b. SpellsText b (front ++ (f ++ (encode c ++ text))) in
     let Q : List ℕ → Type 0 = λ o. SpellsText ((front ++ f) ++ 37 ∷ (digits ++ 37 ∷ rest)) o in
     subst P (append_assoc front f (37 ∷ (digits ++ 37 ∷ rest)))
     (subst Q (append_assoc front f (encode c ++ text))
-    (escaped (front ++ f) digits rest text c (list_all-append stands_for_itself front f ∙ (λ i. all i && more i)) some spelled))
+    (escaped (front ++ f) digits rest text c (list_all-append is_literal front f ∙ (λ i. all i && more i)) some spelled))
 
-high_raw : (b : ℕ) → 128 ≤ b → stands_for_itself b ≡ true
+high_raw : (b : ℕ) → 128 ≤ b → is_literal b ≡ true
 high_raw b h = grind (arith, nat_tests)
 
-model_raw : (c : ℕ) → model.is_raw c ≡ true → stands_for_itself c ≡ true
+model_raw : (c : ℕ) → model.is_raw c ≡ true → is_literal c ≡ true
 model_raw c e = grind (arith, nat_tests)
 
-pub raw_encoded : (c : ℕ) → stands_for_itself c ≡ true → list_all stands_for_itself (encode c) ≡ true
+pub raw_encoded : (c : ℕ) → is_literal c ≡ true → list_all is_literal (encode c) ≡ true
 unfolding encode
 raw_encoded c is =
     let trail = λ (n : ℕ). high_raw (128 + n) (omega arith) in
-    elim (ltb c 128) as (λ a. list_all stands_for_itself
+    elim (ltb c 128) as (λ a. list_all is_literal
     (cond a (c ∷ []) (cond (ltb c 2048) ((192 + c / 64) ∷ (128 + c % 64) ∷ [])
     (cond (ltb c 65536) ((224 + c / 4096) ∷ (128 + c / 64 % 64) ∷ (128 + c % 64) ∷ [])
     ((240 + c / 262144) ∷ (128 + c / 4096 % 64) ∷ (128 + c / 64 % 64) ∷ (128 + c % 64) ∷ [])))) ≡ true) [
       | true ↦ ap (λ t. t && true) is
-      | false ↦ elim (ltb c 2048) as (λ a. list_all stands_for_itself
+      | false ↦ elim (ltb c 2048) as (λ a. list_all is_literal
           (cond a ((192 + c / 64) ∷ (128 + c % 64) ∷ [])
           (cond (ltb c 65536) ((224 + c / 4096) ∷ (128 + c / 64 % 64) ∷ (128 + c % 64) ∷ [])
           ((240 + c / 262144) ∷ (128 + c / 4096 % 64) ∷ (128 + c / 64 % 64) ∷ (128 + c % 64) ∷ []))) ≡ true) [
             | true ↦ λ i. high_raw (192 + c / 64) (omega arith) i && (trail (c % 64) i && true)
-            | false ↦ elim (ltb c 65536) as (λ a. list_all stands_for_itself
+            | false ↦ elim (ltb c 65536) as (λ a. list_all is_literal
                 (cond a ((224 + c / 4096) ∷ (128 + c / 64 % 64) ∷ (128 + c % 64) ∷ [])
                 ((240 + c / 262144) ∷ (128 + c / 4096 % 64) ∷ (128 + c / 64 % 64) ∷ (128 + c % 64) ∷ [])) ≡ true) [
                   | true ↦ λ i. high_raw (224 + c / 4096) (omega arith) i && (trail (c / 64 % 64) i && (trail (c % 64) i && true))

@@ -20,7 +20,7 @@ unfolding reading_fields
 refused_field kind fields reason piece pieces more e refused = ap (λ ps. reading_fields kind ps fields) e
     ∙ ap (λ r. and_then r (reading_fields kind more)) refused
 
--- No fields add nothing.
+-- Without fields nothing is added.
 pub all_fields : (kind : Kind) (fields : Fields) (pieces : List (List ℕ)) → pieces ≡ [] → reading_fields kind pieces fields ≡ Ok fields
 unfolding reading_fields
 all_fields kind fields pieces e = ap (λ ps. reading_fields kind ps fields) e

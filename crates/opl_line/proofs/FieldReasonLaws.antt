@@ -22,7 +22,7 @@ use Rattle.opl_line.proofs.ReasonLaws.{still_refused, user_refused, no_text_read
 use Rattle.opl_line.proofs.ReasonLaws.{references_told, members_refused, members_told}
 
 -- ---- a field of one letter
--- the letter is one of these and the content is faulty, or the letter is none of these
+-- the letter is among `letters` and the content is faulty, or the letter isn't among `letters`
 abbrev Refusal : List ℕ → ℕ → List ℕ → OplReason → Type 0
 Refusal letters letter content reason = ((is_among letter letters ≡ true) × ContentReason letter content reason)
     ⊎ ((is_among letter letters ≡ false) × (UnknownField ≡ reason))
@@ -203,8 +203,8 @@ met_by parts l = met_from no_fields parts l ∙ ap (λ t. is_among l (map letter
 record Split (k : Kind) (fields : Fields) (pieces : List (List ℕ)) (reason : OplReason) : Type 0 where
   front : List (List ℕ)
   field : List ℕ
-  behind : List (List ℕ)
-  parted : pieces ≡ front ++ field ∷ behind
+  later : List (List ℕ)
+  parted : pieces ≡ front ++ field ∷ later
   next : Fields
   read : reading_fields k front fields ≡ Ok next
   refused : reading_field k field next ≡ Err reason
@@ -221,7 +221,7 @@ split k (field ∷ more) fields reason refused =
           record {
             front = [];
             field = field;
-            behind = more;
+            later = more;
             parted = refl;
             next = fields;
             read = refl;
@@ -233,7 +233,7 @@ split k (field ∷ more) fields reason refused =
           record {
             front = field ∷ rest.front;
             field = rest.field;
-            behind = rest.behind;
+            later = rest.later;
             parted = ap (λ ps. field ∷ ps) rest.parted;
             next = rest.next;
             read = ap (λ r. and_then r (reading_fields k rest.front)) at ∙ rest.read;
@@ -241,17 +241,17 @@ split k (field ∷ more) fields reason refused =
           }
     ] refl refused
 
-unsplit : (k : Kind) (front : List (List ℕ)) (field : List ℕ) (behind : List (List ℕ)) (fields next : Fields) (reason : OplReason) →
+unsplit : (k : Kind) (front : List (List ℕ)) (field : List ℕ) (later : List (List ℕ)) (fields next : Fields) (reason : OplReason) →
     reading_fields k front fields ≡ Ok next → reading_field k field next ≡ Err reason →
-    reading_fields k (front ++ field ∷ behind) fields ≡ Err reason
+    reading_fields k (front ++ field ∷ later) fields ≡ Err reason
 unfolding reading_fields
-unsplit k [] field behind fields next reason read refused =
+unsplit k [] field later fields next reason read refused =
     let same : fields ≡ next = cc in
-    ap (λ r. and_then r (reading_fields k behind)) (ap (reading_field k field) same ∙ refused)
-unsplit k (f ∷ fs) field behind fields next reason read refused =
+    ap (λ r. and_then r (reading_fields k later)) (ap (reading_field k field) same ∙ refused)
+unsplit k (f ∷ fs) field later fields next reason read refused =
     elim (reading_field k f fields) as (λ r. and_then r (reading_fields k fs) ≡ Ok next →
-    and_then r (reading_fields k (fs ++ field ∷ behind)) ≡ Err reason) [
-      | Ok between ↦ λ e. unsplit k fs field behind between next reason e refused
+    and_then r (reading_fields k (fs ++ field ∷ later)) ≡ Err reason) [
+      | Ok between ↦ λ e. unsplit k fs field later between next reason e refused
       | Err bad ↦ λ e. cc
     ] read
 
@@ -267,7 +267,7 @@ fields_refused k pieces reason e =
       fine = said.spelled;
       different = said.different;
       field = s.field;
-      behind = s.behind;
+      later = s.later;
       parted = s.parted;
       faulty = field_refused k s.next (map letter_of said.parts)
           (λ l. ap (λ f. has_field f l) said.together ∙ met_by said.parts l) s.field reason s.refused;
@@ -278,6 +278,6 @@ pub fields_told : (k : Kind) (pieces : List (List ℕ)) (reason : OplReason) →
     reading_fields k pieces no_fields ≡ Err reason
 fields_told k pieces reason r =
     ap (λ ps. reading_fields k ps no_fields) r.parted
-    ∙ unsplit k r.front r.field r.behind no_fields (fold with_part no_fields r.parts) reason
+    ∙ unsplit k r.front r.field r.later no_fields (fold with_part no_fields r.parts) reason
     (read_of k r.front r.parts r.fine r.different)
     (field_told k (fold with_part no_fields r.parts) (map letter_of r.parts) (met_by r.parts) r.field reason r.faulty)

@@ -34,7 +34,7 @@ use Rattle.opl_line.proofs.CoordinateLaws.{trimmed}
 abbrev pub is_graphic : ℕ → Bool
 is_graphic b = is_in_range 33 126 b
 
--- Two lists whose items pass a test pass it together.
+-- If the items of two lists pass a test, so do those of their concatenation.
 pub all_append : (p : ℕ → Bool) (xs ys : List ℕ) → list_all p xs ≡ true → list_all p ys ≡ true → list_all p (xs ++ ys) ≡ true
 all_append p xs ys a b = list_all-append p xs ys ∙ (λ i. a i && b i)
 

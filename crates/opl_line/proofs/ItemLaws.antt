@@ -10,7 +10,7 @@ use Rattle.opl_line.specs.Item.{reading_items, tag_of_pieces}
 use Rattle.opl_line.proofs.CutLaws.{cut_split}
 
 module _ {X : Type 0} (reading : List ℕ → Result X OplReason) where
-  -- the items that were read already, and the pieces that are left
+  -- the items `done`, and then the items of the remaining pieces
   abbrev pub reading_on : List X → List (List ℕ) → Result (List X) OplReason
   reading_on done pieces = as_value (λ xs. done ++ xs) (reading_items reading pieces)
 
@@ -36,12 +36,12 @@ module _ {X : Type 0} (reading : List ℕ → Result X OplReason) where
       ap (reading_on done) e ∙ ap (λ r. as_value (λ xs. done ++ xs)
       (and_then r (λ y. as_value (λ xs. y ∷ xs) (reading_items reading more)))) refused
 
-  -- No items add nothing.
+  -- Without pieces no item is added.
   pub all_items : (done : List X) (pieces : List (List ℕ)) → pieces ≡ [] → reading_on done pieces ≡ Ok done
   unfolding reading_items
   all_items done pieces e = ap (reading_on done) e ∙ ap (λ xs. Ok xs) (append-nil done)
 
--- a second equals sign
+-- a text with a second equals sign is no tag
 pub second_equals : (key value : List ℕ) (pieces more : List (List ℕ)) (behind : Option (List ℕ)) → pieces ≡ key ∷ more →
     more ≡ value ∷ pieces_of (is_end Equals) behind → is_some behind ≡ true → tag_of_pieces pieces ≡ Err BadList
 second_equals key value pieces more None e f some = cc

@@ -1,4 +1,4 @@
--- The calendar of jiff, which counts from the year -10000, is the one of osm_model.
+-- The calendar of jiff, which counts days from the year -10000, has the dates of osm_model's calendar.
 use Rattle.std.proofs.Common.{◌≡◌, ℕ, ◌+◌, ◌<◌, ◌≤◌, refl, ap, ◌∙◌, arith, ℤ, pos, ◌+ℤ◌, true, to_z, of_z, to_z-of_z, FitsSigned, w32, Fits}
 use Rattle.std.proofs.lemmas.Int.{to_z_pos}
 use Rattle.std.specs.Int.{IsInRange, w8, w16}
@@ -29,7 +29,7 @@ cast r n e b =
     (omega (arith, signed_arith, ap up e, ap down e), omega (arith, signed_arith, ap up e, ap down e)) in
     rw (p, e) (to_z-of_z f)
 
--- A date of jiff that was made of a year, month and day has these.
+-- A date of jiff has the year, month and day that it was made of.
 pub dated : (date : Date) (y m d : ℕ) → y < 10000 → m < 100 → d < 100 → IsYmd (to_z w16 y) (to_z w8 m) (to_z w8 d) date →
     (date.year ≡ pos y) × (date.month ≡ m) × (date.day ≡ d)
 dated date y m d yl ml dl is = (
@@ -38,7 +38,7 @@ dated date y m d yl ml dl is = (
   (let e = is.2 ∙ to_z_pos w8 d (omega arith) in cc),
 )
 
--- A date of jiff is a date of this calendar.
+-- A date of jiff is a date of osm_model's calendar.
 pub dated_is : (date : Date) (y m d : ℕ) → (date.year ≡ pos y) × (date.month ≡ m) × (date.day ≡ d) → is_date y m d ≡ true
 dated_is date y m d e =
     civil-is_date y m d (record {
@@ -46,7 +46,7 @@ dated_is date y m d e =
       day_in = rw (e.0, e.1, e.2) at date.day_in;
     })
 
--- the computation from a date
+-- the code computes a date's day number from a date of jiff
 pub computed : (date plain : Date) (r : ℤ) (y m d : ℕ) → (date.year ≡ pos y) × (date.month ≡ m) × (date.day ≡ d) → plain ≡ date →
     r ≡ epoch_day plain → IsEpochDay r →
     to_z w32 (of_z w32 (to_z w32 (of_z w32 r) +ℤ pos 719_528)) ≡ pos (day_number y m d)

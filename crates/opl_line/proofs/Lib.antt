@@ -37,3 +37,4 @@ pub mod CanonicalTextLaws
 pub mod CanonicalTimeLaws
 pub mod CanonicalListLaws
 pub mod CanonicalLineLaws
+pub mod StartLaws

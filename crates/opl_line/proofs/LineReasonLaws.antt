@@ -17,7 +17,7 @@ use Rattle.opl_line.specs.declared.bytes.cut.Delimiter.TheVariants.{Blanks}
 use Rattle.opl_line.specs.declared.general.field.Fields.{Fields}
 use Rattle.opl_line.specs.declared.reason.OplReason.{OplReason}
 use Rattle.opl_line.specs.declared.reason.OplReason.TheVariants.{NotUtf8, NoVersion, NoTime, NoLocation, Memory}
-use Rattle.opl_line.specs.Answer.{and_then, as_value, OplAnswers}
+use Rattle.opl_line.specs.Answer.{and_then, as_value, OplReads}
 use Rattle.opl_line.specs.Delimiter.{is_end, split_first, split_all, pieces_of}
 use Rattle.opl_line.specs.Field.{no_fields, reading_fields}
 use Rattle.opl_line.specs.Reading.{is_skipped, reading_object, meta_of, reading_location, reading_visible, reading_body, unless_fault}
@@ -25,7 +25,7 @@ use Rattle.opl_line.specs.Reading.{reading_whole, reading_version, reading_line}
 use Rattle.opl_line.specs.Content.{SpellsObject}
 use Rattle.opl_line.specs.Spells.{fields_of_parts, SpellsNothing}
 use Rattle.opl_line.specs.LineReason.{LacksLocation, WholeReason, no_version, no_time, no_location, LineReason, not_utf8, no_object}
-use Rattle.opl_line.specs.LineReason.{faulty_field, no_whole, ReasonIsTold, ToldIsReason, HasOneReason, NeitherHasOneReason}
+use Rattle.opl_line.specs.LineReason.{faulty_field, no_whole, ReasonIsReported, ReportedIsReason, HasOneReason, NeitherHasOneReason}
 use Rattle.opl_line.specs.LineReason.{ReasonSpellsNothing}
 use Rattle.opl_line.proofs.NumeralLaws.{id_complete}
 use Rattle.opl_line.proofs.CutLaws.{cut_split}
@@ -173,8 +173,8 @@ version_refused line reason kept utf8 refused =
     ] refl refused
 
 -- A line that is refused has the reason that is returned.
-pub told_is_reason : ToldIsReason
-told_is_reason line reason =
+pub reported_is_reason : ReportedIsReason
+reported_is_reason line reason =
     let P : OplReason → Type 0 = LineReason line in
     elim (is_skipped line) as (λ t. is_skipped line ≡ t →
     cond t (Ok None) (cond (is_utf8 line) (as_value (λ w. Some w) (reading_version line)) (Err NotUtf8)) ≡ Err reason →
@@ -214,16 +214,16 @@ fields_of_line_told line object others k id reason parted names e =
     ∙ ap (λ r. and_then r (reading_whole k id)) (ap (λ ps. reading_fields k ps no_fields) at.1 ∙ e)
 
 -- A line that has a reason is refused with it.
-pub reason_is_told : ReasonIsTold
-reason_is_told line reason (not_utf8 line' kept other) = reading.not_utf8 line' kept other
-reason_is_told line reason (no_object line' object others reason' kept utf8 parted faulty) =
+pub reason_is_reported : ReasonIsReported
+reason_is_reported line reason (not_utf8 line' kept other) = reading.not_utf8 line' kept other
+reason_is_reported line reason (no_object line' object others reason' kept utf8 parted faulty) =
     version_told line' reason' kept utf8 (object_told line' object others reason' parted (object_reason_told object reason' faulty))
-reason_is_told line reason (faulty_field line' object others k id reason' kept utf8 parted names faulty) =
+reason_is_reported line reason (faulty_field line' object others k id reason' kept utf8 parted names faulty) =
     version_told line' reason' kept utf8 (fields_of_line_told line' object others k id reason' parted names
     (fields_told k others reason' faulty))
-reason_is_told line reason (no_whole line' k id parts reason' tells faulty) =
-    version_told line' reason' tells.not_skipped tells.utf8
-    (tells_read line' k id parts tells ∙ whole_told k id (fields_of_parts parts) reason' faulty)
+reason_is_reported line reason (no_whole line' k id parts reason' line_parts faulty) =
+    version_told line' reason' line_parts.not_skipped line_parts.utf8
+    (tells_read line' k id parts line_parts ∙ whole_told k id (fields_of_parts parts) reason' faulty)
 
 neither_by : (line : List ℕ) (answer : Result (Option VersionData) OplReason) → SpellsNothing line → reading_line line ≡ answer →
     HasOneReason line
@@ -231,8 +231,8 @@ neither_by line (Ok None) nothing e = let clash = sym nothing.kept ∙ skipped_o
 neither_by line (Ok (Some v)) nothing e = absurd (nothing.none v (read_is_spelled line v e))
 neither_by line (Err reason) nothing e = record {
   reason = reason;
-  has = told_is_reason line reason e;
-  alone = (λ other h. let both = sym (reason_is_told line other h) ∙ e in let same : other ≡ reason = cc in same);
+  has = reported_is_reason line reason e;
+  alone = (λ other h. let both = sym (reason_is_reported line other h) ∙ e in let same : other ≡ reason = cc in same);
 }
 
 -- A line that spells nothing and isn't skipped has exactly one reason.
@@ -242,11 +242,11 @@ neither_has_one_reason line nothing = neither_by line (reading_line line) nothin
 -- A line that has a reason spells nothing.
 pub reason_spells_nothing : ReasonSpellsNothing
 reason_spells_nothing line reason h =
-    let e = reason_is_told line reason h in
+    let e = reason_is_reported line reason h in
     record { kept = not_skipped line reason e; none = λ v s. refused_spells_nothing line reason v e s }
 
--- a result other than Memory is the reason
-pub answer_reason : (line : List ℕ) (answer : Result (Option VersionData) OplReason) → OplAnswers (reading_line line) answer →
+-- a refusal for another reason than Memory has the reason of the line
+pub answer_reason : (line : List ℕ) (answer : Result (Option VersionData) OplReason) → OplReads (reading_line line) answer →
     IfErr answer (λ reason. (reason ≡ Memory) ⊎ LineReason line reason)
 answer_reason line (Ok read) h = tt
-answer_reason line (Err reason) h = ⊎_elim (λ memory. inl memory) (λ refused. inr (told_is_reason line reason refused)) h
+answer_reason line (Err reason) h = ⊎_elim (λ memory. inl memory) (λ refused. inr (reported_is_reason line reason refused)) h

@@ -63,7 +63,7 @@ module _ {X : Type 0} (text : X → List ℕ) (lacks : (x : X) → Lacks 44 (tex
   lacking_all [] = refl
   lacking_all (x ∷ xs) = λ i. lacking 44 (text x) (lacks x) i && lacking_all xs i
 
-  -- items that spell, one for one, spell a list
+  -- texts that spell items, one for one, are joined to a text that spells the list
   list_spelled : (xs : List X) → Pairwise Spells (map text xs) xs → SpellsList Spells (list_text text xs) xs
   list_spelled [] h = refl
   list_spelled (x ∷ xs) h =

@@ -47,7 +47,7 @@ meta_of_version v = record { version = v.number; time = v.time; changeset = v.ch
 some_number : (n : ℕ) → 0 < n → eqb n 0 ≡ false
 some_number n h = grind (arith, nat_tests)
 
--- A time from 1 to 2^32 - 1 is a time.
+-- A time from 1 to 2^32 - 1, or none, is within the range of times.
 pub valid_time : (time : Option ℕ) → ForSome time (λ t. (0 < t) × (t < 2 ^ 32)) → is_time time ≡ true
 valid_time None h = refl
 valid_time (Some t) h = let range = h t refl in λ i. lt-ltb 0 t range.0 i && lt-ltb t (2 ^ 32) range.1 i

@@ -1,4 +1,4 @@
--- No reading returns out of memory.
+-- No reading is refused for the reason Memory.
 use Rattle.std.proofs.Common.{◌≡◌, ℕ, ◌+◌, ◌-◌, ◌*◌, ◌^◌, Bool, true, false, cond, eqb, leb, ltb, ◌&&◌, List, [], ◌∷◌, length, map, Option}
 use Rattle.std.proofs.Common.{Some, None, Result, Ok, Err, refl, ap, ◌∙◌}
 use Rattle.std.specs.Option.{ok_or}
@@ -186,7 +186,7 @@ line_apart text reason (not_utf8 text' kept other) e = cc
 line_apart text reason (no_object text' object others bad kept utf8 parted faulty) e = object_apart object bad faulty e
 line_apart text reason (faulty_field text' object others k id bad kept utf8 parted names faulty) e =
     field_apart k (map letter_of faulty.parts) faulty.field bad faulty.faulty e
-line_apart text reason (no_whole text' k id parts bad tells faulty) e = whole_apart k (fields_of_parts parts) bad faulty e
+line_apart text reason (no_whole text' k id parts bad line_parts faulty) e = whole_apart k (fields_of_parts parts) bad faulty e
 
 -- No line has the reason Memory.
 pub memory_is_no_reason : MemoryIsNoReason

@@ -14,7 +14,7 @@ pub record IsReadTo (digits : List ℕ) (i number : ℕ) : Type 0 where
   pub all_digits : list_all is_ascii_digit (take i digits) ≡ true
   pub value : number ≡ min (decimal_value (take i digits)) (2 ^ 64 - 1)
 
--- the first digits of few, and their value
+-- the first digits of a short text, and their value
 pub record IsFewTo (digits : List ℕ) (i number : ℕ) : Type 0 where
   pub all_digits : list_all is_ascii_digit (take i digits) ≡ true
   pub value : number ≡ decimal_value (take i digits)
@@ -34,7 +34,7 @@ below_power number count most small few =
     let power : 10 ^ count ≤ 10 ^ most = pow-le-pow_right some few in
     omega arith
 
--- the value of few digits is small
+-- digits after a number below 10^`k` write a number below 10^(`length digits` + `k`)
 decimal_below : (digits : List ℕ) (n k : ℕ) → list_all is_ascii_digit digits ≡ true → n < 10 ^ k →
     fold with_digit n digits < 10 ^ (length digits + k)
 decimal_below [] n k all small = let none : 0 + k ≡ k = omega arith in rw none small
@@ -63,7 +63,7 @@ numeral_below digits most is few =
 pub scale_below : (decimals : ℕ) → 10 ^ (7 - decimals) ≤ 10 ^ 7
 scale_below decimals = let less : 7 - decimals ≤ 7 = omega arith in let some : 0 < 10 = omega arith in pow-le-pow_right some less
 
--- few digits, at most `most`
+-- at most `most` digits are read as `reading_short_numeral` defines
 pub short_numeral : (digits : List ℕ) (most : ℕ) → length digits ≤ most →
     ok_or (value_of digits) BadCoordinate ≡ reading_short_numeral most digits
 short_numeral digits most few =

@@ -23,7 +23,7 @@ use Rattle.opl_line.proofs.BoolLaws.{neither}
 use Rattle.opl_line.proofs.ContentLaws.{characters_sound, characters_complete, tags_sound, tags_complete, references_sound}
 use Rattle.opl_line.proofs.ContentLaws.{references_complete, members_sound, members_complete}
 
--- a field has a part
+-- the content of a field with this letter spells a part
 record Says (k : Kind) (letter : ℕ) (content : List ℕ) (fields next : Fields) : Type 0 where
   part : LinePart
   lettered : letter ≡ letter_of part
@@ -236,7 +236,7 @@ retold k ((b ∷ bs) ∷ more) (part ∷ parts) fields s d =
     ap (λ r. and_then r (reading_fields k more)) (spelled_field k (b ∷ bs) part fields s.0 d.0)
     ∙ retold k more parts (with_part fields part) s.1 d.1
 
--- different letters, from the first part on
+-- the test of two numbers for equality is symmetric
 symmetric : (a b : ℕ) → eqb a b ≡ false → eqb b a ≡ false
 symmetric a b e = grind (arith, nat_tests)
 
@@ -307,13 +307,13 @@ pub record PartsOf (k : Kind) (pieces : List (List ℕ)) (next : Fields) : Type 
   pub different : IsDistinct nat_eq (map letter_of parts)
   pub together : next ≡ fold with_part no_fields parts
 
--- Fields that are read spell parts that say what was read.
+-- Fields that are read spell parts, which have the contents that were read.
 pub parts_of : (k : Kind) (pieces : List (List ℕ)) (next : Fields) → reading_fields k pieces no_fields ≡ Ok next → PartsOf k pieces next
 parts_of k pieces next e =
     let t = told k pieces no_fields next e in
     record { parts = t.parts; spelled = t.spelled; different = distinct no_fields t.parts t.different; together = t.together }
 
--- Fields that spell parts of different letters are read as what the parts say.
+-- Fields that spell parts of different letters are read as these parts.
 pub read_of : (k : Kind) (pieces : List (List ℕ)) (parts : List LinePart) → Pairwise (SpellsPart k) (filter is_full pieces) parts →
     IsDistinct nat_eq (map letter_of parts) → reading_fields k pieces no_fields ≡ Ok (fold with_part no_fields parts)
 read_of k pieces parts s d = retold k pieces parts no_fields s (different no_fields parts d (nothing_met parts))

@@ -25,7 +25,7 @@ use Rattle.opl_line.proofs.CutLaws.{split_front, split_never}
 use Rattle.opl_line.proofs.NumeralLaws.{numeral_unsigned}
 use Rattle.opl_line.proofs.TimeLaws.{time_is_read_back}
 
--- a content that isn't empty
+-- a content that can't be empty is read the same as an optional content
 some_optional : {X : Type 0} (reading : List ℕ → Result X OplReason) (text : List ℕ) (x : X) → (reading [] ≡ Ok x → ⊥) →
     reading text ≡ Ok x → reading_optional reading text ≡ Ok (Some x)
 some_optional reading [] x none e = absurd (none e)

@@ -39,7 +39,7 @@ module _ (n : ℕ) (few : n ≤ 64) (v : List ℕ) (long : length v ≡ n) where
   abbrev same : ℕ → List ℕ
   same b = zip2 (λ x y. cond (eqb x y) 255 0) v (replicate n b)
 
-  -- The marks of several bytes mark those that are not raw.
+  -- The mask of several bytes has a bit for each byte that isn't raw.
   pub odd_marked : mask_l (map (top 7) (zip2 bit_or
       (zip2 bit_or (zip2 bit_or (zip2 bit_or (zip2 bit_or (zip2 (λ x y. cond (leb x y) 255 0) v (replicate n 32))
       (zip2 (λ x y. cond (leb x y) 255 0) (replicate n 127) v)) (same 37)) (same 44)) (same 61)) (same 64))) % 2 ^ 64
@@ -65,7 +65,7 @@ module _ (passes : ℕ → Bool) where
   pub passing_before : (bytes : List ℕ) (n : ℕ) → position fails bytes ≡ Some n → list_all passes (take n bytes) ≡ true
   passing_before bytes n found = sym (ap (λ parts. list_all passes parts.0) (split_at fails bytes n found).split) ∙ front_passes bytes
 
-  -- Where no byte fails, all pass.
+  -- If no byte fails, all pass.
   pub passing_throughout : (bytes : List ℕ) → position fails bytes ≡ None → list_all passes (take (length bytes) bytes) ≡ true
   passing_throughout bytes none =
       ap (list_all passes) (take_all (length bytes) bytes (omega arith))

@@ -297,7 +297,7 @@ said_within : (fields : Fields) (parts : List LinePart) → AreWithin fields →
 said_within fields [] h ws = h
 said_within fields (p ∷ ps) h ws = said_within (with_part fields p) ps (with_within fields p h ws.0) ws.1
 
--- What the parts of a line say is within its ranges.
+-- The contents of the parts of a line are within their ranges.
 pub line_within : (k : Kind) (fields : List (List ℕ)) (parts : List LinePart) → Pairwise (SpellsPart k) (filter is_full fields) parts →
     AllByRecursion IsUtf8 fields → AreWithin (fold with_part no_fields parts)
 line_within k fields parts s utf8 =
@@ -342,7 +342,7 @@ visible_within kind.Relation fields b h e =
           ∙ (λ i. h.roles i && h.tags i);
     })
 
--- A body that is read of data within its ranges is within its ranges.
+-- A body that is made of fields within their ranges is within its ranges.
 pub body_within : (k : Kind) (fields : Fields) (b : Body) → AreWithin fields → reading_body k fields ≡ Ok b → BodyWithin b
 body_within k fields b h =
     elim (unwrap_or fields.deleted false) as (λ t. cond t (Ok (Deleted k)) (reading_visible k fields) ≡ Ok b → BodyWithin b) [

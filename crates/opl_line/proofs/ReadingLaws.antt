@@ -9,7 +9,7 @@ use Rattle.osm_model.specs.New.{is_dated, version_or_fault}
 use Rattle.opl_line.specs.declared.general.field.Fields.{Fields}
 use Rattle.opl_line.specs.declared.reason.OplReason.{OplReason}
 use Rattle.opl_line.specs.declared.reason.OplReason.TheVariants.{NotUtf8, NoVersion, NoTime}
-use Rattle.opl_line.specs.Answer.{and_then, as_value, OplAnswers}
+use Rattle.opl_line.specs.Answer.{and_then, as_value, OplReads}
 use Rattle.opl_line.specs.Reading.{is_skipped, meta_of, reading_body, unless_fault, reading_whole, reading_version, reading_line}
 
 -- A line that isn't skipped and isn't UTF-8 is refused as NotUtf8.
@@ -25,7 +25,7 @@ not_utf8 line kept other =
 pub utf8_line : (line : List ℕ) → is_skipped line ≡ false → IsUtf8 line → reading_line line ≡ as_value (λ v. Some v) (reading_version line)
 utf8_line line kept utf8 = rw (kept, is_utf8-from_IsUtf8 line utf8) refl
 
--- What all fields say makes the version that they are read as.
+-- The data of all fields makes the version that they are read as.
 pub whole_line : (kind : Kind) (id : ℤ) (fields : Fields) (meta : Meta) (body : Body) → meta ≡ meta_of fields →
     (meta.version == 0) ≡ false → is_dated meta ≡ true → reading_body kind fields ≡ Ok body →
     unless_fault (version_or_fault id meta body) ≡ reading_whole kind id fields
@@ -41,8 +41,8 @@ whole_line kind id fields meta body same numbered dated read =
     ∙ ap (λ r. and_then r (λ b. unless_fault (version_or_fault id (meta_of fields) b))) read
     )
 
--- the result of a reading, with its value as another one
-pub as_answer : {X Y : Type 0} (f : X → Y) (reading answer : Result X OplReason) → OplAnswers reading answer →
-    OplAnswers (as_value f reading) (as_value f answer)
+-- the result of a reading with `f` applied to its value
+pub as_answer : {X Y : Type 0} (f : X → Y) (reading answer : Result X OplReason) → OplReads reading answer →
+    OplReads (as_value f reading) (as_value f answer)
 as_answer f reading (Ok x) h = ap (as_value f) h
 as_answer f reading (Err reason) h = ⊎_elim (λ memory. inl memory) (λ refused. inr (ap (as_value f) refused)) h

@@ -25,13 +25,13 @@ use Rattle.opl_line.specs.LineReason.{no_number, MemberReason, no_at, no_name, n
 use Rattle.opl_line.proofs.ContentLaws.{characters_sound, characters_complete, tag_sound, tag_complete, reference_sound, reference_complete}
 use Rattle.opl_line.proofs.ContentLaws.{member_sound, member_complete, name_sound, name_complete, kind_of_its_letter, letter_of_kind}
 
--- A refusal stays one with the same reason if another value is wanted.
+-- If a reading with `f` applied to its value is refused, so is the reading, for the same reason.
 pub still_refused : {X Y : Type 0} (f : X → Y) (said : Result X OplReason) (reason : OplReason) → as_value f said ≡ Err reason →
     said ≡ Err reason
 still_refused f (Ok x) reason e = cc
 still_refused f (Err bad) reason e = let same : bad ≡ reason = cc in ap (λ r. Err r) same
 
--- the reason that became another one
+-- `reason` is `f` of the reason of a reading
 record FromReason {X : Type 0} (f : OplReason → OplReason) (said : Result X OplReason) (reason : OplReason) : Type 0 where
   from : OplReason
   said_so : said ≡ Err from
@@ -226,8 +226,8 @@ name_reason_told bytes reason (no_id k digits bad e) =
     (λ ds r at. from_reason item_reason (reading_id ds) r at) (λ ds r at. ap (with_reason item_reason) at) k digits bad e
 
 -- ---- members
-member_parts_refused : (bytes object : List ℕ) (behind : Option (List ℕ)) (reason : OplReason) →
-    split_first (is_end Ats) bytes ≡ (object, behind) → member_of_parts (object, behind) ≡ Err reason → MemberReason bytes reason
+member_parts_refused : (bytes object : List ℕ) (later : Option (List ℕ)) (reason : OplReason) →
+    split_first (is_end Ats) bytes ≡ (object, later) → member_of_parts (object, later) ≡ Err reason → MemberReason bytes reason
 member_parts_refused bytes object None reason is e =
     let P : OplReason → Type 0 = MemberReason bytes in
     let same : BadList ≡ reason = cc in
@@ -280,7 +280,7 @@ module _ {X : Type 0} (reading : List ℕ → Result X OplReason) (SpellsItem : 
               items = [];
               fine = tt;
               piece = piece;
-              behind = pieces;
+              later = pieces;
               parted = refl;
               faulty =
                   refused piece reason (at ∙ ap (λ r. Err r) same);
@@ -292,22 +292,22 @@ module _ {X : Type 0} (reading : List ℕ → Result X OplReason) (SpellsItem : 
               items = x ∷ rest.items;
               fine = (sound piece x at, rest.fine);
               piece = rest.piece;
-              behind = rest.behind;
+              later = rest.later;
               parted = ap (λ ps. piece ∷ ps) rest.parted;
               faulty = rest.faulty;
             }
       ] refl e
 
-  items_told : (front : List (List ℕ)) (items : List X) (piece : List ℕ) (behind : List (List ℕ)) (reason : OplReason) →
+  items_told : (front : List (List ℕ)) (items : List X) (piece : List ℕ) (later : List (List ℕ)) (reason : OplReason) →
       Pairwise SpellsItem front items → reading piece ≡ Err reason →
-      reading_items reading (front ++ piece ∷ behind) ≡ Err reason
+      reading_items reading (front ++ piece ∷ later) ≡ Err reason
   unfolding reading_items
-  items_told [] [] piece behind reason fine e = ap (λ r. and_then r (λ x. as_value (λ xs. x ∷ xs) (reading_items reading behind))) e
-  items_told [] (x ∷ xs) piece behind reason fine e = absurd fine
-  items_told (f ∷ fs) [] piece behind reason fine e = absurd fine
-  items_told (f ∷ fs) (x ∷ xs) piece behind reason fine e =
-      ap (λ r. and_then r (λ y. as_value (λ ys. y ∷ ys) (reading_items reading (fs ++ piece ∷ behind)))) (complete f x fine.0)
-      ∙ ap (as_value (λ ys. x ∷ ys)) (items_told fs xs piece behind reason fine.1 e)
+  items_told [] [] piece later reason fine e = ap (λ r. and_then r (λ x. as_value (λ xs. x ∷ xs) (reading_items reading later))) e
+  items_told [] (x ∷ xs) piece later reason fine e = absurd fine
+  items_told (f ∷ fs) [] piece later reason fine e = absurd fine
+  items_told (f ∷ fs) (x ∷ xs) piece later reason fine e =
+      ap (λ r. and_then r (λ y. as_value (λ ys. y ∷ ys) (reading_items reading (fs ++ piece ∷ later)))) (complete f x fine.0)
+      ∙ ap (as_value (λ ys. x ∷ ys)) (items_told fs xs piece later reason fine.1 e)
 
   list_refused : (content : List ℕ) (reason : OplReason) → reading_list reading content ≡ Err reason →
       ListReason SpellsItem ItemReason content reason
@@ -318,7 +318,7 @@ module _ {X : Type 0} (reading : List ℕ → Result X OplReason) (SpellsItem : 
       reading_list reading content ≡ Err reason
   list_told [] reason r = absurd r
   list_told (b ∷ bs) reason r = ap (reading_items reading) r.parted
-      ∙ items_told r.front r.items r.piece r.behind reason r.fine (told r.piece reason r.faulty)
+      ∙ items_told r.front r.items r.piece r.later reason r.fine (told r.piece reason r.faulty)
 
 -- A list of tags that is refused has the reason that is returned.
 pub tags_refused : (content : List ℕ) (reason : OplReason) → reading_list reading_tag content ≡ Err reason →

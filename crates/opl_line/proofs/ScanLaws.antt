@@ -10,7 +10,7 @@ use Rattle.opl_line.proofs.CutLaws.{NoneBelow}
 
 -- the number of bytes before the first marked one
 module _ (p : ℕ → Bool) (n : ℕ) (v : List ℕ) (long : length v ≡ n) where
-  -- Where no byte is marked, none is of the class.
+  -- If no byte is marked, none is of the class.
   pub no_mark : (marks : ℕ) → marks ≡ marks_of p v → marks ≡ 0 → n ≡ prefix_len (λ x. not (p x)) v
   no_mark marks told none = sym (leading_from_mask_l p v (sym told ∙ none) ∙ long)
 

@@ -17,7 +17,7 @@ use Rattle.opl_line.specs.declared.bytes.cut.Delimiter.TheVariants.{Blanks}
 use Rattle.opl_line.specs.declared.general.field.Fields.{Fields}
 use Rattle.opl_line.specs.declared.reason.OplReason.{OplReason}
 use Rattle.opl_line.specs.declared.reason.OplReason.TheVariants.{NotUtf8, NoVersion, NoTime, Memory}
-use Rattle.opl_line.specs.Answer.{and_then, as_value, OplAnswers}
+use Rattle.opl_line.specs.Answer.{and_then, as_value, OplReads}
 use Rattle.opl_line.specs.Delimiter.{is_end, split_first, split_all, pieces_of}
 use Rattle.opl_line.specs.Number.{reading_id}
 use Rattle.opl_line.specs.Item.{kind_of_letter}
@@ -125,7 +125,7 @@ line_spelled line v kept utf8 e =
       kind = k;
       id = id;
       parts = said.parts;
-      tells = record {
+      line_parts = record {
         utf8 = utf8;
         not_skipped = kept;
         object = parts.0;
@@ -174,11 +174,11 @@ tells_read line k id parts t =
     ∙ read_of k t.others parts t.spelled t.different)
 
 version_read : (line : List ℕ) (v : VersionData) → Spells line v → reading_version line ≡ Ok v
-version_read line v s = tells_read line s.kind s.id s.parts s.tells ∙ whole_read s.kind s.id (fields_of_parts s.parts) v s.version
+version_read line v s = tells_read line s.kind s.id s.parts s.line_parts ∙ whole_read s.kind s.id (fields_of_parts s.parts) v s.version
 
 -- A line that spells a version is read as it.
 pub spelled_is_read : SpelledIsRead
-spelled_is_read line v s = utf8_line line s.tells.not_skipped s.tells.utf8 ∙ ap (as_value (λ w. Some w)) (version_read line v s)
+spelled_is_read line v s = utf8_line line s.line_parts.not_skipped s.line_parts.utf8 ∙ ap (as_value (λ w. Some w)) (version_read line v s)
 
 -- A line spells at most one version.
 pub one_reading : OneReading
@@ -206,7 +206,7 @@ skipped_only line =
     ]
 
 -- A version that is returned is spelled by the line.
-pub answer_spelled : (line : List ℕ) (answer : Result (Option VersionData) OplReason) → OplAnswers (reading_line line) answer →
+pub answer_spelled : (line : List ℕ) (answer : Result (Option VersionData) OplReason) → OplReads (reading_line line) answer →
     IfOk answer (λ read. MatchOption read (is_skipped line ≡ true) (Spells line))
 answer_spelled line (Ok None) h = skipped_only line h
 answer_spelled line (Ok (Some v)) h = read_is_spelled line v h
@@ -222,7 +222,7 @@ not_skipped line reason =
     ]
 
 -- A line that is refused for another reason than Memory spells nothing.
-pub answer_refused : (line : List ℕ) (answer : Result (Option VersionData) OplReason) → OplAnswers (reading_line line) answer →
+pub answer_refused : (line : List ℕ) (answer : Result (Option VersionData) OplReason) → OplReads (reading_line line) answer →
     IfErr answer (λ reason. (reason ≡ Memory) ⊎ SpellsNothing line)
 answer_refused line (Ok read) h = tt
 answer_refused line (Err reason) h = ⊎_elim (λ memory. inl memory)

@@ -4,7 +4,7 @@ use lib.Utf8.{encode}
 use Rattle.std.proofs.Math.Nat.{pow-le-pow_right}
 use Rattle.std.specs.List.{list_all}
 use Rattle.std.specs.Option.{option_and_then}
-use Rattle.opl_line.specs.Text.{stands_for_itself, is_hex_digit, hex_value, scalar_of, with_escape, text_from}
+use Rattle.opl_line.specs.Text.{is_literal, is_hex_digit, hex_value, scalar_of, with_escape, text_from}
 
 -- the first digits, and their value
 pub record IsHexTo (digits : List ℕ) (i code : ℕ) : Type 0 where
@@ -19,18 +19,18 @@ small_code i code few below =
     let power : 16 ^ i ≤ 16 ^ 7 = pow-le-pow_right some (let k : i ≤ 7 = omega arith in k) in
     omega arith
 
--- an escape without an end
+-- an escape without its second percent sign is refused
 pub never_ended : (done escape : List ℕ) (pieces : List (List ℕ)) → pieces ≡ escape ∷ [] → text_from done pieces ≡ None
 unfolding text_from
 never_ended done escape pieces e = rw e refl
 
--- an escape, and a raw piece
+-- an escape and the raw piece after it are read in one step
 pub escape_turn : (done escape raw : List ℕ) (pieces behind more : List (List ℕ)) → pieces ≡ escape ∷ behind → behind ≡ raw ∷ more →
     text_from done pieces ≡ option_and_then (λ text. text_from text more) (with_escape done raw (scalar_of escape))
 unfolding text_from
 escape_turn done escape raw pieces behind more e f = rw (e, f) refl
 
--- Where no piece is left, the text is done.
+-- If no piece is left, the text is `done`.
 pub all_read : (done : List ℕ) (pieces : List (List ℕ)) → pieces ≡ [] → text_from done pieces ≡ Some done
 unfolding text_from
 all_read done pieces e = rw e refl
@@ -42,20 +42,20 @@ bad_scalar done escape raw pieces behind more e f none =
     escape_turn done escape raw pieces behind more e f
     ∙ ap (λ s. option_and_then (λ text. text_from text more) (with_escape done raw s)) none
 
-not_raw : (done raw : List ℕ) (s : Option ℕ) → list_all stands_for_itself raw ≡ false → with_escape done raw s ≡ None
+not_raw : (done raw : List ℕ) (s : Option ℕ) → list_all is_literal raw ≡ false → with_escape done raw s ≡ None
 not_raw done raw None other = refl
 not_raw done raw (Some c) other = rw other refl
 
 -- A raw piece with a byte that doesn't stand for itself is refused.
 pub bad_raw : (done escape raw : List ℕ) (pieces behind more : List (List ℕ)) → pieces ≡ escape ∷ behind → behind ≡ raw ∷ more →
-    list_all stands_for_itself raw ≡ false → text_from done pieces ≡ None
+    list_all is_literal raw ≡ false → text_from done pieces ≡ None
 bad_raw done escape raw pieces behind more e f other =
     escape_turn done escape raw pieces behind more e f
     ∙ ap (option_and_then (λ text. text_from text more)) (not_raw done raw (scalar_of escape) other)
 
 -- An escape and a raw piece append their characters.
 pub one_escape : (done escape raw : List ℕ) (c : ℕ) (pieces behind more : List (List ℕ)) → pieces ≡ escape ∷ behind → behind ≡ raw ∷ more →
-    scalar_of escape ≡ Some c → list_all stands_for_itself raw ≡ true →
+    scalar_of escape ≡ Some c → list_all is_literal raw ≡ true →
     text_from done pieces ≡ text_from (done ++ encode c ++ raw) more
 one_escape done escape raw c pieces behind more e f some all =
     escape_turn done escape raw pieces behind more e f

@@ -15,12 +15,12 @@ use Rattle.osm_model.specs.Text.{has_zero, is_text}
 use Rattle.osm_model.proofs.TextLaws.{zero_bytes}
 use Rattle.opl_line.specs.declared.bytes.cut.Delimiter.{Delimiter}
 use Rattle.opl_line.specs.Delimiter.{is_end, with_byte, split_first, split_all, pieces_of}
-use Rattle.opl_line.specs.Text.{stands_for_itself, hex_value, is_hex, scalar_of}
+use Rattle.opl_line.specs.Text.{is_literal, hex_value, is_hex, scalar_of}
 use Rattle.opl_line.specs.Content.{SpellsText, raw, escaped, SpellsCharacters}
 use Rattle.opl_line.proofs.BoolLaws.{not_true}
 use Rattle.opl_line.proofs.CutLaws.{cut_split, ends_ascii}
 
--- before and after an ASCII character
+-- the bytes before and after an ASCII character of a text in UTF-8 are UTF-8
 pub utf8_around : (front rest : List ℕ) (b : ℕ) → b < 128 → IsUtf8 (front ++ b ∷ rest) → IsUtf8 front × IsUtf8 rest
 utf8_around front rest b ascii utf8 =
     let text = front ++ b ∷ rest in
@@ -97,12 +97,12 @@ cut_utf8 at bytes utf8 = cut_within at (suc (length bytes)) bytes (omega arith) 
 abbrev HasNone : List ℕ → Type 0
 HasNone bytes = list_any (λ b. eqb b 0) bytes ≡ false
 
-raw_some : (b : ℕ) → stands_for_itself b ≡ true → eqb b 0 ≡ false
+raw_some : (b : ℕ) → is_literal b ≡ true → eqb b 0 ≡ false
 raw_some b e = grind (arith, nat_tests)
 
-raw_none : (bytes : List ℕ) → list_all stands_for_itself bytes ≡ true → HasNone bytes
+raw_none : (bytes : List ℕ) → list_all is_literal bytes ≡ true → HasNone bytes
 raw_none [] all = refl
-raw_none (b ∷ bs) all = let parts = and_parts (stands_for_itself b) (list_all stands_for_itself bs) all in
+raw_none (b ∷ bs) all = let parts = and_parts (is_literal b) (list_all is_literal bs) all in
     λ i. raw_some b parts.0 i || raw_none bs parts.1 i
 
 none_append : (xs ys : List ℕ) → HasNone xs → HasNone ys → HasNone (xs ++ ys)

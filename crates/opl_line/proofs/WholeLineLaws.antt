@@ -40,7 +40,7 @@ use Rattle.opl_line.specs.Part.{LinePart, SpellsPart}
 use Rattle.opl_line.specs.Content.{SpellsNumber32, some_count, SpellsDeleted, visible_mark, deleted_mark, SpellsOptionalCoordinate, no_place, some_place}
 use Rattle.opl_line.specs.Content.{SpellsObject}
 use Rattle.opl_line.specs.Spells.{is_full, fields_of_parts, Spells}
-use Rattle.opl_line.specs.Canonical.{LineSpellsItsVersion, LineIsReadBack, LineStandsInOne}
+use Rattle.opl_line.specs.Canonical.{LineSpellsItsVersion, LineIsReadBack, LineIsInOneFile}
 use Rattle.opl_line.proofs.ContentLaws.{all_weaker}
 use Rattle.opl_line.proofs.PartLaws.{Different, distinct}
 use Rattle.opl_line.proofs.SpellsLaws.{spelled_is_read, one_reading}
@@ -116,9 +116,9 @@ no_comment kind.Way = refl
 no_comment kind.Relation = refl
 
 -- A canonical line has no line end and isn't skipped.
-pub line_stands_in_one : LineStandsInOne
+pub line_is_in_one_file : LineIsInOneFile
 unfolding line
-line_stands_in_one v = (
+line_is_in_one_file v = (
   all_weaker (λ b. ltb 31 b) (λ b. not (is_line_end b)) no_line_end (line v)
       (joined_above (fields v) (fields_above v)),
   no_comment (kind_of v.body),
@@ -363,9 +363,9 @@ data_spelled v w is makes =
       kind = kind_of v.body;
       id = v.id;
       parts = parts_of v;
-      tells = record {
+      line_parts = record {
         utf8 = line_utf8 v is.texts;
-        not_skipped = (line_stands_in_one v).1;
+        not_skipped = (line_is_in_one_file v).1;
         object = kind_letter (kind_of v.body) ∷ integer_text v.id;
         others = others_of v;
         fields = line_parted v;

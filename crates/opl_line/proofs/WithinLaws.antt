@@ -21,7 +21,7 @@ use Rattle.opl_line.proofs.RangeLaws.{line_within, body_within}
 use Rattle.opl_line.proofs.ReadingLaws.{whole_line}
 use Rattle.opl_line.proofs.Utf8Laws.{cut_utf8}
 
--- What a line says makes data within its ranges.
+-- The fields of a line make data within its ranges.
 pub passes : (k : Kind) (id : ℤ) (fields : Fields) (b : Body) → is_id id ≡ true → AreWithin fields →
     eqb (unwrap_or fields.number 0) 0 ≡ false → is_dated (meta_of fields) ≡ true → reading_body k fields ≡ Ok b →
     Passes id (meta_of fields) b
@@ -41,7 +41,7 @@ pub record Sound (k : Kind) (id : ℤ) (fields : Fields) (meta : Meta) (b : Body
   pub fault : first_fault id meta b ≡ None
   pub whole : reading_whole k id fields ≡ Ok (version_of id meta b)
 
--- What a line says makes data without a fault.
+-- The fields of a line make data without a fault.
 pub sound : (k : Kind) (id : ℤ) (fields : Fields) (meta : Meta) (b : Body) → meta ≡ meta_of fields → is_id id ≡ true → AreWithin fields →
     (meta.version == 0) ≡ false → is_dated meta ≡ true → reading_body k fields ≡ Ok b → Sound k id fields meta b
 sound k id fields meta b same is h some dated read =
@@ -52,7 +52,7 @@ sound k id fields meta b same is h some dated read =
       whole = sym (whole_line k id fields meta b same some dated read) ∙ ap unless_fault (made id meta b p);
     }
 
--- What the fields of a line in UTF-8 say is within its ranges.
+-- The contents of the fields of a line in UTF-8 are within their ranges.
 pub fields_within : (line : List ℕ) (k : Kind) (fields : Fields) → IsUtf8 line →
     reading_fields k (pieces_of (is_end Blanks) (split_first (is_end Blanks) line).1) no_fields ≡ Ok fields → AreWithin fields
 fields_within line k fields utf8 read =

@@ -22,23 +22,23 @@ use Rattle.opl_line.specs.Content.{SpellsCharacters, SpellsTag, SpellsReference,
 use Rattle.opl_line.specs.Reading.{is_skipped, reading_line}
 use Rattle.opl_line.specs.Spells.{Spells}
 
--- the text of a number spells it
+-- the text of a number is read as the number
 abbrev pub NumberIsReadBack : Type 0
 NumberIsReadBack = (most n : ℕ) → n ≤ most → reading_number most (number_text n) ≡ Ok n
 
--- the text of an id spells it
+-- the text of an id is read as the id
 abbrev pub IdIsReadBack : Type 0
 IdIsReadBack = (id : ℤ) → is_id id ≡ true → reading_id (integer_text id) ≡ Ok id
 
--- the canonical form of a text spells it
+-- the canonical form of a text spells the text
 abbrev pub TextIsReadBack : Type 0
 TextIsReadBack = (cs : List ℕ) → is_text cs ≡ true → SpellsCharacters (escape cs) cs
 
--- the text of a moment spells it
+-- the text of a moment is read as the moment
 abbrev pub TimeIsReadBack : Type 0
 TimeIsReadBack = (seconds : ℕ) → 0 < seconds → seconds < 2 ^ 32 → reading_time (time_text (Some seconds)) ≡ Ok seconds
 
--- the text of a coordinate of 32 bits spells it
+-- the text of a coordinate of 32 bits is read as the coordinate
 abbrev pub CoordinateIsReadBack : Type 0
 CoordinateIsReadBack = (units : ℤ) → FitsSigned w32 units → reading_coordinate (coordinate_text units) ≡ Ok units
 
@@ -51,7 +51,7 @@ ListsAreSpelled =
     × ((members : List Member) → list_all is_id (ids_of_members members) ≡ true →
     list_all is_text (roles_of members) ≡ true → SpellsList SpellsMember (list_text member_text members) members)
 
--- The canonical line of a version spells it, and nothing else.
+-- The text spells the version and no other.
 pub record SpellsAlone (text : List ℕ) (v : VersionData) : Type 0 where
   pub spelled : Spells text v
   pub alone : (w : VersionData) → Spells text w → w ≡ v
@@ -64,6 +64,6 @@ abbrev pub LineIsReadBack : Type 0
 LineIsReadBack = (v : VersionData) → IsVersion v → reading_line (line v) ≡ Ok (Some v)
 
 -- No canonical line has a line end in it, and none is skipped.
-abbrev pub LineStandsInOne : Type 0
-LineStandsInOne = (v : VersionData) → (list_all (λ b. not (is_line_end b)) (line v) ≡ true)
+abbrev pub LineIsInOneFile : Type 0
+LineIsInOneFile = (v : VersionData) → (list_all (λ b. not (is_line_end b)) (line v) ≡ true)
     × (is_skipped (line v) ≡ false)

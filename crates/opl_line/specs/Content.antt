@@ -1,5 +1,5 @@
--- The contents of fields in OPL lines, and what they spell (the OPL manual; which characters are written as themselves,
--- the limits of an escape, that leading zeros are accepted, and the form of coordinates are own rules of this project).
+-- The contents of fields in OPL lines, and what they spell, as the OPL manual has them. This project's own rules are:
+-- the characters that are written as themselves, the limits of an escape, leading zeros, and the form of coordinates.
 use Rattle.std.specs.Prelude.{◌≡◌, ◌≤◌, ℕ, ℤ, pos, neg_ℤ, ◌+◌, ◌-◌, ◌*◌, ◌^◌, Bool, true, false, List, [], ◌∷◌, ◌++◌}
 use Rattle.std.specs.Prelude.{length, codes, encode_utf8, Option, None, Some}
 use Rattle.std.specs.List.{list_all}
@@ -14,7 +14,7 @@ use Rattle.osm_model.specs.Pairwise.{Pairwise}
 use Rattle.opl_line.specs.declared.bytes.cut.Delimiter.TheVariants.{Commas, Equals, Ats}
 use Rattle.opl_line.specs.Delimiter.{is_end, split_first, split_all}
 use Rattle.opl_line.specs.Number.{is_numeral, decimal_value}
-use Rattle.opl_line.specs.Text.{stands_for_itself, scalar_of}
+use Rattle.opl_line.specs.Text.{is_literal, scalar_of}
 
 -- one decimal digit or more, and the number that they write
 pub record SpellsNumeral (digits : List ℕ) (n : ℕ) : Type 0 where
@@ -30,12 +30,12 @@ pub record SpellsNumber (most : ℕ) (digits : List ℕ) (n : ℕ) : Type 0 wher
 abbrev pub SpellsNumber32 : List ℕ → ℕ → Type 0
 SpellsNumber32 = SpellsNumber 4_294_967_295
 
--- such a number, or nothing for 0
+-- a number of 32 bits; an empty content spells 0
 pub data SpellsCount : List ℕ → ℕ → Type 0 where
   no_count : SpellsCount [] 0
   some_count : (digits : List ℕ) (n : ℕ) → SpellsNumber32 digits n → SpellsCount digits n
 
--- an id: a number up to 4611686018427387903, after a minus sign or not
+-- an id: a number up to 4611686018427387903, with or without a minus sign
 pub data SpellsId : List ℕ → ℤ → Type 0 where
   plain_id : (digits : List ℕ) (n : ℕ) → SpellsNumber 4_611_686_018_427_387_903 digits n → SpellsId digits (pos n)
   minus_id : (digits : List ℕ) (n : ℕ) → SpellsNumber 4_611_686_018_427_387_903 digits n →
@@ -46,12 +46,12 @@ pub data SpellsDeleted : List ℕ → Bool → Type 0 where
   visible_mark : SpellsDeleted (codes "V") false
   deleted_mark : SpellsDeleted (codes "D") true
 
--- a time in its one text, or nothing
+-- the one text of a time; an empty content spells no time
 pub record SpellsTime (bytes : List ℕ) (time : Option ℕ) : Type 0 where
   pub spelled : bytes ≡ time_text time
   pub range : is_time time ≡ true
 
--- degrees in units of 10^-7 degree: 1 to 3 digits; or these, a point, and 1 to 7 decimals
+-- degrees in units of 10^-7 degree: 1 to 3 digits, and then nothing, or a point and 1 to 7 decimals
 pub data SpellsDegrees : List ℕ → ℕ → Type 0 where
   whole_degrees : (digits : List ℕ) (n : ℕ) → SpellsNumeral digits n → length digits ≤ 3 →
       SpellsDegrees digits (n * 10_000_000)
@@ -66,26 +66,26 @@ pub data SpellsCoordinate : List ℕ → ℤ → Type 0 where
   minus_degrees : (bytes : List ℕ) (units : ℕ) → SpellsDegrees bytes units → units ≤ 2_147_483_648 →
       SpellsCoordinate (45 ∷ bytes) (neg_ℤ (pos units))
 
--- such a coordinate, or nothing
+-- a coordinate; an empty content spells none
 pub data SpellsOptionalCoordinate : List ℕ → Option ℤ → Type 0 where
   no_place : SpellsOptionalCoordinate [] None
   some_place : (bytes : List ℕ) (units : ℤ) → SpellsCoordinate bytes units → SpellsOptionalCoordinate bytes (Some units)
 
--- A text in UTF-8: bytes that are written as themselves; or such bytes, an escape, which is `%`, digits and `%`, and a
--- text.
+-- Bytes spell a text in UTF-8: all bytes are written as themselves; or some are, an escape (`%`, digits and `%`)
+-- follows them, and the rest spells a text.
 pub data SpellsText : List ℕ → List ℕ → Type 0 where
-  raw : (text : List ℕ) → list_all stands_for_itself text ≡ true → SpellsText text text
-  escaped : (front digits rest text : List ℕ) (c : ℕ) → list_all stands_for_itself front ≡ true →
+  raw : (text : List ℕ) → list_all is_literal text ≡ true → SpellsText text text
+  escaped : (front digits rest text : List ℕ) (c : ℕ) → list_all is_literal front ≡ true →
       scalar_of digits ≡ Some c → SpellsText rest text →
       SpellsText (front ++ 37 ∷ (digits ++ 37 ∷ rest)) (front ++ (encode_utf8 c ++ text))
 
--- the characters of such a text
+-- the characters of the text that bytes spell
 pub record SpellsCharacters (bytes : List ℕ) (cs : List ℕ) : Type 0 where
   pub text : List ℕ
   pub spelled : SpellsText bytes text
   pub characters : cs ≡ chars text
 
--- a key and a value with one equals sign, between them
+-- a key and a value, with an equals sign between them and no other
 pub record SpellsTag (bytes : List ℕ) (tag : Tag) : Type 0 where
   pub key : List ℕ
   pub value : List ℕ

@@ -1,5 +1,5 @@
--- The fields of an OPL line (the OPL manual; that they may have any order, that one may be empty, and that none is
--- repeated, are own rules of this project).
+-- The fields of an OPL line, as the OPL manual has them. This project's own rules are: fields may have any order, a
+-- field may be empty, and no field is repeated.
 use Rattle.std.specs.Prelude.{ℕ, Bool, true, false, ◌==◌, List, [], ◌∷◌, Option, Some, None, is_some, Result, Ok, Err}
 use Rattle.std.specs.Prelude.{if◌then◌else◌}
 use Rattle.osm_model.specs.declared.kind.Kind.{Kind}
@@ -13,7 +13,7 @@ use Rattle.opl_line.specs.Time.{reading_time}
 use Rattle.opl_line.specs.Text.{reading_text}
 use Rattle.opl_line.specs.Item.{reading_list, reading_tag, reading_reference, reading_member}
 
--- the contents of no field
+-- the fields of a line that has none
 abbrev pub no_fields : Fields
 no_fields = record {
   number = None;
@@ -49,7 +49,7 @@ abbrev pub reading_optional : {X : Type 0} → (List ℕ → Result X OplReason)
 reading_optional reading [] = Ok None
 reading_optional reading (b ∷ bs) = as_value (λ x. Some x) (reading (b ∷ bs))
 
--- a field of the letter was read
+-- a field with the letter was read
 abbrev pub has_field : Fields → ℕ → Bool
 has_field fields letter =
     if letter == 118 then is_some fields.number
@@ -65,7 +65,7 @@ has_field fields letter =
     else (if letter == 77 then is_some fields.members
     else false))))))))))
 
--- a field that one kind has
+-- the fields with one more that only one kind of object has
 abbrev pub with_body_field : Kind → ℕ → List ℕ → Fields → Result Fields OplReason
 with_body_field Node letter content fields =
     if letter == 120 then as_value (λ x. record fields { longitude = Some x })
@@ -80,7 +80,7 @@ with_body_field Relation letter content fields =
     if letter == 77 then as_value (λ ms. record fields { members = Some ms }) (reading_list reading_member content)
     else Err UnknownField
 
--- the fields with one more, of which only the content may be faulty
+-- the fields with one more, from its letter and its content
 abbrev pub with_field : Kind → ℕ → List ℕ → Fields → Result Fields OplReason
 with_field kind letter content fields =
     if letter == 118 then as_value (λ n. record fields { number = Some n }) (reading_number_32 content)
@@ -92,7 +92,7 @@ with_field kind letter content fields =
     else (if letter == 84 then as_value (λ ts. record fields { tags = Some ts }) (reading_list reading_tag content)
     else with_body_field kind letter content fields))))))
 
--- one more field; runs of blanks leave empty ones, which have no content
+-- the fields with one more; an empty field, as between two blanks, adds nothing
 abbrev pub reading_field : Kind → List ℕ → Fields → Result Fields OplReason
 reading_field kind [] fields = Ok fields
 reading_field kind (letter ∷ content) fields = if has_field fields letter then Err RepeatedField

@@ -1,5 +1,5 @@
--- The items of lists in OPL lines: tags, references and members (the OPL manual; which reason is returned is an own
--- rule of this project).
+-- The items of lists in OPL lines: tags, references and members, as the OPL manual has them. The reasons of faulty
+-- items are this project's own.
 use Rattle.std.specs.Prelude.{ℕ, ℤ, ◌==◌, List, [], ◌∷◌, drop, Option, Some, None, Result, Ok, Err, if◌then◌else◌}
 use Rattle.osm_model.specs.declared.kind.Kind.{Kind}
 use Rattle.osm_model.specs.declared.kind.Kind.TheVariants.{Node, Way, Relation}
@@ -36,7 +36,7 @@ tag_of_pieces (key ∷ value ∷ other ∷ more) = Err BadList
 abbrev pub reading_tag : List ℕ → Result Tag OplReason
 reading_tag text = tag_of_pieces (split_all (is_end Equals) text)
 
--- a text that is no integer makes no item
+-- the reason of an item whose id is refused for a reason
 abbrev pub item_reason : OplReason → OplReason
 item_reason OutOfRange = OutOfRange
 item_reason _ = BadList
@@ -68,7 +68,7 @@ reading_named (Some kind) digits = as_value (λ id. (kind, id)) (reading_item_id
 abbrev pub reading_object_name : List ℕ → Result (Kind × ℤ) OplReason
 reading_object_name text = reading_named (first_kind text) (drop 1 text)
 
--- an object and a role
+-- a member, from the texts of its object and of its role
 abbrev pub member_of_parts : List ℕ × Option (List ℕ) → Result Member OplReason
 member_of_parts parts = elim parts.1 as (λ _. Result Member OplReason) [
   | None ↦ Err BadList

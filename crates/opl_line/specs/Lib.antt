@@ -14,6 +14,6 @@ pub mod Spells
 pub mod Within
 pub mod Canonical
 pub mod LineReason
-pub mod Uploaded
+pub mod AuthorFields
 pub mod SharedAuthor
 pub mod Straight

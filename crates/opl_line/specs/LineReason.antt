@@ -1,5 +1,5 @@
--- Why an OPL line is refused. The manual has no reasons: the set of reasons, and that the leftmost faulty field
--- decides, are own rules of this project.
+-- The reasons for which an OPL line is refused. The manual has no reasons. Two rules are this project's own: the set of
+-- reasons, and that the leftmost faulty field decides.
 use Rattle.std.specs.Prelude.{◌≡◌, ◌⊎◌, ℕ, ℤ, Bool, true, false, ◌==◌, List, [], ◌∷◌, ◌++◌, map, filter, nat_eq, codes}
 use Rattle.std.specs.Prelude.{unwrap_or, Some, None, Err}
 use Rattle.std.specs.List.{IsDistinct, list_any}
@@ -31,8 +31,8 @@ use Rattle.opl_line.specs.Spells.{is_full, fields_of_parts, SpellsParts, SpellsN
 abbrev pub SpellsNoText : List ℕ → Type 0
 SpellsNoText bytes = (cs : List ℕ) → SpellsCharacters bytes cs → ⊥
 
--- Why bytes name no object: they don't begin with the letter of a kind; or the id after it is faulty, for which a list
--- has another reason than the first field.
+-- Why bytes name no object. They don't begin with the letter of a kind: then the reason is `other`. Or the id after the
+-- letter is faulty: then the reason is `of_id` of the id's reason. A list has other reasons than the first field.
 pub data ObjectReason (other : OplReason) (of_id : OplReason → OplReason) : List ℕ → OplReason → Type 0 where
   no_kind : (bytes : List ℕ) → ((k : Kind) (digits : List ℕ) → bytes ≡ kind_letter k ∷ digits → ⊥) →
       ObjectReason other of_id bytes other
@@ -68,11 +68,12 @@ pub record FirstReason {X : Type 0} (SpellsItem : List ℕ → X → Type 0) (It
   pub items : List X
   pub fine : Pairwise SpellsItem front items
   pub piece : List ℕ
-  pub behind : List (List ℕ)
-  pub parted : pieces ≡ front ++ piece ∷ behind
+  pub later : List (List ℕ)
+  pub parted : pieces ≡ front ++ piece ∷ later
   pub faulty : ItemReason piece reason
 
--- why bytes are no list: the first faulty item between commas decides, and no bytes are a list without items
+-- why bytes are no list: the first faulty item between commas decides; without bytes the list has no items and no
+-- reason
 abbrev pub ListReason : {X : Type 0} → (List ℕ → X → Type 0) → (List ℕ → OplReason → Type 0) → List ℕ → OplReason →
     Type 0
 ListReason SpellsItem ItemReason [] reason = ⊥
@@ -104,20 +105,21 @@ pub data ContentReason : ℕ → List ℕ → OplReason → Type 0 where
 
 -- ---- fields
 
--- the letters of the fields after the object
+-- the letters of the fields that only one kind of object has
 abbrev pub body_letters : Kind → List ℕ
 body_letters Node = codes "xy"
 body_letters Way = codes "N"
 body_letters Relation = codes "M"
 
+-- the letters of the fields after the object
 abbrev pub letters_of : Kind → List ℕ
 letters_of k = codes "vdctiuT" ++ body_letters k
 
 abbrev pub is_among : ℕ → List ℕ → Bool
 is_among letter letters = list_any (λ l. letter == l) letters
 
--- Why a field after fields of the letters `met` is faulty: its letter is one of these; its letter is none of the kind;
--- or the content is faulty.
+-- Why a field after fields with the letters `met` is faulty: its letter is among `met`; or objects of the kind have no
+-- field with its letter; or its content is faulty.
 pub data FieldReason (k : Kind) (met : List ℕ) : List ℕ → OplReason → Type 0 where
   repeated : (letter : ℕ) (content : List ℕ) → is_among letter met ≡ true →
       FieldReason k met (letter ∷ content) RepeatedField
@@ -134,8 +136,8 @@ pub record FieldsReason (k : Kind) (fields : List (List ℕ)) (reason : OplReaso
   pub fine : Pairwise (SpellsPart k) (filter is_full front) parts
   pub different : IsDistinct nat_eq (map letter_of parts)
   pub field : List ℕ
-  pub behind : List (List ℕ)
-  pub parted : fields ≡ front ++ field ∷ behind
+  pub later : List (List ℕ)
+  pub parted : fields ≡ front ++ field ∷ later
   pub faulty : FieldReason k (map letter_of parts) field reason
 
 -- ---- the whole line
@@ -146,7 +148,7 @@ pub record LacksLocation (k : Kind) (fields : Fields) : Type 0 where
   pub visible : unwrap_or fields.deleted false ≡ false
   pub lacks : (unwrap_or fields.longitude None ≡ None) ⊎ (unwrap_or fields.latitude None ≡ None)
 
--- why fields that are fine make no version: the first of these that applies
+-- why fields without a fault make no version: the first reason that applies
 pub data WholeReason (k : Kind) (fields : Fields) : OplReason → Type 0 where
   no_version : unwrap_or fields.number 0 ≡ 0 → WholeReason k fields NoVersion
   no_time : (unwrap_or fields.number 0 ≡ 0 → ⊥) → is_dated (meta_of fields) ≡ false → WholeReason k fields NoTime
@@ -169,11 +171,11 @@ pub data LineReason : List ℕ → OplReason → Type 0 where
 -- ---- laws
 
 -- A line with a reason is refused for it, and a refused line is refused for its reason.
-abbrev pub ReasonIsTold : Type 0
-ReasonIsTold = (line : List ℕ) (reason : OplReason) → LineReason line reason → reading_line line ≡ Err reason
+abbrev pub ReasonIsReported : Type 0
+ReasonIsReported = (line : List ℕ) (reason : OplReason) → LineReason line reason → reading_line line ≡ Err reason
 
-abbrev pub ToldIsReason : Type 0
-ToldIsReason = (line : List ℕ) (reason : OplReason) → reading_line line ≡ Err reason → LineReason line reason
+abbrev pub ReportedIsReason : Type 0
+ReportedIsReason = (line : List ℕ) (reason : OplReason) → reading_line line ≡ Err reason → LineReason line reason
 
 -- the line has this reason and no other
 pub record HasOneReason (line : List ℕ) : Type 0 where

@@ -1,5 +1,5 @@
--- Numbers in OPL lines (the OPL manual; that leading zeros are accepted, and the form of coordinates, are own rules of
--- this project).
+-- Numbers in OPL lines, as the OPL manual has them. This project's own rules are: leading zeros are accepted, and the
+-- form of coordinates.
 use Rattle.std.specs.Prelude.{ℕ, ℤ, pos, neg_ℤ, ◌+◌, ◌-◌, ◌*◌, ◌^◌, Bool, false, not, ◌&&◌, ◌==◌, nat_le, List, [], ◌∷◌}
 use Rattle.std.specs.Prelude.{length, fold, Option, Some, None, Result, Ok, Err, if◌then◌else◌}
 use Rattle.std.specs.List.{list_all}
@@ -13,7 +13,7 @@ use Rattle.opl_line.specs.Delimiter.{split_first}
 abbrev pub is_numeral : List ℕ → Bool
 is_numeral text = not (length text == 0) && list_all is_ascii_digit text
 
--- a further digit after a number
+-- the number that the digits of a number and one more digit write
 abbrev pub with_digit : ℕ → ℕ → ℕ
 with_digit n digit = 10 * n + (digit - 48)
 
@@ -29,6 +29,7 @@ value_of text = if is_numeral text then Some (decimal_value text) else None
 abbrev pub up_to : ℕ → ℕ → Result ℕ OplReason
 up_to most n = if nat_le n most then Ok n else Err OutOfRange
 
+-- one decimal digit or more, with a value of at most `most`
 abbrev pub reading_number : ℕ → List ℕ → Result ℕ OplReason
 reading_number most text = if is_numeral text then up_to most (decimal_value text) else Err BadNumber
 
@@ -49,7 +50,7 @@ with_sign negative n = if negative then neg_ℤ (pos n) else pos n
 abbrev pub reading_id : List ℕ → Result ℤ OplReason
 reading_id text = as_value (with_sign (is_negative text)) (reading_number 4_611_686_018_427_387_903 (without_sign text))
 
--- digits, at most `most`
+-- 1 to `most` decimal digits
 abbrev pub reading_short_numeral : ℕ → List ℕ → Result ℕ OplReason
 reading_short_numeral most text = if is_numeral text && nat_le (length text) most then Ok (decimal_value text)
     else Err BadCoordinate

@@ -22,7 +22,7 @@ pub data LinePart : Type 0 where
   References : List ℤ → LinePart
   Members : List Member → LinePart
 
--- the letter of its field
+-- the letter of the field of a part
 abbrev pub letter_of : LinePart → ℕ
 letter_of (Number n) = 118
 letter_of (Deleted d) = 100
@@ -50,7 +50,7 @@ SpellsContent content (Latitude y) = SpellsOptionalCoordinate content y
 SpellsContent content (References ids) = SpellsList SpellsReference content ids
 SpellsContent content (Members ms) = SpellsList SpellsMember content ms
 
--- the kind of object has such fields
+-- objects of the kind have a field for the part
 abbrev pub IsPartOf : Kind → LinePart → Type 0
 IsPartOf k (Longitude x) = k ≡ kind.Node
 IsPartOf k (Latitude y) = k ≡ kind.Node

@@ -28,7 +28,7 @@ abbrev pub is_skipped : List ℕ → Bool
 is_skipped [] = true
 is_skipped (b ∷ bs) = b == 35
 
--- the id, if the letter is that of a kind
+-- the kind and the id of an object, from the kind of its letter, if it is one, and the digits
 abbrev pub reading_kind_and_id : Option Kind → List ℕ → Result (Kind × ℤ) OplReason
 reading_kind_and_id None digits = Err UnknownKind
 reading_kind_and_id (Some kind) digits = as_value (λ id. (kind, id)) (reading_id digits)
@@ -63,7 +63,7 @@ reading_visible kind.Relation fields = Ok (Relation (unwrap_or fields.members []
 abbrev pub reading_body : Kind → Fields → Result Body OplReason
 reading_body kind fields = if unwrap_or fields.deleted false then Ok (Deleted kind) else reading_visible kind fields
 
--- why data that was read makes no version
+-- the reason of a line whose data has a fault
 abbrev pub reason_of : ValueFault → OplReason
 reason_of fault.IdRange = OutOfRange
 reason_of fault.NoVersion = NoVersion
@@ -77,7 +77,7 @@ abbrev pub unless_fault : Result VersionData ValueFault → Result VersionData O
 unless_fault (Ok v) = Ok v
 unless_fault (Err f) = Err (reason_of f)
 
--- the version of all fields
+-- the version of an object with all its fields
 abbrev pub reading_whole : Kind → ℤ → Fields → Result VersionData OplReason
 reading_whole kind id fields =
     if unwrap_or fields.number 0 == 0 then Err NoVersion

@@ -1,5 +1,5 @@
--- The version that an OPL line spells (the OPL manual; the order of fields, and the default of a missing one, are own
--- rules of this project).
+-- The version that an OPL line spells, as the OPL manual has it. This project's own rules are: the order of fields, and
+-- the default of a missing one.
 use Rattle.std.specs.Prelude.{◌≡◌, ℕ, ℤ, Bool, true, false, List, [], ◌∷◌, map, fold, filter, nat_eq, Some, None, Ok}
 use Rattle.std.specs.Prelude.{Err}
 use Rattle.std.specs.List.{IsDistinct}
@@ -18,12 +18,12 @@ use Rattle.opl_line.specs.Content.{SpellsObject}
 use Rattle.opl_line.specs.Part.{LinePart, letter_of, SpellsPart, with_part}
 use Rattle.opl_line.specs.Reading.{is_skipped, meta_of, reading_body, reading_line}
 
--- a field between two blanks may be empty, and then has no part
+-- the field isn't empty; an empty field, as between two blanks, has no part
 abbrev pub is_full : List ℕ → Bool
 is_full [] = false
 is_full (b ∷ bs) = true
 
--- the version of the id, of the parts, and of the defaults for missing parts; a deletion keeps no body
+-- the version of the id, of the fields, and of the defaults for missing fields; a deletion keeps no body
 pub record IsVersionOf (kind : Kind) (id : ℤ) (fields : Fields) (v : VersionData) : Type 0 where
   pub body : Body
   pub has_body : reading_body kind fields ≡ Ok body
@@ -51,7 +51,7 @@ pub record Spells (line : List ℕ) (v : VersionData) : Type 0 where
   pub kind : Kind
   pub id : ℤ
   pub parts : List LinePart
-  pub tells : SpellsParts line kind id parts
+  pub line_parts : SpellsParts line kind id parts
   pub version : IsVersionOf kind id (fields_of_parts parts) v
 
 -- the line isn't skipped, and spells no version

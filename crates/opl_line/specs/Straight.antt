@@ -9,7 +9,7 @@ use Rattle.osm_model.specs.Kind.{kind_letter}
 use Rattle.osm_model.specs.Id.{is_id}
 use Rattle.osm_model.specs.Text.{is_text}
 use Rattle.osm_model.specs.New.{is_number}
-use Rattle.opl_line.specs.Uploaded.{author_text, IsAuthorInRange}
+use Rattle.opl_line.specs.AuthorFields.{author_text, IsAuthorInRange}
 use Rattle.osm_model.specs.Decimal.{number_text, integer_text}
 use Rattle.osm_model.specs.Escape.{is_raw}
 use Rattle.osm_model.specs.Joined.{join_with}
@@ -37,20 +37,21 @@ head_text kind id deleted meta =
 abbrev pub tail_text : Body → List ℕ
 tail_text b = codes " T" ++ (list_text tag_text (tags_of b) ++ 32 ∷ join_with 32 (kind_fields b))
 
--- the fields from the changeset to the user name are within their ranges
+-- `text` begins with the fields from the changeset to the user name, which are within their ranges, and ends with
+-- `behind`
 pub record IsAuthored (text : List ℕ) (version : ℕ) (meta : Meta) (behind : List ℕ) : Type 0 where
   pub spelled : text ≡ author_text meta ++ behind
   pub number : meta.version ≡ version
   pub range : IsAuthorInRange meta
 
--- the fields before the tags are within their ranges
+-- `text` begins with the fields before the tags, which are within their ranges, and ends with `behind`
 pub record IsHead (text : List ℕ) (kind : Kind) (id : ℤ) (deleted : Bool) (meta : Meta) (behind : List ℕ) : Type 0 where
   pub spelled : text ≡ head_text kind id deleted meta ++ behind
   pub object : is_id id ≡ true
   pub number : is_number meta.version ≡ true
-  pub upload : IsAuthorInRange meta
+  pub shared_author : IsAuthorInRange meta
 
--- the fields from the tags on are within their ranges
+-- `text` is the fields from the tags on, which are within their ranges
 pub record IsTail (text : List ℕ) (kind : Kind) (deleted : Bool) (b : Body) : Type 0 where
   pub spelled : text ≡ tail_text b
   pub same_kind : kind_of b ≡ kind

@@ -1,5 +1,5 @@
--- Times in OPL lines, `yyyy-mm-ddThh:mm:ssZ` (the OPL manual; that there is no second 60 is an own rule of this
--- project).
+-- Times in OPL lines, `yyyy-mm-ddThh:mm:ssZ`, as the OPL manual has them. One rule is this project's own: there is no
+-- second 60.
 use Rattle.std.specs.Prelude.{ℕ, ◌+◌, ◌-◌, ◌*◌, ◌^◌, ◌&&◌, ◌==◌, nat_lt, List, length, take, drop, slice_index, Option}
 use Rattle.std.specs.Prelude.{Some, None, Result, Ok, Err, if◌then◌else◌}
 use Rattle.std.specs.Option.{option_and_then, ok_or}
@@ -10,11 +10,11 @@ use Rattle.opl_line.specs.declared.reason.OplReason.TheVariants.{BadTime, OutOfR
 use Rattle.opl_line.specs.Answer.{and_then}
 use Rattle.opl_line.specs.Number.{value_of}
 
--- the number of a digit
+-- the value of a digit
 abbrev pub digit_of : ℕ → Option ℕ
 digit_of byte = if is_ascii_digit byte then Some (byte - 48) else None
 
--- `count` digits from an offset on
+-- the number that `count` digits from an offset on write
 abbrev pub digits_at : ℕ → ℕ → List ℕ → Option ℕ
 digits_at from count text = value_of (take count (drop from text))
 
@@ -22,7 +22,7 @@ digits_at from count text = value_of (take count (drop from text))
 abbrev pub day_of : ℕ → ℕ → ℕ → Option ℕ
 day_of year month day = if is_date year month day then Some (day_number year month day) else None
 
--- `yyyy-mm-dd`
+-- the day number of the `yyyy-mm-dd` that a text begins with
 abbrev pub reading_date : List ℕ → Option ℕ
 reading_date text =
     option_and_then (λ year. option_and_then (λ month. option_and_then (λ day.
@@ -34,7 +34,7 @@ abbrev pub second_of : ℕ → ℕ → ℕ → Option ℕ
 second_of hour minute second = if nat_lt hour 24 && nat_lt minute 60 && nat_lt second 60
     then Some (3_600 * hour + 60 * minute + second) else None
 
--- `Thh:mm:ssZ`, after the date
+-- the second of the day of the `Thh:mm:ssZ` after the date
 abbrev pub reading_clock : List ℕ → Option ℕ
 reading_clock text =
     option_and_then (λ hour. option_and_then (λ minute. option_and_then (λ second.
@@ -46,7 +46,7 @@ reading_clock text =
 abbrev pub epoch : ℕ
 epoch = 62_167_219_200
 
--- a moment counted from the year 0 on, counted from 1970 on: from 1 to 4294967295
+-- the seconds since 1970-01-01T00:00:00Z, from 1 to 4294967295, of a moment that is counted from 0000-01-01T00:00:00Z
 abbrev pub reading_moment : ℕ → Result ℕ OplReason
 reading_moment seconds = if nat_lt epoch seconds && nat_lt seconds (epoch + 2 ^ 32) then Ok (seconds - epoch)
     else Err OutOfRange

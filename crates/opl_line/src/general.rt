@@ -1,7 +1,7 @@
-//! The general reader: any line, field by field. Only this reader refuses lines.
+//! The general reader, which reads any line field by field. Only this reader refuses lines.
 ghost use Rattle.std.specs.Prelude.{◌≡◌, true};
 ghost use Rattle.osm_model.specs.Id.{is_id};
-ghost use Rattle.opl_line.specs.Answer.{OplAnswers};
+ghost use Rattle.opl_line.specs.Answer.{OplReads};
 ghost use Rattle.opl_line.specs.Reading as spec;
 ghost use Rattle.opl_line.specs.Within.{AreWithin};
 
@@ -18,17 +18,19 @@ use item::split_kind;
 use osm_model::{Body, Kind, Members, Meta, References, Spare, Tags, Text, Version};
 use std::alloc::Global;
 
-/// The version of a line that is UTF-8 and is not skipped. It is made in `spare`, if that has memory.
+/// The version of a line that is UTF-8 and is not skipped. The version is made in the memory of `spare`, if there is
+/// some.
 ///
 /// # Errors
 ///
-/// The reason of the leftmost faulty field; then `NoVersion`, `NoTime` and `NoLocation`, in this order; `Memory`.
+/// The reason of the leftmost faulty field. If there is none, the first that applies of `NoVersion`, `NoTime` and
+/// `NoLocation`. `Memory` if an allocation fails.
 pub(crate) fn read_version(
     alloc: Global,
     spare: &mut Spare,
     line: &str,
 ) -> Result<Version, OplReason>
-    ensures { OplAnswers (spec.reading_version line.now) result }
+    ensures { OplReads (spec.reading_version line.now) result }
 {
     let (object, others) = Delimiter::Blanks.split(line);
     let (kind, id) = read_object(object.as_bytes())?;
@@ -37,7 +39,7 @@ pub(crate) fn read_version(
     to_version(alloc, spare, kind, id, &mut fields)
 }
 
-/// The kind and the id of an object.
+/// The kind and the id of an object, from the first field of a line.
 fn read_object(field: &[u8]) -> Result<(Kind, i64), OplReason>
     ensures { result ≡ spec.reading_object field.now }
 {
@@ -45,7 +47,7 @@ fn read_object(field: &[u8]) -> Result<(Kind, i64), OplReason>
     Ok((kind, read_id(digits)?))
 }
 
-/// The version of the fields of a line, if it is within all ranges.
+/// The version of an object, from the fields of its line, which are within their ranges.
 fn to_version(
     alloc: Global,
     spare: &mut Spare,
@@ -55,7 +57,7 @@ fn to_version(
 ) -> Result<Version, OplReason>
     requires id { is_id id ≡ true }
     requires within { AreWithin fields.old }
-    ensures { OplAnswers (spec.reading_whole kind id fields.old) result }
+    ensures { OplReads (spec.reading_whole kind id fields.old) result }
 {
     let meta = to_meta(fields);
     if meta.version == 0 {
@@ -65,11 +67,11 @@ fn to_version(
         return Err(OplReason::NoTime);
     }
     let body = to_body(alloc, kind, fields)?;
-    // The data has no fault, so only memory can be refused.
+    // The data has no fault, so only an allocation can fail.
     Ok(Version::from_checked_data(alloc, spare, id, meta, body)?)
 }
 
-/// The metadata of the fields of a line.
+/// The metadata, from the fields of a line.
 fn to_meta(fields: &mut Fields) -> Meta
     ensures meta { result ≡ spec.meta_of fields.old }
     ensures rest { fields.new ≡ record fields.old { user = None } }
@@ -83,7 +85,7 @@ fn to_meta(fields: &mut Fields) -> Meta
     }
 }
 
-/// The body of the fields of a line.
+/// The body, from the fields of a line.
 fn to_body(alloc: Global, kind: Kind, fields: &mut Fields) -> Result<Body, OplReason>
     ensures { result ≡ spec.reading_body kind fields.old }
 {

@@ -1,8 +1,8 @@
-//! Laws of the definitions, each the contract of a function with an empty body. They run no code.
+//! Laws of the definitions. Each law is the contract of a function with an empty body.
 ghost use Rattle.opl_line.specs.Canonical.{NumberIsReadBack, IdIsReadBack, TextIsReadBack, TimeIsReadBack};
 ghost use Rattle.opl_line.specs.Canonical.{CoordinateIsReadBack};
-ghost use Rattle.opl_line.specs.Canonical.{ListsAreSpelled, LineSpellsItsVersion, LineIsReadBack, LineStandsInOne};
-ghost use Rattle.opl_line.specs.LineReason.{ReasonIsTold, ToldIsReason, NeitherHasOneReason, ReasonSpellsNothing};
+ghost use Rattle.opl_line.specs.Canonical.{ListsAreSpelled, LineSpellsItsVersion, LineIsReadBack, LineIsInOneFile};
+ghost use Rattle.opl_line.specs.LineReason.{ReasonIsReported, ReportedIsReason, NeitherHasOneReason, ReasonSpellsNothing};
 ghost use Rattle.opl_line.specs.LineReason.{MemoryIsNoReason};
 ghost use Rattle.opl_line.specs.Spells.{ReadIsSpelled, SpelledIsRead, OneReading, RefusedSpellsNothing};
 ghost use Rattle.opl_line.specs.Spells.{SkippedSpellsNothing};
@@ -33,13 +33,13 @@ pub fn skipped_spells_nothing()
 {}
 
 /// A line that has a reason is refused for it.
-pub fn reason_is_told()
-    ensures { ReasonIsTold }
+pub fn reason_is_reported()
+    ensures { ReasonIsReported }
 {}
 
 /// The reason for which a line is refused is its reason.
-pub fn told_is_reason()
-    ensures { ToldIsReason }
+pub fn reported_is_reason()
+    ensures { ReportedIsReason }
 {}
 
 /// A line that is neither skipped nor spells a version has exactly one reason.
@@ -52,7 +52,7 @@ pub fn reason_spells_nothing()
     ensures { ReasonSpellsNothing }
 {}
 
-/// Out of memory is no reason of a line.
+/// `Memory` is the reason of no line.
 pub fn memory_is_no_reason()
     ensures { MemoryIsNoReason }
 {}
@@ -82,12 +82,12 @@ pub fn coordinate_is_read_back()
     ensures { CoordinateIsReadBack }
 {}
 
-/// The canonical lists of tags, references and members spell them.
+/// The canonical text of a list of tags, references or members spells the list.
 pub fn lists_are_spelled()
     ensures { ListsAreSpelled }
 {}
 
-/// The canonical line of a version spells it, and nothing else.
+/// The canonical line of a version spells the version and no other.
 pub fn line_spells_its_version()
     ensures { LineSpellsItsVersion }
 {}
@@ -98,6 +98,6 @@ pub fn line_is_read_back()
 {}
 
 /// A canonical line contains no line end and isn't skipped.
-pub fn line_stands_in_one()
-    ensures { LineStandsInOne }
+pub fn line_is_in_one_file()
+    ensures { LineIsInOneFile }
 {}

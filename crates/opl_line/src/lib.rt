@@ -1,4 +1,4 @@
-//! OPL lines: one version of an object read from its line, and written as its line.
+//! Reads a version of an object from its OPL line, and writes the line of a version.
 #![tactic(auto)]
 
 mod bytes;

@@ -1,8 +1,8 @@
-//! OPL lines, read and written.
+//! Reads and writes OPL lines.
 ghost use Rattle.std.specs.Prelude.{◌≡◌, ◌⊎◌, ◌++◌, true, IfOk, IfErr, OnOk, MatchOption};
 ghost use Rattle.osm_model.specs.Cursor.{remaining_bytes};
 ghost use Rattle.osm_model.specs.Line.{line};
-ghost use Rattle.opl_line.specs.Answer.{OplAnswers};
+ghost use Rattle.opl_line.specs.Answer.{OplReads};
 ghost use Rattle.opl_line.specs.Reading as spec;
 ghost use Rattle.opl_line.specs.Spells.{Spells, SpellsNothing};
 ghost use Rattle.opl_line.specs.LineReason.{LineReason};
@@ -12,20 +12,20 @@ use crate::OplReason;
 use crate::bytes::utf8::to_str;
 use crate::general::read_version;
 use crate::straight::read_straight;
-use crate::straight::upload::SharedAuthor;
+use crate::straight::shared_author::SharedAuthor;
 use osm_model::{LineBytes, Memory, Spare, Version};
 use std::alloc::Global;
 use std::marker::Model;
 
 /// The version that a line spells, or `None` for a line that is skipped: an empty one, or one that begins with `#`.
-/// The line has no line end.
+/// `line` has no line end.
 ///
 /// # Errors
 ///
-/// `NotUtf8` if the line is not UTF-8; then the reason of its leftmost faulty field; then `NoVersion`, `NoTime` and
-/// `NoLocation`, in this order; `Memory` when out of memory.
+/// `NotUtf8` if the line is not UTF-8. Else the reason of the leftmost faulty field. If no field is faulty, the first
+/// that applies of `NoVersion`, `NoTime` and `NoLocation`. `Memory` if an allocation fails.
 pub fn read_line(alloc: Global, line: &[u8]) -> Result<Option<Version>, OplReason>
-    ensures reading { OplAnswers (spec.reading_line line.now) result }
+    ensures reading { OplReads (spec.reading_line line.now) result }
     ensures spelled { IfOk result (λ read. MatchOption read (spec.is_skipped line.now ≡ true) (Spells line.now)) }
     ensures refused { IfErr result (λ reason. (reason ≡ opl.Memory) ⊎ SpellsNothing line.now) }
     ensures reason { IfErr result (λ reason. (reason ≡ opl.Memory) ⊎ LineReason line.now reason) }
@@ -33,17 +33,18 @@ pub fn read_line(alloc: Global, line: &[u8]) -> Result<Option<Version>, OplReaso
     LineReader::new(alloc).read(line)
 }
 
-/// Reads lines one by one, each independently, and recycles versions that are not needed any more.
+/// Reads lines one by one, each independently of the others. It makes a version in the memory of one that is not needed
+/// any more.
 #[derive(Drop)]
 pub struct LineReader {
     alloc: Global,
     /// The memory of versions that were given back; the next version is made in it.
     spare: Spare,
     /// The changeset, time and user of earlier lines, which the next line often repeats.
-    upload: SharedAuthor,
+    shared_author: SharedAuthor,
 }
 
-/// Each reader reads a line as the same version, so contracts see nothing of a reader.
+/// All readers read a line as the same version, so contracts see nothing of a reader's state.
 impl Model for LineReader {
     ghost Value = { Unit {0} };
 
@@ -56,18 +57,18 @@ impl LineReader {
         LineReader {
             alloc,
             spare: Spare::new(alloc),
-            upload: SharedAuthor::new(alloc),
+            shared_author: SharedAuthor::new(alloc),
         }
     }
 
-    /// Reads a line as [`read_line`] does: the straight reader reads a line of the usual form, and the general reader
-    /// any other.
+    /// Reads a line as [`read_line`] does. The straight reader reads a line of the usual form, and the general reader
+    /// reads any other line.
     ///
     /// # Errors
     ///
     /// As for [`read_line`].
     pub fn read(&mut self, line: &[u8]) -> Result<Option<Version>, OplReason>
-        ensures reading { OplAnswers (spec.reading_line line.now) result }
+        ensures reading { OplReads (spec.reading_line line.now) result }
         ensures spelled { IfOk result (λ read. MatchOption read (spec.is_skipped line.now ≡ true) (Spells line.now)) }
         ensures refused { IfErr result (λ reason. (reason ≡ opl.Memory) ⊎ SpellsNothing line.now) }
         ensures reason { IfErr result (λ reason. (reason ≡ opl.Memory) ⊎ LineReason line.now reason) }
@@ -75,7 +76,12 @@ impl LineReader {
         if is_skipped(line) {
             return Ok(None);
         }
-        if let Some(version) = read_straight(self.alloc, &mut self.spare, &mut self.upload, line) {
+        if let Some(version) = read_straight(
+            self.alloc,
+            &mut self.spare,
+            &mut self.shared_author,
+            line,
+        ) {
             return Ok(Some(version));
         }
         let Some(text) = to_str(line) else {
@@ -91,7 +97,7 @@ impl LineReader {
     }
 }
 
-/// Whether a line is skipped.
+/// Whether a line is skipped: it is empty, or it begins with `#`.
 fn is_skipped(line: &[u8]) -> bool
     ensures { result ≡ spec.is_skipped line.now }
 {
@@ -101,7 +107,7 @@ fn is_skipped(line: &[u8]) -> bool
     }
 }
 
-/// The canonical line of a version, without a line end. [`Version::line_bytes`] writes it, a run of bytes at a time;
+/// The canonical line of a version, without a line end. [`Version::line_bytes`] gives its bytes, one run at a time.
 /// [`Version::append_line`] writes the same bytes faster.
 pub fn write_line(alloc: Global, version: &Version) -> Result<Vec<u8>, Memory>
     ensures { IfOk result (λ text. text.items ≡ line version.now) }
@@ -111,7 +117,7 @@ pub fn write_line(alloc: Global, version: &Version) -> Result<Vec<u8>, Memory>
     Ok(text)
 }
 
-/// Appends the bytes that a cursor has not given yet.
+/// Appends the remaining bytes of `bytes`.
 fn append_runs(mut bytes: LineBytes<'_>, out: &mut Vec<u8>) -> Result<(), Memory>
     ensures { OnOk result (out.new.items ≡ out.old.items ++ remaining_bytes bytes.entry) }
 {

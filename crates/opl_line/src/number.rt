@@ -10,17 +10,17 @@ use crate::bytes::cut::Delimiter;
 /// The greatest version number, changeset and user id.
 pub(crate) const GREATEST_NUMBER: u64 = (1 << 32) - 1;
 
-/// The greatest id; the least is as far below 0.
+/// The greatest id. The least id is its negative.
 const GREATEST_ID: u64 = (1 << 62) - 1;
 
-/// Units of a coordinate in a degree.
+/// The number of units of a coordinate in one degree.
 pub(crate) const DEGREE: u64 = 10_000_000;
 
-/// A number: one decimal digit or more, and `most` at most.
+/// A number: one decimal digit or more, with a value of at most `most`.
 ///
 /// # Errors
 ///
-/// `BadNumber` if it is none, `OutOfRange` if it is above `most`.
+/// `BadNumber` if `digits` is empty or has another byte, `OutOfRange` if the number is above `most`.
 pub(crate) fn read_number(digits: &[u8], most: u64) -> Result<u64, OplReason>
     requires { most < 2 ^ 64 - 1 }
     ensures { result ≡ spec.reading_number most digits.now }
@@ -40,7 +40,7 @@ pub(crate) fn read_number(digits: &[u8], most: u64) -> Result<u64, OplReason>
     up_to(most, number)
 }
 
-/// The number, if it is at most `most`.
+/// The number if it is at most `most`, and else `OutOfRange`.
 fn up_to(most: u64, number: u64) -> Result<u64, OplReason>
     ensures { result ≡ spec.up_to most number }
 {
@@ -51,7 +51,7 @@ fn up_to(most: u64, number: u64) -> Result<u64, OplReason>
     }
 }
 
-/// The number that up to 19 digits write, if they are digits.
+/// The number that 1 to 19 bytes write, if all of them are decimal digits.
 fn value_of_few(digits: &[u8]) -> Option<u64>
     requires { length digits.now ≤ 19 }
     ensures { result ≡ spec.value_of digits.now }
@@ -73,7 +73,7 @@ fn value_of_few(digits: &[u8]) -> Option<u64>
 ///
 /// # Errors
 ///
-/// `BadNumber` if it is no integer, `OutOfRange` if it is no id.
+/// `BadNumber` if the text is no integer, `OutOfRange` if the integer is no id.
 pub(crate) fn read_id(text: &[u8]) -> Result<i64, OplReason>
     ensures { result ≡ spec.reading_id text.now }
 {
@@ -83,7 +83,7 @@ pub(crate) fn read_id(text: &[u8]) -> Result<i64, OplReason>
     Ok(if is_negative { -id } else { id })
 }
 
-/// Whether there is a minus sign, and the text after it.
+/// Whether a text begins with a minus sign, and the text without it.
 pub(crate) fn split_sign(text: &[u8]) -> (bool, &[u8])
     ensures sign { result.0 ≡ spec.is_negative text.now }
     ensures behind { result.1.now ≡ spec.without_sign text.now }
@@ -98,7 +98,7 @@ pub(crate) fn split_sign(text: &[u8]) -> (bool, &[u8])
 ///
 /// # Errors
 ///
-/// `BadCoordinate` if it is none, `OutOfRange` if it has more than 32 bits.
+/// `BadCoordinate` if the text is no coordinate, `OutOfRange` if the number of units has more than 32 bits.
 pub(crate) fn read_coordinate(text: &[u8]) -> Result<i32, OplReason>
     ensures { result ≡ spec.reading_coordinate text.now }
 {
@@ -108,7 +108,7 @@ pub(crate) fn read_coordinate(text: &[u8]) -> Result<i32, OplReason>
     to_units(is_negative, units)
 }
 
-/// The units with their sign.
+/// The units with their sign, if they are a number of 32 bits, and else `OutOfRange`.
 pub(crate) fn to_units(is_negative: bool, magnitude: u64) -> Result<i32, OplReason>
     requires { magnitude < 2 ^ 48 }
     ensures { result ≡ spec.reading_units is_negative magnitude }
@@ -118,7 +118,7 @@ pub(crate) fn to_units(is_negative: bool, magnitude: u64) -> Result<i32, OplReas
     i32::try_from(signed).map_err(|_| OplReason::OutOfRange)
 }
 
-/// The units that whole degrees and decimals have.
+/// The units of a coordinate without its sign, from the whole degrees and the decimals.
 fn read_degrees(whole: &[u8], decimals: Option<&[u8]>) -> Result<u64, OplReason>
     ensures value { result ≡ spec.reading_degrees whole.now (option_copied decimals.entry) }
     ensures bound { IfOk result (λ units. units < 2 ^ 48) }
@@ -131,7 +131,7 @@ fn read_degrees(whole: &[u8], decimals: Option<&[u8]>) -> Result<u64, OplReason>
     Ok(degrees + rest * scale(decimals.len()))
 }
 
-/// The value of 1 to `most` digits.
+/// The value of 1 to `most` decimal digits.
 fn read_short_numeral(digits: &[u8], most: usize) -> Result<u64, OplReason>
     requires { most ≤ 7 }
     ensures value { result ≡ spec.reading_short_numeral most digits.now }

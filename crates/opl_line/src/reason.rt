@@ -1,4 +1,4 @@
-//! Why a line is refused.
+//! The reasons for which a line is refused.
 ghost use Rattle.std.specs.Prelude.{◌≡◌};
 ghost use Rattle.opl_line.specs.Reason.{opl_reason_name};
 
@@ -6,7 +6,7 @@ use osm_model::Memory;
 use std::alloc::{AllocError, AllocFailed};
 use thiserror::Error;
 
-/// Why an OPL line can't be read.
+/// The reason why an OPL line can't be read.
 #[derive(Clone, Copy, Debug, PartialEq, Eq, Error)]
 pub enum OplReason {
     /// The line isn't UTF-8.
@@ -27,13 +27,13 @@ pub enum OplReason {
     /// A number, a time or a coordinate is outside its range.
     #[error("out of range")]
     OutOfRange,
-    /// A time isn't written as `yyyy-mm-ddThh:mm:ssZ`, or names no day.
+    /// A time isn't written as `yyyy-mm-ddThh:mm:ssZ`, or the calendar lacks its day.
     #[error("ill-formed time")]
     BadTime,
     /// A coordinate isn't written as a decimal with at most 7 decimals.
     #[error("ill-formed coordinate")]
     BadCoordinate,
-    /// A text holds a character raw that must be escaped, or a faulty escape.
+    /// A text has a raw character that must be escaped, or a faulty escape.
     #[error("ill-formed text")]
     BadText,
     /// A list of tags, references or members isn't written as one.
@@ -48,7 +48,7 @@ pub enum OplReason {
     /// A visible node has no location.
     #[error("visible node without a location")]
     NoLocation,
-    /// Memory was refused.
+    /// An allocation failed.
     #[error("out of memory")]
     Memory,
 }

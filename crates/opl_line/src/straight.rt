@@ -1,8 +1,8 @@
 //! The straight reader: a line whose fields have the usual order and form, read from left to right.
 //!
-//! Why: nearly all lines of real files have this form; a merge of other lines takes 1.7 times the instructions.
+//! Why: nearly all lines of real files have this form. A merge of other lines takes 1.7 times the instructions.
 //! Assumes: nothing; it returns an `Option` and never a reason.
-//! Otherwise: `None`, also when out of memory, and the general reader reads the line.
+//! Otherwise: it returns `None`, also when out of memory, and the general reader reads the line.
 //! Compared by: `canonical_lines_are_read_straight_on`, `other_lines_are_left`, `faulty_lines_are_left`.
 ghost use Rattle.std.specs.Prelude.{◌≡◌, ◌∷◌, ◌++◌, true, Ok, Some, IfSome};
 ghost use Rattle.std.specs.List.{list_all};
@@ -15,15 +15,15 @@ ghost use Rattle.opl_line.specs.Straight.{IsAuthored, IsHead, IsTail, deleted_te
 
 mod item;
 mod part;
+pub(crate) mod shared_author;
 mod text;
-pub(crate) mod upload;
 
 use item::{StraightItem, parse_list, parse_object, strip_byte};
 use osm_model::{Body, Kind, Members, Meta, References, Spare, Tags, Version};
 use part::{parse_coordinate, parse_number, parse_time};
+use shared_author::SharedAuthor;
 use std::alloc::Global;
 use text::parse_text;
-use upload::SharedAuthor;
 
 /// The fields of a line before its tags.
 #[derive(Drop)]
@@ -35,19 +35,18 @@ struct LineHead {
 }
 
 /// The version of a line whose fields have the usual order and form; its tags may have any order. `None` for another
-/// line, and when out of memory. The version is made in `spare`, if that has memory; its changeset, time and user are
-/// copied from
-/// `upload` if the line repeats them.
+/// line, and when out of memory. The version is made in the memory of `spare`, if there is some. Its changeset, time
+/// and user are copied from `shared_author` if the line repeats them.
 #[inline(always)]
 pub(crate) fn read_straight(
     alloc: Global,
     spare: &mut Spare,
-    upload: &mut SharedAuthor,
+    shared_author: &mut SharedAuthor,
     line: &[u8],
 ) -> Option<Version>
     ensures { IfSome result (λ version. reading_line line.now ≡ Ok (Some version)) }
 {
-    let (head, behind) = read_head(alloc, upload, line)?;
+    let (head, behind) = read_head(alloc, shared_author, line)?;
     let body = read_tail(alloc, spare, head.kind, head.is_deleted, behind)?;
     if head.meta.version == 0 || !head.meta.is_dated() {
         return None;
@@ -59,7 +58,7 @@ pub(crate) fn read_straight(
 #[inline(always)]
 fn read_head<'a>(
     alloc: Global,
-    upload: &mut SharedAuthor,
+    shared_author: &mut SharedAuthor,
     line: &'a [u8],
 ) -> Option<(LineHead, &'a [u8])>
     ensures { IfSome result (λ read. IsHead line.now read.0.kind read.0.id read.0.is_deleted read.0.meta read.1.now) }
@@ -67,7 +66,7 @@ fn read_head<'a>(
     let ((kind, id), behind) = parse_object(line)?;
     let (version, behind) = parse_number(strip_mark(behind, b'v')?)?;
     let (is_deleted, behind) = parse_deleted(strip_mark(behind, b'd')?)?;
-    let (meta, behind) = read_meta(alloc, upload, version, behind)?;
+    let (meta, behind) = read_meta(alloc, shared_author, version, behind)?;
     let head = LineHead {
         kind,
         id,
@@ -77,17 +76,17 @@ fn read_head<'a>(
     Some((head, behind))
 }
 
-/// The metadata of a version of the number `version`, and the text after it.
+/// The metadata of a version with the number `version`, and the text after the user name.
 #[inline(always)]
 fn read_meta<'a>(
     alloc: Global,
-    upload: &mut SharedAuthor,
+    shared_author: &mut SharedAuthor,
     version: u64,
     text: &'a [u8],
 ) -> Option<(Meta, &'a [u8])>
     ensures { IfSome result (λ read. IsAuthored text.now version read.0 read.1.now) }
 {
-    if let Some(read) = upload.read(version, text) {
+    if let Some(read) = shared_author.read(version, text) {
         return Some(read);
     }
     let (changeset, behind) = parse_number(strip_mark(text, b'c')?)?;
@@ -101,7 +100,7 @@ fn read_meta<'a>(
         uid,
         user,
     };
-    upload.note(&meta, text, behind);
+    shared_author.note(&meta, text, behind);
     Some((meta, behind))
 }
 
@@ -117,7 +116,7 @@ fn parse_deleted(text: &[u8]) -> Option<(bool, &[u8])>
     Some((true, behind))
 }
 
-/// The body of a line's text from the tags on.
+/// The body, from the text of a line from the tags on.
 #[inline(always)]
 fn read_tail(
     alloc: Global,
@@ -158,7 +157,7 @@ fn read_tail(
     }
 }
 
-/// The body of a deleted object, after the mark of the tags.
+/// The body of a deleted object. `text` is the line after the mark of the tags.
 fn read_deleted(kind: Kind, text: &[u8]) -> Option<Body>
     ensures { IfSome result (λ b. (b ≡ Deleted kind) × (text.now ≡ 32 ∷ join_with 32 (empty_fields kind))) }
 {

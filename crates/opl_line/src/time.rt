@@ -5,13 +5,13 @@ ghost use Rattle.opl_line.specs.Time as spec;
 use crate::OplReason;
 use jiff::civil::Date;
 
-/// The days from 0000-01-01 to 1970-01-01.
+/// The number of days from 0000-01-01 to 1970-01-01.
 const DAYS_FROM_YEAR_0_TO_1970: i32 = 719_528;
 
-/// The seconds from 0000-01-01T00:00:00Z to 1970-01-01T00:00:00Z.
+/// The number of seconds from 0000-01-01T00:00:00Z to 1970-01-01T00:00:00Z.
 const EPOCH: u64 = 62_167_219_200;
 
-/// The seconds of a day.
+/// The number of seconds of a day.
 const DAY: u64 = 86_400;
 
 /// A time in seconds since 1970-01-01T00:00:00Z, from 1 to 4294967295. Its form is `yyyy-mm-ddThh:mm:ssZ`.
@@ -32,7 +32,8 @@ pub fn read_time(text: &[u8]) -> Result<u32, OplReason>
     to_moment(DAY * u64::from(days) + u64::from(second))
 }
 
-/// A moment in seconds since 1970, if it is one from 1 to 4294967295.
+/// A moment in seconds since 1970-01-01T00:00:00Z, if it is from 1 to 4294967295. `seconds` is the moment in seconds
+/// since 0000-01-01T00:00:00Z.
 #[inline(always)]
 fn to_moment(seconds: u64) -> Result<u32, OplReason>
     ensures { result ≡ spec.reading_moment seconds }
@@ -76,7 +77,7 @@ fn read_clock(text: &[u8]) -> Option<u32>
     }
 }
 
-/// The second of the day, if the day has this time.
+/// The second of the day, if a day has this time.
 #[inline(always)]
 fn second_of(hour: u16, minute: u16, second: u16) -> Option<u32>
     ensures { result ≡ spec.second_of hour minute second }

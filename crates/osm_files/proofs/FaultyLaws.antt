@@ -10,7 +10,7 @@ use Rattle.osm_files.specs.Groups.{sorted_source}
 use Rattle.osm_files.specs.LoadLaws.{broken_after}
 use Rattle.osm_files.specs.Position.{fault_of}
 use Rattle.osm_files.specs.SourceLaws.{verdict_within, IsFaultyWithin, FaultyOrClosed, FaultyStays, MalformedStays}
-use Rattle.osm_files.specs.Stream.{Verdict, verdict_at, Placed, new_placed, Still, end_refused, front}
+use Rattle.osm_files.specs.Stream.{Verdict, verdict_at, Placed, new_placed, SourceRest, end_refused, front}
 use Rattle.osm_files.specs.Units.{FileStateData, InOpl, UnitResult, FileUnit, unit_at, found_then, units, start_of}
 use Rattle.osm_files.specs.Verdict.{length_limit, too_long_verdict, file_units, verdict, is_below, sorted_verdict, verdict_sorted}
 use Rattle.osm_files.proofs.HoldLaws.{whole_source_is_held, broken_source_ends, long_source_ends}
@@ -18,52 +18,52 @@ use Rattle.osm_files.proofs.StepLaws.{unit_sized, units_step, units_stop}
 use Rattle.osm_files.proofs.StayLaws.{unit_stays}
 
 abbrev Units : Type 0
-Units = Still Placed Verdict
+Units = SourceRest Placed Verdict
 
 -- these versions, and then others
 abbrev behind : List Placed → Units → Units
 behind us still = record { list = us ++ still.list; refusal = still.refusal }
 
 -- none of the whole units in these bytes is faulty
-record Closes (stand : FileStateData) (place : ℕ) (bytes : List ℕ) : Type 0 where
+record Closes (stage : FileStateData) (place : ℕ) (bytes : List ℕ) : Type 0 where
   list : List Placed
-  closes : (close : Verdict) → units (Some close) stand place bytes ≡ record { list = list; refusal = Some close }
-  longer : (more : List ℕ) (close : Option Verdict) → (still : Units) × (units close stand place (bytes ++ more) ≡ behind list still)
+  closes : (close : Verdict) → units (Some close) stage place bytes ≡ record { list = list; refusal = Some close }
+  longer : (more : List ℕ) (close : Option Verdict) → (still : Units) × (units close stage place (bytes ++ more) ≡ behind list still)
 
--- one of them is
-record Refuses (stand : FileStateData) (place : ℕ) (bytes : List ℕ) : Type 0 where
+-- one of the whole units in these bytes is faulty
+record Refuses (stage : FileStateData) (place : ℕ) (bytes : List ℕ) : Type 0 where
   list : List Placed
   fault : Verdict
-  faulty : (close : Verdict) → units (Some close) stand place bytes ≡ record { list = list; refusal = Some fault }
-  stays : (more : List ℕ) (close : Option Verdict) → units close stand place (bytes ++ more) ≡ record { list = list; refusal = Some fault }
+  faulty : (close : Verdict) → units (Some close) stage place bytes ≡ record { list = list; refusal = Some fault }
+  stays : (more : List ℕ) (close : Option Verdict) → units close stage place (bytes ++ more) ≡ record { list = list; refusal = Some fault }
 
 abbrev Splits : FileStateData → ℕ → List ℕ → Type 0
-Splits stand place bytes = Closes stand place bytes ⊎ Refuses stand place bytes
+Splits stage place bytes = Closes stage place bytes ⊎ Refuses stage place bytes
 
-none_whole : (stand : FileStateData) (place : ℕ) (bytes : List ℕ) → unit_at stand bytes ≡ None → Splits stand place bytes
-none_whole stand place bytes none = inl (record {
+none_whole : (stage : FileStateData) (place : ℕ) (bytes : List ℕ) → unit_at stage bytes ≡ None → Splits stage place bytes
+none_whole stage place bytes none = inl (record {
   list = [];
-  closes = λ close. units_stop (Some close) stand place bytes none;
-  longer = λ more close. (units close stand place (bytes ++ more), refl);
+  closes = λ close. units_stop (Some close) stage place bytes none;
+  longer = λ more close. (units close stage place (bytes ++ more), refl);
 })
 
 -- the unit at the front is found to be faulty, or passed, or a version
-module _ (stand : FileStateData) (place : ℕ) (bytes : List ℕ) (u : FileUnit) (there : unit_at stand bytes ≡ Some u) where
+module _ (stage : FileStateData) (place : ℕ) (bytes : List ℕ) (u : FileUnit) (there : unit_at stage bytes ≡ Some u) where
   abbrev rest : List ℕ
   rest = drop u.size bytes
 
-  here : (close : Option Verdict) → units close stand place bytes
+  here : (close : Option Verdict) → units close stage place bytes
       ≡ found_then place u.found (λ next. units close next (place + u.size) rest)
-  here close = units_step close stand place bytes u there
+  here close = units_step close stage place bytes u there
 
   further : (more : List ℕ) (close : Option Verdict) →
-      units close stand place (bytes ++ more) ≡ found_then place u.found (λ next. units close next (place + u.size) (rest ++ more))
+      units close stage place (bytes ++ more) ≡ found_then place u.found (λ next. units close next (place + u.size) (rest ++ more))
   further more close =
-      let sized = unit_sized stand bytes u there in
-      units_step close stand place (bytes ++ more) u (unit_stays stand bytes more u there)
+      let sized = unit_sized stage bytes u there in
+      units_step close stage place (bytes ++ more) u (unit_stays stage bytes more u there)
       ∙ ap (λ bs. found_then place u.found (λ next. units close next (place + u.size) bs)) (drop-append-le u.size bytes more sized.within)
 
-  by_found : (found : UnitResult) → u.found ≡ found → ((next : FileStateData) → Splits next (place + u.size) rest) → Splits stand place bytes
+  by_found : (found : UnitResult) → u.found ≡ found → ((next : FileStateData) → Splits next (place + u.size) rest) → Splits stage place bytes
   by_found (Err reason) e on = inr (record {
     list = [];
     fault = verdict_at place reason;
@@ -108,22 +108,22 @@ module _ (stand : FileStateData) (place : ℕ) (bytes : List ℕ) (u : FileUnit)
     })
   ]
 
-by_unit : (stand : FileStateData) (place : ℕ) (bytes : List ℕ) (found : Option FileUnit) → unit_at stand bytes ≡ found →
-    ((u : FileUnit) → unit_at stand bytes ≡ Some u → (next : FileStateData) → Splits next (place + u.size) (drop u.size bytes)) →
-    Splits stand place bytes
-by_unit stand place bytes None e on = none_whole stand place bytes e
-by_unit stand place bytes (Some u) e on = by_found stand place bytes u e u.found refl (on u e)
+by_unit : (stage : FileStateData) (place : ℕ) (bytes : List ℕ) (found : Option FileUnit) → unit_at stage bytes ≡ found →
+    ((u : FileUnit) → unit_at stage bytes ≡ Some u → (next : FileStateData) → Splits next (place + u.size) (drop u.size bytes)) →
+    Splits stage place bytes
+by_unit stage place bytes None e on = none_whole stage place bytes e
+by_unit stage place bytes (Some u) e on = by_found stage place bytes u e u.found refl (on u e)
 
-splits : (n : ℕ) (stand : FileStateData) (place : ℕ) (bytes : List ℕ) → length bytes ≤ n → Splits stand place bytes
-splits zero stand place bytes few = by_unit stand place bytes (unit_at stand bytes) refl
-    (λ u e. let sized = unit_sized stand bytes u e in absurd (omega (arith, sized.some, sized.within, few)))
-splits (suc n) stand place bytes few =
-    by_unit stand place bytes (unit_at stand bytes) refl
-    (λ u e next. let sized = unit_sized stand bytes u e in
+splits : (n : ℕ) (stage : FileStateData) (place : ℕ) (bytes : List ℕ) → length bytes ≤ n → Splits stage place bytes
+splits zero stage place bytes few = by_unit stage place bytes (unit_at stage bytes) refl
+    (λ u e. let sized = unit_sized stage bytes u e in absurd (omega (arith, sized.some, sized.within, few)))
+splits (suc n) stage place bytes few =
+    by_unit stage place bytes (unit_at stage bytes) refl
+    (λ u e next. let sized = unit_sized stage bytes u e in
     splits n next (place + u.size) (drop u.size bytes) (omega (arith, length-drop u.size bytes, sized.some, sized.within, few)))
 
 -- ---- on their order
--- one version of these is below the one before it, or none is
+-- the key of one of these versions is below that of the version before it, or the key of none is
 abbrev Orders : Option VersionData → List Placed → Type 0
 Orders before us =
     ((fault : Verdict) × ((close : Option Verdict) (others : List Placed) → sorted_verdict close before (us ++ others) ≡ Some fault))
@@ -189,7 +189,7 @@ says bytes = elim (splits (length bytes) (start_of bytes) 0 bytes (omega arith))
   | inr h ↦ says_refused bytes h (orders None h.list)
 ]
 
--- The whole units of some bytes have a fault whatever closes them, or the fault is what closes them.
+-- Either the whole units of some bytes have a fault, whatever closes the bytes, or their verdict is the one that closes the bytes.
 pub faulty_or_closed : FaultyOrClosed
 faulty_or_closed bytes = elim (says bytes) [
   | inl h ↦ inl (h.0, h.1)
@@ -218,7 +218,7 @@ broken_is_refused input bytes e =
     ]
 
 -- ---- whole files
--- the bytes of a file that begins with these, as far as they count
+-- the bytes that count, of a file that begins with `bytes`
 record Begins (bytes more : List ℕ) : Type 0 where
   close : Option Verdict
   others : List ℕ

@@ -1,28 +1,28 @@
 -- The first version of lines from an offset on.
-use Rattle.std.proofs.Common.{◌≡◌, ⊎_elim, inl, inr, ℕ, ◌+◌, ◌≤◌, ◌<◌, ◌^◌, true, false, List, [], ◌∷◌, length, drop, refl, sym, ap, ◌∙◌, subst}
+use Rattle.std.proofs.Common.{◌≡◌, ⊎_elim, inl, inr, ℕ, ◌+◌, ◌<◌, ◌^◌, false, List, [], ◌∷◌, length, drop, refl, sym, ap, ◌∙◌, subst}
 use Rattle.std.proofs.Common.{arith, Option, Some, None, Result, Ok, Err, option_map, length-drop}
 use Rattle.std.proofs.lemmas.Bool.{lt-ltb}
 use Rattle.osm_model.specs.Data.{VersionData}
 use Rattle.osm_files.specs.declared.fault.Fault.{Fault}
-use Rattle.osm_files.specs.Input.{Coming, whole_input}
-use Rattle.osm_files.specs.Lines.{ReadsFrom, IsLineStart, IsFirstOf, IsFirstIn, IsFirstFrom, lines_from, IsDeviceFault}
+use Rattle.osm_files.specs.Input.{InputRest, whole_input}
+use Rattle.osm_files.specs.Lines.{ReadsFrom, IsLineStart, IsFirstOf, IsFirstIn, IsFirstFrom, IsDeviceFault}
 use Rattle.osm_files.specs.Opl.{OplFile}
 use Rattle.osm_files.specs.Position.{Position, with_coming, with_input, units_from, units_or_failed, closing_verdict, window}
 use Rattle.osm_files.specs.Source.{SourceStep, StepsOn}
-use Rattle.osm_files.specs.Stream.{Verdict, Placed, Still}
+use Rattle.osm_files.specs.Stream.{Verdict, Placed, SourceRest}
 use Rattle.osm_files.specs.Units.{InOpl, units}
 use Rattle.osm_files.specs.Verdict.{length_limit, versions_of}
 use Rattle.osm_files.proofs.PositionLaws.{from_is}
 use Rattle.osm_files.proofs.UnitLaws.{ReadsAs, some_is_not_none, opl_reads}
 
--- a reading of the lines of a file from a place on
+-- a reading of the lines of a file from an offset on
 abbrev pub of_lines : {R : Type 0} → ℕ → ℕ → R → Position R
 of_lines input place reader = record {
   input = input;
   place = place;
   held = [];
   coming = reader;
-  stand = Some InOpl;
+  stage = Some InOpl;
   ended = false;
   failed = false;
 }
@@ -32,7 +32,7 @@ abbrev pub version_read : Result (Option Placed) Fault → Result (Option Versio
 version_read (Ok line) = Ok (option_map (λ l. l.version) line)
 version_read (Err fault) = Err fault
 
--- what isn't closed by a limit or an error
+-- no verdict closes an input that ends below the limit
 open_ended : (place : ℕ) (bytes : List ℕ) → place + length bytes < 2 ^ 62 → closing_verdict place (whole_input bytes) ≡ None
 unfolding length_limit
 open_ended place bytes short = rw (lt-ltb (place + length bytes) (2 ^ 62) short) refl
@@ -61,8 +61,8 @@ first_listed us line more versions is same = subst (IsFirstOf (Some line.version
 none_listed : (us : List Placed) (versions : List VersionData) → us ≡ [] → versions_of us ≡ versions → IsFirstOf None versions
 none_listed us versions is same = subst (IsFirstOf None) (ap versions_of (sym is) ∙ same) refl
 
--- the first unit of the lines, of which a call gave this
-first_in : (input place : ℕ) (bytes : List ℕ) (result : Result (Option Placed) Fault) (after : Option (Still Placed Fault)) →
+-- the result of the first call on the lines is a result for their first version
+first_in : (input place : ℕ) (bytes : List ℕ) (result : Result (Option Placed) Fault) (after : Option (SourceRest Placed Fault)) →
     SourceStep (Some (with_input input (units None InOpl place bytes))) result after → IsFirstIn bytes (version_read result)
 first_in input place bytes (Ok None) after step = λ versions file.
     let read = (reads_lines place bytes).read versions file in
@@ -75,7 +75,7 @@ first_in input place bytes (Err fault) after (why, next) =
     (λ refused. inr (λ versions file. not_refused (λ (v : Verdict). record { input = input; place = v.place; reason = v.reason })
     (units None InOpl place bytes).refusal fault (ap (λ s. s.refusal) refused) ((reads_lines place bytes).read versions file).0)) why
 
-module _ {R : Type 0} (can : R → Coming → Type 0) (one : R → Coming) (possible : (r : R) → can r (one r)) (input : ℕ) where
+module _ {R : Type 0} (can : R → InputRest → Type 0) (one : R → InputRest) (possible : (r : R) → can r (one r)) (input : ℕ) where
   pub first_is : (bytes : Option (List ℕ)) (offset start : ℕ) (reader : R) → IsLineStart bytes offset start → start < 2 ^ 62 →
       ReadsFrom can bytes start reader → (result : Result (Option Placed) Fault) (q : Position R) →
       StepsOn can (of_lines input start reader) result q → IsFirstFrom bytes offset (version_read result)
@@ -90,7 +90,7 @@ module _ {R : Type 0} (can : R → Coming → Type 0) (one : R → Coming) (poss
       (first_in input start (drop start all) result (units_or_failed (with_coming q (one q.coming)))
       (subst (λ before. SourceStep before result (units_or_failed (with_coming q (one q.coming)))) known y.2))
 
--- a device's fault is one
+-- a device fault is a result for the first version
 pub device_fault : (bytes : Option (List ℕ)) (offset : ℕ) (fault : Fault) → IsDeviceFault fault → IsFirstFrom bytes offset (Err fault)
 device_fault None offset fault h = tt
 device_fault (Some all) offset fault h = λ short. inl h

@@ -16,20 +16,20 @@ use Rattle.osm_files.proofs.RiseLaws.{strict_rest}
 
 module _ (set : VersionSet) (items rest : List VersionData) (is : from_list {R = version_cmp} items ≡ set)
     (rises : IsStrictlySortedBy version_cmp items) where
-  -- the members are those of the list
+  -- the members of the set are those of the list
   members_are : to_list set ≡ items
   members_are = ap to_list (sym is) ∙ to_list-view items rises
 
-  -- the list after the one that is given still rises
+  -- the list without the item that is given ascends strictly
   pub given_rises : (given : Option VersionData) → items ≡ option_to_list given ++ rest → IsStrictlySortedBy version_cmp rest
   given_rises None e = subst (λ (xs : List VersionData). IsStrictlySortedBy version_cmp xs) e rises
   given_rises (Some v) e = strict_rest v rest (subst (λ (xs : List VersionData). IsStrictlySortedBy version_cmp xs) e rises)
 
-  -- the first one, and the set of the others
+  -- the first member, and the set of the others
   first_member : (v : VersionData) → items ≡ v ∷ rest → to_list set ≡ v ∷ to_list (from_list {R = version_cmp} rest)
   first_member v e = members_are ∙ e ∙ ap (λ xs. v ∷ xs) (sym (to_list-view rest (given_rises (Some v) e)))
 
-  -- at the end there is none
+  -- if no member is given, none is left
   none_left : (n : ℕ) → n ≡ length items → IsSome {T = VersionData} None ↔ (0 < n) → items ≡ []
   none_left n same some = nil_from_length items (let none : 0 < n → ⊥ = λ h. false≢true (some.1 h) in omega (arith, same, none))
 

@@ -21,7 +21,7 @@ use Rattle.osm_files.specs.Fault.{memory_fault, failed_fault}
 use Rattle.osm_files.specs.Groups.{to_ascending, is_in_group, is_after_group, versions_then, groups, still_with_ready, IsGroup, Gathers, RefusesGroup}
 use Rattle.osm_files.specs.Position.{Keeps, fault_of}
 use Rattle.osm_files.specs.Source.{SourceStep}
-use Rattle.osm_files.specs.Stream.{verdict_at, Placed, Still, end_whole, end_refused, front}
+use Rattle.osm_files.specs.Stream.{verdict_at, Placed, SourceRest, end_whole, end_refused, front}
 use Rattle.osm_files.proofs.FillLaws.{weaker, keeps_on}
 
 -- a property of a known value that is unchanged
@@ -91,14 +91,14 @@ neither_joins Greater h k = absurd (false≢true (sym k))
 
 -- ---- a unit, and its effect on the current group
 module _ (input : ℕ) where
-  joined : (before after : Option (Still Placed Fault)) (group : List VersionData) (u : Placed) → SourceStep before (Ok (Some u)) after →
+  joined : (before after : Option (SourceRest Placed Fault)) (group : List VersionData) (u : Placed) → SourceStep before (Ok (Some u)) after →
       is_in_group group u.version ≡ true → Keeps (still_with_ready input before group []) (still_with_ready input after (group ++ u.version ∷ []) [])
   joined None after group u h j = tt
   joined (Some s) after group u h j =
       let same : still_with_ready input (Some (front u h.0)) group [] ≡ still_with_ready input (Some h.0) (group ++ u.version ∷ []) [] = rw j refl in
       ap (λ o. still_with_ready input o (group ++ u.version ∷ []) []) h.2 ∙ sym same ∙ ap (λ x. still_with_ready input (Some x) group []) (sym h.1)
 
-  followed : (before after : Option (Still Placed Fault)) (group : List VersionData) (u : Placed) → SourceStep before (Ok (Some u)) after →
+  followed : (before after : Option (SourceRest Placed Fault)) (group : List VersionData) (u : Placed) → SourceStep before (Ok (Some u)) after →
       is_in_group group u.version ≡ false → is_after_group group u.version ≡ true
       → Keeps (still_with_ready input before group []) (still_with_ready input after (u.version ∷ []) (to_ascending group))
   followed None after group u h j f = tt
@@ -107,7 +107,7 @@ module _ (input : ℕ) where
       rw (j, f) refl in
       ap (λ o. still_with_ready input o (u.version ∷ []) (to_ascending group)) h.2 ∙ sym same ∙ ap (λ x. still_with_ready input (Some x) group []) (sym h.1)
 
-  fell : (before after : Option (Still Placed Fault)) (group : List VersionData) (u : Placed) → SourceStep before (Ok (Some u)) after →
+  fell : (before after : Option (SourceRest Placed Fault)) (group : List VersionData) (u : Placed) → SourceStep before (Ok (Some u)) after →
       is_in_group group u.version ≡ false → is_after_group group u.version ≡ false
       → IfSome (still_with_ready input before group []) (λ s. s ≡ end_refused (fault_of input (verdict_at u.place Unsorted)))
   fell None after group u h j f = tt
@@ -116,7 +116,7 @@ module _ (input : ℕ) where
       rw (j, f) refl in
       ap (λ x. versions_then [] (groups input x.refusal x.list group)) h.1 ∙ same
 
-  finished : (before after : Option (Still Placed Fault)) (group : List VersionData) → SourceStep before (Ok None) after →
+  finished : (before after : Option (SourceRest Placed Fault)) (group : List VersionData) → SourceStep before (Ok None) after →
       Keeps (still_with_ready input before group []) (still_with_ready input after [] (to_ascending group))
   finished None after group h = tt
   finished (Some s) after group h =
@@ -124,7 +124,7 @@ module _ (input : ℕ) where
       rw (ascending_nil, append-nil (to_ascending group)) refl in
       ap (λ o. still_with_ready input o [] (to_ascending group)) h.1 ∙ sym same ∙ ap (λ x. still_with_ready input (Some x) group []) (sym h.0)
 
-  broken_by : (before : Option (Still Placed Fault)) (group : List VersionData) (fault : Fault) →
+  broken_by : (before : Option (SourceRest Placed Fault)) (group : List VersionData) (fault : Fault) →
       (fault ≡ memory_fault) ⊎ IfSome before (λ s. s ≡ end_refused fault) →
       (fault ≡ memory_fault) ⊎ IfSome (still_with_ready input before group []) (λ s. s ≡ end_refused fault)
   broken_by before group fault (inl e) = inl e
@@ -132,22 +132,22 @@ module _ (input : ℕ) where
   broken_by (Some s) group fault (inr h) = inr (ap (λ x. versions_then [] (groups input x.refusal x.list group)) h)
 
   -- ---- a whole group
-  module _ (start : Option (Still Placed Fault)) (begun : List VersionData) (before after : Option (Still Placed Fault))
+  module _ (start : Option (SourceRest Placed Fault)) (has_begun : List VersionData) (before after : Option (SourceRest Placed Fault))
       (first : VersionData) (others : List VersionData)
-      (keeps : Keeps (still_with_ready input start (first ∷ begun) []) (still_with_ready input before (first ∷ others) [])) where
+      (keeps : Keeps (still_with_ready input start (first ∷ has_begun) []) (still_with_ready input before (first ∷ others) [])) where
     -- A version of the key of the group joins it.
     pub joins_group : (u : Placed) → SourceStep before (Ok (Some u)) after → is_lt (key_cmp first u.version) ≡ false →
         is_gt (key_cmp first u.version) ≡ false
-        → Keeps (still_with_ready input start (first ∷ begun) []) (still_with_ready input after (first ∷ (others ++ u.version ∷ [])) [])
+        → Keeps (still_with_ready input start (first ∷ has_begun) []) (still_with_ready input after (first ∷ (others ++ u.version ∷ [])) [])
     joins_group u h less greater =
-        keeps_on (still_with_ready input start (first ∷ begun) []) (still_with_ready input before (first ∷ others) [])
+        keeps_on (still_with_ready input start (first ∷ has_begun) []) (still_with_ready input before (first ∷ others) [])
         (still_with_ready input after (first ∷ (others ++ u.version ∷ [])) []) keeps
         (joined before after (first ∷ others) u h (ap is_eq (neither_joins (key_cmp first u.version) less greater)))
 
     -- At the end of the units the group is complete.
-    pub ends_group : IsGroup first others → SourceStep before (Ok None) after → Gathers input start begun after first others None
+    pub ends_group : IsGroup first others → SourceStep before (Ok None) after → Gathers input start has_begun after first others None
     ends_group group h = record {
-      keeps = keeps_on (still_with_ready input start (first ∷ begun) []) (still_with_ready input before (first ∷ others) [])
+      keeps = keeps_on (still_with_ready input start (first ∷ has_begun) []) (still_with_ready input before (first ∷ others) [])
           (still_with_ready input after [] (to_ascending (first ∷ others))) keeps (finished before after (first ∷ others) h);
       group = group;
       above = tt;
@@ -156,10 +156,10 @@ module _ (input : ℕ) where
 
     -- A version of a greater key completes the group and begins the next one.
     pub begins_next : IsGroup first others → (u : Placed) → SourceStep before (Ok (Some u)) after → is_lt (key_cmp first u.version) ≡ true →
-        Gathers input start begun after first others (Some u.version)
+        Gathers input start has_begun after first others (Some u.version)
     begins_next group u h less = record {
       keeps =
-          keeps_on (still_with_ready input start (first ∷ begun) []) (still_with_ready input before (first ∷ others) [])
+          keeps_on (still_with_ready input start (first ∷ has_begun) []) (still_with_ready input before (first ∷ others) [])
           (still_with_ready input after (u.version ∷ []) (to_ascending (first ∷ others))) keeps
           (followed before after (first ∷ others) u h (less_follows (key_cmp first u.version) less) less);
       group = group;
@@ -167,23 +167,23 @@ module _ (input : ℕ) where
       end = λ e. absurd (let f : Some u.version ≡ None = e in cc);
     }
 
-    told : (P : Still VersionData Fault → Type 0) → IfSome (still_with_ready input before (first ∷ others) []) P →
-        IfSome (still_with_ready input start (first ∷ begun) []) P
-    told P h = from_kept (still_with_ready input start (first ∷ begun) []) (still_with_ready input before (first ∷ others) []) P keeps h
+    told : (P : SourceRest VersionData Fault → Type 0) → IfSome (still_with_ready input before (first ∷ others) []) P →
+        IfSome (still_with_ready input start (first ∷ has_begun) []) P
+    told P h = from_kept (still_with_ready input start (first ∷ has_begun) []) (still_with_ready input before (first ∷ others) []) P keeps h
 
     told_or : (fault : Fault) → (fault ≡ memory_fault) ⊎ IfSome (still_with_ready input before (first ∷ others) []) (λ s. s ≡ end_refused fault) →
-        (fault ≡ memory_fault) ⊎ IfSome (still_with_ready input start (first ∷ begun) []) (λ s. s ≡ end_refused fault)
+        (fault ≡ memory_fault) ⊎ IfSome (still_with_ready input start (first ∷ has_begun) []) (λ s. s ≡ end_refused fault)
     told_or fault (inl e) = inl e
     told_or fault (inr h) = inr (told (λ s. s ≡ end_refused fault) h)
 
     -- A unit that can't be read refuses the group.
-    pub refuses_read : (fault : Fault) → SourceStep before (Err fault) after → RefusesGroup (still_with_ready input start (first ∷ begun) []) fault after
+    pub refuses_read : (fault : Fault) → SourceStep before (Err fault) after → RefusesGroup (still_with_ready input start (first ∷ has_begun) []) fault after
     refuses_read fault h = (told_or fault (broken_by before (first ∷ others) fault h.0), h.1)
 
     -- A version of a lesser key refuses the group as Unsorted.
-    pub refuses_unsorted : (u : Placed) (fault : Fault) (failed : Option (Still Placed Fault)) (number : ℕ) →
+    pub refuses_unsorted : (u : Placed) (fault : Fault) (failed : Option (SourceRest Placed Fault)) (number : ℕ) →
         SourceStep before (Ok (Some u)) after → is_gt (key_cmp first u.version) ≡ true → fault ≡ fault_of input (verdict_at u.place Unsorted)
-        → failed ≡ Some (end_refused (failed_fault number)) → RefusesGroup (still_with_ready input start (first ∷ begun) []) fault failed
+        → failed ≡ Some (end_refused (failed_fault number)) → RefusesGroup (still_with_ready input start (first ∷ has_begun) []) fault failed
     refuses_unsorted u fault failed number h greater is e =
         let falls = greater_falls (key_cmp first u.version) greater in (
           inr (told (λ s. s ≡ end_refused fault) (weaker (still_with_ready input before (first ∷ others) []) _ _ (λ s k. k ∙ ap end_refused (sym is))
@@ -203,7 +203,7 @@ group_joined first others v h less greater = group_on (λ w. key_cmp first w ≡
     (neither_joins (key_cmp first v) less greater)
 
 -- ---- the first group begins, or there is none
-pub first_begins : (input : ℕ) (before after : Option (Still Placed Fault)) (u : Placed) → SourceStep before (Ok (Some u)) after →
+pub first_begins : (input : ℕ) (before after : Option (SourceRest Placed Fault)) (u : Placed) → SourceStep before (Ok (Some u)) after →
     Keeps (still_with_ready input before [] []) (still_with_ready input after (u.version ∷ []) [])
 first_begins input before after u h = joined input before after [] u h refl
 
@@ -211,7 +211,7 @@ no_more : (input : ℕ) → still_with_ready input (Some end_whole) [] [] ≡ So
 no_more input = rw ascending_nil refl
 
 -- No group begins at the end of the units.
-pub none_begins : (input : ℕ) (before after : Option (Still Placed Fault)) → SourceStep before (Ok None) after →
+pub none_begins : (input : ℕ) (before after : Option (SourceRest Placed Fault)) → SourceStep before (Ok None) after →
     SourceStep (still_with_ready input before [] []) (Ok None) (still_with_ready input after [] [])
 none_begins input None after h = (tt, ap (λ o. still_with_ready input o [] []) h.1 ∙ no_more input)
 none_begins input (Some s) after h = (
@@ -221,36 +221,36 @@ none_begins input (Some s) after h = (
 )
 
 -- No group begins at a unit that can't be read.
-pub refused_begins : (input : ℕ) (before after : Option (Still Placed Fault)) (fault : Fault) → SourceStep {A = Placed} before (Err fault) after →
+pub refused_begins : (input : ℕ) (before after : Option (SourceRest Placed Fault)) (fault : Fault) → SourceStep {A = Placed} before (Err fault) after →
     RefusesGroup (still_with_ready input before [] []) fault after
 refused_begins input before after fault h = (broken_by input before [] fault h.0, h.1)
 
 -- ---- the ready versions are given one by one
-first_of : (input : ℕ) (after : Option (Still Placed Fault)) (group ready : List VersionData) (v : VersionData)
-    (s : Still VersionData Fault) → still_with_ready input after group (v ∷ ready) ≡ Some s
-    → (t : Still VersionData Fault) × (s ≡ front v t) × (still_with_ready input after group ready ≡ Some t)
+first_of : (input : ℕ) (after : Option (SourceRest Placed Fault)) (group ready : List VersionData) (v : VersionData)
+    (s : SourceRest VersionData Fault) → still_with_ready input after group (v ∷ ready) ≡ Some s
+    → (t : SourceRest VersionData Fault) × (s ≡ front v t) × (still_with_ready input after group ready ≡ Some t)
 first_of input None group ready v s e = absurd (let f : None ≡ Some s = e in cc)
 first_of input (Some w) group ready v s e =
-    let t : Still VersionData Fault = versions_then ready (groups input w.refusal w.list group) in
+    let t : SourceRest VersionData Fault = versions_then ready (groups input w.refusal w.list group) in
     (t, (let f : Some (front v t) ≡ Some s = e in cc), refl)
 
 -- A version that is ready is given first.
-pub gives_ready : (input : ℕ) (units : Option (Still Placed Fault)) (group ready : List VersionData) (v : VersionData) →
+pub gives_ready : (input : ℕ) (units : Option (SourceRest Placed Fault)) (group ready : List VersionData) (v : VersionData) →
     SourceStep (still_with_ready input units group (v ∷ ready)) (Ok (Some v)) (still_with_ready input units group ready)
 gives_ready input None group ready v = tt
 gives_ready input (Some w) group ready v = (versions_then ready (groups input w.refusal w.list group), refl, refl)
 
 -- The first version of a complete group is given, and the others are ready.
-pub gives_first : (input : ℕ) (before : Option (Still Placed Fault)) (begun : List VersionData) (after : Option (Still Placed Fault))
+pub gives_first : (input : ℕ) (before : Option (SourceRest Placed Fault)) (has_begun : List VersionData) (after : Option (SourceRest Placed Fault))
     (first : VersionData) (others : List VersionData) (next : Option VersionData) (v : VersionData) (ready : List VersionData)
-    → Gathers input before begun after first others next → to_ascending (first ∷ others) ≡ v ∷ ready →
-    SourceStep (still_with_ready input before (first ∷ begun) []) (Ok (Some v)) (still_with_ready input after (option_to_list next) ready)
-gives_first input before begun after first others next v ready h e =
-    weaker (still_with_ready input before (first ∷ begun) []) _ _
+    → Gathers input before has_begun after first others next → to_ascending (first ∷ others) ≡ v ∷ ready →
+    SourceStep (still_with_ready input before (first ∷ has_begun) []) (Ok (Some v)) (still_with_ready input after (option_to_list next) ready)
+gives_first input before has_begun after first others next v ready h e =
+    weaker (still_with_ready input before (first ∷ has_begun) []) _ _
     (λ s k. first_of input after (option_to_list next) ready v s (ap (still_with_ready input after (option_to_list next)) (sym e) ∙ k)) h.keeps
 
 -- ---- the result of a call, from an unchanged rest
-pub step_on : {A : Type 0} (start before after : Option (Still A Fault)) (r : Result (Option A) Fault) → Keeps start before →
+pub step_on : {A : Type 0} (start before after : Option (SourceRest A Fault)) (r : Result (Option A) Fault) → Keeps start before →
     SourceStep before r after → SourceStep start r after
 step_on start before after (Ok (Some x)) k h = from_kept start before _ k h
 step_on start before after (Ok None) k h = (from_kept start before _ k h.0, h.1)
@@ -258,7 +258,7 @@ step_on start before after (Err fault) k (inl e, a) = (inl e, a)
 step_on start before after (Err fault) k (inr h, a) = (inr (from_kept start before _ k h), a)
 
 -- A refused group is a refused step of the source.
-pub refused_step : (input : ℕ) (before : Option (Still VersionData Fault)) (after : Option (Still Placed Fault)) (group : List VersionData)
+pub refused_step : (input : ℕ) (before : Option (SourceRest VersionData Fault)) (after : Option (SourceRest Placed Fault)) (group : List VersionData)
     (fault : Fault) → RefusesGroup before fault after → SourceStep before (Err fault) (still_with_ready input after group [])
 refused_step input before after group fault (h, (number, a)) = (h, (number, ap (λ o. still_with_ready input o group []) a))
 

@@ -20,9 +20,9 @@ use Rattle.osm_files.specs.declared.fault.Fault.{Fault}
 use Rattle.osm_files.specs.declared.reason.Reason.TheVariants.{Unsorted, ReadFault}
 use Rattle.osm_files.specs.Groups.{to_ascending, last_group, groups, sorted_source}
 use Rattle.osm_files.specs.Held.{IsFile, HoldsSorted}
-use Rattle.osm_files.specs.Input.{Coming, whole_input as all_of}
+use Rattle.osm_files.specs.Input.{InputRest, whole_input as all_of}
 use Rattle.osm_files.specs.Position.{units_from, fault_of}
-use Rattle.osm_files.specs.Stream.{Verdict, verdict_at, Placed, Still, end_whole}
+use Rattle.osm_files.specs.Stream.{Verdict, verdict_at, Placed, SourceRest, end_whole}
 use Rattle.osm_files.specs.Units.{units, start_of}
 use Rattle.osm_files.specs.Verdict.{length_limit, too_long_verdict, file_units, versions_of, is_below, sorted_verdict, verdict_sorted}
 use Rattle.osm_files.specs.LoadLaws.{broken_after}
@@ -66,7 +66,7 @@ module _ (input : ℕ) where
   groups_refusal close (u ∷ us) = group_refusal close us u.version [] u.version (tied_itself key_cmp_total u.version)
 
   -- the verdict of the units that a reading of these bytes gives
-  pub source_refusal : (c : Coming) → (sorted_source input c).refusal
+  pub source_refusal : (c : InputRest) → (sorted_source input c).refusal
       ≡ as_fault (let us = units_from None 0 c in sorted_verdict us.refusal None us.list)
   source_refusal c = ap (λ s. s.refusal) (source_is input c) ∙ (let us = units_from None 0 c in groups_refusal us.refusal us.list)
 
@@ -74,7 +74,7 @@ module _ (input : ℕ) where
 pub whole_refusal : (input : ℕ) (bytes : List ℕ) →
     (sorted_source input (all_of bytes)).refusal ≡ option_map (fault_of input) (verdict_sorted bytes)
 whole_refusal input bytes =
-    source_refusal input (all_of bytes) ∙ ap (λ (s : Still Placed Verdict).
+    source_refusal input (all_of bytes) ∙ ap (λ (s : SourceRest Placed Verdict).
     option_map (fault_of input) (sorted_verdict s.refusal None s.list)) (whole_units bytes)
 
 -- ---- the list
@@ -123,7 +123,7 @@ set_listed s = same_set version_cmp_total version_cmp-IsAntisymmetric (from_list
 source_whole : (input : ℕ) (bytes : List ℕ) → sorted_source input (all_of bytes)
     ≡ (let us = file_units bytes in groups input (option_map (fault_of input) us.refusal) us.list [])
 source_whole input bytes =
-    source_is input (all_of bytes) ∙ ap (λ (s : Still Placed Verdict). groups input (option_map (fault_of input) s.refusal) s.list [])
+    source_is input (all_of bytes) ∙ ap (λ (s : SourceRest Placed Verdict). groups input (option_map (fault_of input) s.refusal) s.list [])
     (whole_units bytes)
 
 source_listed : (input : ℕ) (bytes : List ℕ) → verdict_sorted bytes ≡ None →
@@ -164,7 +164,7 @@ sorted_file bytes versions none is =
       members = refl;
     }
 
--- Bytes whose source is whole are a sorted file that holds what the source gives.
+-- If the source of some bytes ends without a refusal, they are a sorted file that holds the versions that the source gives.
 pub whole_source_is_held : WholeSourceIsHeld
 whole_source_is_held input bytes end_whole =
     let none = no_fault input (verdict_sorted bytes) (sym (whole_refusal input bytes) ∙ end_whole) in
@@ -188,7 +188,7 @@ broken_units bytes short =
 -- A source whose input fails ends with the verdict of its whole units, or ReadFault.
 pub broken_source_ends : BrokenSourceEnds
 broken_source_ends input bytes short =
-    source_refusal input (broken_after bytes) ∙ ap (λ (s : Still Placed Verdict).
+    source_refusal input (broken_after bytes) ∙ ap (λ (s : SourceRest Placed Verdict).
     option_map (fault_of input) (sorted_verdict s.refusal None s.list)) (broken_units bytes short)
 
 long_units : (bytes : List ℕ) (broken : Bool) → 2 ^ 62 ≤ length bytes →
@@ -203,6 +203,6 @@ long_units bytes broken many =
 pub long_source_ends : LongSourceEnds
 long_source_ends input bytes many =
     source_is input (broken_after bytes)
-    ∙ ap (λ (s : Still Placed Verdict). groups input (option_map (fault_of input) s.refusal) s.list [])
+    ∙ ap (λ (s : SourceRest Placed Verdict). groups input (option_map (fault_of input) s.refusal) s.list [])
     (long_units bytes true many ∙ sym (long_units bytes false many))
     ∙ sym (source_is input (all_of bytes))

@@ -25,6 +25,7 @@ pub mod RefusedLaws
 pub mod SpellSteps
 pub mod SinkLaws
 pub mod SpellLaws
+pub mod StartLaws
 mod SplitLaws
 pub mod RangeLaws
 pub mod LineLists

@@ -1,12 +1,12 @@
--- Where lines begin in a file that is read from an offset on.
-use Rattle.std.proofs.Common.{◌≡◌, ℕ, zero, suc, ◌+◌, ◌-◌, ◌≤◌, ◌<◌, ◌^◌, Bool, true, false, cond, not, List, [], ◌∷◌, ◌++◌, length, drop}
-use Rattle.std.proofs.Common.{take, refl, sym, ap, ◌∙◌, subst, arith, Option, Some, None, IfSome}
+-- The offsets at which lines begin in a file that is read from an offset on.
+use Rattle.std.proofs.Common.{◌≡◌, ℕ, suc, ◌+◌, ◌≤◌, ◌<◌, true, false, cond, not, List, [], ◌∷◌, ◌++◌, length, drop}
+use Rattle.std.proofs.Common.{refl, sym, ap, ◌∙◌, arith, Option, Some, None}
 use Rattle.std.proofs.lemmas.List.{drop-drop}
 use Rattle.std.specs.Prelude.{position}
 use Rattle.std.specs.List.{position_or_len}
 use Rattle.opl_line.specs.Delimiter.{is_line_end}
-use Rattle.osm_files.specs.Input.{Coming, whole_input, with_front, Gave}
-use Rattle.osm_files.specs.Lines.{after_line, lines_from, LeadsTo, IsLineStart, ReadsFrom}
+use Rattle.osm_files.specs.Input.{InputRest, whole_input, Gave}
+use Rattle.osm_files.specs.Lines.{after_line, LeadsTo, IsLineStart, ReadsFrom}
 use Rattle.osm_files.proofs.SearchLaws.{nowhere, somewhere}
 
 after_len : (front rest : List ℕ) → length front ≤ position_or_len is_line_end front → after_line (front ++ rest) ≡ after_line rest
@@ -18,7 +18,7 @@ after_len (b ∷ front) rest far =
       | false ↦ λ few. after_len front rest (omega (arith, few))
     ] far
 
--- without an end among the first bytes, the lines after it come after the others' first end
+-- if the first bytes have no end of a line, the lines begin after the first end in the rest
 pub after_none : (front rest : List ℕ) → position is_line_end front ≡ None → after_line (front ++ rest) ≡ after_line rest
 after_none front rest none = after_len front rest (nowhere is_line_end front none)
 
@@ -34,7 +34,7 @@ after_at (b ∷ front) rest end is near =
           rw e (after_at front rest (position_or_len is_line_end front) refl (omega (arith, more, near)))
     ] is
 
--- the lines come after the first end
+-- the lines begin after the first end of a line
 pub after_some : (front rest : List ℕ) (end : ℕ) → position is_line_end front ≡ Some end →
     after_line (front ++ rest) ≡ drop (end + 1) (front ++ rest)
 after_some front rest end found =
@@ -47,12 +47,12 @@ drop_front (b ∷ front) rest = drop_front front rest
 drop_further : (n m : ℕ) (xs : List ℕ) → drop (n + m) xs ≡ drop m (drop n xs)
 drop_further n m xs = sym (drop-drop m n xs)
 
-module _ {R : Type 0} (can : R → Coming → Type 0) where
+module _ {R : Type 0} (can : R → InputRest → Type 0) where
   -- the reader can give only the bytes of a file from an offset on
   abbrev pub GivesOnly : R → ℕ → List ℕ → Type 0
-  GivesOnly reader offset all = (c : Coming) → can reader c → c ≡ whole_input (drop offset all)
+  GivesOnly reader offset all = (c : InputRest) → can reader c → c ≡ whole_input (drop offset all)
 
-  -- the bytes from an offset up to a place were read, and no line ends among them
+  -- the bytes from `offset` up to the offset `place` were read, and no line ends among them
   pub record Scanning (first reader : R) (offset place : ℕ) : Type 0 where
     pub gives : (all : List ℕ) → GivesOnly first offset all → GivesOnly reader place all
     pub none : (all : List ℕ) → GivesOnly first offset all → after_line (drop offset all) ≡ after_line (drop place all)
@@ -63,14 +63,14 @@ module _ {R : Type 0} (can : R → Coming → Type 0) where
   -- a read gave these bytes
   module _ (first reader next : R) (offset place : ℕ) (so_far : Scanning first reader offset place) (read : List ℕ)
       (gave : Gave can reader next read) (all : List ℕ) (only : GivesOnly first offset all) where
-    came : (c : Coming) → can next c → drop place all ≡ read ++ c.bytes
+    came : (c : InputRest) → can next c → drop place all ≡ read ++ c.bytes
     came c can_give = let y = gave c can_give in
         ap (λ d. d.bytes) (sym (so_far.gives all only y.0 y.1) ∙ y.2)
 
-    rest_is : (c : Coming) → can next c → drop (place + length read) all ≡ c.bytes
+    rest_is : (c : InputRest) → can next c → drop (place + length read) all ≡ c.bytes
     rest_is c can_give = drop_further place (length read) all ∙ ap (drop (length read)) (came c can_give) ∙ drop_front read c.bytes
 
-    unbroken : (c : Coming) → can next c → c ≡ whole_input c.bytes
+    unbroken : (c : InputRest) → can next c → c ≡ whole_input c.bytes
     unbroken c can_give = let y = gave c can_give in
         let broken : c.broken ≡ false = ap (λ d. d.broken) (sym y.2 ∙ so_far.gives all only y.0 y.1) in
         λ i. record { bytes = c.bytes; broken = broken i }
@@ -78,18 +78,18 @@ module _ {R : Type 0} (can : R → Coming → Type 0) where
     gives_rest : GivesOnly next (place + length read) all
     gives_rest c can_give = unbroken c can_give ∙ ap whole_input (sym (rest_is c can_give))
 
-    no_end : (c : Coming) → can next c → position is_line_end read ≡ None →
+    no_end : (c : InputRest) → can next c → position is_line_end read ≡ None →
         after_line (drop offset all) ≡ after_line (drop (place + length read) all)
     no_end c can_give none =
         so_far.none all only ∙ ap after_line (came c can_give) ∙ after_none read c.bytes none ∙ ap after_line (sym (rest_is c can_give))
 
-    found_end : (c : Coming) → can next c → (end : ℕ) → position is_line_end read ≡ Some end →
+    found_end : (c : InputRest) → can next c → (end : ℕ) → position is_line_end read ≡ Some end →
         drop (place + (end + 1)) all ≡ after_line (drop offset all)
     found_end c can_give end found =
         drop_further place (end + 1) all ∙ ap (drop (end + 1)) (came c can_give) ∙ sym (after_some read c.bytes end found)
         ∙ ap after_line (sym (came c can_give)) ∙ sym (so_far.none all only)
 
-  module _ (one : R → Coming) (possible : (r : R) → can r (one r)) where
+  module _ (one : R → InputRest) (possible : (r : R) → can r (one r)) where
     pub scans_on : (first reader next : R) (offset place : ℕ) → Scanning first reader offset place → (read : List ℕ) →
         Gave can reader next read → position is_line_end read ≡ None → (later : ℕ) → later ≡ place + length read →
         Scanning first next offset later
@@ -116,7 +116,7 @@ module _ {R : Type 0} (can : R → Coming → Type 0) where
   start_known None reader offset start reads leads = tt
   start_known (Some all) reader offset start reads leads = leads all reads
 
--- the file's first byte
+-- the first line begins at the file's first byte
 pub first_start : (bytes : Option (List ℕ)) → IsLineStart bytes 0 0
 first_start None = tt
 first_start (Some all) = refl

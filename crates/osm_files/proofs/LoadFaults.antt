@@ -14,7 +14,7 @@ use Rattle.o5_codec.specs.Reason.{is_step_reason}
 use Rattle.o5_codec.specs.Segment.{id_at}
 use Rattle.o5_codec.proofs.AnswerLaws.{only_reason}
 use Rattle.o5_codec.proofs.RefusalLaws.{set_refused}
-use Rattle.opl_line.proofs.LineReasonLaws.{told_is_reason}
+use Rattle.opl_line.proofs.LineReasonLaws.{reported_is_reason}
 use Rattle.opl_line.proofs.MemoryLaws.{memory_is_no_reason}
 use Rattle.o5_codec.specs.Decoder.{new_segment}
 use Rattle.opl_line.specs.Delimiter.{is_line_end, split_first}
@@ -27,8 +27,8 @@ use Rattle.o5_codec.specs.declared.segment.Segment.{Segment}
 use Rattle.osm_files.specs.declared.reason.Reason.TheVariants.{BadHeader, Unsorted, ReadFault}
 use Rattle.osm_files.specs.Reason.{of_line, of_data_set}
 use Rattle.osm_files.specs.O5.{end_byte, reset_byte, is_lone, kind_of_type}
-use Rattle.osm_files.specs.Stream.{Verdict, verdict_at, Placed, Still, end_whole}
-use Rattle.osm_files.specs.Units.{FileStateData, InOpl, BeforeHeader, InSegment, BehindEnd, UnitResult, FileUnit, unit, no_version, line_found, line_unit}
+use Rattle.osm_files.specs.Stream.{Verdict, verdict_at, Placed, SourceRest, end_whole}
+use Rattle.osm_files.specs.Units.{FileStateData, InOpl, BeforeHeader, InSegment, PastEnd, UnitResult, FileUnit, unit, no_version, line_found, line_unit}
 use Rattle.osm_files.specs.Units.{is_header, set_found, content_found, sized_unit, is_ended, length_at, unit_at, last_at, found_then}
 use Rattle.osm_files.specs.Units.{final_units, unit_then, units_within, units, start_of}
 use Rattle.osm_files.specs.Verdict.{length_limit, too_long_verdict, file_units, verdict, is_below, sorted_verdict, verdict_sorted}
@@ -45,20 +45,20 @@ use Rattle.osm_files.proofs.LoadLaws.{whole_units}
 pub inputs_are_files : InputsAreFiles
 inputs_are_files input bytes = (
   whole_units bytes,
-  ap (λ (s : Still Placed Verdict). option_map (fault_of input) s.refusal) (whole_units bytes),
+  ap (λ (s : SourceRest Placed Verdict). option_map (fault_of input) s.refusal) (whole_units bytes),
 )
 
 -- ---- the whole units in bytes that a verdict closes
 abbrev Faulty : ℕ → FileStateData → ℕ → List ℕ → Verdict → Type 0
-Faulty n stand place bytes v = (close : Verdict) → (units_within n (Some close) stand place bytes).refusal ≡ Some v
+Faulty n stage place bytes v = (close : Verdict) → (units_within n (Some close) stage place bytes).refusal ≡ Some v
 
 abbrev Fine : ℕ → FileStateData → ℕ → List ℕ → Type 0
-Fine n stand place bytes = (close : Verdict) → (units_within n (Some close) stand place bytes).refusal ≡ Some close
+Fine n stage place bytes = (close : Verdict) → (units_within n (Some close) stage place bytes).refusal ≡ Some close
 
--- one is faulty, whatever closes the bytes, or none is
+-- a whole unit is faulty, whatever closes the bytes, or none is
 abbrev Tells : ℕ → FileStateData → ℕ → List ℕ → Type 0
-Tells n stand place bytes = ((v : Verdict) × Faulty n stand place bytes v × ((units_within n None stand place bytes).refusal ≡ Some v))
-    ⊎ Fine n stand place bytes
+Tells n stage place bytes = ((v : Verdict) × Faulty n stage place bytes v × ((units_within n None stage place bytes).refusal ≡ Some v))
+    ⊎ Fine n stage place bytes
 
 found_tells : (n place at : ℕ) (rest : List ℕ) (found : UnitResult) → ((next : FileStateData) → Tells n next at rest)
     → ((v : Verdict) × ((close : Verdict) → (found_then place found (λ next. units_within n (Some close) next at rest)).refusal ≡ Some v)
@@ -69,25 +69,25 @@ found_tells n place at rest (Ok (None, next)) on = on next
 found_tells n place at rest (Ok (Some v, next)) on = on next
 
 abbrev ThenTells : ℕ → FileStateData → ℕ → List ℕ → Option FileUnit → Type 0
-ThenTells n stand place bytes u =
-    ((v : Verdict) × ((close : Verdict) → (unit_then (Some close) stand place bytes (units_within n (Some close)) u).refusal ≡ Some v)
-    × ((unit_then None stand place bytes (units_within n None) u).refusal ≡ Some v))
-    ⊎ ((close : Verdict) → (unit_then (Some close) stand place bytes (units_within n (Some close)) u).refusal ≡ Some close)
+ThenTells n stage place bytes u =
+    ((v : Verdict) × ((close : Verdict) → (unit_then (Some close) stage place bytes (units_within n (Some close)) u).refusal ≡ Some v)
+    × ((unit_then None stage place bytes (units_within n None) u).refusal ≡ Some v))
+    ⊎ ((close : Verdict) → (unit_then (Some close) stage place bytes (units_within n (Some close)) u).refusal ≡ Some close)
 
-unit_tells : (n : ℕ) (stand : FileStateData) (place : ℕ) (bytes : List ℕ) → ((next : FileStateData) (at : ℕ) (rest : List ℕ) → Tells n next at rest) →
-    (u : Option FileUnit) → ThenTells n stand place bytes u
-unit_tells n stand place bytes on None = inr (λ close. refl)
-unit_tells n stand place bytes on (Some u) = found_tells n place (place + u.size) (drop u.size bytes) u.found
+unit_tells : (n : ℕ) (stage : FileStateData) (place : ℕ) (bytes : List ℕ) → ((next : FileStateData) (at : ℕ) (rest : List ℕ) → Tells n next at rest) →
+    (u : Option FileUnit) → ThenTells n stage place bytes u
+unit_tells n stage place bytes on None = inr (λ close. refl)
+unit_tells n stage place bytes on (Some u) = found_tells n place (place + u.size) (drop u.size bytes) u.found
     (λ next. on next (place + u.size) (drop u.size bytes))
 
-tells : (n : ℕ) (stand : FileStateData) (place : ℕ) (bytes : List ℕ) → Tells n stand place bytes
-tells zero stand place bytes = inr (λ close. refl)
-tells (suc n) stand place bytes = unit_tells n stand place bytes (tells n) (unit_at stand bytes)
+shown : (n : ℕ) (stage : FileStateData) (place : ℕ) (bytes : List ℕ) → Tells n stage place bytes
+shown zero stage place bytes = inr (λ close. refl)
+shown (suc n) stage place bytes = unit_tells n stage place bytes (shown n) (unit_at stage bytes)
 
 whole_tells : (bytes : List ℕ) → ((v : Verdict) × IsFaultyWhole bytes v × ((units None (start_of bytes) 0 bytes).refusal ≡ Some v))
     ⊎ NoneFaultyWhole bytes
 unfolding units
-whole_tells bytes = tells (length bytes) (start_of bytes) 0 bytes
+whole_tells bytes = shown (length bytes) (start_of bytes) 0 bytes
 
 -- ---- an error after the bytes
 broken_units : (bytes : List ℕ) → length bytes < 2 ^ 62 →
@@ -112,7 +112,7 @@ long_units bytes long =
     ∙ ap (λ t. cond t (units None (start_of bytes) 0 bytes) (units (Some too_long_verdict) (start_of bytes) 0 (take (length_limit - 1) bytes)))
     (sym long)
 
-abbrev refusal_of : Still Placed Verdict → Option Verdict
+abbrev refusal_of : SourceRest Placed Verdict → Option Verdict
 refusal_of s = s.refusal
 
 short_refused : (bytes : List ℕ) → length bytes < 2 ^ 62
@@ -158,8 +158,8 @@ not_each v each =
     omega (arith, same)
 
 abbrev Stays : ℕ → ℕ → Option Verdict → Verdict → Type 0
-Stays n m close v = (stand : FileStateData) (place : ℕ) (bytes more : List ℕ) → length (bytes ++ more) ≤ m → Faulty n stand place bytes v →
-    (units_within m close stand place (bytes ++ more)).refusal ≡ Some v
+Stays n m close v = (stage : FileStateData) (place : ℕ) (bytes more : List ℕ) → length (bytes ++ more) ≤ m → Faulty n stage place bytes v →
+    (units_within m close stage place (bytes ++ more)).refusal ≡ Some v
 
 found_stays : (n m : ℕ) (close : Option Verdict) (v : Verdict) → Stays n m close v → (place at : ℕ) (rest more : List ℕ) →
     length (rest ++ more) ≤ m → (found : UnitResult) → ((c : Verdict) →
@@ -169,13 +169,13 @@ found_stays n m close v on place at rest more fits (Err reason) h = h v
 found_stays n m close v on place at rest more fits (Ok (None, next)) h = on next at rest more fits h
 found_stays n m close v on place at rest more fits (Ok (Some w, next)) h = on next at rest more fits h
 
-unit_then_stays : (n m : ℕ) (close : Option Verdict) (v : Verdict) → Stays n m close v → (stand : FileStateData) (place : ℕ) (bytes more : List ℕ) →
-    length (bytes ++ more) ≤ suc m → (u : Option FileUnit) → unit_at stand bytes ≡ u
-    → ((c : Verdict) → (unit_then (Some c) stand place bytes (units_within n (Some c)) u).refusal ≡ Some v) →
-    (unit_then close stand place (bytes ++ more) (units_within m close) (unit_at stand (bytes ++ more))).refusal ≡ Some v
-unit_then_stays n m close v on stand place bytes more fits None is h = absurd (not_each v h)
-unit_then_stays n m close v on stand place bytes more fits (Some u) is h =
-    let sized = unit_sized stand bytes u is in
+unit_then_stays : (n m : ℕ) (close : Option Verdict) (v : Verdict) → Stays n m close v → (stage : FileStateData) (place : ℕ) (bytes more : List ℕ) →
+    length (bytes ++ more) ≤ suc m → (u : Option FileUnit) → unit_at stage bytes ≡ u
+    → ((c : Verdict) → (unit_then (Some c) stage place bytes (units_within n (Some c)) u).refusal ≡ Some v) →
+    (unit_then close stage place (bytes ++ more) (units_within m close) (unit_at stage (bytes ++ more))).refusal ≡ Some v
+unit_then_stays n m close v on stage place bytes more fits None is h = absurd (not_each v h)
+unit_then_stays n m close v on stage place bytes more fits (Some u) is h =
+    let sized = unit_sized stage bytes u is in
     let rest : drop u.size (bytes ++ more) ≡ drop u.size bytes ++ more = drop-append-le u.size bytes more sized.within in
     let few : length (drop u.size bytes ++ more) ≤ m =
     omega (
@@ -187,19 +187,19 @@ unit_then_stays n m close v on stand place bytes more fits (Some u) is h =
       sized.within,
       fits,
     ) in
-    ap (λ o. (unit_then close stand place (bytes ++ more) (units_within m close) o).refusal) (unit_stays stand bytes more u is)
+    ap (λ o. (unit_then close stage place (bytes ++ more) (units_within m close) o).refusal) (unit_stays stage bytes more u is)
     ∙ ap (λ x. (found_then place u.found (λ next. units_within m close next (place + u.size) x)).refusal) rest
     ∙ found_stays n m close v on place (place + u.size) (drop u.size bytes) more few u.found h
 
 stays : (n m : ℕ) (close : Option Verdict) (v : Verdict) → Stays n m close v
-stays zero m close v stand place bytes more fits h = absurd (not_each v h)
-stays (suc n) (suc m) close v stand place bytes more fits h =
-    unit_then_stays n m close v (stays n m close v) stand place bytes more fits (unit_at stand bytes) refl h
-stays (suc n) zero close v stand place [] [] fits h =
-    absurd (not_each v (λ c. ap (λ o. (unit_then (Some c) stand place [] (units_within n (Some c)) o).refusal) (sym (none_in_nothing stand))
+stays zero m close v stage place bytes more fits h = absurd (not_each v h)
+stays (suc n) (suc m) close v stage place bytes more fits h =
+    unit_then_stays n m close v (stays n m close v) stage place bytes more fits (unit_at stage bytes) refl h
+stays (suc n) zero close v stage place [] [] fits h =
+    absurd (not_each v (λ c. ap (λ o. (unit_then (Some c) stage place [] (units_within n (Some c)) o).refusal) (sym (none_in_nothing stage))
     ∙ h c))
-stays (suc n) zero close v stand place [] (b ∷ more) fits h = absurd (omega (arith, fits))
-stays (suc n) zero close v stand place (b ∷ bytes) more fits h = absurd (omega (arith, fits, length-append (b ∷ bytes) more))
+stays (suc n) zero close v stage place [] (b ∷ more) fits h = absurd (omega (arith, fits))
+stays (suc n) zero close v stage place (b ∷ bytes) more fits h = absurd (omega (arith, fits, length-append (b ∷ bytes) more))
 
 faulty_stays : (bytes more : List ℕ) (v : Verdict) → IsFaultyWhole bytes v →
     (units None (start_of (bytes ++ more)) 0 (bytes ++ more)).refusal ≡ Some v
@@ -253,7 +253,7 @@ StepReason r = IfErr r (λ reason. is_step_reason reason ≡ true)
 line_read_fine : (line : List ℕ) (read : Result (Option VersionData) OplReason) → reading_line line ≡ read → FineFound (line_found read)
 line_read_fine line (Ok read) is = tt
 line_read_fine line (Err reason) is = of_line_fine reason
-    (λ memory. memory_is_no_reason line (told_is_reason line opl.Memory (is ∙ ap (λ r. Err r) memory)))
+    (λ memory. memory_is_no_reason line (reported_is_reason line opl.Memory (is ∙ ap (λ r. Err r) memory)))
 
 line_found_fine : (line : List ℕ) → FineFound (line_found (reading_line line))
 line_found_fine line = line_read_fine line (reading_line line) refl
@@ -311,58 +311,58 @@ sized_fine s b bytes (Some (Ok (size, behind))) h =
     ]
 
 by_type : (s : Segment) (end reset lone : Bool) (sized : Option FileUnit) → FineUnit sized →
-    FineUnit (cond end (Some (unit 1 (no_version BehindEnd)))
+    FineUnit (cond end (Some (unit 1 (no_version PastEnd)))
     (cond reset (Some (unit 1 (no_version (InSegment new_segment)))) (cond lone (Some (unit 1 (no_version (InSegment s)))) sized)))
 by_type s true reset lone sized h = tt
 by_type s false true lone sized h = tt
 by_type s false false true sized h = tt
 by_type s false false false sized h = h
 
-unit_fine : (stand : FileStateData) (bytes : List ℕ) → FineUnit (unit_at stand bytes)
+unit_fine : (stage : FileStateData) (bytes : List ℕ) → FineUnit (unit_at stage bytes)
 unfolding unit_at
 unit_fine InOpl bytes = line_unit_fine (split_first is_line_end bytes)
 unit_fine BeforeHeader bytes = header_fine (nat_lt (length bytes) 7) (is_header (take 7 bytes))
 unit_fine (InSegment s) [] = tt
 unit_fine (InSegment s) (b ∷ bytes) = by_type s (b == end_byte) (b == reset_byte) (is_lone b) (sized_unit s b bytes (length_at bytes))
     (sized_fine s b bytes (length_at bytes) (length_step bytes))
-unit_fine BehindEnd [] = tt
-unit_fine BehindEnd (b ∷ bytes) = refl
+unit_fine PastEnd [] = tt
+unit_fine PastEnd (b ∷ bytes) = refl
 
-last_fine : (stand : FileStateData) (bytes : List ℕ) → FineFound (last_at stand bytes)
+last_fine : (stage : FileStateData) (bytes : List ℕ) → FineFound (last_at stage bytes)
 unfolding last_at
 last_fine InOpl bytes = line_found_fine bytes
 last_fine BeforeHeader bytes = refl
 last_fine (InSegment s) [] = refl
 last_fine (InSegment s) (b ∷ bytes) = refl
-last_fine BehindEnd bytes = tt
+last_fine PastEnd bytes = tt
 
 abbrev FineRefusal : Option Verdict → Type 0
 FineRefusal r = IfSome r (λ v. is_verdict_reason v.reason ≡ true)
 
-found_fine : (place : ℕ) (found : UnitResult) (more : FileStateData → Still Placed Verdict) → FineFound found →
+found_fine : (place : ℕ) (found : UnitResult) (more : FileStateData → SourceRest Placed Verdict) → FineFound found →
     ((next : FileStateData) → FineRefusal (more next).refusal) → FineRefusal (found_then place found more).refusal
 found_fine place (Err reason) more h on = h
 found_fine place (Ok (None, next)) more h on = on next
 found_fine place (Ok (Some v, next)) more h on = on next
 
-closed_fine : (close : Option Verdict) → FineRefusal close → (stand : FileStateData) (place : ℕ) (bytes : List ℕ) →
-    FineRefusal (final_units close place (last_at stand bytes)).refusal
-closed_fine None h stand place bytes = found_fine place (last_at stand bytes) (λ next. end_whole) (last_fine stand bytes) (λ next. tt)
-closed_fine (Some end) h stand place bytes = h
+closed_fine : (close : Option Verdict) → FineRefusal close → (stage : FileStateData) (place : ℕ) (bytes : List ℕ) →
+    FineRefusal (final_units close place (last_at stage bytes)).refusal
+closed_fine None h stage place bytes = found_fine place (last_at stage bytes) (λ next. end_whole) (last_fine stage bytes) (λ next. tt)
+closed_fine (Some end) h stage place bytes = h
 
 then_fine : (n : ℕ) (close : Option Verdict) → FineRefusal close →
-    ((stand : FileStateData) (place : ℕ) (bytes : List ℕ) → FineRefusal (units_within n close stand place bytes).refusal) →
-    (stand : FileStateData) (place : ℕ) (bytes : List ℕ) (u : Option FileUnit) → FineUnit u
-    → FineRefusal (unit_then close stand place bytes (units_within n close) u).refusal
-then_fine n close h on stand place bytes None fine = closed_fine close h stand place bytes
-then_fine n close h on stand place bytes (Some u) fine =
+    ((stage : FileStateData) (place : ℕ) (bytes : List ℕ) → FineRefusal (units_within n close stage place bytes).refusal) →
+    (stage : FileStateData) (place : ℕ) (bytes : List ℕ) (u : Option FileUnit) → FineUnit u
+    → FineRefusal (unit_then close stage place bytes (units_within n close) u).refusal
+then_fine n close h on stage place bytes None fine = closed_fine close h stage place bytes
+then_fine n close h on stage place bytes (Some u) fine =
     found_fine place u.found _ fine (λ next. on next (place + u.size) (drop u.size bytes))
 
-units_fine : (n : ℕ) (close : Option Verdict) → FineRefusal close → (stand : FileStateData) (place : ℕ) (bytes : List ℕ) →
-    FineRefusal (units_within n close stand place bytes).refusal
-units_fine zero close h stand place bytes = closed_fine close h stand place bytes
-units_fine (suc n) close h stand place bytes = then_fine n close h (units_fine n close h) stand place bytes (unit_at stand bytes)
-    (unit_fine stand bytes)
+units_fine : (n : ℕ) (close : Option Verdict) → FineRefusal close → (stage : FileStateData) (place : ℕ) (bytes : List ℕ) →
+    FineRefusal (units_within n close stage place bytes).refusal
+units_fine zero close h stage place bytes = closed_fine close h stage place bytes
+units_fine (suc n) close h stage place bytes = then_fine n close h (units_fine n close h) stage place bytes (unit_at stage bytes)
+    (unit_fine stage bytes)
 
 verdict_fine : (bytes : List ℕ) → FineRefusal (verdict bytes)
 unfolding file_units units

@@ -9,10 +9,10 @@ use Rattle.osm_model.specs.Sets.{to_list}
 use Rattle.osm_files.specs.declared.format.Format.{Format}
 use Rattle.osm_files.specs.declared.format.Format.TheVariants.{Opl, O5m, O5c}
 use Rattle.osm_files.specs.O5.{reset_byte}
-use Rattle.osm_files.specs.Spell.{written_with, line_with_end, versions_bytes, spell_list}
-use Rattle.o5_codec.specs.Encoder.{initial_written}
+use Rattle.osm_files.specs.Spell.{writer_with, line_with_end, versions_bytes, spell_list}
+use Rattle.o5_codec.specs.Encoder.{initial_writer}
 use Rattle.osm_files.specs.Load.{format_of, is_o5m}
-use Rattle.osm_files.specs.LoadLaws.{WrittenFilesTellTheirFormat}
+use Rattle.osm_files.specs.LoadLaws.{WrittenFilesDetermineTheirFormat}
 
 letter_is_no_mark : (k : Kind) → kind_letter k == reset_byte ≡ false
 letter_is_no_mark kind.Node = refl
@@ -26,12 +26,12 @@ line_tells v rest = ap (λ t. cond t (cond (is_o5m (line v ++ rest)) O5m O5c) Op
 list_tells : (format : Format) (versions : List VersionData) → format_of (spell_list format versions) ≡ format
 list_tells Opl [] = refl
 list_tells Opl (v ∷ versions) =
-    let rest : List ℕ = versions_bytes Opl (written_with Opl initial_written v) versions in
+    let rest : List ℕ = versions_bytes Opl (writer_with Opl initial_writer v) versions in
     ap format_of (append_assoc (line_with_end v) rest [] ∙ append_assoc (line v) (10 ∷ []) (rest ++ []))
     ∙ line_tells v ((10 ∷ []) ++ (rest ++ []))
 list_tells O5m versions = refl
 list_tells O5c versions = refl
 
--- A file that was written tells its format.
-pub formats_told : WrittenFilesTellTheirFormat
+-- A file that was written determines its format.
+pub formats_told : WrittenFilesDetermineTheirFormat
 formats_told format set = list_tells format (to_list set)

@@ -18,16 +18,16 @@ use Rattle.osm_files.specs.declared.format.Format.{Format}
 use Rattle.osm_files.specs.declared.load.Loaded.{Loaded}
 use Rattle.osm_files.specs.declared.reason.Reason.TheVariants.{ReadFault}
 use Rattle.osm_files.specs.Fault.{memory_fault}
-use Rattle.osm_files.specs.Input.{Coming, whole_input as all_of}
-use Rattle.osm_files.specs.Stream.{Verdict, verdict_at, Placed, Still}
+use Rattle.osm_files.specs.Input.{InputRest, whole_input as all_of}
+use Rattle.osm_files.specs.Stream.{Verdict, verdict_at, Placed, SourceRest}
 use Rattle.osm_files.specs.Source.{SourceStep}
 use Rattle.osm_files.specs.O5.{reset_byte}
 use Rattle.osm_files.specs.Units.{InOpl, unit_at, units, start_of}
 use Rattle.osm_files.specs.Verdict.{length_limit, too_long_verdict, file_units, versions_of, verdict, is_below, is_below_last}
 use Rattle.osm_files.specs.Held.{IsFile, Holds, HoldsSorted}
-use Rattle.osm_files.specs.Position.{KnownPosition, at_start, bytes_ahead, units_from, with_input, units_ahead, units_or_failed, ReadsOn, GoesOn, state_at, state_or_start}
+use Rattle.osm_files.specs.Position.{KnownPosition, at_start, rest_of_bytes, units_from, with_input, rest_of_units, units_or_failed, ReadsOn, KeepsRest, state_at, state_or_start}
 use Rattle.osm_files.specs.Position.{fault_of, StopsFilling}
-use Rattle.osm_files.specs.Load.{format_of, tells_format, IsRead, Loads, StopsLoading}
+use Rattle.osm_files.specs.Load.{format_of, determines_format, IsRead, Loads, StopsLoading}
 use Rattle.osm_files.proofs.UnitLaws.{some_is_not_none}
 use Rattle.osm_files.proofs.FileLaws.{one_list, accepted_without_verdict, units_closed}
 use Rattle.osm_files.proofs.FillLaws.{weaker}
@@ -43,33 +43,33 @@ untold_unit b held first short =
     let few : nat_lt (length (b ∷ held)) 7 ≡ true = lt-ltb (length (b ∷ held)) 7 short in
     rw (first, few) refl
 
-untold : (held : List ℕ) → tells_format held ≡ false → (unit_at (start_of held) held ≡ None) × (length held < 7)
-untold [] tells = (none_in_nothing InOpl, omega arith)
-untold (b ∷ held) tells =
+untold : (held : List ℕ) → determines_format held ≡ false → (unit_at (start_of held) held ≡ None) × (length held < 7)
+untold [] shown = (none_in_nothing InOpl, omega arith)
+untold (b ∷ held) shown =
     elim (b == reset_byte) as (λ t. b == reset_byte ≡ t → not t || nat_le 7 (length (b ∷ held)) ≡ false →
     (unit_at (start_of (b ∷ held)) (b ∷ held) ≡ None) × (length (b ∷ held) < 7)) [
       | true ↦ λ first long. (let short : length (b ∷ held) < 7 = leb-false 7 (length (b ∷ held)) long in
           (untold_unit b held first short, short))
       | false ↦ λ other long. absurd (false≢true (sym long))
-    ] refl tells
+    ] refl shown
 
--- if no more can be read of a file whose format isn't determined
-pub format_refused : (p m q : KnownPosition) → ReadsOn p m → p.place ≡ 0 → p.stand ≡ None → p.failed ≡ false → tells_format m.held ≡ false →
+-- the refusal of a file of which no more can be read, and whose format isn't determined
+pub format_refused : (p m q : KnownPosition) → ReadsOn p m → p.place ≡ 0 → p.stage ≡ None → p.failed ≡ false → determines_format m.held ≡ false →
     (fault : Fault) → StopsFilling m fault → q.failed ≡ true → SourceStep {A = Placed} (units_or_failed p) (Err fault) (units_or_failed q)
-format_refused p m q on first unseen fine tells fault stops failed =
-    let k = untold m.held tells in
-    let nothing : unit_at (state_at m) m.held ≡ None = ap (λ s. unit_at (state_or_start s m.held) m.held) (on.stand ∙ unseen) ∙ k.0 in
+format_refused p m q on first unseen fine shown fault stops failed =
+    let k = untold m.held shown in
+    let nothing : unit_at (state_at m) m.held ≡ None = ap (λ s. unit_at (state_or_start s m.held) m.held) (on.stage ∙ unseen) ∙ k.0 in
     let bound : m.place + length m.held < 2 ^ 62 = omega (arith, on.place, first, k.1) in
     step_on (units_or_failed p) (units_or_failed m) (units_or_failed q) (Err fault) (keeps_still p m (reads_go_on p m on) fine)
     (refusal_step m q fault (on.failed ∙ fine) failed (stopped m nothing bound fault stops))
 
 -- ---- the versions
 -- the versions so far, and the rest
-abbrev pub LoadsOn : Option (Still Placed Fault) → List VersionData → Option (Still Placed Fault) → Type 0
-LoadsOn all versions now = IfSome all (λ s. (t : Still Placed Fault) × (now ≡ Some t)
+abbrev pub LoadsOn : Option (SourceRest Placed Fault) → List VersionData → Option (SourceRest Placed Fault) → Type 0
+LoadsOn all versions now = IfSome all (λ s. (t : SourceRest Placed Fault) × (now ≡ Some t)
     × (versions_of s.list ≡ versions ++ versions_of t.list) × (s.refusal ≡ t.refusal))
 
-module _ (all : Option (Still Placed Fault)) (versions : List VersionData) (now after : Option (Still Placed Fault))
+module _ (all : Option (SourceRest Placed Fault)) (versions : List VersionData) (now after : Option (SourceRest Placed Fault))
     (on : LoadsOn all versions now) where
   -- One more version was loaded.
   pub load_step : (u : Placed) → SourceStep now (Ok (Some u)) after → LoadsOn all (versions ++ u.version ∷ []) after
@@ -77,9 +77,9 @@ module _ (all : Option (Still Placed Fault)) (versions : List VersionData) (now 
       let k = known now _ h.0 h.1 step in (
         k.0,
         k.2,
-        h.2 ∙ ap (λ (x : Still Placed Fault). versions ++ versions_of x.list) k.1
+        h.2 ∙ ap (λ (x : SourceRest Placed Fault). versions ++ versions_of x.list) k.1
             ∙ sym (append_assoc versions (u.version ∷ []) (versions_of (k.0).list)),
-        h.3 ∙ ap (λ (x : Still Placed Fault). x.refusal) k.1,
+        h.3 ∙ ap (λ (x : SourceRest Placed Fault). x.refusal) k.1,
       )))
       on
 
@@ -87,8 +87,8 @@ module _ (all : Option (Still Placed Fault)) (versions : List VersionData) (now 
   pub load_ends : SourceStep {A = Placed} now (Ok None) after → IfSome all (λ s. (s.refusal ≡ None) × (versions_of s.list ≡ versions))
   load_ends step = weaker all _ _ (λ s h. (
       let k = known now _ h.0 h.1 step.0 in (
-        h.3 ∙ ap (λ (x : Still Placed Fault). x.refusal) k,
-        h.2 ∙ ap (λ (x : Still Placed Fault). versions ++ versions_of x.list) k
+        h.3 ∙ ap (λ (x : SourceRest Placed Fault). x.refusal) k,
+        h.2 ∙ ap (λ (x : SourceRest Placed Fault). versions ++ versions_of x.list) k
             ∙ append-nil versions,
       ))) on
 
@@ -96,19 +96,19 @@ module _ (all : Option (Still Placed Fault)) (versions : List VersionData) (now 
   pub load_stops : (fault : Fault) → SourceStep {A = Placed} now (Err fault) after →
       (fault ≡ memory_fault) ⊎ IfSome all (λ s. s.refusal ≡ Some fault)
   load_stops fault step = ⊎_elim (λ e. inl e) (λ k.
-      inr (weaker all _ _ (λ s h. h.3 ∙ ap (λ (x : Still Placed Fault). x.refusal) (known now _ h.0 h.1 k)) on)) step.0
+      inr (weaker all _ _ (λ s h. h.3 ∙ ap (λ (x : SourceRest Placed Fault). x.refusal) (known now _ h.0 h.1 k)) on)) step.0
 
 -- before any unit was passed
-pub loads_begin : (p q : KnownPosition) → GoesOn p q → p.failed ≡ false → LoadsOn (units_or_failed p) [] (units_or_failed q)
+pub loads_begin : (p q : KnownPosition) → KeepsRest p q → p.failed ≡ false → LoadsOn (units_or_failed p) [] (units_or_failed q)
 loads_begin p q on fine =
-    subst (λ (o : Option (Still Placed Fault)). LoadsOn o [] (units_or_failed q)) (sym (come_still p fine))
-    (weaker (units_ahead p) _ _ (λ s e. (s, come_still q (on.failed ∙ fine) ∙ e, refl, refl)) on.keeps)
+    subst (λ (o : Option (SourceRest Placed Fault)). LoadsOn o [] (units_or_failed q)) (sym (come_still p fine))
+    (weaker (rest_of_units p) _ _ (λ s e. (s, come_still q (on.failed ∙ fine) ∙ e, refl, refl)) on.keeps)
 
 -- before any unit was read
-pub stops_at_once : (now after : Option (Still Placed Fault)) (fault : Fault) → SourceStep {A = Placed} now (Err fault) after →
+pub stops_at_once : (now after : Option (SourceRest Placed Fault)) (fault : Fault) → SourceStep {A = Placed} now (Err fault) after →
     (fault ≡ memory_fault) ⊎ IfSome now (λ s. s.refusal ≡ Some fault)
 stops_at_once now after fault step = ⊎_elim (λ e. inl e)
-    (λ k. inr (weaker now _ _ (λ s e. ap (λ (x : Still Placed Fault). x.refusal) e) k)) step.0
+    (λ k. inr (weaker now _ _ (λ s e. ap (λ (x : SourceRest Placed Fault). x.refusal) e) k)) step.0
 
 -- ---- whether they are sorted
 module _ (versions : List VersionData) (v : VersionData) where
@@ -176,8 +176,8 @@ whole_units bytes =
       | false ↦ refl
     ])
 
--- a file that closes otherwise than by its end is refused
-unbroken : (c : Coming) → (units_from None 0 c).refusal ≡ None → c.broken ≡ false
+-- an input that isn't refused is unbroken
+unbroken : (c : InputRest) → (units_from None 0 c).refusal ≡ None → c.broken ≡ false
 unbroken c none =
     let below : Bool = nat_lt (0 + length c.bytes) length_limit in
     let at_all : Verdict = verdict_at (0 + length c.bytes) ReadFault in
@@ -198,7 +198,7 @@ unnamed input None e = refl
 unnamed input (Some v) e = absurd (some_is_not_none (fault_of input v) e)
 
 -- the units of an input that are its versions, with no refusal
-module _ (input : ℕ) (c : Coming) (versions : List VersionData) (none : (with_input input (units_from None 0 c)).refusal ≡ None)
+module _ (input : ℕ) (c : InputRest) (versions : List VersionData) (none : (with_input input (units_from None 0 c)).refusal ≡ None)
     (all : versions_of (with_input input (units_from None 0 c)).list ≡ versions) where
   ends : c.broken ≡ false
   ends = unbroken c (unnamed input (units_from None 0 c).refusal none)
@@ -207,10 +207,10 @@ module _ (input : ℕ) (c : Coming) (versions : List VersionData) (none : (with_
   are_file = (λ i. units_from None 0 (record { bytes = c.bytes; broken = ends i })) ∙ whole_units c.bytes
 
   no_verdict : verdict c.bytes ≡ None
-  no_verdict = ap (λ (s : Still Placed Verdict). s.refusal) (sym are_file) ∙ unnamed input (units_from None 0 c).refusal none
+  no_verdict = ap (λ (s : SourceRest Placed Verdict). s.refusal) (sym are_file) ∙ unnamed input (units_from None 0 c).refusal none
 
   file_versions : versions_of (file_units c.bytes).list ≡ versions
-  file_versions = ap (λ (s : Still Placed Verdict). versions_of s.list) (sym are_file) ∙ all
+  file_versions = ap (λ (s : SourceRest Placed Verdict). versions_of s.list) (sym are_file) ∙ all
 
   is_file : IsFile c.bytes versions
   is_file = subst (IsFile c.bytes) file_versions (accepted_without_verdict c.bytes no_verdict).1
@@ -243,33 +243,33 @@ module _ (input : ℕ) (c : Coming) (versions : List VersionData) (none : (with_
 
   loads_all : (format : Format) (sorted : Bool) → format ≡ format_of c.bytes → IsTrue sorted ↔ IsSorted key_cmp versions →
       Loads c (record { history = from_list {R = version_cmp} versions; format = format; sorted = sorted })
-  loads_all format sorted tells is = record {
+  loads_all format sorted shown is = record {
     unbroken = ends;
     holds = record { short = (accepted_without_verdict c.bytes no_verdict).0; versions = versions; file = is_file; members = refl };
-    format = tells;
+    format = shown;
     sorted = (λ t. loads_sorted (is.0 t), λ h. is.1 (sorted_loads h));
   }
 
 -- an input before its first byte
-abbrev pub fresh : ℕ → Option Coming → KnownPosition
+abbrev pub fresh : ℕ → Option InputRest → KnownPosition
 fresh = at_start
 
 module _ (input : ℕ) where
   -- An input that was read to its end has these versions, this format and this order.
-  pub is_read : (c : Coming) (format : Format) (versions : List VersionData) (sorted : Bool) →
-      IfSome (bytes_ahead (fresh input (Some c))) (λ c. format ≡ format_of c.bytes) → IsTrue sorted ↔ IsSorted key_cmp versions
+  pub is_read : (c : InputRest) (format : Format) (versions : List VersionData) (sorted : Bool) →
+      IfSome (rest_of_bytes (fresh input (Some c))) (λ c. format ≡ format_of c.bytes) → IsTrue sorted ↔ IsSorted key_cmp versions
       → IfSome (units_or_failed (fresh input (Some c))) (λ s. (s.refusal ≡ None) × (versions_of s.list ≡ versions)) →
       IsRead input c versions format sorted
-  is_read c format versions sorted tells is all = record { unrefused = all.0; all = all.1; tells = tells; rises = is }
+  is_read c format versions sorted shown is all = record { unrefused = all.0; all = all.1; shown = shown; rises = is }
 
   -- An input that was read is loaded as what its file holds.
-  pub loads : (c : Coming) (format : Format) (versions : List VersionData) (sorted : Bool) (loaded : Loaded) →
+  pub loads : (c : InputRest) (format : Format) (versions : List VersionData) (sorted : Bool) (loaded : Loaded) →
       IsRead input c versions format sorted
       → loaded ≡ record { history = from_list {R = version_cmp} versions; format = format; sorted = sorted } → Loads c loaded
   loads c format versions sorted loaded read gathered =
-      subst (Loads c) (sym gathered) (loads_all input c versions read.unrefused read.all format sorted read.tells read.rises)
+      subst (Loads c) (sym gathered) (loads_all input c versions read.unrefused read.all format sorted read.shown read.rises)
 
   -- An input that can't be read isn't loaded.
-  pub stops : (c : Coming) (fault : Fault) → (fault ≡ memory_fault)
+  pub stops : (c : InputRest) (fault : Fault) → (fault ≡ memory_fault)
       ⊎ IfSome (units_or_failed (fresh input (Some c))) (λ s. s.refusal ≡ Some fault) → StopsLoading input c fault
   stops c fault h = h

@@ -15,12 +15,12 @@ use Rattle.o5_codec.specs.Decoder.{new_segment}
 use Rattle.o5_codec.specs.Body.{set_at}
 use Rattle.o5_codec.proofs.NumberLaws.{number_found, number_only}
 use Rattle.o5_codec.proofs.StepLaws.{set_found, set_only}
-use Rattle.osm_files.specs.Stream.{Verdict, Placed, new_placed, Still, end_refused, front}
+use Rattle.osm_files.specs.Stream.{Verdict, Placed, new_placed, SourceRest, end_refused, front}
 use Rattle.osm_files.specs.O5.{end_byte, reset_byte, type_byte, kind_of_type, is_lone, IsOtherType, FilePart, Reset, Lone, Skipped, Object}
 use Rattle.osm_files.specs.O5.{part_bytes, PartsSpell}
 use Rattle.o5_codec.specs.declared.reason.O5Reason.TheVariants as o5
 use Rattle.osm_files.specs.declared.reason.Reason.TheVariants.{NoEnd, O5}
-use Rattle.osm_files.specs.Units.{InSegment, BehindEnd, FileUnit, unit, no_version, final_units, unit_then, unit_at, last_at, units_within}
+use Rattle.osm_files.specs.Units.{InSegment, PastEnd, FileUnit, unit, no_version, final_units, unit_then, unit_at, last_at, units_within}
 use Rattle.osm_files.specs.Units.{segment_unit, unit_after_end, sized_unit, content_found, set_found as found_of, is_last, is_ended, length_at}
 use Rattle.osm_files.specs.Verdict.{versions_of}
 use Rattle.std.proofs.lemmas.Bool.Decides.{nat_tests}
@@ -136,7 +136,7 @@ drop_front : (first rest : List ℕ) (n : ℕ) → drop (length first + n) (firs
 drop_front [] rest n = let e : 0 + n ≡ n = omega arith in rw e refl
 drop_front (a ∷ first) rest n = let e : length (a ∷ first) + n ≡ suc (length first + n) = omega arith in rw e (drop_front first rest n)
 
--- and if it is read it is spelled
+-- a length that was read is spelled at the front
 pub record LengthFound (b : ℕ) (bytes : List ℕ) (n : ℕ) (behind : List ℕ) : Type 0 where
   pub size : List ℕ
   pub spelled : SpellsNumber size n
@@ -157,7 +157,7 @@ length_found b bytes n behind e =
       rest = rw far (ap (drop (length found.0 + n)) found.2 ∙ drop_front found.0 behind n);
     }
 
--- the content has the size that is spelled
+-- the content has the length that is spelled
 pub content_sized : (bytes : List ℕ) (n : ℕ) (behind : List ℕ) (b : ℕ) → n ≤ length behind → LengthFound b bytes n behind →
     Sized bytes (take n behind) (drop n behind)
 content_sized bytes n behind b fits found =
@@ -168,7 +168,7 @@ content_sized bytes n behind b fits found =
       split = found.split ∙ ap (λ x. found.size ++ x) (sym (take-append-drop n behind));
     }
 
--- another content of this size is the same
+-- `content` is the first `n` bytes of `behind`, and `rest` is the bytes after them
 pub record SameSize (n : ℕ) (behind content rest : List ℕ) : Type 0 where
   pub within : n ≤ length behind
   pub content_is : take n behind ≡ content
@@ -235,16 +235,16 @@ object_in_front s k b bytes content rest versions is sized h =
     )
 
 -- a reading as one property is a reading as an equivalent one
-pub through : (still : Still Placed Verdict) (S T : List VersionData → Type 0) → ((versions : List VersionData) → T versions → S versions) →
+pub through : (still : SourceRest Placed Verdict) (S T : List VersionData → Type 0) → ((versions : List VersionData) → T versions → S versions) →
     ((versions : List VersionData) → S versions → T versions) → ReadsAs still S → ReadsAs still T
 through still S T f g h = record { read = λ versions t. h.read versions (f versions t); back = λ none. g _ (h.back none) }
 
--- A refusal reads as what nothing spells.
+-- A refusal reads as a property that no list has.
 pub nothing_reads : (verdict : Verdict) (S : List VersionData → Type 0) → ((versions : List VersionData) → S versions → ⊥) →
     ReadsAs (end_refused verdict) S
 nothing_reads verdict S never = record { read = λ versions s. absurd (never versions s); back = λ none. absurd (some_is_not_none _ none) }
 
-version_reads : (place : ℕ) (v : VersionData) (still : Still Placed Verdict) (S : List VersionData → Type 0) → ReadsAs still S →
+version_reads : (place : ℕ) (v : VersionData) (still : SourceRest Placed Verdict) (S : List VersionData → Type 0) → ReadsAs still S →
     ReadsAs (front (new_placed place v) still) (λ versions. (others : List VersionData) × (versions ≡ v ∷ others) × S others)
 version_reads place v still S h = record {
   read = λ versions t. (let r = h.read t.0 t.2 in (r.0, ap (λ x. v ∷ x) r.1 ∙ sym t.1));
@@ -348,7 +348,7 @@ last_in_segment : (s : Segment) → last_at (InSegment s) [] ≡ Err NoEnd
 unfolding last_at
 last_in_segment s = refl
 
-last_behind : (bytes : List ℕ) → last_at BehindEnd bytes ≡ Ok (None, BehindEnd)
+last_behind : (bytes : List ℕ) → last_at PastEnd bytes ≡ Ok (None, PastEnd)
 unfolding last_at
 last_behind bytes = refl
 
@@ -356,7 +356,7 @@ unit_in_segment : (s : Segment) (bytes : List ℕ) → unit_at (InSegment s) byt
 unfolding unit_at
 unit_in_segment s bytes = refl
 
-unit_behind : (bytes : List ℕ) → unit_at BehindEnd bytes ≡ unit_after_end bytes
+unit_behind : (bytes : List ℕ) → unit_at PastEnd bytes ≡ unit_after_end bytes
 unfolding unit_at
 unit_behind bytes = refl
 
@@ -364,11 +364,11 @@ unit_behind bytes = refl
 abbrev Nothing : List ℕ → List VersionData → Type 0
 Nothing bytes versions = (bytes ≡ []) × ([] ≡ versions)
 
-none_behind : (n place : ℕ) → ReadsAs (units_within n None BehindEnd place []) (Nothing [])
+none_behind : (n place : ℕ) → ReadsAs (units_within n None PastEnd place []) (Nothing [])
 none_behind zero place = rw (last_behind []) (record { read = λ versions h. (refl, h.1); back = λ none. (refl, refl) })
 none_behind (suc n) place = rw (unit_behind [], last_behind []) (record { read = λ versions h. (refl, h.1); back = λ none. (refl, refl) })
 
-end_reads : (n place : ℕ) (bytes : List ℕ) → length bytes ≤ n → ReadsAs (units_within n None BehindEnd place bytes) (Nothing bytes)
+end_reads : (n place : ℕ) (bytes : List ℕ) → length bytes ≤ n → ReadsAs (units_within n None PastEnd place bytes) (Nothing bytes)
 end_reads n place [] fits = none_behind n place
 end_reads zero place (b ∷ bytes) fits = absurd (omega (arith, fits))
 end_reads (suc n) place (b ∷ bytes) fits = rw (unit_behind (b ∷ bytes))
@@ -389,10 +389,10 @@ module _ (n : ℕ) (on : ReadsParts n) (s : Segment) (b : ℕ) (bytes : List ℕ
   first_of : (versions : List VersionData) → T versions → FirstPart s b bytes versions
   first_of versions h = first_part s b bytes h.0 versions h.1 h.2
 
-  end_step : (b == end_byte) ≡ true → Step (Some (unit 1 (no_version BehindEnd)))
+  end_step : (b == end_byte) ≡ true → Step (Some (unit 1 (no_version PastEnd)))
   end_step is =
       let same : b ≡ end_byte = eqb-true b end_byte is in
-      through (units_within n None BehindEnd (place + 1) bytes) (Nothing bytes) T
+      through (units_within n None PastEnd (place + 1) bytes) (Nothing bytes) T
       (λ versions h. end_only s b bytes versions (first_of versions h) is)
       (λ versions h. ([], (λ i. same i ∷ h.0 i), sym h.1))
       (end_reads n (place + 1) bytes fits)
@@ -514,7 +514,7 @@ module _ (n : ℕ) (on : ReadsParts n) (s : Segment) (b : ℕ) (bytes : List ℕ
   pub first_step : Step (segment_unit s (b ∷ bytes))
   first_step =
       elim (b == end_byte) as (λ t. (b == end_byte) ≡ t →
-      Step (cond t (Some (unit 1 (no_version BehindEnd)))
+      Step (cond t (Some (unit 1 (no_version PastEnd)))
       (cond (b == reset_byte) (Some (unit 1 (no_version (InSegment new_segment))))
       (cond (is_lone b) (Some (unit 1 (no_version (InSegment s)))) (sized_unit s b bytes (length_at bytes)))))) [
         | true ↦ λ is. end_step is

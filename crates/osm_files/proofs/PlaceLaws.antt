@@ -2,9 +2,9 @@
 use Rattle.std.proofs.Common.{◌≡◌, ℕ, zero, suc, ◌+◌, ◌-◌, ◌≤◌, true, false, cond, List, [], ◌∷◌, length, take, drop, refl, sym, subst}
 use Rattle.std.proofs.Common.{arith, Option, Some, None, IfSome, Ok, Err, length-drop, length-take, nat_lt}
 use Rattle.osm_files.specs.declared.reason.Reason.TheVariants.{ReadFault}
-use Rattle.osm_files.specs.Input.{Coming}
+use Rattle.osm_files.specs.Input.{InputRest}
 use Rattle.osm_files.specs.Position.{closing_verdict, state_or_start, units_from, window}
-use Rattle.osm_files.specs.Stream.{Placed, Still, Verdict, verdict_at}
+use Rattle.osm_files.specs.Stream.{Placed, SourceRest, Verdict, verdict_at}
 use Rattle.osm_files.specs.Units.{FileUnit, UnitResult, FileStateData, final_units, found_then, last_at, unit_at, unit_then, units, units_within}
 use Rattle.osm_files.specs.Verdict.{length_limit, too_long_verdict}
 use Rattle.osm_files.proofs.FillLaws.{weaker}
@@ -17,7 +17,7 @@ Follow from [] None = Unit {0}
 Follow from [] (Some v) = from ≤ v.place
 Follow from (u ∷ us) refusal = (from ≤ u.place) × Follow (u.place + 1) us refusal
 
-abbrev pub Follows : ℕ → Still Placed Verdict → Type 0
+abbrev pub Follows : ℕ → SourceRest Placed Verdict → Type 0
 Follows from still = Follow from still.list still.refusal
 
 follow_earlier : (from to : ℕ) (us : List Placed) (refusal : Option Verdict) → from ≤ to → Follow to us refusal → Follow from us refusal
@@ -38,7 +38,7 @@ closed_follows None place (Ok (None, next)) h = tt
 closed_follows None place (Ok (Some v, next)) h = (omega arith, tt)
 closed_follows (Some verdict) place last h = h
 
-found_follows : (place size : ℕ) (found : UnitResult) (more : FileStateData → Still Placed Verdict) → 1 ≤ size
+found_follows : (place size : ℕ) (found : UnitResult) (more : FileStateData → SourceRest Placed Verdict) → 1 ≤ size
     → ((next : FileStateData) → Follows (place + size) (more next)) → Follows place (found_then place found more)
 found_follows place size (Err reason) more some on = omega arith
 found_follows place size (Ok (None, next)) more some on =
@@ -49,33 +49,33 @@ found_follows place size (Ok (Some v, next)) more some on =
 module _ (close : Option Verdict) where
   abbrev WithinFollow : ℕ → Type 0
   WithinFollow n =
-      (stand : FileStateData) (place : ℕ) (bytes : List ℕ) → ClosesFrom (place + length bytes) close
-      → Follows place (units_within n close stand place bytes)
+      (stage : FileStateData) (place : ℕ) (bytes : List ℕ) → ClosesFrom (place + length bytes) close
+      → Follows place (units_within n close stage place bytes)
 
-  unit_follows : (n : ℕ) → WithinFollow n → (stand : FileStateData) (place : ℕ) (bytes : List ℕ) → ClosesFrom (place + length bytes) close
-      → (found : Option FileUnit) → unit_at stand bytes ≡ found
-      → Follows place (unit_then close stand place bytes (units_within n close) found)
-  unit_follows n on stand place bytes h None e =
-      closed_follows close place (last_at stand bytes) (closes_earlier place (place + length bytes) close (omega arith) h)
-  unit_follows n on stand place bytes h (Some u) e =
-      let sized = unit_sized stand bytes u e in
+  unit_follows : (n : ℕ) → WithinFollow n → (stage : FileStateData) (place : ℕ) (bytes : List ℕ) → ClosesFrom (place + length bytes) close
+      → (found : Option FileUnit) → unit_at stage bytes ≡ found
+      → Follows place (unit_then close stage place bytes (units_within n close) found)
+  unit_follows n on stage place bytes h None e =
+      closed_follows close place (last_at stage bytes) (closes_earlier place (place + length bytes) close (omega arith) h)
+  unit_follows n on stage place bytes h (Some u) e =
+      let sized = unit_sized stage bytes u e in
       let rest : List ℕ = drop u.size bytes in
       let within : (place + u.size) + length rest ≤ place + length bytes = omega (arith, length-drop u.size bytes, sized.within) in
       found_follows place u.size u.found (λ next. units_within n close next (place + u.size) rest) sized.some
       (λ next. on next (place + u.size) rest (closes_earlier _ _ close within h))
 
   within_follow : (n : ℕ) → WithinFollow n
-  within_follow zero stand place bytes h =
-      closed_follows close place (last_at stand bytes) (closes_earlier place (place + length bytes) close (omega arith) h)
-  within_follow (suc n) stand place bytes h = unit_follows n (within_follow n) stand place bytes h (unit_at stand bytes) refl
+  within_follow zero stage place bytes h =
+      closed_follows close place (last_at stage bytes) (closes_earlier place (place + length bytes) close (omega arith) h)
+  within_follow (suc n) stage place bytes h = unit_follows n (within_follow n) stage place bytes h (unit_at stage bytes) refl
 
-  units_follow : (stand : FileStateData) (place : ℕ) (bytes : List ℕ) → ClosesFrom (place + length bytes) close
-      → Follows place (units close stand place bytes)
+  units_follow : (stage : FileStateData) (place : ℕ) (bytes : List ℕ) → ClosesFrom (place + length bytes) close
+      → Follows place (units close stage place bytes)
   unfolding units
-  units_follow stand place bytes h = within_follow (length bytes) stand place bytes h
+  units_follow stage place bytes h = within_follow (length bytes) stage place bytes h
 
 -- an error comes after the last byte, and the limit after all bytes that count
-window_closes : (c : Coming) → ClosesFrom (0 + length (window 0 c)) (closing_verdict 0 c)
+window_closes : (c : InputRest) → ClosesFrom (0 + length (window 0 c)) (closing_verdict 0 c)
 window_closes c =
     let error : Verdict = verdict_at (0 + length c.bytes) ReadFault in
     let front : List ℕ = take (length_limit - 1 - 0) c.bytes in
@@ -89,7 +89,7 @@ window_closes c =
     ]
 
 -- The units of an input are at rising offsets, and its refusal comes after them.
-pub input_follows : (c : Coming) → Follows 0 (units_from None 0 c)
+pub input_follows : (c : InputRest) → Follows 0 (units_from None 0 c)
 input_follows c =
     subst (Follows 0) (sym (from_is None 0 c))
     (units_follow (closing_verdict 0 c) (state_or_start None c.bytes) 0 (window 0 c) (window_closes c))

@@ -1,4 +1,4 @@
--- One unit further.
+-- The effect on a position of passing one unit.
 use Rattle.std.proofs.Common.{◌≡◌, ◌⊎◌, inl, inr, ℕ, zero, suc, ◌+◌, ◌-◌, ◌≤◌, ◌<◌, ◌^◌, Bool, true, false, cond, List, [], ◌∷◌, ◌++◌}
 use Rattle.std.proofs.Common.{length, drop, take, refl, sym, ap, ◌∙◌, subst, arith, Option, Some, None, option_map, IfSome, Ok, Err}
 use Rattle.std.proofs.Common.{length-append, length-drop, nat_lt}
@@ -11,11 +11,11 @@ use Rattle.osm_files.specs.declared.fault.Fault.{Fault}
 use Rattle.osm_files.specs.declared.reason.Reason.{Reason}
 use Rattle.osm_files.specs.declared.reason.Reason.TheVariants.{ReadFault}
 use Rattle.osm_files.specs.Fault.{memory_fault}
-use Rattle.osm_files.specs.Input.{Coming, whole_input as all_of, with_front}
-use Rattle.osm_files.specs.Stream.{verdict_at, Placed, new_placed, Still, end_whole, end_refused, front}
+use Rattle.osm_files.specs.Input.{InputRest, whole_input as all_of, with_front}
+use Rattle.osm_files.specs.Stream.{verdict_at, Placed, new_placed, SourceRest, end_whole, end_refused, front}
 use Rattle.osm_files.specs.Units.{FileStateData, FileUnit, unit_at, last_at, found_then, units}
 use Rattle.osm_files.specs.Verdict.{length_limit, too_long_verdict}
-use Rattle.osm_files.specs.Position.{KnownPosition, bytes_ahead, state_or_start, closing_verdict, window, units_from, fault_of, with_input, units_ahead, Keeps, ReadsOn, GoesOn}
+use Rattle.osm_files.specs.Position.{KnownPosition, rest_of_bytes, state_or_start, closing_verdict, window, units_from, fault_of, with_input, rest_of_units, Keeps, ReadsOn, KeepsRest}
 use Rattle.osm_files.specs.Position.{state_at, Halts, StopsFilling}
 use Rattle.osm_files.proofs.FillLaws.{weaker, mapped, kept, keeps_on}
 use Rattle.osm_files.proofs.StepLaws.{IsSized, unit_sized, found_same, units_step, units_stop}
@@ -26,50 +26,50 @@ unfolding length_limit
 limit_is = refl
 
 -- The units from a position on are those of the bytes below the limit.
-pub from_is : (stand : Option FileStateData) (place : ℕ) (c : Coming) →
-    units_from stand place c ≡ units (closing_verdict place c) (state_or_start stand c.bytes) place (window place c)
+pub from_is : (stage : Option FileStateData) (place : ℕ) (c : InputRest) →
+    units_from stage place c ≡ units (closing_verdict place c) (state_or_start stage c.bytes) place (window place c)
 unfolding units_from
-from_is stand place c = refl
+from_is stage place c = refl
 
--- A position goes on to itself.
-pub goes_on : (p : KnownPosition) → GoesOn p p
-goes_on p = record { input = refl; place = omega arith; failed = refl; keeps = kept (units_ahead p) }
+-- A position without a change goes on.
+pub goes_on : (p : KnownPosition) → KeepsRest p p
+goes_on p = record { input = refl; place = omega arith; failed = refl; keeps = kept (rest_of_units p) }
 
--- To go on twice is to go on.
-pub goes_further : (p m q : KnownPosition) → GoesOn p m → GoesOn m q → GoesOn p q
+-- Going on twice is going on.
+pub goes_further : (p m q : KnownPosition) → KeepsRest p m → KeepsRest m q → KeepsRest p q
 goes_further p m q a b = record {
   input = b.input ∙ a.input;
   place = omega (arith, a.place, b.place);
   failed = b.failed ∙ a.failed;
-  keeps = keeps_on (units_ahead p) (units_ahead m) (units_ahead q) a.keeps b.keeps;
+  keeps = keeps_on (rest_of_units p) (rest_of_units m) (rest_of_units q) a.keeps b.keeps;
 }
 
--- What holds of an option's value holds of the value that it has.
+-- A property of an option's value is one of the value that the option is known to have.
 pub known : {A : Type 0} (o : Option A) (P : A → Type 0) (x : A) → o ≡ Some x → IfSome o P → P x
 known {A} o P x e h = let Q : Option A → Type 0 = λ v. IfSome v P in subst Q e h
 
 -- the values that a read leaves unchanged
-pub reads_go_on : (p q : KnownPosition) → ReadsOn p q → GoesOn p q
+pub reads_go_on : (p q : KnownPosition) → ReadsOn p q → KeepsRest p q
 reads_go_on p q on = record {
   input = on.input;
   place = omega (arith, on.place);
   failed = on.failed;
-  keeps = mapped (bytes_ahead p) _ (λ s. units_ahead q ≡ Some s)
-      (weaker (bytes_ahead p) _ _ (λ c e. ap (option_map (λ x. with_input q.input (units_from q.stand q.place x))) e
-      ∙ (λ i. Some (with_input (on.input i) (units_from (on.stand i) (on.place i) c)))) on.ahead);
+  keeps = mapped (rest_of_bytes p) _ (λ s. rest_of_units q ≡ Some s)
+      (weaker (rest_of_bytes p) _ _ (λ c e. ap (option_map (λ x. with_input q.input (units_from q.stage q.place x))) e
+      ∙ (λ i. Some (with_input (on.input i) (units_from (on.stage i) (on.place i) c)))) on.ahead);
 }
 
 -- the bytes after those held
-pub record Behind (p : KnownPosition) (c : Coming) : Type 0 where
+pub record Behind (p : KnownPosition) (c : InputRest) : Type 0 where
   pub more : List ℕ
   pub broken : Bool
   pub here : c ≡ record { bytes = p.held ++ more; broken = broken }
-  pub there : (h : List ℕ) → bytes_ahead (record p { held = h }) ≡ Some (record { bytes = h ++ more; broken = broken })
+  pub there : (h : List ℕ) → rest_of_bytes (record p { held = h }) ≡ Some (record { bytes = h ++ more; broken = broken })
 
-behind_by : (p : KnownPosition) (ended : Bool) (coming : Option Coming) (c : Coming) → p.ended ≡ ended → p.coming ≡ coming → bytes_ahead p ≡ Some c →
+behind_by : (p : KnownPosition) (ended : Bool) (coming : Option InputRest) (c : InputRest) → p.ended ≡ ended → p.coming ≡ coming → rest_of_bytes p ≡ Some c →
     Behind p c
 behind_by p true coming c e f at =
-    let ends : (h : List ℕ) → bytes_ahead (record p { held = h }) ≡ Some (all_of h) =
+    let ends : (h : List ℕ) → rest_of_bytes (record p { held = h }) ≡ Some (all_of h) =
     λ h. ap (λ b. cond b (Some (all_of h)) (option_map (with_front h) p.coming)) e in
     let same : c ≡ all_of p.held = (let g : Some c ≡ Some (all_of p.held) = sym at ∙ ends p.held in cc) in
     record {
@@ -82,7 +82,7 @@ behind_by p false None c e f at =
     absurd (let g : None ≡ Some c = sym (ap (λ b. cond b (Some (all_of p.held)) (option_map (with_front p.held) p.coming)) e
     ∙ ap (option_map (with_front p.held)) f) ∙ at in cc)
 behind_by p false (Some d) c e f at =
-    let goes : (h : List ℕ) → bytes_ahead (record p { held = h }) ≡ Some (with_front h d) =
+    let goes : (h : List ℕ) → rest_of_bytes (record p { held = h }) ≡ Some (with_front h d) =
     λ h. ap (λ b. cond b (Some (all_of h)) (option_map (with_front h) p.coming)) e ∙ ap (option_map (with_front h)) f in
     record {
       more = d.bytes;
@@ -92,17 +92,17 @@ behind_by p false (Some d) c e f at =
     }
 
 -- The bytes ahead begin with the bytes held.
-pub behind : (p : KnownPosition) (c : Coming) → bytes_ahead p ≡ Some c → Behind p c
+pub behind : (p : KnownPosition) (c : InputRest) → rest_of_bytes p ≡ Some c → Behind p c
 behind p c = behind_by p p.ended p.coming c refl refl
 
 -- the first byte determines the stage, whatever follows
-pub same_stand : (stand : Option FileStateData) (held more : List ℕ) → 0 < length held → state_or_start stand (held ++ more) ≡ state_or_start stand held
+pub same_stand : (stage : Option FileStateData) (held more : List ℕ) → 0 < length held → state_or_start stage (held ++ more) ≡ state_or_start stage held
 same_stand (Some s) held more some = refl
 same_stand None [] more some = absurd (omega (arith, some))
 same_stand None (b ∷ held) more some = refl
 
 -- the bytes held count, and so do those after them that are below the limit
-abbrev pub Counts : ℕ → List ℕ → Coming → Type 0
+abbrev pub Counts : ℕ → List ℕ → InputRest → Type 0
 Counts place held c = (more : List ℕ) × (window place c ≡ held ++ more)
 
 counted : (place : ℕ) (held rest : List ℕ) (broken : Bool) → place + length held < 2 ^ 62 →
@@ -131,10 +131,10 @@ drop-take-add (suc n) m (x ∷ xs) = let e : suc n + m ≡ suc (n + m) = omega a
 
 -- at a later offset, the same bytes count, and the file closes in the same way
 module _ (place n : ℕ) (held rest : List ℕ) (broken : Bool) (fits : n ≤ length held) (bound : place + length held < 2 ^ 62) where
-  abbrev here : Coming
+  abbrev here : InputRest
   here = record { bytes = held ++ rest; broken = broken }
 
-  abbrev there : Coming
+  abbrev there : InputRest
   there = record { bytes = drop n held ++ rest; broken = broken }
 
   same_length : (place + n) + length (drop n held ++ rest) ≡ place + length (held ++ rest)
@@ -161,63 +161,63 @@ module _ (place n : ℕ) (held rest : List ℕ) (broken : Bool) (fits : n ≤ le
             (ap (λ m. nat_lt m length_limit) same_length ∙ is)))
       ] refl
 
--- What holds of each value that an option may have holds of its value.
+-- A property of each value that an option may have is one of its value.
 pub with_each : {A : Type 0} (o : Option A) (P : A → Type 0) → ((x : A) → o ≡ Some x → P x) → IfSome o P
 with_each None P f = tt
 with_each (Some x) P f = f x refl
 
 -- after a unit of the bytes held was passed
 abbrev pub gone_over : KnownPosition → ℕ → FileStateData → KnownPosition
-gone_over m size next = record m { stand = Some next; place = m.place + size; held = drop size m.held }
+gone_over m size next = record m { stage = Some next; place = m.place + size; held = drop size m.held }
 
 module _ (m : KnownPosition) (u : FileUnit) (is_found : unit_at (state_at m) m.held ≡ Some u) (bound : m.place + length m.held < 2 ^ 62) where
   sized : IsSized u m.held
   sized = unit_sized (state_at m) m.held u is_found
 
-  abbrev behind_it : List ℕ → Bool → Coming
+  abbrev behind_it : List ℕ → Bool → InputRest
   behind_it rest broken = record { bytes = drop u.size m.held ++ rest; broken = broken }
 
   -- the unit, and those after it
-  unit_first : (rest : List ℕ) (broken : Bool) → units_from m.stand m.place (record { bytes = m.held ++ rest; broken = broken })
+  unit_first : (rest : List ℕ) (broken : Bool) → units_from m.stage m.place (record { bytes = m.held ++ rest; broken = broken })
       ≡ found_then m.place u.found (λ next. units_from (Some next) (m.place + u.size) (behind_it rest broken))
   unit_first rest broken =
-      let c : Coming = record { bytes = m.held ++ rest; broken = broken } in
+      let c : InputRest = record { bytes = m.held ++ rest; broken = broken } in
       let counts = counted m.place m.held rest broken bound in
       let stands : unit_at (state_at m) (window m.place c) ≡ Some u = ap (unit_at (state_at m)) counts.1
       ∙ unit_stays (state_at m) m.held counts.0 u is_found in
-      from_is m.stand m.place c
+      from_is m.stage m.place c
       ∙ ap (λ s. units (closing_verdict m.place c) s m.place (window m.place c))
-      (same_stand m.stand m.held rest (omega (arith, sized.some, sized.within)))
+      (same_stand m.stage m.held rest (omega (arith, sized.some, sized.within)))
       ∙ units_step (closing_verdict m.place c) (state_at m) m.place (window m.place c) u stands
       ∙ found_same m.place u.found _ _ (λ next. (λ i.
       units (sym (same_closing m.place u.size m.held rest broken sized.within bound) i) next (m.place + u.size)
       (same_window m.place u.size m.held rest broken sized.within bound i))
       ∙ sym (from_is (Some next) (m.place + u.size) (behind_it rest broken)))
 
-  unit_known : (c : Coming) → bytes_ahead m ≡ Some c → (d : Coming)
-      × (units_from m.stand m.place c ≡ found_then m.place u.found (λ next. units_from (Some next) (m.place + u.size) d))
-      × ((next : FileStateData) → bytes_ahead (gone_over m u.size next) ≡ Some d)
+  unit_known : (c : InputRest) → rest_of_bytes m ≡ Some c → (d : InputRest)
+      × (units_from m.stage m.place c ≡ found_then m.place u.found (λ next. units_from (Some next) (m.place + u.size) d))
+      × ((next : FileStateData) → rest_of_bytes (gone_over m u.size next) ≡ Some d)
   unit_known c e =
       let b = behind m c e in
-      (behind_it b.more b.broken, ap (units_from m.stand m.place) b.here ∙ unit_first b.more b.broken, λ next. b.there (drop u.size m.held))
+      (behind_it b.more b.broken, ap (units_from m.stage m.place) b.here ∙ unit_first b.more b.broken, λ next. b.there (drop u.size m.held))
 
   -- A unit without a version leaves the units ahead as they are.
-  pub gone_passed : (next : FileStateData) → u.found ≡ Ok (None, next) → Keeps (units_ahead m) (units_ahead (gone_over m u.size next))
+  pub gone_passed : (next : FileStateData) → u.found ≡ Ok (None, next) → Keeps (rest_of_units m) (rest_of_units (gone_over m u.size next))
   gone_passed next is =
-      mapped (bytes_ahead m) _ (λ s. units_ahead (gone_over m u.size next) ≡ Some s) (with_each (bytes_ahead m) _ (λ c e. (
+      mapped (rest_of_bytes m) _ (λ s. rest_of_units (gone_over m u.size next) ≡ Some s) (with_each (rest_of_bytes m) _ (λ c e. (
       let k = unit_known c e in
-      let same : units_from m.stand m.place c ≡ units_from (Some next) (m.place + u.size) k.0 = k.1
+      let same : units_from m.stage m.place c ≡ units_from (Some next) (m.place + u.size) k.0 = k.1
       ∙ ap (λ f. found_then m.place f (λ n. units_from (Some n) (m.place + u.size) k.0)) is in
       ap (option_map (λ x. with_input m.input (units_from (Some next) (m.place + u.size) x))) (k.2 next)
       ∙ ap (λ s. Some (with_input m.input s)) (sym same))))
 
   -- A unit with a version is the first of the units ahead.
   pub gone_gave : (v : VersionData) (next : FileStateData) → u.found ≡ Ok (Some v, next) →
-      IfSome (units_ahead m) (λ s. (t : Still Placed Fault) × (s ≡ front (new_placed m.place v) t) × (units_ahead (gone_over m u.size next) ≡ Some t))
+      IfSome (rest_of_units m) (λ s. (t : SourceRest Placed Fault) × (s ≡ front (new_placed m.place v) t) × (rest_of_units (gone_over m u.size next) ≡ Some t))
   gone_gave v next is =
-      mapped (bytes_ahead m) _ _ (with_each (bytes_ahead m) _ (λ c e. (
+      mapped (rest_of_bytes m) _ _ (with_each (rest_of_bytes m) _ (λ c e. (
       let k = unit_known c e in
-      let same : units_from m.stand m.place c ≡ front (new_placed m.place v) (units_from (Some next) (m.place + u.size) k.0) = k.1
+      let same : units_from m.stage m.place c ≡ front (new_placed m.place v) (units_from (Some next) (m.place + u.size) k.0) = k.1
       ∙ ap (λ f. found_then m.place f (λ n. units_from (Some n) (m.place + u.size) k.0)) is in (
         with_input m.input (units_from (Some next) (m.place + u.size) k.0),
         ap (with_input m.input) same,
@@ -226,47 +226,47 @@ module _ (m : KnownPosition) (u : FileUnit) (is_found : unit_at (state_at m) m.h
 
   -- A faulty unit refuses the units ahead.
   pub gone_refused : (reason : Reason) → u.found ≡ Err reason →
-      IfSome (units_ahead m) (λ s. s ≡ end_refused (fault_of m.input (verdict_at m.place reason)))
+      IfSome (rest_of_units m) (λ s. s ≡ end_refused (fault_of m.input (verdict_at m.place reason)))
   gone_refused reason is =
-      mapped (bytes_ahead m) _ _ (with_each (bytes_ahead m) _ (λ c e. (
+      mapped (rest_of_bytes m) _ _ (with_each (rest_of_bytes m) _ (λ c e. (
       let k = unit_known c e in
       ap (with_input m.input) (k.1 ∙ ap (λ f. found_then m.place f (λ n. units_from (Some n) (m.place + u.size) k.0)) is))))
 
 -- if no unit is whole
-no_unit : (stand : FileStateData) (found : Option FileUnit) → unit_at stand [] ≡ found → unit_at stand [] ≡ None
-no_unit stand None e = e
-no_unit stand (Some u) e = let k = unit_sized stand [] u e in absurd (omega (arith, k.some, k.within))
+no_unit : (stage : FileStateData) (found : Option FileUnit) → unit_at stage [] ≡ found → unit_at stage [] ≡ None
+no_unit stage None e = e
+no_unit stage (Some u) e = let k = unit_sized stage [] u e in absurd (omega (arith, k.some, k.within))
 
 -- No unit is whole in no bytes.
-pub none_in_nothing : (stand : FileStateData) → unit_at stand [] ≡ None
-none_in_nothing stand = no_unit stand (unit_at stand []) refl
+pub none_in_nothing : (stage : FileStateData) → unit_at stage [] ≡ None
+none_in_nothing stage = no_unit stage (unit_at stage []) refl
 
 not_below : (m n : ℕ) → n ≤ m → nat_lt m n ≡ false
 not_below m n h = grind (arith, nat_tests)
 
 -- At the end of input the bytes ahead are those held.
-pub ended_ahead : (m : KnownPosition) → m.ended ≡ true → bytes_ahead m ≡ Some (all_of m.held)
+pub ended_ahead : (m : KnownPosition) → m.ended ≡ true → rest_of_bytes m ≡ Some (all_of m.held)
 ended_ahead m ended = ap (λ b. cond b (Some (all_of m.held)) (option_map (with_front m.held) m.coming)) ended
 
 -- a stage that more bytes than those held determine
-nothing_by : (stand : Option FileStateData) (held bytes : List ℕ) (b : ℕ) (more : List ℕ) → unit_at (state_or_start stand held) held ≡ None →
-    bytes ≡ held ++ b ∷ more → unit_at (state_or_start stand bytes) held ≡ None
-nothing_by stand [] bytes b more none e = none_in_nothing (state_or_start stand bytes)
-nothing_by stand (a ∷ held) bytes b more none e = ap (λ x. unit_at (state_or_start stand x) (a ∷ held)) e
-    ∙ ap (λ s. unit_at s (a ∷ held)) (same_stand stand (a ∷ held) (b ∷ more) (omega arith)) ∙ none
+nothing_by : (stage : Option FileStateData) (held bytes : List ℕ) (b : ℕ) (more : List ℕ) → unit_at (state_or_start stage held) held ≡ None →
+    bytes ≡ held ++ b ∷ more → unit_at (state_or_start stage bytes) held ≡ None
+nothing_by stage [] bytes b more none e = none_in_nothing (state_or_start stage bytes)
+nothing_by stage (a ∷ held) bytes b more none e = ap (λ x. unit_at (state_or_start stage x) (a ∷ held)) e
+    ∙ ap (λ s. unit_at s (a ∷ held)) (same_stand stage (a ∷ held) (b ∷ more) (omega arith)) ∙ none
 
 -- if no unit is whole in the bytes held, and no more can be read
 module _ (m : KnownPosition) (nothing : unit_at (state_at m) m.held ≡ None) (bound : m.place + length m.held < 2 ^ 62) where
-  pub halted : (c : Coming) (fault : Fault) → Halts m c fault → with_input m.input (units_from m.stand m.place c) ≡ end_refused fault
+  pub halted : (c : InputRest) (fault : Fault) → Halts m c fault → with_input m.input (units_from m.stage m.place c) ≡ end_refused fault
   halted c fault (inl h) =
       let below : nat_lt (m.place + length m.held) length_limit ≡ true = lt-ltb _ _ (rw limit_is bound) in
-      let same : units_from m.stand m.place (record { bytes = m.held; broken = true })
+      let same : units_from m.stage m.place (record { bytes = m.held; broken = true })
       ≡ end_refused (verdict_at (m.place + length m.held) ReadFault) =
-      from_is m.stand m.place (record { bytes = m.held; broken = true })
+      from_is m.stage m.place (record { bytes = m.held; broken = true })
       ∙ ap (λ t. units (cond t (Some (verdict_at (m.place + length m.held) ReadFault)) (Some too_long_verdict)) (state_at m) m.place
       (cond t m.held (take (length_limit - 1 - m.place) m.held))) below
       ∙ units_stop (Some (verdict_at (m.place + length m.held) ReadFault)) (state_at m) m.place m.held nothing in
-      ap (λ x. with_input m.input (units_from m.stand m.place x)) h.0 ∙ ap (with_input m.input) same ∙ ap end_refused (sym h.1)
+      ap (λ x. with_input m.input (units_from m.stage m.place x)) h.0 ∙ ap (with_input m.input) same ∙ ap end_refused (sym h.1)
   halted c fault (inr h) =
       let b : ℕ = h.1.0 in
       let more : List ℕ = h.1.1 in
@@ -276,25 +276,25 @@ module _ (m : KnownPosition) (nothing : unit_at (state_at m) m.held ≡ None) (b
       let room : length_limit - 1 - m.place ≡ length m.held + 0 = omega (arith, limit_is, h.0) in
       let front : take (length_limit - 1 - m.place) c.bytes ≡ m.held = (λ i. take (room i) (h.1.2 i)) ∙ take-append-add m.held (b ∷ more) 0
       ∙ append-nil m.held in
-      let same : units_from m.stand m.place c ≡ end_refused too_long_verdict =
-      from_is m.stand m.place c
+      let same : units_from m.stage m.place c ≡ end_refused too_long_verdict =
+      from_is m.stage m.place c
       ∙ ap (λ t. units (cond t (cond c.broken (Some (verdict_at (m.place + length c.bytes) ReadFault)) None) (Some too_long_verdict))
-      (state_or_start m.stand c.bytes) m.place (cond t c.bytes (take (length_limit - 1 - m.place) c.bytes))) above
-      ∙ ap (units (Some too_long_verdict) (state_or_start m.stand c.bytes) m.place) front
-      ∙ units_stop (Some too_long_verdict) (state_or_start m.stand c.bytes) m.place m.held (nothing_by m.stand m.held c.bytes b more nothing h.1.2) in
+      (state_or_start m.stage c.bytes) m.place (cond t c.bytes (take (length_limit - 1 - m.place) c.bytes))) above
+      ∙ ap (units (Some too_long_verdict) (state_or_start m.stage c.bytes) m.place) front
+      ∙ units_stop (Some too_long_verdict) (state_or_start m.stage c.bytes) m.place m.held (nothing_by m.stage m.held c.bytes b more nothing h.1.2) in
       ap (with_input m.input) same ∙ ap end_refused (sym h.2)
 
-  -- Where no more bytes can be read, the units ahead are refused, or memory is.
-  pub stopped : (fault : Fault) → StopsFilling m fault → (fault ≡ memory_fault) ⊎ IfSome (units_ahead m) (λ s. s ≡ end_refused fault)
+  -- Where no more bytes can be read, the units ahead are refused, or memory ran out.
+  pub stopped : (fault : Fault) → StopsFilling m fault → (fault ≡ memory_fault) ⊎ IfSome (rest_of_units m) (λ s. s ≡ end_refused fault)
   stopped fault (inl h) = inl h
-  stopped fault (inr h) = inr (mapped (bytes_ahead m) _ (λ s. s ≡ end_refused fault) (weaker (bytes_ahead m) _ _ (λ c k. halted c fault k) h))
+  stopped fault (inr h) = inr (mapped (rest_of_bytes m) _ (λ s. s ≡ end_refused fault) (weaker (rest_of_bytes m) _ _ (λ c k. halted c fault k) h))
 
   -- at the end of the input
-  pub at_the_end : m.ended ≡ true → units_ahead m ≡ Some (with_input m.input (found_then m.place (last_at (state_at m) m.held) (λ next. end_whole)))
+  pub at_the_end : m.ended ≡ true → rest_of_units m ≡ Some (with_input m.input (found_then m.place (last_at (state_at m) m.held) (λ next. end_whole)))
   at_the_end ended =
       let below : nat_lt (m.place + length m.held) length_limit ≡ true = lt-ltb _ _ (rw limit_is bound) in
-      let same : units_from m.stand m.place (all_of m.held) ≡ found_then m.place (last_at (state_at m) m.held) (λ next. end_whole) =
-      from_is m.stand m.place (all_of m.held)
+      let same : units_from m.stage m.place (all_of m.held) ≡ found_then m.place (last_at (state_at m) m.held) (λ next. end_whole) =
+      from_is m.stage m.place (all_of m.held)
       ∙ ap (λ t. units (cond t None (Some too_long_verdict)) (state_at m) m.place (cond t m.held (take (length_limit - 1 - m.place) m.held))) below
       ∙ units_stop None (state_at m) m.place m.held nothing in
-      ap (option_map (λ c. with_input m.input (units_from m.stand m.place c))) (ended_ahead m ended) ∙ ap (λ s. Some (with_input m.input s)) same
+      ap (option_map (λ c. with_input m.input (units_from m.stage m.place c))) (ended_ahead m ended) ∙ ap (λ s. Some (with_input m.input s)) same

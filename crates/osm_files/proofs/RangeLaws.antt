@@ -30,7 +30,7 @@ use Rattle.o5_codec.specs.Decoder.{new_segment}
 use Rattle.o5_codec.proofs.StepLaws.{set_only}
 use Rattle.o5_codec.proofs.SoundSets.{set_version}
 use Rattle.osm_files.specs.O5.{FilePart, Reset, Lone, Skipped, Object, PartsSpell}
-use Rattle.osm_files.specs.Units.{FileStateData, InOpl, BeforeHeader, InSegment, BehindEnd, start_of}
+use Rattle.osm_files.specs.Units.{FileStateData, InOpl, BeforeHeader, InSegment, PastEnd, start_of}
 use Rattle.osm_files.specs.Held.{IsFile, IsFileOf}
 
 -- ---- coordinates of lines
@@ -124,7 +124,7 @@ made_is_version id meta b v (Some f) some fits e = cc
 pub line_is_version : (line : List ℕ) (v : VersionData) → Spells line v → IsVersion v
 line_is_version line v s =
     let meta : Meta = meta_of (fold with_part no_fields s.parts) in
-    let fit : AreFit s.parts = said_fits [] s.parts (tt, tt) (parts_fit s.kind (filter is_full s.tells.others) s.parts s.tells.spelled) in
+    let fit : AreFit s.parts = said_fits [] s.parts (tt, tt) (parts_fit s.kind (filter is_full s.line_parts.others) s.parts s.line_parts.spelled) in
     let body : Body = s.version.body in
     made_is_version s.id meta body v (first_fault s.id meta body) refl (body_fits s.kind s.parts body fit s.version.has_body) s.version.made
 
@@ -148,11 +148,11 @@ parts_are_versions (Object k size content ∷ parts) s versions sound (spelled, 
     (All-cons IsVersion v others one.0 (parts_are_versions parts next others one.1 more))
 
 -- ---- files
-file_of_versions : (stand : FileStateData) (bytes : List ℕ) (versions : List VersionData) → IsFileOf stand bytes versions → All IsVersion versions
+file_of_versions : (stage : FileStateData) (bytes : List ℕ) (versions : List VersionData) → IsFileOf stage bytes versions → All IsVersion versions
 file_of_versions InOpl bytes versions h = lines_are_versions _ versions h
 file_of_versions BeforeHeader bytes versions h = parts_are_versions h.parts new_segment versions refl h.spelled
 file_of_versions (InSegment s) bytes versions h = absurd h
-file_of_versions BehindEnd bytes versions h = absurd h
+file_of_versions PastEnd bytes versions h = absurd h
 
 -- The versions that a file spells are within their ranges.
 pub files_hold_versions : (bytes : List ℕ) (versions : List VersionData) → IsFile bytes versions → All IsVersion versions

@@ -7,14 +7,14 @@ use Rattle.osm_files.specs.declared.fault.Fault.{Fault}
 use Rattle.osm_files.specs.declared.reason.Reason.{Reason}
 use Rattle.osm_files.specs.declared.reason.Reason.TheVariants.{Memory, ReadFault}
 use Rattle.osm_files.specs.Fault.{memory_fault, too_long_fault, fault_at}
-use Rattle.osm_files.specs.Input.{Coming, whole_input, broken_input, with_front}
+use Rattle.osm_files.specs.Input.{InputRest, whole_input, broken_input, with_front}
 use Rattle.osm_files.specs.Stream.{Placed, new_placed, end_refused}
 use Rattle.osm_files.specs.Units.{unit_at}
 use Rattle.osm_files.specs.declared.unit.ReadUnit.{ReadUnit}
 use Rattle.osm_files.specs.Source.{SourceStep, StepsOn}
-use Rattle.osm_files.specs.Position.{Position, KnownPosition, with_coming, Between, bytes_ahead, units_ahead, units_or_failed, units_left, GoesOn, ReadsOn, HasRead}
-use Rattle.osm_files.specs.Position.{Halts, StopsAt, state_at, FindsHeld}
-use Rattle.osm_files.specs.Load.{tells_format}
+use Rattle.osm_files.specs.Position.{Position, KnownPosition, with_coming, Between, rest_of_bytes, rest_of_units, units_or_failed, units_left, KeepsRest, ReadsOn, HasRead}
+use Rattle.osm_files.specs.Position.{Halts, StopsAt, state_at, FindsUnit}
+use Rattle.osm_files.specs.Load.{determines_format}
 use Rattle.osm_files.proofs.FillLaws.{ahead_open, fill_full, kept, keeps_on}
 use Rattle.osm_files.proofs.GroupLaws.{step_on}
 use Rattle.osm_files.proofs.LoadLaws.{format_refused}
@@ -22,30 +22,30 @@ use Rattle.osm_files.proofs.PositionLaws.{goes_on, goes_further, reads_go_on, en
 use Rattle.osm_files.proofs.ReadingLaws.{GoesOver, telling_found, none_goes_on, held_size, held_goes_over, held_refuses, over_gives}
 use Rattle.osm_files.proofs.ReadingLaws.{over_passes, refusal_step, keeps_still}
 
--- nothing was given, and a known rest is unchanged
-pub record HasGone {R : Type 0} (can : R → Coming → Type 0) (p q : Position R) : Type 0 where
+-- no version was given, and a known rest is unchanged; units without a version may have been passed
+pub record HasPassed {R : Type 0} (can : R → InputRest → Type 0) (p q : Position R) : Type 0 where
   pub input : q.input ≡ p.input
   pub place : p.place ≤ q.place
   pub failed : q.failed ≡ p.failed
-  pub goes : Between can p q GoesOn
+  pub goes : Between can p q KeepsRest
 
--- the number of bytes still to be passed or read
+-- a bound on the bytes still to be passed, and on those still to be read before the end is found
 abbrev pub left_over : {R : Type 0} → Position R → ℕ
 left_over p = units_left p + cond p.ended 0 (1 + (2 ^ 62 - (p.place + length p.held)))
 
 reads_on : (p : KnownPosition) → ReadsOn p p
-reads_on p = record { input = refl; place = refl; stand = refl; failed = refl; ahead = kept (bytes_ahead p) }
+reads_on p = record { input = refl; place = refl; stage = refl; failed = refl; ahead = kept (rest_of_bytes p) }
 
 reads_further : (p m q : KnownPosition) → ReadsOn p m → ReadsOn m q → ReadsOn p q
 reads_further p m q a b = record {
   input = b.input ∙ a.input;
   place = b.place ∙ a.place;
-  stand = b.stand ∙ a.stand;
+  stage = b.stage ∙ a.stage;
   failed = b.failed ∙ a.failed;
-  ahead = keeps_on (bytes_ahead p) (bytes_ahead m) (bytes_ahead q) a.ahead b.ahead;
+  ahead = keeps_on (rest_of_bytes p) (rest_of_bytes m) (rest_of_bytes q) a.ahead b.ahead;
 }
 
-module _ {R : Type 0} (can : R → Coming → Type 0) where
+module _ {R : Type 0} (can : R → InputRest → Type 0) where
   -- ---- steps in sequence
   pub then_on : (p m q : Position R) (P Q S : KnownPosition → KnownPosition → Type 0) → ((a b c : KnownPosition) → P a b → Q b c → S a c) → Between can p m P
       → Between can m q Q → Between can p q S
@@ -61,53 +61,53 @@ module _ {R : Type 0} (can : R → Coming → Type 0) where
       (x.0, x.1, law (with_coming p x.0) (with_coming q later) x.2)
 
   -- nothing was read
-  pub unread : (p q : Position R) (P : KnownPosition → KnownPosition → Type 0) → q.coming ≡ p.coming → ((c : Coming) → P (with_coming p c) (with_coming q c))
+  pub unread : (p q : Position R) (P : KnownPosition → KnownPosition → Type 0) → q.coming ≡ p.coming → ((c : InputRest) → P (with_coming p c) (with_coming q c))
       → Between can p q P
   unread p q P same steps later g = (later, subst (λ r. can r later) same g, steps later)
 
-  -- A position has gone over nothing to itself.
-  pub has_gone : (p : Position R) → HasGone can p p
-  has_gone p = record { input = refl; place = omega arith; failed = refl; goes = unread p p GoesOn refl (λ c. goes_on (with_coming p c)) }
+  -- A position without a change has gone over units.
+  pub has_gone : (p : Position R) → HasPassed can p p
+  has_gone p = record { input = refl; place = omega arith; failed = refl; goes = unread p p KeepsRest refl (λ c. goes_on (with_coming p c)) }
 
   -- nothing was read since
-  pub gone_then : (p m q : Position R) (P : KnownPosition → KnownPosition → Type 0) → HasGone can p m → q.coming ≡ m.coming
-      → ((a : KnownPosition) (c : Coming) → GoesOn a (with_coming m c) → P a (with_coming q c)) → Between can p q P
+  pub gone_then : (p m q : Position R) (P : KnownPosition → KnownPosition → Type 0) → HasPassed can p m → q.coming ≡ m.coming
+      → ((a : KnownPosition) (c : InputRest) → KeepsRest a (with_coming m c) → P a (with_coming q c)) → Between can p q P
   gone_then p m q P on same law later g =
       let x = on.goes later (subst (λ r. can r later) same g) in
       (x.0, x.1, law (with_coming p x.0) later x.2)
 
-  -- Where no unit is whole, nothing was gone over.
-  pub gone_none : (p m q : Position R) → HasGone can p m → FindsHeld m (Ok None) q → q.coming ≡ m.coming → q.input ≡ m.input
-      → q.place ≡ m.place → q.failed ≡ m.failed → HasGone can p q
+  -- If no unit is whole in the bytes held, nothing more was gone over.
+  pub gone_none : (p m q : Position R) → HasPassed can p m → FindsUnit m (Ok None) q → q.coming ≡ m.coming → q.input ≡ m.input
+      → q.place ≡ m.place → q.failed ≡ m.failed → HasPassed can p q
   gone_none p m q on found same input place failed = record {
     input = input ∙ on.input;
     place = omega (arith, on.place, place);
     failed = failed ∙ on.failed;
     goes =
-        gone_then p m q GoesOn on same
+        gone_then p m q KeepsRest on same
         (λ a c goes. goes_further a (with_coming m c) (with_coming q c) goes
         (none_goes_on (with_coming m c) (with_coming q c) (telling_found m q (Ok None) c found)));
   }
 
-  -- To read on is to go over nothing.
-  pub gone_read : (p m q : Position R) → HasGone can p m → HasRead can m q → q.input ≡ m.input → HasGone can p q
+  -- A position that has gone over units and then has read more bytes has gone over units.
+  pub gone_read : (p m q : Position R) → HasPassed can p m → HasRead can m q → q.input ≡ m.input → HasPassed can p q
   gone_read p m q on read input = record {
     input = input ∙ on.input;
     place = omega (arith, on.place, read.place);
     failed = read.failed ∙ on.failed;
-    goes = then_on p m q GoesOn ReadsOn GoesOn (λ a b c goes reads. goes_further a b c goes (reads_go_on b c reads)) on.goes read.reads;
+    goes = then_on p m q KeepsRest ReadsOn KeepsRest (λ a b c goes reads. goes_further a b c goes (reads_go_on b c reads)) on.goes read.reads;
   }
 
   -- ---- reading more bytes
   -- the end of the input was found
   pub fill_ended : (p q : Position R) (front : List ℕ) → p.ended ≡ false → q.ended ≡ true → q.input ≡ p.input → q.place ≡ p.place
-      → q.stand ≡ p.stand → q.failed ≡ p.failed → q.held ≡ p.held ++ front → length front ≡ 0
+      → q.stage ≡ p.stage → q.failed ≡ p.failed → q.held ≡ p.held ++ front → length front ≡ 0
       → can p.coming (whole_input []) → HasRead can p q
-  fill_ended p q front unended ended input place stand failed held none ends =
+  fill_ended p q front unended ended input place stage failed held none ends =
       let same : q.held ≡ p.held ++ [] = held ∙ ap (λ xs. p.held ++ xs) (nil_from_length front none) in
       record {
         place = place;
-        stand = stand;
+        stage = stage;
         failed = failed;
         reads = λ later g. (
           whole_input [],
@@ -115,17 +115,17 @@ module _ {R : Type 0} (can : R → Coming → Type 0) where
           record {
             input = input;
             place = place;
-            stand = stand;
+            stage = stage;
             failed = failed;
             ahead =
-                subst (λ (o : Option Coming). IfSome o (λ x. bytes_ahead (with_coming q later) ≡ Some x))
+                subst (λ (o : Option InputRest). IfSome o (λ x. rest_of_bytes (with_coming q later) ≡ Some x))
                 (sym (ahead_open (with_coming p (whole_input [])) unended)) (ended_ahead (with_coming q later) ended ∙ ap (λ xs. Some (whole_input xs)) same);
           },
         );
       }
 
   -- memory ran out, or the input failed
-  pub fill_stopped : (p : Position R) (one : Coming) (reason : Reason) (fault : Fault) → can p.coming one
+  pub fill_stopped : (p : Position R) (one : InputRest) (reason : Reason) (fault : Fault) → can p.coming one
       → (reason ≡ Memory) ⊎ (reason ≡ ReadFault) → (reason ≡ ReadFault → can p.coming (broken_input [])) → p.ended ≡ false
       → fault ≡ fault_at p.input (p.place + length p.held) reason → StopsAt can p fault
   fill_stopped p one reason fault possible (inl e) broken unended is =
@@ -133,42 +133,42 @@ module _ {R : Type 0} (can : R → Coming → Type 0) where
   fill_stopped p one reason fault possible (inr e) broken unended is = (
     broken_input [],
     broken e,
-    inr (subst (λ (o : Option Coming). IfSome o (λ c. Halts (with_coming p (broken_input [])) c fault))
+    inr (subst (λ (o : Option InputRest). IfSome o (λ c. Halts (with_coming p (broken_input [])) c fault))
         (sym (ahead_open (with_coming p (broken_input [])) unended))
         (inl (ap (λ xs. broken_input xs) (append-nil p.held), is ∙ ap (fault_at p.input (p.place + length p.held)) e))),
   )
 
   -- one byte came after as many as a file may have
-  pub fill_limit : (p : Position R) (later earlier : Coming) (front : List ℕ) (fault : Fault) → can p.coming earlier
+  pub fill_limit : (p : Position R) (later earlier : InputRest) (front : List ℕ) (fault : Fault) → can p.coming earlier
       → earlier ≡ with_front front later → 0 < length front → p.ended ≡ false → p.place + length p.held + 1 ≡ 2 ^ 62
       → fault ≡ too_long_fault p.input → StopsAt can p fault
   fill_limit p later earlier front fault possible is some unended full fault_is =
       (earlier, possible, fill_full (with_coming p earlier) (Some later) front fault unended (ap Some is) some full fault_is)
 
-  -- A position has read nothing to itself.
+  -- A position without a change has read.
   pub has_read : (p : Position R) → HasRead can p p
-  has_read p = record { place = refl; stand = refl; failed = refl; reads = unread p p ReadsOn refl (λ c. reads_on (with_coming p c)) }
+  has_read p = record { place = refl; stage = refl; failed = refl; reads = unread p p ReadsOn refl (λ c. reads_on (with_coming p c)) }
 
-  -- To read on twice is to read on.
+  -- Reading on twice is reading on.
   pub read_further : (p m q : Position R) → HasRead can p m → HasRead can m q → HasRead can p q
   read_further p m q first second = record {
     place = second.place ∙ first.place;
-    stand = second.stand ∙ first.stand;
+    stage = second.stage ∙ first.stage;
     failed = second.failed ∙ first.failed;
     reads = then_on p m q ReadsOn ReadsOn ReadsOn reads_further first.reads second.reads;
   }
 
   -- ---- the format
   -- no more can be read
-  pub format_stops : (p m q : Position R) → HasRead can p m → p.place ≡ 0 → p.stand ≡ None → p.failed ≡ false → tells_format m.held ≡ false
+  pub format_stops : (p m q : Position R) → HasRead can p m → p.place ≡ 0 → p.stage ≡ None → p.failed ≡ false → determines_format m.held ≡ false
       → (fault : Fault) → StopsAt can m fault → q.failed ≡ true → StepsOn can p (Err fault) q
-  format_stops p m q on first unseen fine tells fault stops failed later g =
+  format_stops p m q on first unseen fine shown fault stops failed later g =
       let x = on.reads stops.0 stops.1 in
-      (x.0, x.1, format_refused (with_coming p x.0) (with_coming m stops.0) (with_coming q later) x.2 first unseen fine tells fault stops.2 failed)
+      (x.0, x.1, format_refused (with_coming p x.0) (with_coming m stops.0) (with_coming q later) x.2 first unseen fine shown fault stops.2 failed)
 
   -- ---- the next version
   -- the effect of a step after steps that gave nothing
-  pub steps_from : (p m q : Position R) (r : Result (Option Placed) Fault) → HasGone can p m → p.failed ≡ false → StepsOn can m r q
+  pub steps_from : (p m q : Position R) (r : Result (Option Placed) Fault) → HasPassed can p m → p.failed ≡ false → StepsOn can m r q
       → StepsOn can p r q
   steps_from p m q r on fine step later g =
       let y = step later g in
@@ -180,17 +180,17 @@ module _ {R : Type 0} (can : R → Coming → Type 0) where
             (keeps_still (with_coming p x.0) (with_coming m y.0) x.2 fine) y.2,
       )
 
-  -- To go over units twice is to go over them.
-  pub gone_further : (p m q : Position R) → HasGone can p m → HasGone can m q → HasGone can p q
+  -- Going over units twice is going over units.
+  pub gone_further : (p m q : Position R) → HasPassed can p m → HasPassed can m q → HasPassed can p q
   gone_further p m q a b = record {
     input = b.input ∙ a.input;
     place = omega (arith, a.place, b.place);
     failed = b.failed ∙ a.failed;
-    goes = then_on p m q GoesOn GoesOn GoesOn goes_further a.goes b.goes;
+    goes = then_on p m q KeepsRest KeepsRest KeepsRest goes_further a.goes b.goes;
   }
 
   -- a unit of the bytes held was passed
-  module _ (m q r : Position R) (u : ReadUnit) (bound : m.place + length m.held < 2 ^ 62) (found : FindsHeld m (Ok (Some u)) q)
+  module _ (m q r : Position R) (u : ReadUnit) (bound : m.place + length m.held < 2 ^ 62) (found : FindsUnit m (Ok (Some u)) q)
       (gone : r ≡ record q { place = q.place + u.size; held = drop u.size q.held }) where
     same_input : r.input ≡ m.input
     same_input = ap (λ v. v.input) gone ∙ (held_size m q u found).3
@@ -205,7 +205,7 @@ module _ {R : Type 0} (can : R → Coming → Type 0) where
     pub unit_further : m.place < r.place
     unit_further = let size = held_size m q u found in omega (arith, size.0, size.2, ap (λ v. v.place) gone)
 
-    -- After a unit less is left.
+    -- After a unit, less is left over.
     pub unit_lessens : left_over r < left_over m
     unit_lessens =
         let size = held_size m q u found in
@@ -221,7 +221,7 @@ module _ {R : Type 0} (can : R → Coming → Type 0) where
           | false ↦ omega (arith, size.0, place, held, within, bound)
         ])
 
-    over : (c : Coming) (given : Option Placed) → given ≡ option_map (new_placed q.place) u.version → GoesOver (with_coming m c) given (with_coming r c)
+    over : (c : InputRest) (given : Option Placed) → given ≡ option_map (new_placed q.place) u.version → GoesOver (with_coming m c) given (with_coming r c)
     over c given is =
         held_goes_over (with_coming m c) (with_coming q c) (with_coming r c) u given bound (telling_found m q (Ok (Some u)) c found) is
         (ap (λ v. with_coming v c) gone)
@@ -234,26 +234,26 @@ module _ {R : Type 0} (can : R → Coming → Type 0) where
         (λ c. over_gives (with_coming m c) (with_coming r c) given fine same_failed (over c (Some given) is))
 
     -- A unit without a version is gone over.
-    pub unit_passes : None ≡ option_map (new_placed q.place) u.version → HasGone can m r
+    pub unit_passes : None ≡ option_map (new_placed q.place) u.version → HasPassed can m r
     unit_passes is = record {
       input = same_input;
       place = omega (arith, unit_further);
       failed = same_failed;
       goes =
-          unread m r GoesOn same_coming
+          unread m r KeepsRest same_coming
           (λ c. over_passes (with_coming m c) (with_coming r c) same_input (omega (arith, unit_further)) same_failed (over c None is));
     }
 
   -- ---- refusals
   -- the reading is refused, now and ever after
-  pub refused_ever : (m r : Position R) (fault : Fault) (one : Coming) → can m.coming one → m.failed ≡ false → r.failed ≡ true
-      → (fault ≡ memory_fault) ⊎ IfSome (units_ahead (with_coming m one)) (λ s. s ≡ end_refused fault) → StepsOn can m (Err fault) r
+  pub refused_ever : (m r : Position R) (fault : Fault) (one : InputRest) → can m.coming one → m.failed ≡ false → r.failed ≡ true
+      → (fault ≡ memory_fault) ⊎ IfSome (rest_of_units (with_coming m one)) (λ s. s ≡ end_refused fault) → StepsOn can m (Err fault) r
   refused_ever m r fault one possible fine failed refuses later g =
       (one, possible, refusal_step (with_coming m one) (with_coming r later) fault fine failed refuses)
 
   -- for a unit that is held
-  pub unit_refused : (m q r : Position R) (reason : Reason) (fault : Fault) (one : Coming) → can m.coming one → m.failed ≡ false
-      → r.failed ≡ true → m.place + length m.held < 2 ^ 62 → FindsHeld m (Err reason) q → fault ≡ fault_at m.input m.place reason
+  pub unit_refused : (m q r : Position R) (reason : Reason) (fault : Fault) (one : InputRest) → can m.coming one → m.failed ≡ false
+      → r.failed ≡ true → m.place + length m.held < 2 ^ 62 → FindsUnit m (Err reason) q → fault ≡ fault_at m.input m.place reason
       → StepsOn can m (Err fault) r
   unit_refused m q r reason fault one possible fine failed bound found is =
       refused_ever m r fault one possible fine failed

@@ -12,15 +12,15 @@ use Rattle.osm_files.specs.declared.reason.Reason.TheVariants.{WriteFault, Faile
 use Rattle.osm_files.specs.declared.unit.ReadUnit.{ReadUnit}
 use Rattle.osm_files.specs.declared.unit.FileState.{FileState}
 use Rattle.osm_files.specs.Fault.{memory_fault, failed_fault, fault_at}
-use Rattle.osm_files.specs.Input.{Coming}
-use Rattle.osm_files.specs.Stream.{verdict_at, Placed, new_placed, Still, end_whole, end_refused, front}
+use Rattle.osm_files.specs.Input.{InputRest}
+use Rattle.osm_files.specs.Stream.{verdict_at, Placed, new_placed, SourceRest, end_whole, end_refused, front}
 use Rattle.osm_files.specs.Source.{SourceStep}
 use Rattle.opl_line.specs.Delimiter.{is_line_end, split_first}
-use Rattle.osm_files.specs.Units.{FileStateData, InOpl, BeforeHeader, InSegment, BehindEnd, UnitResult, unit, unit_at, line_unit, last_at, found_then}
+use Rattle.osm_files.specs.Units.{FileStateData, InOpl, BeforeHeader, InSegment, PastEnd, UnitResult, unit, unit_at, line_unit, last_at, found_then}
 use Rattle.osm_files.specs.Units.{units}
 use Rattle.osm_files.specs.Reading.{Finds, FindsLast, state_data_of, version_of_unit}
-use Rattle.osm_files.specs.Position.{Position, KnownPosition, with_coming, bytes_ahead, state_or_start, closing_verdict, window, units_from, fault_of, with_input, units_ahead}
-use Rattle.osm_files.specs.Position.{units_or_failed, Keeps, GoesOn, state_at, with_state, FindsHeld}
+use Rattle.osm_files.specs.Position.{Position, KnownPosition, with_coming, rest_of_bytes, state_or_start, closing_verdict, window, units_from, fault_of, with_input, rest_of_units}
+use Rattle.osm_files.specs.Position.{units_or_failed, Keeps, KeepsRest, state_at, with_state, FindsUnit}
 use Rattle.osm_files.proofs.FillLaws.{weaker, mapped}
 use Rattle.osm_files.proofs.StepLaws.{unit_sized}
 use Rattle.osm_files.proofs.PositionLaws.{from_is, behind, same_stand, with_each, gone_over, gone_passed, gone_gave, gone_refused}
@@ -43,10 +43,10 @@ fault_is input place Failed = inr refl
 
 -- ---- the first byte
 seen_by : {C : Type 0} (p : Position C) (P : Position C → Type 0)
-    → (is_some (slice_get p.held 0) ≡ true → P (record p { stand = Some (state_at p) })) → (is_some (slice_get p.held 0) ≡ false → P p)
+    → (is_some (slice_get p.held 0) ≡ true → P (record p { stage = Some (state_at p) })) → (is_some (slice_get p.held 0) ≡ false → P p)
     → P (with_state p)
 seen_by p P there not_there =
-    elim (is_some (slice_get p.held 0)) as (λ t. is_some (slice_get p.held 0) ≡ t → P (cond t (record p { stand = Some (state_at p) }) p))
+    elim (is_some (slice_get p.held 0)) as (λ t. is_some (slice_get p.held 0) ≡ t → P (cond t (record p { stage = Some (state_at p) }) p))
     [ true ↦ there | false ↦ not_there ] refl
 
 none_held : (held : List ℕ) → is_some (slice_get held 0) ≡ false → held ≡ []
@@ -60,40 +60,40 @@ some_held (b ∷ held) e = omega arith
 pub seen_held : {C : Type 0} (p : Position C) → (with_state p).held ≡ p.held
 seen_held p = seen_by p (λ q. q.held ≡ p.held) (λ e. refl) (λ e. refl)
 
-stand_is : (stand : Option FileStateData) (held : List ℕ) (s : FileStateData) → stand ≡ Some s → state_or_start stand held ≡ s
+stand_is : (stage : Option FileStateData) (held : List ℕ) (s : FileStateData) → stage ≡ Some s → state_or_start stage held ≡ s
 stand_is None held s e = absurd (let f : None ≡ Some s = e in cc)
 stand_is (Some t) held s e = cc
 
-seen_stand : {C : Type 0} (p : Position C) (s : FileStateData) → (with_state p).stand ≡ Some s → state_at p ≡ s
+seen_stand : {C : Type 0} (p : Position C) (s : FileStateData) → (with_state p).stage ≡ Some s → state_at p ≡ s
 seen_stand p s =
-    seen_by p (λ q. q.stand ≡ Some s → state_at p ≡ s) (λ e f. (let g : Some (state_at p) ≡ Some s = f in cc))
-    (λ e f. stand_is p.stand p.held s f)
+    seen_by p (λ q. q.stage ≡ Some s → state_at p ≡ s) (λ e f. (let g : Some (state_at p) ≡ Some s = f in cc))
+    (λ e f. stand_is p.stage p.held s f)
 
-pub seen_none : {C : Type 0} (p : Position C) → (with_state p).stand ≡ None → p.held ≡ []
+pub seen_none : {C : Type 0} (p : Position C) → (with_state p).stage ≡ None → p.held ≡ []
 seen_none p =
-    seen_by p (λ q. q.stand ≡ None → p.held ≡ []) (λ e f. absurd (let g : Some (state_at p) ≡ None = f in cc)) (λ e f. none_held p.held e)
+    seen_by p (λ q. q.stage ≡ None → p.held ≡ []) (λ e f. absurd (let g : Some (state_at p) ≡ None = f in cc)) (λ e f. none_held p.held e)
 
-seen_stands : {C : Type 0} (p : Position C) (s : FileStateData) → record (with_state p) { stand = Some s } ≡ record p { stand = Some s }
-seen_stands p s = seen_by p (λ q. record q { stand = Some s } ≡ record p { stand = Some s }) (λ e. refl) (λ e. refl)
+seen_stands : {C : Type 0} (p : Position C) (s : FileStateData) → record (with_state p) { stage = Some s } ≡ record p { stage = Some s }
+seen_stands p s = seen_by p (λ q. record q { stage = Some s } ≡ record p { stage = Some s }) (λ e. refl) (λ e. refl)
 
-stands_there : (p : KnownPosition) (s : FileStateData) → is_some (slice_get p.held 0) ≡ true → state_at p ≡ s → GoesOn p (record p { stand = Some s })
+stands_there : (p : KnownPosition) (s : FileStateData) → is_some (slice_get p.held 0) ≡ true → state_at p ≡ s → KeepsRest p (record p { stage = Some s })
 stands_there p s e is = record {
   input = refl;
   place = omega arith;
   failed = refl;
   keeps =
-      mapped (bytes_ahead p) _ (λ x. units_ahead (record p { stand = Some s }) ≡ Some x) (with_each (bytes_ahead p) _ (λ c at. (
+      mapped (rest_of_bytes p) _ (λ x. rest_of_units (record p { stage = Some s }) ≡ Some x) (with_each (rest_of_bytes p) _ (λ c at. (
       let b = behind p c at in
-      let in_there : state_or_start p.stand c.bytes ≡ s =
-      ap (λ (d : Coming). state_or_start p.stand d.bytes) b.here ∙ same_stand p.stand p.held b.more (some_held p.held e) ∙ is in
-      let same : units_from (Some s) p.place c ≡ units_from p.stand p.place c =
+      let in_there : state_or_start p.stage c.bytes ≡ s =
+      ap (λ (d : InputRest). state_or_start p.stage d.bytes) b.here ∙ same_stand p.stage p.held b.more (some_held p.held e) ∙ is in
+      let same : units_from (Some s) p.place c ≡ units_from p.stage p.place c =
       from_is (Some s) p.place c ∙ ap (λ x. units (closing_verdict p.place c) x p.place (window p.place c)) (sym in_there)
-      ∙ sym (from_is p.stand p.place c) in
+      ∙ sym (from_is p.stage p.place c) in
       ap (option_map (λ x. with_input p.input (units_from (Some s) p.place x))) at ∙ ap (λ x. Some (with_input p.input x)) same)));
 }
 
-pub seen_goes_on : (p : KnownPosition) → GoesOn p (with_state p)
-seen_goes_on p = seen_by p (GoesOn p) (λ e. stands_there p (state_at p) e refl) (λ e. goes_on p)
+pub seen_goes_on : (p : KnownPosition) → KeepsRest p (with_state p)
+seen_goes_on p = seen_by p (KeepsRest p) (λ e. stands_there p (state_at p) e refl) (λ e. goes_on p)
 
 seen_same : {C : Type 0} (p : Position C)
     → ((with_state p).coming ≡ p.coming) × ((with_state p).input ≡ p.input) × ((with_state p).place ≡ p.place) × ((with_state p).failed ≡ p.failed)
@@ -102,53 +102,53 @@ seen_same p =
     (λ e. (refl, refl, refl, refl)) (λ e. (refl, refl, refl, refl))
 
 -- ---- the unit at the front of the bytes held
-pub nothing_held : {C : Type 0} (p m : Position C) → m ≡ with_state p → m.stand ≡ None → FindsHeld p (Ok None) m
+pub nothing_held : {C : Type 0} (p m : Position C) → m ≡ with_state p → m.stage ≡ None → FindsUnit p (Ok None) m
 nothing_held p m is none =
-    let empty : p.held ≡ [] = seen_none p (ap (λ q. q.stand) (sym is) ∙ none) in
+    let empty : p.held ≡ [] = seen_none p (ap (λ q. q.stage) (sym is) ∙ none) in
     (ap (unit_at (state_at p)) empty ∙ none_in_nothing (state_at p), is)
 
 abbrev pub answers : Option ReadUnit → Result (Option ReadUnit) Reason
 answers unit = Ok unit
 
-module _ {C : Type 0} (p m : Position C) (at : FileState) (bytes : List ℕ) (is : m ≡ with_state p) (stands : m.stand ≡ Some (state_data_of at))
+module _ {C : Type 0} (p m : Position C) (at : FileState) (bytes : List ℕ) (is : m ≡ with_state p) (stands : m.stage ≡ Some (state_data_of at))
     (held : bytes ≡ m.held) where
   there : state_at p ≡ state_data_of at
-  there = seen_stand p (state_data_of at) (ap (λ q. q.stand) (sym is) ∙ stands)
+  there = seen_stand p (state_data_of at) (ap (λ q. q.stage) (sym is) ∙ stands)
 
   same_unit : unit_at (state_data_of at) bytes ≡ unit_at (state_at p) p.held
   same_unit = (λ i. unit_at (sym there i) ((held ∙ ap (λ q. q.held) is ∙ seen_held p) i))
 
   -- A unit that is found at the front is the unit held.
   pub found_held : (answer : Option ReadUnit) (next : FileStateData) → Finds (unit_at (state_data_of at) bytes) (Ok answer) next
-      → (answers answer ≡ answers None → next ≡ state_data_of at) → FindsHeld p (Ok answer) (record m { stand = Some next })
+      → (answers answer ≡ answers None → next ≡ state_data_of at) → FindsUnit p (Ok answer) (record m { stage = Some next })
   found_held None next h unmoved =
-      (sym same_unit ∙ h, (λ i. record m { stand = Some (unmoved refl i) }) ∙ (λ i. record m { stand = sym stands i }) ∙ is)
-  found_held (Some u) next h unmoved = (next, sym same_unit ∙ h, (λ i. record (is i) { stand = Some next }) ∙ seen_stands p next)
+      (sym same_unit ∙ h, (λ i. record m { stage = Some (unmoved refl i) }) ∙ (λ i. record m { stage = sym stands i }) ∙ is)
+  found_held (Some u) next h unmoved = (next, sym same_unit ∙ h, (λ i. record (is i) { stage = Some next }) ∙ seen_stands p next)
 
   -- A unit that can't be read is refused at the front.
   pub refused_held : (reason : Reason) (next : FileStateData) (q : Position C) → Finds (unit_at (state_data_of at) bytes) (Err reason) next
-      → FindsHeld p (Err reason) q
+      → FindsUnit p (Err reason) q
   refused_held reason next q (inl e) = inl e
   refused_held reason next q (inr h) = inr (h.0, sym same_unit ∙ h.1)
 
 -- A unit that is returned was found.
-pub some_found : {C : Type 0} (m q : Position C) (u : ReadUnit) (answer : Option ReadUnit) → answer ≡ Some u → FindsHeld m (Ok answer) q
-    → FindsHeld m (Ok (Some u)) q
-some_found m q u answer is h = subst (λ (o : Option ReadUnit). FindsHeld m (Ok o) q) is h
+pub some_found : {C : Type 0} (m q : Position C) (u : ReadUnit) (answer : Option ReadUnit) → answer ≡ Some u → FindsUnit m (Ok answer) q
+    → FindsUnit m (Ok (Some u)) q
+some_found m q u answer is h = subst (λ (o : Option ReadUnit). FindsUnit m (Ok o) q) is h
 
 -- Where no unit is returned, none was found.
-pub none_found : {C : Type 0} (m q : Position C) (answer : Option ReadUnit) → answer ≡ None → FindsHeld m (Ok answer) q
-    → FindsHeld m (Ok None) q
-none_found m q answer is h = subst (λ (o : Option ReadUnit). FindsHeld m (Ok o) q) is h
+pub none_found : {C : Type 0} (m q : Position C) (answer : Option ReadUnit) → answer ≡ None → FindsUnit m (Ok answer) q
+    → FindsUnit m (Ok None) q
+none_found m q answer is h = subst (λ (o : Option ReadUnit). FindsUnit m (Ok o) q) is h
 
 seen_stand_at : {C : Type 0} (p : Position C) → state_at (with_state p) ≡ state_at p
 seen_stand_at p = seen_by p (λ q. state_at q ≡ state_at p) (λ e. refl) (λ e. refl)
 
 -- Where no unit was found, the units ahead stay as they are.
-pub none_goes_on : (m q : KnownPosition) → FindsHeld m (Ok None) q → GoesOn m q
-none_goes_on m q h = subst (λ (x : KnownPosition). GoesOn m x) (sym h.1) (seen_goes_on m)
+pub none_goes_on : (m q : KnownPosition) → FindsUnit m (Ok None) q → KeepsRest m q
+none_goes_on m q h = subst (λ (x : KnownPosition). KeepsRest m x) (sym h.1) (seen_goes_on m)
 
-module _ {C : Type 0} (m q : Position C) (h : FindsHeld m (Ok None) q) where
+module _ {C : Type 0} (m q : Position C) (h : FindsUnit m (Ok None) q) where
   -- Where no unit was found, none is whole in the bytes held.
   pub none_there : unit_at (state_at q) q.held ≡ None
   none_there = (λ i. unit_at (state_at (h.1 i)) ((h.1 i).held)) ∙ (λ i. unit_at (seen_stand_at m i) (seen_held m i)) ∙ h.0
@@ -159,31 +159,31 @@ module _ {C : Type 0} (m q : Position C) (h : FindsHeld m (Ok None) q) where
       let same = seen_same m in
       (ap (λ x. x.coming) h.1 ∙ same.0, ap (λ x. x.input) h.1 ∙ same.1, ap (λ x. x.place) h.1 ∙ same.2, ap (λ x. x.failed) h.1 ∙ same.3)
 
-  pub none_known : q.stand ≡ None → q.held ≡ []
-  none_known e = ap (λ x. x.held) h.1 ∙ seen_held m ∙ seen_none m (ap (λ x. x.stand) (sym h.1) ∙ e)
+  pub none_known : q.stage ≡ None → q.held ≡ []
+  none_known e = ap (λ x. x.held) h.1 ∙ seen_held m ∙ seen_none m (ap (λ x. x.stage) (sym h.1) ∙ e)
 
--- if no unit was whole in the bytes held, none is in these after more are held
-none_among : (stand : Option FileStateData) (held more : List ℕ) → (stand ≡ None → held ≡ []) → unit_at (state_or_start stand held) held ≡ None
-    → unit_at (state_or_start stand more) held ≡ None
+-- if no unit was whole in the bytes held, none is whole in these bytes once more bytes are held
+none_among : (stage : Option FileStateData) (held more : List ℕ) → (stage ≡ None → held ≡ []) → unit_at (state_or_start stage held) held ≡ None
+    → unit_at (state_or_start stage more) held ≡ None
 none_among None held more empty none = ap (unit_at (state_or_start None more)) (empty refl) ∙ none_in_nothing (state_or_start None more)
 none_among (Some s) held more empty none = none
 
 -- No unit is whole in the bytes that were searched, whatever was read after them.
-pub none_still : {C : Type 0} (m q r : Position C) → FindsHeld m (Ok None) q → r.stand ≡ q.stand → take (length q.held) r.held ≡ q.held
+pub none_still : {C : Type 0} (m q r : Position C) → FindsUnit m (Ok None) q → r.stage ≡ q.stage → take (length q.held) r.held ≡ q.held
     → unit_at (state_at r) (take (length q.held) r.held) ≡ None
-none_still m q r h stand kept =
-    (λ i. unit_at (state_or_start (stand i) r.held) (kept i)) ∙ none_among q.stand q.held r.held (none_known m q h) (none_there m q h)
+none_still m q r h stage kept =
+    (λ i. unit_at (state_or_start (stage i) r.held) (kept i)) ∙ none_among q.stage q.held r.held (none_known m q h) (none_there m q h)
 
 -- the finding doesn't depend on the rest
-telling_seen : {R : Type 0} (p : Position R) (c : Coming) → with_coming (with_state p) c ≡ with_state (with_coming p c)
+telling_seen : {R : Type 0} (p : Position R) (c : InputRest) → with_coming (with_state p) c ≡ with_state (with_coming p c)
 telling_seen p c =
     elim (is_some (slice_get p.held 0)) as
-    (λ t. with_coming (cond t (record p { stand = Some (state_at p) }) p) c ≡ cond t (record (with_coming p c) { stand = Some (state_at p) })
+    (λ t. with_coming (cond t (record p { stage = Some (state_at p) }) p) c ≡ cond t (record (with_coming p c) { stage = Some (state_at p) })
     (with_coming p c)) [ true ↦ refl | false ↦ refl ]
 
 -- A unit is found whatever the reader gives.
-pub telling_found : {R : Type 0} (p q : Position R) (answer : Result (Option ReadUnit) Reason) (c : Coming) → FindsHeld p answer q
-    → FindsHeld (with_coming p c) answer (with_coming q c)
+pub telling_found : {R : Type 0} (p q : Position R) (answer : Result (Option ReadUnit) Reason) (c : InputRest) → FindsUnit p answer q
+    → FindsUnit (with_coming p c) answer (with_coming q c)
 telling_found p q (Ok None) c h = (h.0, ap (λ x. with_coming x c) h.1 ∙ telling_seen p c)
 telling_found p q (Ok (Some u)) c h = (h.0, h.1, ap (λ x. with_coming x c) h.2)
 telling_found p q (Err reason) c h = h
@@ -191,24 +191,24 @@ telling_found p q (Err reason) c h = h
 -- ---- one unit further
 -- a fault of this reason, if the rest was refused for it
 pub refuses : (m : KnownPosition) (reason : Reason) (fault : Fault) → fault ≡ fault_at m.input m.place reason
-    → (reason ≡ Memory) ⊎ IfSome (units_ahead m) (λ s. s ≡ end_refused (fault_of m.input (verdict_at m.place reason)))
-    → (fault ≡ memory_fault) ⊎ IfSome (units_ahead m) (λ s. s ≡ end_refused fault)
+    → (reason ≡ Memory) ⊎ IfSome (rest_of_units m) (λ s. s ≡ end_refused (fault_of m.input (verdict_at m.place reason)))
+    → (fault ≡ memory_fault) ⊎ IfSome (rest_of_units m) (λ s. s ≡ end_refused fault)
 refuses m reason fault is (inl e) = inl (is ∙ ap (fault_at m.input m.place) e)
 refuses m reason fault is (inr h) =
-    ⊎_elim (λ k. inl (is ∙ k)) (λ k. inr (weaker (units_ahead m) _ _ (λ s e. e ∙ ap end_refused (sym (is ∙ k))) h))
+    ⊎_elim (λ k. inl (is ∙ k)) (λ k. inr (weaker (rest_of_units m) _ _ (λ s e. e ∙ ap end_refused (sym (is ∙ k))) h))
     (fault_is m.input m.place reason)
 
 -- A unit that is refused at the front refuses the units ahead.
-pub held_refuses : (m q : KnownPosition) (reason : Reason) (fault : Fault) → m.place + length m.held < 2 ^ 62 → FindsHeld m (Err reason) q
-    → fault ≡ fault_at m.input m.place reason → (fault ≡ memory_fault) ⊎ IfSome (units_ahead m) (λ s. s ≡ end_refused fault)
+pub held_refuses : (m q : KnownPosition) (reason : Reason) (fault : Fault) → m.place + length m.held < 2 ^ 62 → FindsUnit m (Err reason) q
+    → fault ≡ fault_at m.input m.place reason → (fault ≡ memory_fault) ⊎ IfSome (rest_of_units m) (λ s. s ≡ end_refused fault)
 held_refuses m q reason fault bound (inl e) is = refuses m reason fault is (inl e)
 held_refuses m q reason fault bound (inr h) is =
     refuses m reason fault is (inr (gone_refused m (unit h.0 (Err reason)) h.1 bound reason refl))
 
 -- a unit was passed, which gave this version, or none
 abbrev pub GoesOver : KnownPosition → Option Placed → KnownPosition → Type 0
-GoesOver m None q = Keeps (units_ahead m) (units_ahead q)
-GoesOver m (Some u) q = IfSome (units_ahead m) (λ s. (t : Still Placed Fault) × (s ≡ front u t) × (units_ahead q ≡ Some t))
+GoesOver m None q = Keeps (rest_of_units m) (rest_of_units q)
+GoesOver m (Some u) q = IfSome (rest_of_units m) (λ s. (t : SourceRest Placed Fault) × (s ≡ front u t) × (rest_of_units q ≡ Some t))
 
 goes_over : (m : KnownPosition) (size : ℕ) (version : Option VersionData) (next : FileStateData)
     → unit_at (state_at m) m.held ≡ Some (unit size (Ok (version, next))) → m.place + length m.held < 2 ^ 62
@@ -217,7 +217,7 @@ goes_over m size None next e bound = gone_passed m (unit size (Ok (None, next)))
 goes_over m size (Some v) next e bound = gone_gave m (unit size (Ok (Some v, next))) e bound v next refl
 
 -- A unit that is found at the front is gone over.
-pub held_goes_over : (m q r : KnownPosition) (u : ReadUnit) (given : Option Placed) → m.place + length m.held < 2 ^ 62 → FindsHeld m (Ok (Some u)) q
+pub held_goes_over : (m q r : KnownPosition) (u : ReadUnit) (given : Option Placed) → m.place + length m.held < 2 ^ 62 → FindsUnit m (Ok (Some u)) q
     → given ≡ option_map (new_placed q.place) u.version
     → r ≡ record q { place = q.place + u.size; held = drop u.size q.held } → GoesOver m given r
 held_goes_over m q r u given bound h is gone =
@@ -228,7 +228,7 @@ held_goes_over m q r u given bound h is gone =
     (sym (is ∙ ap (λ (x : KnownPosition). option_map (new_placed x.place) u.version) h.2)) (goes_over m u.size u.version h.0 h.1 bound))
 
 -- A unit that is found has a byte at least, and no more than are held.
-pub held_size : {C : Type 0} (m q : Position C) (u : ReadUnit) → FindsHeld m (Ok (Some u)) q
+pub held_size : {C : Type 0} (m q : Position C) (u : ReadUnit) → FindsUnit m (Ok (Some u)) q
     → (1 ≤ u.size) × (u.size ≤ length q.held) × (q.place ≡ m.place) × (q.input ≡ m.input) × (q.failed ≡ m.failed)
 held_size m q u h =
     let sized = unit_sized (state_at m) m.held (unit u.size (Ok (u.version, h.0))) h.1 in (
@@ -240,24 +240,24 @@ held_size m q u h =
     )
 
 -- why a unit can't be read
-pub refused_line : {C : Type 0} (p : Position C) (reason : Reason) → p.stand ≡ Some InOpl
-    → Finds (line_unit (split_first is_line_end p.held)) (Err reason) InOpl → FindsHeld p (Err reason) p
+pub refused_line : {C : Type 0} (p : Position C) (reason : Reason) → p.stage ≡ Some InOpl
+    → Finds (line_unit (split_first is_line_end p.held)) (Err reason) InOpl → FindsUnit p (Err reason) p
 unfolding unit_at
 refused_line p reason in_opl (inl e) = inl e
 refused_line p reason in_opl (inr h) = inr (h.0, (λ i. unit_at (state_or_start (in_opl i) p.held) p.held) ∙ h.1)
 
 -- ---- if no call was refused
-pub come_still : (p : KnownPosition) → p.failed ≡ false → units_or_failed p ≡ units_ahead p
-come_still p fine = ap (λ b. cond b (Some (end_refused (failed_fault p.input))) (units_ahead p)) fine
+pub come_still : (p : KnownPosition) → p.failed ≡ false → units_or_failed p ≡ rest_of_units p
+come_still p fine = ap (λ b. cond b (Some (end_refused (failed_fault p.input))) (rest_of_units p)) fine
 
 come_failed : (p : KnownPosition) → p.failed ≡ true → units_or_failed p ≡ Some (end_refused (failed_fault p.input))
-come_failed p bad = ap (λ b. cond b (Some (end_refused (failed_fault p.input))) (units_ahead p)) bad
+come_failed p bad = ap (λ b. cond b (Some (end_refused (failed_fault p.input))) (rest_of_units p)) bad
 
-pub still_step : (p q : KnownPosition) (r : Result (Option Placed) Fault) → p.failed ≡ false → q.failed ≡ false → SourceStep (units_ahead p) r (units_ahead q)
+pub still_step : (p q : KnownPosition) (r : Result (Option Placed) Fault) → p.failed ≡ false → q.failed ≡ false → SourceStep (rest_of_units p) r (rest_of_units q)
     → SourceStep (units_or_failed p) r (units_or_failed q)
 still_step p q r fine good h =
-    subst (λ (o : Option (Still Placed Fault)). SourceStep o r (units_or_failed q)) (sym (come_still p fine))
-    (subst (λ (o : Option (Still Placed Fault)). SourceStep (units_ahead p) r o) (sym (come_still q good)) h)
+    subst (λ (o : Option (SourceRest Placed Fault)). SourceStep o r (units_or_failed q)) (sym (come_still p fine))
+    (subst (λ (o : Option (SourceRest Placed Fault)). SourceStep (rest_of_units p) r o) (sym (come_still q good)) h)
 
 -- a version was given, or a unit without one was passed
 pub over_gives : (m q : KnownPosition) (u : Placed) → m.failed ≡ false → q.failed ≡ m.failed → GoesOver m (Some u) q
@@ -265,38 +265,38 @@ pub over_gives : (m q : KnownPosition) (u : Placed) → m.failed ≡ false → q
 over_gives m q u fine same h = still_step m q (Ok (Some u)) fine (same ∙ fine) h
 
 -- To go over a unit without a version is to go on.
-pub over_passes : (m q : KnownPosition) → q.input ≡ m.input → m.place ≤ q.place → q.failed ≡ m.failed → GoesOver m None q → GoesOn m q
+pub over_passes : (m q : KnownPosition) → q.input ≡ m.input → m.place ≤ q.place → q.failed ≡ m.failed → GoesOver m None q → KeepsRest m q
 over_passes m q input place failed h = record { input = input; place = place; failed = failed; keeps = h }
 
 -- the reading was refused, now and ever after
 pub refusal_step : (m q : KnownPosition) (fault : Fault) → m.failed ≡ false → q.failed ≡ true
-    → (fault ≡ memory_fault) ⊎ IfSome (units_ahead m) (λ s. s ≡ end_refused fault) →
+    → (fault ≡ memory_fault) ⊎ IfSome (rest_of_units m) (λ s. s ≡ end_refused fault) →
     SourceStep {A = Placed} (units_or_failed m) (Err fault) (units_or_failed q)
 refusal_step m q fault fine failed h =
-    subst (λ (o : Option (Still Placed Fault)). SourceStep {A = Placed} o (Err fault) (units_or_failed q)) (sym (come_still m fine))
+    subst (λ (o : Option (SourceRest Placed Fault)). SourceStep {A = Placed} o (Err fault) (units_or_failed q)) (sym (come_still m fine))
     (h, (q.input, come_failed q failed))
 
 -- Where a position that wasn't refused goes on, its units stay known.
-pub keeps_still : (p m : KnownPosition) → GoesOn p m → p.failed ≡ false → Keeps (units_or_failed p) (units_or_failed m)
+pub keeps_still : (p m : KnownPosition) → KeepsRest p m → p.failed ≡ false → Keeps (units_or_failed p) (units_or_failed m)
 keeps_still p m on fine =
-    subst (λ (o : Option (Still Placed Fault)). Keeps o (units_or_failed m)) (sym (come_still p fine))
-    (subst (λ (o : Option (Still Placed Fault)). Keeps (units_ahead p) o) (sym (come_still m (on.failed ∙ fine))) on.keeps)
+    subst (λ (o : Option (SourceRest Placed Fault)). Keeps o (units_or_failed m)) (sym (come_still p fine))
+    (subst (λ (o : Option (SourceRest Placed Fault)). Keeps (rest_of_units p) o) (sym (come_still m (on.failed ∙ fine))) on.keeps)
 
 -- ---- the last bytes of an ended input
-last_nothing : (stand : FileStateData) (bytes : List ℕ) (version : Option VersionData) → version_of_unit (last_at stand bytes) ≡ Ok version
-    → version_of_unit (last_at stand []) ≡ Ok None
+last_nothing : (stage : FileStateData) (bytes : List ℕ) (version : Option VersionData) → version_of_unit (last_at stage bytes) ≡ Ok version
+    → version_of_unit (last_at stage []) ≡ Ok None
 unfolding last_at
 last_nothing InOpl bytes version e = refl
 last_nothing BeforeHeader bytes version e = cc
 last_nothing (InSegment s) bytes version e = cc
-last_nothing BehindEnd bytes version e = refl
+last_nothing PastEnd bytes version e = refl
 
 opl_nothing : version_of_unit (last_at InOpl []) ≡ Ok None
 unfolding last_at
 opl_nothing = refl
 
-stand_nothing : (stand : Option FileStateData) (held : List ℕ) (version : Option VersionData)
-    → version_of_unit (last_at (state_or_start stand held) held) ≡ Ok version → version_of_unit (last_at (state_or_start stand []) []) ≡ Ok None
+stand_nothing : (stage : Option FileStateData) (held : List ℕ) (version : Option VersionData)
+    → version_of_unit (last_at (state_or_start stage held) held) ≡ Ok version → version_of_unit (last_at (state_or_start stage []) []) ≡ Ok None
 stand_nothing None held version e = opl_nothing
 stand_nothing (Some s) held version e = last_nothing s held version e
 
@@ -325,7 +325,7 @@ module _ (m : KnownPosition) (nothing : unit_at (state_at m) m.held ≡ None) (b
   last_found = last_at (state_at m) m.held
 
   comes : (version : Option VersionData) → version_of_unit last_found ≡ Ok version
-      → units_ahead m ≡ Some (with_input m.input (found_then m.place (Ok (version, InOpl)) (λ next. end_whole)))
+      → rest_of_units m ≡ Some (with_input m.input (found_then m.place (Ok (version, InOpl)) (λ next. end_whole)))
   comes version e = at_the_end m nothing bound ended ∙ ap (λ s. Some (with_input m.input s)) (found_by m.place last_found version e)
 
   -- a version has bytes
@@ -337,7 +337,7 @@ module _ (m : KnownPosition) (nothing : unit_at (state_at m) m.held ≡ None) (b
             let empty : length m.held ≡ 0 = grind (arith, nat_tests) in
             let is_nil : m.held ≡ [] = nil_of m.held empty in
             let none : Ok (Some v) ≡ Ok None =
-            sym e ∙ (λ i. version_of_unit (last_at (state_or_start m.stand (is_nil i)) (is_nil i))) ∙ stand_nothing m.stand m.held (Some v) e in
+            sym e ∙ (λ i. version_of_unit (last_at (state_or_start m.stage (is_nil i)) (is_nil i))) ∙ stand_nothing m.stage m.held (Some v) e in
             absurd cc)
       ] refl
 
@@ -345,20 +345,20 @@ module _ (m : KnownPosition) (nothing : unit_at (state_at m) m.held ≡ None) (b
   abbrev behind_last : KnownPosition
   behind_last = record m { place = m.place + length m.held; held = drop (length m.held) m.held }
 
-  no_more : (version : Option VersionData) → version_of_unit last_found ≡ Ok version → units_ahead behind_last ≡ Some end_whole
+  no_more : (version : Option VersionData) → version_of_unit last_found ≡ Ok version → rest_of_units behind_last ≡ Some end_whole
   no_more version e =
       let q : KnownPosition = record m { place = m.place + length m.held; held = [] } in
       let same : behind_last ≡ q = (λ i. record m { place = m.place + length m.held; held = drop_all m.held i }) in
-      let found : version_of_unit (last_at (state_at q) []) ≡ Ok None = stand_nothing m.stand m.held version e in
-      ap units_ahead same ∙ at_the_end q (none_in_nothing (state_at q)) (omega (arith, bound)) ended
+      let found : version_of_unit (last_at (state_at q) []) ≡ Ok None = stand_nothing m.stage m.held version e in
+      ap rest_of_units same ∙ at_the_end q (none_in_nothing (state_at q)) (omega (arith, bound)) ended
       ∙ ap (λ s. Some (with_input m.input s)) (found_by q.place (last_at (state_at q) []) None found)
 
   given_last : (version : Option VersionData) → version_of_unit last_found ≡ Ok version
-      → SourceStep (units_ahead m) (Ok (option_map (new_placed m.place) version)) (units_ahead behind_last)
-  given_last None e = (subst (λ (o : Option (Still Placed Fault)). IfSome o (λ s. s ≡ end_whole)) (sym (comes None e)) refl, no_more None e)
+      → SourceStep (rest_of_units m) (Ok (option_map (new_placed m.place) version)) (rest_of_units behind_last)
+  given_last None e = (subst (λ (o : Option (SourceRest Placed Fault)). IfSome o (λ s. s ≡ end_whole)) (sym (comes None e)) refl, no_more None e)
   given_last (Some v) e =
-      subst (λ (o : Option (Still Placed Fault)). IfSome o
-      (λ s. (t : Still Placed Fault) × (s ≡ front (new_placed m.place v) t) × (units_ahead behind_last ≡ Some t))) (sym (comes (Some v) e)) (
+      subst (λ (o : Option (SourceRest Placed Fault)). IfSome o
+      (λ s. (t : SourceRest Placed Fault) × (s ≡ front (new_placed m.place v) t) × (rest_of_units behind_last ≡ Some t))) (sym (comes (Some v) e)) (
         end_whole,
         refl,
         no_more (Some v) e,
@@ -382,23 +382,23 @@ module _ (m : KnownPosition) (nothing : unit_at (state_at m) m.held ≡ None) (b
 
   -- Last bytes that are no unit refuse the units ahead.
   pub last_refuses : (reason : Reason) (fault : Fault) → FindsLast last_found (Err reason) → fault ≡ fault_at m.input m.place reason
-      → (fault ≡ memory_fault) ⊎ IfSome (units_ahead m) (λ s. s ≡ end_refused fault)
+      → (fault ≡ memory_fault) ⊎ IfSome (rest_of_units m) (λ s. s ≡ end_refused fault)
   last_refuses reason fault (inl e) is = refuses m reason fault is (inl e)
   last_refuses reason fault (inr e) is =
-      let at : units_ahead m ≡ Some (end_refused (fault_of m.input (verdict_at m.place reason))) =
+      let at : rest_of_units m ≡ Some (end_refused (fault_of m.input (verdict_at m.place reason))) =
       at_the_end m nothing bound ended ∙ ap (λ s. Some (with_input m.input s)) (refused_by m.place last_found reason e) in
       refuses m reason fault is
-      (inr (subst (λ (o : Option (Still Placed Fault)). IfSome o (λ s. s ≡ end_refused (fault_of m.input (verdict_at m.place reason)))) (sym at)
+      (inr (subst (λ (o : Option (SourceRest Placed Fault)). IfSome o (λ s. s ≡ end_refused (fault_of m.input (verdict_at m.place reason)))) (sym at)
       refl))
 
 -- A reading that was refused is refused again as Failed.
 pub failed_already : (p : KnownPosition) (fault : Fault) → p.failed ≡ true → fault ≡ failed_fault p.input
     → SourceStep {A = Placed} (units_or_failed p) (Err fault) (units_or_failed p)
 failed_already p fault bad is = (
-  inr (subst (λ (o : Option (Still Placed Fault)). IfSome o (λ s. s ≡ end_refused fault)) (sym (come_failed p bad)) (ap end_refused (sym is))),
+  inr (subst (λ (o : Option (SourceRest Placed Fault)). IfSome o (λ s. s ≡ end_refused fault)) (sym (come_failed p bad)) (ap end_refused (sym is))),
   (p.input, come_failed p bad),
 )
 
 -- before the first byte nothing is held
-pub nothing_read : {C : Type 0} (p : Position C) → p.stand ≡ None → p.held ≡ [] → version_of_unit (last_at (state_at p) p.held) ≡ Ok None
+pub nothing_read : {C : Type 0} (p : Position C) → p.stage ≡ None → p.held ≡ [] → version_of_unit (last_at (state_at p) p.held) ≡ Ok None
 nothing_read p none empty = (λ i. version_of_unit (last_at (state_or_start (none i) (empty i)) (empty i))) ∙ opl_nothing

@@ -16,11 +16,11 @@ use Rattle.osm_model.proofs.VersionLaws.{version_cmp-IsAntisymmetric}
 use Rattle.osm_files.specs.declared.fault.Fault.{Fault}
 use Rattle.osm_files.specs.declared.reason.Reason.TheVariants.{Unsorted}
 use Rattle.osm_files.specs.Groups.{IsGroup, to_ascending, given_at, groups, last_group, new_source, sorted_source, versions_then}
-use Rattle.osm_files.specs.Input.{Coming}
+use Rattle.osm_files.specs.Input.{InputRest}
 use Rattle.osm_files.specs.Position.{fault_of, with_coming, units_from}
 use Rattle.osm_files.specs.SourceLaws.{FaultyInputGivesTheGroupsBefore, RefusedSourceGivesTheGroupsBefore, groups_before}
 use Rattle.osm_files.specs.SourceLaws.{groups_before_last, input_verdict}
-use Rattle.osm_files.specs.Stream.{Placed, Still, Verdict, end_refused, verdict_at}
+use Rattle.osm_files.specs.Stream.{Placed, SourceRest, Verdict, end_refused, verdict_at}
 use Rattle.osm_files.specs.Verdict.{is_below, is_below_last, sorted_verdict, versions_of}
 use Rattle.osm_files.proofs.GroupLaws.{ascending_is, group_joined, has, has_ascending}
 use Rattle.osm_files.proofs.HoldLaws.{below_first, members_are, source_refusal}
@@ -181,11 +181,11 @@ module _ (fault : Verdict) where
 
     -- ---- the versions that the groups give
     module _ (input : ℕ) where
-      abbrev still : List Placed → List VersionData → Still VersionData Fault
+      abbrev still : List Placed → List VersionData → SourceRest VersionData Fault
       still us group = groups input (option_map (fault_of input) close) us group
 
       -- after a group, by how the group's key compares with that of the next unit
-      abbrev still_by : VersionData → List VersionData → Placed → List Placed → Ordering → Still VersionData Fault
+      abbrev still_by : VersionData → List VersionData → Placed → List Placed → Ordering → SourceRest VersionData Fault
       still_by first others u us o =
           cond (is_eq o) (still us (first ∷ (others ++ u.version ∷ [])))
           (cond (is_lt o) (versions_then (to_ascending (first ∷ others)) (still us (u.version ∷ [])))
@@ -265,7 +265,7 @@ faulty_input_gives input c fault is =
     source_refusal input c ∙ ap (option_map (fault_of input)) is in
     (λ i. record { list = list i; refusal = refusal i })
 
-refused_by : (input : ℕ) (c : Coming) (fault : Fault) (verdict : Option Verdict) → input_verdict c ≡ verdict
+refused_by : (input : ℕ) (c : InputRest) (fault : Fault) (verdict : Option Verdict) → input_verdict c ≡ verdict
     → option_map (fault_of input) verdict ≡ Some fault → (sorted_source input c).list ≡ groups_before fault.place c
 refused_by input c fault None e is = absurd (none-some fault is)
 refused_by input c fault (Some v) e is =
@@ -273,13 +273,13 @@ refused_by input c fault (Some v) e is =
     ∙ ap (λ (f : Fault). groups_before f.place c) (same_Some (fault_of input v) fault is)
 
 -- ---- an opened source
-opened_gives : {R : Type 0} (input : ℕ) (reader : R) (c : Coming) → given_at (new_source input reader) c ≡ Some (sorted_source input c)
+opened_gives : {R : Type 0} (input : ℕ) (reader : R) (c : InputRest) → given_at (new_source input reader) c ≡ Some (sorted_source input c)
 opened_gives input reader c = source_begins_told (with_coming (new_source input reader).units c) [] input (Some c) refl refl
 
 -- A refused source gives the key groups before the last one that began before the fault.
-pub refused_source_gives : {R : Type 0} (can : R → Coming → Type 0) → RefusedSourceGivesTheGroupsBefore can
+pub refused_source_gives : {R : Type 0} (can : R → InputRest → Type 0) → RefusedSourceGivesTheGroupsBefore can
 refused_source_gives can input reader versions fault =
-    let still : Still VersionData Fault = record { list = versions; refusal = Some fault } in (
+    let still : SourceRest VersionData Fault = record { list = versions; refusal = Some fault } in (
       λ h. (
           let is : sorted_source input h.0 ≡ still =
           same_Some (sorted_source input h.0) still (sym (opened_gives input reader h.0) ∙ h.2) in

@@ -19,10 +19,10 @@ use Rattle.osm_files.specs.Fault.{memory_fault, failed_fault}
 use Rattle.osm_files.specs.Groups.{to_ascending, last_group, groups, sorted_source, still_with_ready, IsGroup, Gathers, StillSet, as_set, still_given}
 use Rattle.osm_files.specs.Groups.{FileSourceData, FileCanGive, FileSteps, FileAscends, still_at, given_at, IsKnown, known_or_whole}
 use Rattle.osm_files.specs.Groups.{one_given}
-use Rattle.osm_files.specs.Input.{Coming}
-use Rattle.osm_files.specs.Position.{KnownPosition, with_input, units_from, units_ahead, units_or_failed, GoesOn}
+use Rattle.osm_files.specs.Input.{InputRest}
+use Rattle.osm_files.specs.Position.{KnownPosition, with_input, units_from, rest_of_units, units_or_failed, KeepsRest}
 use Rattle.osm_files.specs.Source.{Ascends, SourceStep, SourceSteps}
-use Rattle.osm_files.specs.Stream.{Placed, Still, end_whole, end_refused, front}
+use Rattle.osm_files.specs.Stream.{Placed, SourceRest, end_whole, end_refused, front}
 use Rattle.osm_files.proofs.FillLaws.{weaker}
 use Rattle.osm_files.proofs.GroupLaws.{has, has_ascending, ascending_is, ascending_nil}
 
@@ -68,7 +68,7 @@ all_members P (v ∷ versions) f = (
   all_members P versions (λ w h. f w (or_right (eq_by_cmp version_cmp w v) _ h)),
 )
 
--- What holds of all versions holds of each that is among them.
+-- A property of all versions is one of each of them.
 pub member : (P : VersionData → Type 0) (versions : List VersionData) → AllByRecursion P versions → (w : VersionData) →
     has w versions ≡ true → P w
 member P [] h w e = absurd (false≢true e)
@@ -78,7 +78,7 @@ member P (v ∷ versions) h w e =
       | false ↦ λ k l. member P versions h.1 w l
     ] refl e
 
--- a property of each version of a group is one of each that is given of it
+-- a property of each version of a list is one of each version of its ascending list
 all_ascending : (P : VersionData → Type 0) (versions : List VersionData) → AllByRecursion P versions → AllByRecursion P (to_ascending versions)
 all_ascending P versions h = all_members P (to_ascending versions) (λ v e. member P versions h v (sym (has_ascending v versions) ∙ e))
 
@@ -104,11 +104,11 @@ unfolding IsStrictlySortedBy
 strict_rest v versions h = h.1
 
 -- ---- groups
--- each has a greater key
+-- each of these versions has a greater key than this one
 abbrev Above : VersionData → List VersionData → Type 0
 Above v versions = AllByRecursion (λ w. key_cmp v w ≡ Less) versions
 
--- the versions after a group of the key of this version: they ascend, and are above all that the version is above
+-- the versions after a group that has the key of `first`: they ascend strictly, and each key below that of `first` is below theirs
 record Rises (first : VersionData) (versions : List VersionData) : Type 0 where
   strict : IsStrictlySortedBy version_cmp versions
   above : (v : VersionData) → key_cmp v first ≡ Less → Above v versions
@@ -165,14 +165,14 @@ end_rises : (close : Option Fault) → IsStrictlySortedBy version_cmp (last_grou
 end_rises None = ascending_rises []
 end_rises (Some fault) = nothing_rises
 
--- What groups give ascends strictly.
+-- The versions that groups give ascend strictly.
 pub groups_rise : (input : ℕ) (close : Option Fault) (us : List Placed) → IsStrictlySortedBy version_cmp (groups input close us []).list
 groups_rise input close [] = end_rises close
 groups_rise input close (u ∷ us) = (rises input close us u.version [] tt).strict
 
 -- ---- the versions that a source gives
 module _ (input : ℕ) (first : VersionData) (others : List VersionData) (group : IsGroup first others) where
-  next_rises : (after : Option (Still Placed Fault)) (v : VersionData) → key_cmp first v ≡ Less →
+  next_rises : (after : Option (SourceRest Placed Fault)) (v : VersionData) → key_cmp first v ≡ Less →
       IfSome (still_with_ready input after (v ∷ []) (to_ascending (first ∷ others))) Ascends
   next_rises None v less = tt
   next_rises (Some s) v less = (group_then first v others (groups input s.refusal s.list (v ∷ [])).list group less
@@ -187,93 +187,93 @@ less_is Equal h = absurd (false≢true h)
 less_is Greater h = absurd (false≢true h)
 
 -- groups rise after a group of one key, even if nothing was known before
-pub gathers_rise : (input : ℕ) (before : Option (Still Placed Fault)) (begun : List VersionData) (after : Option (Still Placed Fault))
-    (first : VersionData) (others : List VersionData) (next : Option VersionData) → Gathers input before begun after first others next
+pub gathers_rise : (input : ℕ) (before : Option (SourceRest Placed Fault)) (has_begun : List VersionData) (after : Option (SourceRest Placed Fault))
+    (first : VersionData) (others : List VersionData) (next : Option VersionData) → Gathers input before has_begun after first others next
     → IfSome (still_with_ready input after (option_to_list next) (to_ascending (first ∷ others))) Ascends
-gathers_rise input before begun after first others None h =
-    let P : Option (Still Placed Fault) → Type 0 = λ o. IfSome (still_with_ready input o [] (to_ascending (first ∷ others))) Ascends in
+gathers_rise input before has_begun after first others None h =
+    let P : Option (SourceRest Placed Fault) → Type 0 = λ o. IfSome (still_with_ready input o [] (to_ascending (first ∷ others))) Ascends in
     subst P (sym (h.end refl)) (end_given input first others h.group)
-gathers_rise input before begun after first others (Some v) h =
+gathers_rise input before has_begun after first others (Some v) h =
     next_rises input first others h.group after v (less_is (key_cmp first v) h.above)
 
--- What is still to come ascends strictly without its first version.
-pub ready_rises : (input : ℕ) (units : Option (Still Placed Fault)) (group ready : List VersionData) (v : VersionData) →
+-- The versions still to come ascend strictly, also without the first one.
+pub ready_rises : (input : ℕ) (units : Option (SourceRest Placed Fault)) (group ready : List VersionData) (v : VersionData) →
     IfSome (still_with_ready input units group (v ∷ ready)) Ascends → IfSome (still_with_ready input units group ready) Ascends
 ready_rises input None group ready v h = tt
 ready_rises input (Some s) group ready v h = strict_rest v (ready ++ (groups input s.refusal s.list group).list) h
 
 -- if nothing is ready, and at most one version was read of the next group
-pub pending_rises : (input : ℕ) (units : Option (Still Placed Fault)) (pending : Option VersionData) →
+pub pending_rises : (input : ℕ) (units : Option (SourceRest Placed Fault)) (pending : Option VersionData) →
     IfSome (still_with_ready input units (option_to_list pending) []) Ascends
 pending_rises input None pending = tt
 pending_rises input (Some s) None = groups_rise input s.refusal s.list
 pending_rises input (Some s) (Some v) = (rises input s.refusal s.list v [] tt).strict
 
-whole_rises : (known : Option (Still VersionData Fault)) → known ≡ Some end_whole → IfSome known Ascends
-whole_rises known e = let P : Option (Still VersionData Fault) → Type 0 = λ o. IfSome o Ascends in subst P (sym e) nothing_rises
+whole_rises : (known : Option (SourceRest VersionData Fault)) → known ≡ Some end_whole → IfSome known Ascends
+whole_rises known e = let P : Option (SourceRest VersionData Fault) → Type 0 = λ o. IfSome o Ascends in subst P (sym e) nothing_rises
 
 -- after the first of the ready versions
-pub rest_rises : (input : ℕ) (units : Option (Still Placed Fault)) (group : List VersionData) (given : Option VersionData)
+pub rest_rises : (input : ℕ) (units : Option (SourceRest Placed Fault)) (group : List VersionData) (given : Option VersionData)
     (ready : List VersionData) → IfSome (still_with_ready input units group (option_to_list given ++ ready)) Ascends →
     IfSome (still_with_ready input units group ready) Ascends
 rest_rises input units group None ready h = h
 rest_rises input units group (Some v) ready h = ready_rises input units group ready v h
 
 -- a list that ascends is that of its set
-pub told_as_set : (known : Option (Still VersionData Fault)) → IfSome known Ascends → still_given (option_map as_set known) ≡ known
+pub told_as_set : (known : Option (SourceRest VersionData Fault)) → IfSome known Ascends → still_given (option_map as_set known) ≡ known
 told_as_set None h = refl
 told_as_set (Some s) h =
-    ap (λ vs. let t : Still VersionData Fault = record { list = vs; refusal = s.refusal } in Some t)
+    ap (λ vs. let t : SourceRest VersionData Fault = record { list = vs; refusal = s.refusal } in Some t)
     (to_list-from_list version_cmp_total version_cmp-IsAntisymmetric s.list h)
 
 -- ---- at the beginning of an input
-pub source_is : (input : ℕ) (c : Coming) → sorted_source input c
+pub source_is : (input : ℕ) (c : InputRest) → sorted_source input c
     ≡ (let units = with_input input (units_from None 0 c) in groups input units.refusal units.list [])
 unfolding sorted_source
 source_is input c = refl
 
--- What a sorted file's source gives ascends strictly.
-pub source_rises : (input : ℕ) (c : Coming) → Ascends (sorted_source input c)
+-- The versions that a sorted file's source gives ascend strictly.
+pub source_rises : (input : ℕ) (c : InputRest) → Ascends (sorted_source input c)
 source_rises input c =
     subst Ascends (sym (source_is input c)) (let units = with_input input (units_from None 0 c) in groups_rise input units.refusal units.list)
 
 -- a reading at its beginning
-abbrev pub beginning : ℕ → Option Coming → KnownPosition
-beginning input coming = record { input = input; place = 0; held = []; coming = coming; stand = None; ended = false; failed = false }
+abbrev pub beginning : ℕ → Option InputRest → KnownPosition
+beginning input coming = record { input = input; place = 0; held = []; coming = coming; stage = None; ended = false; failed = false }
 
-begins_so : (input : ℕ) (coming : Option Coming) →
+begins_so : (input : ℕ) (coming : Option InputRest) →
     still_with_ready input (units_or_failed (beginning input coming)) [] [] ≡ option_map (sorted_source input) coming
 begins_so input None = refl
 begins_so input (Some c) = ap Some (sym (source_is input c))
 
-begins_rising : (input : ℕ) (coming : Option Coming) → IfSome (option_map (sorted_source input) coming) Ascends
+begins_rising : (input : ℕ) (coming : Option InputRest) → IfSome (option_map (sorted_source input) coming) Ascends
 begins_rising input None = tt
 begins_rising input (Some c) = source_rises input c
 
-module _ (p : KnownPosition) (ready : List VersionData) (input : ℕ) (coming : Option Coming) (begins : p ≡ beginning input coming)
+module _ (p : KnownPosition) (ready : List VersionData) (input : ℕ) (coming : Option InputRest) (begins : p ≡ beginning input coming)
     (nothing : ready ≡ []) where
   pub source_begins : still_with_ready p.input (units_or_failed p) [] ready ≡ option_map (sorted_source input) coming
   source_begins = (λ i. still_with_ready (begins i).input (units_or_failed (begins i)) [] (nothing i)) ∙ begins_so input coming
 
   pub source_begins_rising : IfSome (still_with_ready p.input (units_or_failed p) [] ready) Ascends
-  source_begins_rising = subst (λ (o : Option (Still VersionData Fault)). IfSome o Ascends) (sym source_begins) (begins_rising input coming)
+  source_begins_rising = subst (λ (o : Option (SourceRest VersionData Fault)). IfSome o Ascends) (sym source_begins) (begins_rising input coming)
 
-  -- A source of which nothing was read gives what the sorted file's source gives.
+  -- A source of which nothing was read gives the same as the sorted file's source.
   pub source_begins_told : still_given (option_map as_set (still_with_ready p.input (units_or_failed p) [] ready))
       ≡ option_map (sorted_source input) coming
   source_begins_told = told_as_set (still_with_ready p.input (units_or_failed p) [] ready) source_begins_rising ∙ source_begins
 
 -- a reading that read bytes before it gave anything
-opens_so : (input : ℕ) (coming : Option Coming) (q : KnownPosition) → GoesOn (beginning input coming) q →
+opens_so : (input : ℕ) (coming : Option InputRest) (q : KnownPosition) → KeepsRest (beginning input coming) q →
     IfSome coming (λ c. still_with_ready q.input (units_or_failed q) [] [] ≡ Some (sorted_source input c))
 opens_so input None q on = tt
 opens_so input (Some c) q on =
-    let fine : units_or_failed q ≡ units_ahead q = ap (λ b. cond b (Some (end_refused (failed_fault q.input))) (units_ahead q)) on.failed in
+    let fine : units_or_failed q ≡ rest_of_units q = ap (λ b. cond b (Some (end_refused (failed_fault q.input))) (rest_of_units q)) on.failed in
     (λ i. still_with_ready (on.input i) ((fine ∙ on.keeps) i) [] []) ∙ ap Some (sym (source_is input c))
 
--- A source that was opened gives what the sorted file's source gives.
-pub source_opens_told : (p q : KnownPosition) (ready : List VersionData) (input : ℕ) (coming : Option Coming) → p ≡ beginning input coming →
-    GoesOn p q → ready ≡ [] → IfSome coming (λ c. still_given (option_map as_set (still_with_ready q.input (units_or_failed q) [] ready))
+-- A source that was opened gives the same as the sorted file's source.
+pub source_opens_told : (p q : KnownPosition) (ready : List VersionData) (input : ℕ) (coming : Option InputRest) → p ≡ beginning input coming →
+    KeepsRest p q → ready ≡ [] → IfSome coming (λ c. still_given (option_map as_set (still_with_ready q.input (units_or_failed q) [] ready))
     ≡ Some (sorted_source input c))
 source_opens_told p q ready input coming begins on nothing =
     let rises : IfSome (still_with_ready q.input (units_or_failed q) [] ready) Ascends =
@@ -281,46 +281,46 @@ source_opens_told p q ready input coming begins on nothing =
     (pending_rises q.input (units_or_failed q) None) in
     weaker coming _ _ (λ c e. told_as_set (still_with_ready q.input (units_or_failed q) [] ready) rises
     ∙ (λ i. still_with_ready q.input (units_or_failed q) [] (nothing i)) ∙ e)
-    (opens_so input coming q (subst (λ (x : KnownPosition). GoesOn x q) begins on))
+    (opens_so input coming q (subst (λ (x : KnownPosition). KeepsRest x q) begins on))
 
 -- A source that can't be opened is refused as the sorted file's source is, or for Memory.
-pub opens_refused : (input : ℕ) (coming : Option Coming) (fault : Fault) (after : Option (Still Placed Fault)) →
+pub opens_refused : (input : ℕ) (coming : Option InputRest) (fault : Fault) (after : Option (SourceRest Placed Fault)) →
     SourceStep {A = Placed} (units_or_failed (beginning input coming)) (Err fault) after
     → (fault ≡ memory_fault) ⊎ IfSome coming (λ c. (sorted_source input c).refusal ≡ Some fault)
 opens_refused input None fault after step = ⊎_elim (λ e. inl e) (λ k. inr tt) step.0
 opens_refused input (Some c) fault after step =
-    ⊎_elim (λ e. inl e) (λ k. inr (ap (λ (s : Still VersionData Fault). s.refusal) (source_is input c)
-    ∙ ap (λ (s : Still Placed Fault). (groups input s.refusal s.list []).refusal) k)) step.0
+    ⊎_elim (λ e. inl e) (λ k. inr (ap (λ (s : SourceRest VersionData Fault). s.refusal) (source_is input c)
+    ∙ ap (λ (s : SourceRest Placed Fault). (groups input s.refusal s.list []).refusal) k)) step.0
 
 -- a call, in terms of sets
-pub step_told : (value : Option StillSet) (before after : Option (Still VersionData Fault)) (r : Result (Option VersionData) Fault) →
+pub step_told : (value : Option StillSet) (before after : Option (SourceRest VersionData Fault)) (r : Result (Option VersionData) Fault) →
     option_map as_set before ≡ value → IfSome before Ascends → IfSome after Ascends → SourceStep before r after
     → SourceStep (still_given value) r (still_given (option_map as_set after))
 step_told value before after r is up on h =
     let first : before ≡ still_given value = sym (told_as_set before up) ∙ ap still_given is in
-    subst (λ (o : Option (Still VersionData Fault)). SourceStep o r (still_given (option_map as_set after))) first
-    (subst (λ (o : Option (Still VersionData Fault)). SourceStep before r o) (sym (told_as_set after on)) h)
+    subst (λ (o : Option (SourceRest VersionData Fault)). SourceStep o r (still_given (option_map as_set after))) first
+    (subst (λ (o : Option (SourceRest VersionData Fault)). SourceStep before r o) (sym (told_as_set after on)) h)
 
 -- a rest that was known is known
-known_by : (o : Option (Still VersionData Fault)) (still : Still VersionData Fault) → still_given (option_map as_set o) ≡ Some still →
+known_by : (o : Option (SourceRest VersionData Fault)) (still : SourceRest VersionData Fault) → still_given (option_map as_set o) ≡ Some still →
     IsKnown o
 known_by None still e = absurd (let f : None ≡ Some still = e in cc)
 known_by (Some s) still e = tt
 
 -- the rest after a step ascends, if the rest before was known
-step_rises : (before after : Option (Still VersionData Fault)) (r : Result (Option VersionData) Fault) → IsKnown before →
+step_rises : (before after : Option (SourceRest VersionData Fault)) (r : Result (Option VersionData) Fault) → IsKnown before →
     IfSome before Ascends → SourceStep before r after → IfSome after Ascends
 step_rises None after r known up h = absurd known
 step_rises (Some s) after (Ok (Some v)) known up h =
-    let P : Option (Still VersionData Fault) → Type 0 = λ o. IfSome o Ascends in
+    let P : Option (SourceRest VersionData Fault) → Type 0 = λ o. IfSome o Ascends in
     let rising : Ascends (front v h.0) = subst Ascends h.1 up in
     subst P (sym h.2) (strict_rest v (h.0).list rising)
 step_rises (Some s) after (Ok None) known up h = whole_rises after h.1
-step_rises (Some s) after (Err fault) known up h = let P : Option (Still VersionData Fault) → Type 0 = λ o. IfSome o Ascends in
+step_rises (Some s) after (Err fault) known up h = let P : Option (SourceRest VersionData Fault) → Type 0 = λ o. IfSome o Ascends in
     subst P (sym h.1.1) nothing_rises
 
 -- a call of a source, over all that its reader can give
-pub file_step : {R : Type 0} (can : R → Coming → Type 0) (s t : FileSourceData R) (r : Result (Option VersionData) Fault) → FileAscends can s →
+pub file_step : {R : Type 0} (can : R → InputRest → Type 0) (s t : FileSourceData R) (r : Result (Option VersionData) Fault) → FileAscends can s →
     t.units.input ≡ s.units.input → FileSteps can s r t
     → SourceSteps (FileCanGive can) s r t
 file_step can s t r up same steps later h =
@@ -334,6 +334,6 @@ file_step can s t r up same steps later h =
     (still_at s.units.input t h.0) r refl (up x.0 x.1) rises x.2 in (
       known_or_whole (given_at s x.0),
       (x.0, x.1, one_given s x.0),
-      subst (λ (o : Option (Still VersionData Fault)). SourceStep o r (Some later)) (one_given s x.0)
-          (subst (λ (o : Option (Still VersionData Fault)). SourceStep (given_at s x.0) r o) after told),
+      subst (λ (o : Option (SourceRest VersionData Fault)). SourceStep o r (Some later)) (one_given s x.0)
+          (subst (λ (o : Option (SourceRest VersionData Fault)). SourceStep (given_at s x.0) r o) after told),
     )

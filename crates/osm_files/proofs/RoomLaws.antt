@@ -1,15 +1,15 @@
--- The bytes of a room from one offset on and before another.
+-- The bytes held in a room: those from one offset on and before another.
 use Rattle.std.proofs.Common.{◌≡◌, ℕ, ◌+◌, ◌-◌, ◌≤◌, List, ◌++◌, length, take, drop, sym, ap, ◌∙◌, arith, drop-drop, take-take}
 use Rattle.std.proofs.lemmas.List.{drop-take, drop-append-le, take-append-le, length-take-le}
 use Rattle.std.proofs.Math.Seq.{take-append-add}
 
 module _ (from end : ℕ) (room : List ℕ) (ordered : from ≤ end) where
-  -- they come after those before the first offset
+  -- the bytes held come after those before the first offset
   pub held_behind : take (end - from) (drop from room) ≡ drop from (take end room)
   held_behind = sym (ap (λ n. drop from (take n room)) (let sum : end ≡ from + (end - from) = omega (arith, ordered) in sum)
       ∙ drop-take from (end - from) room)
 
-  -- some more were read
+  -- the bytes held after `count` of them were skipped
   pub held_skipped : (count : ℕ) → from + count ≤ end →
       take (end - (from + count)) (drop (from + count) room) ≡ drop count (take (end - from) (drop from room))
   held_skipped count within =
@@ -17,7 +17,7 @@ module _ (from end : ℕ) (room : List ℕ) (ordered : from ≤ end) where
       ap (λ xs. take (end - (from + count)) xs) (sym (drop-drop count from room))
       ∙ sym (ap (λ n. drop count (take n (drop from room))) size ∙ drop-take count (end - (from + count)) (drop from room))
 
-  -- another room has the same bytes up to the end, and others after it
+  -- the same bytes are held in another room that has the same bytes up to `end`
   pub held_kept : (other : List ℕ) → take end other ≡ take end room →
       take (end - from) (drop from other) ≡ take (end - from) (drop from room)
   held_kept other same =

@@ -6,14 +6,14 @@ use Rattle.std.proofs.Math.Seq.{take-append-add}
 use Rattle.std.specs.List.Sorted.{IsStrictlySortedBy}
 use Rattle.osm_model.specs.Data.{VersionData}
 use Rattle.osm_model.specs.Order.{version_cmp}
-use Rattle.o5_codec.specs.Encoder.{Written, initial_written}
+use Rattle.o5_codec.specs.Encoder.{WriterState, initial_writer}
 use Rattle.osm_files.specs.declared.fault.Fault.{Fault}
 use Rattle.osm_files.specs.declared.format.Format.{Format}
 use Rattle.osm_files.specs.declared.output.Output.{Ghosts}
 use Rattle.osm_files.specs.Fault.{write_fault}
 use Rattle.osm_files.specs.Output.{Change, Appends}
 use Rattle.osm_files.specs.Change.{change_of}
-use Rattle.osm_files.specs.Spell.{file_start, file_end, version_bytes, written_with_all, versions_bytes, open_file_bytes, spell_list}
+use Rattle.osm_files.specs.Spell.{file_start, file_end, version_bytes, writer_with_all, versions_bytes, open_file_bytes, spell_list}
 use Rattle.osm_files.specs.Sink.{SinkState, MayFollow, new_sink, Sent, NotSent, Calls, WhyCut, CutShort, WritesFile}
 use Rattle.osm_files.specs.Sink.{after_begin, after_put, after_end, same_sink, HasPut}
 use Rattle.osm_files.specs.SpellLaws.{Puts, CallsAreSpelled}
@@ -88,7 +88,7 @@ module _ (output : ℕ) (change : Change) where
   pub cut_before_end : (format : Format) (vs others : List VersionData) (fault : Fault)
       → CutShort output change (open_file_bytes format vs) fault → CutShort output change (spell_list format (vs ++ others)) fault
   cut_before_end format vs others fault h =
-      let rest = versions_bytes format (written_with_all format initial_written vs) others ++ file_end format in
+      let rest = versions_bytes format (writer_with_all format initial_writer vs) others ++ file_end format in
       subst (λ (x : List ℕ). CutShort output change x fault) (sym (list_split format vs others))
       (cut_in (open_file_bytes format vs) rest fault h)
 
@@ -103,9 +103,9 @@ pub parts_at : (xs : List VersionData) (i : ℕ) (v : VersionData) → i < lengt
 parts_at xs i v within is = ap (λ x. x ++ drop (i + 1) xs) (front_at xs i v within is) ∙ take-append-drop (i + 1) xs
 
 -- ---- the calls
-abbrev at_front : Format → ℕ → Written → ℕ → SinkState
+abbrev at_front : Format → ℕ → WriterState → ℕ → SinkState
 at_front format number encoder written =
-    record { format = format; number = number; encoder = encoder; written = written; begun = true; ended = false; failed = false }
+    record { format = format; number = number; encoder = encoder; written = written; has_begun = true; ended = false; failed = false }
 
 module _ (format : Format) (number : ℕ) where
   module _ (s0 : SinkState) (new : s0 ≡ new_sink format number) (s : SinkState) (change : Change) where
@@ -118,7 +118,7 @@ module _ (format : Format) (number : ℕ) where
         let k = subst (Begins (Ok tt)) new h in
         let same : open_file_bytes format [] ≡ file_start format = append-nil (file_start format) in
         record {
-          state = k.1 ∙ ap (at_front format number initial_written) (zero-add (length (file_start format)) ∙ ap length (sym same));
+          state = k.1 ∙ ap (at_front format number initial_writer) (zero-add (length (file_start format)) ∙ ap length (sym same));
           sent = subst (Sent change 0) (sym same) k.0;
         }
 
@@ -132,7 +132,7 @@ module _ (format : Format) (number : ℕ) where
   module _ {O : Type 0} (w : Ghosts O) (versions : List VersionData) (before mid : O) (s : SinkState)
       (has : HasPut format number versions (change_of w before mid) s) where
     abbrev one_more : VersionData → List ℕ
-    one_more v = version_bytes format (written_with_all format initial_written versions) v
+    one_more v = version_bytes format (writer_with_all format initial_writer versions) v
 
     abbrev PutCall : VersionData → SinkState → O → Result (Unit {0}) Fault → SinkState → Type 0
     PutCall v t now r x = Calls x t (after_put v) (change_of w mid now) (version_bytes x.format x.encoder v) r
@@ -146,7 +146,7 @@ module _ (format : Format) (number : ℕ) where
     put_ok v t now h =
         let k = subst (PutCall v t now (Ok tt)) has.state h in
         let more = open_more format versions v in
-        let behind = behind_append format initial_written versions (v ∷ []) in
+        let behind = behind_append format initial_writer versions (v ∷ []) in
         let long : length (open_file_bytes format versions) + length (one_more v) ≡ length (open_file_bytes format (versions ++ v ∷ [])) =
         sym (length-append (open_file_bytes format versions) (one_more v)) ∙ ap length (sym more) in
         record {
@@ -187,9 +187,9 @@ pub may_put : (format : Format) (number : ℕ) (xs : List VersionData) (i : ℕ)
     → IsStrictlySortedBy version_cmp xs → i < length xs → v ≡ get_or xs i v
     → HasPut format number (take i xs) change s → MayFollow v s.encoder
 may_put format number xs i v change s sorted within is has =
-    let front : Written = written_with_all format initial_written (take i xs) in
+    let front : WriterState = writer_with_all format initial_writer (take i xs) in
     let follows : MayFollow v front = subst (λ (x : VersionData). MayFollow x front) (sym is) (may_follow format xs i v sorted within) in
-    subst (λ (w : Written). MayFollow v w) (sym (ap (λ x. x.encoder) has.state)) follows
+    subst (λ (w : WriterState). MayFollow v w) (sym (ap (λ x. x.encoder) has.state)) follows
 
 -- ---- the calls as a law
 module _ {O : Type 0} (w : Ghosts O) (format : Format) (number : ℕ) where

@@ -12,10 +12,10 @@ use Rattle.osm_files.specs.declared.reason.Reason.TheVariants.{Unsorted}
 use Rattle.osm_files.specs.Fault.{memory_fault, fault_at}
 use Rattle.osm_files.specs.Groups.{to_ascending, list_of, still_with_ready, still_at, FileSourceData, source_data, FileSteps, IsOpenSource, Gathers}
 use Rattle.osm_files.specs.Groups.{RefusesGroup, BeginsOn, GathersOn, RefusesOn}
-use Rattle.osm_files.specs.Input.{Coming}
+use Rattle.osm_files.specs.Input.{InputRest}
 use Rattle.osm_files.specs.Position.{Position, KnownPosition, with_coming, Between, units_or_failed, Keeps}
 use Rattle.osm_files.specs.Source.{Ascends, SourceStep, StepsOn}
-use Rattle.osm_files.specs.Stream.{Placed, Still}
+use Rattle.osm_files.specs.Stream.{Placed, SourceRest}
 use Rattle.osm_files.proofs.FillLaws.{kept, keeps_on}
 use Rattle.osm_files.proofs.GroupLaws.{step_on, refused_step, gives_first, ascending_one, ends_group, begins_next, joins_group}
 use Rattle.osm_files.proofs.GroupLaws.{refuses_read, refuses_unsorted}
@@ -23,13 +23,13 @@ use Rattle.osm_files.proofs.ReaderLaws.{unread}
 use Rattle.osm_files.proofs.RiseLaws.{pending_rises, rest_rises, gathers_rise}
 
 -- a call that is refused, after which nothing is ready
-refused_at : (input : ℕ) (before : Option (Still VersionData Fault)) (p : KnownPosition) (group ready : List VersionData) (fault : Fault) →
+refused_at : (input : ℕ) (before : Option (SourceRest VersionData Fault)) (p : KnownPosition) (group ready : List VersionData) (fault : Fault) →
     ready ≡ [] → RefusesGroup before fault (units_or_failed p) → SourceStep before (Err fault) (still_with_ready input (units_or_failed p) group ready)
 refused_at input before p group ready fault none refuses =
     subst (λ (xs : List VersionData). SourceStep before (Err fault) (still_with_ready input (units_or_failed p) group xs)) (sym none)
     (refused_step input before (units_or_failed p) group fault refuses)
 
-module _ {R : Type 0} (can : R → Coming → Type 0) where
+module _ {R : Type 0} (can : R → InputRest → Type 0) where
   -- if nothing is ready, and at most one version was read of the next group
   pub open_source : (units : Position R) (pending : Option VersionData) (ready : List VersionData) → ready ≡ [] →
       IsOpenSource can (source_data units (option_to_list pending) ready)
@@ -85,33 +85,33 @@ module _ {R : Type 0} (can : R → Coming → Type 0) where
       (subst (λ (xs : List VersionData). FileSteps can (source_data s.units s.group []) (Ok None) (source_data t.units [] xs)) (sym none) begins))
 
   -- a group was read, and the version after it
-  module _ (p : Position R) (begun : Group) (q : Position R) (group : Group) (next : Option VersionData)
-      (gathers : GathersOn can p begun q group next) where
+  module _ (p : Position R) (has_begun : Group) (q : Position R) (group : Group) (next : Option VersionData)
+      (gathers : GathersOn can p has_begun q group next) where
     -- A group that can't be listed is refused for Memory.
     pub gathered_memory : (fault : Fault) (r : Position R) (ready : List VersionData) → fault ≡ memory_fault →
-        r ≡ record q { failed = true } → ready ≡ [] → FileSteps can (source_data p (list_of begun) []) (Err fault)
+        r ≡ record q { failed = true } → ready ≡ [] → FileSteps can (source_data p (list_of has_begun) []) (Err fault)
         (source_data r (option_to_list next) ready)
     gathered_memory fault r ready is failed none later k =
         let y = gathers later (subst (λ c. can c later) (ap (λ v. v.coming) failed) k) in (
           y.0,
           y.1,
-          refused_at p.input (still_with_ready p.input (units_or_failed (with_coming p y.0)) (list_of begun) []) (with_coming r later)
+          refused_at p.input (still_with_ready p.input (units_or_failed (with_coming p y.0)) (list_of has_begun) []) (with_coming r later)
               (option_to_list next) ready fault none
               (inl is, (q.input, ap (λ (v : Position R). units_or_failed (with_coming v later)) failed)),
         )
 
-    gives : (before after : Option (Still Placed Fault)) (o : Option VersionData) (ready : List VersionData) →
-        to_ascending (begun.first ∷ group.others.items) ≡ option_to_list o ++ ready → is_some o ≡ true →
-        Gathers p.input before begun.others.items after begun.first group.others.items next
-        → SourceStep (still_with_ready p.input before (list_of begun) []) (Ok o) (still_with_ready p.input after (option_to_list next) ready)
+    gives : (before after : Option (SourceRest Placed Fault)) (o : Option VersionData) (ready : List VersionData) →
+        to_ascending (has_begun.first ∷ group.others.items) ≡ option_to_list o ++ ready → is_some o ≡ true →
+        Gathers p.input before has_begun.others.items after has_begun.first group.others.items next
+        → SourceStep (still_with_ready p.input before (list_of has_begun) []) (Ok o) (still_with_ready p.input after (option_to_list next) ready)
     gives before after None ready e some h = absurd (false≢true some)
-    gives before after (Some v) ready e some h = gives_first p.input before begun.others.items after begun.first group.others.items next v
+    gives before after (Some v) ready e some h = gives_first p.input before has_begun.others.items after has_begun.first group.others.items next v
         ready h e
 
     module _ (given : Option VersionData) (ready : List VersionData)
-        (all : to_ascending (begun.first ∷ group.others.items) ≡ option_to_list given ++ ready) where
+        (all : to_ascending (has_begun.first ∷ group.others.items) ≡ option_to_list given ++ ready) where
       -- The first version of a group that was gathered is given.
-      pub gathered_given : is_some given ≡ true → FileSteps can (source_data p (list_of begun) []) (Ok given)
+      pub gathered_given : is_some given ≡ true → FileSteps can (source_data p (list_of has_begun) []) (Ok given)
           (source_data q (option_to_list next) ready)
       gathered_given some later k =
           let y = gathers later k in
@@ -122,10 +122,10 @@ module _ {R : Type 0} (can : R → Coming → Type 0) where
       gathered_open number fine = (
         λ later k.
             let y = gathers later k in
-            let up = gathers_rise p.input (units_or_failed (with_coming p y.0)) begun.others.items
-            (units_or_failed (with_coming q later)) begun.first group.others.items next y.2 in
+            let up = gathers_rise p.input (units_or_failed (with_coming p y.0)) has_begun.others.items
+            (units_or_failed (with_coming q later)) has_begun.first group.others.items next y.2 in
             let at_q = subst (λ (i : ℕ). IfSome (still_with_ready i (units_or_failed (with_coming q later)) (option_to_list next)
-            (to_ascending (begun.first ∷ group.others.items))) Ascends) (sym number) up in
+            (to_ascending (has_begun.first ∷ group.others.items))) Ascends) (sym number) up in
             rest_rises q.input (units_or_failed (with_coming q later)) (option_to_list next) given ready
             (subst (λ (xs : List VersionData). IfSome (still_with_ready q.input (units_or_failed (with_coming q later)) (option_to_list next) xs)
             Ascends) all at_q),
@@ -135,13 +135,13 @@ module _ {R : Type 0} (can : R → Coming → Type 0) where
   -- ---- the second version, after the first of a group
   module _ (s : FileSourceData R) (nothing : s.ready ≡ []) (b : Position R) (first : VersionData)
       (begins : BeginsOn can s.units s.group (Ok (Some first)) b) where
-    abbrev start : Coming → Option (Still VersionData Fault)
+    abbrev start : InputRest → Option (SourceRest VersionData Fault)
     start c = still_at s.units.input s c
 
-    abbrev given_from : KnownPosition → List VersionData → Option (Still VersionData Fault)
+    abbrev given_from : KnownPosition → List VersionData → Option (SourceRest VersionData Fault)
     given_from p group = still_with_ready s.units.input (units_or_failed p) group []
 
-    -- a call after the first version is one from the state of the source before it
+    -- a call from the state after the first version was read is a call from the state before
     behind_first : (t : FileSourceData R) (r : Result (Option VersionData) Fault) (P : KnownPosition → KnownPosition → Type 0) → Between can b t.units P
         → ((p q : KnownPosition) → P p q → SourceStep (given_from p (first ∷ [])) r (still_with_ready s.units.input (units_or_failed q) t.group t.ready)) →
         FileSteps can s r t

@@ -26,11 +26,11 @@ use Rattle.osm_model.proofs.VersionLaws.{version_cmp-IsAntisymmetric, to_list-vi
 use Rattle.opl_line.specs.Delimiter.{split_all, is_line_end, pieces_of, split_first}
 use Rattle.opl_line.specs.Spells.{Spells}
 use Rattle.opl_line.proofs.CutLaws.{cut_split, split_front}
-use Rattle.opl_line.proofs.WholeLineLaws.{line_stands_in_one, line_spells_its_version}
+use Rattle.opl_line.proofs.WholeLineLaws.{line_is_in_one_file, line_spells_its_version}
 use Rattle.o5_codec.specs.declared.segment.Segment.{Segment}
 use Rattle.o5_codec.specs.Decoder.{new_segment}
-use Rattle.o5_codec.specs.Encoder.{Written, initial_written, reset_before, type_byte as set_type, written_after, spelled_set}
-use Rattle.o5_codec.specs.WritingLaws.{segment_for, SetsStand, spelled_sets}
+use Rattle.o5_codec.specs.Encoder.{WriterState, initial_writer, reset_before, type_byte as set_type, writer_after, spelled_set}
+use Rattle.o5_codec.specs.WritingLaws.{segment_for, SetsInAll, spelled_sets}
 use Rattle.o5_codec.proofs.WrittenLists.{lists_read}
 use Rattle.osm_files.specs.declared.format.Format.{Format}
 use Rattle.osm_files.specs.declared.format.Format.TheVariants.{Opl, O5m, O5c}
@@ -38,12 +38,12 @@ use Rattle.osm_files.specs.Opl.{is_read, OplFile}
 use Rattle.osm_files.specs.O5.{o5m_header, o5c_header, end_byte, reset_byte, type_byte, FilePart, Reset, Object, part_bytes, PartsSpell, O5File}
 use Rattle.osm_files.specs.Units.{FileStateData, InOpl, BeforeHeader, start_of}
 use Rattle.osm_files.specs.Held.{IsFile, IsFileOf, Holds}
-use Rattle.osm_files.specs.Spell.{written_with, written_with_all, file_end, versions_bytes, spell_list, spell}
+use Rattle.osm_files.specs.Spell.{writer_with, writer_with_all, file_end, versions_bytes, spell_list, spell}
 use Rattle.osm_files.specs.Sink.{MayFollow}
 use Rattle.osm_files.specs.Verdict.{file_units, versions_of, held_by, verdict}
 use Rattle.osm_files.specs.SpellLaws.{AreVersions, SpellHoldsItsSet, HeldWithoutVerdict, SpellHasNoVerdict, HeldIsOneSet, SpelledIsHeld}
 use Rattle.osm_files.specs.SpellLaws.{joined_file, JoinInAnyOrder, JoinRepeated, JoinInAnyGrouping, FilesJoinInAnyGrouping, HeldAreVersions}
-use Rattle.osm_files.specs.SpellLaws.{UnionsAreVersions, EachMayFollow, ListIsSpelledAsItsSet, FirstVersionsStandInFront}
+use Rattle.osm_files.specs.SpellLaws.{UnionsAreVersions, EachMayFollow, ListIsSpelledAsItsSet, FirstVersionsAreAFront}
 use Rattle.osm_files.proofs.FileLaws.{one_list, files_are_read, accepted_without_verdict}
 use Rattle.osm_files.proofs.RangeLaws.{files_hold_versions}
 use Rattle.osm_files.proofs.SpellSteps.{first_so, then_greater, may_follow, list_split}
@@ -55,18 +55,18 @@ cut_line front rest none =
     let split : split_first is_line_end (front ++ 10 ∷ rest) ≡ (front, Some rest) = split_front is_line_end front rest 10 none refl in
     cut_split is_line_end (front ++ 10 ∷ rest) ∙ ap (λ s. s.0 ∷ pieces_of is_line_end s.1) split
 
-lines_file : (w : Written) (versions : List VersionData) → All IsVersion versions → OplFile (versions_bytes Opl w versions) versions
+lines_file : (w : WriterState) (versions : List VersionData) → All IsVersion versions → OplFile (versions_bytes Opl w versions) versions
 lines_file w [] valid = tt
 lines_file w (v ∷ versions) valid =
-    let rest : List ℕ = versions_bytes Opl (written_with Opl w v) versions in
-    let alone = line_stands_in_one v in
+    let rest : List ℕ = versions_bytes Opl (writer_with Opl w v) versions in
+    let alone = line_is_in_one_file v in
     let pieces : split_all is_line_end ((line v ++ 10 ∷ []) ++ rest) ≡ line v ∷ split_all is_line_end rest =
     ap (split_all is_line_end) (append_assoc (line v) (10 ∷ []) rest) ∙ cut_line (line v) rest alone.0 in
     let kept : filter is_read (line v ∷ split_all is_line_end rest) ≡ line v ∷ filter is_read (split_all is_line_end rest) = rw alone.1 refl in
     let P : List (List ℕ) → Type 0 = λ ls. Pairwise Spells ls (v ∷ versions) in
     subst P (sym (ap (filter is_read) pieces ∙ kept)) (
       (line_spells_its_version v (valid 0 v (omega arith))).spelled,
-      lines_file (written_with Opl w v) versions (λ k d inside. valid (suc k) d (omega (arith, inside))),
+      lines_file (writer_with Opl w v) versions (λ k d inside. valid (suc k) d (omega (arith, inside))),
     )
 
 -- ---- data sets
@@ -83,7 +83,7 @@ with_reset : (begins : Bool) (s : Segment) (bytes : List ℕ) (versions : List V
 with_reset true s bytes versions h = (Reset ∷ h.0, ap (λ x. 255 ∷ x) h.1, h.2)
 with_reset false s bytes versions h = h
 
-parts_of : (versions : List VersionData) (s : Segment) (bytes : List ℕ) → SetsStand s bytes versions → PartsOf s bytes versions
+parts_of : (versions : List VersionData) (s : Segment) (bytes : List ℕ) → SetsInAll s bytes versions → PartsOf s bytes versions
 parts_of [] s bytes h = ([], h, refl)
 parts_of (v ∷ versions) s bytes (begins, set, x, after, is, section, spells, more) =
     let later = parts_of versions after x.1 more in
@@ -96,25 +96,25 @@ parts_of (v ∷ versions) s bytes (begins, set, x, after, is, section, spells, m
     (Object k size x.0 ∷ later.0, whole, (section.1, (v, after, versions, refl, spells, later.2))) in
     subst (λ (y : List ℕ). PartsOf s y (v ∷ versions)) (sym is) (with_reset begins s (set_type k ∷ set) (v ∷ versions) here)
 
-same_sets : (w : Written) (versions : List VersionData) → versions_bytes O5m w versions ≡ spelled_sets w versions
+same_sets : (w : WriterState) (versions : List VersionData) → versions_bytes O5m w versions ≡ spelled_sets w versions
 same_sets w [] = refl
-same_sets w (v ∷ versions) = ap (λ x. spelled_set w v ++ x) (same_sets (written_after w v) versions)
+same_sets w (v ∷ versions) = ap (λ x. spelled_set w v ++ x) (same_sets (writer_after w v) versions)
 
-same_in_both : (w : Written) (versions : List VersionData) → versions_bytes O5c w versions ≡ versions_bytes O5m w versions
+same_in_both : (w : WriterState) (versions : List VersionData) → versions_bytes O5c w versions ≡ versions_bytes O5m w versions
 same_in_both w [] = refl
-same_in_both w (v ∷ versions) = ap (λ x. spelled_set w v ++ x) (same_in_both (written_after w v) versions)
+same_in_both w (v ∷ versions) = ap (λ x. spelled_set w v ++ x) (same_in_both (writer_after w v) versions)
 
 -- ---- whole files
 sets_file : (header : List ℕ) (versions : List VersionData) → (header ≡ o5m_header) ⊎ (header ≡ o5c_header) → All IsVersion versions →
-    length (spelled_sets initial_written versions) < 2 ^ 64
-    → O5File ((header ++ spelled_sets initial_written versions) ++ end_byte ∷ []) versions
+    length (spelled_sets initial_writer versions) < 2 ^ 64
+    → O5File ((header ++ spelled_sets initial_writer versions) ++ end_byte ∷ []) versions
 sets_file header versions begins valid small =
-    let h = parts_of versions new_segment (spelled_sets initial_written versions) (lists_read versions valid small).0 in
+    let h = parts_of versions new_segment (spelled_sets initial_writer versions) (lists_read versions valid small).0 in
     record {
       header = header;
       parts = h.0;
       begins = begins;
-      whole = append_assoc header (spelled_sets initial_written versions) (end_byte ∷ []) ∙ ap (λ x. header ++ (x ++ end_byte ∷ [])) h.1;
+      whole = append_assoc header (spelled_sets initial_writer versions) (end_byte ∷ []) ∙ ap (λ x. header ++ (x ++ end_byte ∷ [])) h.1;
       spelled = h.2;
     }
 
@@ -123,7 +123,7 @@ letter_is_no_reset kind.Node = refl
 letter_is_no_reset kind.Way = refl
 letter_is_no_reset kind.Relation = refl
 
-lines_start : (w : Written) (versions : List VersionData) → start_of (versions_bytes Opl w versions) ≡ InOpl
+lines_start : (w : WriterState) (versions : List VersionData) → start_of (versions_bytes Opl w versions) ≡ InOpl
 unfolding line
 lines_start w [] = refl
 lines_start w (v ∷ versions) = ap (λ t. cond t BeforeHeader InOpl) (letter_is_no_reset (kind_of v.body))
@@ -134,20 +134,20 @@ small_sets header sets short = omega (arith, short, length-append (header ++ set
 spelled_file : (f : Format) (versions : List VersionData) → All IsVersion versions → length (spell_list f versions) < 2 ^ 62 →
     IsFile (spell_list f versions) versions
 spelled_file Opl versions valid short =
-    let lines : List ℕ = versions_bytes Opl initial_written versions in
-    let file : IsFile lines versions = subst (λ (stand : FileStateData). IsFileOf stand lines versions) (sym (lines_start initial_written versions))
-    (lines_file initial_written versions valid) in
+    let lines : List ℕ = versions_bytes Opl initial_writer versions in
+    let file : IsFile lines versions = subst (λ (stage : FileStateData). IsFileOf stage lines versions) (sym (lines_start initial_writer versions))
+    (lines_file initial_writer versions valid) in
     subst (λ (bytes : List ℕ). IsFile bytes versions) (sym (append-nil lines)) file
 spelled_file O5m versions valid short =
-    let same = same_sets initial_written versions in
+    let same = same_sets initial_writer versions in
     let small = subst (λ (sets : List ℕ). length sets < 2 ^ 64) same
-    (small_sets o5m_header (versions_bytes O5m initial_written versions) short) in
+    (small_sets o5m_header (versions_bytes O5m initial_writer versions) short) in
     subst (λ (sets : List ℕ). O5File ((o5m_header ++ sets) ++ end_byte ∷ []) versions) (sym same)
     (sets_file o5m_header versions (inl refl) valid small)
 spelled_file O5c versions valid short =
-    let same = same_in_both initial_written versions ∙ same_sets initial_written versions in
+    let same = same_in_both initial_writer versions ∙ same_sets initial_writer versions in
     let small = subst (λ (sets : List ℕ). length sets < 2 ^ 64) same
-    (small_sets o5c_header (versions_bytes O5c initial_written versions) short) in
+    (small_sets o5c_header (versions_bytes O5c initial_writer versions) short) in
     subst (λ (sets : List ℕ). O5File ((o5c_header ++ sets) ++ end_byte ∷ []) versions) (sym same)
     (sets_file o5c_header versions (inr refl) valid small)
 
@@ -258,7 +258,7 @@ unions_are_versions a b valid others =
     are_versions (union a b) (λ x h. elim (either (holds_one a x) (holds_one b x)
     (sym (in_both a b x) ∙ h)) [ inl left ↦ member_is a x valid left | inr right ↦ member_is b x others right ])
 
--- and so are those of a part
+-- a part of a set of versions is a set of versions
 pub are_fewer : (a b : VersionSet) → AreVersions a → ((q : VersionData) → contains b q ≡ true → contains a q ≡ true) → AreVersions b
 are_fewer a b valid part = are_versions b (λ x h. member_is a x valid (part x h))
 
@@ -292,7 +292,7 @@ each_may_follow f versions others v sorted =
     let within : length versions < length xs = omega (arith, length-append versions (v ∷ others)) in
     let at : get_or xs (length versions) v ≡ v = get_or-append_seam versions v others v in
     let front : take (length versions) xs ≡ versions = take-append_seam versions (v ∷ others) in
-    let P : VersionData → List VersionData → Type 0 = λ x ys. MayFollow x (written_with_all f initial_written ys) in
+    let P : VersionData → List VersionData → Type 0 = λ x ys. MayFollow x (writer_with_all f initial_writer ys) in
     subst (λ (ys : List VersionData). P v ys) front (subst (λ (x : VersionData). P x (take (length versions) xs)) at
     (may_follow f xs (length versions) v sorted within))
 
@@ -301,9 +301,9 @@ pub list_spelled : ListIsSpelledAsItsSet
 list_spelled f versions sorted = ap (spell_list f) (sym (to_list-view versions sorted))
 
 -- The file of the first versions of a list is a front of the list's file, without the mark of its end.
-pub first_in_front : FirstVersionsStandInFront
+pub first_in_front : FirstVersionsAreAFront
 first_in_front f versions others = (
-  versions_bytes f (written_with_all f initial_written versions) others ++ file_end f,
+  versions_bytes f (writer_with_all f initial_writer versions) others ++ file_end f,
   list_split f versions others,
 )
 
@@ -324,7 +324,7 @@ reading_holds bytes s h =
     let file = accepted_without_verdict bytes h.0 in
     record { short = file.0; versions = versions_of (file_units bytes).list; file = file.1; members = h.1 }
 
--- Bytes hold a set if and only if they have no verdict and it is the set of their units.
+-- Bytes hold a set exactly if they have no verdict and the set has the versions of their units.
 pub held_without_verdict : HeldWithoutVerdict
 held_without_verdict bytes s = (holds_reading bytes s, reading_holds bytes s)
 

@@ -15,7 +15,7 @@ use Rattle.o5_codec.specs.Number.{groups_at, number_at, with_low, within_word}
 use Rattle.o5_codec.specs.Decoder.{new_segment}
 use Rattle.osm_files.specs.declared.reason.Reason.TheVariants.{BadHeader}
 use Rattle.osm_files.specs.O5.{end_byte, reset_byte, is_lone, kind_of_type}
-use Rattle.osm_files.specs.Units.{FileStateData, InOpl, BeforeHeader, InSegment, BehindEnd, FileUnit, unit, no_version, line_unit, header_unit}
+use Rattle.osm_files.specs.Units.{FileStateData, InOpl, BeforeHeader, InSegment, PastEnd, FileUnit, unit, no_version, line_unit, header_unit}
 use Rattle.osm_files.specs.Units.{is_header, content_found, is_last, is_ended, length_at, sized_unit, segment_unit, unit_after_end, unit_at}
 use Rattle.osm_files.proofs.UnitLaws.{some_is_not_none}
 use Rattle.osm_files.proofs.PartLaws.{length_found}
@@ -144,7 +144,7 @@ Length = Option Number
 length_stays : (bytes more : List ℕ) → is_ended bytes ≡ true → length_at (bytes ++ more) ≡ Some (and_more more (number_at bytes))
 length_stays bytes more ended = rw (ends_more bytes more ended, number_stays bytes more ended) refl
 
--- the bytes of a data set
+-- the unit of a data set stays the same with more bytes after it
 sized_more : (s : Segment) (b : ℕ) (bytes more : List ℕ) (u : FileUnit) (x : Number) → length_at bytes ≡ Some x →
     sized_unit s b bytes (Some x) ≡ Some u → sized_unit s b (bytes ++ more) (Some (and_more more x)) ≡ Some u
 sized_more s b bytes more u (Err reason) at e = e
@@ -174,10 +174,10 @@ segment_stays : (s : Segment) (bytes more : List ℕ) → Stays (segment_unit s)
 segment_stays s [] more u e = absurd (some_is_not_none u (sym e))
 segment_stays s (b ∷ bytes) more u e =
     let set = set_by s b bytes more u (is_ended bytes) refl in
-    elim (b == end_byte) as (λ t. cond t (Some (unit 1 (no_version BehindEnd)))
+    elim (b == end_byte) as (λ t. cond t (Some (unit 1 (no_version PastEnd)))
     (cond (b == reset_byte) (Some (unit 1 (no_version (InSegment new_segment))))
     (cond (is_lone b) (Some (unit 1 (no_version (InSegment s)))) (sized_unit s b bytes (length_at bytes)))) ≡ Some u
-    → cond t (Some (unit 1 (no_version BehindEnd))) (cond (b == reset_byte) (Some (unit 1 (no_version (InSegment new_segment))))
+    → cond t (Some (unit 1 (no_version PastEnd))) (cond (b == reset_byte) (Some (unit 1 (no_version (InSegment new_segment))))
     (cond (is_lone b) (Some (unit 1 (no_version (InSegment s)))) (sized_unit s b (bytes ++ more) (length_at (bytes ++ more))))) ≡ Some u) [
       | true ↦ λ f. f
       | false ↦ elim (b == reset_byte) as (λ t. cond t (Some (unit 1 (no_version (InSegment new_segment))))
@@ -200,9 +200,9 @@ behind_stays [] more u e = absurd (some_is_not_none u (sym e))
 behind_stays (b ∷ bytes) more u e = e
 
 -- A whole unit stays the same, whatever bytes follow it.
-pub unit_stays : (stand : FileStateData) (bytes more : List ℕ) → Stays (unit_at stand) bytes more
+pub unit_stays : (stage : FileStateData) (bytes more : List ℕ) → Stays (unit_at stage) bytes more
 unfolding unit_at
 unit_stays InOpl bytes more = line_stays bytes more
 unit_stays BeforeHeader bytes more = header_stays bytes more
 unit_stays (InSegment s) bytes more = segment_stays s bytes more
-unit_stays BehindEnd bytes more = behind_stays bytes more
+unit_stays PastEnd bytes more = behind_stays bytes more

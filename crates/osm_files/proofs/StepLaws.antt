@@ -8,9 +8,9 @@ use Rattle.o5_codec.specs.declared.reason.O5Reason.{O5Reason}
 use Rattle.o5_codec.specs.declared.segment.Segment.{Segment}
 use Rattle.o5_codec.specs.Decoder.{new_segment}
 use Rattle.osm_files.specs.declared.reason.Reason.TheVariants.{BadHeader}
-use Rattle.osm_files.specs.Stream.{Verdict, Placed, Still}
+use Rattle.osm_files.specs.Stream.{Verdict, Placed, SourceRest}
 use Rattle.osm_files.specs.O5.{end_byte, reset_byte, is_lone, kind_of_type}
-use Rattle.osm_files.specs.Units.{FileStateData, InOpl, BeforeHeader, InSegment, BehindEnd, UnitResult, FileUnit, unit, no_version, line_unit, line_found}
+use Rattle.osm_files.specs.Units.{FileStateData, InOpl, BeforeHeader, InSegment, PastEnd, UnitResult, FileUnit, unit, no_version, line_unit, line_found}
 use Rattle.osm_files.specs.Units.{header_unit, is_header, content_found, length_at, sized_unit, segment_unit, unit_after_end, unit_at, last_at}
 use Rattle.osm_files.specs.Units.{found_then, final_units, unit_then, units_within, units}
 use Rattle.osm_files.proofs.UnitLaws.{splits, SplitsAs, some_is_not_none}
@@ -63,7 +63,7 @@ set_sized s b bytes (Some (Ok (size, behind))) e =
 segment_sized : (s : Segment) (bytes : List ℕ) → Sizes bytes (segment_unit s bytes)
 segment_sized s [] = none_sized []
 segment_sized s (b ∷ bytes) =
-    elim (b == end_byte) as (λ t. Sizes (b ∷ bytes) (cond t (Some (unit 1 (no_version BehindEnd)))
+    elim (b == end_byte) as (λ t. Sizes (b ∷ bytes) (cond t (Some (unit 1 (no_version PastEnd)))
     (cond (b == reset_byte) (Some (unit 1 (no_version (InSegment new_segment))))
     (cond (is_lone b) (Some (unit 1 (no_version (InSegment s)))) (sized_unit s b bytes (length_at bytes)))))) [
       | true ↦ some_sized (b ∷ bytes) 1 _ (omega arith) (omega arith)
@@ -84,15 +84,15 @@ behind_sized [] = none_sized []
 behind_sized (b ∷ bytes) = some_sized (b ∷ bytes) 1 _ (omega arith) (omega arith)
 
 -- A whole unit has a byte at least, and no more than there are.
-pub unit_sized : (stand : FileStateData) (bytes : List ℕ) → Sizes bytes (unit_at stand bytes)
+pub unit_sized : (stage : FileStateData) (bytes : List ℕ) → Sizes bytes (unit_at stage bytes)
 unfolding unit_at
 unit_sized InOpl bytes = line_sized bytes (split_first is_line_end bytes) (splits is_line_end bytes)
 unit_sized BeforeHeader bytes = header_sized bytes
 unit_sized (InSegment s) bytes = segment_sized s bytes
-unit_sized BehindEnd bytes = behind_sized bytes
+unit_sized PastEnd bytes = behind_sized bytes
 
--- What follows a unit may be replaced by its equal.
-pub found_same : (place : ℕ) (found : UnitResult) (more others : FileStateData → Still Placed Verdict) → ((next : FileStateData) → more next ≡ others next) →
+-- The units after a unit may be replaced by equal ones.
+pub found_same : (place : ℕ) (found : UnitResult) (more others : FileStateData → SourceRest Placed Verdict) → ((next : FileStateData) → more next ≡ others next) →
     found_then place found more ≡ found_then place found others
 found_same place (Err reason) more others same = refl
 found_same place (Ok (None, next)) more others same = same next
@@ -101,50 +101,50 @@ found_same place (Ok (Some v, next)) more others same =
 
 module _ (close : Option Verdict) where
   abbrev Same : ℕ → ℕ → Type 0
-  Same n m = (stand : FileStateData) (place : ℕ) (bytes : List ℕ) → length bytes ≤ n → length bytes ≤ m →
-      units_within n close stand place bytes ≡ units_within m close stand place bytes
+  Same n m = (stage : FileStateData) (place : ℕ) (bytes : List ℕ) → length bytes ≤ n → length bytes ≤ m →
+      units_within n close stage place bytes ≡ units_within m close stage place bytes
 
   -- a bound on the number of units that is enough
-  then_same : (n m : ℕ) → Same n m → (stand : FileStateData) (place : ℕ) (bytes : List ℕ) → length bytes ≤ suc n → length bytes ≤ suc m →
-      (found : Option FileUnit) → unit_at stand bytes ≡ found
-      → unit_then close stand place bytes (units_within n close) found ≡ unit_then close stand place bytes (units_within m close) found
-  then_same n m on stand place bytes few less None e = refl
-  then_same n m on stand place bytes few less (Some u) e =
-      let sized = unit_sized stand bytes u e in
+  then_same : (n m : ℕ) → Same n m → (stage : FileStateData) (place : ℕ) (bytes : List ℕ) → length bytes ≤ suc n → length bytes ≤ suc m →
+      (found : Option FileUnit) → unit_at stage bytes ≡ found
+      → unit_then close stage place bytes (units_within n close) found ≡ unit_then close stage place bytes (units_within m close) found
+  then_same n m on stage place bytes few less None e = refl
+  then_same n m on stage place bytes few less (Some u) e =
+      let sized = unit_sized stage bytes u e in
       let short : length (drop u.size bytes) ≤ n = omega (arith, length-drop u.size bytes, sized.some, sized.within, few) in
       let shorter : length (drop u.size bytes) ≤ m = omega (arith, length-drop u.size bytes, sized.some, sized.within, less) in
       found_same place u.found _ _ (λ next. on next (place + u.size) (drop u.size bytes) short shorter)
 
-  nothing_there : (stand : FileStateData) (place : ℕ) (m : ℕ) (found : Option FileUnit) → unit_at stand [] ≡ found →
-      unit_then close stand place [] (units_within m close) found ≡ final_units close place (last_at stand [])
-  nothing_there stand place m None e = refl
-  nothing_there stand place m (Some u) e = let sized = unit_sized stand [] u e in absurd (omega (arith, sized.some, sized.within))
+  nothing_there : (stage : FileStateData) (place : ℕ) (m : ℕ) (found : Option FileUnit) → unit_at stage [] ≡ found →
+      unit_then close stage place [] (units_within m close) found ≡ final_units close place (last_at stage [])
+  nothing_there stage place m None e = refl
+  nothing_there stage place m (Some u) e = let sized = unit_sized stage [] u e in absurd (omega (arith, sized.some, sized.within))
 
   within_same : (n m : ℕ) → Same n m
-  within_same zero zero stand place bytes few less = refl
-  within_same zero (suc m) stand place [] few less = sym (nothing_there stand place m (unit_at stand []) refl)
-  within_same zero (suc m) stand place (b ∷ bytes) few less = absurd (omega (arith, few))
-  within_same (suc n) zero stand place [] few less = nothing_there stand place n (unit_at stand []) refl
-  within_same (suc n) zero stand place (b ∷ bytes) few less = absurd (omega (arith, less))
-  within_same (suc n) (suc m) stand place bytes few less =
-      then_same n m (within_same n m) stand place bytes few less (unit_at stand bytes) refl
+  within_same zero zero stage place bytes few less = refl
+  within_same zero (suc m) stage place [] few less = sym (nothing_there stage place m (unit_at stage []) refl)
+  within_same zero (suc m) stage place (b ∷ bytes) few less = absurd (omega (arith, few))
+  within_same (suc n) zero stage place [] few less = nothing_there stage place n (unit_at stage []) refl
+  within_same (suc n) zero stage place (b ∷ bytes) few less = absurd (omega (arith, less))
+  within_same (suc n) (suc m) stage place bytes few less =
+      then_same n m (within_same n m) stage place bytes few less (unit_at stage bytes) refl
 
   -- the unit at the front, and those after it
-  pub units_step : (stand : FileStateData) (place : ℕ) (bytes : List ℕ) (u : FileUnit) → unit_at stand bytes ≡ Some u →
-      units close stand place bytes ≡ found_then place u.found (λ next. units close next (place + u.size) (drop u.size bytes))
+  pub units_step : (stage : FileStateData) (place : ℕ) (bytes : List ℕ) (u : FileUnit) → unit_at stage bytes ≡ Some u →
+      units close stage place bytes ≡ found_then place u.found (λ next. units close next (place + u.size) (drop u.size bytes))
   unfolding units
-  units_step stand place bytes u e =
-      let sized = unit_sized stand bytes u e in
+  units_step stage place bytes u e =
+      let sized = unit_sized stage bytes u e in
       let n : ℕ = length bytes in
-      within_same n (suc n) stand place bytes (omega arith) (omega arith)
-      ∙ ap (unit_then close stand place bytes (units_within n close)) e
+      within_same n (suc n) stage place bytes (omega arith) (omega arith)
+      ∙ ap (unit_then close stage place bytes (units_within n close)) e
       ∙ found_same place u.found _ _ (λ next. within_same n (length (drop u.size bytes)) next (place + u.size) (drop u.size bytes)
       (omega (arith, length-drop u.size bytes)) (omega arith))
 
   -- if no unit is whole
-  pub units_stop : (stand : FileStateData) (place : ℕ) (bytes : List ℕ) → unit_at stand bytes ≡ None →
-      units close stand place bytes ≡ final_units close place (last_at stand bytes)
+  pub units_stop : (stage : FileStateData) (place : ℕ) (bytes : List ℕ) → unit_at stage bytes ≡ None →
+      units close stage place bytes ≡ final_units close place (last_at stage bytes)
   unfolding units
-  units_stop stand place bytes e =
+  units_stop stage place bytes e =
       let n : ℕ = length bytes in
-      within_same n (suc n) stand place bytes (omega arith) (omega arith) ∙ ap (unit_then close stand place bytes (units_within n close)) e
+      within_same n (suc n) stage place bytes (omega arith) (omega arith) ∙ ap (unit_then close stage place bytes (units_within n close)) e

@@ -9,13 +9,13 @@ use Rattle.opl_line.specs.Spells.{Spells}
 use Rattle.opl_line.specs.declared.reason.OplReason.{OplReason}
 use Rattle.opl_line.proofs.CutLaws.{cut_split}
 use Rattle.opl_line.proofs.SpellsLaws.{read_is_spelled, one_reading, refused_spells_nothing, answer_spelled}
-use Rattle.osm_files.specs.Stream.{Verdict, Placed, Still, end_whole}
+use Rattle.osm_files.specs.Stream.{Verdict, Placed, SourceRest, end_whole}
 use Rattle.osm_files.specs.Opl.{is_read, OplFile}
 use Rattle.osm_files.specs.Units.{FileStateData, InOpl, line_found, line_unit, found_then, final_units, unit_then, unit_at, last_at, units_within}
 use Rattle.osm_files.specs.Verdict.{versions_of}
 
--- units have no verdict exactly if their bytes spell versions, and then they are these
-pub record ReadsAs (still : Still Placed Verdict) (Spelled : List VersionData → Type 0) : Type 0 where
+-- units have no verdict exactly if their bytes spell versions, and then the units have these versions
+pub record ReadsAs (still : SourceRest Placed Verdict) (Spelled : List VersionData → Type 0) : Type 0 where
   pub read : (versions : List VersionData) → Spelled versions → (still.refusal ≡ None) × (versions_of still.list ≡ versions)
   pub back : still.refusal ≡ None → Spelled (versions_of still.list)
 
@@ -54,7 +54,7 @@ refused_line line pieces reason versions e all =
     let k = spelled_line line pieces versions (kept_by (is_skipped line) _ reason e) all in
     refused_spells_nothing line reason k.0 e k.3
 
-pub line_then : (line : List ℕ) (pieces : List (List ℕ)) (place : ℕ) (more : FileStateData → Still Placed Verdict) →
+pub line_then : (line : List ℕ) (pieces : List (List ℕ)) (place : ℕ) (more : FileStateData → SourceRest Placed Verdict) →
     ReadsAs (more InOpl) (LineFile pieces) → (answer : Result (Option VersionData) OplReason) → reading_line line ≡ answer
     → ReadsAs (found_then place (line_found answer) more) (LineFile (line ∷ pieces))
 line_then line pieces place more h (Ok None) e =
@@ -89,7 +89,7 @@ longer : (b : ℕ) (bytes : List ℕ) (s : List ℕ × Option (List ℕ)) → Sp
 longer b bytes (line, None) h = ap (λ l. b ∷ l) h
 longer b bytes (line, Some behind) h = (h.0, ap (λ l. b ∷ l) h.1)
 
--- A text is split first as its pieces say.
+-- The first piece of a text is the text up to the first byte at which it is cut.
 pub splits : (p : ℕ → Bool) (bytes : List ℕ) → SplitsAs bytes (split_first p bytes)
 splits p [] = refl
 splits p (b ∷ bytes) =
@@ -138,7 +138,7 @@ first_line n on bytes place fits (line, Some behind) split pieces =
     let size : ℕ = length line + 1 in
     let rest : drop size bytes ≡ behind = ap (drop size) split.1 ∙ drop_behind line split.0 behind in
     let few : length behind ≤ n = omega (arith, fits, ap length split.1, length-append line (split.0 ∷ behind)) in
-    let more : FileStateData → Still Placed Verdict = λ next. units_within n None next (place + size) (drop size bytes) in
+    let more : FileStateData → SourceRest Placed Verdict = λ next. units_within n None next (place + size) (drop size bytes) in
     let reads : ReadsAs (more InOpl) (LineFile (split_all is_line_end behind)) = rw rest (on behind (place + size) few) in
     let P : List (List ℕ) → Type 0 = λ ls. ReadsAs (found_then place (line_found (reading_line line)) more) (LineFile ls) in
     subst P (sym pieces) (line_then line (split_all is_line_end behind) place more reads (reading_line line) refl)

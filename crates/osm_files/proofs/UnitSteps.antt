@@ -17,7 +17,7 @@ use Rattle.o5_codec.specs.Number.{number_at}
 use Rattle.osm_files.specs.Reason.{of_line, of_data_set}
 use Rattle.osm_files.specs.O5.{kind_of_type}
 use Rattle.osm_files.specs.Reading.{Finds, ends_at}
-use Rattle.osm_files.specs.Units.{FileStateData, BehindEnd, unit_after_end, segment_unit, InOpl, is_ended, length_at, sized_unit, content_found, unit}
+use Rattle.osm_files.specs.Units.{FileStateData, PastEnd, unit_after_end, segment_unit, InOpl, is_ended, length_at, sized_unit, content_found, unit}
 use Rattle.osm_files.specs.Units.{line_unit, line_found, header_unit, is_header, no_version}
 
 -- Where no line end is there, no line is whole.
@@ -76,6 +76,6 @@ behind_first [] b next e = absurd (let f : Some b ≡ None = e in cc)
 behind_first (c ∷ bytes) b next e = inr (1, refl)
 
 -- The end byte is the unit at the front.
-pub end_first : (s : Segment) (bytes : List ℕ) → ends_at bytes ≡ true → segment_unit s bytes ≡ Some (unit 1 (no_version BehindEnd))
+pub end_first : (s : Segment) (bytes : List ℕ) → ends_at bytes ≡ true → segment_unit s bytes ≡ Some (unit 1 (no_version PastEnd))
 end_first s [] e = absurd (false≢true e)
 end_first s (b ∷ bytes) e = rw e refl

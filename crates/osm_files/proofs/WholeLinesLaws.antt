@@ -1,12 +1,12 @@
--- Inputs that fail where the last line of OPL has no end.
+-- Inputs that fail at their end if the last line of OPL has no end.
 use Rattle.std.proofs.Common.{◌≡◌, ℕ, ◌-◌, ◌==◌, ◌||◌, Bool, true, false, cond, List, [], ◌∷◌, ◌++◌, length, slice_get, Option, Some, None}
 use Rattle.std.proofs.Common.{refl, sym, ap, ◌∙◌, subst, append-nil, arith}
 use Rattle.osm_files.specs.declared.whole_lines.Ending.{Ending}
 use Rattle.osm_files.specs.declared.whole_lines.Ending.TheVariants.{Any, Start, LineEnd, InLine}
-use Rattle.osm_files.specs.Input.{Coming, whole_input, broken_input, with_front, Gave, GivesOne}
+use Rattle.osm_files.specs.Input.{InputRest, whole_input, broken_input, with_front, Gave, GivesOne}
 use Rattle.osm_files.specs.WholeLines.{ending_of, ending_by, ending_by_ends, ending_after, is_in_line, with_line_end}
 
--- the last one of these bytes, of which the first is this
+-- the last byte of a list that has this first byte
 abbrev last_byte : ℕ → List ℕ → ℕ
 last_byte byte [] = byte
 last_byte byte (next ∷ bytes) = last_byte next bytes
@@ -55,17 +55,17 @@ ending_behind ending (x ∷ xs) (y ∷ ys) =
     ∙ sym (ending_is (ending_after ending (x ∷ xs)) y ys)
 
 -- ---- what is given
-line_end_behind : (ending : Ending) (front : List ℕ) (given : Coming)
+line_end_behind : (ending : Ending) (front : List ℕ) (given : InputRest)
     → with_line_end ending (with_front front given) ≡ with_front front (with_line_end (ending_after ending front) given)
 line_end_behind ending front given = ap (λ (e : Ending). record {
   bytes = front ++ given.bytes;
   broken = given.broken || is_in_line e;
 }) (ending_behind ending front given.bytes)
 
-pub gave_lines : {R : Type 0} (can : R → Coming → Type 0) (before after : R) (ending : Ending) (front : List ℕ)
-    → Gave can before after front → (later : Coming)
+pub gave_lines : {R : Type 0} (can : R → InputRest → Type 0) (before after : R) (ending : Ending) (front : List ℕ)
+    → Gave can before after front → (later : InputRest)
     → GivesOne (can after) (λ given. later ≡ with_line_end (ending_after ending front) given)
-    → (earlier : Coming) × GivesOne (can before) (λ given. earlier ≡ with_line_end ending given)
+    → (earlier : InputRest) × GivesOne (can before) (λ given. earlier ≡ with_line_end ending given)
     × (earlier ≡ with_front front later)
 gave_lines can before after ending front gave later (given, can_give, is) =
     let (first, could, joined) = gave given can_give in (
@@ -74,13 +74,13 @@ gave_lines can before after ending front gave later (given, can_give, is) =
       ap (with_line_end ending) joined ∙ line_end_behind ending front given ∙ ap (with_front front) (sym is),
     )
 
--- an input whose last line has its end, or which may end anywhere, ends where the other one does
-pub ends_there : {R : Type 0} (can : R → Coming → Type 0) (input : R) (ending : Ending) → can input (whole_input [])
+-- an input whose last line has its end, or that may end after any byte, ends where the other input ends
+pub ends_there : {R : Type 0} (can : R → InputRest → Type 0) (input : R) (ending : Ending) → can input (whole_input [])
     → is_in_line ending ≡ false → GivesOne (can input) (λ given. whole_input [] ≡ with_line_end ending given)
 ends_there can input ending end is = (whole_input [], end, ap (λ (t : Bool). record { bytes = []; broken = t }) (sym is))
 
--- an input whose last line has no end fails there
-pub fails_there : {R : Type 0} (can : R → Coming → Type 0) (input : R) (ending : Ending) → can input (whole_input [])
+-- an input whose last line has no end fails where the other input ends
+pub fails_there : {R : Type 0} (can : R → InputRest → Type 0) (input : R) (ending : Ending) → can input (whole_input [])
     → is_in_line ending ≡ true → GivesOne (can input) (λ given. broken_input [] ≡ with_line_end ending given)
 fails_there can input ending end is = (whole_input [], end, ap (λ (t : Bool). record { bytes = []; broken = t }) (sym is))
 
@@ -94,13 +94,13 @@ stays_broken : (t : Bool) → t || false ≡ t
 stays_broken true = refl
 stays_broken false = refl
 
-given_alike : (given : Coming) → with_line_end Any given ≡ given
+given_alike : (given : InputRest) → with_line_end Any given ≡ given
 given_alike given =
     ap (λ (e : Ending). record { bytes = given.bytes; broken = given.broken || is_in_line e }) (stays_any (slice_get given.bytes 0) _)
     ∙ ap (λ (t : Bool). record { bytes = given.bytes; broken = t }) (stays_broken given.broken)
 
-pub any_given : (can : Coming → Type 0) (c : Coming) → GivesOne can (λ given. c ≡ with_line_end Any given) → can c
+pub any_given : (can : InputRest → Type 0) (c : InputRest) → GivesOne can (λ given. c ≡ with_line_end Any given) → can c
 any_given can c (given, gives, is) = subst can (sym (is ∙ given_alike given)) gives
 
-pub given_any : (can : Coming → Type 0) (c : Coming) → can c → GivesOne can (λ given. c ≡ with_line_end Any given)
+pub given_any : (can : InputRest → Type 0) (c : InputRest) → can c → GivesOne can (λ given. c ≡ with_line_end Any given)
 given_any can c gives = (c, gives, sym (given_alike c))

@@ -1,4 +1,4 @@
--- Laws of the definitions: a file has one reading, and its verdict shows whether it has one.
+-- Laws of the definitions: bytes spell at most one list of versions, and spell one exactly if they have no verdict.
 use Rattle.std.specs.Prelude.{◌≡◌, ℕ, ◌<◌, ◌^◌, List, length, None, Some}
 use Rattle.std.specs.List.Sorted.{IsSorted}
 use Rattle.osm_model.specs.Data.{VersionData}
@@ -13,12 +13,12 @@ abbrev pub OneList : Type 0
 OneList = (bytes : List ℕ) (versions others : List VersionData) → IsFile bytes versions → IsFile bytes others →
     versions ≡ others
 
--- bytes that are a file have no verdict, and their units are its versions
+-- the bytes of a file have no verdict, and the versions of their units are those that the file spells
 abbrev pub FilesAreRead : Type 0
 FilesAreRead = (bytes : List ℕ) (versions : List VersionData) → length bytes < 2 ^ 62 → IsFile bytes versions →
     (verdict bytes ≡ None) × (versions_of (file_units bytes).list ≡ versions)
 
--- bytes without a verdict are a file, shorter than 2^62 bytes, that spells its units
+-- bytes without a verdict are a file, shorter than 2^62 bytes, that spells the versions of its units
 abbrev pub AcceptedWithoutVerdict : Type 0
 AcceptedWithoutVerdict = (bytes : List ℕ) → verdict bytes ≡ None →
     (length bytes < 2 ^ 62) × IsFile bytes (versions_of (file_units bytes).list)
@@ -33,7 +33,7 @@ abbrev pub SortedWithoutVerdict : Type 0
 SortedWithoutVerdict = (bytes : List ℕ) → verdict_sorted bytes ≡ None →
     (verdict bytes ≡ None) × IsSorted key_cmp (versions_of (file_units bytes).list)
 
--- a verdict on the order of some bytes that isn't Unsorted is their verdict
-abbrev pub VerdictBesideOrder : Type 0
-VerdictBesideOrder = (bytes : List ℕ) (v : Verdict) → verdict_sorted bytes ≡ Some v → (v.reason ≡ Unsorted → ⊥) →
+-- if the verdict on order isn't Unsorted, the verdict is the same
+abbrev pub VerdictWithoutOrder : Type 0
+VerdictWithoutOrder = (bytes : List ℕ) (v : Verdict) → verdict_sorted bytes ≡ Some v → (v.reason ≡ Unsorted → ⊥) →
     verdict bytes ≡ Some v

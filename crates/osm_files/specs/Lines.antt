@@ -6,14 +6,14 @@ use Rattle.opl_line.specs.Delimiter.{is_line_end}
 use Rattle.osm_files.specs.declared.fault.Fault.{Fault}
 use Rattle.osm_files.specs.declared.reason.Reason.TheVariants.{ReadFault, TooLong}
 use Rattle.osm_files.specs.Fault.{memory_fault}
-use Rattle.osm_files.specs.Input.{Coming, whole_input}
+use Rattle.osm_files.specs.Input.{InputRest, whole_input}
 use Rattle.osm_files.specs.Opl.{OplFile}
 
--- a reader that can give only the bytes of a file from an offset on, where the file's bytes are known
-abbrev pub ReadsFrom : {R : Type 0} → (R → Coming → Type 0) → Option (List ℕ) → ℕ → R → Type 0
-ReadsFrom can bytes offset reader = IfSome bytes (λ all. (c : Coming) → can reader c → c ≡ whole_input (drop offset all))
+-- a reader that can give only the bytes of a file from an offset on, if the file's bytes are known
+abbrev pub ReadsFrom : {R : Type 0} → (R → InputRest → Type 0) → Option (List ℕ) → ℕ → R → Type 0
+ReadsFrom can bytes offset reader = IfSome bytes (λ all. (c : InputRest) → can reader c → c ≡ whole_input (drop offset all))
 
--- what comes after the first end of a line
+-- the bytes after the first end of a line; none if there is no end
 abbrev pub after_line : List ℕ → List ℕ
 after_line [] = []
 after_line (byte ∷ bytes) = if is_line_end byte then bytes else after_line bytes
@@ -23,27 +23,27 @@ abbrev pub lines_from : ℕ → List ℕ → List ℕ
 lines_from zero bytes = bytes
 lines_from (suc offset) bytes = after_line (drop offset bytes)
 
--- the first line that begins at an offset or after it begins here
+-- `start` is the offset of the first line that begins at `offset` or after it
 abbrev pub IsLineStart : Option (List ℕ) → ℕ → ℕ → Type 0
 IsLineStart bytes offset start = IfSome bytes (λ all. drop start all ≡ lines_from offset all)
 
--- the version is the first of these; there is none of none
+-- `first` is the first of the versions, or none if there are no versions
 abbrev pub IsFirstOf : Option VersionData → List VersionData → Type 0
 IsFirstOf first [] = first ≡ None
 IsFirstOf first (v ∷ versions) = first ≡ Some v
 
--- after the first end of a line at an offset or after it, in a file that a reader gives from the offset on, the lines
--- begin here
-abbrev pub LeadsTo : {R : Type 0} → (R → Coming → Type 0) → R → ℕ → ℕ → Type 0
-LeadsTo can reader offset start = (all : List ℕ) → ((c : Coming) → can reader c → c ≡ whole_input (drop offset all)) →
+-- `start` is the offset after the first end of a line at `offset` or after it, in a file that a reader gives from
+-- `offset` on
+abbrev pub LeadsTo : {R : Type 0} → (R → InputRest → Type 0) → R → ℕ → ℕ → Type 0
+LeadsTo can reader offset start = (all : List ℕ) → ((c : InputRest) → can reader c → c ≡ whole_input (drop offset all)) →
     drop start all ≡ after_line (drop offset all)
 
--- memory was refused, the device failed or the file is too long
+-- the fault is out of memory, a fault of the device, or that the file is too long
 abbrev pub IsDeviceFault : Fault → Type 0
 IsDeviceFault fault = (fault ≡ memory_fault) ⊎ (fault.reason ≡ ReadFault) ⊎ (fault.reason ≡ TooLong)
 
--- Lines that are a file of versions have this first version. A refusal isn't of such lines, but for memory, the device
--- and the limit on a file's length.
+-- The result for the first version of some lines: it is the first of the versions that the lines spell as an OPL file.
+-- If it is a fault, but not a device fault, the lines aren't an OPL file.
 abbrev pub IsFirstIn : List ℕ → Result (Option VersionData) Fault → Type 0
 IsFirstIn lines (Ok first) = (versions : List VersionData) → OplFile lines versions → IsFirstOf first versions
 IsFirstIn lines (Err fault) = IsDeviceFault fault ⊎ ((versions : List VersionData) → OplFile lines versions → ⊥)

@@ -10,11 +10,11 @@ use Rattle.osm_files.specs.declared.format.Format.TheVariants.{Opl, O5m, O5c}
 use Rattle.osm_files.specs.declared.load.Loaded.{Loaded}
 use Rattle.osm_files.specs.Fault.{memory_fault}
 use Rattle.osm_files.specs.Groups.{FileSourceData, FileCanGive, sorted_source}
-use Rattle.osm_files.specs.Input.{Coming, Explained}
+use Rattle.osm_files.specs.Input.{InputRest, Explained}
 use Rattle.osm_files.specs.O5.{o5m_header, reset_byte}
 use Rattle.osm_files.specs.Held.{Holds, HoldsSorted}
 use Rattle.osm_files.specs.Verdict.{versions_of}
-use Rattle.osm_files.specs.Position.{KnownPosition, units_from, with_input, bytes_ahead, GoesOn}
+use Rattle.osm_files.specs.Position.{KnownPosition, units_from, with_input, rest_of_bytes, KeepsRest}
 
 -- the header of o5m files is at the front
 abbrev pub is_o5m : List ℕ → Bool
@@ -25,42 +25,43 @@ abbrev pub format_of : List ℕ → Format
 format_of [] = Opl
 format_of (b ∷ bytes) = if b == reset_byte then (if is_o5m (b ∷ bytes) then O5m else O5c) else Opl
 
--- these bytes determine the format, whatever follows them: the first isn't ff, or they are as many as a header has
-abbrev pub tells_format : List ℕ → Bool
-tells_format [] = false
-tells_format (b ∷ bytes) = not (b == reset_byte) || nat_le 7 (length (b ∷ bytes))
+-- Do the bytes determine the format, whatever follows? They do if the first isn't ff, or if they are at least as many
+-- as a header has.
+abbrev pub determines_format : List ℕ → Bool
+determines_format [] = false
+determines_format (b ∷ bytes) = not (b == reset_byte) || nat_le 7 (length (b ∷ bytes))
 
--- the remaining bytes are a file of this format, and none was passed
-abbrev pub TellsFormat : Format → KnownPosition → KnownPosition → Type 0
-TellsFormat format before after = GoesOn before after × IfSome (bytes_ahead before) (λ c. format ≡ format_of c.bytes)
+-- the remaining bytes are a file of this format, and no version was given
+abbrev pub DeterminesFormat : Format → KnownPosition → KnownPosition → Type 0
+DeterminesFormat format before after = KeepsRest before after × IfSome (rest_of_bytes before) (λ c. format ≡ format_of c.bytes)
 
 -- the bytes are a file and no error follows them; the result has the file's versions, its format and whether it is
 -- sorted
-pub record Loads (c : Coming) (loaded : Loaded) : Type 0 where
+pub record Loads (c : InputRest) (loaded : Loaded) : Type 0 where
   pub unbroken : c.broken ≡ false
   pub holds : Holds c.bytes loaded.history
   pub format : loaded.format ≡ format_of c.bytes
   pub sorted : IsTrue loaded.sorted ↔ HoldsSorted c.bytes loaded.history
 
--- an input was read to its end: none of its units is refused, these are its versions, in this order, this is its
--- format, and this is whether it is sorted
-pub record IsRead (input : ℕ) (c : Coming) (versions : List VersionData) (format : Format)
+-- an input was read to its end: no unit is refused, and these are the versions in their order, the format, and whether
+-- the file is sorted
+pub record IsRead (input : ℕ) (c : InputRest) (versions : List VersionData) (format : Format)
     (sorted : Bool) : Type 0 where
   pub unrefused : (with_input input (units_from None 0 c)).refusal ≡ None
   pub all : versions_of (with_input input (units_from None 0 c)).list ≡ versions
-  pub tells : format ≡ format_of c.bytes
+  pub shown : format ≡ format_of c.bytes
   pub rises : IsTrue sorted ↔ IsSorted key_cmp versions
 
--- A source of this input's file was opened, and its format returned: for all that the source can give, the reader could
--- give a file of this format, of which the source gives the versions of a sorted file's source.
-abbrev pub Opens : {R : Type 0} → (R → Coming → Type 0) → ℕ → R → Format → FileSourceData R → Type 0
+-- A source of this input's file was opened, and its format returned: for each list that the source can give, the reader
+-- could give a file of this format whose source gives that list.
+abbrev pub Opens : {R : Type 0} → (R → InputRest → Type 0) → ℕ → R → Format → FileSourceData R → Type 0
 Opens can input reader format s = Explained (can reader) (FileCanGive can s)
     (λ c still. (format ≡ format_of c.bytes) × (still ≡ sorted_source input c))
 
--- why the source of this input's file isn't opened: it is out of memory, or refused as the source of the file
-abbrev pub StopsOpening : ℕ → Coming → Fault → Type 0
+-- why the source of this input's file isn't opened: memory ran out, or the source of the file ends with this refusal
+abbrev pub StopsOpening : ℕ → InputRest → Fault → Type 0
 StopsOpening input c fault = (fault ≡ memory_fault) ⊎ ((sorted_source input c).refusal ≡ Some fault)
 
--- why the file of this input isn't loaded: it is out of memory, or its units are refused
-abbrev pub StopsLoading : ℕ → Coming → Fault → Type 0
+-- why the file of this input isn't loaded: memory ran out, or its units end with this refusal
+abbrev pub StopsLoading : ℕ → InputRest → Fault → Type 0
 StopsLoading input c fault = (fault ≡ memory_fault) ⊎ ((with_input input (units_from None 0 c)).refusal ≡ Some fault)

@@ -11,17 +11,19 @@ use Rattle.o5_codec.specs.Number.{SpellsNumber}
 use Rattle.o5_codec.specs.Decoder.{new_segment}
 use Rattle.o5_codec.specs.Spelling.{SpellsSet}
 
--- a reset byte, and four more bytes that end in the letters of the format
+-- the header of o5m: a reset byte, and a data set of the type e0 whose four bytes are the letters o5m2
 abbrev pub o5m_header : List ℕ
 o5m_header = 255 ∷ 224 ∷ 4 ∷ 111 ∷ 53 ∷ 109 ∷ 50 ∷ []
 
+-- the header of o5c: the same with the letters o5c2
 abbrev pub o5c_header : List ℕ
 o5c_header = 255 ∷ 224 ∷ 4 ∷ 111 ∷ 53 ∷ 99 ∷ 50 ∷ []
 
--- the byte that ends a file, and the byte that begins a segment
+-- the byte that ends a file
 abbrev pub end_byte : ℕ
 end_byte = 254
 
+-- the byte that begins a segment
 abbrev pub reset_byte : ℕ
 reset_byte = 255
 
@@ -40,7 +42,7 @@ kind_of_type b = if b == 16 then Some kind.Node
 abbrev pub is_lone : ℕ → Bool
 is_lone b = nat_le 240 b && nat_le b 253
 
--- a type byte with a length after it, whose data set is skipped: every other byte
+-- the type byte of a data set that is skipped: any byte that isn't the end, a reset, a lone byte or of a kind of object
 abbrev pub IsOtherType : ℕ → Type 0
 IsOtherType b = ((b == end_byte) ≡ false) × ((b == reset_byte) ≡ false) × (is_lone b ≡ false) × (kind_of_type b ≡ None)
 
@@ -51,7 +53,7 @@ pub data FilePart : Type 0 where
   Skipped : ℕ → List ℕ → List ℕ → FilePart
   Object : Kind → List ℕ → List ℕ → FilePart
 
--- a data set is its type byte, the number of its bytes, and these
+-- the bytes of a part; a data set is its type byte, the length of its content, and the content
 abbrev pub part_bytes : FilePart → List ℕ
 part_bytes Reset = reset_byte ∷ []
 part_bytes (Lone b) = b ∷ []

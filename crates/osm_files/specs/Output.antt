@@ -1,5 +1,5 @@
--- The bytes that an output holds, whether it has failed, and the bytes written to it. That a write may take a front of
--- the bytes is the rule of Rust's `std::io::Write`; the rest is an own rule of this project.
+-- The bytes that an output holds, whether it has failed, and the bytes written to it. Rust's `std::io::Write` has the
+-- rule that a write may take a front of the bytes. The rest is an own rule of this project.
 use Rattle.std.specs.Prelude.{◌≡◌, ◌≢◌, ℕ, ◌+◌, ◌<◌, ◌≤◌, ◌^◌, ◌⊎◌, Bool, true, false, List, [], ◌++◌, length, take}
 use Rattle.std.specs.Prelude.{Result, Ok, Err}
 use Rattle.osm_files.specs.declared.fault.Fault.{Fault}
@@ -32,14 +32,14 @@ IsAppended before after bytes = (held : List ℕ) → before held → after (hel
 abbrev pub Appends : Change → List ℕ → Type 0
 Appends change bytes = IsAppended change.before change.after bytes
 
--- A write of these bytes fails the output if it returns an error, or takes none of some bytes. An output that had
--- failed before returns an error.
+-- A write of `bytes` makes the output fail if it returns an error, or if it takes no byte although there are some. An
+-- output that had failed before returns an error.
 abbrev pub WriteFails : {E : Type 0} → Bool → List ℕ → Result ℕ E → Bool → Type 0
 WriteFails old bytes (Ok count) new =
     (old ≡ false) × (0 < count → new ≡ false) × (bytes ≡ [] → new ≡ false) × (count ≡ 0 → bytes ≢ [] → new ≡ true)
 WriteFails old bytes (Err error) new = new ≡ true
 
--- A flush fails the output if it returns an error. An output that had failed before returns an error.
+-- A flush makes the output fail if it returns an error. An output that had failed before returns an error.
 abbrev pub FlushFails : {A E : Type 0} → Bool → Result A E → Bool → Type 0
 FlushFails old (Ok done) new = (old ≡ false) × (new ≡ false)
 FlushFails old (Err error) new = new ≡ true
@@ -64,7 +64,7 @@ WhyStopped output written bytes count failed fault =
     ((fault ≡ write_fault output (written + count)) × (failed ≡ true) × (written + length bytes < 2 ^ 62))
     ⊎ ((fault ≡ too_long_fault output) × (2 ^ 62 ≤ written + length bytes))
 
--- a front of these bytes was appended, after `written` bytes, and the reason why no more were
+-- a front of these bytes was appended, after `written` bytes; `why` has the reason why no more were
 pub record StoppedWriting (output : ℕ) (change : Change) (written : ℕ) (bytes : List ℕ) (fault : Fault) : Type 0 where
   pub count : ℕ
   pub within : count ≤ length bytes

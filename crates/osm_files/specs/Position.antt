@@ -7,20 +7,20 @@ use Rattle.osm_files.specs.declared.reason.Reason.{Reason}
 use Rattle.osm_files.specs.declared.reason.Reason.TheVariants.{ReadFault, Memory}
 use Rattle.osm_files.specs.declared.unit.ReadUnit.{ReadUnit}
 use Rattle.osm_files.specs.Fault.{memory_fault, failed_fault}
-use Rattle.osm_files.specs.Input.{Coming, whole_input as all_of, with_front, Explained, GivesOne}
-use Rattle.osm_files.specs.Stream.{Verdict, verdict_at, Placed, Still, end_refused}
+use Rattle.osm_files.specs.Input.{InputRest, whole_input as all_of, with_front, Explained, GivesOne}
+use Rattle.osm_files.specs.Stream.{Verdict, verdict_at, Placed, SourceRest, end_refused}
 use Rattle.osm_files.specs.Units.{FileStateData, units, unit, unit_at, start_of}
 use Rattle.osm_files.specs.Verdict.{length_limit, too_long_verdict}
 
--- the offset in the file of the first byte that is held, the bytes that are held, and the rest after them: the reader
--- that gives it, or its bytes; the stage of the reading, which isn't known before the first byte; whether the input has
--- ended, and whether a call was refused
+-- The position of a reading: the number of its input, and the offset in the file of the first byte held; the bytes
+-- held, and the rest after them, as the reader that gives it or as its bytes; the stage of the reading, which isn't
+-- known before the first byte; whether the input has ended, and whether a call was refused.
 pub record Position (C : Type 0) : Type 0 where
   pub input : ℕ
   pub place : ℕ
   pub held : List ℕ
   pub coming : C
-  pub stand : Option FileStateData
+  pub stage : Option FileStateData
   pub ended : Bool
   pub failed : Bool
 
@@ -31,23 +31,23 @@ at_start input coming = record {
   place = 0;
   held = [];
   coming = coming;
-  stand = None;
+  stage = None;
   ended = false;
   failed = false;
 }
 
 -- a position with the rest of its bytes, if they are known
 abbrev pub KnownPosition : Type 0
-KnownPosition = Position (Option Coming)
+KnownPosition = Position (Option InputRest)
 
--- the position, if its reader gives this
-abbrev pub with_coming : {R : Type 0} → Position R → Coming → KnownPosition
+-- the position, if its reader gives `c`
+abbrev pub with_coming : {R : Type 0} → Position R → InputRest → KnownPosition
 with_coming p c = record {
   input = p.input;
   place = p.place;
   held = p.held;
   coming = Some c;
-  stand = p.stand;
+  stage = p.stage;
   ended =
       p.ended;
   failed = p.failed;
@@ -55,48 +55,50 @@ with_coming p c = record {
 
 -- each possible rest after the later position comes from a possible rest after the earlier one, and the step leads from
 -- the one to the other
-abbrev pub Between : {R : Type 0} → (R → Coming → Type 0) → Position R → Position R → (KnownPosition → KnownPosition → Type 0) → Type 0
+abbrev pub Between : {R : Type 0} → (R → InputRest → Type 0) → Position R → Position R → (KnownPosition → KnownPosition → Type 0) → Type 0
 Between can p q step = Explained (can p.coming) (can q.coming)
     (λ earlier later. step (with_coming p earlier) (with_coming q later))
 
--- the bytes from the offset on, if they are known
-abbrev pub bytes_ahead : KnownPosition → Option Coming
-bytes_ahead p = if p.ended then Some (all_of p.held) else option_map (with_front p.held) p.coming
+-- the bytes from the position's offset on, if they are known
+abbrev pub rest_of_bytes : KnownPosition → Option InputRest
+rest_of_bytes p = if p.ended then Some (all_of p.held) else option_map (with_front p.held) p.coming
 
+-- the stage, or the one at which these bytes begin
 abbrev pub state_or_start : Option FileStateData → List ℕ → FileStateData
 state_or_start None bytes = start_of bytes
-state_or_start (Some stand) bytes = stand
+state_or_start (Some stage) bytes = stage
 
--- the close of a file with these bytes from an offset on, other than its own end: it is too long, or an error follows
-abbrev pub closing_verdict : ℕ → Coming → Option Verdict
+-- the verdict that closes a file with these bytes from an offset on, if it isn't closed by its own end: it is too long,
+-- or an error follows
+abbrev pub closing_verdict : ℕ → InputRest → Option Verdict
 closing_verdict place c =
     if nat_lt (place + length c.bytes) length_limit
     then (if c.broken then Some (verdict_at (place + length c.bytes) ReadFault) else None)
     else Some too_long_verdict
 
 -- the bytes that count: those below the limit
-abbrev pub window : ℕ → Coming → List ℕ
+abbrev pub window : ℕ → InputRest → List ℕ
 window place c = if nat_lt (place + length c.bytes) length_limit then c.bytes
     else take (length_limit - 1 - place) c.bytes
 
 -- the units from an offset on
-unfoldable pub units_from : Option FileStateData → ℕ → Coming → Still Placed Verdict
-units_from stand place c = units (closing_verdict place c) (state_or_start stand c.bytes) place (window place c)
+unfoldable pub units_from : Option FileStateData → ℕ → InputRest → SourceRest Placed Verdict
+units_from stage place c = units (closing_verdict place c) (state_or_start stage c.bytes) place (window place c)
 
 -- a verdict as the fault of an input
 abbrev pub fault_of : ℕ → Verdict → Fault
 fault_of input v = record { input = input; place = v.place; reason = v.reason }
 
-abbrev pub with_input : {A : Type 0} → ℕ → Still A Verdict → Still A Fault
+abbrev pub with_input : {A : Type 0} → ℕ → SourceRest A Verdict → SourceRest A Fault
 with_input input still = record { list = still.list; refusal = option_map (fault_of input) still.refusal }
 
 -- the rest, if it is known and no call was refused
-abbrev pub units_ahead : KnownPosition → Option (Still Placed Fault)
-units_ahead p = option_map (λ c. with_input p.input (units_from p.stand p.place c)) (bytes_ahead p)
+abbrev pub rest_of_units : KnownPosition → Option (SourceRest Placed Fault)
+rest_of_units p = option_map (λ c. with_input p.input (units_from p.stage p.place c)) (rest_of_bytes p)
 
 -- the rest, if it is known; after a refusal the result is Failed
-abbrev pub units_or_failed : KnownPosition → Option (Still Placed Fault)
-units_or_failed p = if p.failed then Some (end_refused (failed_fault p.input)) else units_ahead p
+abbrev pub units_or_failed : KnownPosition → Option (SourceRest Placed Fault)
+units_or_failed p = if p.failed then Some (end_refused (failed_fault p.input)) else rest_of_units p
 
 -- a bound on the number of units still to come: each has at least one byte
 abbrev pub units_left : {C : Type 0} → Position C → ℕ
@@ -110,43 +112,43 @@ Keeps before after = IfSome before (λ x. after ≡ Some x)
 pub record ReadsOn (p q : KnownPosition) : Type 0 where
   pub input : q.input ≡ p.input
   pub place : q.place ≡ p.place
-  pub stand : q.stand ≡ p.stand
+  pub stage : q.stage ≡ p.stage
   pub failed : q.failed ≡ p.failed
-  pub ahead : Keeps (bytes_ahead p) (bytes_ahead q)
+  pub ahead : Keeps (rest_of_bytes p) (rest_of_bytes q)
 
 -- A position reads on to another, over all that their readers can give. The fields other than the remaining bytes are
 -- equal.
-pub record HasRead {R : Type 0} (can : R → Coming → Type 0) (p q : Position R) : Type 0 where
+pub record HasRead {R : Type 0} (can : R → InputRest → Type 0) (p q : Position R) : Type 0 where
   pub place : q.place ≡ p.place
-  pub stand : q.stand ≡ p.stand
+  pub stage : q.stage ≡ p.stage
   pub failed : q.failed ≡ p.failed
   pub reads : Between can p q ReadsOn
 
--- nothing was given, and a known rest is unchanged
-pub record GoesOn (p q : KnownPosition) : Type 0 where
+-- no version was given, and a known rest is unchanged; units without a version may have been passed
+pub record KeepsRest (p q : KnownPosition) : Type 0 where
   pub input : q.input ≡ p.input
   pub place : p.place ≤ q.place
   pub failed : q.failed ≡ p.failed
-  pub keeps : Keeps (units_ahead p) (units_ahead q)
+  pub keeps : Keeps (rest_of_units p) (rest_of_units q)
 
 -- the stage of the reading, as far as the bytes held determine it
 abbrev pub state_at : {C : Type 0} → Position C → FileStateData
-state_at p = state_or_start p.stand p.held
+state_at p = state_or_start p.stage p.held
 
--- the stage is known from the first byte on
+-- the position with its stage, which is known from the first byte on
 abbrev pub with_state : {C : Type 0} → Position C → Position C
-with_state p = if is_some (slice_get p.held 0) then record p { stand = Some (state_at p) } else p
+with_state p = if is_some (slice_get p.held 0) then record p { stage = Some (state_at p) } else p
 
--- the whole unit at the front of the bytes held
-abbrev pub FindsHeld : {C : Type 0} → Position C → Result (Option ReadUnit) Reason → Position C → Type 0
-FindsHeld p (Ok None) q = (unit_at (state_at p) p.held ≡ None) × (q ≡ with_state p)
-FindsHeld p (Ok (Some u)) q = (next : FileStateData) × (unit_at (state_at p) p.held ≡ Some (unit u.size (Ok (u.version, next))))
-    × (q ≡ record p { stand = Some next })
-FindsHeld p (Err reason) q = (reason ≡ Memory)
+-- the result of reading the whole unit at the front of the bytes held
+abbrev pub FindsUnit : {C : Type 0} → Position C → Result (Option ReadUnit) Reason → Position C → Type 0
+FindsUnit p (Ok None) q = (unit_at (state_at p) p.held ≡ None) × (q ≡ with_state p)
+FindsUnit p (Ok (Some u)) q = (next : FileStateData) × (unit_at (state_at p) p.held ≡ Some (unit u.size (Ok (u.version, next))))
+    × (q ≡ record p { stage = Some next })
+FindsUnit p (Err reason) q = (reason ≡ Memory)
     ⊎ ((size : ℕ) × (unit_at (state_at p) p.held ≡ Some (unit size (Err reason))))
 
 -- an error follows the bytes held, or they are all that may be read and one more follows
-abbrev pub Halts : KnownPosition → Coming → Fault → Type 0
+abbrev pub Halts : KnownPosition → InputRest → Fault → Type 0
 Halts p c fault =
     ((c ≡ record { bytes = p.held; broken = true })
     × (fault ≡ fault_of p.input (verdict_at (p.place + length p.held) ReadFault)))
@@ -155,8 +157,8 @@ Halts p c fault =
 
 -- why no more bytes can be read
 abbrev pub StopsFilling : KnownPosition → Fault → Type 0
-StopsFilling p fault = (fault ≡ memory_fault) ⊎ IfSome (bytes_ahead p) (λ c. Halts p c fault)
+StopsFilling p fault = (fault ≡ memory_fault) ⊎ IfSome (rest_of_bytes p) (λ c. Halts p c fault)
 
 -- why no more bytes can be read, for something that the reader can give
-abbrev pub StopsAt : {R : Type 0} → (R → Coming → Type 0) → Position R → Fault → Type 0
+abbrev pub StopsAt : {R : Type 0} → (R → InputRest → Type 0) → Position R → Fault → Type 0
 StopsAt can p fault = GivesOne (can p.coming) (λ c. StopsFilling (with_coming p c) fault)

@@ -9,7 +9,7 @@ use Rattle.osm_files.specs.declared.reason.Reason.TheVariants.{Memory}
 use Rattle.osm_files.specs.declared.unit.ReadUnit.{ReadUnit}
 use Rattle.osm_files.specs.declared.unit.FileState.{FileState}
 use Rattle.osm_files.specs.declared.unit.FileState.TheVariants.{Lines, Header, DataSets, End}
-use Rattle.osm_files.specs.Units.{FileStateData, InOpl, BeforeHeader, InSegment, BehindEnd, UnitResult, FileUnit, unit}
+use Rattle.osm_files.specs.Units.{FileStateData, InOpl, BeforeHeader, InSegment, PastEnd, UnitResult, FileUnit, unit}
 use Rattle.osm_files.specs.Units.{content_found}
 use Rattle.osm_files.specs.O5.{end_byte}
 
@@ -18,7 +18,7 @@ abbrev pub state_data_of : FileState → FileStateData
 state_data_of (Lines lines) = InOpl
 state_data_of Header = BeforeHeader
 state_data_of (DataSets decoder) = InSegment decoder.segment
-state_data_of End = BehindEnd
+state_data_of End = PastEnd
 
 -- no data set was refused before
 abbrev pub IsGoodState : FileState → Type 0
@@ -45,7 +45,7 @@ FindsContent s k content after (Ok version) = (content_found s k content ≡ Ok 
     × (after.failed ≡ false)
 FindsContent s k content after (Err reason) = (reason ≡ Memory) ⊎ (content_found s k content ≡ Err reason)
 
--- a finding without the stage of the reading after it
+-- the result of reading a unit, without the stage after it
 abbrev pub version_of_unit : UnitResult → Result (Option VersionData) Reason
 version_of_unit (Ok found) = Ok found.0
 version_of_unit (Err reason) = Err reason

@@ -24,12 +24,12 @@ reason_name WriteFault = codes "WriteFault"
 reason_name Memory = codes "Memory"
 reason_name Failed = codes "Failed"
 
--- the reason of a line as that of its file; out of memory is not a line's
+-- the reason of a line as the reason of its file; Memory is a reason of the file itself
 abbrev pub of_line : OplReason → Reason
 of_line opl.Memory = Memory
 of_line reason = Opl reason
 
--- the reason of a data set as that of its file; out of memory, and an earlier failed call, are not a data set's
+-- the reason of a data set as the reason of its file; Memory and Failed are reasons of the file itself
 abbrev pub of_data_set : O5Reason → Reason
 of_data_set o5.Memory = Memory
 of_data_set o5.Failed = Failed

@@ -1,9 +1,9 @@
 -- The state of a sink between two calls, and the effect of a call: an own rule of this project.
 use Rattle.std.specs.Prelude.{◌≡◌, ℕ, ◌+◌, ◌<◌, ◌≤◌, ◌^◌, ◌⊎◌, Bool, true, false, List, [], length, take}
 use Rattle.std.specs.Prelude.{Result, Ok, Err, MatchBool}
-use Rattle.osm_model.specs.Kind.{kind_rank}
+use Rattle.osm_model.specs.Kind.{kind_order}
 use Rattle.osm_model.specs.Data.{VersionData, kind_of}
-use Rattle.o5_codec.specs.Encoder.{Written, initial_written, new_written_segment}
+use Rattle.o5_codec.specs.Encoder.{WriterState, initial_writer, new_encoder_segment}
 use Rattle.osm_files.specs.declared.fault.Fault.{Fault}
 use Rattle.osm_files.specs.declared.format.Format.{Format}
 use Rattle.osm_files.specs.declared.format.Format.TheVariants.{Opl, O5m, O5c}
@@ -11,12 +11,12 @@ use Rattle.osm_files.specs.declared.sink.Units.{Units}
 use Rattle.osm_files.specs.declared.sink.Units.TheVariants.{Lines, DataSets}
 use Rattle.osm_files.specs.Fault.{memory_fault, failed_fault, too_long_fault, write_fault}
 use Rattle.osm_files.specs.Output.{Change, Appends, StoppedWriting}
-use Rattle.osm_files.specs.Spell.{written_with, written_with_all, open_file_bytes}
+use Rattle.osm_files.specs.Spell.{writer_with, writer_with_all, open_file_bytes}
 
--- the context that versions are written relative to
-abbrev pub written_by_units : Units → Written
-written_by_units (Lines last) = record { last = last; context = new_written_segment }
-written_by_units (DataSets encoder) = encoder.written
+-- the state on which the bytes of the next version depend
+abbrev pub writer_after_units : Units → WriterState
+writer_after_units (Lines last) = record { last = last; segment = new_encoder_segment }
+writer_after_units (DataSets encoder) = encoder.written
 
 -- the units are those of the format, and have not failed
 abbrev pub AreUnitsOf : Format → Units → Type 0
@@ -37,9 +37,9 @@ IsGoodUnits (DataSets encoder) = encoder.failed ≡ false
 pub record SinkState : Type 0 where
   pub format : Format
   pub number : ℕ
-  pub encoder : Written
+  pub encoder : WriterState
   pub written : ℕ
-  pub begun : Bool
+  pub has_begun : Bool
   pub ended : Bool
   pub failed : Bool
 
@@ -48,31 +48,31 @@ abbrev pub new_sink : Format → ℕ → SinkState
 new_sink format number = record {
   format = format;
   number = number;
-  encoder = initial_written;
+  encoder = initial_writer;
   written = 0;
-  begun = false;
+  has_begun = false;
   ended = false;
   failed = false;
 }
 
--- it was begun and not ended
+-- the sink was begun and not ended
 abbrev pub IsOpen : SinkState → Type 0
-IsOpen s = (s.begun ≡ true) × (s.ended ≡ false)
+IsOpen s = (s.has_begun ≡ true) × (s.ended ≡ false)
 
--- the version's kind is not below the one written last
-abbrev pub MayFollow : VersionData → Written → Type 0
-MayFollow v w = kind_rank w.last ≤ kind_rank (kind_of v.body)
+-- the version's kind is not below the kind written last
+abbrev pub MayFollow : VersionData → WriterState → Type 0
+MayFollow v w = kind_order w.last ≤ kind_order (kind_of v.body)
 
--- the version's kind may follow, as long as no call was refused
+-- the version may follow those written, unless a call was refused
 abbrev pub Takes : VersionData → SinkState → Type 0
 Takes v s = s.failed ≡ false → MayFollow v s.encoder
 
--- all these bytes were appended, after `written` bytes, to less than 2^62 bytes in all
+-- all these bytes were appended, after `written` bytes, to fewer than 2^62 bytes in all
 pub record Sent (change : Change) (written : ℕ) (bytes : List ℕ) : Type 0 where
   pub appended : Appends change bytes
   pub short : written + length bytes < 2 ^ 62
 
--- why not all these bytes were appended: memory ran out, and then none was, or the write stopped
+-- why not all these bytes were appended: memory ran out and none was, or the write stopped
 abbrev pub NotSent : ℕ → Change → ℕ → List ℕ → Fault → Type 0
 NotSent output change written bytes fault =
     ((fault ≡ memory_fault) × Appends change []) ⊎ StoppedWriting output change written bytes fault
@@ -86,10 +86,10 @@ Sends output change written bytes (Err fault) = NotSent output change written by
 abbrev pub Leaves : {A : Type 0} → SinkState → SinkState → (SinkState → SinkState) → List ℕ → Result A Fault → Type 0
 Leaves old new next bytes (Ok done) = new ≡ next (record old { written = old.written + length bytes })
 Leaves old new next bytes (Err fault) =
-    (new.failed ≡ true) × (new.number ≡ old.number) × (new.begun ≡ old.begun) × (new.ended ≡ old.ended)
+    (new.failed ≡ true) × (new.number ≡ old.number) × (new.has_begun ≡ old.has_begun) × (new.ended ≡ old.ended)
 
--- A call of a sink that has not failed sends these bytes and leaves it so; any other returns Failed and changes
--- nothing.
+-- A call of a sink that has not failed sends these bytes and leaves the sink as `Leaves` defines. Any other call
+-- returns Failed and changes nothing.
 abbrev pub Calls : {A : Type 0} → SinkState → SinkState → (SinkState → SinkState) → Change → List ℕ → Result A Fault
     → Type 0
 Calls old new next change bytes result = MatchBool old.failed
@@ -104,33 +104,36 @@ WhyCut output bytes count failed fault =
     ⊎ ((fault ≡ write_fault output count) × (failed ≡ true))
     ⊎ ((fault ≡ too_long_fault output) × (2 ^ 62 ≤ length bytes))
 
--- calls that together were to append these bytes appended a front of them, and the reason why no more
+-- of these bytes, which several calls were to append, a front was appended; `why` has the reason why no more were
 pub record CutShort (output : ℕ) (change : Change) (bytes : List ℕ) (fault : Fault) : Type 0 where
   pub count : ℕ
   pub within : count ≤ length bytes
   pub appended : Appends change (take count bytes)
   pub why : WhyCut output bytes count change.failed fault
 
--- the effect of calls that together were to append these bytes to the output of this number
+-- the effect on the output of this number of several calls that were to append these bytes
 abbrev pub WritesFile : {A : Type 0} → ℕ → Change → List ℕ → Result A Fault → Type 0
 WritesFile output change bytes (Ok done) = Sent change 0 bytes
 WritesFile output change bytes (Err fault) = CutShort output change bytes fault
 
--- the refusals before which the call wrote nothing
+-- the call was refused before it wrote anything
 abbrev pub IsBeforeWriting : {A : Type 0} → ℕ → Result A Fault → Type 0
 IsBeforeWriting output result =
     (result ≡ Err memory_fault) ⊎ (result ≡ Err (too_long_fault output)) ⊎ (result ≡ Err (failed_fault output))
 
--- the sink after it is begun, ended, or has put a version
+-- the sink after it was begun
 abbrev pub after_begin : SinkState → SinkState
-after_begin s = record s { begun = true }
+after_begin s = record s { has_begun = true }
 
+-- the sink after it was ended
 abbrev pub after_end : SinkState → SinkState
 after_end s = record s { ended = true }
 
+-- the sink after it has put a version
 abbrev pub after_put : VersionData → SinkState → SinkState
-after_put v s = record s { encoder = written_with s.format s.encoder v }
+after_put v s = record s { encoder = writer_with s.format s.encoder v }
 
+-- the sink unchanged
 abbrev pub same_sink : SinkState → SinkState
 same_sink s = s
 
@@ -139,9 +142,9 @@ abbrev pub sink_after : Format → ℕ → List VersionData → SinkState
 sink_after format number versions = record {
   format = format;
   number = number;
-  encoder = written_with_all format initial_written versions;
+  encoder = writer_with_all format initial_writer versions;
   written = length (open_file_bytes format versions);
-  begun = true;
+  has_begun = true;
   ended = false;
   failed = false;
 }

@@ -7,7 +7,8 @@ use Rattle.osm_files.specs.declared.sorted_run.SortedRun.{SortedRun}
 use Rattle.osm_files.specs.O5.{o5m_header, o5c_header, end_byte, reset_byte}
 use Rattle.osm_files.specs.Units.{InOpl, BeforeHeader, start_of}
 
--- lines with their ends, and then more lines
+-- The bytes are split after a line: `file` is the lines up to there with their ends, and `rest` has the lines after
+-- them.
 pub record SplitAfterLine (file rest bytes : List ℕ) : Type 0 where
   pub front : List ℕ
   pub last : ℕ
@@ -17,8 +18,8 @@ pub record SplitAfterLine (file rest bytes : List ℕ) : Type 0 where
   pub more_lines : start_of rest ≡ InOpl
   pub whole : bytes ≡ file ++ rest
 
--- Data sets up to a reset, which the end byte replaces in the file. The rest has a header before the data sets after
--- it.
+-- The bytes are split at a reset: `file` has the bytes before the reset, and the end byte instead of the reset. `rest`
+-- has a header, and the data sets after the reset.
 pub record SplitAtReset (file rest bytes : List ℕ) : Type 0 where
   pub front : List ℕ
   pub header : List ℕ
@@ -55,7 +56,7 @@ run_bytes run file = bytes_before run ++ (take run.size (drop run.start file) ++
 abbrev pub IsSplitIntoRuns : List ℕ → List SortedRun → Type 0
 IsSplitIntoRuns file runs = IsSplitInto file (map (λ run. run_bytes run file) runs)
 
--- the file has these bytes at the split of a run from this start at this offset
+-- the file has these bytes at the start of a run and at the offset of a split
 pub record HasBytes (file : List ℕ) (start offset : ℕ) (bytes : BytesAtSplit) : Type 0 where
   pub first : slice_get file start ≡ bytes.first
   pub before : slice_get file (offset - 1) ≡ bytes.before
@@ -92,7 +93,7 @@ abbrev pub can_split : SortedRun → ℕ → BytesAtSplit → Bool
 can_split run offset bytes =
     is_within run offset bytes && (if is_o5_run run bytes then splits_o5 run offset bytes else splits_opl bytes)
 
--- the run up to the offset; for an o5 file without the reset
+-- the run up to the offset; of an o5 file without the reset
 abbrev pub front_run : Bool → SortedRun → ℕ → SortedRun
 front_run is_o5 run offset = record {
   start = run.start;

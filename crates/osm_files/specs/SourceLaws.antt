@@ -10,7 +10,7 @@ use Rattle.osm_files.specs.declared.reason.Reason.TheVariants.{ReadFault}
 use Rattle.osm_files.specs.Groups.{FileCanGive, to_ascending, new_source, sorted_source}
 use Rattle.osm_files.specs.Held.{HoldsSorted}
 use Rattle.osm_files.specs.LoadLaws.{IsFaultyWhole, broken_after}
-use Rattle.osm_files.specs.Input.{Coming, GivesOne, whole_input as all_of}
+use Rattle.osm_files.specs.Input.{InputRest, GivesOne, whole_input as all_of}
 use Rattle.osm_files.specs.Position.{fault_of, units_from}
 use Rattle.osm_files.specs.Source.{Ascends}
 use Rattle.osm_files.specs.Stream.{Verdict, verdict_at}
@@ -19,9 +19,9 @@ use Rattle.osm_files.specs.Verdict.{is_below_last, sorted_verdict, verdict, verd
 
 -- the versions that a source gives ascend strictly, whatever the bytes are and whatever follows them
 abbrev pub SourcesAscend : Type 0
-SourcesAscend = (input : ℕ) (c : Coming) → Ascends (sorted_source input c)
+SourcesAscend = (input : ℕ) (c : InputRest) → Ascends (sorted_source input c)
 
--- the refusal of the source of a file is its verdict on its order, if it has one
+-- the refusal of the source of a file is the file's verdict on order, if there is one
 abbrev pub SourceEndsAsVerdict : Type 0
 SourceEndsAsVerdict = (input : ℕ) (bytes : List ℕ) →
     (sorted_source input (all_of bytes)).refusal ≡ option_map (fault_of input) (verdict_sorted bytes)
@@ -31,35 +31,37 @@ abbrev pub SourceGivesHeld : Type 0
 SourceGivesHeld = (input : ℕ) (bytes : List ℕ) (held : VersionSet) → HoldsSorted bytes held →
     sorted_source input (all_of bytes) ≡ record { list = to_list held; refusal = None }
 
--- if the source of some bytes is whole, they are a sorted file, and hold the versions that it gives
+-- if the source of some bytes ends without a refusal, they are a sorted file, and hold the versions that the source
+-- gives
 abbrev pub WholeSourceIsHeld : Type 0
 WholeSourceIsHeld = (input : ℕ) (bytes : List ℕ) → (sorted_source input (all_of bytes)).refusal ≡ None →
     HoldsSorted bytes (from_list {R = version_cmp} (sorted_source input (all_of bytes)).list)
 
--- The verdict of the whole units in these bytes, on their order too, if this verdict closes the file instead of its
--- end; it is the closing one, if none of these units is faulty.
+-- The verdict on order of the whole units in these bytes, if the verdict `close` closes the file instead of its end. It
+-- is `close`, if none of these units is faulty.
 abbrev pub verdict_within : Verdict → List ℕ → Option Verdict
 verdict_within close bytes = let us = units (Some close) (start_of bytes) 0 bytes in
     sorted_verdict us.refusal None us.list
 
--- a whole unit in these bytes is faulty: whatever closes them, this is the verdict
+-- a whole unit in these bytes is faulty: the verdict is `fault`, whatever closes them
 abbrev pub IsFaultyWithin : List ℕ → Verdict → Type 0
 IsFaultyWithin bytes fault = (close : Verdict) → verdict_within close bytes ≡ Some fault
 
--- if an error follows the bytes, their source ends with the verdict of the whole units in them, and else, as none of
--- these is faulty, with the error after the last byte
+-- if an error follows the bytes, their source ends with the verdict of the whole units in them, or with the error if
+-- none of these units is faulty
 abbrev pub BrokenSourceEnds : Type 0
 BrokenSourceEnds =
     (input : ℕ) (bytes : List ℕ) → length bytes < 2 ^ 62 →
     (sorted_source input (broken_after bytes)).refusal
     ≡ option_map (fault_of input) (verdict_within (verdict_at (length bytes) ReadFault) bytes)
 
--- the source of too many bytes depends only on those below the limit, whatever follows them
+-- the source of 2^62 bytes or more gives the same, whether an error or the end of input follows them
 abbrev pub LongSourceEnds : Type 0
 LongSourceEnds = (input : ℕ) (bytes : List ℕ) → 2 ^ 62 ≤ length bytes →
     sorted_source input (broken_after bytes) ≡ sorted_source input (all_of bytes)
 
--- the whole units in some bytes are faulty whatever closes them, or never: then the verdict is the one that closes them
+-- either some bytes have a whole faulty unit, and their verdict on order is the same whatever closes them; or their
+-- verdict on order is the one that closes them
 abbrev pub FaultyOrClosed : Type 0
 FaultyOrClosed = (bytes : List ℕ) → ((fault : Verdict) × IsFaultyWithin bytes fault)
     ⊎ ((close : Verdict) → verdict_within close bytes ≡ Some close)
@@ -69,17 +71,17 @@ abbrev pub FaultyStays : Type 0
 FaultyStays = (bytes more : List ℕ) (fault : Verdict) → length bytes < 2 ^ 62 → IsFaultyWithin bytes fault →
     verdict_sorted (bytes ++ more) ≡ Some fault
 
--- nor the verdict without regard to the order, after a whole unit that can't be read
+-- bytes after a whole unit that can't be read don't change the verdict
 abbrev pub MalformedStays : Type 0
 MalformedStays = (bytes more : List ℕ) (fault : Verdict) → length bytes < 2 ^ 62 → IsFaultyWhole bytes fault →
     verdict (bytes ++ more) ≡ Some fault
 
 -- The verdict on order of an input: its first faulty unit, or whatever comes instead of its end.
-abbrev pub input_verdict : Coming → Option Verdict
+abbrev pub input_verdict : InputRest → Option Verdict
 input_verdict c = let us = units_from None 0 c in sorted_verdict us.refusal None us.list
 
 -- the versions whose units begin before this offset
-abbrev pub versions_before : ℕ → Coming → List VersionData
+abbrev pub versions_before : ℕ → InputRest → List VersionData
 versions_before place c = versions_of (filter (λ unit. nat_lt unit.place place) (units_from None 0 c).list)
 
 -- the key groups before the last one: the versions whose key is below that of the last version
@@ -87,18 +89,18 @@ abbrev pub groups_before_last : List VersionData → List VersionData
 groups_before_last versions = filter (λ v. is_below_last v versions) versions
 
 -- the key groups before the last one that began before this offset, ascending, each version once
-abbrev pub groups_before : ℕ → Coming → List VersionData
+abbrev pub groups_before : ℕ → InputRest → List VersionData
 groups_before place c = to_ascending (groups_before_last (versions_before place c))
 
 -- the source of a faulty input gives the key groups before the last one that began before the fault, and then the fault
 abbrev pub FaultyInputGivesTheGroupsBefore : Type 0
 FaultyInputGivesTheGroupsBefore =
-    (input : ℕ) (c : Coming) (fault : Verdict) → input_verdict c ≡ Some fault
+    (input : ℕ) (c : InputRest) (fault : Verdict) → input_verdict c ≡ Some fault
     → sorted_source input c ≡ record { list = groups_before fault.place c; refusal = Some (fault_of input fault) }
 
 -- An opened source can give these versions and then this fault exactly if its reader can give an input whose verdict is
 -- the fault, and the versions are the key groups before the last one that began before the fault.
-abbrev pub RefusedSourceGivesTheGroupsBefore : {R : Type 0} → (R → Coming → Type 0) → Type 0
+abbrev pub RefusedSourceGivesTheGroupsBefore : {R : Type 0} → (R → InputRest → Type 0) → Type 0
 RefusedSourceGivesTheGroupsBefore {R = R} can =
     (input : ℕ) (reader : R) (versions : List VersionData) (fault : Fault) →
     FileCanGive can (new_source input reader) (record { list = versions; refusal = Some fault })

@@ -1,11 +1,11 @@
 -- The one file that is written for a set of versions (lines: the Osmium OPL file format manual; headers, data sets and
--- the end byte: the OSM wiki's page on o5m). That there is only one such file is an own rule of this project.
+-- the end byte: the OSM wiki's page on o5m). An own rule of this project is that there is only one such file.
 use Rattle.std.specs.Prelude.{ℕ, List, [], ◌∷◌, ◌++◌}
 use Rattle.osm_model.specs.Data.{VersionData, kind_of}
 use Rattle.osm_model.specs.Line.{line}
 use Rattle.osm_model.specs.VersionSet.{VersionSet}
 use Rattle.osm_model.specs.Sets.{to_list}
-use Rattle.o5_codec.specs.Encoder.{Written, initial_written, spelled_set, written_after}
+use Rattle.o5_codec.specs.Encoder.{WriterState, initial_writer, spelled_set, writer_after}
 use Rattle.osm_files.specs.declared.format.Format.{Format}
 use Rattle.osm_files.specs.declared.format.Format.TheVariants.{Opl, O5m, O5c}
 use Rattle.osm_files.specs.O5.{o5m_header, o5c_header, end_byte}
@@ -16,7 +16,7 @@ file_start Opl = []
 file_start O5m = o5m_header
 file_start O5c = o5c_header
 
--- the bytes after the last one
+-- the bytes after the last version
 abbrev pub file_end : Format → List ℕ
 file_end Opl = []
 file_end O5m = end_byte ∷ []
@@ -27,29 +27,30 @@ abbrev pub line_with_end : VersionData → List ℕ
 line_with_end v = line v ++ 10 ∷ []
 
 -- a version, after those written before: its line with LF, or its data set
-abbrev pub version_bytes : Format → Written → VersionData → List ℕ
+abbrev pub version_bytes : Format → WriterState → VersionData → List ℕ
 version_bytes Opl w v = line_with_end v
 version_bytes O5m w v = spelled_set w v
 version_bytes O5c w v = spelled_set w v
 
--- the state after this version; for lines it has only the last kind
-abbrev pub written_with : Format → Written → VersionData → Written
-written_with Opl w v = record w { last = kind_of v.body }
-written_with O5m w v = written_after w v
-written_with O5c w v = written_after w v
+-- the state after this version; for lines only the kind changes
+abbrev pub writer_with : Format → WriterState → VersionData → WriterState
+writer_with Opl w v = record w { last = kind_of v.body }
+writer_with O5m w v = writer_after w v
+writer_with O5c w v = writer_after w v
 
--- versions in sequence
-abbrev pub versions_bytes : Format → Written → List VersionData → List ℕ
+-- the bytes of versions in sequence
+abbrev pub versions_bytes : Format → WriterState → List VersionData → List ℕ
 versions_bytes format w [] = []
-versions_bytes format w (v ∷ versions) = version_bytes format w v ++ versions_bytes format (written_with format w v) versions
+versions_bytes format w (v ∷ versions) = version_bytes format w v ++ versions_bytes format (writer_with format w v) versions
 
-abbrev pub written_with_all : Format → Written → List VersionData → Written
-written_with_all format w [] = w
-written_with_all format w (v ∷ versions) = written_with_all format (written_with format w v) versions
+-- the state after versions in sequence
+abbrev pub writer_with_all : Format → WriterState → List VersionData → WriterState
+writer_with_all format w [] = w
+writer_with_all format w (v ∷ versions) = writer_with_all format (writer_with format w v) versions
 
 -- a file up to the mark of its end
 abbrev pub open_file_bytes : Format → List VersionData → List ℕ
-open_file_bytes format versions = file_start format ++ versions_bytes format initial_written versions
+open_file_bytes format versions = file_start format ++ versions_bytes format initial_writer versions
 
 -- a file of these versions, in this order
 abbrev pub spell_list : Format → List VersionData → List ℕ

@@ -7,7 +7,7 @@ use Rattle.osm_model.specs.Order.{version_cmp}
 use Rattle.osm_model.specs.Valid.{IsVersion}
 use Rattle.osm_model.specs.VersionSet.{VersionSet}
 use Rattle.osm_model.specs.Sets.{to_list, from_list, union, empty}
-use Rattle.o5_codec.specs.Encoder.{initial_written}
+use Rattle.o5_codec.specs.Encoder.{initial_writer}
 use Rattle.osm_files.specs.declared.fault.Fault.{Fault}
 use Rattle.osm_files.specs.declared.format.Format.{Format}
 use Rattle.osm_files.specs.Held.{IsFile, Holds, HoldsSorted}
@@ -15,7 +15,7 @@ use Rattle.osm_files.specs.Output.{Change}
 use Rattle.osm_files.specs.Change.{change_of}
 use Rattle.osm_files.specs.declared.output.Output.{Ghosts}
 use Rattle.osm_files.specs.Verdict.{verdict, held_by}
-use Rattle.osm_files.specs.Spell.{file_start, file_end, version_bytes, written_with_all, open_file_bytes, spell_list, spell}
+use Rattle.osm_files.specs.Spell.{file_start, file_end, version_bytes, writer_with_all, open_file_bytes, spell_list, spell}
 use Rattle.osm_files.specs.Sink.{SinkState, new_sink, MayFollow, Calls, CutShort, WritesFile, after_begin, after_put, after_end, same_sink}
 use Rattle.osm_files.specs.Sink.{HasPut}
 
@@ -33,7 +33,7 @@ SpellHoldsItsSet =
 abbrev pub HeldIsOneSet : Type 0
 HeldIsOneSet = (bytes : List ℕ) (one other : VersionSet) → Holds bytes one → Holds bytes other → one ≡ other
 
--- the file of a set of versions holds no other
+-- the file of a set of versions holds no other set
 abbrev pub SpelledIsHeld : Type 0
 SpelledIsHeld = (format : Format) (set held : VersionSet) → AreVersions set → Holds (spell format set) held → held ≡ set
 
@@ -41,47 +41,48 @@ SpelledIsHeld = (format : Format) (set held : VersionSet) → AreVersions set �
 abbrev pub joined_file : Format → VersionSet → VersionSet → List ℕ
 joined_file format a b = spell format (union a b)
 
--- the order of two sets does not matter, and a set with itself makes the file that it makes with the empty one
+-- the union of two sets has the same file in either order
 abbrev pub JoinInAnyOrder : Type 0
 JoinInAnyOrder = (format : Format) (a b : VersionSet) → joined_file format a b ≡ joined_file format b a
 
+-- the union of a set with itself has the same file as its union with the empty set
 abbrev pub JoinRepeated : Type 0
 JoinRepeated = (format : Format) (a : VersionSet) → joined_file format a a ≡ joined_file format a empty
 
--- three sets make the same file whichever two were joined and written first, in any formats, to a file shorter than
--- 2^62 bytes
+-- the union of three sets has the same file, whichever two are joined and written first, in whichever formats, to a
+-- file shorter than 2^62 bytes
 abbrev pub JoinInAnyGrouping : Type 0
 JoinInAnyGrouping =
     (format left right : Format) (a b c ab bc : VersionSet) → AreVersions a → AreVersions b → AreVersions c →
     Holds (joined_file left a b) ab → Holds (joined_file right b c) bc →
     joined_file format ab c ≡ joined_file format a bc
 
--- in a list that ascends strictly each version may follow those before it: the kinds don't fall
+-- in a strictly ascending list, each version may follow those before it: no kind is below the kind before
 abbrev pub EachMayFollow : Type 0
 EachMayFollow =
     (format : Format) (versions others : List VersionData) (v : VersionData)
-    → IsStrictlySortedBy version_cmp (versions ++ v ∷ others) → MayFollow v (written_with_all format initial_written versions)
+    → IsStrictlySortedBy version_cmp (versions ++ v ∷ others) → MayFollow v (writer_with_all format initial_writer versions)
 
--- a list that ascends strictly is spelled as its set
+-- the file of a strictly ascending list is the file of its set
 abbrev pub ListIsSpelledAsItsSet : Type 0
 ListIsSpelledAsItsSet =
     (format : Format) (versions : List VersionData) → IsStrictlySortedBy version_cmp versions
     → spell_list format versions ≡ spell format (from_list versions)
 
--- the file of the first versions of a list, without the mark of its end, is a front of the file of all
-abbrev pub FirstVersionsStandInFront : Type 0
-FirstVersionsStandInFront =
+-- the file of a list's first versions, without the end mark, is a front of the file of the whole list
+abbrev pub FirstVersionsAreAFront : Type 0
+FirstVersionsAreAFront =
     (format : Format) (versions others : List VersionData)
     → (rest : List ℕ) × (spell_list format (versions ++ others) ≡ open_file_bytes format versions ++ rest)
 
--- the effect of a call on the versions put so far: they are put, or a front of their file was appended
+-- the effect of the calls so far: the sink has put these versions, or only a front of their file was appended
 abbrev pub Puts : {A : Type 0} → Format → ℕ → List VersionData → Change → SinkState → Result A Fault → Type 0
 Puts format number versions change s (Ok done) = HasPut format number versions change s
 Puts format number versions change s (Err fault) = CutShort number change (open_file_bytes format versions) fault
 
--- The calls of a sink, in sequence: the bytes that they append are the file of the versions put, to its end after `end`
--- and without it before. After a refusal they are a front of the file of the versions put, with the version of the
--- call. After a failure of the output their number is the fault's `place`.
+-- The calls of a sink, in sequence. The bytes that they append are the file of the versions put, up to its end mark,
+-- and after `end` with the end mark. After a refused call they are a front of the file that the call would have led to.
+-- After a failure of the output their number is the fault's `place`.
 pub record CallsAreSpelled {O : Type 0} (output : Ghosts O) : Type 0 where
   pub begin : (format : Format) (number : ℕ) (s : SinkState) (before now : O) (result : Result (Unit {0}) Fault) →
       Calls (after_begin (new_sink format number)) s same_sink (change_of output before now) (file_start format) result →
@@ -109,7 +110,7 @@ HeldAreVersions = (bytes : List ℕ) (set : VersionSet) → Holds bytes set → 
 abbrev pub UnionsAreVersions : Type 0
 UnionsAreVersions = (a b : VersionSet) → AreVersions a → AreVersions b → AreVersions (union a b)
 
--- three files make one file, whether the first two are joined first, or the last two
+-- the union of what three files hold has the same file, whether the first two or the last two files are joined first
 abbrev pub FilesJoinInAnyGrouping : Type 0
 FilesJoinInAnyGrouping =
     (format left right : Format) (first second third : List ℕ) (a b c ab bc : VersionSet) → Holds first a
@@ -117,7 +118,7 @@ FilesJoinInAnyGrouping =
     Holds (joined_file left a b) ab → Holds (joined_file right b c) bc →
     joined_file format ab c ≡ joined_file format a bc
 
--- bytes hold a set exactly if they have no verdict and it is the set of the versions of their units
+-- bytes hold a set exactly if they have no verdict and the set has the versions of their units
 abbrev pub HeldWithoutVerdict : Type 0
 HeldWithoutVerdict =
     (bytes : List ℕ) (set : VersionSet) → Holds bytes set ↔ ((verdict bytes ≡ None) × (set ≡ held_by bytes))

@@ -17,16 +17,16 @@ use Rattle.osm_files.specs.declared.reason.Reason.{Reason}
 use Rattle.osm_files.specs.declared.reason.Reason.TheVariants.{BadHeader, NoEnd, AfterEnd, O5}
 use Rattle.osm_files.specs.Reason.{of_line, of_data_set}
 use Rattle.osm_files.specs.O5.{o5m_header, o5c_header, end_byte, reset_byte, kind_of_type, is_lone}
-use Rattle.osm_files.specs.Stream.{Verdict, verdict_at, Placed, new_placed, Still, end_whole, end_refused, front}
+use Rattle.osm_files.specs.Stream.{Verdict, verdict_at, Placed, new_placed, SourceRest, end_whole, end_refused, front}
 
 -- the stage of a reading: in an OPL file; in an o5 file before its header, in a segment, or after the end byte
 pub data FileStateData : Type 0 where
   InOpl : FileStateData
   BeforeHeader : FileStateData
   InSegment : Segment → FileStateData
-  BehindEnd : FileStateData
+  PastEnd : FileStateData
 
--- the finding of a unit: a version or nothing, and the stage of the reading after it; or a refusal
+-- the result of reading a unit: a version or nothing, and the stage after it; or a refusal
 abbrev pub UnitResult : Type 0
 UnitResult = Result (Option VersionData × FileStateData) Reason
 
@@ -47,14 +47,16 @@ abbrev pub line_found : Result (Option VersionData) OplReason → UnitResult
 line_found (Ok read) = Ok (read, InOpl)
 line_found (Err reason) = Err (of_line reason)
 
--- a line with its end
+-- the unit of a line, if the line has its end
 abbrev pub line_unit : List ℕ × Option (List ℕ) → Option FileUnit
 line_unit (line, None) = None
 line_unit (line, Some behind) = Some (unit (length line + 1) (line_found (reading_line line)))
 
+-- are these seven bytes the header of o5m or of o5c?
 abbrev pub is_header : List ℕ → Bool
 is_header bytes = bytes_eq bytes o5m_header || bytes_eq bytes o5c_header
 
+-- the unit of the header, if all its bytes are there
 abbrev pub header_unit : List ℕ → Option FileUnit
 header_unit bytes =
     if nat_lt (length bytes) 7 then None
@@ -65,6 +67,7 @@ abbrev pub set_found : Result (VersionData × Segment) O5Reason → UnitResult
 set_found (Ok read) = Ok (Some read.0, InSegment read.1)
 set_found (Err reason) = Err (of_data_set reason)
 
+-- the result of reading the content of a data set of this kind of object, or of no object
 abbrev pub content_found : Segment → Option Kind → List ℕ → UnitResult
 content_found s None content = no_version (InSegment s)
 content_found s (Some k) content = set_found (set_at k s content)
@@ -73,14 +76,16 @@ content_found s (Some k) content = set_found (set_at k s content)
 abbrev pub is_last : ℕ → Bool
 is_last b = nat_lt b 128
 
--- does the number end in these bytes, or have too many to be one?
+-- does the number at the front end in these bytes, or have too many bytes to be a number?
 abbrev pub is_ended : List ℕ → Bool
 is_ended bytes = nat_lt 10 (length bytes) || list_any is_last bytes
 
--- the number of bytes of a data set, and the bytes after it; none if the number isn't ended in these bytes
+-- the length of a data set, and the bytes after the length; none if the length isn't ended in these bytes
 abbrev pub length_at : List ℕ → Option (Result (ℕ × List ℕ) O5Reason)
 length_at bytes = if is_ended bytes then Some (number_at bytes) else None
 
+-- the unit of a data set with the type byte `b`, if all its bytes are there; the last argument is the length that was
+-- read
 abbrev pub sized_unit : Segment → ℕ → List ℕ → Option (Result (ℕ × List ℕ) O5Reason) → Option FileUnit
 sized_unit s b bytes None = None
 sized_unit s b bytes (Some (Err reason)) = Some (unit 1 (Err (of_data_set reason)))
@@ -89,14 +94,15 @@ sized_unit s b bytes (Some (Ok (size, behind))) =
     (content_found s (kind_of_type b) (take size behind)))
     else None
 
--- the end byte, a reset, a lone byte or a data set
+-- the unit in a segment: the end byte, a reset, a lone byte or a data set
 abbrev pub segment_unit : Segment → List ℕ → Option FileUnit
 segment_unit s [] = None
 segment_unit s (b ∷ bytes) =
-    if b == end_byte then Some (unit 1 (no_version BehindEnd))
+    if b == end_byte then Some (unit 1 (no_version PastEnd))
     else (if b == reset_byte then Some (unit 1 (no_version (InSegment new_segment)))
     else (if is_lone b then Some (unit 1 (no_version (InSegment s))) else sized_unit s b bytes (length_at bytes)))
 
+-- the unit after the end byte: any byte is faulty
 abbrev pub unit_after_end : List ℕ → Option FileUnit
 unit_after_end [] = None
 unit_after_end (b ∷ bytes) = Some (unit 1 (Err AfterEnd))
@@ -106,46 +112,49 @@ unfoldable pub unit_at : FileStateData → List ℕ → Option FileUnit
 unit_at InOpl bytes = line_unit (split_first is_line_end bytes)
 unit_at BeforeHeader bytes = header_unit bytes
 unit_at (InSegment s) bytes = segment_unit s bytes
-unit_at BehindEnd bytes = unit_after_end bytes
+unit_at PastEnd bytes = unit_after_end bytes
 
 -- why a file can't end with these bytes, among its data sets: one is cut, or the end byte is missing
 abbrev pub cut_reason : List ℕ → Reason
 cut_reason [] = NoEnd
 cut_reason (b ∷ bytes) = O5 o5.Truncated
 
--- the finding of the last bytes of a file, if no unit is whole: the last line may lack its end
+-- the result of reading the last bytes of a file, if no unit is whole: the last line may lack its end
 unfoldable pub last_at : FileStateData → List ℕ → UnitResult
 last_at InOpl bytes = line_found (reading_line bytes)
 last_at BeforeHeader bytes = Err BadHeader
 last_at (InSegment s) bytes = Err (cut_reason bytes)
-last_at BehindEnd bytes = no_version BehindEnd
+last_at PastEnd bytes = no_version PastEnd
 
--- the finding of a unit, and the units after it
-abbrev pub found_then : ℕ → UnitResult → (FileStateData → Still Placed Verdict) → Still Placed Verdict
+-- the rest from a unit on: its result, and then the units after it
+abbrev pub found_then : ℕ → UnitResult → (FileStateData → SourceRest Placed Verdict) → SourceRest Placed Verdict
 found_then place (Err reason) more = end_refused (verdict_at place reason)
 found_then place (Ok (None, next)) more = more next
 found_then place (Ok (Some v, next)) more = front (new_placed place v) (more next)
 
--- at the last bytes of a file, or at its close
-abbrev pub final_units : Option Verdict → ℕ → UnitResult → Still Placed Verdict
+-- the rest from the last bytes on: their result, or the verdict that closes the file
+abbrev pub final_units : Option Verdict → ℕ → UnitResult → SourceRest Placed Verdict
 final_units None place last = found_then place last (λ next. end_whole)
 final_units (Some verdict) place last = end_refused verdict
 
-abbrev pub unit_then : Option Verdict → FileStateData → ℕ → List ℕ → (FileStateData → ℕ → List ℕ → Still Placed Verdict) →
-    Option FileUnit → Still Placed Verdict
-unit_then close stand place bytes more None = final_units close place (last_at stand bytes)
-unit_then close stand place bytes more (Some u) =
+-- the rest from a whole unit on, or from the last bytes on if no unit is whole
+abbrev pub unit_then : Option Verdict → FileStateData → ℕ → List ℕ → (FileStateData → ℕ → List ℕ → SourceRest Placed Verdict) →
+    Option FileUnit → SourceRest Placed Verdict
+unit_then close stage place bytes more None = final_units close place (last_at stage bytes)
+unit_then close stage place bytes more (Some u) =
     found_then place u.found (λ next. more next (place + u.size) (drop u.size bytes))
 
--- The units of these bytes, each of at least one byte, for a reading at this offset of a file. The bytes are the file's
--- last ones, or a verdict closes them, and then only the whole units count.
-abbrev pub units_within : ℕ → Option Verdict → FileStateData → ℕ → List ℕ → Still Placed Verdict
-units_within zero close stand place bytes = final_units close place (last_at stand bytes)
-units_within (suc most) close stand place bytes =
-    unit_then close stand place bytes (units_within most close) (unit_at stand bytes)
+-- The units of these bytes, each of at least one byte, for a reading at the offset `place` of a file. If no verdict
+-- closes the file, the bytes are its last ones. If one does, only the whole units count. The first argument bounds the
+-- number of units.
+abbrev pub units_within : ℕ → Option Verdict → FileStateData → ℕ → List ℕ → SourceRest Placed Verdict
+units_within zero close stage place bytes = final_units close place (last_at stage bytes)
+units_within (suc most) close stage place bytes =
+    unit_then close stage place bytes (units_within most close) (unit_at stage bytes)
 
-unfoldable pub units : Option Verdict → FileStateData → ℕ → List ℕ → Still Placed Verdict
-units close stand place bytes = units_within (length bytes) close stand place bytes
+-- the units of these bytes: there are no more units than bytes
+unfoldable pub units : Option Verdict → FileStateData → ℕ → List ℕ → SourceRest Placed Verdict
+units close stage place bytes = units_within (length bytes) close stage place bytes
 
 -- a file whose first byte is ff is an o5 file, any other is an OPL file
 abbrev pub start_of : List ℕ → FileStateData

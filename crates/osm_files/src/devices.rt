@@ -1,10 +1,11 @@
-//! Readers, inputs and writers for the tests, which move few bytes a call and fail.
+//! Readers, inputs and writers for the tests: each moves few bytes in a call, and may fail.
 use crate::input::{Broken, Input};
 use std::cell::Cell;
 use std::io;
 use std::io::{Read, Write};
 
-/// A reader that gives `step` bytes a read and counts them, and then ends or fails.
+/// A reader that gives at most `step` bytes in each read and adds their number to `read`. After `rest` it ends, or
+/// fails if `fails` is set.
 #[derive(Drop)]
 pub(crate) struct Pieces<'a> {
     pub(crate) rest: &'a [u8],
@@ -27,7 +28,7 @@ impl Read for Pieces<'_> {
     }
 }
 
-/// An input that gives one byte a read, and then ends or fails.
+/// An input that gives one byte in each read. After `rest` it ends, or fails if `fails` is set.
 #[derive(Drop)]
 pub(crate) struct Dripping<'a> {
     pub(crate) rest: &'a [u8],
@@ -64,7 +65,8 @@ pub(crate) enum Full {
     TakesNothing,
 }
 
-/// A writer that takes one byte a write, as long as it has room, and then fails. Its flush fails unless `flushes`.
+/// A writer that takes one byte in each write until it has taken `room` bytes, and is then full as `full` specifies.
+/// Its flush fails unless `flushes` is set.
 #[derive(Drop)]
 pub(crate) struct Device<'a> {
     pub(crate) taken: &'a mut Vec<u8>,

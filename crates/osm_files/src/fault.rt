@@ -7,23 +7,23 @@ use osm_model::Memory;
 use std::alloc::{AllocError, AllocFailed};
 use thiserror::Error;
 
-/// The bound of a file's length: a file of this many bytes, or of more, is too long.
+/// The limit on a file's length: a file of `LENGTH_LIMIT` bytes or more is too long.
 pub const LENGTH_LIMIT: u64 = 1 << 62;
 
 /// A fault: the file, the offset in it, and the reason.
 #[derive(Clone, Copy, Debug, PartialEq, Eq, Error)]
 #[error("file {input}, byte {place}: {}", .reason.name())]
 pub struct Fault {
-    /// The number of the input, from 0; the output has the number of the inputs.
+    /// The number of the input, counted from 0. The output comes after the inputs: with n inputs its number is n.
     pub input: usize,
     /// The offset of the faulty byte, from 0.
     pub place: u64,
-    /// Why.
+    /// The reason for the refusal.
     pub reason: Reason,
 }
 
 impl Fault {
-    /// Out of memory.
+    /// The fault of a call that ran out of memory.
     pub fn memory() -> Fault
         ensures { result ≡ memory_fault }
     {
@@ -34,7 +34,8 @@ impl Fault {
         }
     }
 
-    /// This reason at this byte of this file; out of memory has no file and no offset.
+    /// The fault for `reason` at the offset `place` of the file `input`. Out of memory has neither file nor offset:
+    /// both are 0.
     pub fn at(input: usize, place: u64, reason: Reason) -> Fault
         ensures { result ≡ fault_at input place reason }
     {
@@ -48,7 +49,7 @@ impl Fault {
         }
     }
 
-    /// An earlier call on this file was refused.
+    /// The fault of a call after an earlier call on the file `input` was refused.
     pub fn failed(input: usize) -> Fault
         ensures { result ≡ failed_fault input }
     {
@@ -59,7 +60,7 @@ impl Fault {
         }
     }
 
-    /// This file has 2^62 bytes or more.
+    /// The fault of the file `input`, which has 2^62 bytes or more.
     pub fn too_long(input: usize) -> Fault
         ensures { result ≡ too_long_fault input }
     {

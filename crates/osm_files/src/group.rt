@@ -12,7 +12,7 @@ use osm_model::{Memory, Version};
 use std::alloc::Global;
 use std::vec::IntoIter;
 
-/// The versions of one key that are in sequence in a file, at least two, as far as they were read.
+/// The versions of a key group of at least two, as far as they were read.
 #[derive(Drop)]
 pub(crate) struct Group {
     first: Version,
@@ -21,7 +21,7 @@ pub(crate) struct Group {
 }
 
 impl Group {
-    /// The group that starts with two versions.
+    /// The group that begins with `first` and `second`.
     ///
     /// # Errors
     ///

@@ -7,7 +7,7 @@ use osm_model::{History, Version};
 use std::marker::Model;
 use std::vec::IntoIter;
 
-/// The versions of a history, ascending. Each is moved out, without a copy. The source is never refused.
+/// The versions of a history, ascending. Each is moved out, without a copy. No call is refused.
 #[derive(Drop)]
 pub struct HistorySource {
     /// The versions still to come.

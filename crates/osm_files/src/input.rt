@@ -1,6 +1,6 @@
 //! Inputs, from which the bytes of a file come.
 ghost use Rattle.std.specs.Prelude.{◌≡◌, ◌<◌, ◌≤◌, Ok, [], length, take, min, IfOk, OnErr, refl};
-ghost use Rattle.osm_files.specs.Input.{Coming, whole_input, broken_input, Gave, CanGive, whole_left, can_give_all};
+ghost use Rattle.osm_files.specs.Input.{InputRest, whole_input, broken_input, Gave, CanGive, whole_left, can_give_all};
 
 use std::io::Read;
 use std::marker::Model;
@@ -13,17 +13,17 @@ pub struct Broken;
 
 /// A source of bytes.
 pub trait Input {
-    /// A `Coming` that it can still give. An input that reports its bytes has one such `Coming`. The bytes of any other
-    /// input are known only as they are read.
-    ghost can_give: { Self → Coming → Type 0 };
+    /// Holds for each `InputRest` that the input can still give: some bytes, and then the end of input or an error. A
+    /// [`SliceIn`] can give only one. An input whose bytes aren't known can give any.
+    ghost can_give: { Self → InputRest → Type 0 };
 
-    /// One of these.
-    ghost one: { Self → Coming };
+    /// A `InputRest` that the input can give.
+    ghost one: { Self → InputRest };
 
-    /// There always is one.
+    /// The input can give `one`.
     ghost possible: { (s : Self) → can_give s (one s) };
 
-    /// Reads some of the remaining bytes into the front of the buffer, and returns their number.
+    /// Reads some of the remaining bytes into the front of `buffer`, and returns their number.
     ///
     /// For a buffer that isn't empty, 0 means the end of input.
     ///
@@ -52,7 +52,7 @@ impl<'a> Model for SliceIn<'a> {
 }
 
 impl<'a> SliceIn<'a> {
-    /// An input that gives these bytes.
+    /// An input that gives `bytes`.
     pub fn new(bytes: &'a [u8]) -> SliceIn<'a>
         ensures { result ≡ bytes.now }
     {
@@ -82,8 +82,8 @@ impl<'a> Input for SliceIn<'a> {
     }
 }
 
-/// A reader of std as an input. If the reader's remaining bytes are known, the input gives these, and may fail at any
-/// read.
+/// A `std::io::Read` as an input. If the reader's remaining bytes are known, the input gives no others, and may fail at
+/// any read.
 #[derive(Drop)]
 pub struct FromRead<R: Read> {
     reader: R,
@@ -96,7 +96,7 @@ impl<R: Read> Model for FromRead<R> {
 }
 
 impl<R: Read> FromRead<R> {
-    /// An input that gives the bytes of the reader, and fails if the reader returns an error.
+    /// An input that gives the bytes of `reader`, and fails if `reader` returns an error.
     pub fn new(reader: R) -> FromRead<R>
         ensures { result ≡ reader }
     {

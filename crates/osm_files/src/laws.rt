@@ -1,5 +1,5 @@
-//! Laws of the definitions, over all bytes and all versions. They run no code: each is the clause of a function without
-//! a body.
+//! Laws of the definitions, over all bytes and all versions. Each is the `ensures` clause of a function with an empty
+//! body, which runs no code.
 ghost use Rattle.osm_files.specs.Laws as law;
 ghost use Rattle.osm_files.specs.SpellLaws as spelling;
 ghost use Rattle.osm_files.specs.LoadLaws as loading;
@@ -12,12 +12,12 @@ pub fn one_list()
     ensures { law.OneList }
 {}
 
-/// Bytes that are a file have no verdict, and their units are its versions.
+/// The bytes of a file have no verdict, and the versions of their units are those that the file spells.
 pub fn files_are_read()
     ensures { law.FilesAreRead }
 {}
 
-/// Bytes without a verdict are a file, and their units are its versions.
+/// Bytes without a verdict are a file, which spells the versions of their units.
 pub fn accepted_without_verdict()
     ensures { law.AcceptedWithoutVerdict }
 {}
@@ -32,9 +32,9 @@ pub fn sorted_without_verdict()
     ensures { law.SortedWithoutVerdict }
 {}
 
-/// A verdict on the order of some bytes that isn't Unsorted is their verdict.
-pub fn verdict_beside_order()
-    ensures { law.VerdictBesideOrder }
+/// If the verdict on order isn't Unsorted, the verdict is the same.
+pub fn verdict_without_order()
+    ensures { law.VerdictWithoutOrder }
 {}
 
 /// The file that is written for a set of versions, if it is shorter than 2^62 bytes, is sorted and holds the set.
@@ -47,7 +47,7 @@ pub fn spell_has_no_verdict()
     ensures { spelling.SpellHasNoVerdict }
 {}
 
-/// Bytes hold a set exactly if they have no verdict and it is the set of their units' versions.
+/// Bytes hold a set exactly if they have no verdict and the set has the versions of their units.
 pub fn held_without_verdict()
     ensures { spelling.HeldWithoutVerdict }
 {}
@@ -62,38 +62,38 @@ pub fn spelled_is_held()
     ensures { spelling.SpelledIsHeld }
 {}
 
-/// Two sets make the same file in either order.
+/// The union of two sets has the same file in either order.
 pub fn join_in_any_order()
     ensures { spelling.JoinInAnyOrder }
 {}
 
-/// A set with itself makes the file that it makes with the empty set.
+/// The union of a set with itself has the same file as its union with the empty set.
 pub fn join_repeated()
     ensures { spelling.JoinRepeated }
 {}
 
-/// Three sets make the same file whichever two were joined and written first, in any formats.
+/// The union of three sets has the same file, whichever two are joined and written first, and in whichever formats.
 pub fn join_in_any_grouping()
     ensures { spelling.JoinInAnyGrouping }
 {}
 
-/// In a list that ascends strictly each version may be written after those before it, since the kinds don't fall.
+/// In a strictly ascending list, each version may be written after those before it: no kind is below the kind before.
 pub fn each_may_follow()
     ensures { spelling.EachMayFollow }
 {}
 
-/// A list that ascends strictly is spelled as its set.
+/// The file of a strictly ascending list is the file of its set.
 pub fn list_is_spelled_as_its_set()
     ensures { spelling.ListIsSpelledAsItsSet }
 {}
 
-/// The file of the first versions of a list, without the mark of its end, is a front of the file of all.
-pub fn first_versions_stand_in_front()
-    ensures { spelling.FirstVersionsStandInFront }
+/// The file of a list's first versions, without the end mark, is a front of the file of the whole list.
+pub fn first_versions_are_a_front()
+    ensures { spelling.FirstVersionsAreAFront }
 {}
 
-/// The bytes that the calls of a sink append together to an output are the file of the versions put, or a front of it
-/// after a refusal.
+/// The calls of a sink together append the file of the versions put. After a refusal they have appended a front of that
+/// file.
 pub fn calls_are_spelled<W: Output>(_out: &W)
     ensures { spelling.CallsAreSpelled W.Output }
 {}
@@ -113,31 +113,31 @@ pub fn unions_are_versions()
     ensures { spelling.UnionsAreVersions }
 {}
 
-/// The sets that three files hold make the same file whichever two were joined and written first, in any formats.
+/// The union of the sets that three files hold has the same file, whichever two are joined and written first, and in
+/// whichever formats.
 pub fn files_join_in_any_grouping()
     ensures { spelling.FilesJoinInAnyGrouping }
 {}
 
-/// An input that ends has the units of its bytes, and is refused with their verdict.
+/// For an input that ends, the units are those of its bytes, and the refusal is their verdict.
 pub fn inputs_are_files()
     ensures { loading.InputsAreFiles }
 {}
 
-/// An input that fails is refused with the verdict of its bytes, if a whole unit in them is faulty or if they are too
-/// many; else for the failure, at the number of its bytes.
+/// An input that fails is refused with the verdict of its bytes if they have a whole faulty unit, or if they are 2^62
+/// or more. Otherwise it is refused as ReadFault at the number of its bytes.
 pub fn broken_inputs_are_refused()
     ensures { loading.BrokenInputsAreRefused }
 {}
 
-/// A verdict never is out of memory, an earlier refusal or the fault of a device; only a verdict on the order is
-/// Unsorted.
+/// The reason of a verdict is never Memory, Failed, ReadFault or WriteFault. Only a verdict on order may be Unsorted.
 pub fn reasons_of_verdicts()
     ensures { loading.ReasonsOfVerdicts }
 {}
 
-/// A file that is written in a format determines it.
-pub fn written_files_tell_their_format()
-    ensures { loading.WrittenFilesTellTheirFormat }
+/// The file that is written in a format determines that format.
+pub fn written_files_determine_their_format()
+    ensures { loading.WrittenFilesDetermineTheirFormat }
 {}
 
 /// The versions that the source of a file gives ascend strictly.
@@ -155,22 +155,24 @@ pub fn source_gives_held()
     ensures { source.SourceGivesHeld }
 {}
 
-/// If the source of a file is whole, the file is sorted and holds the versions that were given.
+/// If the source of a file ends without a refusal, the file is sorted and holds the versions that the source gave.
 pub fn whole_source_is_held()
     ensures { source.WholeSourceIsHeld }
 {}
 
-/// If an error follows some bytes, their source ends with their first whole faulty unit, or with the error.
+/// If an error follows some bytes, their source ends with the first whole faulty unit, or with the error if there is
+/// none.
 pub fn broken_source_ends()
     ensures { source.BrokenSourceEnds }
 {}
 
-/// It makes no difference whether an error or the end of input follows 2^62 bytes or more.
+/// The source of 2^62 bytes or more gives the same, whether an error or the end of input follows them.
 pub fn long_source_ends()
     ensures { source.LongSourceEnds }
 {}
 
-/// The whole units of some bytes are faulty whatever closes the file, or their verdict is the one that closes it.
+/// Either some bytes have a whole faulty unit, and their verdict on order is the same whatever closes the file; or
+/// their verdict on order is the one that closes it.
 pub fn faulty_or_closed()
     ensures { source.FaultyOrClosed }
 {}
@@ -185,14 +187,15 @@ pub fn malformed_stays()
     ensures { source.MalformedStays }
 {}
 
-/// The source of a faulty input gives the key groups before the last one that began before the fault, ascending, each
-/// version once, and then the fault.
+/// The source of a faulty input gives the key groups before the last one that began before the fault, and then the
+/// fault. The versions ascend, and each is given once.
 pub fn faulty_input_gives_the_groups_before()
     ensures { source.FaultyInputGivesTheGroupsBefore }
 {}
 
-/// An opened source that is refused gives the key groups before the last one that began before the fault, ascending,
-/// each version once. It can give these and the fault exactly if its reader can give such an input.
+/// An opened source that is refused gives the key groups before the last one that began before the fault. The versions
+/// ascend, and each is given once. The source can give such versions and the fault exactly if its reader can give an
+/// input that has them and the fault.
 pub fn refused_source_gives_the_groups_before<R: Input>(_reader: &R)
     ensures { source.RefusedSourceGivesTheGroupsBefore R.can_give }
 {}

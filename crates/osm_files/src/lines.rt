@@ -10,19 +10,19 @@ use opl_line::find_line_end;
 use osm_model::Version;
 use std::alloc::Global;
 
-/// The bytes that are read at a time to find the end of a line.
+/// The number of bytes that one read asks for in the search for the end of a line.
 const CHUNK: usize = 1024;
 
 /// A file that can be opened at any offset, by readers of one type.
 pub trait OpenAt<R: Input> {
-    /// Its bytes, where they are known.
+    /// The file's bytes, if they are known.
     ghost bytes: { Self → Option (List ℕ) };
 
-    /// The number of its bytes.
+    /// The file's length in bytes.
     ///
     /// # Errors
     ///
-    /// `Broken` where it isn't known.
+    /// `Broken` if the length isn't known.
     fn size(&self) -> Result<u64, Broken>
         ensures { IfOk result (λ size. IfSome (bytes self.now) (λ all. size ≡ length all)) };
 
@@ -30,7 +30,7 @@ pub trait OpenAt<R: Input> {
     ///
     /// # Errors
     ///
-    /// `Broken` where the file can't be opened.
+    /// `Broken` if the file can't be opened.
     fn open_at(&self, offset: u64) -> Result<R, Broken>
         ensures { IfOk result (ReadsFrom R.can_give (bytes self.now) offset) };
 }
@@ -50,12 +50,12 @@ impl<'a> OpenAt<SliceIn<'a>> for &'a [u8] {
     }
 }
 
-/// Where the first line begins that begins at `offset` or after it: 0, or after the end of a line. It is the file's
-/// length where no line begins there.
+/// The offset of the first line that begins at `offset` or after it. A line begins at 0 and after each end of a line.
+/// If no line begins there, the result is the file's length.
 ///
 /// # Errors
 ///
-/// `ReadFault` where the file can't be read, and `TooLong` where no line ends below 2^62; `input` is the file's number.
+/// `ReadFault` if the file can't be read. `TooLong` if the result would be 2^62 or more. `input` is the file's number.
 pub fn line_start<R: Input + Drop, F: OpenAt<R>>(
     file: &F,
     input: usize,
@@ -85,7 +85,8 @@ fn open<R: Input, F: OpenAt<R>>(file: &F, input: usize, offset: u64) -> Result<R
     }
 }
 
-/// Where the lines begin that come after the first end of a line, in a file that a reader gives from `offset` on.
+/// The offset after the first end of a line at `offset` or after it; the file's length if there is none. `reader` gives
+/// the file's bytes from `offset` on.
 fn next_line_start<R: Input>(reader: &mut R, input: usize, offset: u64) -> Result<u64, Fault>
     ensures start { IfOk result (LeadsTo R.can_give reader.old offset) }
     ensures bound { IfOk result (λ start. start < 2 ^ 62) }
@@ -109,7 +110,7 @@ fn next_line_start<R: Input>(reader: &mut R, input: usize, offset: u64) -> Resul
     }
 }
 
-/// A start of a line, unless it is where no file reaches.
+/// Returns `start`, or `TooLong` if `start` isn't below the limit on a file's length.
 fn start_below_limit(input: usize, start: u64) -> Result<u64, Fault>
     ensures same { IfOk result (λ same. same ≡ start) }
     ensures bound { IfOk result (λ same. same < 2 ^ 62) }
@@ -122,12 +123,12 @@ fn start_below_limit(input: usize, start: u64) -> Result<u64, Fault>
     }
 }
 
-/// The first version of the lines of an OPL file that begin at `offset` or after it; none where they hold none.
+/// The first version in the lines of an OPL file that begin at `offset` or after it; `None` if they hold no version.
 ///
 /// # Errors
 ///
-/// Why the first line that isn't skipped can't be read, with its offset in the file; `ReadFault` where the file can't be
-/// read; `TooLong` or `Memory`. `input` is the file's number.
+/// The reason why the first line that isn't skipped can't be read, at the line's offset in the file. `ReadFault` if the
+/// file can't be read; `TooLong`; or `Memory`. `input` is the file's number.
 pub fn first_version<R: Input + Drop, F: OpenAt<R>>(
     alloc: Global,
     file: &F,

@@ -26,8 +26,7 @@ pub struct Loaded {
     pub sorted: bool,
 }
 
-/// The contents of the file that an input gives. The file may have any format and any order of its versions. `input` is
-/// the number of the input.
+/// Loads the file that `reader` gives, in any format and with its versions in any order. `input` is the file's number.
 ///
 /// # Errors
 ///
@@ -69,7 +68,7 @@ fn read_versions<R: Input>(
     }
 }
 
-/// Adds a version, and returns whether the versions are still sorted.
+/// Appends a version, and returns whether the versions are still sorted.
 fn add(versions: &mut Vec<Version>, sorted: bool, version: Version) -> Result<bool, Fault>
     ensures added { OnOk result (versions.new.items ≡ versions.old.items ++ version ∷ []) }
     ensures sorted { IfOk result (λ still. still ≡ (sorted && not (is_below_last version versions.old.items))) }
@@ -82,7 +81,7 @@ fn add(versions: &mut Vec<Version>, sorted: bool, version: Version) -> Result<bo
     }
 }
 
-/// Whether the version's key is below that of the last of these.
+/// Whether the key of `version` is below that of the last of `versions`.
 fn is_below_last(version: &Version, versions: &[Version]) -> bool
     ensures { result ≡ is_below_last version.now versions.now }
 {

@@ -10,16 +10,17 @@ use std::marker::Model;
 
 /// A destination of bytes.
 ///
-/// An output has failed once it returned an error, or took none of some bytes. It returns errors from then on.
+/// An output has failed once a call returned an error, or a write took no byte of a slice that isn't empty. From then
+/// on each call returns an error.
 pub trait Output {
-    /// The bytes that it may hold. An output that reports its bytes may hold only these. The bytes of any other output
-    /// are known only as its earlier bytes and those written since.
+    /// Holds for the bytes that the output may hold. If the output reports its bytes, it may hold only those. Otherwise
+    /// its bytes are known only as its earlier bytes and those written since.
     ghost holds: { Self → Content };
 
-    /// Whether it has failed.
+    /// Whether the output has failed.
     ghost failed: { Self → Bool };
 
-    /// Appends a front of the bytes, and returns the number of bytes that it took.
+    /// Appends the first bytes of `bytes`, as many as the output takes, and returns their number.
     ///
     /// # Errors
     ///
@@ -40,7 +41,7 @@ pub trait Output {
         ensures fails { FlushFails (failed self.old) result (failed self.new) };
 }
 
-/// A writer of std as an output. It holds the bytes that the writer reports.
+/// A `std::io::Write` as an output. It holds the bytes that the writer reports.
 #[derive(Drop)]
 pub struct ToWrite<W: Write> {
     writer: W,
@@ -48,7 +49,7 @@ pub struct ToWrite<W: Write> {
 }
 
 impl<W: Write + Drop> ToWrite<W> {
-    /// An output that hands its bytes to the writer.
+    /// An output that hands its bytes to `writer`.
     pub fn new(writer: W) -> ToWrite<W>
         ensures holds { (held : List ℕ) → ⟦<ToWrite<W> as Output>⟧.holds result held ↔ (W.contents writer ≡ Some held) }
         ensures good { ⟦<ToWrite<W> as Output>⟧.failed result ≡ false }
@@ -95,7 +96,7 @@ impl<W: Write + Drop> Output for ToWrite<W> {
     }
 }
 
-/// An output of memory. It fails if a growth is refused.
+/// An output that keeps its bytes in memory. It fails if its vector can't grow.
 #[derive(Drop)]
 pub struct VecOut {
     bytes: Vec<u8>,
@@ -123,7 +124,7 @@ impl VecOut {
         }
     }
 
-    /// The bytes that were taken.
+    /// The bytes that the output took.
     pub fn into_vec(self) -> Vec<u8>
         ensures { result.items ≡ self.bytes }
     {

@@ -1,4 +1,4 @@
-//! The bytes that came from an input and weren't read.
+//! The bytes held: those that an input gave and that belong to no unit read so far.
 ghost use Rattle.std.specs.Prelude.{◌≡◌, ◌⊎◌, ◌<◌, ◌≤◌, Ok, Err, ◌+◌, [], length, take, drop, IfOk, IfErr, OnOk, OnErr};
 ghost use Rattle.osm_files.specs.Input.{whole_input, broken_input, GaveMore};
 ghost use Rattle.osm_files.specs.declared.reason.Reason.TheVariants as reason;
@@ -11,13 +11,11 @@ use std::marker::Model;
 /// The most bytes that one read asks for.
 const MAX_CHUNK: usize = 65536;
 
-/// The fewest bytes that one read asks for, if the limit on a file's length leaves as many.
-const MIN_CHUNK: usize = 4096;
-
-/// The bytes that came from an input and weren't read. Contracts see their list.
+/// The bytes held: those that an input gave and that belong to no unit read so far. In contracts the buffer is the list
+/// of these bytes.
 #[derive(Drop)]
 pub(crate) struct ReadBuffer {
-    /// The room into which input is read. The bytes from `from` on and before `end` are held.
+    /// The memory into which the input is read. The bytes held are `room[from..end]`.
     room: Vec<u8>,
     from: usize,
     end: usize,
@@ -36,7 +34,7 @@ impl Model for ReadBuffer {
 }
 
 impl ReadBuffer {
-    /// No bytes yet.
+    /// A buffer that holds no bytes.
     pub(crate) fn new(alloc: Global) -> ReadBuffer
         ensures { result ≡ [] }
     {
@@ -48,28 +46,28 @@ impl ReadBuffer {
         }
     }
 
-    /// Asks for about `chunk` bytes at a time from now on: 4096 at least, and 65536 at most.
+    /// Makes each later read ask for `chunk` bytes, within 1 to 65536.
     pub(crate) fn set_chunk_size(&mut self, chunk: usize)
         ensures { self.new ≡ self.old }
     {
-        self.chunk = chunk.min(MAX_CHUNK).max(MIN_CHUNK);
+        self.chunk = chunk.clamp(1, MAX_CHUNK);
     }
 
-    /// The bytes.
+    /// The bytes held.
     pub(crate) fn as_slice(&self) -> &[u8]
         ensures { result.now ≡ self.now }
     {
         &self.room[self.from..self.end]
     }
 
-    /// The number of the bytes.
+    /// The number of bytes held.
     pub(crate) fn len(&self) -> usize
         ensures { result ≡ length self.now }
     {
         self.end - self.from
     }
 
-    /// Drops the first bytes, which were read.
+    /// Drops the first `count` bytes, which were read as units.
     pub(crate) fn skip(&mut self, count: usize)
         requires { count ≤ length self.old }
         ensures { self.new ≡ drop count self.old }
@@ -77,7 +75,7 @@ impl ReadBuffer {
         self.from += count;
     }
 
-    /// Moves the bytes to the front of the room, unless they are there.
+    /// Moves the bytes held to the front of `room`, unless they are already there.
     fn compact(&mut self)
         ensures { self.new ≡ self.old }
     {
@@ -89,7 +87,7 @@ impl ReadBuffer {
         self.from = 0;
     }
 
-    /// Reads at most `most` more bytes and returns the number of bytes read; 0 at the end of input.
+    /// Reads at most `most` more bytes into the buffer, and returns the number of bytes read; 0 at the end of input.
     ///
     /// # Errors
     ///
@@ -145,7 +143,7 @@ fn read_at<R: Input>(
     }
 }
 
-/// Makes room for `chunk` bytes after the first `end`.
+/// Lengthens `room`, if it is too short for `chunk` bytes after its first `end` bytes.
 fn make_room(room: &mut Vec<u8>, end: usize, chunk: usize) -> Result<(), Reason>
     requires within { end ≤ length room.old.items }
     requires few { chunk ≤ 65536 }

@@ -1,4 +1,4 @@
-//! Reading the units of an input one by one, for any pieces in which its bytes come.
+//! Reading the units of an input one by one, in whatever pieces its bytes come.
 //!
 //! Why: a line that is longer than one read is searched for its end once, so the time is linear in the file. A merge of
 //! one line of 64 MB takes 0.5 s, and took 27 s while each read searched the line anew.
@@ -12,10 +12,10 @@ ghost use Rattle.osm_files.specs.Fault.{failed_fault, fault_at};
 ghost use Rattle.osm_files.specs.Units as spec;
 ghost use Rattle.osm_files.specs.Reading.{Finds, FindsLast};
 ghost use Rattle.osm_files.specs.Source.{StepsOn};
-ghost use Rattle.osm_files.specs.Load.{format_of, tells_format, is_o5m, TellsFormat};
+ghost use Rattle.osm_files.specs.Load.{format_of, determines_format, is_o5m, DeterminesFormat};
 ghost use Rattle.osm_files.specs.declared.format.Format.TheVariants.{O5m, O5c};
 ghost use Rattle.osm_files.specs.Stream.{new_placed};
-ghost use Rattle.osm_files.specs.Position.{Between, HasRead, StopsAt, FindsHeld, with_state, state_at, units_left};
+ghost use Rattle.osm_files.specs.Position.{Between, HasRead, StopsAt, FindsUnit, with_state, state_at, units_left};
 
 use crate::fault::{Fault, LENGTH_LIMIT};
 use crate::format::Format;
@@ -35,11 +35,11 @@ pub(crate) struct Reading<R: Input> {
     alloc: Global,
     input: usize,
     reader: R,
-    /// The bytes that came and weren't read.
+    /// The bytes held: those that came and belong to no unit read so far.
     read_buffer: ReadBuffer,
-    /// The offset in the file of the first of them.
+    /// The offset in the file of the first byte held.
     place: u64,
-    /// The stage of the reading, once the first byte was seen, which determines the grammar.
+    /// The stage of the reading; `None` before the first byte, which determines the grammar.
     stage: Option<FileState>,
     ended: bool,
     failed: bool,
@@ -57,7 +57,7 @@ impl<R: Input> Model for Reading<R> {
       place = r.place;
       held = r.read_buffer;
       coming = r.reader;
-      stand = option_map state_data_of r.stage;
+      stage = option_map state_data_of r.stage;
       ended = r.ended;
       failed = r.failed;
     } };
@@ -66,14 +66,14 @@ impl<R: Input> Model for Reading<R> {
 }
 
 impl<R: Input> Reading<R> {
-    /// A reading at the start of an input of this number.
+    /// A reading at the start of the input with the number `input`.
     pub(crate) fn new(alloc: Global, input: usize, reader: R) -> Reading<R>
         ensures { result ≡ record {
           input = input;
           place = 0;
           held = [];
           coming = reader;
-          stand = None;
+          stage = None;
           ended = false;
           failed = false;
         } }
@@ -90,7 +90,7 @@ impl<R: Input> Reading<R> {
         }
     }
 
-    /// A reading of the lines of an OPL file from `place` on, of which a reader gives the bytes.
+    /// A reading of the lines of an OPL file from the offset `place` on. `reader` gives the bytes from there.
     pub(crate) fn of_lines(alloc: Global, input: usize, place: u64, reader: R) -> Reading<R>
         requires { place < 2 ^ 62 }
         ensures { result ≡ record {
@@ -98,21 +98,15 @@ impl<R: Input> Reading<R> {
           place = place;
           held = [];
           coming = reader;
-          stand = Some spec.InOpl;
+          stage = Some spec.InOpl;
           ended = false;
           failed = false;
         } }
     {
-        Reading {
-            alloc,
-            input,
-            reader,
-            read_buffer: ReadBuffer::new(alloc),
-            place,
-            stage: Some(FileState::Lines(LineReader::new(alloc))),
-            ended: false,
-            failed: false,
-        }
+        let mut lines = Reading::new(alloc, input, reader);
+        lines.place = place;
+        lines.stage = Some(FileState::Lines(LineReader::new(alloc)));
+        lines
     }
 
     /// Asks for about `chunk` bytes at a time from now on.
@@ -148,7 +142,7 @@ impl<R: Input> Reading<R> {
         }
     }
 
-    /// Detects that there are no more bytes, after as many as a file may have.
+    /// Detects the end of an input that gave 2^62 - 1 bytes, the most that a file may have. One byte more is TooLong.
     fn end_at_limit(&mut self, read: u64) -> Result<(), Fault>
         requires unended { self.old.ended ≡ false }
         requires place { read ≡ self.old.place + length self.old.held }
@@ -171,13 +165,13 @@ impl<R: Input> Reading<R> {
         }
     }
 
-    /// Sets the stage by the first byte of the file, if it is there.
+    /// Sets the stage by the first byte of the file, if it was read.
     ///
-    /// This is a call of its own only for the optimizer: it happens once in a file, and inlined it costs 12 stores a
-    /// version.
+    /// This is a function of its own only for the optimizer: it runs once in a file, and inlined it would cost 12
+    /// stores for each version.
     #[inline(never)]
     fn detect_grammar(&mut self)
-        requires { self.old.stand ≡ None }
+        requires { self.old.stage ≡ None }
         ensures { self.new ≡ with_state self.old }
     {
         if !self.read_buffer.as_slice().is_empty() {
@@ -185,14 +179,14 @@ impl<R: Input> Reading<R> {
         }
     }
 
-    /// The unit that is whole at the front of the bytes held, if there is one. No unit is whole in the first `searched`
-    /// of them.
+    /// Reads the whole unit at the front of the bytes held, if there is one. No unit is whole in the first `searched`
+    /// of the bytes held.
     #[inline(always)]
     fn read_held(&mut self, searched: usize) -> Result<Option<ReadUnit>, Reason>
         requires good { self.old.failed ≡ false }
         requires within { searched ≤ length self.old.held }
         requires none { spec.unit_at (state_at self.old) (take searched self.old.held) ≡ None }
-        ensures found { FindsHeld self.old result self.new }
+        ensures found { FindsUnit self.old result self.new }
         ensures bound { self.old.place + length self.old.held < 2 ^ 62 }
         ensures place { self.new.place ≡ self.old.place }
         ensures number { self.new.input ≡ self.old.input }
@@ -212,7 +206,7 @@ impl<R: Input> Reading<R> {
         }
     }
 
-    /// Passes a unit of the bytes held, and returns its version, if it holds one.
+    /// Passes a unit of the bytes held, and returns the version that it holds, if any.
     fn pass(&mut self, unit: ReadUnit) -> Option<Placed>
         requires { unit.size ≤ length self.old.held }
         ensures gone { self.new ≡ record self.old {
@@ -232,21 +226,21 @@ impl<R: Input> Reading<R> {
 
     /// The version of the last bytes of an ended input, if no unit is whole.
     #[inline(never)]
-    fn read_last(&self) -> Result<Option<Version>, Reason>
-        requires { self.now.stand ≡ None → self.now.held ≡ [] }
+    fn finish_stage(&self) -> Result<Option<Version>, Reason>
+        requires { self.now.stage ≡ None → self.now.held ≡ [] }
         ensures { FindsLast (spec.last_at (state_at self.now) self.now.held) result }
     {
         match &self.stage {
             None => Ok(None),
-            Some(stage) => stage.read_last(self.alloc, self.read_buffer.as_slice()),
+            Some(stage) => stage.finish(self.alloc, self.read_buffer.as_slice()),
         }
     }
 
-    /// The version of the last bytes of an ended input, if no unit is whole. Nothing comes after them.
-    fn last(&mut self) -> Result<Option<Placed>, Fault>
+    /// Passes the last bytes of an ended input, and returns their version, if no unit is whole.
+    fn finish_input(&mut self) -> Result<Option<Placed>, Fault>
         requires good { self.old.failed ≡ false }
         requires ended { self.old.ended ≡ true }
-        requires seen { self.old.stand ≡ None → self.old.held ≡ [] }
+        requires seen { self.old.stage ≡ None → self.old.held ≡ [] }
         requires nothing { spec.unit_at (state_at self.old) self.old.held ≡ None }
         requires bound { self.old.place + length self.old.held < 2 ^ 62 }
         ensures step { StepsOn R.can_give self.old result self.new }
@@ -255,7 +249,7 @@ impl<R: Input> Reading<R> {
         ensures onward { OnOk result (self.old.place ≤ self.new.place) }
         ensures number { self.new.input ≡ self.old.input }
     {
-        match self.read_last() {
+        match self.finish_stage() {
             Ok(version) => {
                 let size = self.read_buffer.len();
                 Ok(self.pass(ReadUnit { size, version }))
@@ -268,7 +262,7 @@ impl<R: Input> Reading<R> {
     ///
     /// # Errors
     ///
-    /// The fault of the next unit, or `Memory`; ever after `Failed`.
+    /// The fault of the next unit, or `Memory`. After an error each call returns `Failed`.
     #[inline(always)]
     pub(crate) fn next(&mut self) -> Result<Option<Placed>, Fault>
         ensures step { StepsOn R.can_give self.old result self.new }
@@ -289,7 +283,7 @@ impl<R: Input> Reading<R> {
                     Some(given) => return Ok(Some(given)),
                     None => searched = 0,
                 },
-                Ok(None) if self.ended => return self.last(),
+                Ok(None) if self.ended => return self.finish_input(),
                 Ok(None) => {
                     searched = self.read_buffer.len();
                     self.fill()?;
@@ -299,22 +293,22 @@ impl<R: Input> Reading<R> {
         }
     }
 
-    /// The format of the file, by its first bytes. No unit was passed before.
+    /// The format of the file, which its first bytes determine. The call comes before any unit is passed.
     ///
     /// # Errors
     ///
-    /// The fault of these bytes, or `Memory`; ever after `Failed`.
+    /// The fault of the first bytes, or `Memory`. After an error [`Reading::next`] returns `Failed`.
     pub(crate) fn format(&mut self) -> Result<Format, Fault>
         requires at_first { self.old.place ≡ 0 }
-        requires unseen { self.old.stand ≡ None }
+        requires unseen { self.old.stage ≡ None }
         requires good { self.old.failed ≡ false }
-        ensures tells { IfOk result (λ format. Between R.can_give self.old self.new (TellsFormat format)) }
+        ensures shown { IfOk result (λ format. Between R.can_give self.old self.new (DeterminesFormat format)) }
         ensures good { OnOk result (self.new.failed ≡ false) }
         ensures refused { IfErr result (λ fault. StepsOn R.can_give self.old (Err fault) self.new) }
     {
         'reads: loop {
             let held = self.read_buffer.as_slice();
-            if tells_format(held) {
+            if determines_format(held) {
                 return Ok(format_of(held));
             }
             if self.ended {
@@ -336,7 +330,7 @@ impl<R: Input> Reading<R> {
         }
     }
 
-    /// Refuses the unit at this offset, and every later call.
+    /// Returns the fault for `reason` at the offset `place`, and makes every later call fail.
     pub(crate) fn refuse(&mut self, place: u64, reason: Reason) -> Fault
         ensures failed { self.new ≡ record self.old { failed = true } }
         ensures fault { result ≡ fault_at self.old.input place reason }
@@ -346,9 +340,9 @@ impl<R: Input> Reading<R> {
     }
 }
 
-/// Whether these bytes determine the format, whatever follows them.
-fn tells_format(bytes: &[u8]) -> bool
-    ensures { result ≡ tells_format bytes.now }
+/// Whether `bytes` determine the format of a file that begins with them.
+fn determines_format(bytes: &[u8]) -> bool
+    ensures { result ≡ determines_format bytes.now }
 {
     match bytes.first() {
         None => false,
@@ -356,7 +350,7 @@ fn tells_format(bytes: &[u8]) -> bool
     }
 }
 
-/// The format of a file with these bytes.
+/// The format of a file that begins with `bytes`.
 fn format_of(bytes: &[u8]) -> Format
     ensures { result ≡ format_of bytes.now }
 {
@@ -366,7 +360,7 @@ fn format_of(bytes: &[u8]) -> Format
     }
 }
 
-/// The format of an o5 file with these bytes.
+/// The format of an o5 file that begins with `bytes`.
 fn o5_format(bytes: &[u8]) -> Format
     ensures { result ≡ (if is_o5m bytes.now then O5m else O5c) }
 {

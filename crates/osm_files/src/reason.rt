@@ -15,7 +15,7 @@ pub enum Reason {
     O5(O5Reason),
     /// The file doesn't begin as its format requires.
     BadHeader,
-    /// An object comes after one that it should come before.
+    /// The file isn't sorted: a version's key is below the key of the version before it.
     Unsorted,
     /// The file ends without the mark of its end.
     NoEnd,
@@ -25,16 +25,16 @@ pub enum Reason {
     TooLong,
     /// The reader returned an error.
     ReadFault,
-    /// The writer returned an error, or took none of some bytes.
+    /// The writer returned an error, or took no byte of a slice that isn't empty.
     WriteFault,
-    /// Memory was refused.
+    /// Memory ran out.
     Memory,
     /// An earlier call was refused.
     Failed,
 }
 
 impl Reason {
-    /// The reason's name. It is that of its variant; the reason of a line or of a data set has the inner reason's name.
+    /// The reason's name: the name of its variant, or the name of the inner reason of `Opl` and `O5`.
     pub fn name(&self) -> &'static str
         ensures { result.now ≡ reason_name self.now }
     {
@@ -60,7 +60,7 @@ impl From<OplReason> for Reason {
 
     ghost from_gives = { λ inner outer. outer ≡ of_line inner };
 
-    /// `Memory` of a line becomes that of the file.
+    /// `OplReason::Memory` becomes `Reason::Memory`.
     fn from(reason: OplReason) -> Reason {
         match reason {
             OplReason::Memory => Reason::Memory,
@@ -75,7 +75,7 @@ impl From<O5Reason> for Reason {
 
     ghost from_gives = { λ inner outer. outer ≡ of_data_set inner };
 
-    /// `Memory` and `Failed` of a data set become those of the file.
+    /// `O5Reason::Memory` and `O5Reason::Failed` become `Reason::Memory` and `Reason::Failed`.
     fn from(reason: O5Reason) -> Reason {
         match reason {
             O5Reason::Memory => Reason::Memory,

@@ -1,7 +1,7 @@
 //! Sinks: a file that is written version by version.
 ghost use Rattle.std.specs.Prelude.{◌≡◌, ◌≢◌, ◌+◌, ◌<◌, ◌^◌, ◌++◌, false, true, [], Ok, Err, length};
 ghost use Rattle.std.specs.Prelude.{IfOk, IfErr, OnOk, OnErr};
-ghost use Rattle.o5_codec.specs.Encoder.{initial_written};
+ghost use Rattle.o5_codec.specs.Encoder.{initial_writer};
 ghost use Rattle.osm_files.specs.Fault.{memory_fault, too_long_fault, write_fault};
 ghost use Rattle.osm_files.specs.Output.{Appends, FailingLasts, IsGoodThroughout};
 ghost use Rattle.osm_files.specs.Change.{change_of};
@@ -20,20 +20,20 @@ use osm_model::{History, Kind, Memory, Version};
 use std::alloc::Global;
 use std::marker::Model;
 
-/// The state of writing versions in sequence.
+/// The form in which versions are written, with the state of the writing.
 #[derive(Drop)]
 enum Units {
-    /// As lines; the last one is of a version of this kind; nodes come first.
+    /// Lines, with the kind of the version written last; before the first version it is `Node`.
     Lines(Kind),
-    /// As data sets.
+    /// Data sets, with the state of their encoder.
     DataSets(Encoder),
 }
 
 impl Units {
-    /// The units of a format, before any version.
+    /// The state of writing in `format` before the first version.
     fn new(alloc: Global, format: Format) -> Result<Units, Memory>
         ensures units { IfOk result (λ u. spec.AreUnitsOf format u) }
-        ensures nothing { IfOk result (λ u. spec.written_by_units u ≡ initial_written) }
+        ensures nothing { IfOk result (λ u. spec.writer_after_units u ≡ initial_writer) }
     {
         match format {
             Format::Opl => Ok(Units::Lines(Kind::Node)),
@@ -41,20 +41,20 @@ impl Units {
         }
     }
 
-    /// Appends a version after those written before.
+    /// Appends to `bytes` the line or data set of `v`, which comes after the versions appended before.
     ///
     /// # Errors
     ///
     /// Only out of memory. A part of the version may be appended then.
     fn append(&mut self, bytes: &mut Vec<u8>, v: &Version) -> Result<(), Memory>
-        requires follows { spec.MayFollow v.now (spec.written_by_units self.old) }
+        requires follows { spec.MayFollow v.now (spec.writer_after_units self.old) }
         requires good { spec.IsGoodUnits self.old }
         ensures bytes { OnOk result ((f : Format) → spec.AreUnitsOf f self.old
-            → bytes.new.items ≡ bytes.old.items ++ spelling.version_bytes f (spec.written_by_units self.old) v.now) }
+            → bytes.new.items ≡ bytes.old.items ++ spelling.version_bytes f (spec.writer_after_units self.old) v.now) }
         ensures some { OnOk result (0 < length bytes.new.items) }
         ensures units { OnOk result ((f : Format) → spec.AreUnitsOf f self.old → spec.AreUnitsOf f self.new) }
         ensures behind { OnOk result ((f : Format) → spec.AreUnitsOf f self.old
-            → spec.written_by_units self.new ≡ spelling.written_with f (spec.written_by_units self.old) v.now) }
+            → spec.writer_after_units self.new ≡ spelling.writer_with f (spec.writer_after_units self.old) v.now) }
     {
         match self {
             Units::Lines(last) => {
@@ -73,15 +73,16 @@ impl Units {
 
 /// Writes one file, version by version, to an output that each call gets as an argument.
 ///
-/// It keeps the state that the next version is written in, and no version. Each call writes at once.
+/// It keeps no version, only the state on which the bytes of the next version depend. Each call writes at once.
 #[derive(Drop)]
 pub struct Sink {
     format: Format,
+    /// The number of the output, which the sink's faults have.
     number: usize,
     units: Units,
     /// The number of bytes written so far.
     written: u64,
-    begun: bool,
+    has_begun: bool,
     ended: bool,
     failed: bool,
     /// The bytes of one version; reused for each.
@@ -90,17 +91,17 @@ pub struct Sink {
 
 impl Model for Sink {
     ghost use Rattle.osm_files.specs.Sink.{SinkState};
-    ghost use Rattle.osm_files.specs.InsideSink.{IsSound, state_of};
+    ghost use Rattle.osm_files.specs.InsideSink.{IsGoodSink, state_of};
 
     ghost Value = { SinkState };
 
     ghost view = { state_of };
 
-    ghost invariant = { IsSound };
+    ghost invariant = { IsGoodSink };
 }
 
 impl Sink {
-    /// A sink for a file of this format, to the output `number`. It writes nothing yet.
+    /// A sink for a file of the format `format`. `number` is the number of the output. The call writes nothing.
     ///
     /// # Errors
     ///
@@ -117,21 +118,20 @@ impl Sink {
             number,
             units,
             written: 0,
-            begun: false,
+            has_begun: false,
             ended: false,
             failed: false,
             buffer: Vec::new(alloc),
         })
     }
 
-    /// Begins the file.
+    /// Begins the file: writes its header. OPL has none, so the output is unchanged.
     ///
     /// # Errors
     ///
     /// `WriteFault` if the output fails, at the number of bytes that it took; `Failed` if an earlier call was refused.
-    /// A sink of lines writes nothing here, and leaves the output unchanged.
     pub fn begin<W: Output>(&mut self, out: &mut W) -> Result<(), Fault>
-        requires { self.old.begun ≡ false }
+        requires { self.old.has_begun ≡ false }
         ensures calls { spec.Calls (spec.after_begin self.old) self.new spec.same_sink
             (change_of W.Output out.old out.new) (spelling.file_start self.old.format) result }
         ensures memory { result ≢ Err memory_fault }
@@ -142,7 +142,7 @@ impl Sink {
         ensures lasts { FailingLasts (change_of W.Output out.old out.new) }
         ensures untouched { spec.IsBeforeWriting self.old.number result → out.new ≡ out.old }
     {
-        self.begun = true;
+        self.has_begun = true;
         if self.failed {
             return Err(Fault::failed(self.number));
         }
@@ -160,12 +160,13 @@ impl Sink {
         }
     }
 
-    /// Writes a version. Its kind isn't below the kind of the version put last.
+    /// Writes a version. Its kind must not be below the kind of the version written last.
     ///
     /// # Errors
     ///
-    /// `Memory`, and `TooLong` if the file would have 2^62 bytes or more: nothing is written then. `WriteFault` if the
-    /// output fails, at the number of bytes that it took in all; `Failed` if an earlier call was refused.
+    /// `Memory` if memory runs out, or `TooLong` if the file would have 2^62 bytes or more; then nothing is written.
+    /// `WriteFault` if the output fails, at the number of bytes that it took in all. `Failed` if an earlier call was
+    /// refused.
     #[inline(always)]
     pub fn put<W: Output>(&mut self, out: &mut W, v: &Version) -> Result<(), Fault>
         requires open { spec.IsOpen self.old }
@@ -221,7 +222,7 @@ impl Sink {
     }
 }
 
-/// Writes bytes after those written before, and counts them.
+/// Writes `bytes` to the output and adds their number to `written`.
 #[inline(always)]
 fn send<W: Output>(out: &mut W, number: usize, written: &mut u64, bytes: &[u8]) -> Result<(), Fault>
     requires some { 0 < length bytes.now }
@@ -277,12 +278,12 @@ fn flush<W: Output>(out: &mut W, number: usize, written: u64) -> Result<(), Faul
     }
 }
 
-/// Writes the file of a history to the output `number`, which is flushed at the end.
+/// Writes the file of a history to `out`, and then flushes `out`. `number` is the number of the output.
 ///
 /// # Errors
 ///
-/// As for [`Sink::put`]. The bytes appended then are a front of that file; after a `WriteFault` their number is the
-/// fault's `place`.
+/// As for [`Sink::put`]. The bytes that `out` took are then a front of the file. After a `WriteFault` their number is
+/// the fault's `place`.
 pub fn write_history<W: Output>(
     alloc: Global,
     number: usize,

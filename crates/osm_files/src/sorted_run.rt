@@ -10,10 +10,11 @@ const HEADER: &[u8] = &O5M_HEADER;
 /// The end byte that is read after a part without one.
 const END_BYTES: &[u8] = &[FILE_END];
 
-/// Nothing is read before or after a part that lacks nothing.
+/// No bytes: they are read before a part that lacks no header, and after a part that lacks no end.
 const NOTHING: &[u8] = b"";
 
-/// A part of a file that is a file of its own, with what it lacks of one before and after it.
+/// A part of a file that is read as a file of its own. A header is read before a part that lacks one, and the end byte
+/// after a part that lacks it.
 #[derive(Clone, Copy, Debug, PartialEq, Eq)]
 pub struct SortedRun {
     /// The offset in the file of the part's first byte.
@@ -26,8 +27,8 @@ pub struct SortedRun {
     pub lacks_end: bool,
 }
 
-/// The bytes of a file that determine whether a run of it may be split at an offset. A byte is none if the file has
-/// none there.
+/// The bytes of a file that determine whether a run of it may be split at an offset. Each is `None` if the file has no
+/// byte there.
 #[derive(Clone, Copy, Debug, PartialEq, Eq)]
 pub struct BytesAtSplit {
     /// The byte at the run's start.
@@ -51,8 +52,8 @@ impl SortedRun {
         }
     }
 
-    /// The bytes read before the part of the file: a header or nothing. It is the header of o5m, and o5c is read like
-    /// it.
+    /// The bytes read before the part of the file: a header or nothing. The header is that of o5m in o5c files, too,
+    /// since both are read in the same way.
     pub fn bytes_before(self) -> &'static [u8]
         ensures { result.now ≡ spec.bytes_before self }
     {
@@ -66,8 +67,8 @@ impl SortedRun {
         if self.lacks_end { END_BYTES } else { NOTHING }
     }
 
-    /// The offset in the file of the byte at this offset of the run. A byte of the header that is read before the part
-    /// has the part's start.
+    /// The offset in the file of the byte at `offset` in the run. For a byte of the header that is read before the
+    /// part, it is the part's start.
     pub fn offset_in_file(self, offset: u64) -> u64
         ensures { self.start + offset < 2 ^ 64 → result ≡ self.start + (offset - length (spec.bytes_before self)) }
     {
@@ -75,9 +76,11 @@ impl SortedRun {
         self.start.saturating_add(read)
     }
 
-    /// Splits the run before the byte at this offset of the file, and returns the front and the rest. OPL is split
-    /// after the end of a line. o5 is split after a reset, which the end byte replaces in the front. `bytes` determine
-    /// whether the run may be split. The rest of OPL must not begin with `ff`, since it would be read as o5.
+    /// Splits the run before the byte at `offset` of the file, and returns the front and the rest; `None` if it can't
+    /// be split there, which `bytes` determine.
+    ///
+    /// OPL is split after the end of a line. The rest must not begin with `ff`, since it would be read as o5. o5 is
+    /// split after a reset; in the front, the end byte replaces the reset.
     ///
     /// `bytes` don't determine whether a byte `ff` of o5 is a reset. It may be within a data set, or the last byte of
     /// one that is skipped. It is a reset if the front can be read as a file. So the caller reads the front before it
@@ -121,7 +124,7 @@ impl SortedRun {
         self.start < offset && offset - self.start < self.size && bytes.at.is_some()
     }
 
-    /// Whether a file of o5, or of OPL, may be split at the offset by its grammar.
+    /// Whether the grammar allows a split at `offset`: that of o5 if `is_o5` is set, else that of OPL.
     fn splits_as(self, is_o5: bool, offset: u64, bytes: BytesAtSplit) -> bool
         requires after { self.start < offset }
         ensures { result ≡ (if is_o5 then spec.splits_o5 self offset bytes else spec.splits_opl bytes) }

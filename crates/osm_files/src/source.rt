@@ -1,7 +1,7 @@
 //! Sources: versions in ascending order, one by one.
 //!
-//! Why: nearly every key group is one version. It is returned without a list and without a sort, so a source takes 7
-//! percent more time than the lines of its file, and 10 percent more than its data sets.
+//! Why: nearly every key group is one version. It is returned without a list and without a sort, so a source takes only
+//! 7 percent more time than the reading of its lines, and 10 percent more than the reading of its data sets.
 //! Assumes: the next version has another key, which a comparison shows.
 //! Otherwise: `next_of_many` reads the whole group into a list, sorts it and drops repeats.
 //! Compared by: `source_gives_its_versions` and `files_in_pieces`, over groups of one version and of several.
@@ -12,7 +12,7 @@ ghost use Rattle.osm_model.specs.Data.{VersionData};
 ghost use Rattle.osm_files.specs.declared.fault.Fault.{Fault};
 ghost use Rattle.osm_files.specs.Fault.{memory_fault, failed_fault};
 ghost use Rattle.osm_files.specs.Input.{GivesOne};
-ghost use Rattle.osm_files.specs.Stream.{Still};
+ghost use Rattle.osm_files.specs.Stream.{SourceRest};
 ghost use Rattle.osm_files.specs.Source.{Ascends, SourceSteps};
 ghost use Rattle.osm_files.specs.Position.{units_left};
 ghost use Rattle.osm_files.specs.Groups.{new_source, with_group, versions_left, IsGroup, BeginsOn};
@@ -32,33 +32,34 @@ use std::vec::IntoIter;
 
 /// A strictly ascending list of versions, given one by one.
 pub trait Source {
-    /// A list of versions that it can still give, and its end. A source that reports its versions can give only that.
-    /// The versions of any other source are known only as it is asked.
-    ghost can_give: { Self → Still VersionData Fault → Type 0 };
+    /// Holds for each list of versions, with its end, that the source can still give. If the source reports its
+    /// versions, it can give only one list. Otherwise its versions are known only as they are given.
+    ghost can_give: { Self → SourceRest VersionData Fault → Type 0 };
 
-    /// One of these.
-    ghost one: { Self → Still VersionData Fault };
+    /// A list that the source can give.
+    ghost one: { Self → SourceRest VersionData Fault };
 
     /// A bound on the number of versions still to come.
     ghost left: { Self → ℕ };
 
-    /// Its number, which its fault `Failed` has.
+    /// The number of the source's input, which its fault `Failed` has.
     ghost number: { Self → ℕ };
 
-    /// Whether a call was refused.
+    /// Whether a call of the source was refused.
     ghost has_failed: { Self → Bool };
 
-    /// There always is one.
+    /// The source can give `one`.
     ghost possible: { (s : Self) → can_give s (one s) };
 
-    /// Each list that it can give ascends strictly.
-    ghost ascends: { (s : Self) (still : Still VersionData Fault) → can_give s still → Ascends still };
+    /// Each list that the source can give ascends strictly.
+    ghost ascends: { (s : Self) (still : SourceRest VersionData Fault) → can_give s still → Ascends still };
 
     /// The next version; `None` at the end and ever after.
     ///
     /// # Errors
     ///
-    /// The fault of the rest, or `Memory`; ever after `Failed`, with its number.
+    /// The fault that ends the source's list, or `Memory`. After an error each call returns `Failed` with the source's
+    /// number.
     fn next(&mut self) -> Result<Option<Version>, Fault>
         ensures step { SourceSteps can_give self.old result self.new }
         ensures fewer { IfOk result (λ given. IsSome given → left self.new < left self.old) }
@@ -66,24 +67,28 @@ pub trait Source {
         ensures failed { has_failed self.new ≡ is_err result }
         ensures number { number self.new ≡ number self.old };
 
-    /// Takes back a version that isn't needed any more: the next one may be made in its memory, or it is dropped.
+    /// Takes back a version that isn't needed any more. The source makes a later version in that memory, or drops the
+    /// version.
     fn reuse(&mut self, _version: Version)
         ensures { self.new ≡ self.old }
     {}
 }
 
-/// The number of unread bytes that more than 8 sources in one merge hold together: half of the room of a second-level
-/// cache, since the versions that wait are in it, too.
+/// The number of unread bytes that the sources of one merge hold together, if there are more than 8. It is half the
+/// size of a second-level cache, since the pending versions are in the cache, too.
 const READ_AHEAD_TOTAL: usize = 524_288;
+
+/// The fewest bytes that one read of a source asks for, however many sources there are.
+const MIN_CHUNK: usize = 4096;
 
 /// A sorted file: the key groups in sequence, each ascending and without repeats.
 ///
-/// A key group is nearly always one version, which is kept by itself.
+/// Nearly every key group is one version, which is kept without a list.
 #[derive(Drop)]
 pub struct FileSource<R: Input> {
     alloc: Global,
     units: Reading<R>,
-    /// The first version that was read of the next group.
+    /// The first version of the next group, if it was read.
     pending: Option<Version>,
     /// The rest of the current group.
     ready: IntoIter<Version>,
@@ -103,7 +108,7 @@ impl<R: Input> Model for FileSource<R> {
 }
 
 impl<R: Input> FileSource<R> {
-    /// A source of the versions of a sorted file of any format, which is the input `input`. It reads nothing yet.
+    /// A source of the versions of a sorted file of any format. `input` is the file's number. The call reads nothing.
     ///
     /// # Errors
     ///
@@ -136,9 +141,8 @@ impl<R: Input> FileSource<R> {
         ensures memory { IfErr result (λ fault. fault ≡ memory_fault) }
     {
         let mut source = FileSource::new(alloc, input, reader)?;
-        source
-            .units
-            .set_chunk_size(READ_AHEAD_TOTAL / sources.max(1));
+        let share = READ_AHEAD_TOTAL / sources.max(1);
+        source.units.set_chunk_size(share.max(MIN_CHUNK));
         Ok(source)
     }
 
@@ -215,8 +219,8 @@ impl<R: Input> FileSource<R> {
 }
 
 impl<R: Input + Drop> FileSource<R> {
-    /// A source of the versions of a sorted file, and the file's format, which its first bytes determine. These bytes
-    /// are read, and no version is passed.
+    /// Returns the format of a sorted file, which its first bytes determine, and a source of its versions. The call
+    /// reads those bytes, and the source still gives all versions.
     ///
     /// # Errors
     ///
@@ -276,7 +280,7 @@ impl<R: Input> Source for FileSource<R> {
 
 /// The version that a group begins with, if none was read before; `None` at the end.
 ///
-/// This is a call of its own only for the optimizer: inlined, [`Reading::next`] would be twice in the loop of every
+/// This is a function of its own only for the optimizer: inlined, [`Reading::next`] would be twice in the loop of every
 /// merge.
 #[inline(never)]
 fn begin_next<R: Input>(units: &mut Reading<R>) -> Result<Option<Version>, Fault>

@@ -42,11 +42,11 @@ impl SplitFile {
         self.rest
     }
 
-    /// Splits the rest before the byte at this offset of the file, and returns the run that was split off. It returns
-    /// none if the rest can't be split there (`SortedRun::split`).
+    /// Splits the rest before the byte at `offset` of the file, and returns the run that was split off; `None` if the
+    /// rest can't be split there (`SortedRun::split`).
     ///
-    /// A file that has the bytes of all calls is split into the runs. If each run is a sorted file, a merge of the runs
-    /// writes the same bytes as a merge of the file.
+    /// If the file has the `bytes` of all calls, it is split into the runs. If also each run is a sorted file, a merge
+    /// of the runs writes the same bytes as a merge of the file.
     ///
     /// # Errors
     ///

@@ -33,7 +33,7 @@ fn is_same(alloc: Global, file: &[u8], step: usize, loaded: &str, given: &str) -
     in_pieces.as_str() == loaded && given_in_pieces.as_str() == given
 }
 
-/// Appends a text, and of a long line only its length.
+/// Appends the lines of a text; of a line of 100 bytes or more it appends only the length.
 fn push_abridged(text: &mut String, whole: &str) {
     for line in whole.lines() {
         let length = line.len();
@@ -45,7 +45,7 @@ fn push_abridged(text: &mut String, whole: &str) {
     }
 }
 
-/// The result of loading a file, and the numbers of bytes a read with which it gives something else.
+/// The result of loading a file, and each number of bytes in a read with which the result differs.
 fn text_in_pieces(alloc: Global, file: &[u8]) -> String {
     let loaded = loaded_text(alloc, 0, SliceIn::new(file));
     let given = given_text(alloc, 0, SliceIn::new(file));
@@ -102,8 +102,8 @@ const LINES: [Row; 6] = [
     ),
 ];
 
-/// An empty file, two ways without references, skipped data sets, a deletion that ends after the changeset, and an old
-/// order.
+/// Empty files, two ways without references, skipped data sets, a deletion that ends after the changeset, and a
+/// deletion that comes before the visible version of its key.
 const DATA_SETS: [Row; 6] = [
     (b"\xff\xe0\x04o5m2\xfe", "o5m sorted\n"),
     (b"\xff\xe0\x04o5c2\xfe", "o5c sorted\n"),
@@ -125,7 +125,7 @@ const DATA_SETS: [Row; 6] = [
     ),
 ];
 
-/// A relation follows a way at once, and after a reset.
+/// A relation after a way: in one segment, and after a reset.
 const MIXED_SEGMENT: [Row; 2] = [
     (
         b"\xff\xe0\x04o5m2\x11\x05\x02\x01\x00\x01\x02\x12\x08\x00\x01\x00\x04\x02\x000\x00\xfe",
@@ -226,8 +226,8 @@ fn cut_file(rt: HostRuntime) {
     }
 }
 
-/// The result of a file of a node with a tag of the key k and `letters` letters, whose data set has this length, and of
-/// a node with the same tag by reference.
+/// The result of loading a node with a tag and a second node that refers to this tag. The tag has the key `k` and a
+/// value of `letters` letters. `length` is the length of the first data set, as o5m spells it.
 fn long_tag_text(alloc: Global, length: &[u8], letters: usize) -> String {
     let mut file = Vec::new(alloc);
     let _ = file.extend_from_slice(b"\xff\xe0\x04o5m2\x10");
@@ -240,8 +240,8 @@ fn long_tag_text(alloc: Global, length: &[u8], letters: usize) -> String {
     text_in_pieces(alloc, &file)
 }
 
-/// Appends the file of a node with the tags `1` to `15001` and empty values, and of a node with a tag by this
-/// reference.
+/// Appends a file of two nodes. The first has the tags `1` to `15001` with empty values. The second has one tag, which
+/// `reference` refers to.
 fn push_many_tags(alloc: Global, file: &mut Vec<u8>, reference: &[u8]) {
     let mut tags = String::new(alloc);
     for key in 1..15_002u32 {
@@ -254,7 +254,7 @@ fn push_many_tags(alloc: Global, file: &mut Vec<u8>, reference: &[u8]) {
     let _ = file.push(b'\xfe');
 }
 
-/// The result of loading that file, which comes by `step` bytes a read.
+/// The result of loading the file of `push_many_tags`, of which each read gives `step` bytes.
 fn many_tags_text(alloc: Global, reference: &[u8], step: usize) -> String {
     let mut file = Vec::new(alloc);
     push_many_tags(alloc, &mut file, reference);

@@ -1,4 +1,4 @@
-//! The results of calls, as texts, for the tests. A text that runs out of memory is shorter, and no test expects it.
+//! The results of calls as texts, for the tests. If memory runs out, the text is shorter and the test fails.
 use crate::fault::Fault;
 use crate::input::Input;
 use crate::load::{Loaded, load_any};
@@ -41,8 +41,8 @@ pub(crate) fn push_loaded(alloc: Global, text: &mut String, outcome: Result<Load
     }
 }
 
-/// Appends the next result of a source: a version, which is given back to it, `end` or a fault. Returns whether it was
-/// a version.
+/// Appends the next result of a source: a version, `end` or a fault. Gives the version back to the source. Returns
+/// whether the result was a version.
 pub(crate) fn push_next<S: Source>(alloc: Global, text: &mut String, source: &mut S) -> bool {
     match source.next() {
         Ok(Some(version)) => {
@@ -61,7 +61,7 @@ pub(crate) fn push_next<S: Source>(alloc: Global, text: &mut String, source: &mu
     }
 }
 
-/// Appends up to a hundred versions of a source, and its next result, three times.
+/// Appends up to a hundred versions of a source and the result after them, and then the results of two more calls.
 pub(crate) fn push_given<S: Source>(alloc: Global, text: &mut String, source: &mut S) {
     for _ in 0..100 {
         if !push_next(alloc, text, source) {

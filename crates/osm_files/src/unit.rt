@@ -21,7 +21,7 @@ pub(crate) const O5M_HEADER: [u8; 7] = *b"\xff\xe0\x04o5m2";
 /// The header of o5c files.
 pub(crate) const O5C_HEADER: [u8; 7] = *b"\xff\xe0\x04o5c2";
 
-/// The byte that ends a file.
+/// The byte that ends an o5 file.
 pub(crate) const FILE_END: u8 = 0xfe;
 
 /// The byte that begins a segment, and an o5 file.
@@ -62,8 +62,7 @@ fn no_version(size: usize) -> Result<Option<ReadUnit>, Reason>
     }))
 }
 
-/// The offset of the end of the line at the front of the bytes, if the end is there. It isn't in the first `searched`
-/// of them.
+/// The offset of the end of the first line in `bytes`, if there is one. It isn't in the first `searched` bytes.
 #[inline(always)]
 fn find_end_after(bytes: &[u8], searched: usize) -> Option<usize>
     requires within { searched ≤ length bytes.now }
@@ -76,7 +75,7 @@ fn find_end_after(bytes: &[u8], searched: usize) -> Option<usize>
     }
 }
 
-/// The line at the front of the bytes, if its end is there. It isn't in the first `searched` of them.
+/// Reads the line at the front of `bytes`, if its end is there. The end isn't in the first `searched` bytes.
 #[inline(always)]
 fn read_line_unit(
     lines: &mut LineReader,
@@ -99,7 +98,7 @@ fn read_line_unit(
     }
 }
 
-/// The header, if all its bytes are there.
+/// Reads the header at the front of `bytes`, if all its bytes are there.
 fn read_header(bytes: &[u8]) -> Result<Option<ReadUnit>, Reason>
     ensures { Finds (spec.header_unit bytes.now) result (spec.InSegment new_segment) }
 {
@@ -137,14 +136,14 @@ fn is_lone(byte: u8) -> bool
     byte >= 0xf0 && byte <= 0xfd
 }
 
-/// Whether the number at the front ends in these bytes, or has too many to be one.
+/// Whether the number at the front of `bytes` ends there, or has too many bytes to be a number.
 fn is_ended(bytes: &[u8]) -> bool
     ensures { result ≡ spec.is_ended bytes.now }
 {
     bytes.len() > NUMBER_LENGTH || has_last(bytes)
 }
 
-/// Whether these bytes contain one that ends a number.
+/// Whether `bytes` contain a byte that ends a number.
 fn has_last(bytes: &[u8]) -> bool
     ensures { result ≡ list_any spec.is_last bytes.now }
 {
@@ -158,7 +157,7 @@ fn is_last(byte: u8) -> bool
     byte < 128
 }
 
-/// The version of the content of a data set; a data set of no object is skipped.
+/// The version of the content of a data set; `None` if the data set is of no object, so that it is skipped.
 #[inline(always)]
 fn read_content(
     decoder: &mut Decoder,
@@ -174,7 +173,7 @@ fn read_content(
     Ok(Some(decoder.read_set(kind, content)?))
 }
 
-/// The data set of this type at the front of the bytes, after its type byte, if all its bytes are there.
+/// Reads the data set of the type `type_byte`, if all its bytes are there. `bytes` begin after the type byte.
 #[inline(always)]
 fn read_sized(
     decoder: &mut Decoder,
@@ -207,7 +206,7 @@ fn read_sized(
     }
 }
 
-/// The data set, reset or lone byte at the front of the bytes, if all its bytes are there.
+/// Reads the data set, reset or lone byte at the front of `bytes`, if all its bytes are there.
 #[inline(always)]
 fn read_data_set(decoder: &mut Decoder, bytes: &[u8]) -> Result<Option<ReadUnit>, Reason>
     requires good { decoder.old.failed ≡ false }
@@ -232,7 +231,7 @@ fn read_data_set(decoder: &mut Decoder, bytes: &[u8]) -> Result<Option<ReadUnit>
 
 /// Nothing may come after the end of a file.
 fn read_after_end(bytes: &[u8]) -> Result<Option<ReadUnit>, Reason>
-    ensures { Finds (spec.unit_after_end bytes.now) result spec.BehindEnd }
+    ensures { Finds (spec.unit_after_end bytes.now) result spec.PastEnd }
 {
     match bytes.first() {
         None => Ok(None),
@@ -241,7 +240,7 @@ fn read_after_end(bytes: &[u8]) -> Result<Option<ReadUnit>, Reason>
 }
 
 impl FileState {
-    /// The stage at which the reading of a file with these bytes begins.
+    /// The first stage of the reading of a file that begins with `bytes`.
     pub(crate) fn of(alloc: Global, bytes: &[u8]) -> FileState
         ensures place { state_data_of result ≡ spec.start_of bytes.now }
         ensures good { IsGoodState result }
@@ -256,9 +255,9 @@ impl FileState {
     ///
     /// # Errors
     ///
-    /// The reason why they are no end of a file, or `Memory`.
+    /// The reason why a file can't end with `bytes`, or `Memory`.
     #[tactic(auto, unfolding(crate::specs::Units::last_at))]
-    pub(crate) fn read_last(&self, alloc: Global, bytes: &[u8]) -> Result<Option<Version>, Reason>
+    pub(crate) fn finish(&self, alloc: Global, bytes: &[u8]) -> Result<Option<Version>, Reason>
         ensures { FindsLast (spec.last_at (state_data_of self.now) bytes.now) result }
     {
         match self {
@@ -269,8 +268,8 @@ impl FileState {
         }
     }
 
-    /// The unit that is whole at the front of the bytes, if there is one. The stage is then the one after it. No unit
-    /// is whole in the first `searched` of the bytes.
+    /// Reads the whole unit at the front of `bytes`, if there is one, and moves to the stage after it. No unit is whole
+    /// in the first `searched` bytes.
     ///
     /// # Errors
     ///
@@ -306,18 +305,19 @@ impl FileState {
 
     /// Moves to the stage after the end byte.
     ///
-    /// This is a call of its own only for the optimizer: room for what is dropped isn't cleared before each data set.
+    /// This is a function of its own only for the optimizer: memory for the dropped stage isn't cleared before each
+    /// data set.
     #[inline(never)]
     fn end(&mut self)
-        ensures place { state_data_of self.new ≡ spec.BehindEnd }
+        ensures place { state_data_of self.new ≡ spec.PastEnd }
         ensures good { IsGoodState self.new }
     {
         *self = FileState::End;
     }
 
-    /// The header.
+    /// Reads the header at the front of `bytes`.
     ///
-    /// This is a function of its own only for the optimizer: it takes the result apart, so that no room for it is
+    /// This is a function of its own only for the optimizer: it takes the result apart, so no memory for the result is
     /// cleared before each data set.
     #[inline(always)]
     fn read_start(&mut self, alloc: Global, bytes: &[u8]) -> Result<Option<ReadUnit>, Reason>
@@ -329,7 +329,7 @@ impl FileState {
         Ok(unit)
     }
 
-    /// The header, which comes before the data sets.
+    /// Reads the header at the front of `bytes`, if all its bytes are there, and moves to the stage of the data sets.
     #[inline(never)]
     fn read_header(&mut self, alloc: Global, bytes: &[u8]) -> Result<Option<ReadUnit>, Reason>
         ensures found { Finds (spec.header_unit bytes.now) result (state_data_of self.new) }
@@ -344,7 +344,7 @@ impl FileState {
     }
 }
 
-/// Whether the end byte is at the front.
+/// Whether `bytes` begin with the end byte.
 fn ends_at(bytes: &[u8]) -> bool
     ensures { result ≡ ends_at bytes.now }
 {
@@ -361,14 +361,14 @@ fn read_last_line(alloc: Global, bytes: &[u8]) -> Result<Option<Version>, Reason
     Ok(read_line(alloc, bytes)?)
 }
 
-/// No file ends among its data sets, whatever its last bytes are.
+/// Refuses a file that ends among its data sets with `bytes`.
 fn read_last_set(bytes: &[u8]) -> Result<Option<Version>, Reason>
     ensures { result ≡ Err (spec.cut_reason bytes.now) }
 {
     Err(truncation_reason(bytes))
 }
 
-/// The reason why a file that ends with these bytes, among its data sets, isn't whole.
+/// The reason why a file can't end among its data sets with `bytes`.
 fn truncation_reason(bytes: &[u8]) -> Reason
     ensures { result ≡ spec.cut_reason bytes.now }
 {

@@ -1,6 +1,6 @@
-//! Inputs that fail where the last line of OPL has no end.
+//! Inputs that fail at their end if the last line of OPL has no end.
 ghost use Rattle.std.specs.Prelude.{◌≡◌, ◌↔◌, refl};
-ghost use Rattle.osm_files.specs.Input.{Coming, GivesOne};
+ghost use Rattle.osm_files.specs.Input.{InputRest, GivesOne};
 ghost use Rattle.osm_files.specs.WholeLines as spec;
 ghost use Rattle.osm_files.specs.WholeLines.{with_line_end};
 ghost use Rattle.osm_files.specs.declared.whole_lines.Ending.TheVariants as ending;
@@ -13,10 +13,10 @@ const LINE_END: u8 = b'\n';
 /// The first byte of o5 files.
 const O5_START: u8 = 0xff;
 
-/// What the bytes that an input gave end in.
+/// The kind of the last byte that an input gave.
 #[derive(Clone, Copy, Debug, PartialEq, Eq)]
 pub(crate) enum Ending {
-    /// The input may end anywhere: its end isn't looked at, or it is an o5 file.
+    /// The input may end after any byte: it is an o5 file, or its end isn't checked.
     Any,
     /// There are no bytes yet.
     Start,
@@ -27,7 +27,7 @@ pub(crate) enum Ending {
 }
 
 impl Ending {
-    /// What the bytes end in if these come next.
+    /// The ending after the input gave `bytes`.
     fn after(self, bytes: &[u8]) -> Ending
         ensures { result ≡ spec.ending_after self bytes.now }
     {
@@ -37,7 +37,7 @@ impl Ending {
         }
     }
 
-    /// What the bytes end in if bytes come next of which these are the first and the last.
+    /// The ending after the input gave bytes of which the first is `first` and the last is `last`.
     fn after_bytes(self, first: u8, last: u8) -> Ending
         ensures { result ≡ spec.ending_by self first last }
     {
@@ -48,7 +48,7 @@ impl Ending {
         }
     }
 
-    /// What bytes of OPL end in, of which this is the last.
+    /// The ending of bytes of OPL whose last byte is `last`.
     fn of_opl(last: u8) -> Ending
         ensures { result ≡ spec.ending_of last }
     {
@@ -76,9 +76,10 @@ pub struct WholeLines<R: Input> {
 }
 
 impl<R: Input + Drop> WholeLines<R> {
-    /// An input that fails where the last line of OPL has no end.
+    /// An input that gives the bytes of `input`. If these are OPL and their last byte isn't `LF`, it fails at their
+    /// end.
     pub fn new(input: R) -> WholeLines<R>
-        ensures { (c : Coming) → ⟦<WholeLines<R> as Input>⟧.can_give result c
+        ensures { (c : InputRest) → ⟦<WholeLines<R> as Input>⟧.can_give result c
             ↔ GivesOne (R.can_give input) (λ given. c ≡ with_line_end ending.Start given) }
     {
         WholeLines {
@@ -87,9 +88,9 @@ impl<R: Input + Drop> WholeLines<R> {
         }
     }
 
-    /// An input that gives what the other one gives, whatever it ends in.
+    /// An input that gives what `input` gives, whatever the last byte is.
     pub fn any_end(input: R) -> WholeLines<R>
-        ensures { (c : Coming) → ⟦<WholeLines<R> as Input>⟧.can_give result c ↔ R.can_give input c }
+        ensures { (c : InputRest) → ⟦<WholeLines<R> as Input>⟧.can_give result c ↔ R.can_give input c }
     {
         WholeLines {
             input,

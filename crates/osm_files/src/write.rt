@@ -1,4 +1,4 @@
-//! Writing all of some bytes to an output, which may take a few at a time.
+//! Writes all of some bytes to an output, which may take only a few of them in each write.
 ghost use Rattle.std.specs.Prelude.{◌≡◌, ◌+◌, ◌<◌, ◌^◌, length, Err};
 ghost use Rattle.osm_files.specs.Fault.{too_long_fault, write_fault};
 ghost use Rattle.osm_files.specs.Output.{FailingLasts, Writes};
@@ -8,12 +8,12 @@ use crate::fault::{Fault, LENGTH_LIMIT};
 use crate::output::Output;
 use crate::reason::Reason;
 
-/// Writes all of `bytes`, in as many writes as it takes, to the output `number`, which took `written` bytes before.
+/// Writes all of `bytes` to the output `number`, in as many writes as needed. The output took `written` bytes before.
 ///
 /// # Errors
 ///
-/// `TooLong` if the output would come to have 2^62 bytes or more: none of the bytes is written. `WriteFault` if the
-/// output fails, at the number of bytes that it took in all. No write is tried again.
+/// `TooLong` if the output would have 2^62 bytes or more; then nothing is written. `WriteFault` if the output fails, at
+/// the number of bytes that it took in all. A write that failed isn't tried again.
 #[inline(always)]
 pub fn write_all<W: Output>(
     out: &mut W,
@@ -37,7 +37,7 @@ pub fn write_all<W: Output>(
     }
 }
 
-/// Writes all of `bytes`, after a write that took only a front of what it was given.
+/// Writes all of `bytes`: the rest after a write that took only the bytes before them.
 #[inline(never)]
 fn write_rest<W: Output>(
     out: &mut W,

@@ -34,7 +34,8 @@ use std::time::Clock;
 /// `out`. Help, the version, the lines of a check and the replies to a plan's events go to `out`, too. The reports
 /// during a run and the line of a refusal go to `err`.
 ///
-/// The status is 0 for success and help. It is 1 if a file, memory or `out` fails, and 2 if the arguments are refused.
+/// The status is 0 for success and help. It is 1 if a file, memory or `out` fails. It is 2 for a usage error: a mistake
+/// in the arguments, in a list of files or in a plan.
 pub fn run_words<R, S, I, O, E>(rt: &R, words: &[S], input: I, mut out: O, mut err: E) -> u8
 where
     R: Files + Clock + AllocGlobal,
@@ -50,35 +51,35 @@ where
         Ok(text) => text,
         Err(refusal) => return hint::report(rt, &refusal, &mut err, hints),
     };
-    match answer(rt, words, text.as_str(), input, &mut out, &mut err) {
+    match run_request(rt, words, text.as_str(), input, &mut out, &mut err) {
         Ok(()) => 0,
         Err(refusal) => hint::report(rt, &refusal, &mut err, hints),
     }
 }
 
-/// The text of the list of files that the arguments name. It is empty if they name no list, or are mistaken.
+/// The text of the list of files that the arguments name. It is empty if they name no list, or if they have a mistake.
 fn list_text<'a, R: Files + AllocGlobal, S: AsStr, I: Read + Drop>(
     rt: &R,
-    words: &'a [S],
+    args: &'a [S],
     input: &mut Option<I>,
 ) -> Result<String, Refusal<'a>> {
     let no_text = String::new(rt.alloc());
-    if !words
+    if !args
         .iter()
-        .any(|word| word.as_str().starts_with(list::OPTION))
+        .any(|arg| arg.as_str().starts_with(list::OPTION))
     {
         return Ok(no_text);
     }
-    match Request::parse(rt.alloc(), words) {
+    match Request::parse(rt.alloc(), args) {
         Ok(request) => list::read_list(rt, request.list(), input),
         Err(_) => Ok(no_text),
     }
 }
 
 /// Parses the arguments and runs the request. `text` is the text of the list of files that they name.
-fn answer<'a, R, S, I, O, E>(
+fn run_request<'a, R, S, I, O, E>(
     rt: &R,
-    words: &'a [S],
+    args: &'a [S],
     text: &'a str,
     input: Option<I>,
     out: &mut O,
@@ -92,7 +93,7 @@ where
     O: Write + Drop,
     E: Write + IsTerminal,
 {
-    match Request::parse(rt.alloc(), words)?.with_list(rt.alloc(), text)? {
+    match Request::parse(rt.alloc(), args)?.with_list(rt.alloc(), text)? {
         Request::Files(run) => file_run::run_files(rt, &run, input, out, err),
         Request::Check(check) => file_check::check_files(rt, &check, input, out, err),
         Request::Plan(run) => plan_run::run_plan(rt, &run, out),

@@ -10,18 +10,18 @@ use std::{env, io, str};
 
 pub mod cli;
 
-/// The most bytes of an argument that are shown.
+/// The size of the buffer for an argument that isn't UTF-8. The program doesn't show a longer one.
 const ARGUMENT: usize = 4096;
 
 fn main(rt: HostRuntime) -> ExitCode {
-    let status = match words_given(&rt) {
-        Ok(words) => {
-            if words.is_empty() && rt.stdin().is_terminal() && rt.stderr().is_terminal() {
+    let status = match read_args(&rt) {
+        Ok(args) => {
+            if args.is_empty() && rt.stdin().is_terminal() && rt.stderr().is_terminal() {
                 report_waiting(rt.stderr());
             }
-            run_words(&rt, words.as_slice(), rt.stdin(), rt.stdout(), rt.stderr())
+            run_words(&rt, args.as_slice(), rt.stdin(), rt.stdout(), rt.stderr())
         }
-        Err(error) => refuse_words(&rt, &error).report(rt.stderr()),
+        Err(error) => refuse_args(&rt, &error).report(rt.stderr()),
     };
     ExitCode::from(status)
 }
@@ -37,12 +37,12 @@ fn report_waiting<E: Write + Drop>(mut err: E) {
 }
 
 /// The arguments after the program's name.
-fn words_given<R: Env + AllocGlobal>(rt: &R) -> io::Result<Vec<String>> {
+fn read_args<R: Env + AllocGlobal>(rt: &R) -> io::Result<Vec<String>> {
     Ok(env::args(rt)?.skip(1).collect(rt.alloc())?)
 }
 
-/// The reason why the arguments aren't available: one isn't UTF-8, or the program is out of memory.
-fn refuse_words<R: Env + AllocGlobal>(rt: &R, error: &io::Error) -> Refusal<'static> {
+/// The refusal if the arguments aren't available: one isn't UTF-8, or the program is out of memory.
+fn refuse_args<R: Env + AllocGlobal>(rt: &R, error: &io::Error) -> Refusal<'static> {
     match error.kind() {
         io::ErrorKind::OutOfMemory => Refusal::Memory,
         _ => match faulty_argument(rt) {
@@ -52,7 +52,8 @@ fn refuse_words<R: Env + AllocGlobal>(rt: &R, error: &io::Error) -> Refusal<'sta
     }
 }
 
-/// The first argument that isn't UTF-8, as it is shown.
+/// The first argument that isn't UTF-8, with escapes for bytes that aren't printable ASCII. If it is longer than the
+/// buffer, the result is a text that says so.
 fn faulty_argument<R: Env + AllocGlobal>(rt: &R) -> io::Result<String> {
     let mut text = String::new(rt.alloc());
     let mut buffer = [0u8; ARGUMENT];

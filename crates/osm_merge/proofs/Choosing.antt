@@ -1,4 +1,4 @@
--- The pass over the list of a history: the versions chosen once the first ones were read.
+-- The pass over the list of a history: the versions chosen after the first `place` versions were read.
 use Rattle.std.proofs.Common.{◌≡◌, ℕ, ◌+◌, ◌<◌, ◌≤◌, true, false, List, [], ◌∷◌, ◌++◌, length, take, get_or, sym, ap, ◌∙◌, subst}
 use Rattle.std.proofs.Common.{Option, Some, None}
 use Rattle.std.proofs.lemmas.List.{take_more, take_all, append-nil, get_or_default}
@@ -12,15 +12,15 @@ use Rattle.osm_model.proofs.SetLaws.{same_set, contains-from_list, contains-list
 use Rattle.osm_model.proofs.VersionLaws.{version_cmp-IsAntisymmetric}
 use Rattle.osm_merge.specs.declared.selection.Selection.{Selection}
 use Rattle.osm_merge.specs.Selected.{selection_of}
-use Rattle.osm_merge.specs.Pass.{passes, keeps, stays, singleton_if, kept_versions, settled_versions}
+use Rattle.osm_merge.specs.Pass.{passes, keeps, stays, singleton_if, versions_that_stay, settled_versions}
 use Rattle.osm_merge.proofs.PassLaws.{kept_end, settled_next}
 use Rattle.osm_merge.proofs.SelectedLaws.{passing_is, pass_of_set}
 
--- the ones among the first versions of a list that pass
+-- those of the first `place` versions of a list that pass
 abbrev pub met_of : Selection → List VersionData → ℕ → List VersionData
 met_of selection list place = filter (passes selection) (take place list)
 
--- the last of them is at this index
+-- the last of the versions that passed is at the index `place`
 pub record HoldsAt (list : List VersionData) (place : ℕ) (met : List VersionData) : Type 0 where
   pub inside : place < length list
   pub front : List VersionData
@@ -37,7 +37,7 @@ pub record IsChoosing (selection : Selection) (list : List VersionData) (place :
   pub held_is : IsHeld list held (met_of selection list place)
   pub chosen_is : chosen ≡ settled_versions (keeps selection) (met_of selection list place)
 
--- a version that doesn't pass, and one that does
+-- the step for the version at `place`
 module _ (selection : Selection) (list : List VersionData) (place : ℕ) (w : VersionData) (inside : place < length list)
     (here : w ≡ get_or list place w) where
   met_more : met_of selection list (place + 1) ≡ met_of selection list place ++ singleton_if (passes selection w) w
@@ -69,7 +69,7 @@ module _ (selection : Selection) (list : List VersionData) (place : ℕ) (w : Ve
     chosen_is = same_chosen ∙ i.chosen_is ∙ ap (settled_versions (keeps selection)) (sym (met_skip out));
   }
 
-  -- the first one that passes
+  -- the first version that passes
   first_passes : (chosen : List VersionData) → IsChoosing selection list place None chosen → passes selection w ≡ true
       → IsChoosing selection list (place + 1) (Some place) chosen
   first_passes chosen i pass = record {
@@ -79,7 +79,7 @@ module _ (selection : Selection) (list : List VersionData) (place : ℕ) (w : Ve
         ∙ sym (ap (settled_versions (keeps selection)) (met_pass pass ∙ ap (λ (met : List VersionData). met ++ w ∷ []) i.held_is));
   }
 
-  -- one that passes after the pending one
+  -- a version that passes after the pending one
   next_passes : (before : ℕ) (v : VersionData) (chosen : List VersionData) → IsChoosing selection list place (Some before) chosen
       → passes selection w ≡ true → v ≡ get_or list before v →
       IsChoosing selection list (place + 1) (Some place) (chosen ++ singleton_if (keeps selection v (Some w)) v)
@@ -94,14 +94,14 @@ module _ (selection : Selection) (list : List VersionData) (place : ℕ) (w : Ve
             ∙ sym (ap (settled_versions (keeps selection)) (met_pass pass ∙ ap (λ (t : List VersionData). t ++ w ∷ []) met));
       }
 
-  -- The first version that passes is held.
+  -- The first version that passes becomes the pending one.
   pub choose_first : (held held2 : Option ℕ) (chosen chosen2 : List VersionData) → IsChoosing selection list place held chosen
       → passes selection w ≡ true →
       held ≡ None → held2 ≡ Some place → chosen2 ≡ chosen → IsChoosing selection list (place + 1) held2 chosen2
   choose_first held held2 chosen chosen2 i pass none now same =
       rw (now, same) (first_passes chosen (subst (λ (h : Option ℕ). IsChoosing selection list place h chosen) none i) pass)
 
-  -- The next version that passes decides the one that was held.
+  -- The next version that passes decides the pending one.
   pub choose_next : (held held2 : Option ℕ) (before : ℕ) (v : VersionData) (chosen chosen2 : List VersionData)
       → IsChoosing selection list place held chosen → passes selection w ≡ true →
       held ≡ Some before → v ≡ get_or list before v → held2 ≡ Some place → chosen2 ≡ chosen ++ singleton_if (keeps selection v (Some w)) v
@@ -117,24 +117,24 @@ set_listed s =
 
 -- all versions were read
 module _ (selection : Selection) (s : VersionSet) (place : ℕ) (whole : length (to_list s) ≤ place) where
-  done : (chosen : List VersionData) → chosen ≡ kept_versions (keeps selection) (met_of selection (to_list s) place)
+  done : (chosen : List VersionData) → chosen ≡ versions_that_stay (keeps selection) (met_of selection (to_list s) place)
       → from_list {R = version_cmp} chosen ≡ selection_of selection s
   done chosen is =
       let all : met_of selection (to_list s) place ≡ filter (passes selection) (to_list s) =
       ap (filter (passes selection)) (take_all place (to_list s) whole) in
       ap (from_list {R = version_cmp})
-      (is ∙ ap (kept_versions (keeps selection)) (all ∙ sym (passing_is selection (to_list s))) ∙ pass_of_set selection s)
+      (is ∙ ap (versions_that_stay (keeps selection)) (all ∙ sym (passing_is selection (to_list s))) ∙ pass_of_set selection s)
       ∙ set_listed (selection_of selection s)
 
-  -- none passed
+  -- no version passed
   pub choose_none : (held : Option ℕ) (chosen chosen2 : List VersionData) → IsChoosing selection (to_list s) place held chosen → held ≡ None
       → chosen2 ≡ chosen → from_list {R = version_cmp} chosen2 ≡ selection_of selection s
   choose_none held chosen chosen2 i none same =
       let j : IsChoosing selection (to_list s) place None chosen =
       subst (λ (h : Option ℕ). IsChoosing selection (to_list s) place h chosen) none i in
-      done chosen2 (same ∙ j.chosen_is ∙ ap (settled_versions (keeps selection)) j.held_is ∙ sym (ap (kept_versions (keeps selection)) j.held_is))
+      done chosen2 (same ∙ j.chosen_is ∙ ap (settled_versions (keeps selection)) j.held_is ∙ sym (ap (versions_that_stay (keeps selection)) j.held_is))
 
-  -- the last one that passes is decided
+  -- the last version that passed is decided
   pub choose_last : (held : Option ℕ) (last : ℕ) (v : VersionData) (chosen chosen2 : List VersionData)
       → IsChoosing selection (to_list s) place held chosen → held ≡ Some last → v ≡ get_or (to_list s) last v →
       chosen2 ≡ chosen ++ singleton_if (stays selection v None) v → from_list {R = version_cmp} chosen2 ≡ selection_of selection s
@@ -145,4 +145,4 @@ module _ (selection : Selection) (s : VersionSet) (place : ℕ) (whole : length 
       j.held_is.ends v ∙ ap (λ u. j.held_is.front ++ u ∷ []) (sym is) in
       done chosen2
       (more ∙ ap (λ t. t ++ singleton_if (keeps selection v None) v) (j.chosen_is ∙ ap (settled_versions (keeps selection)) met) ∙ sym
-      (kept_end (keeps selection) (j.held_is.front) v) ∙ sym (ap (kept_versions (keeps selection)) met))
+      (kept_end (keeps selection) (j.held_is.front) v) ∙ sym (ap (versions_that_stay (keeps selection)) met))

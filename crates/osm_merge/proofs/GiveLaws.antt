@@ -1,4 +1,4 @@
--- The rests that lists of sources can give, if one of them took a step.
+-- The lists of rests that some sources can give, before and after a step of one source.
 use Rattle.std.proofs.Common.{◌≡◌, ℕ, zero, suc, ◌<◌, List, [], ◌∷◌, map, length, get_or, refl, ap, arith}
 use Rattle.std.proofs.Math.ListN.{set}
 use Rattle.osm_files.specs.Input.{Explained}
@@ -11,19 +11,19 @@ set_again (x ∷ xs) zero b d = refl
 set_again (x ∷ xs) (suc i) b d = ap (λ t. x ∷ t) (set_again xs i b d)
 
 module _ {S C : Type 0} (can : S → C → Type 0) where
-  -- As many sources give something as there are.
+  -- A list of rests has one rest for each source.
   pub give_size : (sources : List S) (all : List C) → AllGive can sources all → length all ≡ length sources
   give_size [] [] g = refl
   give_size [] (c ∷ all) g = absurd g
   give_size (s ∷ sources) [] g = absurd g
   give_size (s ∷ sources) (c ∷ all) g = ap suc (give_size sources all g.1)
 
-  -- each can give something
+  -- if each source can give some rest, the sources can give some list of rests
   pub give_one : (one : S → C) → ((s : S) → can s (one s)) → (sources : List S) → AllGive can sources (map one sources)
   give_one one h [] = tt
   give_one one h (s ∷ sources) = (h s, give_one one h sources)
 
-  -- one of them took a step, so each possible list of rests after it comes from a possible one before it
+  -- each list of rests that is possible after a step of one source comes from one that was possible before the step
   pub give_back : (step : C → C → Type 0) (sources : List S) (i : ℕ) (new d : S) (e : C) (later : List C) → i < length sources →
       Explained (can (get_or sources i d)) (can new) step → AllGive can (set sources i new) later
       → (before : C) × AllGive can sources (set later i before) × step before (get_or later i e)

@@ -12,12 +12,12 @@ use Rattle.std.proofs.lemmas.Bool.{false≢true, cases_eq}
 use Rattle.osm_model.specs.Data.{VersionData}
 use Rattle.osm_model.specs.Order.{version_cmp, version_cmp_total}
 use Rattle.osm_files.specs.Stream.{end_whole}
-use Rattle.osm_merge.specs.ToCome.{VersionsToCome, rest, head, behind_head, coming_at}
+use Rattle.osm_merge.specs.ToCome.{VersionsToCome, rest, head, after_head, rest_at}
 use Rattle.osm_merge.specs.Members.{first}
 use Rattle.osm_merge.specs.Union.{versions_of}
 use Rattle.osm_merge.specs.declared.selection.Selection.{Selection}
 use Rattle.osm_merge.specs.Pass.{is_new}
-use Rattle.osm_merge.specs.Pass.{passes, is_met, held_next, met_next}
+use Rattle.osm_merge.specs.Pass.{passes, is_met, pending_next, met_next}
 use Rattle.osm_merge.specs.Tree.{IsHeadUpTo}
 use Rattle.osm_merge.proofs.OrderLaws.{is_less, same_unless_greater, equal_versions}
 use Rattle.osm_merge.proofs.AscendingLaws.{one_ascends, rest_ascends, floor_first, floor_rest, ascends_on, among}
@@ -31,10 +31,10 @@ or_swap false b c = refl
 
 -- the sources without the head of one of them
 abbrev pub without_head : List VersionsToCome → ℕ → List VersionsToCome
-without_head states w = set states w (behind_head (coming_at states w))
+without_head states w = set states w (after_head (rest_at states w))
 
 any_taken : (p : VersionData → Bool) (states : List VersionsToCome) (w : ℕ) (v : VersionData) (vs : List VersionData) →
-    (coming_at states w).list ≡ v ∷ vs → list_any p (versions_of states) ≡ (p v || list_any p (versions_of (without_head states w)))
+    (rest_at states w).list ≡ v ∷ vs → list_any p (versions_of states) ≡ (p v || list_any p (versions_of (without_head states w)))
 any_taken p [] w v vs e = absurd cc
 any_taken p (c ∷ cs) zero v vs e = ap (λ t. list_any p (t ++ versions_of cs)) e
     ∙ sym (ap (λ t. p v || list_any p (rest t ++ versions_of cs)) e)
@@ -44,7 +44,7 @@ any_taken p (c ∷ cs) (suc w) v vs e =
     ∙ or_swap (list_any p c.list) (p v) (list_any p (versions_of (without_head cs w)))
     ∙ sym (ap (λ t. p v || t) (list_any-append p c.list (versions_of (without_head cs w))))
 
-length_taken : (states : List VersionsToCome) (w : ℕ) (v : VersionData) (vs : List VersionData) → (coming_at states w).list ≡ v ∷ vs →
+length_taken : (states : List VersionsToCome) (w : ℕ) (v : VersionData) (vs : List VersionData) → (rest_at states w).list ≡ v ∷ vs →
     length (versions_of states) ≡ length (versions_of (without_head states w)) + 1
 length_taken [] w v vs e = absurd cc
 length_taken (c ∷ cs) zero v vs e =
@@ -86,7 +86,7 @@ ascends_with (Some l) v put e is h =
     (ascends_on version_cmp_total (e.0) l (v ∷ []) (subst (IsStrictlySortedBy version_cmp) e.1 h) (one_ascends version_cmp v)
     (is_less (version_cmp l v) is, tt))
 
--- Where a conjunction is true, both parts are.
+-- If a conjunction is true, both parts are.
 pub both_so : (a b : Bool) → (a && b) ≡ true → (a ≡ true) × (b ≡ true)
 both_so true true h = (refl, refl)
 both_so true false h = absurd (false≢true h)
@@ -110,9 +110,9 @@ ascends_next selection held v met e h =
       | false ↦ λ is. h
     ] refl
 
--- for all that the sources give, the pending one is the last of those met
+-- after a version is taken, the pending version is still the last of those met
 pub ends_next : (selection : Selection) (held : Option VersionData) (v : VersionData) (met : List VersionData) → Ends held met →
-    Ends (held_next selection held v) (met_next selection held v met)
+    Ends (pending_next selection held v) (met_next selection held v met)
 ends_next selection held v met e =
     elim (is_met selection held v) as (λ b. Ends (cond b (Some v) held) (cond b (met ++ v ∷ []) met)) [
       | true ↦ (met, refl)
@@ -129,7 +129,7 @@ under_it None v f = tt
 under_it (Some h) v f = f.0
 
 under_next : (selection : Selection) (held : Option VersionData) (v : VersionData) → Floor held (v ∷ []) →
-    IsUnder (held_next selection held v) (Some v)
+    IsUnder (pending_next selection held v) (Some v)
 under_next selection held v f =
     elim (is_met selection held v) as (λ b. IsUnder (cond b (Some v) held) (Some v)) [
       | true ↦ ap is_gt (tied_itself version_cmp_total v)
@@ -137,7 +137,7 @@ under_next selection held v f =
     ]
 
 reached_next : (selection : Selection) (held : Option VersionData) (v : VersionData) → Floor held (v ∷ []) → passes selection v ≡ true →
-    held_next selection held v ≡ Some v
+    pending_next selection held v ≡ Some v
 reached_next selection held v f pass =
     elim (is_met selection held v) as (λ b. is_met selection held v ≡ b → cond b (Some v) held ≡ Some v) [
       | true ↦ λ is. refl
@@ -173,7 +173,7 @@ pub among_end : (q v : VersionData) (front : List VersionData) → eq_by_cmp ver
 among_end q v [] h = λ i. h i || false
 among_end q v (w ∷ ws) h = ap (λ t. eq_by_cmp version_cmp q w || t) (among_end q v ws h) ∙ or_true (eq_by_cmp version_cmp q w)
 
--- A version that ties with the last one that was put is among those put.
+-- A version that ties with the last version of a list is among the versions of the list.
 pub among_ends : (q v : VersionData) (put : List VersionData) → Ends (Some v) put → eq_by_cmp version_cmp q v ≡ true → among q put ≡ true
 among_ends q v put e h = ap (among q) e.1 ∙ among_end q v (e.0) h
 
@@ -199,21 +199,21 @@ same_next selection held v met q more e f =
 -- ---- the turn
 pub merge_more : (selection : Selection) (all states : List VersionsToCome) (met : List VersionData) (held top : Option VersionData)
     (taken w : ℕ) (v : VersionData)
-    → IsMerging selection all states met held top taken → w < length states → head (coming_at states w) ≡ Some v
-    → ((i : ℕ) → IsHeadUpTo (Some v) (head (coming_at states i)))
-    → IsMerging selection all (without_head states w) (met_next selection held v met) (held_next selection held v) (Some v) (taken + 1)
+    → IsMerging selection all states met held top taken → w < length states → head (rest_at states w) ≡ Some v
+    → ((i : ℕ) → IsHeadUpTo (Some v) (head (rest_at states i)))
+    → IsMerging selection all (without_head states w) (met_next selection held v met) (pending_next selection held v) (Some v) (taken + 1)
 merge_more selection all states met held top taken w v m less is least =
-    let here : VersionsToCome = coming_at states w in
+    let here : VersionsToCome = rest_at states w in
     let e : here.list ≡ v ∷ rest here.list = split_first v here.list is in
     let f : Floor held (v ∷ []) = under_floor held top v m.under (floor_one top v (rest here.list) (subst (Floor top) e (m.floor w))) in
-    let same_place : coming_at (without_head states w) w ≡ behind_head here = get_or-set_same states w (behind_head here) end_whole less in
-    let other : (i : ℕ) → i ≢ w → coming_at (without_head states w) i ≡ coming_at states i =
-    λ i n. get_or-set_other states w i (behind_head here) end_whole n in
+    let same_place : rest_at (without_head states w) w ≡ after_head here = get_or-set_same states w (after_head here) end_whole less in
+    let other : (i : ℕ) → i ≢ w → rest_at (without_head states w) i ≡ rest_at states i =
+    λ i n. get_or-set_other states w i (after_head here) end_whole n in
     record {
-      size = length-set states w (behind_head here) ∙ m.size;
+      size = length-set states w (after_head here) ∙ m.size;
       ascends = ascends_next selection held v met m.ends m.ascends;
       queues = λ i. elim (cases_eq i w) [
-        | inl at_w ↦ subst (λ j. IsStrictlySortedBy version_cmp (coming_at (without_head states w) j).list) (sym at_w)
+        | inl at_w ↦ subst (λ j. IsStrictlySortedBy version_cmp (rest_at (without_head states w) j).list) (sym at_w)
             (subst (λ s. IsStrictlySortedBy version_cmp s.list) (sym same_place)
             (rest_ascends version_cmp v (rest here.list) (subst (IsStrictlySortedBy version_cmp) e (m.queues w))))
         | inr n ↦ subst (λ s. IsStrictlySortedBy version_cmp s.list) (sym (other i n)) (m.queues i)
@@ -221,16 +221,16 @@ merge_more selection all states met held top taken w v m less is least =
       came = λ i. elim (cases_eq i w) [
         | inl at_w ↦ (
           (m.came w).0 ++ v ∷ [],
-          ap (λ j. (coming_at all j).list) at_w ∙ (m.came w).1 ∙ ap (λ t. (m.came w).0 ++ t) e
+          ap (λ j. (rest_at all j).list) at_w ∙ (m.came w).1 ∙ ap (λ t. (m.came w).0 ++ t) e
               ∙ sym (append_assoc ((m.came w).0) (v ∷ []) (rest here.list))
               ∙ sym (ap (λ s. ((m.came w).0 ++ v ∷ []) ++ s.list) same_place)
-              ∙ sym (ap (λ j. ((m.came w).0 ++ v ∷ []) ++ (coming_at (without_head states w) j).list) at_w),
+              ∙ sym (ap (λ j. ((m.came w).0 ++ v ∷ []) ++ (rest_at (without_head states w) j).list) at_w),
         )
         | inr n ↦ ((m.came i).0, (m.came i).1 ∙ sym (ap (λ s. (m.came i).0 ++ s.list) (other i n)))
       ];
       refusals = λ i. elim (cases_eq i w) [
-        | inl at_w ↦ m.refusals i ∙ ap (λ j. (coming_at states j).refusal) at_w ∙ sym (ap (λ s. s.refusal) same_place)
-            ∙ sym (ap (λ j. (coming_at (without_head states w) j).refusal) at_w)
+        | inl at_w ↦ m.refusals i ∙ ap (λ j. (rest_at states j).refusal) at_w ∙ sym (ap (λ s. s.refusal) same_place)
+            ∙ sym (ap (λ j. (rest_at (without_head states w) j).refusal) at_w)
         | inr n ↦ m.refusals i ∙ sym (ap (λ s. s.refusal) (other i n))
       ];
       same = λ q. m.same q
@@ -241,10 +241,10 @@ merge_more selection all states met held top taken w v m less is least =
       reached = reached_next selection held v f;
       floor = λ i.
           elim (cases_eq i w) [
-            | inl at_w ↦ subst (λ j. Floor (Some v) (coming_at (without_head states w) j).list) (sym at_w)
+            | inl at_w ↦ subst (λ j. Floor (Some v) (rest_at (without_head states w) j).list) (sym at_w)
                 (subst (λ s. Floor (Some v) s.list) (sym same_place)
                 (floor_rest version_cmp_total v (rest here.list) (subst (IsStrictlySortedBy version_cmp) e (m.queues w))))
-            | inr n ↦ subst (λ s. Floor (Some v) s.list) (sym (other i n)) (floor_of v (coming_at states i).list (least i) (m.queues i))
+            | inr n ↦ subst (λ s. Floor (Some v) s.list) (sym (other i n)) (floor_of v (rest_at states i).list (least i) (m.queues i))
           ];
       count = omega (arith, m.count, length_taken states w v (rest here.list) e);
     }

@@ -1,4 +1,4 @@
--- The list of a history whose newest version of each object is moved to the front in place.
+-- The list of a history, while the newest versions of its objects are moved to its front.
 use Rattle.std.proofs.Common.{◌≡◌, ℕ, zero, suc, ◌+◌, ◌<◌, ◌≤◌, Bool, true, false, List, [], ◌∷◌, ◌++◌, length, take, drop, get_or, set}
 use Rattle.std.proofs.Common.{refl, sym, ap, ◌∙◌, subst, arith, append_assoc, length-drop}
 use Rattle.std.specs.Prelude.{slice_get}
@@ -12,27 +12,27 @@ use Rattle.osm_model.specs.Sets.{to_list, from_list}
 use Rattle.osm_model.proofs.SetLaws.{strict-listed}
 use Rattle.osm_merge.specs.declared.selection.Selection.TheVariants.{Newest}
 use Rattle.osm_merge.specs.Members.{first}
-use Rattle.osm_merge.specs.Pass.{singleton_if, keeps, kept_versions}
+use Rattle.osm_merge.specs.Pass.{singleton_if, keeps, versions_that_stay}
 use Rattle.osm_merge.specs.Selected.{snapshot}
 use Rattle.osm_merge.proofs.SelectedLaws.{pass_of_set}
 use Rattle.osm_merge.proofs.Choosing.{set_listed}
 
 -- The versions of a list that are the newest ones of their objects.
 abbrev pub newest_of : List VersionData → List VersionData
-newest_of = kept_versions (keeps Newest)
+newest_of = versions_that_stay (keeps Newest)
 
--- The first `place` versions of a list were looked at, and those of them that stay were moved to its front.
+-- The first `place` versions of a list were decided, and those of them that stay were moved to its front.
 pub record IsSettling (list items : List VersionData) (place count : ℕ) : Type 0 where
   pub same_length : length items ≡ length list
   pub behind : count ≤ place
   pub rest : drop place items ≡ drop place list
   pub chosen : take count items ++ newest_of (drop place list) ≡ newest_of list
 
--- At first no version was settled.
+-- At first no version was decided.
 pub settling_begins : (list items : List VersionData) → items ≡ list → IsSettling list items 0 0
 settling_begins list items is = record { same_length = ap length is; behind = omega arith; rest = is; chosen = refl }
 
--- an item of a list that has some
+-- the item of a list at an index
 pub some_item : (xs : List VersionData) (n : ℕ) → n < length xs → VersionData
 some_item [] n h = absurd (omega (arith, h))
 some_item (x ∷ xs) n h = x
@@ -97,7 +97,7 @@ module _ (list items : List VersionData) (place count : ℕ) (h : IsSettling lis
             ∙ h.chosen;
       })
 
--- Once all versions were settled, those in front are the snapshot.
+-- Once all versions were decided, the first `count` versions are the snapshot.
 pub settled_list : (set : VersionSet) (items : List VersionData) (place count : ℕ) → IsSettling (to_list set) items place count →
     length (to_list set) ≤ place → take count items ≡ to_list (snapshot set)
 settled_list set items place count h end =

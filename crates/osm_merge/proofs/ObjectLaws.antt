@@ -26,7 +26,7 @@ no_more Less Greater e h k = absurd (false≢true (sym k))
 no_more Equal s e h k = refl
 no_more Greater s e h k = absurd (false≢true (sym h))
 
--- a version between two versions of an object is one too
+-- a version between two versions of an object is a version of the object
 pub objects_together : (u v w : VersionData) → version_cmp u v ≡ Less → version_cmp v w ≡ Less → same_object u w ≡ true →
     same_object u v ≡ true
 objects_together u v w uv vw uw =

@@ -36,7 +36,7 @@ or_none : (a : Bool) → (a || false) ≡ a
 or_none true = refl
 or_none false = refl
 
--- the members of sets within spans reach the bound at which these begin
+-- the members of sets within spans reach the bound at which the first span begins
 pub all_reach : (from : Option Object) (bounds : List Object) (sets : List VersionSet) → Rise from bounds →
     Pairwise IsWithin (spans_from from bounds) sets → (v : VersionData) → some_has sets v ≡ true → reaches from v ≡ true
 all_reach from [] [] h k v e = absurd k
@@ -78,7 +78,7 @@ other_slice span s others apart =
     ∙ other (contains s v) (contains others v) (is_within span.from span.to v) (apart v)
     ∙ sym (kept_in others (is_within span.from span.to) v))
 
--- a version that reaches a span reaches the bound
+-- each version that reaches a span reaches the bound `base`
 abbrev IsAbove : Option Object → Span → Type 0
 IsAbove base span = (v : VersionData) → reaches span.from v ≡ true → reaches base v ≡ true
 

@@ -10,12 +10,12 @@ use Rattle.osm_model.specs.Order.{version_cmp_total}
 use Rattle.osm_merge.specs.declared.selection.Selection.{Selection}
 use Rattle.osm_merge.specs.declared.repeats.Tie.{Tie}
 use Rattle.osm_merge.specs.declared.repeats.Repeats.{Repeats}
-use Rattle.osm_merge.specs.Pass.{passes, is_met, held_next}
-use Rattle.osm_merge.specs.Repeats.{other_place, repeats_after, repeats_after_taking, IsTied, IsPast, IsPastAt, AreTrueRepeats, one_if, comparison_count}
+use Rattle.osm_merge.specs.Pass.{passes, is_met, pending_next}
+use Rattle.osm_merge.specs.Repeats.{other_index, repeats_after, repeats_after_taking, IsTied, IsPast, IsPastAt, AreTrueRepeats, one_if, comparison_count}
 
 -- a version is not met after itself
 pub past_itself : (selection : Selection) (held : Option VersionData) (v : VersionData) →
-    is_met selection (held_next selection held v) v ≡ false
+    is_met selection (pending_next selection held v) v ≡ false
 past_itself selection held v =
     elim (is_met selection held v) as (λ b. is_met selection held v ≡ b → is_met selection (cond b (Some v) held) v ≡ false) [
       | true ↦ λ h. ap (λ r. is_lt r && passes selection v) (tied_itself version_cmp_total v)
@@ -27,7 +27,7 @@ pub nothing_known : (selection : Selection) (heads : List (Option VersionData)) 
     AreTrueRepeats selection None heads (record { tie = None; taken = None })
 nothing_known selection heads = record { tied = tt; past = tt }
 
--- a head that is known not to be met
+-- a head that is known to repeat the version taken last is not met
 pub known_past : {selection : Selection} {held : Option VersionData} {heads : List (Option VersionData)} {repeats : Repeats} (place : ℕ)
     (v : VersionData) → AreTrueRepeats selection held heads repeats → repeats.taken ≡ Some place → get_or heads place None ≡ Some v
     → is_met selection held v ≡ false
@@ -38,12 +38,12 @@ told_with : (tie : Tie) (o : Option ℕ) → comparison_count (repeats_after o t
 told_with tie None = refl
 told_with tie (Some other) = refl
 
--- no more is known once a head was taken
+-- after a head was taken, the known equal heads count as many comparisons as the tie before
 pub told_after : (tie : Option Tie) (place : ℕ) → comparison_count (repeats_after_taking tie place) ≡ one_if tie
 told_after None place = refl
-told_after (Some tie) place = told_with tie (other_place tie place)
+told_after (Some tie) place = told_with tie (other_index tie place)
 
--- a head of another source that is equal to one that was taken is not met any more
+-- the head of the source `w` is taken
 module _ (selection : Selection) (held : Option VersionData) (heads : List (Option VersionData)) (w : ℕ) (v : VersionData)
     (given : Option VersionData) (at_w : get_or heads w None ≡ Some v) where
   abbrev heads2 : List (Option VersionData)
@@ -51,17 +51,17 @@ module _ (selection : Selection) (held : Option VersionData) (heads : List (Opti
 
   -- the known equal heads once the head was taken
   abbrev IsKnownNow : Repeats → Type 0
-  IsKnownNow repeats = IsTied heads2 repeats.tie × IsPastAt selection (held_next selection held v) heads2 repeats.taken
+  IsKnownNow repeats = IsTied heads2 repeats.tie × IsPastAt selection (pending_next selection held v) heads2 repeats.taken
 
   stays_at : (place : ℕ) → (place == w) ≡ false → get_or heads2 place None ≡ get_or heads place None
   stays_at place h = get_or-set_other heads w place given None (eqb-false place w h)
 
   past_at : (place : ℕ) → (place == w) ≡ false → get_or heads place None ≡ get_or heads w None →
-      IsPastAt selection (held_next selection held v) heads2 (Some place)
-  past_at place h same = subst (IsPast selection (held_next selection held v)) (sym (stays_at place h ∙ same ∙ at_w))
+      IsPastAt selection (pending_next selection held v) heads2 (Some place)
+  past_at place h same = subst (IsPast selection (pending_next selection held v)) (sym (stays_at place h ∙ same ∙ at_w))
       (past_itself selection held v)
 
-  -- What is known of equal heads holds after one of them was taken.
+  -- The known equal heads are still equal after a head was taken.
   pub known_after : (tie : Option Tie) → IsTied heads tie → IsKnownNow (repeats_after_taking tie w)
   known_after None tied = (tt, tt)
   known_after (Some tie) tied =

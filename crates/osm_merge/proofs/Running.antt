@@ -23,19 +23,19 @@ use Rattle.osm_files.specs.Sink.{SinkState, CutShort, HasPut, MayFollow}
 use Rattle.osm_files.proofs.SpellLaws.{each_may_follow}
 use Rattle.osm_merge.specs.declared.merge.Counts.{Counts}
 use Rattle.osm_files.specs.Input.{Explained}
-use Rattle.osm_merge.specs.ToCome.{VersionsToCome, rest, head, behind_head, coming_at, AllAscend, AllStand}
+use Rattle.osm_merge.specs.ToCome.{VersionsToCome, rest, head, after_head, rest_at, AllAscend, AreHeadsOf}
 use Rattle.osm_merge.specs.Giving.{AllGive, SomeInputsGive, SomePendingGive}
 use Rattle.osm_merge.specs.Members.{first}
 use Rattle.osm_merge.specs.Union.{versions_of, union_given, capped_count}
 use Rattle.osm_merge.specs.declared.selection.Selection.{Selection}
 use Rattle.osm_merge.specs.declared.selection.Selection.TheVariants as selections
 use Rattle.osm_merge.specs.Selected.{selection_of}
-use Rattle.osm_merge.specs.Pass.{passes, passing_versions, passes_all, put_of, put_at, put_at_end, versions_put, puts_at_once, keeps, is_met, held_next}
+use Rattle.osm_merge.specs.Pass.{passes, passing_versions, passes_all, put_of, put_at, put_at_end, versions_put, puts_at_once, keeps, is_met, pending_next}
 use Rattle.osm_merge.specs.Pass.{met_next}
 use Rattle.std.specs.Bool.{OnTrue}
 use Rattle.osm_merge.specs.declared.repeats.Tie.{Tie}
 use Rattle.osm_merge.specs.declared.repeats.Repeats.{Repeats}
-use Rattle.osm_merge.specs.Repeats.{repeats_after_taking, IsTied, IsPastAt, AreTrueRepeats, IsToldBy, one_if, comparison_count}
+use Rattle.osm_merge.specs.Repeats.{repeats_after_taking, IsTied, IsPastAt, AreTrueRepeats, SavesComparison, one_if, comparison_count}
 use Rattle.osm_merge.proofs.RepeatLaws.{nothing_known, told_after, known_after}
 use Rattle.osm_merge.specs.Put.{TakesEach, PutsMore, EndsFile}
 use Rattle.osm_merge.specs.Tree.{IsHeadUpTo, IsTree}
@@ -51,16 +51,17 @@ use Rattle.osm_merge.proofs.Settling.{AscendBehind, may_put, may_end, put_next, 
 use Rattle.osm_merge.proofs.UnionLaws.{union_list, chosen, InFront, passing_nothing, put_in_front, met_up_to, all_put, all_taken}
 use Rattle.osm_merge.proofs.UnionLaws.{last_of_end, cut_in_file, memory_refused}
 
--- the rests, including the heads, if the sources give these rests after their heads
+-- the merge between two turns, if the sources give the rests `told` after their heads; `states` are the rests with the
+-- heads
 pub record IsStanding (selection : Selection) (all : List VersionsToCome) (heads : List (Option VersionData))
     (told : List (Option VersionsToCome)) (met : List VersionData) (last top : Option VersionData) (taken : ℕ) : Type 0 where
   pub states : List VersionsToCome
-  pub stand : AllStand states heads told
+  pub stand : AreHeadsOf states heads told
   pub merging : IsMerging selection all states met last top taken
 
--- Of sources that had these heads at first, `taken` versions were taken, those that pass were met, and the versions to
--- put of these were put, in a file of this format to the output of this number. Each possible rest now comes from a
--- possible rest at first.
+-- The invariant between two turns. The sources began with the heads `heads0`. `taken` versions were taken, and those that
+-- pass were met. The sink has put the versions `put_of selection met`. Each list of rests that is possible now comes from
+-- one that was possible at first.
 pub record IsRunning (selection : Selection) {S : Type 0} (can : S → VersionsToCome → Type 0) (heads0 : List (Option VersionData))
     (sources0 : List S) (format : Format) (number : ℕ) {O : Type 0} (output : Ghosts O) (before : O)
     (heads : List (Option VersionData)) (nodes : List ℕ) (sources : List S) (sink : SinkState) (now : O) (last : Option VersionData)
@@ -82,7 +83,7 @@ pub record IsRunning (selection : Selection) {S : Type 0} (can : S → VersionsT
   pub fresh : passes_all selection ≡ true → last ≡ None → taken ≡ 0
   pub run :
       Explained (AllGive can sources0) (AllGive can sources)
-      (λ first later. (all : List VersionsToCome) → AllAscend all → AllStand all heads0 (map Some first)
+      (λ first later. (all : List VersionsToCome) → AllAscend all → AreHeadsOf all heads0 (map Some first)
       → IsStanding selection all heads (map Some later) met last top taken)
 
 none_met : (selection : Selection) (all : List VersionsToCome) → AllAscend all → IsMerging selection all all [] None None 0
@@ -129,13 +130,13 @@ run_start selection can heads sources format number output before nodes sink now
     }
 
 -- ---- heads and the rests of sources
-at_map : (states : List VersionsToCome) (i : ℕ) → get_or (map head states) i None ≡ head (coming_at states i)
+at_map : (states : List VersionsToCome) (i : ℕ) → get_or (map head states) i None ≡ head (rest_at states i)
 at_map [] i = refl
 at_map (c ∷ cs) zero = refl
 at_map (c ∷ cs) (suc i) = at_map cs i
 
 head_at : (states : List VersionsToCome) (heads : List (Option VersionData)) (i : ℕ) → heads ≡ map head states
-    → get_or heads i None ≡ head (coming_at states i)
+    → get_or heads i None ≡ head (rest_at states i)
 head_at states heads i e = ap (λ h. get_or h i None) e ∙ at_map states i
 
 length_heads : (states : List VersionsToCome) (heads : List (Option VersionData)) → heads ≡ map head states → length heads ≡ length states
@@ -143,51 +144,51 @@ length_heads states heads e = ap length e ∙ length-map states head
 
 least_head : (states : List VersionsToCome) (heads : List (Option VersionData)) (nodes : List ℕ) (w : ℕ) (x : Option VersionData)
     → heads ≡ map head states → IsTree heads nodes 1 0 → w ≡ get_or nodes 1 0 → get_or heads w None ≡ x → (i : ℕ)
-    → IsHeadUpTo x (head (coming_at states i))
+    → IsHeadUpTo x (head (rest_at states i))
 least_head states heads nodes w x e t is at_w i =
     elim (cases_lt i (length heads)) [
       | inl less ↦
-          subst (λ u. IsHeadUpTo u (head (coming_at states i))) (ap (λ q. get_or heads q None) (sym is) ∙ at_w)
+          subst (λ u. IsHeadUpTo u (head (rest_at states i))) (ap (λ q. get_or heads q None) (sym is) ∙ at_w)
           (subst (λ u. IsHeadUpTo (get_or heads (get_or nodes 1 0) None) u) (head_at states heads i e)
           (winner_is_least heads nodes t i less))
       | inr more ↦ subst (λ c. IsHeadUpTo x (head c))
           (sym (get_or_past states i end_whole (subst (λ n. n ≤ i) (length_heads states heads e) more))) tt
     ]
 
-behind_at : (states : List VersionsToCome) (w : ℕ) → coming_at (map behind_head states) w ≡ behind_head (coming_at states w)
+behind_at : (states : List VersionsToCome) (w : ℕ) → rest_at (map after_head states) w ≡ after_head (rest_at states w)
 behind_at [] w = refl
 behind_at (c ∷ cs) zero = refl
 behind_at (c ∷ cs) (suc w) = behind_at cs w
 
--- the version that a source gives in a turn, once its head was taken
+-- after a head was taken, the next version of its source is the new head
 stand_more : (states : List VersionsToCome) (heads : List (Option VersionData)) (told : List (Option VersionsToCome)) (w : ℕ)
     (given : Option VersionData) (after : Option VersionsToCome)
-    → AllStand states heads told → w < length heads → w < length told → SourceStep (get_or told w None) (Ok given) after
-    → AllStand (without_head states w) (set heads w given) (set told w after)
+    → AreHeadsOf states heads told → w < length heads → w < length told → SourceStep (get_or told w None) (Ok given) after
+    → AreHeadsOf (without_head states w) (set heads w given) (set told w after)
 stand_more states heads told w given after s inside low step =
-    let here : VersionsToCome = coming_at states w in
+    let here : VersionsToCome = rest_at states w in
     let less : w < length states = subst (λ n. w < n) (length_heads states heads s.heads_are) inside in
-    let tells : get_or told w None ≡ Some (behind_head here) =
-    told_at told (map behind_head states) w s.behind low ∙ ap Some (behind_at states w) in
-    let t = told_gives (behind_head here) given after (subst (λ o. SourceStep o (Ok given) after) tells step) in
-    let same_place : coming_at (without_head states w) w ≡ behind_head here = get_or-set_same states w (behind_head here) end_whole less in
+    let tells : get_or told w None ≡ Some (after_head here) =
+    told_at told (map after_head states) w s.rests_known low ∙ ap Some (behind_at states w) in
+    let t = told_gives (after_head here) given after (subst (λ o. SourceStep o (Ok given) after) tells step) in
+    let same_place : rest_at (without_head states w) w ≡ after_head here = get_or-set_same states w (after_head here) end_whole less in
     record {
-      heads_are = (λ i. set (s.heads_are i) w (t.0 i)) ∙ sym (map-set head states w (behind_head here));
-      behind =
-          (λ i. set (s.behind i) w (t.1 i)) ∙ map_set_some (map behind_head states) w (behind_head (behind_head here))
-          ∙ ap (map Some) (sym (map-set behind_head states w (behind_head here)));
+      heads_are = (λ i. set (s.heads_are i) w (t.0 i)) ∙ sym (map-set head states w (after_head here));
+      rests_known =
+          (λ i. set (s.rests_known i) w (t.1 i)) ∙ map_set_some (map after_head states) w (after_head (after_head here))
+          ∙ ap (map Some) (sym (map-set after_head states w (after_head here)));
       settled = λ i near none. elim (cases_eq i w) [
-        | inl is ↦ ap (λ j. (coming_at (without_head states w) j).refusal) is ∙ ap (λ c. c.refusal) same_place
-            ∙ t.2 (t.0 ∙ ap head (sym same_place) ∙ ap (λ j. head (coming_at (without_head states w) j)) (sym is) ∙ none)
+        | inl is ↦ ap (λ j. (rest_at (without_head states w) j).refusal) is ∙ ap (λ c. c.refusal) same_place
+            ∙ t.2 (t.0 ∙ ap head (sym same_place) ∙ ap (λ j. head (rest_at (without_head states w) j)) (sym is) ∙ none)
         | inr n ↦ (
-            let other : coming_at (without_head states w) i ≡ coming_at states i = get_or-set_other states w i (behind_head here) end_whole n in
+            let other : rest_at (without_head states w) i ≡ rest_at states i = get_or-set_other states w i (after_head here) end_whole n in
             ap (λ c. c.refusal) other
-            ∙ s.settled i (subst (λ m. i < m) (length-set states w (behind_head here)) near) (ap head (sym other) ∙ none))
+            ∙ s.settled i (subst (λ m. i < m) (length-set states w (after_head here)) near) (ap head (sym other) ∙ none))
       ];
     }
 
 -- ---- the counts
--- a version that was compared with the pending one, and one that wasn't, since a comparison had shown that it repeats
+-- the least number of comparisons after a version was compared with the pending one, or was a known repeat
 least_more : (M t o c0 c1 : ℕ) → min ((t - 1) + o) M ≤ c0 → min (c0 + 1) M ≤ c1 → min (((t + 1) - 1) + o) M ≤ c1
 least_more M t o c0 c1 a b = omega arith
 
@@ -225,9 +226,9 @@ least_ties M t q o p c e a = omega (arith, e)
 least_told : (M t q p c : ℕ) → min ((t + p) + q) M ≤ c → min (t + (q + p)) M ≤ c
 least_told M t q p c a = omega arith
 
--- and after the games that were played again
+-- the least number of comparisons after the games were played again
 least_next : (tie : Option Tie) (w : ℕ) (t c1 : ℕ) (tie2 : Option Tie) (c2 : ℕ) → capped_count (t + one_if tie) ≤ c1
-    → IsToldBy (repeats_after_taking tie w).tie c1 tie2 c2 → capped_count (t + comparison_count (record { tie = tie2; taken = (repeats_after_taking tie w).taken })) ≤ c2
+    → SavesComparison (repeats_after_taking tie w).tie c1 tie2 c2 → capped_count (t + comparison_count (record { tie = tie2; taken = (repeats_after_taking tie w).taken })) ≤ c2
 least_next tie w t c1 tie2 c2 a told =
     let after = repeats_after_taking tie w in
     let taken : ℕ = one_if after.taken in
@@ -256,7 +257,7 @@ at_once_pass (selections.StateVisible t) h v = absurd (false≢true h)
 at_once_pass (selections.Between from to) h v = absurd (false≢true h)
 
 some_held : (selection : Selection) (last : Option VersionData) (v : VersionData) → passes selection v ≡ true
-    → held_next selection last v ≡ None → ⊥
+    → pending_next selection last v ≡ None → ⊥
 some_held selection None v pass e =
     elim (passes selection v) as (λ b. b ≡ true → cond b (Some v) None ≡ None → ⊥) [
       | true ↦ λ h e. cc
@@ -323,13 +324,13 @@ module _ {selection : Selection} {S : Type 0} {can : S → VersionsToCome → Ty
   pub inside : w < length heads
   inside = subst (λ q. q < length heads) (sym top) (r.tree.below 1 (omega arith) (let s = r.some in omega arith))
 
-  -- The sink takes what is put when a version is met.
+  -- The sink takes the versions that are put when a version is met.
   pub takes : (v : VersionData) → is_met selection last v ≡ true → TakesEach (put_at selection last v) sink
   takes v is =
       takes_each format number (put_of selection r.met) (change_of output before now) sink r.has (put_at selection last v)
       (may_put selection last v r.met r.ends r.ascends (ascends_with last v r.met r.ends (met_is_new selection last v is) r.ascends))
 
-  -- The sink takes what is put at the end.
+  -- The sink takes the versions that are put at the end.
   pub takes_last : TakesEach (put_at_end selection last) sink
   takes_last =
       takes_each format number (put_of selection r.met) (change_of output before now) sink r.has (put_at_end selection last)
@@ -347,7 +348,7 @@ module _ {selection : Selection} {S : Type 0} {can : S → VersionsToCome → Ty
 
     taken_head : (all : List VersionsToCome) (told : List (Option VersionsToCome))
         (s : IsStanding selection all heads told r.met last r.top r.taken) →
-        IsMerging selection all (without_head s.states w) met2 (held_next selection last v) (Some v) (r.taken + 1)
+        IsMerging selection all (without_head s.states w) met2 (pending_next selection last v) (Some v) (r.taken + 1)
     taken_head all told s =
         merge_more selection all s.states r.met last r.top r.taken w v s.merging
         (subst (λ n. w < n) (length_heads s.states heads s.stand.heads_are) inside)
@@ -358,7 +359,7 @@ module _ {selection : Selection} {S : Type 0} {can : S → VersionsToCome → Ty
         (s : IsStanding selection all heads told r.met last r.top r.taken)
         → InFront put2 (selection_of selection (union_given all))
     in_front all told s =
-        put_in_front selection all (without_head s.states w) met2 (held_next selection last v) (Some v) (r.taken + 1)
+        put_in_front selection all (without_head s.states w) met2 (pending_next selection last v) (Some v) (r.taken + 1)
         (taken_head all told s)
 
     has2 : (sink2 : SinkState) (now2 : O) → PutsMore output (versions_put selection last v) sink sink2 now now2 (Ok tt)
@@ -373,7 +374,7 @@ module _ {selection : Selection} {S : Type 0} {can : S → VersionsToCome → Ty
         subst (λ (vs : List VersionData). CutShort number (change_of output before now2) (open_file_bytes format vs) fault) next_is
         (p format number (put_of selection r.met) before r.has)
 
-    -- the sink refused a version
+    -- if the sink refuses a version, the merge is refused
     pub put_refused : (one : S → VersionsToCome) → ((s : S) → can s (one s)) → (sink2 : SinkState) (now2 : O) (fault : Fault)
         → PutsMore output (versions_put selection last v) sink sink2 now now2 (Err fault)
         → SomePendingGive can sources0 heads0 (λ all. IsRefusedAs selection all format number (change_of output before now2) fault)
@@ -386,12 +387,12 @@ module _ {selection : Selection} {S : Type 0} {can : S → VersionsToCome → Ty
               fault (in_front all (map Some later) (q.2 all up st)) (cut2 sink2 now2 fault p)),
         )
 
-    -- After a refused put the earlier bytes are still held.
+    -- After a refused put the output still has the earlier bytes.
     pub put_kept : (sink2 : SinkState) (now2 : O) (fault : Fault) → PutsMore output (versions_put selection last v) sink sink2 now now2 (Err fault)
         → Grows (change_of output before now2)
     put_kept sink2 now2 fault p = let cut = cut2 sink2 now2 fault p in (take cut.count (open_file_bytes format put2), cut.appended)
 
-    -- After a put the earlier bytes are still held.
+    -- After a put the output still has the earlier bytes.
     pub next_kept : (sink2 : SinkState) (now2 : O) → PutsMore output (versions_put selection last v) sink sink2 now now2 (Ok tt)
         → Grows (change_of output before now2)
     next_kept sink2 now2 p = let has = has2 sink2 now2 p in (open_file_bytes format put2, has.sent.appended)
@@ -404,7 +405,7 @@ module _ {selection : Selection} {S : Type 0} {can : S → VersionsToCome → Ty
     Before step later =
         (one : VersionsToCome) × (w < length (map Some (set later w one))) × (get_or (map Some (set later w one)) w None ≡ Some one)
         × step one (get_or later w end_whole)
-        × SomeInputsGive can sources0 (λ first. (all : List VersionsToCome) → AllAscend all → AllStand all heads0 (map Some first) → IsStanding
+        × SomeInputsGive can sources0 (λ first. (all : List VersionsToCome) → AllAscend all → AreHeadsOf all heads0 (map Some first) → IsStanding
         selection all heads (map Some (set later w one)) r.met last r.top r.taken)
 
     stepped : (step : VersionsToCome → VersionsToCome → Type 0) (d new : S) → Explained (can (get_or sources w d)) (can new) step
@@ -422,36 +423,36 @@ module _ {selection : Selection} {S : Type 0} {can : S → VersionsToCome → Ty
           r.run (set later w b.0) b.1,
         )
 
-    -- the source of the version was refused, once the version was put
+    -- the source of the version is refused after the version was put
     refused_at : (sink2 : SinkState) (now2 : O) (fault : Fault) (told : List (Option VersionsToCome)) (after : Option VersionsToCome)
         → w < length told → PutsMore output (versions_put selection last v) sink sink2 now now2 (Ok tt)
         → SourceStep {A = VersionData} (get_or told w None) (Err fault) after
         → (all : List VersionsToCome) → IsStanding selection all heads told r.met last r.top r.taken
         → IsRefusedAs selection all format number (change_of output before now2) fault
     refused_at sink2 now2 fault told after low p step all s =
-        let here : VersionsToCome = coming_at s.states w in
+        let here : VersionsToCome = rest_at s.states w in
         let states2 : List VersionsToCome = without_head s.states w in
         let m = taken_head all told s in
         let sent : Appends (change_of output before now2) (open_file_bytes format put2) = (has2 sink2 now2 p).sent.appended in
         let less : w < length s.states = subst (λ n. w < n) (length_heads s.states heads s.stand.heads_are) inside in
-        let tells : get_or told w None ≡ Some (behind_head here) =
-        told_at told (map behind_head s.states) w s.stand.behind low ∙ ap Some (behind_at s.states w) in
-        elim (told_refuses (behind_head here) fault after (subst (λ o. SourceStep {A = VersionData} o (Err fault) after) tells step)) [
+        let tells : get_or told w None ≡ Some (after_head here) =
+        told_at told (map after_head s.states) w s.stand.rests_known low ∙ ap Some (behind_at s.states w) in
+        elim (told_refuses (after_head here) fault after (subst (λ o. SourceStep {A = VersionData} o (Err fault) after) tells step)) [
           | inl wanting ↦ inl (subst (λ (f : Fault). CutShort number (change_of output before now2)
               (spell format (selection_of selection (union_given all))) f) (sym wanting) (memory_refused (selection_of selection (union_given all))
               format number (change_of output before now2) put2 (in_front all told s) sent))
           | inr end ↦ (
-              let list_is : (coming_at all w).list ≡ (s.merging.came w).0 ++ v ∷ [] =
+              let list_is : (rest_at all w).list ≡ (s.merging.came w).0 ++ v ∷ [] =
               (s.merging.came w).1
               ∙ ap (λ t. (s.merging.came w).0 ++ t) (only_one here.list (sym (head_at s.states heads w s.stand.heads_are) ∙ at_w) end.0) in
-              let last_v : last_version (coming_at all w).list ≡ Some v = ap last_version list_is ∙ last_of_end ((s.merging.came w).0) v in
+              let last_v : last_version (rest_at all w).list ≡ Some v = ap last_version list_is ∙ last_of_end ((s.merging.came w).0) v in
               let met_is : met2 ≡ passing_versions selection (versions_up_to (Some v) (union_list all)) = met_up_to m v refl in
               let full : puts_at_once selection ≡ true → IsFull (versions_up_to (Some v) (union_list all)) = λ once.
               is_full (versions_up_to (Some v) (union_list all)) (λ none.
               let e : Ends (Some v) met2 =
               subst (λ (h : Option VersionData). Ends h met2) (m.reached (at_once_pass selection once v)) m.ends in
               not_nothing (e.0) v (sym e.1 ∙ met_is ∙ ap (passing_versions selection) none ∙ passing_nothing selection)) in
-              let bytes : written_before selection format (last_version (coming_at all w).list) (union_list all) ≡ open_file_bytes format put2 =
+              let bytes : written_before selection format (last_version (rest_at all w).list) (union_list all) ≡ open_file_bytes format put2 =
               ap (λ (l : Option VersionData). written_before selection format l (union_list all)) last_v
               ∙ before_is selection format v (union_list all) full
               ∙ ap (λ (vs : List VersionData). open_file_bytes format (put_of selection vs)) (sym met_is) in
@@ -463,7 +464,7 @@ module _ {selection : Selection} {S : Type 0} {can : S → VersionsToCome → Ty
               }))
         ]
 
-    -- A source that is refused refuses the merge, with what was put up to its last version.
+    -- If a source is refused, the merge is refused. The versions put up to the last one of the source were written.
     pub source_refused : (one : S → VersionsToCome) → ((s : S) → can s (one s)) → (sink2 : SinkState) (now2 : O) (fault : Fault) (d new : S)
         → PutsMore output (versions_put selection last v) sink sink2 now now2 (Ok tt)
         → Explained (can (get_or sources w d)) (can new) (λ e l. SourceStep {A = VersionData} (Some e) (Err fault) (Some l))
@@ -485,7 +486,7 @@ module _ {selection : Selection} {S : Type 0} {can : S → VersionsToCome → Ty
     -- the loop continues
     pub run_more : (nodes2 : List ℕ) (sink2 : SinkState) (now2 : O) (last2 : Option VersionData) (given : Option VersionData) (d new : S)
         (read2 written2 compared1 compared2 : ℕ)
-        → PutsMore output (versions_put selection last v) sink sink2 now now2 (Ok tt) → last2 ≡ held_next selection last v
+        → PutsMore output (versions_put selection last v) sink sink2 now now2 (Ok tt) → last2 ≡ pending_next selection last v
         → Explained (can (get_or sources w d)) (can new) (λ e l. SourceStep (Some e) (Ok given) (Some l))
         → IsTree (set heads w given) nodes2 1 0
         → read2 ≡ capped_count (read + 1)
@@ -494,7 +495,7 @@ module _ {selection : Selection} {S : Type 0} {can : S → VersionsToCome → Ty
         → (is_repeated ≡ false → IfSome last (λ _. capped_count (compared + 1) ≤ compared1))
         → ((depth : ℕ) → length (set heads w given) ≤ 2 ^ depth → compared2 ≤ compared1 + depth)
         → (repeats1 : Repeats) → repeats1 ≡ repeats_after_taking repeats.tie w → (tie2 : Option Tie) → IsTied (set heads w given) tie2
-        → IsToldBy repeats1.tie compared1 tie2 compared2
+        → SavesComparison repeats1.tie compared1 tie2 compared2
         → IsRunning selection can heads0 sources0 format number output before (set heads w given) nodes2 (set sources w new) sink2 now2
         last2 read2 written2 compared2 (record { tie = tie2; taken = repeats1.taken })
     run_more nodes2 sink2 now2 last2 given d new read2 written2 compared1 compared2 p last_is step tree read_is writes is_repeated on grows
@@ -522,11 +523,11 @@ module _ {selection : Selection} {S : Type 0} {can : S → VersionsToCome → Ty
               let turn = least_turn repeats w last is_repeated r.taken compared compared1 (r.least p) (r.fresh p) on least grows in
               subst (λ (s : Repeats). capped_count (((r.taken + 1) - 1) + comparison_count (record { tie = tie2; taken = s.taken })) ≤ compared2) (sym is1)
               (least_next repeats.tie w ((r.taken + 1) - 1) compared1 tie2 compared2 turn
-              (subst (λ (s : Repeats). IsToldBy s.tie compared1 tie2 compared2) is1 told));
+              (subst (λ (s : Repeats). SavesComparison s.tie compared1 tie2 compared2) is1 told));
           known = record {
             tied = tied2;
             past = subst (λ (l : Option VersionData). IsPastAt selection l (set heads w given) repeats1.taken) (sym last_is)
-                (subst (λ (s : Repeats). IsPastAt selection (held_next selection last v) (set heads w given) s.taken) (sym is1)
+                (subst (λ (s : Repeats). IsPastAt selection (pending_next selection last v) (set heads w given) s.taken) (sym is1)
                 (known_after selection last heads w v given at_w repeats.tie r.known.tied).1);
           };
           fresh = λ p e. absurd (some_held selection last v (all_pass selection p v) (sym last_is ∙ e));
@@ -545,7 +546,7 @@ module _ {selection : Selection} {S : Type 0} {can : S → VersionsToCome → Ty
                     record {
                       states = without_head s.states w;
                       stand =
-                          subst (λ (t : List (Option VersionsToCome)). AllStand (without_head s.states w) (set heads w given) t) next
+                          subst (λ (t : List (Option VersionsToCome)). AreHeadsOf (without_head s.states w) (set heads w given) t) next
                           (stand_more s.states heads told w given (Some here) s.stand inside b.1 gave);
                       merging =
                           subst (λ (l : Option VersionData). IsMerging selection all (without_head s.states w) met2 l (Some v)
@@ -562,7 +563,7 @@ pub record IsToldDone (selection : Selection) (all : List VersionsToCome) (put :
   pub read_is : read ≡ capped_count (length (versions_of all))
   pub bounded : IsBoundedFrom (few_of selection (length (versions_of all))) (length all) (length (versions_of all)) compared
 
--- before the file is ended
+-- the merge before the file is ended
 pub record IsDone (selection : Selection) (last : Option VersionData) {S : Type 0} (can : S → VersionsToCome → Type 0)
     (heads0 : List (Option VersionData)) (sources0 : List S) (format : Format) (number : ℕ) {O : Type 0} (output : Ghosts O) (before : O)
     (sink : SinkState) (now : O) (counts : Counts) : Type 0 where
@@ -574,7 +575,7 @@ pub record IsDone (selection : Selection) (last : Option VersionData) {S : Type 
   pub written_is : counts.written ≡ capped_count (length so_far)
   pub told :
       SomeInputsGive can sources0
-      (λ first. (all : List VersionsToCome) → AllAscend all → AllStand all heads0 (map Some first)
+      (λ first. (all : List VersionsToCome) → AllAscend all → AreHeadsOf all heads0 (map Some first)
       → IsToldDone selection all put counts.read counts.compared)
 
 none_left : (heads : List (Option VersionData)) (nodes : List ℕ) (w : ℕ) → IsTree heads nodes 1 0 → w ≡ get_or nodes 1 0
@@ -587,7 +588,7 @@ none_left heads nodes w t top at_w i =
       | inr more ↦ get_or_past heads i None more
     ]
 
--- Where no head is left, the merge is done up to the end of its file.
+-- If no head is left, the merge is done up to the end of its file.
 pub run_done : {selection : Selection} {S : Type 0} {can : S → VersionsToCome → Type 0} {heads0 : List (Option VersionData)}
     {sources0 : List S} {format : Format} {number : ℕ} {O : Type 0} {output : Ghosts O} {before : O}
     {heads : List (Option VersionData)} {nodes : List ℕ} {sources : List S} {sink : SinkState} {now : O} {last : Option VersionData}
@@ -615,7 +616,7 @@ run_done {selection = selection} {can = can} {heads = heads} {nodes = nodes} {so
         q.1,
         λ all up st.
             let s = q.2 all up st in
-            let no_head : (i : ℕ) → i < length s.states → head (coming_at s.states i) ≡ None =
+            let no_head : (i : ℕ) → i < length s.states → head (rest_at s.states i) ≡ None =
             λ i low. sym (head_at s.states heads i s.stand.heads_are) ∙ none i in
             let taken_is : r.taken ≡ length (versions_of all) = all_taken s.merging no_head in
             let many : length heads ≡ length all = length_heads s.states heads s.stand.heads_are ∙ s.merging.size in
@@ -661,7 +662,7 @@ none_done selection can one possible heads sources format number output before s
         give_one can one possible sources,
         λ all up st.
             let size : length heads ≡ length all = length_heads all heads st.heads_are in
-            let no_head : (i : ℕ) → i < length all → head (coming_at all i) ≡ None = λ i low. absurd (omega arith) in
+            let no_head : (i : ℕ) → i < length all → head (rest_at all i) ≡ None = λ i low. absurd (omega arith) in
             let taken_is : 0 ≡ length (versions_of all) = all_taken (none_met selection all up) no_head in
             record {
               union_is = all_put (none_met selection all up) no_head;
@@ -691,10 +692,10 @@ module _ {selection : Selection} {last : Option VersionData} {S : Type 0} {can :
       × IfOk result (λ done. (put : List VersionData) → counts.written ≡ capped_count (length put) → done.written ≡ capped_count (length (put ++ more)))
       × IfOk result (λ done. done.compared ≡ counts.compared)
 
-  -- Where the end of the file is written, the merge is done.
+  -- If the end of the file is written, the merge is done.
   pub end_merged : (result : Result Counts Fault) → EndsFile output more sink now after result → Counted result
       → IfOk result (λ done. SomeInputsGive can sources0
-      (λ first. (all : List VersionsToCome) → AllAscend all → AllStand all heads0 (map Some first) → IsMergedAs selection all format
+      (λ first. (all : List VersionsToCome) → AllAscend all → AreHeadsOf all heads0 (map Some first) → IsMergedAs selection all format
       (change_of output before after) done))
   end_merged (Ok done) ends is = (
     d.told.0,
@@ -715,10 +716,10 @@ module _ {selection : Selection} {last : Option VersionData} {S : Type 0} {can :
   )
   end_merged (Err fault) ends is = tt
 
-  -- Where the end of the file isn't written, the merge is refused.
+  -- If the end of the file isn't written, the merge is refused.
   pub end_refused : (result : Result Counts Fault) → EndsFile output more sink now after result
       → IfErr result (λ fault. SomeInputsGive can sources0
-      (λ first. (all : List VersionsToCome) → AllAscend all → AllStand all heads0 (map Some first) → IsRefusedAs selection all format number
+      (λ first. (all : List VersionsToCome) → AllAscend all → AreHeadsOf all heads0 (map Some first) → IsRefusedAs selection all format number
       (change_of output before after) fault))
   end_refused (Ok done) ends = tt
   end_refused (Err fault) ends = (
@@ -729,14 +730,14 @@ module _ {selection : Selection} {last : Option VersionData} {S : Type 0} {can :
         (d.put_is ∙ sym (d.told.2 all up st).union_is) (ends format number d.so_far before d.has)),
   )
 
-  -- After the end of the file the earlier bytes are still held.
+  -- After the end of the file the output still has the earlier bytes.
   pub end_kept : (result : Result Counts Fault) → EndsFile output more sink now after result → Grows (change_of output before after)
   end_kept (Ok done) ends = (spell_list format (d.so_far ++ more), (ends format number d.so_far before d.has).appended)
   end_kept (Err fault) ends =
       let cut = ends format number d.so_far before d.has in (take cut.count (spell_list format (d.so_far ++ more)), cut.appended)
 
 -- ---- the loop ends
--- the number of versions still to come after a head, and the head
+-- the number of versions still to come of a source, its head included
 abbrev pub still_left : Option VersionData → ℕ → ℕ
 still_left None left = 0
 still_left (Some v) left = left + 1
@@ -752,7 +753,7 @@ fewer_left : (v : VersionData) (given : Option VersionData) (left left2 : ℕ) �
 fewer_left v None left left2 h = omega arith
 fewer_left v (Some u) left left2 h = let e = h refl in omega (arith, e)
 
--- Each turn leaves fewer turns.
+-- Each turn lowers the bound on the turns that are left.
 pub less_work : (heads : List (Option VersionData)) (lefts : List ℕ) (w : ℕ) (v : VersionData) (given : Option VersionData) (left2 : ℕ)
     → get_or heads w None ≡ Some v → w < length lefts → (IsSome given → left2 < get_or lefts w 0)
     → work (set heads w given) (set lefts w left2) < work heads lefts
@@ -774,11 +775,12 @@ give_ascend can h (s ∷ sources) [] g i = absurd g
 give_ascend can h (s ∷ sources) (c ∷ cs) g zero = h s c g.0
 give_ascend can h (s ∷ sources) (c ∷ cs) g (suc i) = give_ascend can h sources cs g.1 i
 
--- a property of all rests after each source was asked once is one of the rests that they could give before
+-- A property of some rests that the sources can give after each was asked once holds for some rests that they could give
+-- before.
 pub from_first : {S : Type 0} (can : S → VersionsToCome → Type 0) → ((s : S) (c : VersionsToCome) → can s c → Ascends c)
     → (sources first asked : List S) (heads0 heads : List (Option VersionData)) (P : List VersionsToCome → Type 0) → first ≡ sources
     → heads ≡ heads0
-    → Explained (AllGive can first) (AllGive can asked) (λ all later. AllStand all heads0 (map Some later)) → SomePendingGive can asked heads P
+    → Explained (AllGive can first) (AllGive can asked) (λ all later. AreHeadsOf all heads0 (map Some later)) → SomePendingGive can asked heads P
     → SomeInputsGive can sources P
 from_first can ascends sources first asked heads0 heads P same is stands h =
     let x = stands h.0 h.1 in
@@ -786,5 +788,5 @@ from_first can ascends sources first asked heads0 heads P same is stands h =
       x.0,
       g,
       h.2 x.0 (give_ascend can ascends sources x.0 g)
-          (subst (λ (hs : List (Option VersionData)). AllStand x.0 hs (map Some h.0)) (sym is) x.2),
+          (subst (λ (hs : List (Option VersionData)). AreHeadsOf x.0 hs (map Some h.0)) (sym is) x.2),
     )

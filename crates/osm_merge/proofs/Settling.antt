@@ -11,7 +11,7 @@ use Rattle.osm_merge.specs.declared.selection.Selection.{Selection}
 use Rattle.osm_merge.specs.declared.selection.Selection.TheVariants.{All, Visible, Newest, NewestVisible, State, StateVisible, Between}
 use Rattle.osm_model.specs.Order.{version_cmp}
 use Rattle.osm_merge.specs.Members.{first}
-use Rattle.osm_merge.specs.Pass.{keeps, singleton_if, kept_versions, decided_versions, settled_versions, puts_at_once, put_of, pending_if_kept, put_at, put_at_end, versions_put, is_met}
+use Rattle.osm_merge.specs.Pass.{keeps, singleton_if, versions_that_stay, decided_versions, settled_versions, puts_at_once, put_of, pending_if_kept, put_at, put_at_end, versions_put, is_met}
 use Rattle.osm_merge.specs.Pass.{met_next}
 use Rattle.osm_merge.proofs.State.{Ends}
 use Rattle.osm_merge.proofs.AscendingLaws.{one_ascends, first_below, rest_ascends}
@@ -41,7 +41,7 @@ all_front : {K : Type 0} (P : K → Type 0) (front : List K) (l : K) → AllByRe
 all_front P [] l h = h.0
 all_front P (x ∷ front) l h = all_front P front l h.1
 
--- an ascending list, and one version below it
+-- an ascending list after a version that is below all of its items
 module _ {K : Type 0} (R : K → K → Ordering) where
   ascends_behind : (xs ys : List K) (x : K) → AllByRecursion (λ y. R x y ≡ Less) ys → IsStrictlySortedBy R ys →
       IsStrictlySortedBy R (x ∷ ys)
@@ -71,7 +71,7 @@ module _ {K : Type 0} (R : K → K → Ordering) where
       (settled_ascends keeps front l (rest_ascends R x (front ++ l ∷ []) h)))
 
 -- ---- a turn
--- each of these ascends after those
+-- each of some versions ascends after the versions that were put
 abbrev pub AscendBehind : List VersionData → List VersionData → Type 0
 AscendBehind put versions = AllByRecursion (λ v. IsStrictlySortedBy version_cmp (put ++ v ∷ [])) versions
 
@@ -83,7 +83,7 @@ held_may_follow selection (Some l) behind met e h =
     (subst (λ t. IsStrictlySortedBy version_cmp (settled_versions (keeps selection) t ++ l ∷ [])) (sym e.1)
     (settled_ascends version_cmp (keeps selection) (e.0) l (subst (IsStrictlySortedBy version_cmp) e.1 h)))
 
--- What is put when a version is met may follow what was put before.
+-- The versions put when a version is met ascend after those put before.
 pub may_put : (selection : Selection) (held : Option VersionData) (v : VersionData) (met : List VersionData) → Ends held met →
     IsStrictlySortedBy version_cmp met → IsStrictlySortedBy version_cmp (met ++ v ∷ []) →
     AscendBehind (put_of selection met) (put_at selection held v)
@@ -94,7 +94,7 @@ may_put selection held v met e h up =
       | false ↦ held_may_follow selection held (Some v) met e h
     ]
 
--- What is put at the end may follow what was put before.
+-- The versions put at the end ascend after those put before.
 pub may_end : (selection : Selection) (held : Option VersionData) (met : List VersionData) → Ends held met →
     IsStrictlySortedBy version_cmp met → AscendBehind (put_of selection met) (put_at_end selection held)
 may_end selection held met e h =
@@ -110,7 +110,7 @@ settled_more selection None v met e = subst (λ t. settled_versions (keeps selec
 settled_more selection (Some l) v met e = subst (λ t. settled_versions (keeps selection) t ++ singleton_if (keeps selection l (Some v)) l
     ≡ settled_versions (keeps selection) (t ++ v ∷ [])) (sym e.1) (sym (settled_next (keeps selection) (e.0) l v))
 
--- the versions put then are those put for one more
+-- the versions put before a version is met, and when it is met, are those put for one more version
 pub put_more : (selection : Selection) (held : Option VersionData) (v : VersionData) (met : List VersionData) → Ends held met →
     put_of selection met ++ put_at selection held v ≡ put_of selection (met ++ v ∷ [])
 put_more selection held v met e =
@@ -121,14 +121,14 @@ put_more selection held v met e =
     ]
 
 settled_all : (selection : Selection) (held : Option VersionData) (met : List VersionData) → Ends held met →
-    settled_versions (keeps selection) met ++ pending_if_kept selection held None ≡ kept_versions (keeps selection) met
-settled_all selection None met e = subst (λ t. settled_versions (keeps selection) t ++ [] ≡ kept_versions (keeps selection) t) (sym e) refl
+    settled_versions (keeps selection) met ++ pending_if_kept selection held None ≡ versions_that_stay (keeps selection) met
+settled_all selection None met e = subst (λ t. settled_versions (keeps selection) t ++ [] ≡ versions_that_stay (keeps selection) t) (sym e) refl
 settled_all selection (Some l) met e = subst (λ t. settled_versions (keeps selection) t ++ singleton_if (keeps selection l None) l
-    ≡ kept_versions (keeps selection) t) (sym e.1) (sym (kept_end (keeps selection) (e.0) l))
+    ≡ versions_that_stay (keeps selection) t) (sym e.1) (sym (kept_end (keeps selection) (e.0) l))
 
--- at the end they are those that the pass keeps
+-- at the end all versions that the pass keeps were put
 pub put_all : (selection : Selection) (held : Option VersionData) (met : List VersionData) → Ends held met →
-    put_of selection met ++ put_at_end selection held ≡ kept_versions (keeps selection) met
+    put_of selection met ++ put_at_end selection held ≡ versions_that_stay (keeps selection) met
 put_all All held met e = append-nil met ∙ sym (keep_all met)
 put_all Visible held met e = settled_all Visible held met e
 put_all Newest held met e = settled_all Newest held met e
@@ -155,9 +155,9 @@ put_next selection held v met e =
     ]
 
 settled_front : {K : Type 0} (keeps : K → Option K → Bool) (xs more : List K) →
-    (behind : List K) × (kept_versions keeps (xs ++ more) ≡ settled_versions keeps xs ++ behind)
-settled_front keeps [] more = (kept_versions keeps more, refl)
-settled_front keeps (x ∷ []) more = (kept_versions keeps (x ∷ more), refl)
+    (behind : List K) × (versions_that_stay keeps (xs ++ more) ≡ settled_versions keeps xs ++ behind)
+settled_front keeps [] more = (versions_that_stay keeps more, refl)
+settled_front keeps (x ∷ []) more = (versions_that_stay keeps (x ∷ more), refl)
 settled_front keeps (x ∷ y ∷ ys) more =
     let part = settled_front keeps (y ∷ ys) more in (
       part.0,
@@ -167,7 +167,7 @@ settled_front keeps (x ∷ y ∷ ys) more =
 
 -- the versions put for the front of a list are a front of those that the pass keeps
 pub put_front : (selection : Selection) (xs more : List VersionData) →
-    (behind : List VersionData) × (kept_versions (keeps selection) (xs ++ more) ≡ put_of selection xs ++ behind)
+    (behind : List VersionData) × (versions_that_stay (keeps selection) (xs ++ more) ≡ put_of selection xs ++ behind)
 put_front All xs more = (more, keep_all (xs ++ more))
 put_front Visible xs more = settled_front (keeps Visible) xs more
 put_front Newest xs more = settled_front (keeps Newest) xs more
@@ -184,7 +184,7 @@ settled_strict keeps (x ∷ xs) h =
     (all_settled keeps (λ y. version_cmp x y ≡ Less) xs (first_below version_cmp x xs h))
     (settled_strict keeps xs (rest_ascends version_cmp x xs h))
 
--- the versions put ascend, and so do all that the pass keeps
+-- the versions put ascend
 pub put_ascends : (selection : Selection) (met : List VersionData) → IsStrictlySortedBy version_cmp met →
     IsStrictlySortedBy version_cmp (put_of selection met)
 put_ascends selection met h =
@@ -194,9 +194,9 @@ put_ascends selection met h =
     ]
 
 all_kept : {K : Type 0} (keeps : K → Option K → Bool) (P : K → Type 0) (xs : List K) → AllByRecursion P xs →
-    AllByRecursion P (kept_versions keeps xs)
+    AllByRecursion P (versions_that_stay keeps xs)
 all_kept keeps P [] h = tt
-all_kept keeps P (x ∷ xs) h = all_append P (singleton_if (keeps x (first xs)) x) (kept_versions keeps xs) (all_only P (keeps x (first xs)) x h.0)
+all_kept keeps P (x ∷ xs) h = all_append P (singleton_if (keeps x (first xs)) x) (versions_that_stay keeps xs) (all_only P (keeps x (first xs)) x h.0)
     (all_kept keeps P xs h.1)
 
 only_ascends : (b : Bool) (x : VersionData) (ys : List VersionData) → AllByRecursion (λ y. version_cmp x y ≡ Less) ys →
@@ -206,8 +206,8 @@ only_ascends false x ys h k = k
 
 -- The versions that are kept of a strictly ascending list ascend strictly.
 pub kept_ascends : (keeps : VersionData → Option VersionData → Bool) (xs : List VersionData) → IsStrictlySortedBy version_cmp xs →
-    IsStrictlySortedBy version_cmp (kept_versions keeps xs)
+    IsStrictlySortedBy version_cmp (versions_that_stay keeps xs)
 kept_ascends keeps [] h = h
 kept_ascends keeps (x ∷ xs) h =
-    only_ascends (keeps x (first xs)) x (kept_versions keeps xs) (all_kept keeps (λ y. version_cmp x y ≡ Less) xs (first_below version_cmp x xs h))
+    only_ascends (keeps x (first xs)) x (versions_that_stay keeps xs) (all_kept keeps (λ y. version_cmp x y ≡ Less) xs (first_below version_cmp x xs h))
     (kept_ascends keeps xs (rest_ascends version_cmp x xs h))

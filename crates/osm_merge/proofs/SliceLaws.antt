@@ -13,7 +13,7 @@ use Rattle.std.specs.List.Sorted.{IsStrictlySortedBy, IsSorted}
 use Rattle.std.proofs.lemmas.List.Elements.{filter_agree, All-head, All-tail}
 use Rattle.std.proofs.lemmas.Grind.{flat_map-append}
 use Rattle.osm_model.specs.Data.{VersionData}
-use Rattle.osm_model.specs.Kind.{kind_rank}
+use Rattle.osm_model.specs.Kind.{kind_order}
 use Rattle.osm_model.specs.Order.{is_positive, version_cmp, version_cmp_total, object_cmp}
 use Rattle.osm_model.specs.VersionSet.{VersionSet}
 use Rattle.osm_model.specs.Sets.{to_list, contains}
@@ -39,7 +39,7 @@ use Rattle.osm_merge.proofs.SnapLaws.{contains-retain, retain_all}
 -- ---- the order of objects
 pub order_total : IsTotalOrder object_order
 order_total =
-    then_total (then_total (on_total (λ o. kind_rank o.kind) nat_cmp_total) (on_total (λ o. is_positive o.id) bool_cmp_total))
+    then_total (then_total (on_total (λ o. kind_order o.kind) nat_cmp_total) (on_total (λ o. is_positive o.id) bool_cmp_total))
     (on_total (λ o. unsigned_abs o.id) nat_cmp_total)
 
 lt_back : (r : Ordering) → is_lt (ordering_reverse r) ≡ is_gt r
@@ -94,7 +94,7 @@ module _ {K : Type 0} (R : K → K → Ordering) (p : K → Bool) (down : (x y :
       ] refl
 
 -- ---- the slices' lists
--- a bound isn't below this one, if there is one
+-- `bound` isn't below a lower bound, if there is one
 abbrev pub IsAtMost : Option Object → Object → Type 0
 IsAtMost None bound = Unit {0}
 IsAtMost (Some from) bound = is_lt (object_order bound from) ≡ false
@@ -132,7 +132,7 @@ cut_slice from bound s low =
     ∙ sym (listed_with s (is_within (Some bound) None)) in
     cut_at version_cmp under (under_down bound) whole (strict-listed (slice_of from None s)) ∙ (λ i. front i ++ back i)
 
--- the bounds ascend from this one on
+-- the bounds ascend from a lower bound on
 abbrev pub Rise : Option Object → List Object → Type 0
 Rise from [] = Unit {0}
 Rise from (bound ∷ bounds) = IsAtMost from bound × Rise (Some bound) bounds
@@ -224,7 +224,7 @@ within_same from to v w e = λ i. reaches_same from v w e i && under_same to v w
 pub equal : (s t : VersionSet) → ((q : VersionData) → contains s q ≡ contains t q) → s ≡ t
 equal = same_set version_cmp_total version_cmp-IsAntisymmetric
 
--- A set that is filtered contains what the set contains and what passes.
+-- A filtered set contains the members of the set that pass.
 pub kept_in : (s : VersionSet) (p : VersionData → Bool) (q : VersionData) → contains (retain s p) q ≡ (contains s q && p q)
 kept_in = contains-retain version_cmp_total version_cmp-IsAntisymmetric
 
@@ -248,7 +248,7 @@ and_next : (a b p : Bool) → (b ≡ true → p ≡ true) → ((a && p) && b) �
 and_next a true p h = and_true (a && p) ∙ ap (λ t. a && t) (h refl)
 and_next a false p h = and_turn a p false ∙ and_none a p
 
--- two tests in either order
+-- two tests can be applied in either order
 pub retain_turn : (s : VersionSet) (p q : VersionData → Bool) → retain (retain s p) q ≡ retain (retain s q) p
 retain_turn s p q =
     equal _ _ (λ v.
@@ -257,7 +257,7 @@ retain_turn s p q =
 
 -- a test with the same result for all versions of an object
 module _ (p : VersionData → Bool) (objects : (v w : VersionData) → same_object v w ≡ true → p v ≡ p w) where
-  -- the next version of an object is unchanged, if it is selected
+  -- if a version passes the test, its next version is the same before and after the set is filtered
   next_left : (s : VersionSet) (v : VersionData) → p v ≡ true → next_in (retain s p) v ≡ next_in s v
   next_left s v e =
       ap least (equal (retain (retain s p) (beats v)) (retain s (beats v)) (λ q.
@@ -265,7 +265,7 @@ module _ (p : VersionData → Bool) (objects : (v w : VersionData) → same_obje
       ∙ and_next (contains s q) (beats v q) (p q) (λ over. sym (objects v q (first_so _ _ over)) ∙ e)
       ∙ sym (kept_in s (beats v) q)))
 
-  -- a version kept by the next version of its object
+  -- versions that are kept by the next version of their object can be filtered before or after
   by_next : (keep : VersionData → Option VersionData → Bool) (s : VersionSet) →
       retain (retain s p) (λ v. keep v (next_in (retain s p) v)) ≡ retain (retain s (λ v. keep v (next_in s v))) p
   by_next keep s =
@@ -294,7 +294,7 @@ module _ (p : VersionData → Bool) (objects : (v w : VersionData) → same_obje
       ∙ retain_turn (snapshot (retain s (is_by t))) p is_visible
   selected_left (Between from to) s = by_next (λ v next. stays (Between from to) v (option_map moment next)) s
 
--- A slice of what is selected is what is selected of the slice.
+-- The selection of a slice is the slice of the selection.
 pub selected_of_slice : SelectedOfSlice
 selected_of_slice selection from to s = selected_left (is_within from to) (within_same from to) selection s
 
@@ -314,7 +314,7 @@ module _ (selection : Selection) (sets : List VersionSet) where
   each_span [] = refl
   each_span (span ∷ spans) = λ i. spell Opl (one_span span.from span.to i) ++ each_span spans i
 
--- The files of what is selected of the slices, in sequence, are the file of what is selected of the whole.
+-- The files of the selections of the slices, in sequence, are the file of the selection of the whole.
 pub slices_write_the_whole : SlicesWriteTheWhole
 slices_write_the_whole selection bounds sets rise = lines_of_slices bounds (selection_of selection (union_all sets)) rise
     ∙ each_span selection sets (spans bounds)

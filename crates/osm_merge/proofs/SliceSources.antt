@@ -1,24 +1,25 @@
--- What sources give within a span, against the slices of what they give.
-use Rattle.std.proofs.Common.{◌≡◌, ℕ, Bool, true, false, List, [], ◌∷◌, refl, sym, ap, ◌∙◌, Option, Some, None, ◌&&◌, if◌then◌else◌, cond}
-use Rattle.std.proofs.Common.{subst}
+-- The versions that sources give within a span are the slices of the versions that they give.
+use Rattle.std.proofs.Common.{◌≡◌, ℕ, Bool, true, false, List, [], ◌∷◌, refl, sym, ap, ◌∙◌, Option, Some, None, ◌&&◌, if◌then◌else◌}
+use Rattle.std.proofs.Common.{length, arith}
 use Rattle.std.proofs.lemmas.Bool.{false≢true}
 use Rattle.std.specs.Prelude.{is_none}
 use Rattle.std.specs.declared.cmp.Ordering.TheVariants.{Less}
 use Rattle.std.specs.List.{filter}
 use Rattle.std.specs.List.Sorted.{IsStrictlySortedBy}
 use Rattle.std.proofs.lemmas.List.Kept.{IsStrictlySortedBy-filter}
+use Rattle.std.proofs.lemmas.List.Sums.{length-filter, count_by-le-length}
 use Rattle.osm_model.specs.Data.{VersionData}
 use Rattle.osm_model.specs.Order.{version_cmp, version_cmp_total}
-use Rattle.osm_model.specs.Sets.{from_list, contains}
-use Rattle.osm_model.specs.VersionSet.{VersionSet}
+use Rattle.osm_model.specs.Sets.{from_list, to_list, contains}
 use Rattle.osm_model.proofs.SetLaws.{contains-from_list}
+use Rattle.osm_model.proofs.VersionLaws.{to_list-view}
 use Rattle.osm_files.specs.declared.fault.Fault.{Fault}
 use Rattle.osm_files.specs.Source.{Ascends}
 use Rattle.osm_files.specs.Stream.{end_whole, front, end_refused}
 use Rattle.osm_merge.specs.declared.object.Object.{Object}
 use Rattle.osm_merge.specs.declared.object.Span.{Span}
 use Rattle.osm_merge.specs.Slice.{reaches, is_under, is_within, slice_of, IsWithin}
-use Rattle.osm_merge.specs.ToCome.{VersionsToCome}
+use Rattle.osm_merge.specs.ToCome.{VersionsToCome, rest}
 use Rattle.osm_merge.specs.Within.{up_to, from_bound, dropped_outside, refused_outside, stray_fault}
 use Rattle.osm_merge.proofs.AscendingLaws.{first_below, rest_ascends}
 use Rattle.osm_merge.proofs.PassLaws.{filter_filter, filter_none}
@@ -29,7 +30,7 @@ under_falls : (to : Option Object) (v w : VersionData) → version_cmp v w ≡ L
 under_falls None v w less h = refl
 under_falls (Some to) v w less h = under_down to v w less h
 
--- of an ascending list, what comes before the first version above is what is below the upper bound
+-- in an ascending list, the versions before the first one above the upper bound are those below the bound
 up_to_list : (to : Option Object) (r : Option Fault) (vs : List VersionData) → IsStrictlySortedBy version_cmp vs →
     (up_to (is_under to) end_whole r vs).list ≡ filter (is_under to) vs
 up_to_list to r [] h = refl
@@ -41,7 +42,7 @@ up_to_list to r (v ∷ vs) h =
           (none_behind version_cmp (is_under to) (under_falls to) v vs e (first_below version_cmp v vs h)))
     ] refl
 
--- the set of what passes of a list is what passes of its set
+-- the set of a filtered list has the members of the set of the list that pass
 filtered : (p : VersionData → Bool) (vs : List VersionData) (v : VersionData) →
     contains (from_list {R = version_cmp} (filter p vs)) v ≡ (contains (from_list {R = version_cmp} vs) v && p v)
 filtered p vs v =
@@ -52,7 +53,7 @@ set_filtered : (from to : Option Object) (vs : List VersionData) →
     from_list {R = version_cmp} (filter (is_within from to) vs) ≡ slice_of from to (from_list vs)
 set_filtered from to vs = equal _ _ (λ v. filtered (is_within from to) vs v ∙ sym (kept_in (from_list vs) (is_within from to) v))
 
--- a source of which those outside are dropped gives the slice of what it gives
+-- a source whose versions outside are dropped gives the slice of its versions
 pub dropped_is_slice : (span : Span) (c : VersionsToCome) → Ascends c →
     from_list {R = version_cmp} (dropped_outside span c).list ≡ slice_of span.from span.to (from_list c.list)
 dropped_is_slice span c h =
@@ -79,12 +80,12 @@ refusal_after : (r : Option Fault) (vs : List VersionData) → (up_to (is_under 
 refusal_after r [] = refl
 refusal_after r (v ∷ vs) = refusal_after r vs
 
--- without an upper bound the source's refusal is met
+-- without an upper bound the rest ends with the refusal of the source
 pub dropped_to_the_end : (span : Span) (c : VersionsToCome) → span.to ≡ None → (dropped_outside span c).refusal ≡ c.refusal
 dropped_to_the_end span c none = let from : VersionsToCome = from_bound span c in
     ap (λ to. (up_to (is_under to) end_whole from.refusal from.list).refusal) none ∙ refusal_after from.refusal from.list
 
--- a source that is whole, though the first version outside is refused, has none outside
+-- all versions pass, and the source is whole
 record AllInside (p : VersionData → Bool) (r : Option Fault) (fault : Fault) (vs : List VersionData) : Type 0 where
   whole : r ≡ None
   list : (up_to p (end_refused fault) r vs).list ≡ vs
@@ -104,7 +105,7 @@ all_inside p r fault (v ∷ vs) none =
       | false ↦ λ e h. absurd (false≢true (ap is_none h))
     ] refl none
 
--- what is given where the first version outside is refused, and none is
+-- a source whose first version outside would be refused, and that is whole, has no version outside
 pub record IsInside (number : ℕ) (span : Span) (c : VersionsToCome) : Type 0 where
   pub whole : c.refusal ≡ None
   pub list : (refused_outside number span c).list ≡ c.list
@@ -118,3 +119,23 @@ refused_is_inside number span c none =
       list = all.list;
       within = sym (set_filtered span.from span.to c.list) ∙ ap (from_list {R = version_cmp}) all.inside;
     }
+
+all_pass : (p : VersionData → Bool) (end : VersionsToCome) (r : Option Fault) (vs : List VersionData) → filter p vs ≡ vs →
+    up_to p end r vs ≡ record { list = vs; refusal = r }
+all_pass p end r [] is = refl
+all_pass p end r (v ∷ vs) is =
+    elim (p v) as (λ b. (if b then v ∷ filter p vs else filter p vs) ≡ v ∷ vs →
+    (if b then front v (up_to p end r vs) else end) ≡ record { list = v ∷ vs; refusal = r }) [
+      | true ↦ λ h. ap (front v) (all_pass p end r vs (ap rest h))
+      | false ↦ λ h. absurd (let more : length (filter p vs) ≡ length (v ∷ vs) = ap length h in
+          omega (arith, more, length-filter p vs, count_by-le-length p vs))
+    ] is
+
+-- a source without versions outside gives all its versions
+pub inside_is_given : (number : ℕ) (span : Span) (c : VersionsToCome) → Ascends c → IsWithin span (from_list {R = version_cmp} c.list) →
+    refused_outside number span c ≡ c
+inside_is_given number span c up within =
+    let p : VersionData → Bool = is_within span.from span.to in
+    let same : from_list {R = version_cmp} (filter p c.list) ≡ from_list c.list = set_filtered span.from span.to c.list ∙ within in
+    all_pass p (end_refused (stray_fault number)) c.refusal c.list
+    (sym (to_list-view (filter p c.list) (IsStrictlySortedBy-filter version_cmp p c.list up)) ∙ ap to_list same ∙ to_list-view c.list up)

@@ -7,7 +7,7 @@ use Rattle.osm_model.specs.Data.{VersionData}
 use Rattle.osm_model.specs.Order.{version_cmp}
 use Rattle.osm_merge.specs.declared.selection.Selection.{Selection}
 use Rattle.osm_merge.specs.Pass.{passes}
-use Rattle.osm_merge.specs.ToCome.{VersionsToCome, coming_at}
+use Rattle.osm_merge.specs.ToCome.{VersionsToCome, rest_at}
 use Rattle.osm_merge.specs.Union.{versions_of}
 use Rattle.osm_merge.proofs.AscendingLaws.{among}
 
@@ -16,7 +16,7 @@ abbrev pub Ends : Option VersionData → List VersionData → Type 0
 Ends None met = met ≡ []
 Ends (Some held) met = (front : List VersionData) × (met ≡ front ++ held ∷ [])
 
--- a version is not greater than any of these
+-- a version, if there is one, is not greater than any of some versions
 abbrev pub Floor : Option VersionData → List VersionData → Type 0
 Floor None versions = Unit {0}
 Floor (Some low) versions = AllByRecursion (λ v. is_gt (version_cmp low v) ≡ false) versions
@@ -27,19 +27,19 @@ IsUnder None top = Unit {0}
 IsUnder (Some held) None = ⊥
 IsUnder (Some held) (Some top) = is_gt (version_cmp held top) ≡ false
 
--- Of the versions that the sources gave at first, `taken` were taken, the greatest one last; those that pass were met,
--- each once, and the last of them is pending; `states` is still to come, including the heads.
+-- `taken` versions of the sources were taken, the greatest one last. Those that pass were met, each once, and the last
+-- of them is pending. `states` are the rests that are still to come, including the heads.
 pub record IsMerging (selection : Selection) (all states : List VersionsToCome) (met : List VersionData) (held top : Option VersionData)
     (taken : ℕ) : Type 0 where
   pub size : length states ≡ length all
   pub ascends : IsStrictlySortedBy version_cmp met
-  pub queues : (i : ℕ) → IsStrictlySortedBy version_cmp (coming_at states i).list
-  pub came : (i : ℕ) → (gone : List VersionData) × ((coming_at all i).list ≡ gone ++ (coming_at states i).list)
-  pub refusals : (i : ℕ) → (coming_at all i).refusal ≡ (coming_at states i).refusal
+  pub queues : (i : ℕ) → IsStrictlySortedBy version_cmp (rest_at states i).list
+  pub came : (i : ℕ) → (gone : List VersionData) × ((rest_at all i).list ≡ gone ++ (rest_at states i).list)
+  pub refusals : (i : ℕ) → (rest_at all i).refusal ≡ (rest_at states i).refusal
   pub same : (q : VersionData) → (among q (versions_of all) && passes selection q)
       ≡ (among q met || (among q (versions_of states) && passes selection q))
   pub ends : Ends held met
-  pub floor : (i : ℕ) → Floor top (coming_at states i).list
+  pub floor : (i : ℕ) → Floor top (rest_at states i).list
   pub under : IsUnder held top
   pub reached : IfSome top (λ t. passes selection t ≡ true → held ≡ Some t)
   pub count : taken + length (versions_of states) ≡ length (versions_of all)

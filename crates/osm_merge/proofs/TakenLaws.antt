@@ -42,7 +42,7 @@ turned {R} o v w e = o.antisymm w v ∙ ap ordering_reverse e
 turned_back : {R : VersionData → VersionData → Ordering} → IsTotalOrder R → (v w : VersionData) → R v w ≡ Greater → R w v ≡ Less
 turned_back {R} o v w e = o.antisymm w v ∙ ap ordering_reverse e
 
--- the objects of all these are after that of this one
+-- the objects of some versions are after that of `v`
 abbrev Apart : VersionData → List VersionData → Type 0
 Apart v ws = AllByRecursion (λ w. object_cmp v w ≡ Less) ws
 
@@ -149,7 +149,7 @@ unfolding IsStrictlySortedBy
 newest_same [] h = refl
 newest_same (x ∷ xs) h = newest_keeps x xs h.0 ∙ ap (λ t. x ∷ t) (newest_same xs h.1)
 
--- joined by their objects, two lists with one version of each object give the newest versions of their merge
+-- Two lists with one version of each object, merged by their objects, are the newest versions of their merge.
 joined_objects : (xs ys : List VersionData) → IsStrictlySortedBy object_cmp xs → IsStrictlySortedBy object_cmp ys →
     merge_by object_cmp xs ys ≡ newest_of (merge version_cmp xs ys)
 unfolding IsStrictlySortedBy
@@ -210,7 +210,7 @@ newest_ascends (x ∷ xs) h =
 pub snapshot_ascends : (s : VersionSet) → IsStrictlySortedBy object_cmp (to_list (snapshot s))
 snapshot_ascends s = subst (IsStrictlySortedBy object_cmp) (pass_of_set Newest s) (newest_ascends (to_list s) (strict-listed s))
 
--- a history that holds its own snapshot does so too
+-- the list of a history that is its own snapshot ascends strictly by objects, too
 pub kept_ascends : (s : VersionSet) → s ≡ snapshot s → IsStrictlySortedBy object_cmp (to_list s)
 kept_ascends s is = subst (λ (t : VersionSet). IsStrictlySortedBy object_cmp (to_list t)) (sym is) (snapshot_ascends s)
 
@@ -240,7 +240,7 @@ pub joined_set : (order : OrderBy) (s t : VersionSet) → IsStrictlySortedBy (or
     from_list {R = version_cmp} (merge_by (order_of order) (to_list s) (to_list t)) ≡ union_by order s t
 joined_set order s t h g = ap (from_list {R = version_cmp}) (joined_listed order s t h g) ∙ set_listed (union_by order s t)
 
--- the newest versions of the right one are enough
+-- the snapshot of a union needs only the newest versions of the right set
 pub newest_enough : (s t : VersionSet) → snapshot (union s (snapshot t)) ≡ snapshot (union s t)
 newest_enough s t =
     snapshot_of_union s (snapshot t)

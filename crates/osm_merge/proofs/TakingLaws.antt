@@ -1,5 +1,5 @@
--- Two lists that ascend by an order, joined: the versions before one move as a whole, and by versions it is their
--- merge.
+-- Two lists that ascend by an order, merged: the versions before a version that is taken move as a whole. By the order
+-- of versions, it is the merge of two sets.
 use Rattle.std.proofs.Common.{◌≡◌, ℕ, zero, suc, ◌+◌, ◌<◌, ◌≤◌, true, false, List, [], ◌∷◌, ◌++◌, length, take, drop, get_or, refl, sym, ap}
 use Rattle.std.proofs.Common.{◌∙◌, arith, cond, inl, inr, append_assoc, length-append, length-drop, ◌-◌}
 use Rattle.std.proofs.lemmas.Bool.{false≢true, cases_lt}
@@ -16,7 +16,7 @@ use Rattle.osm_model.specs.Order.{version_cmp, version_cmp_total, object_cmp_tot
 use Rattle.osm_model.specs.Merged.{merge, merge_from}
 use Rattle.osm_merge.specs.declared.taking.OrderBy.{OrderBy}
 use Rattle.osm_merge.specs.declared.taking.OrderBy.TheVariants.{Versions, Objects}
-use Rattle.osm_merge.specs.Taking.{order_of, greater_of, IsPlaceOf, rest_after_tie, greater_tied, merge_by, merge_by_from}
+use Rattle.osm_merge.specs.Taking.{order_of, greater_of, IsCountBelow, rest_after_tie, greater_tied, merge_by, merge_by_from}
 use Rattle.osm_merge.proofs.OrderLaws.{is_less}
 
 -- Each of the two orders is total.
@@ -24,7 +24,7 @@ pub order_total : (order : OrderBy) → IsTotalOrder (order_of order)
 order_total Versions = version_cmp_total
 order_total Objects = object_cmp_total
 
--- those before an index, and those from it on
+-- a property of the items before an index, and of those from it on
 front_all : {K : Type 0} (P : K → Type 0) (xs : List K) (n : ℕ) → n ≤ length xs → AllWithin P xs 0 n → AllByRecursion P (take n xs)
 front_all P [] zero h all = tt
 front_all P [] (suc n) h all = tt
@@ -48,7 +48,7 @@ module _ (R : VersionData → VersionData → Ordering) where
             ∷ merge_by R (x ∷ xs) ys
       ]) e
 
-  -- the first one isn't below this one
+  -- the first version of a list isn't below `y`
   abbrev NoneBelow : VersionData → List VersionData → Type 0
   NoneBelow y [] = Unit {0}
   NoneBelow y (z ∷ zs) = is_lt (R z y) ≡ false
@@ -60,13 +60,13 @@ module _ (R : VersionData → VersionData → Ordering) where
   first_not_below y (x ∷ xs) zero all = all 0 x (omega arith) (omega arith)
   first_not_below y (x ∷ xs) (suc n) all = first_not_below y xs n (λ k d low below. all (suc k) d (omega arith) (omega arith))
 
-  -- the versions below the first one of the right list stay in front
+  -- the versions below the first version of the right list stay in front
   merge_by-run : (xs zs : List VersionData) (y : VersionData) (ys : List VersionData) → AllByRecursion (λ x. R x y ≡ Less) xs →
       merge_by R (xs ++ zs) (y ∷ ys) ≡ xs ++ merge_by R zs (y ∷ ys)
   merge_by-run [] zs y ys h = refl
   merge_by-run (x ∷ xs) zs y ys h = merge_by-less x y (xs ++ zs) ys h.0 ∙ ap (λ t. x ∷ t) (merge_by-run xs zs y ys h.1)
 
-  -- then comes the first one, or the one that ties with it
+  -- then comes the first version of the right list, or the greater one if another ties with it
   merge_by-put : (zs : List VersionData) (y : VersionData) (ys : List VersionData) → NoneBelow y zs →
       merge_by R zs (y ∷ ys) ≡ greater_tied R y zs ∷ merge_by R (rest_after_tie R y zs) ys
   merge_by-put [] y ys h = refl
@@ -84,8 +84,8 @@ module _ (R : VersionData → VersionData → Ordering) where
         | Greater ↦ λ e. refl
       ] h
 
-  -- one version taken: those before its offset, it or the one that ties with it, and the rest
-  pub merge_by-step : (xs : List VersionData) (y : VersionData) (ys : List VersionData) (n : ℕ) → IsPlaceOf R y xs n →
+  -- one version is taken: the versions before its index, the version or the greater one that ties with it, and the rest
+  pub merge_by-step : (xs : List VersionData) (y : VersionData) (ys : List VersionData) (n : ℕ) → IsCountBelow R y xs n →
       merge_by R xs (y ∷ ys) ≡ take n xs ++ greater_tied R y (drop n xs) ∷ merge_by R (rest_after_tie R y (drop n xs)) ys
   merge_by-step xs y ys n h =
       ap (λ t. merge_by R t (y ∷ ys)) (sym (take-append-drop n xs))
@@ -103,7 +103,7 @@ module _ (R : VersionData → VersionData → Ordering) where
   untied_ascends y [] h = h
   untied_ascends y (x ∷ xs) h = elim (is_eq (R x y)) as (λ b. IsStrictlySortedBy R (cond b xs (x ∷ xs))) [ true ↦ h.1 | false ↦ h ]
 
-  -- the rest ascends
+  -- the rest after a version is taken ascends
   pub left_ascends : (y : VersionData) (n : ℕ) (xs : List VersionData) → IsStrictlySortedBy R xs →
       IsStrictlySortedBy R (rest_after_tie R y (drop n xs))
   left_ascends y n xs h = untied_ascends y (drop n xs) (drop_ascends n xs h)
@@ -113,7 +113,7 @@ module _ (R : VersionData → VersionData → Ordering) where
   untied_shorter y (x ∷ xs) = elim (is_eq (R x y)) as
       (λ b. length (cond b xs (x ∷ xs)) ≤ length (x ∷ xs)) [ true ↦ omega arith | false ↦ omega arith ]
 
--- The versions before `low` are below the version, and none from `high` on is.
+-- The versions before `low` are below the version `v`, and no version from `high` on is.
 pub record IsHalving (R : VersionData → VersionData → Ordering) (v : VersionData) (xs : List VersionData) (low high : ℕ) : Type 0 where
   pub inside : (low ≤ high) × (high ≤ length xs)
   pub below : AllWithin (λ x. R x v ≡ Less) xs 0 low
@@ -142,7 +142,7 @@ module _ {R : VersionData → VersionData → Ordering} (o : IsTotalOrder R) (v 
     at : (d2 : VersionData) → get_or xs middle d2 ≡ get_or xs middle d
     at d2 = get_or_default xs middle d2 d (omega (arith, h.inside.1, to))
 
-    -- the one at the middle is below, and so are those before it
+    -- the version at the middle is below `v`, and so are those before it
     pub halving_up : is_lt (R (get_or xs middle d) v) ≡ true → low2 ≡ middle + 1 → high2 ≡ high → IsHalving R v xs low2 high2
     halving_up less moved same = rw (moved, same) (record {
       inside = (omega arith, h.inside.1);
@@ -151,7 +151,7 @@ module _ {R : VersionData → VersionData → Ordering} (o : IsTotalOrder R) (v 
       others = h.others;
     })
 
-    -- it isn't, and neither are those after it
+    -- the version at the middle isn't below `v`, and neither are those after it
     pub halving_down : is_lt (R (get_or xs middle d) v) ≡ false → low2 ≡ low → high2 ≡ middle → IsHalving R v xs low2 high2
     halving_down none same moved = rw (same, moved) (record {
       inside = (from, omega (arith, h.inside.1, to));
@@ -160,7 +160,7 @@ module _ {R : VersionData → VersionData → Ordering} (o : IsTotalOrder R) (v 
     })
 
 -- ---- moving
--- the first one of the rest is moved after those that were moved
+-- the first version of the rest is moved after those that were moved
 module _ (done all left left2 moved moved2 : List VersionData) (n : ℕ) (v : VersionData) (moved_is : moved ≡ done ++ take n all)
     (left_is : left ≡ drop n all) (next : left ≡ v ∷ left2) where
   inside : n < length all
@@ -182,7 +182,7 @@ module _ (done all left left2 moved moved2 : List VersionData) (n : ℕ) (v : Ve
   pub one_left : left2 ≡ drop (n + 1) all
   one_left = sym (ap (drop 1) split)
 
--- The versions moved, and then the join of the rests of both, make the whole; and there is room for all that is left.
+-- The moved versions, and then the merge of both rests, are the whole, and there is room for all versions of the rests.
 pub record IsTaking (R : VersionData → VersionData → Ordering) (whole moved held more : List VersionData) (space : ℕ) : Type 0 where
   pub ascends : IsStrictlySortedBy R held
   pub makes : moved ++ merge_by R held more ≡ whole
@@ -191,7 +191,7 @@ pub record IsTaking (R : VersionData → VersionData → Ordering) (whole moved 
 module _ (R : VersionData → VersionData → Ordering) (whole moved held more : List VersionData) (space : ℕ) where
   -- one version was taken
   pub taking_step : (v : VersionData) (more2 moved2 moved3 held2 held3 : List VersionData) (n space2 : ℕ) →
-      IsTaking R whole moved held more space → more ≡ v ∷ more2 → IsPlaceOf R v held n →
+      IsTaking R whole moved held more space → more ≡ v ∷ more2 → IsCountBelow R v held n →
       moved2 ≡ moved ++ take n held → held2 ≡ drop n held → held3 ≡ rest_after_tie R v held2 → moved3 ≡ moved2 ++ greater_tied R v held2 ∷ [] →
       space2 ≡ space →
       IsTaking R whole moved3 held3 more2 space2
@@ -216,7 +216,7 @@ module _ (R : VersionData → VersionData → Ordering) (whole moved held more :
             omega (arith, h.room, long, short, ap length next, same, place.0);
       }
 
-  -- nothing more is taken, and the held versions move
+  -- no version is left to take, and the held versions move
   pub taking_ends : (moved2 : List VersionData) (n : ℕ) → IsTaking R whole moved held more space → length more ≡ 0 → n ≡ length held →
       moved2 ≡ moved ++ take n held → moved2 ≡ whole
   taking_ends moved2 n h none every front =

@@ -16,11 +16,11 @@ use Rattle.osm_files.proofs.SpellLaws.{are_versions, unions_are_versions}
 use Rattle.osm_merge.specs.Members.{union_all}
 use Rattle.osm_merge.specs.Laws.{UnionOfTheSame, UnionOfGroups, UnionWithEmpty, UnionStaysInRange}
 
--- one of some sets has this member
+-- whether one of some sets has a version
 abbrev pub some_has : List VersionSet → VersionData → Bool
 some_has sets v = list_any (λ s. contains s v) sets
 
--- A union of several sets contains what one of them contains.
+-- A union of several sets contains a version exactly if one of the sets does.
 pub in_union_all : (sets : List VersionSet) (v : VersionData) → contains (union_all sets) v ≡ some_has sets v
 in_union_all [] v = contains-from_list version_cmp_total [] v
 in_union_all (s ∷ sets) v = contains-union version_cmp_total s (union_all sets) v ∙ ap (λ b. contains s v || b) (in_union_all sets v)
@@ -35,7 +35,7 @@ has_more sets others v more e =
     let there : Contains others (a.1) = more (a.1) (a.0, a.2, a.3) in
     list_any-from_Any (λ s. contains s v) others (there.0, a.1, there.1, there.2, a.4)
 
--- Unions over the same sets are equal, in any order and with repeats.
+-- Unions of the same sets are equal, in any order and with repeats.
 pub union_of_the_same : UnionOfTheSame
 union_of_the_same sets others same =
     equal _ _ (λ v. in_union_all sets v

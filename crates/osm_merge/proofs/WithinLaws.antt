@@ -1,5 +1,5 @@
 -- Calls of a source within a span.
-use Rattle.std.proofs.Common.{◌≡◌, inl, inr, ⊎_elim, ◌≤◌, ℕ, Bool, true, false, refl, sym, ap, ◌∙◌, Option, Some, None, Ok, Err}
+use Rattle.std.proofs.Common.{◌≡◌, inl, inr, ⊎_elim, ◌≤◌, ℕ, Bool, true, false, refl, ap, ◌∙◌, Some, None, Ok, Err}
 use Rattle.std.proofs.Common.{if◌then◌else◌}
 use Rattle.osm_model.specs.Data.{VersionData}
 use Rattle.osm_files.specs.declared.fault.Fault.{Fault}
@@ -17,12 +17,12 @@ use Rattle.osm_merge.specs.ToCome.{VersionsToCome}
 use Rattle.osm_merge.specs.Within.{from_bound, up_to, dropped_outside, refused_outside, stray_fault, still_in, still_within}
 use Rattle.osm_merge.specs.Within.{WithinCanGive}
 
--- versions below the span were dropped
+-- between two states of a source, only versions below the span were dropped
 pub record Skipping {S : Type 0} (can : S → VersionsToCome → Type 0) (left : S → ℕ) (span : Span) (before now : S) : Type 0 where
   pub keeps : Explained (can before) (can now) (λ earlier later. from_bound span earlier ≡ from_bound span later)
   pub fewer : left now ≤ left before
 
--- a source within a span after a call: its source and its state have changed
+-- a source within a span after a call, which changes its source and its state
 abbrev pub moved : {S : Type 0} → Within S → S → State → Within S
 moved w s state = record { source = s; number = w.number; span = w.span; outside = w.outside; state = state }
 
@@ -156,7 +156,7 @@ module _ {S : Type 0} (can : S → VersionsToCome → Type 0) (w : Within S) (s 
         ),
       )
 
--- after a refusal a call is refused as Failed
+-- after a refusal each call is refused as Failed
 pub stays_failed : {S : Type 0} (can : S → VersionsToCome → Type 0) (w : Within S) → w.state ≡ state.Failed →
     SourceSteps {A = VersionData} (WithinCanGive can) w (Err (failed_fault w.number)) w
 stays_failed can w failed later (c, can_give, is) =

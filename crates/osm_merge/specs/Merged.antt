@@ -18,7 +18,7 @@ use Rattle.osm_merge.specs.declared.selection.Selection.{Selection}
 use Rattle.osm_merge.specs.declared.selection.Selection.TheVariants.{All}
 use Rattle.osm_merge.specs.Selected.{selection_of}
 use Rattle.osm_merge.specs.Pass.{put_of, passing_versions, passes_all}
-use Rattle.osm_merge.specs.ToCome.{VersionsToCome, coming_at}
+use Rattle.osm_merge.specs.ToCome.{VersionsToCome, rest_at}
 use Rattle.osm_merge.specs.Union.{versions_of, union_given, capped_count}
 
 -- The bounds of `compared`, for k sources that gave n versions: at most k - 1 + n * (depth + 1), for the least depth
@@ -27,16 +27,18 @@ pub record IsBoundedFrom (few sources given compared : ℕ) : Type 0 where
   pub most : (depth : ℕ) → sources ≤ 2 ^ depth → compared ≤ (sources - 1) + given * (depth + 1)
   pub least : capped_count few ≤ compared
 
--- if each version but the first is compared with the one before it, or was with an equal one, it is at least n - 1
+-- The bounds of `compared` if no version is excluded. It is at least n - 1, since each version but the first is
+-- compared with the pending one, or a game has found it equal to a version taken before.
 abbrev pub IsBounded : (sources given compared : ℕ) → Type 0
 IsBounded sources given compared = IsBoundedFrom (given - 1) sources given compared
 
--- if versions are excluded before all else, perhaps none is compared with the pending one
+-- the lower bound of `compared`: n - 1, or 0 if versions may be excluded, since then perhaps none is compared with the
+-- pending one
 abbrev pub few_of : Selection → ℕ → ℕ
 few_of selection given = if passes_all selection then given - 1 else 0
 
--- A merge of sources with these rests, and this change of the output: each is whole, and the file of the selection of
--- the union was appended.
+-- A merge of sources with the rests `all`, which changed the output by `change`: each source is whole, and the file of
+-- the selection of the union was appended.
 pub record IsMergedAs (selection : Selection) (all : List VersionsToCome) (format : Format) (change : Change)
     (counts : Counts) : Type 0 where
   pub whole : list.All (λ c. c.refusal ≡ None) all
@@ -57,7 +59,7 @@ pub record WritesSet (format : Format) (change : Change) (counts : Counts) : Typ
   pub appended : Appends change (spell format set)
   pub written : counts.written ≡ capped_count (size set)
 
--- the last of a list
+-- the last version of a list
 abbrev pub last_version : List VersionData → Option VersionData
 last_version [] = None
 last_version (v ∷ []) = Some v
@@ -68,13 +70,14 @@ abbrev pub versions_up_to : Option VersionData → List VersionData → List Ver
 versions_up_to None versions = []
 versions_up_to (Some last) versions = filter (λ v. not (is_gt (version_cmp v last))) versions
 
--- the output of some versions before a fault: nothing for none, else their file up to the mark of its end
+-- the output of some versions before a fault: nothing for no versions, else their file up to the mark of its end
 abbrev pub written_so_far : Format → List VersionData → List ℕ
 written_so_far format [] = []
 written_so_far format (v ∷ versions) = open_file_bytes format (v ∷ versions)
 
--- the output of these versions if a source is refused after its last one: the versions put once those up to it are met;
--- nothing, if the source gives none
+-- The output if a source is refused after its version `last`, and `versions` are those of the union: the file, up to
+-- the mark of its end, of the versions that are put once the versions up to `last` are met. If the source gives no
+-- version, the output is nothing.
 abbrev pub written_before : Selection → Format → Option VersionData → List VersionData → List ℕ
 written_before All format last versions = written_so_far format (versions_up_to last versions)
 written_before selection format None versions = []
@@ -86,13 +89,13 @@ pub record IsSourceFaultAs (selection : Selection) (all : List VersionsToCome) (
     (fault : Fault) : Type 0 where
   pub place : ℕ
   pub within : place < length all
-  pub refusal : (coming_at all place).refusal ≡ Some fault
+  pub refusal : (rest_at all place).refusal ≡ Some fault
   pub appended :
-      let last = last_version (coming_at all place).list in
+      let last = last_version (rest_at all place).list in
       Appends change (written_before selection format last (to_list (union_given all)))
 
--- Why a merge was refused: memory ran out, or the output failed, or the file of the selection has 2^62 bytes or more,
--- in each of which cases a front of that file was written; or a source is refused.
+-- Why a merge was refused. Either memory ran out, the output failed or the file of the selection has 2^62 bytes or
+-- more, and a front of that file was written. Or a source is refused.
 abbrev pub IsRefusedAs : Selection → List VersionsToCome → Format → ℕ → Change → Fault → Type 0
 IsRefusedAs selection all format output change fault =
     CutShort output change (spell format (selection_of selection (union_given all))) fault
@@ -102,7 +105,7 @@ IsRefusedAs selection all format output change fault =
 abbrev pub RefusesSources : List VersionsToCome → Format → ℕ → Change → Fault → Type 0
 RefusesSources = IsRefusedAs All
 
--- the earlier bytes are still held, and some more
+-- the output still has the earlier bytes, and perhaps more bytes after them
 abbrev pub Grows : Change → Type 0
 Grows change = (bytes : List ℕ) × Appends change bytes
 
@@ -112,6 +115,6 @@ pub record HasBegunIn (set : VersionSet) (format : Format) (change : Change) : T
   pub within : count ≤ length (spell format set)
   pub appended : Appends change (take count (spell format set))
 
--- of the union
+-- a front of the file of the union was appended
 abbrev pub HasBegun : List VersionsToCome → Format → Change → Type 0
 HasBegun all = HasBegunIn (union_given all)

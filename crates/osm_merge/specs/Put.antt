@@ -11,11 +11,11 @@ use Rattle.osm_files.specs.Sink.{SinkState, Takes, HasPut, WritesFile}
 use Rattle.osm_files.specs.SpellLaws.{Puts}
 use Rattle.osm_merge.specs.Union.{capped_count}
 
--- a sink takes each of these, of which there is at most one
+-- a sink takes each of some versions, which are at most one in each use
 abbrev pub TakesEach : List VersionData → SinkState → Type 0
 TakesEach versions sink = AllByRecursion (λ v. Takes v sink) versions
 
--- a sink that has put some versions puts these too
+-- a sink that has put some versions also puts the versions `more`
 abbrev pub PutsMore : {O : Type 0} → Ghosts O → List VersionData → SinkState → SinkState → O → O
     → Result (Unit {0}) Fault → Type 0
 PutsMore {O} output more old new mid now result =
@@ -23,11 +23,11 @@ PutsMore {O} output more old new mid now result =
     → HasPut format number put (change_of output before mid) old
     → Puts format number (put ++ more) (change_of output before now) new result
 
--- a count of the versions that were put counts these too
+-- a count of the versions that were put also counts the versions `more`
 abbrev pub CountsMore : List VersionData → ℕ → ℕ → Type 0
 CountsMore more old new = (put : List VersionData) → old ≡ capped_count (length put) → new ≡ capped_count (length (put ++ more))
 
--- the end of a file of some versions, and of these too
+-- a sink that has put some versions also puts the versions `more`, and ends the file
 abbrev pub EndsFile : {A O : Type 0} → Ghosts O → List VersionData → SinkState → O → O → Result A Fault → Type 0
 EndsFile {O = O} output more old mid now result =
     (format : Format) (number : ℕ) (put : List VersionData) (before : O)

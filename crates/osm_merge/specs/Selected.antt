@@ -1,4 +1,4 @@
--- The sets that are written of a history, each defined by its members: the snapshot, the state at a moment, a period.
+-- The selections of a history, each defined by its members: the snapshot, the state at a moment, a period.
 use Rattle.std.specs.Prelude.{ℕ, Bool, true, not, ◌&&◌, ◌||◌, nat_lt, nat_le, ◌==◌, Option, Some, None, option_map}
 use Rattle.std.specs.Prelude.{unwrap_or}
 use Rattle.std.specs.List.{list_any}
@@ -25,7 +25,8 @@ abbrev pub beats : VersionData → VersionData → Bool
 beats v w = is_eq (object_cmp v w) && is_lt (version_cmp v w)
 
 -- The snapshot: each version such that the set has no greater version of the same object. A deletion counts like any
--- other version. It is the newest version of each object, as after osmium's apply-changes, deletions still in it.
+-- other version. The snapshot has the newest version of each object, as after osmium's apply-changes, and still has the
+-- deletions.
 abbrev pub snapshot : VersionSet → VersionSet
 snapshot s = retain s (λ v. not (list_any (beats v) (to_list s)))
 
@@ -33,12 +34,12 @@ snapshot s = retain s (λ v. not (list_any (beats v) (to_list s)))
 abbrev pub visible : VersionSet → VersionSet
 visible s = retain s is_visible
 
--- a version that was there by a moment: it has no time, or one of at most t
+-- a version that existed by the moment `t`: its time, if it has one, is at most `t`
 abbrev pub is_by : ℕ → VersionData → Bool
 is_by t v = nat_le (moment v) t
 
--- The state at a moment: the snapshot of the versions that were there by then. Without its deletions it is the map at
--- that moment, as of osmium's time-filter with one time.
+-- The state at a moment: the snapshot of the versions that existed by the moment. Without its deletions it is the map
+-- at that moment, as of osmium's time-filter with one time.
 abbrev pub at : VersionSet → ℕ → VersionSet
 at s t = snapshot (retain s (is_by t))
 
@@ -46,8 +47,8 @@ at s t = snapshot (retain s (is_by t))
 abbrev pub next_in : VersionSet → VersionData → Option VersionData
 next_in s v = least (retain s (beats v))
 
--- A version of the time `start` is current at `from` or later, if the next one of its object has the time `end`: there
--- is no next one, or it came after `from`, or both have one time and it isn't below `from`.
+-- Whether a version of the time `start` is current at `from` or later, if the next one of its object has the time
+-- `end`: there is no next one, or `end` is above `from`, or `end` equals `start` and isn't below `from`.
 abbrev pub lasts : (from start : ℕ) → Option ℕ → Bool
 lasts from start None = true
 lasts from start (Some end) = nat_lt from end || (end == start && nat_le from end)

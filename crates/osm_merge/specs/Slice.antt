@@ -6,7 +6,7 @@ use Rattle.std.specs.declared.cmp.Ordering.{Ordering}
 use Rattle.std.specs.Ordering.{then_cmp, on, nat_cmp, bool_cmp, is_lt}
 use Rattle.std.specs.Prelude.{unsigned_abs}
 use Rattle.osm_model.specs.Data.{VersionData, kind_of}
-use Rattle.osm_model.specs.Kind.{kind_rank}
+use Rattle.osm_model.specs.Kind.{kind_order}
 use Rattle.osm_model.specs.Order.{is_positive}
 use Rattle.osm_model.specs.VersionSet.{VersionSet}
 use Rattle.osm_merge.specs.declared.object.Object.{Object}
@@ -20,7 +20,7 @@ object_of v = record { kind = kind_of v.body; id = v.id }
 -- The order of objects: the kind; then ids up to 0 before ids above 0; then the absolute value of the id. The order of
 -- versions begins with it.
 abbrev pub object_order : Object → Object → Ordering
-object_order = then_cmp (then_cmp (on (λ o. kind_rank o.kind) nat_cmp) (on (λ o. is_positive o.id) bool_cmp))
+object_order = then_cmp (then_cmp (on (λ o. kind_order o.kind) nat_cmp) (on (λ o. is_positive o.id) bool_cmp))
     (on (λ o. unsigned_abs o.id) nat_cmp)
 
 -- the object of a version is not below the lower bound, if there is one
@@ -40,7 +40,7 @@ is_within from to v = reaches from v && is_under to v
 abbrev pub slice_of : (from to : Option Object) → VersionSet → VersionSet
 slice_of from to s = retain s (is_within from to)
 
--- from a lower bound to an upper bound, if there are any
+-- the span from a lower bound to an upper bound, of which either may be missing
 abbrev pub span_of : (from to : Option Object) → Span
 span_of from to = record { from = from; to = to }
 

@@ -41,7 +41,7 @@ SlicesWriteTheWhole =
     ≡ concat (map (λ span. spell Opl (selection_of selection (union_all (map (slice_of span.from span.to) sets))))
     (spans bounds))
 
--- bounds of which each span ascends are sorted
+-- bounds are sorted if each of their spans ascends
 abbrev pub AscendingSpansAreSorted : Type 0
 AscendingSpansAreSorted = (bounds : List Object) → list.All (λ span. is_ascending span ≡ true) (spans bounds) →
     IsSorted object_order bounds

@@ -17,7 +17,7 @@ abbrev pub order_of : OrderBy → VersionData → VersionData → Ordering
 order_of Versions = version_cmp
 order_of Objects = object_cmp
 
--- the history after it took another one in: the union, or by objects the newest version of each
+-- a history after it took another one in: the union or, by objects, the newest version of each object
 abbrev pub union_by : OrderBy → VersionSet → VersionSet → VersionSet
 union_by Versions s t = union s t
 union_by Objects s t = snapshot (union s t)
@@ -27,26 +27,28 @@ abbrev pub greater_of : VersionData → VersionData → VersionData
 greater_of v w = if is_lt (version_cmp v w) then w else v
 
 module _ (R : VersionData → VersionData → Ordering) where
-  -- `count` versions of a list are below this one, and none of the others is
-  abbrev pub IsPlaceOf : VersionData → List VersionData → ℕ → Type 0
-  IsPlaceOf v xs count = (count ≤ length xs)
+  -- the first `count` versions of a list are below `v`, and none of the others is
+  abbrev pub IsCountBelow : VersionData → List VersionData → ℕ → Type 0
+  IsCountBelow v xs count = (count ≤ length xs)
       × IsPartitionPoint (λ x. R x v ≡ Less) (λ x. is_lt (R x v) ≡ false) xs count
 
-  -- the first one of a list ties with this one
+  -- the first version of a list ties with `v`
   abbrev pub is_tied : VersionData → List VersionData → Bool
   is_tied v [] = false
   is_tied v (x ∷ xs) = is_eq (R x v)
 
-  -- the list without it, and the greater of both
+  -- the list, without its first version if that ties with `v`
   abbrev pub rest_after_tie : VersionData → List VersionData → List VersionData
   rest_after_tie v [] = []
   rest_after_tie v (x ∷ xs) = if is_eq (R x v) then xs else (x ∷ xs)
 
+  -- `v`, or the greater of `v` and the first version of the list if the two tie
   abbrev pub greater_tied : VersionData → List VersionData → VersionData
   greater_tied v [] = v
   greater_tied v (x ∷ xs) = if is_eq (R x v) then greater_of x v else v
 
-  -- the merge of a right list with a left list, whose first member and the merges of whose rest are given
+  -- the merge of a left list with a right list: `x` is the first member of the left list, and `rest` merges the other
+  -- members of the left list with a list
   abbrev pub merge_by_from : VersionData → (List VersionData → List VersionData) → List VersionData → List VersionData
   merge_by_from x rest [] = x ∷ rest []
   merge_by_from x rest (y ∷ ys) =

@@ -1,4 +1,4 @@
--- What a source gives within a span of objects: an own rule of this project.
+-- The versions that a source gives within a span of objects: an own rule of this project.
 use Rattle.std.proofs.Common.{subst, sym, refl}
 use Rattle.std.specs.Prelude.{◌≡◌, ℕ, Bool, true, false, List, [], ◌∷◌, Option, if◌then◌else◌}
 use Rattle.std.specs.List.{filter, AllByRecursion}
@@ -21,33 +21,33 @@ use Rattle.osm_merge.specs.declared.within.Within.{Within}
 use Rattle.osm_merge.specs.Slice.{reaches, is_under, is_within}
 use Rattle.osm_merge.specs.ToCome.{VersionsToCome}
 
--- versions below the lower bound are left out
+-- a rest without the versions below the lower bound
 abbrev pub from_bound : Span → VersionsToCome → VersionsToCome
 from_bound span c = record { list = filter (reaches span.from) c.list; refusal = c.refusal }
 
--- the first version that isn't below the upper bound is replaced by this end
+-- the versions before the first one that doesn't pass `p`, and then `end`; if all pass, all versions and `refusal`
 abbrev pub up_to : (VersionData → Bool) → VersionsToCome → Option Fault → List VersionData → VersionsToCome
 up_to p end refusal [] = record { list = []; refusal = refusal }
 up_to p end refusal (v ∷ versions) = if p v then front v (up_to p end refusal versions) else end
 
--- versions outside are dropped: the first one above is the end, whatever comes after it
+-- a rest without the versions outside the span: the first version above the span is the end, whatever comes after it
 abbrev pub dropped_outside : Span → VersionsToCome → VersionsToCome
 dropped_outside span c = let from = from_bound span c in up_to (is_under span.to) end_whole from.refusal from.list
 
--- the source of this number has a version outside, at a place that isn't known
+-- the fault of a version outside the span, whose place isn't known
 abbrev pub stray_fault : ℕ → Fault
 stray_fault number = fault_at number 0 Unsorted
 
--- the first version outside is refused
+-- a rest that is refused at the first version outside the span
 abbrev pub refused_outside : ℕ → Span → VersionsToCome → VersionsToCome
 refused_outside number span c = up_to (is_within span.from span.to) (end_refused (stray_fault number)) c.refusal c.list
 
--- what a source of this number gives within a span
+-- the rest of a source within a span
 abbrev pub given_within : Outside → ℕ → Span → VersionsToCome → VersionsToCome
 given_within Dropped number span c = dropped_outside span c
 given_within Refused number span c = refused_outside number span c
 
--- what is still given: nothing after the end, and Failed after a refusal
+-- the rest of a source within a span, by its state: nothing after the end, and Failed after a refusal
 abbrev pub still_in : State → Outside → ℕ → Span → VersionsToCome → VersionsToCome
 still_in Open outside number span c = given_within outside number span c
 still_in Ended outside number span c = end_whole
@@ -56,7 +56,7 @@ still_in Failed outside number span c = end_refused (failed_fault number)
 abbrev pub still_within : {S : Type 0} → Within S → VersionsToCome → VersionsToCome
 still_within w c = still_in w.state w.outside w.number w.span c
 
--- a source within a span, of which nothing was asked
+-- a source within a span, before the first call
 abbrev pub within_span : {S : Type 0} → Outside → Span → ℕ → S → Within S
 within_span outside span number source = record {
   source = source;
@@ -66,7 +66,7 @@ within_span outside span number source = record {
   state = Open;
 }
 
--- it can give what its source can, within the span
+-- a source within a span can give each rest that its source can give, within the span
 abbrev pub WithinCanGive : {S : Type 0} → (S → VersionsToCome → Type 0) → Within S → VersionsToCome → Type 0
 WithinCanGive can w still = (c : VersionsToCome) × can w.source c × (still ≡ still_within w c)
 
@@ -75,7 +75,7 @@ has_failed Open = false
 has_failed Ended = false
 has_failed Failed = true
 
--- ---- what is given ascends
+-- ---- the versions within a span ascend
 above_front : (v : VersionData) (p : VersionData → Bool) (end : VersionsToCome) (r : Option Fault)
     (versions : List VersionData) → end.list ≡ [] → AllByRecursion (λ y. version_cmp v y ≡ Less) versions
     → AllByRecursion (λ y. version_cmp v y ≡ Less) (up_to p end r versions).list

@@ -25,12 +25,12 @@ pub fn union_stays_in_range()
     ensures { UnionStaysInRange }
 {}
 
-/// The snapshot of two histories joined is that of their snapshots joined.
+/// The snapshot of the union of two histories is that of the union of their snapshots.
 pub fn snapshot_of_union()
     ensures { SnapshotOfUnion }
 {}
 
-/// The snapshot of any number of histories joined is that of their snapshots joined.
+/// The snapshot of the union of any number of histories is that of the union of their snapshots.
 pub fn snapshot_of_unions()
     ensures { SnapshotOfUnions }
 {}
@@ -40,12 +40,12 @@ pub fn snapshot_of_snapshot()
     ensures { SnapshotOfSnapshot }
 {}
 
-/// The state at a moment of two histories joined is the snapshot of their states joined.
+/// The state at a moment of the union of two histories is the snapshot of the union of their states.
 pub fn state_of_union()
     ensures { StateOfUnion }
 {}
 
-/// The state at a moment of any number of histories joined is the snapshot of their states joined.
+/// The state at a moment of the union of any number of histories is the snapshot of the union of their states.
 pub fn state_of_unions()
     ensures { StateOfUnions }
 {}
@@ -75,7 +75,7 @@ pub fn sets_within_are_slices()
     ensures { SetsWithinAreSlices }
 {}
 
-/// Bounds ascend where each of their spans ascends.
+/// Bounds ascend if each of their spans ascends.
 pub fn ascending_spans_are_sorted()
     ensures { AscendingSpansAreSorted }
 {}

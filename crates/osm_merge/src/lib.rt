@@ -1,5 +1,5 @@
-//! The streaming merge, which writes a selection of the union of its sources by a tournament over one version of each;
-//! and selections of a history.
+//! The streaming merge, which writes a selection of the union of its sources, and selections of a history. The merge
+//! plays a tournament over the next versions of its sources.
 #![tactic(auto)]
 
 mod chosen;

@@ -30,13 +30,13 @@ pub struct Counts {
 
 /// Writes the union of the versions that the sources still give as one file, each version once.
 ///
-/// It keeps one version of each source and the one put last. A version is put before its source is asked again, so if a
-/// source fails, all versions up to its last one were written. If sources don't ascend, it puts only versions that are
-/// greater than all that it put before.
+/// The merge keeps one version of each source and the version put last. A version is put before its source is asked
+/// again, so if a source fails, all versions up to its last one were written. If sources don't ascend, the merge puts
+/// only versions that are greater than all versions put before.
 ///
 /// # Errors
 ///
-/// The fault of a source; the faults of the sink, with its number; or `Memory`. The output written then is a front of
+/// The fault of a source; the faults of the sink, with the sink's number; or `Memory`. The output then has a front of
 /// the file.
 pub fn merge_into<S: Source + Drop, W: Output>(
     alloc: Global,
@@ -58,13 +58,13 @@ pub fn merge_into<S: Source + Drop, W: Output>(
 
 /// Writes the selection of the union of the versions that the sources still give as one file, each version once.
 ///
-/// It keeps one version of each source and the last one that may be selected, which is put once the version after it is
-/// known; if all are selected, each is put as soon as it comes. `read` counts the versions that the sources gave,
-/// selected or not. `progress` observes, and changes nothing.
+/// The merge keeps one version of each source and the last version that may be selected, which is put once the version
+/// after it is known. If all versions are selected, each is put as soon as it comes. `read` counts the versions that
+/// the sources gave, selected or not. `progress` only observes.
 ///
 /// # Errors
 ///
-/// The fault of a source; the faults of the sink, with its number; or `Memory`. The output written then is a front of
+/// The fault of a source; the faults of the sink, with the sink's number; or `Memory`. The output then has a front of
 /// the file of the selection.
 pub fn merge_selected<S: Source + Drop, W: Output, P: Progress>(
     alloc: Global,
@@ -128,13 +128,13 @@ fn write_union<S: Source, W: Output, P: Progress>(
             return pending.end(tournament.compared, sink, out);
         };
         pending.meet(version, is_repeated, &mut tournament.compared, sink, out)?;
-        progress.tell(pending.counts.read, pending.counts.written);
+        progress.observe(pending.counts.read, pending.counts.written);
         let next = next_of(&mut sources[place], pending.spare.take())?;
         tournament.put(place, next);
     }
 }
 
-/// The next version of a source, which gets back one that isn't needed any more, if there is one.
+/// The next version of a source. The source first gets back the version `spare`, if there is one.
 #[inline(always)]
 fn next_of<S: Source>(source: &mut S, spare: Option<Version>) -> Result<Option<Version>, Fault>
     ensures step { SourceSteps S.can_give source.old result source.new }

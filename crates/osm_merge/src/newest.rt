@@ -8,8 +8,8 @@ ghost use Rattle.osm_merge.specs.Pass.{keeps};
 use crate::selection::{Selection, keeps};
 use osm_model::{History, Version};
 
-/// The newest version of each object, deletions too, of a history that is moved in. It takes no memory: the versions
-/// that stay are moved, and the others dropped.
+/// The newest version of each object of `history`, deletions too. The function allocates no memory: the versions that
+/// stay are moved, and the others are dropped.
 pub fn into_snapshot(history: History) -> History
     ensures { result ≡ set.snapshot history }
 {
@@ -25,7 +25,8 @@ pub fn into_snapshot(history: History) -> History
     History::from_ascending(versions)
 }
 
-/// Whether the version at `place` of an ascending list is the newest one of its object: the next one is of another.
+/// Whether the version at `place` of an ascending list is the newest one of its object: the next version, if there is
+/// one, is of another object.
 fn is_newest(versions: &[Version], place: usize) -> bool
     requires { place < length versions.now }
     ensures { (d : VersionData) → result

@@ -29,7 +29,7 @@ impl Object {
     pub fn order(&self, other: &Object) -> Ordering
         ensures { result ≡ object_order self.now other.now }
     {
-        let kind = self.kind.rank().cmp(&other.kind.rank());
+        let kind = self.kind.index().cmp(&other.kind.index());
         if kind != Ordering::Equal {
             return kind;
         }

@@ -4,7 +4,7 @@ ghost use Rattle.osm_files.specs.Output.{FailingLasts, IsGoodThroughout};
 ghost use Rattle.osm_files.specs.Change.{change_of};
 ghost use Rattle.osm_files.specs.Sink.{IsOpen};
 ghost use Rattle.osm_merge.specs.Union.{capped_count};
-ghost use Rattle.osm_merge.specs.Pass.{is_new, is_met, held_next, versions_put, put_at, put_at_end, put_with, singleton_if};
+ghost use Rattle.osm_merge.specs.Pass.{is_new, is_met, pending_next, versions_put, put_at, put_at_end, put_with, singleton_if};
 ghost use Rattle.osm_merge.specs.Put.{TakesEach, PutsMore, EndsFile, CountsMore};
 
 use crate::compare::compare;
@@ -27,7 +27,7 @@ pub(crate) struct Pending {
 }
 
 impl Pending {
-    /// No version was met.
+    /// The state before a version is met.
     pub(crate) fn new(selection: Selection) -> Pending
         ensures { result ≡ record {
           selection = selection;
@@ -49,7 +49,8 @@ impl Pending {
     }
 
     /// Meets the next version. If it passes and is greater than the pending one, it decides which version is written,
-    /// and is pending then. Any other version is spare, and so is a known repeat of one taken before.
+    /// and becomes the pending one. Otherwise it becomes the spare one. If `is_repeated`, the version is known to
+    /// repeat one that was taken before, and isn't compared.
     #[inline(always)]
     pub(crate) fn meet<W: Output>(
         &mut self,
@@ -67,7 +68,7 @@ impl Pending {
             sink.old sink.new out.old out.new result }
         ensures lasts { FailingLasts (change_of W.Output out.old out.new) }
         ensures selection { self.new.selection ≡ self.old.selection }
-        ensures held { OnOk result (self.new.held ≡ held_next self.old.selection self.old.held version) }
+        ensures held { OnOk result (self.new.held ≡ pending_next self.old.selection self.old.held version) }
         ensures read { self.new.counts.read ≡ capped_count (self.old.counts.read + 1) }
         ensures written { OnOk result (CountsMore (versions_put self.old.selection self.old.held version)
             self.old.counts.written self.new.counts.written) }
@@ -96,8 +97,8 @@ impl Pending {
         is_new(&self.held, version, compared) && passes(self.selection, version.version())
     }
 
-    /// Writes the version that the next version, or the end of all, decides. This is the next version itself, if all
-    /// are written at once, or else the pending one, if it stays.
+    /// Writes the version that `next` decides; `None` is the end of all versions. If all versions are written at once,
+    /// the decided version is `next` itself. Otherwise it is the pending one, which is written if it stays.
     #[inline(always)]
     fn put_decided<W: Output>(
         &mut self,
@@ -133,7 +134,7 @@ impl Pending {
         }
     }
 
-    /// Writes the pending version, if it stays, ends the file, and returns the counts, with these comparisons.
+    /// Writes the pending version, if it stays, and ends the file. Returns the counts, with `compared` comparisons.
     pub(crate) fn end<W: Output>(
         &mut self,
         compared: u64,

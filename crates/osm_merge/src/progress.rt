@@ -3,7 +3,7 @@
 /// Observes a run.
 pub trait Progress {
     /// Is called after each version that is read, with the numbers of versions read and written since the run began.
-    fn tell(&mut self, read: u64, written: u64);
+    fn observe(&mut self, read: u64, written: u64);
 }
 
 /// No observer.
@@ -12,5 +12,5 @@ pub struct NoProgress;
 
 impl Progress for NoProgress {
     #[inline(always)]
-    fn tell(&mut self, _read: u64, _written: u64) {}
+    fn observe(&mut self, _read: u64, _written: u64) {}
 }

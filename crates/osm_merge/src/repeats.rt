@@ -1,10 +1,10 @@
 //! Heads that are known to be equal.
 //!
-//! Two heads that play and are equal tie. Once one of the two was taken, the other one is known to repeat it.
+//! Two heads that play a game and are equal tie. Once one of the two was taken, the other one is known to repeat it.
 //!
 //! Why: a known repeat is dropped without another comparison. A merge of two files with the same versions takes 0.95 to
 //! 0.98 of the time.
-//! Assumes: neither head of the tie was put since their game.
+//! Assumes: neither head of the tie was replaced since their game.
 //! Otherwise: the version is compared with the pending one.
 //! Compared by: `order_and_repetition_make_no_difference` and `comparison_bounds`.
 ghost use Rattle.std.specs.Prelude.{◌≡◌, None, Some};
@@ -19,10 +19,10 @@ pub(crate) struct Tie {
 }
 
 impl Tie {
-    /// The other one of the two indices.
+    /// The other index of the tie, if exactly one of the two is `place`.
     #[inline(always)]
     fn opposite(self, place: usize) -> Option<usize>
-        ensures { result ≡ spec.other_place self place }
+        ensures { result ≡ spec.other_index self place }
     {
         match (self.one == place, self.other == place) {
             (true, false) => Some(self.other),

@@ -6,40 +6,40 @@ use std::alloc::Global;
 /// A node that came after 10 seconds.
 pub const CAME_AT_10: &[u8] = b"n1 v1 dV c0 t1970-01-01T00:00:10Z i0 u T x1 y1\n";
 
-/// It was moved after 20 seconds.
+/// The node, moved after 20 seconds.
 pub const MOVED_AT_20: &[u8] = b"n1 v2 dV c0 t1970-01-01T00:00:20Z i0 u T x2 y1\n";
 
-/// It was deleted after 30 seconds.
+/// The deletion of the node, after 30 seconds.
 pub const DELETED_AT_30: &[u8] = b"n1 v3 dD c0 t1970-01-01T00:00:30Z i0 u T x y\n";
 
-/// Its second version, with the lesser time of the two.
+/// A second version of the node, with a time before that of the first.
 pub const MOVED_AT_5: &[u8] = b"n1 v2 dV c0 t1970-01-01T00:00:05Z i0 u T x2 y1\n";
 
 /// Another node, of which two versions came after 20 seconds.
 pub const OTHER_AT_20: &[u8] = b"n2 v1 dV c0 t1970-01-01T00:00:20Z i0 u T x1 y1\n";
 
-/// The second of these.
+/// The second version of the other node.
 pub const OTHER_MOVED_AT_20: &[u8] = b"n2 v2 dV c0 t1970-01-01T00:00:20Z i0 u T x2 y1\n";
 
 /// A node without a time.
 pub const VISIBLE: &[u8] = b"n1 v1 dV c0 t i0 u T x1 y1\n";
 
-/// Its deletion, as its second version.
+/// The deletion of the node without a time, as its second version.
 pub const DELETED_NEXT: &[u8] = b"n1 v2 dD c0 t i0 u T x y\n";
 
-/// Its deletion, as another version of the same number.
+/// The deletion of the node without a time, as another version of the same number.
 pub const DELETED_TOO: &[u8] = b"n1 v1 dD c0 t i0 u T x y\n";
 
-/// Two versions of one number without a time.
+/// The first of two versions of one number without a time.
 pub const AT_10_EAST: &[u8] = b"n1 v1 dV c0 t i0 u T x10 y1\n";
 
-/// The greater of these, since its line has the greater byte.
+/// The second of the two. It is greater, since its line has the greater byte.
 pub const AT_9_EAST: &[u8] = b"n1 v1 dV c0 t i0 u T x9 y1\n";
 
-/// A way that has the id of the node.
+/// A way that has the id of node 1.
 pub const WAY: &[u8] = b"w1 v1 dV c0 t i0 u T N\n";
 
-/// These lines, in sequence.
+/// The file of `lines`, in sequence.
 pub fn text(alloc: Global, lines: &[&[u8]]) -> Vec<u8> {
     let mut text = Vec::new(alloc);
     for line in lines {
@@ -48,7 +48,7 @@ pub fn text(alloc: Global, lines: &[&[u8]]) -> Vec<u8> {
     text
 }
 
-/// The history of the versions that a file holds; an empty one if the file is refused.
+/// The history of the versions that a file has; an empty one if the file is refused.
 pub fn history_of(alloc: Global, file: &[u8]) -> History {
     match load_any(alloc, 0, SliceIn::new(file)) {
         Ok(loaded) => loaded.history,
@@ -56,13 +56,13 @@ pub fn history_of(alloc: Global, file: &[u8]) -> History {
     }
 }
 
-/// The history of the versions that these lines spell.
+/// The history of the versions that `lines` spell.
 pub fn history(alloc: Global, lines: &[&[u8]]) -> History {
     let text = text(alloc, lines);
     history_of(alloc, &text)
 }
 
-/// Whether a history was made, and holds the versions that these lines spell.
+/// Whether `made` is a history, and has the versions that `lines` spell.
 pub fn holds(alloc: Global, made: Result<History, Memory>, lines: &[&[u8]]) -> bool {
     let Ok(history) = made else {
         return false;

@@ -46,7 +46,7 @@ pub(crate) fn puts_at_once(selection: Selection) -> bool
     }
 }
 
-/// Whether a version isn't excluded before all else.
+/// Whether a version passes. A version that doesn't pass is treated as if the history didn't have it.
 #[inline(always)]
 pub(crate) fn passes(selection: Selection, version: &Version) -> bool
     ensures { result ≡ passes selection version.now }

@@ -1,8 +1,8 @@
 //! Versions taken into a history, without a copy.
 //!
-//! Why: a search finds the offset of each version that is taken, and the versions before it move unseen. To take 10,000
-//! versions into 1,000,000 takes 21 ms, and 57 ms if each held version is compared.
-//! Assumes: both histories ascend. It brings most if the other history is small.
+//! Why: a search finds the index of each version that is taken, and the versions before it move without a comparison.
+//! Taking 10,000 versions into 1,000,000 takes 21 ms, and 57 ms if each held version is compared.
+//! Assumes: both histories ascend. The search saves most if the other history is small.
 //! Otherwise: if there are few held versions for each one that is taken, each is compared.
 //! Compared by: `a_history_absorbs_another` and `a_snapshot_absorbs_another_history`.
 ghost use Rattle.std.specs.Prelude.{◌≡◌, ◌+◌, ◌≤◌, ◌++◌, take, drop, MatchResult, vec_len, vec_capacity};
@@ -10,7 +10,7 @@ ghost use Rattle.std.specs.List.Sorted.{IsStrictlySortedBy};
 ghost use Rattle.std.specs.VecDeque.{deque_len};
 ghost use Rattle.osm_model.specs.Sets as set;
 ghost use Rattle.osm_merge.specs.Selected.{snapshot};
-ghost use Rattle.osm_merge.specs.Taking.{order_of, union_by, greater_of, is_tied, rest_after_tie, greater_tied, merge_by, IsPlaceOf};
+ghost use Rattle.osm_merge.specs.Taking.{order_of, union_by, greater_of, is_tied, rest_after_tie, greater_tied, merge_by, IsCountBelow};
 
 use crate::into_snapshot;
 use osm_model::{History, Memory, Version};
@@ -19,7 +19,7 @@ use std::cmp::Ordering;
 use std::collections::VecDeque;
 use std::mem;
 
-/// The order of two histories that are joined.
+/// The order by which two histories are joined.
 #[derive(Clone, Copy)]
 enum OrderBy {
     /// By all data.
@@ -28,24 +28,24 @@ enum OrderBy {
     Objects,
 }
 
-/// Takes the versions of another history in, so that the first one holds the union. No version is copied, and few are
-/// compared: a search finds the offset of each one that is taken, and the versions before it move without a look.
+/// Takes the versions of `more` into `held`, so that `held` has the union. No version is copied, and few are compared:
+/// a search finds the index of each version that is taken, and the versions before it move without a comparison.
 ///
 /// # Errors
 ///
-/// Only out of memory. The history is unchanged then.
+/// `Memory` when out of memory; `held` is unchanged then.
 pub fn absorb(alloc: Global, held: &mut History, more: History) -> Result<(), Memory>
     ensures { MatchResult result (λ _. held.new ≡ set.union held.old more) (λ _. held.new ≡ held.old) }
 {
     take_in(alloc, OrderBy::Versions, held, more)
 }
 
-/// Takes the newest versions of another history into one that holds the newest version of each object, so that it holds
-/// the snapshot of the union. It passes once over the held versions, like [`absorb`].
+/// Takes the newest versions of `more` into `held`, which has only the newest version of each object. Then `held` has
+/// the snapshot of the union. The function passes once over the versions of `held`, like [`absorb`].
 ///
 /// # Errors
 ///
-/// Only out of memory. The history is unchanged then.
+/// `Memory` when out of memory; `held` is unchanged then.
 pub fn absorb_newest(alloc: Global, held: &mut History, more: History) -> Result<(), Memory>
     requires { held.old ≡ snapshot held.old }
     ensures { MatchResult result (λ _. held.new ≡ snapshot (set.union held.old more)) (λ _. held.new ≡ held.old) }
@@ -53,13 +53,13 @@ pub fn absorb_newest(alloc: Global, held: &mut History, more: History) -> Result
     take_in(alloc, OrderBy::Objects, held, into_snapshot(more))
 }
 
-/// Takes the versions of another history in; both ascend by `order`. The greater of two that tie stays.
+/// Takes the versions of `more` into `held`; both ascend by `order`. Of two versions that tie, the greater one stays.
 fn take_in(alloc: Global, order: OrderBy, held: &mut History, more: History) -> Result<(), Memory>
     requires held_ascends { IsStrictlySortedBy (order_of order) (set.to_list held.old) }
     requires more_ascends { IsStrictlySortedBy (order_of order) (set.to_list more) }
     ensures { MatchResult result (λ _. held.new ≡ union_by order held.old more) (λ _. held.new ≡ held.old) }
 {
-    // The whole room is allocated before anything is moved, so nothing can be refused from then on.
+    // The whole memory is allocated before a version is moved, so nothing fails from then on.
     let mut room = Vec::with_capacity(alloc, held.len().saturating_add(more.len()))?;
     let all = mem::replace(held, History::new(alloc)).into_versions();
     move_joined(order, &mut room, all, more.into_versions());
@@ -67,8 +67,8 @@ fn take_in(alloc: Global, order: OrderBy, held: &mut History, more: History) -> 
     Ok(())
 }
 
-/// Moves the versions of two lists that ascend by `order` to the end of `room`, which has room for all of them. The
-/// greater of two that tie is moved.
+/// Moves the versions of two lists that ascend by `order` to the end of `room`, which has capacity for all of them. Of
+/// two versions that tie, only the greater one is moved.
 fn move_joined(order: OrderBy, room: &mut Vec<Version>, held: Vec<Version>, more: Vec<Version>)
     requires ascends { IsStrictlySortedBy (order_of order) held.items }
     requires room { vec_len room.old + (vec_len held + vec_len more) ≤ vec_capacity room.old }
@@ -85,11 +85,11 @@ fn move_joined(order: OrderBy, room: &mut Vec<Version>, held: Vec<Version>, more
     move_front(room, &mut held, rest);
 }
 
-/// The number of versions of an ascending list that are below `version`. It looks `stride` ahead at a time, until the
-/// rest is short enough to halve.
+/// The number of versions of an ascending list that are below `version`. The search looks `stride` versions ahead at a
+/// time, until the rest is short enough to halve.
 fn count_below(order: OrderBy, held: &VecDeque<Version>, stride: usize, version: &Version) -> usize
     requires { IsStrictlySortedBy (order_of order) held.now.items }
-    ensures { IsPlaceOf (order_of order) version.now held.now.items result }
+    ensures { IsCountBelow (order_of order) version.now held.now.items result }
 {
     let mut low = 0;
     let mut high = held.len();
@@ -114,7 +114,7 @@ fn compare(order: OrderBy, version: &Version, other: &Version) -> Ordering
     }
 }
 
-/// Moves `count` versions from the front of `held` to the end of `room`, which has room for them.
+/// Moves `count` versions from the front of `held` to the end of `room`, which has capacity for them.
 fn move_front(room: &mut Vec<Version>, held: &mut VecDeque<Version>, count: usize)
     requires enough { count ≤ deque_len held.old }
     requires room { vec_len room.old + count ≤ vec_capacity room.old }
@@ -129,8 +129,8 @@ fn move_front(room: &mut Vec<Version>, held: &mut VecDeque<Version>, count: usiz
     }
 }
 
-/// The version, or the first one of the list instead, if they tie and that one isn't less. A version that ties leaves
-/// the list.
+/// Returns `version`, or the first version of `held` if the two tie and the first version isn't less. A first version
+/// that ties is removed from `held`.
 fn take_tied(order: OrderBy, held: &mut VecDeque<Version>, version: Version) -> Version
     ensures value { result ≡ greater_tied (order_of order) version held.old.items }
     ensures left { held.new.items ≡ rest_after_tie (order_of order) version held.old.items }
@@ -144,7 +144,7 @@ fn take_tied(order: OrderBy, held: &mut VecDeque<Version>, version: Version) -> 
     }
 }
 
-/// Whether the first version of the list ties with this one.
+/// Whether the first version of `held` ties with `version`.
 fn is_tied(order: OrderBy, held: &VecDeque<Version>, version: &Version) -> bool
     ensures { result ≡ is_tied (order_of order) version.now held.now.items }
 {

@@ -1,7 +1,7 @@
 //! The next version of each source, and the tournament that finds the least of them.
 //!
 //! Why: after a version of k sources was taken, about log k games are played, while a search would look at k heads. A
-//! merge of 128 files takes 1.10 of the instructions of a merge of two.
+//! merge of 128 files takes 1.10 times the instructions of a merge of two files.
 //! Assumes: the head of one source changed since the last games.
 //! Otherwise: all games are played, as at the start (`build`).
 //! Compared by: `order_and_repetition_make_no_difference` and `comparison_bounds`.
@@ -9,10 +9,10 @@ ghost use Rattle.std.specs.Prelude.{◌≡◌, ◌+◌, ◌-◌, ◌/◌, ◌<�
 ghost use Rattle.std.specs.Prelude.{length, slice_index, slice_index_or, slice_set, IfOk, IfErr};
 ghost use Rattle.std.specs.Bool.{OnTrue};
 ghost use Rattle.osm_files.specs.Fault.{memory_fault};
-ghost use Rattle.osm_merge.specs.Repeats.{repeats_after_taking, IsTied, IsToldBy};
+ghost use Rattle.osm_merge.specs.Repeats.{repeats_after_taking, IsTied, SavesComparison};
 ghost use Rattle.osm_merge.specs.Tree.{IsTree};
 
-use crate::heads::{Head, head_of};
+use crate::heads::{MergeHead, head_of};
 use crate::repeats::Repeats;
 use crate::tree::{build, replay};
 use osm_files::Fault;
@@ -23,7 +23,7 @@ use std::alloc::Global;
 #[derive(Drop)]
 pub(crate) struct Tournament {
     /// The next version of each source.
-    heads: Vec<Head>,
+    heads: Vec<MergeHead>,
     /// The indices of the sources and the winners of the games, in the layout of the module `tree`.
     nodes: Vec<usize>,
     /// The known equal heads.
@@ -33,12 +33,12 @@ pub(crate) struct Tournament {
 }
 
 impl Tournament {
-    /// The tournament of these heads, whose games are all played.
+    /// The tournament of `heads`, after all games were played.
     ///
     /// # Errors
     ///
-    /// Out of memory only.
-    pub(crate) fn new(alloc: Global, heads: Vec<Head>) -> Result<Tournament, Fault>
+    /// `Memory` when out of memory.
+    pub(crate) fn new(alloc: Global, heads: Vec<MergeHead>) -> Result<Tournament, Fault>
         ensures heads { IfOk result (λ t. t.heads.items ≡ heads.items) }
         ensures tree { IfOk result (λ t. IsTree t.heads.items t.nodes.items 1 0) }
         ensures repeats { IfOk result (λ t. t.repeats ≡ record { tie = None; taken = None }) }
@@ -102,7 +102,7 @@ impl Tournament {
         ensures tree { IsTree self.new.heads.items self.new.nodes.items 1 0 }
         ensures tied { IsTied self.new.heads.items self.new.repeats.tie }
         ensures taken { self.new.repeats.taken ≡ (repeats_after_taking self.old.repeats.tie place).taken }
-        ensures told { IsToldBy (repeats_after_taking self.old.repeats.tie place).tie self.old.compared
+        ensures told { SavesComparison (repeats_after_taking self.old.repeats.tie place).tie self.old.compared
             self.new.repeats.tie self.new.compared }
         ensures most { (depth : ℕ) → length self.new.heads.items ≤ 2 ^ depth →
             self.new.compared ≤ self.old.compared + depth }

@@ -12,23 +12,23 @@ use crate::object::Span;
 use osm_files::{Fault, Reason, Source};
 use osm_model::Version;
 
-/// What becomes of the versions of a source that are outside of a span.
+/// How the versions of a source that are outside a span are treated.
 #[derive(Clone, Copy, Debug, PartialEq, Eq)]
 pub enum Outside {
-    /// Those below the span are dropped. The first one above it is the end: the source is not called again, so a fault
-    /// further on in it may go unnoticed.
+    /// Versions below the span are dropped. The first version above it is the end: the source is not called again, so a
+    /// fault that comes later in the source may go unnoticed.
     Dropped,
-    /// The first one is refused as `Unsorted`, at the place 0, since a source doesn't know the place: the source is to
-    /// be that part of a sorted file which is within the span.
+    /// The first version outside is refused as `Unsorted`, at the place 0, since a source doesn't know the place. The
+    /// source is expected to be the part of a sorted file that is within the span.
     Refused,
 }
 
 /// Whether a source within a span still gives versions.
 #[derive(Clone, Copy, Debug, PartialEq, Eq)]
 pub(crate) enum State {
-    /// It gives what its source gives.
+    /// Versions may still come.
     Open,
-    /// A version above was met.
+    /// A version above the span was met.
     Ended,
     /// A call was refused.
     Failed,
@@ -45,7 +45,7 @@ pub struct Within<S: Source> {
 }
 
 impl<S: Source> Within<S> {
-    /// The versions of a source within a span. `number` is that of the source in its refusals.
+    /// The versions of a source within a span. `number` is the number of the source in faults.
     pub fn new(outside: Outside, span: Span, number: usize, source: S) -> Within<S>
         ensures { result ≡ within_span outside span number source }
     {
@@ -58,7 +58,7 @@ impl<S: Source> Within<S> {
         }
     }
 
-    /// The next version, where those outside are dropped.
+    /// The next version, if versions outside the span are dropped.
     #[inline(always)]
     fn next_dropping(&mut self) -> Result<Option<Version>, Fault>
         requires open { self.old.state ≡ state.Open }
@@ -81,7 +81,7 @@ impl<S: Source> Within<S> {
         }
     }
 
-    /// The next version, where one outside is refused.
+    /// The next version, if a version outside the span is refused.
     #[inline(always)]
     fn next_refusing(&mut self) -> Result<Option<Version>, Fault>
         requires open { self.old.state ≡ state.Open }
@@ -101,7 +101,7 @@ impl<S: Source> Within<S> {
         }
     }
 
-    /// Refuses this call with a fault, and every later one.
+    /// Returns the fault of a call that is refused. Every later call is refused, too.
     fn refuse(&mut self, fault: Fault) -> Fault
         ensures failed { self.new ≡ record self.old { state = state.Failed } }
         ensures fault { result ≡ fault }

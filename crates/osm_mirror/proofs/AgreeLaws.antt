@@ -21,7 +21,7 @@ module _ (o : List MirrorData) (none : AreEmpty o) (v : VersionData) where
   abbrev holds_it : Source → Bool
   holds_it s = contains (set_of o s) v
 
-  -- a source that holds it is a file, since the openings are empty
+  -- a source that holds the version is a file, since the openings are empty
   among_others : (r s : List Source) → ((bytes : List ℕ) → Contains r (File bytes) → Contains s (File bytes)) → (x : Source) →
       Contains r x → holds_it x ≡ true → Contains s x
   among_others r s f (Opening m) inside e = absurd (false≢true (sym (ap (λ t. contains t v) (none m) ∙ in_none v) ∙ e))

@@ -9,7 +9,7 @@ use Rattle.osm_model.proofs.VersionLaws.{to_list-view}
 use Rattle.osm_files.specs.declared.fault.Fault.{Fault}
 use Rattle.osm_files.specs.declared.load.Loaded.{Loaded}
 use Rattle.osm_files.specs.Groups.{sorted_source, set_given}
-use Rattle.osm_files.specs.Input.{Coming}
+use Rattle.osm_files.specs.Input.{InputRest}
 use Rattle.osm_files.specs.declared.format.Format.{Format}
 use Rattle.osm_files.specs.Load.{Loads, format_of}
 use Rattle.osm_files.proofs.RiseLaws.{source_rises}
@@ -24,11 +24,11 @@ use Rattle.osm_mirror.specs.Merge.{GivesSorted}
 use Rattle.osm_mirror.proofs.MergeLaws.{gives}
 use Rattle.osm_mirror.proofs.ObjectLaws.{objects_begun}
 
--- one more for numbers that stay at the limit
+-- adding to a number that stays at the limit
 capped_more : (n more : ℕ) → capped_count (capped_count n + more) ≡ capped_count (n + more)
 capped_more n more = omega arith
 
--- the sizes count the versions and objects of the rest before, the last of them is `last`, and `now` is still to come
+-- the sizes count the versions and objects given so far, `last` is the last of these versions, and `now` is the rest
 pub record Counted (all now : source.VersionsToCome) (last : Option VersionData) (sizes : Sizes) : Type 0 where
   pub refusal : now.refusal ≡ all.refusal
   pub given : ℕ
@@ -38,7 +38,7 @@ pub record Counted (all now : source.VersionsToCome) (last : Option VersionData)
   pub others : given + length now.list ≡ length all.list
   pub other_objects : begun + objects_after last now.list ≡ objects_after None all.list
 
--- What was counted of a source, and what it still gives.
+-- The sizes counted so far of a source, and the source's rest.
 abbrev pub Counting : Option source.VersionsToCome → Option source.VersionsToCome → Option VersionData → Sizes → Type 0
 Counting all now last sizes = IfSome all (λ s. (t : source.VersionsToCome) × (now ≡ Some t) × Counted s t last sizes)
 
@@ -115,7 +115,7 @@ count_stops (Some s) now after last sizes fault h step =
     ⊎_elim (λ e. inl e) (λ e. inr (sym h.2.refusal ∙ ap (λ x. x.refusal) e)) k.0
 
 -- ---- the report
-pub report_is : (c : Coming) (loaded : Loaded) (set : VersionSet) (sizes : Sizes) (report : CheckReport) → Loads c loaded →
+pub report_is : (c : InputRest) (loaded : Loaded) (set : VersionSet) (sizes : Sizes) (report : CheckReport) → Loads c loaded →
     set ≡ loaded.history → IsCounted (set_given set) sizes →
     report ≡ record { format = loaded.format; versions = sizes.versions; objects = sizes.objects; sorted = loaded.sorted } →
     Reports c report
@@ -130,7 +130,7 @@ report_is c loaded set sizes report h is n e =
     })
 
 -- The counts of a sorted file's source make its report.
-pub sorted_report_is : (c : Coming) (format : Format) (sizes : Sizes) → format ≡ format_of c.bytes → IsCounted (sorted_source 0 c) sizes →
+pub sorted_report_is : (c : InputRest) (format : Format) (sizes : Sizes) → format ≡ format_of c.bytes → IsCounted (sorted_source 0 c) sizes →
     Reports c (record { format = format; versions = sizes.versions; objects = sizes.objects; sorted = true })
 sorted_report_is c format sizes f n =
     let list : to_list (from_list {R = version_cmp} (sorted_source 0 c).list) ≡ (sorted_source 0 c).list =

@@ -1,6 +1,6 @@
 -- Lines that are split at an offset, and the search for the offset at which a file is cut.
 use Rattle.std.proofs.Common.{◌≡◌, ◌⊎◌, inl, inr, ⊎_elim, ℕ, zero, suc, ◌+◌, ◌≤◌, ◌<◌, ◌^◌, Bool, true, false, not, cond, List, [], ◌∷◌, ◌==◌}
-use Rattle.std.proofs.Common.{◌++◌, length, take, drop, refl, sym, ap, ◌∙◌, subst, arith, Option, Some, None, IfSome, Result, Ok, Err, append-nil}
+use Rattle.std.proofs.Common.{◌++◌, length, take, drop, refl, sym, ap, ◌∙◌, subst, arith, Option, Some, None, IfSome, Err, append-nil}
 use Rattle.std.proofs.Common.{append_assoc, take-append-drop, get_or}
 use Rattle.std.proofs.lemmas.Bool.{false≢true}
 use Rattle.std.specs.declared.cmp.Ordering.{Ordering}
@@ -12,22 +12,22 @@ use Rattle.std.proofs.lemmas.List.{append_cancel_right}
 use Rattle.osm_model.specs.Data.{VersionData}
 use Rattle.osm_model.specs.Order.{key_cmp, object_cmp}
 use Rattle.osm_model.specs.Pairwise.{Pairwise}
-use Rattle.opl_line.specs.Delimiter.{is_line_end, split_all, split_first, pieces_of, with_byte}
+use Rattle.opl_line.specs.Delimiter.{is_line_end, split_first, pieces_of, with_byte}
 use Rattle.opl_line.specs.Spells.{Spells}
 use Rattle.opl_line.proofs.CutLaws.{cut_split}
-use Rattle.osm_files.specs.declared.input.Broken.{Broken}
-use Rattle.osm_files.specs.Input.{Coming, whole_input, Gave}
-use Rattle.osm_files.specs.Lines.{after_line, lines_from, IsLineStart, IsFirstOf, ReadsFrom}
+use Rattle.osm_files.specs.declared.fault.Fault.{Fault}
+use Rattle.osm_files.specs.Input.{InputRest, whole_input, Gave}
+use Rattle.osm_files.specs.Lines.{after_line, lines_from, IsLineStart, IsFirstOf, IsFirstFrom, IsDeviceFault, ReadsFrom}
 use Rattle.osm_files.specs.Opl.{is_read, OplFile}
 use Rattle.osm_files.specs.Units.{InOpl, BeforeHeader, start_of}
-use Rattle.osm_files.specs.Verdict.{is_below}
 use Rattle.osm_files.proofs.FileLaws.{Rises, sorted_all}
 use Rattle.osm_files.proofs.FirstLaws.{one_opl}
+use Rattle.osm_files.proofs.StartLaws.{opl_starts}
 use Rattle.osm_merge.specs.declared.object.Object.{Object}
 use Rattle.osm_merge.specs.Slice.{object_of, reaches, is_under}
 use Rattle.osm_merge.proofs.SliceLaws.{not_below}
-use Rattle.osm_mirror.specs.CutOffset.{IsCutAt, IsCutOf, BeginsLines, BeginsLinesOf, StartsOpl, GivesOpl, first_is_under}
-use Rattle.osm_mirror.specs.CutOffset.{IsFirstUnder}
+use Rattle.osm_mirror.specs.CutOffset.{IsCutOf, IsCutRefusal, BeginsLinesOf, BeginsAs, ReadsAs}
+use Rattle.osm_mirror.specs.CutOffset.{first_is_under, IsFirstUnder}
 use Rattle.osm_mirror.proofs.SortedRunLaws.{lines_of, lines_after}
 
 -- ---- bytes that are split before the beginning of a line
@@ -38,13 +38,13 @@ pub record Ended (front : List ℕ) : Type 0 where
   pub ends : is_line_end last ≡ true
   pub is : front ≡ text ++ last ∷ []
 
--- the rest are the lines that begin after the front
+-- the rest has the lines that begin after the front
 pub record SplitLines (bytes rest : List ℕ) : Type 0 where
   pub front : List ℕ
   pub whole : bytes ≡ front ++ rest
   pub ends : (front ≡ []) ⊎ (rest ≡ []) ⊎ Ended front
 
--- the rest are the lines after the first one
+-- the rest has the lines after the first one
 record SplitFirst (bytes rest : List ℕ) : Type 0 where
   front : List ℕ
   whole : bytes ≡ front ++ rest
@@ -84,7 +84,7 @@ split_lines (suc offset) bytes = let more = split_after (drop offset bytes) in r
 }
 
 -- ---- versions of split lines
--- versions in two parts, of which these spell the first and the rest the second
+-- versions in two parts: `front` spells the first part, and `rest` the second
 pub record SplitVersions (front rest : List ℕ) (versions : List VersionData) : Type 0 where
   pub earlier : List VersionData
   pub later : List VersionData
@@ -156,7 +156,7 @@ next_drop zero (b ∷ bytes) = inr (b, refl)
 next_drop (suc offset) [] = inl (refl, refl)
 next_drop (suc offset) (b ∷ bytes) = next_drop offset bytes
 
--- the lines are the same, or the first one is left out
+-- the lines from the next offset on are the same, or the first one is left out
 next_lines : (offset : ℕ) (bytes : List ℕ) → (lines_from (suc offset) bytes ≡ lines_from offset bytes)
     ⊎ (lines_from (suc offset) bytes ≡ after_line (lines_from offset bytes))
 next_lines zero bytes = inr refl
@@ -169,7 +169,7 @@ next_lines (suc offset) bytes =
       | false ↦ λ e. inl (sym (ap after_line is ∙ ap (λ t. cond t (drop (suc offset) bytes) (after_line (drop (suc offset) bytes))) e))
     ] refl) (next_drop offset bytes)
 
--- what is after the first end of a line, as the rest of a cut
+-- the bytes after the first end of a line, as a rest
 abbrev rest_of : Option (List ℕ) → List ℕ
 rest_of None = []
 rest_of (Some rest) = rest
@@ -185,7 +185,7 @@ after_is (b ∷ bytes) =
       | false ↦ after_is bytes ∙ rest_lengthened b (split_first is_line_end bytes)
     ]
 
--- without its first line, a file has its versions but the first, or all of them
+-- without its first line, a file spells all its versions, or all but the first
 record Shorter (rest : List ℕ) (versions : List VersionData) : Type 0 where
   later : List VersionData
   file : OplFile rest later
@@ -397,7 +397,7 @@ module _ (bound : Object) where
               (subst (OplFile (lines_from offset bytes)) (sym overs) low.lines),
         )
 
-  -- the offsets between which a sorted file is cut
+  -- a sorted file is cut between these offsets
   abbrev Between : List ℕ → ℕ → ℕ → Type 0
   Between all low high = length all < 2 ^ 62 → (versions : List VersionData) → OplFile all versions → IsSorted key_cmp versions →
       Low all versions low × High all versions high
@@ -452,12 +452,12 @@ module _ (bound : Object) where
       let e : high ≡ low = omega (arith, h.0, end) in
       cut_is all versions file sorted low start both.0 (rw e at both.1) begins
 
--- where the lines begin
-pub begins_of : (bytes : Option (List ℕ)) (from start : ℕ) → IsLineStart bytes from start → StartsOpl bytes start → BeginsLinesOf bytes start
+-- lines of OPL begin at an offset that is the start of a line and has no o5 file
+pub begins_of : (bytes : Option (List ℕ)) (from start : ℕ) → IsLineStart bytes from start → BeginsAs bytes start false → BeginsLinesOf bytes start
 begins_of None from start begins opl = tt
 begins_of (Some all) from start begins opl = record { from = from; lines = begins; start = opl }
 
--- the first version of some is below the bound
+-- the first of some versions determines whether they begin below the bound
 pub first_under : (bound : Object) (v : VersionData) (versions : List VersionData) → IsFirstOf (Some v) versions →
     is_under (Some bound) v ≡ first_is_under bound versions
 first_under bound v [] is = cc
@@ -467,35 +467,51 @@ pub none_under : (bound : Object) (versions : List VersionData) → IsFirstOf No
 none_under bound [] is = refl
 none_under bound (w ∷ versions) is = cc
 
-abbrev value_of : Result Bool Broken → Bool
-value_of (Ok b) = b
-value_of (Err broken) = true
+-- ---- refusals
+-- a fault of the device, of memory or of the length refuses a cut
+pub device_refusal : (bytes : Option (List ℕ)) (fault : Fault) → IsDeviceFault fault → IsCutRefusal bytes fault
+device_refusal None fault h = tt
+device_refusal (Some all) fault h = λ short. inl h
 
-pub ok_is : (b : Bool) → ◌≡◌ {A = Result Bool Broken} (Ok b) (Ok false) → b ≡ false
-ok_is b is = ap value_of is
+-- if the lines from an offset on spell no versions, the file is no OPL file
+pub lines_refusal : (bytes : Option (List ℕ)) (offset : ℕ) (fault : Fault) → IsFirstFrom bytes offset (Err fault) → IsCutRefusal bytes fault
+lines_refusal None offset fault h = tt
+lines_refusal (Some all) offset fault h = λ short. ⊎_elim inl
+    (λ none. inr (λ versions file.
+    let parts = split_versions all (lines_from offset all) (split_lines offset all) versions file in
+    none parts.later parts.second)) (h short)
+
+-- if lines begin as an o5 file does, the file is no OPL file
+pub o5_refusal : (bytes : Option (List ℕ)) (from start : ℕ) (fault : Fault) → IsLineStart bytes from start → BeginsAs bytes start true →
+    IsCutRefusal bytes fault
+o5_refusal None from start fault lines o5 = tt
+o5_refusal (Some all) from start fault lines o5 = λ short. inr (λ versions file.
+    let parts = split_versions all (lines_from from all) (split_lines from all) versions file in
+    let opl : start_of (drop start all) ≡ InOpl = ap start_of lines ∙ opl_starts (lines_from from all) parts.later parts.second in
+    let e : BeforeHeader ≡ InOpl = sym o5 ∙ opl in cc)
 
 -- ---- the first byte
-module _ {R : Type 0} (can : R → Coming → Type 0) where
-  pub ends_opl : (reader : R) → can reader (whole_input []) → GivesOpl can reader
-  ends_opl reader ended bytes only = ap (λ (c : Coming). start_of c.bytes) (sym (only (whole_input []) ended))
+module _ {R : Type 0} (can : R → InputRest → Type 0) where
+  pub ends_as : (reader : R) → can reader (whole_input []) → ReadsAs can reader false
+  ends_as reader ended bytes only = ap (λ (c : InputRest). start_of c.bytes) (sym (only (whole_input []) ended))
 
-  pub begins_opl : (one : R → Coming) → ((r : R) → can r (one r)) → (reader next : R) (byte : ℕ) → Gave can reader next (byte ∷ []) →
-      (byte == 255) ≡ false → GivesOpl can reader
-  begins_opl one possible reader next byte gave other bytes only =
+  begins_as : (one : R → InputRest) → ((r : R) → can r (one r)) → (reader next : R) (byte : ℕ) → Gave can reader next (byte ∷ []) →
+      ReadsAs can reader (byte == 255)
+  begins_as one possible reader next byte gave bytes only =
       let y = gave (one next) (possible next) in
       let is : byte ∷ (one next).bytes ≡ bytes = ap (λ c. c.bytes) (sym y.2 ∙ only y.0 y.1) in
-      ap start_of (sym is) ∙ ap (λ t. cond t BeforeHeader InOpl) other
+      ap start_of (sym is)
 
-  pub opl_of : (bytes : Option (List ℕ)) (offset : ℕ) (reader : R) → ReadsFrom can bytes offset reader → GivesOpl can reader →
-      StartsOpl bytes offset
-  opl_of None offset reader reads opl = tt
-  opl_of (Some all) offset reader reads opl = opl (drop offset all) reads
+  pub starts_as : (bytes : Option (List ℕ)) (offset : ℕ) (reader : R) (is_o5 : Bool) → ReadsFrom can bytes offset reader →
+      ReadsAs can reader is_o5 → BeginsAs bytes offset is_o5
+  starts_as None offset reader is_o5 reads is = tt
+  starts_as (Some all) offset reader is_o5 reads is = is (drop offset all) reads
 
-  -- one byte was read, or none
-  pub begins_so : (one : R → Coming) → ((r : R) → can r (one r)) → (reader next : R) (count : ℕ) (buffer : List ℕ) → count ≤ 1 →
-      length buffer ≡ 1 → Gave can reader next (take count buffer) → (count == 0) ≡ false → (get_or buffer 0 0 == 255) ≡ false →
-      GivesOpl can reader
-  begins_so one possible reader next zero buffer few size gave some other = cc
-  begins_so one possible reader next (suc (suc n)) buffer few size gave some other = absurd (omega (arith, few))
-  begins_so one possible reader next (suc zero) [] few size gave some other = absurd (omega (arith, size))
-  begins_so one possible reader next (suc zero) (b ∷ buffer) few size gave some other = begins_opl one possible reader next b gave other
+  -- a reader of which one byte was read gives o5 if that is the first byte of o5 files
+  pub reads_as : (one : R → InputRest) → ((r : R) → can r (one r)) → (reader next : R) (count : ℕ) (buffer : List ℕ) → count ≤ 1 →
+      length buffer ≡ 1 → Gave can reader next (take count buffer) → (count == 0) ≡ false →
+      ReadsAs can reader (get_or buffer 0 0 == 255)
+  reads_as one possible reader next zero buffer few size gave some = cc
+  reads_as one possible reader next (suc (suc n)) buffer few size gave some = absurd (omega (arith, few))
+  reads_as one possible reader next (suc zero) [] few size gave some = absurd (omega (arith, size))
+  reads_as one possible reader next (suc zero) (b ∷ buffer) few size gave some = begins_as one possible reader next b gave

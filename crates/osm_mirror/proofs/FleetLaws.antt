@@ -25,8 +25,8 @@ use Rattle.osm_mirror.specs.declared.event.MirrorEvent.TheVariants.{Take, Pass, 
 use Rattle.osm_mirror.specs.declared.event.Reply.{Reply}
 use Rattle.osm_mirror.specs.declared.event.Reply.TheVariants.{Taken, Refused}
 use Rattle.osm_mirror.specs.declared.keep.Taken.{Taken as Taken_of}
-use Rattle.osm_mirror.specs.Mirror.{MirrorData, kept_part, new_mirror, after_taking, IsKept, TakesFile}
-use Rattle.osm_mirror.specs.Fleet.{mirror_at, AreKept, mirrors_after, IsAnswer, mirrors_after_all, AreAnswers, Source, Track, is_full, first_track}
+use Rattle.osm_mirror.specs.Mirror.{MirrorData, kept_part, new_mirror, after_taking, IsOwnSnapshot, TakesFile}
+use Rattle.osm_mirror.specs.Fleet.{mirror_at, AreOwnSnapshots, mirrors_after, IsReplyTo, mirrors_after_all, AreRepliesTo, Source, Track, is_full, first_track}
 use Rattle.osm_mirror.specs.Fleet.{with_track, tracks_after, tracks_after_all, set_of, union_of_sources, IsPart, HoldsOf, Converges}
 
 -- ---- sets
@@ -92,8 +92,8 @@ latest_full e = cc
 pub full_latest : Full ≡ Latest → ⊥
 full_latest e = cc
 
--- A mirror that holds its part of u takes a set that is a part of w with the same snapshot; the whole of w if it came
--- from a mirror that is purely full.
+-- A mirror that holds its part of u takes a set that is a part of w with the same snapshot. If the set came from a purely full mirror, it
+-- is the whole of w.
 module _ (u w held more : VersionSet) (p q : Bool) (part : IsPart more w) (newest : snapshot more ≡ snapshot w)
     (whole : q ≡ true → more ≡ w) where
   newest_of_both : snapshot held ≡ snapshot u → snapshot (union held more) ≡ snapshot (union w u)
@@ -128,8 +128,8 @@ restarted_holds Latest held u p h =
       full_exact = λ e. absurd (latest_full (h.full_exact e).0);
     }
 
--- when a run begins
-begun_holds : (keep : Keep) (held : VersionSet) → IsKept (record { keep = keep; held = held })
+-- a mirror when a run begins
+begun_holds : (keep : Keep) (held : VersionSet) → IsOwnSnapshot (record { keep = keep; held = held })
     → HoldsOf (union held empty) (is_full keep) (record { keep = keep; held = held })
 begun_holds Full held h = record {
   holds_no_more = equal_part _ _ (sym (and_none held));
@@ -145,12 +145,12 @@ begun_holds Latest held h = record {
 }
 
 -- ---- kept mirrors
-kept_is : (keep : Keep) (s : VersionSet) → IsKept (record { keep = keep; held = kept_part keep s })
+kept_is : (keep : Keep) (s : VersionSet) → IsOwnSnapshot (record { keep = keep; held = kept_part keep s })
 kept_is Full s = λ e. absurd (full_latest e)
 kept_is Latest s = λ _. sym (snapshot_of_snapshot s)
 
 -- A mirror that took a set holds what it keeps.
-pub took_kept : (m : MirrorData) (s : VersionSet) → IsKept (after_taking m s)
+pub took_kept : (m : MirrorData) (s : VersionSet) → IsOwnSnapshot (after_taking m s)
 took_kept m s = kept_is m.keep (union m.held s)
 
 none_of_none : (v : VersionData) (b : Bool) → contains {R = version_cmp} (snapshot empty) v ≡ b
@@ -162,31 +162,31 @@ none_newest : snapshot (empty {R = version_cmp}) ≡ empty
 none_newest = equal_sets _ _ (λ v. none_of_none v (contains {R = version_cmp} (snapshot empty) v) refl)
 
 -- A new mirror holds what it keeps.
-pub fresh_kept : (keep : Keep) → IsKept (new_mirror keep)
+pub fresh_kept : (keep : Keep) → IsOwnSnapshot (new_mirror keep)
 fresh_kept keep = λ _. sym none_newest
 
-pub set_kept : (mirrors : List MirrorData) (to : ℕ) (x : MirrorData) → AreKept mirrors → to < length mirrors → IsKept x
-    → AreKept (set mirrors to x)
+pub set_kept : (mirrors : List MirrorData) (to : ℕ) (x : MirrorData) → AreOwnSnapshots mirrors → to < length mirrors → IsOwnSnapshot x
+    → AreOwnSnapshots (set mirrors to x)
 set_kept mirrors to x h within is = λ m below. elim (cases_Bool (nat_eq m to)) [
-  | inl same ↦ subst (λ (k : ℕ). IsKept (mirror_at (set mirrors to x) k)) (sym (eqb-true m to same))
-      (subst IsKept (sym (get_or-set_same mirrors to x (new_mirror Full) within)) is)
+  | inl same ↦ subst (λ (k : ℕ). IsOwnSnapshot (mirror_at (set mirrors to x) k)) (sym (eqb-true m to same))
+      (subst IsOwnSnapshot (sym (get_or-set_same mirrors to x (new_mirror Full) within)) is)
   | inr other ↦ (let apart : m ≢ to = eqb-false m to other in
-      subst IsKept (sym (get_or-set_other mirrors to m x (new_mirror Full) apart)) (h m (omega (arith, below, length-set mirrors to x))))
+      subst IsOwnSnapshot (sym (get_or-set_other mirrors to m x (new_mirror Full) apart)) (h m (omega (arith, below, length-set mirrors to x))))
 ]
 
--- new mirrors
-pub all_fresh : (kinds : List Keep) → AreKept (map new_mirror kinds)
+-- New mirrors hold what they keep.
+pub all_fresh : (kinds : List Keep) → AreOwnSnapshots (map new_mirror kinds)
 all_fresh kinds m below =
-    subst IsKept (sym (get_or-map new_mirror kinds m Full (new_mirror Full) (omega (arith, below, length-map kinds new_mirror))))
+    subst IsOwnSnapshot (sym (get_or-map new_mirror kinds m Full (new_mirror Full) (omega (arith, below, length-map kinds new_mirror))))
     (fresh_kept (get_or kinds m Full))
 
--- one mirror was handed a file: it took it, or is unchanged
-pub handed_kept : (mirrors : List MirrorData) (m : ℕ) (x y : MirrorData) (bytes : List ℕ) (r : Result Taken_of Fault) → AreKept mirrors
-    → m < length mirrors → x ≡ get_or mirrors m x → IfOk r (TakesFile bytes x y) → OnErr r (y ≡ x) → AreKept (set mirrors m y)
+-- a mirror to which a file was passed took it, or is unchanged
+pub handed_kept : (mirrors : List MirrorData) (m : ℕ) (x y : MirrorData) (bytes : List ℕ) (r : Result Taken_of Fault) → AreOwnSnapshots mirrors
+    → m < length mirrors → x ≡ get_or mirrors m x → IfOk r (TakesFile bytes x y) → OnErr r (y ≡ x) → AreOwnSnapshots (set mirrors m y)
 handed_kept mirrors m x y bytes (Ok taken) h within at_m ok err =
-    set_kept mirrors m y h within (subst IsKept (sym ok.holds) (took_kept x (held_by bytes)))
+    set_kept mirrors m y h within (subst IsOwnSnapshot (sym ok.holds) (took_kept x (held_by bytes)))
 handed_kept mirrors m x y bytes (Err fault) h within at_m ok err =
-    set_kept mirrors m y h within (subst IsKept (sym (err ∙ at_m ∙ get_or_default mirrors m x (new_mirror Full) within)) (h m within))
+    set_kept mirrors m y h within (subst IsOwnSnapshot (sym (err ∙ at_m ∙ get_or_default mirrors m x (new_mirror Full) within)) (h m within))
 
 -- The mirror at an index of the list is the mirror of that number.
 pub here : (mirrors : List MirrorData) (m : ℕ) (x : MirrorData) → m < length mirrors → x ≡ get_or mirrors m x → x ≡ mirror_at mirrors m
@@ -304,32 +304,32 @@ all_kinds mirrors (e ∷ es) (r ∷ rs) within =
     (same_within (length mirrors) (length (mirrors_after mirrors e r)) es (behind_number mirrors e r) (rest_within (length mirrors) e es within))
     ∙ behind_kinds mirrors e r (first_within (length mirrors) e es within)
 
-begun_each : (mirrors : List MirrorData) → AreKept mirrors → Each mirrors (first_track mirrors) mirrors
+begun_each : (mirrors : List MirrorData) → AreOwnSnapshots mirrors → Each mirrors (first_track mirrors) mirrors
 begun_each mirrors h = record { each = λ m below. begun_holds (mirror_at mirrors m).keep (mirror_at mirrors m).held (h m below) }
 
 -- mirrors with the histories that the events lead to converge
-pub converges : (old : List MirrorData) (events : List Event) (replies : List Reply) (new : List MirrorData) → AreKept old
-    → All (IsWithin (length old)) events → AreAnswers old events replies → new ≡ mirrors_after_all old events replies
+pub converges : (old : List MirrorData) (events : List Event) (replies : List Reply) (new : List MirrorData) → AreOwnSnapshots old
+    → All (IsWithin (length old)) events → AreRepliesTo old events replies → new ≡ mirrors_after_all old events replies
     → Converges old events replies new
 converges old events replies new h within answers is =
     subst (Converges old events replies) (sym is)
     (record {
-      answers = answers;
+      replied = answers;
       mirrors = refl;
       kinds = all_kinds old events replies within;
       each = (all_each old old (first_track old) events replies within (begun_each old h)).each;
     })
 
 -- ---- one more event
-behind_more : (mirrors : List MirrorData) (es : List Event) (rs : List Reply) (e : Event) (r : Reply) → AreAnswers mirrors es rs
+behind_more : (mirrors : List MirrorData) (es : List Event) (rs : List Reply) (e : Event) (r : Reply) → AreRepliesTo mirrors es rs
     → mirrors_after_all mirrors (es ++ e ∷ []) (rs ++ r ∷ []) ≡ mirrors_after (mirrors_after_all mirrors es rs) e r
 behind_more mirrors [] [] e r h = refl
 behind_more mirrors [] (x ∷ rs) e r h = absurd h
 behind_more mirrors (x ∷ es) [] e r h = absurd h
 behind_more mirrors (x ∷ es) (y ∷ rs) e r h = behind_more (mirrors_after mirrors x y) es rs e r h.1
 
-answers_more : (mirrors : List MirrorData) (es : List Event) (rs : List Reply) (e : Event) (r : Reply) → AreAnswers mirrors es rs
-    → IsAnswer (mirrors_after_all mirrors es rs) e r → AreAnswers mirrors (es ++ e ∷ []) (rs ++ r ∷ [])
+answers_more : (mirrors : List MirrorData) (es : List Event) (rs : List Reply) (e : Event) (r : Reply) → AreRepliesTo mirrors es rs
+    → IsReplyTo (mirrors_after_all mirrors es rs) e r → AreRepliesTo mirrors (es ++ e ∷ []) (rs ++ r ∷ [])
 answers_more mirrors [] [] e r h a = (a, tt)
 answers_more mirrors [] (y ∷ rs) e r h a = absurd h
 answers_more mirrors (x ∷ es) [] e r h a = absurd h
@@ -357,7 +357,7 @@ within_more count es i d all below here = λ k e inside.
 -- the first `i` events ran, each with its reply, and there is room for all replies
 pub record IsRunning (old : List MirrorData) (events : List Event) (i : ℕ) (replies : List Reply) (count space : ℕ)
     (mid : List MirrorData) : Type 0 where
-  pub answers : AreAnswers old (take i events) replies
+  pub answers : AreRepliesTo old (take i events) replies
   pub mirrors : mid ≡ mirrors_after_all old (take i events) replies
   pub filled : count ≡ i
   pub enough : length events ≤ space
@@ -371,12 +371,12 @@ module _ (old mid : List MirrorData) (events : List Event) (i : ℕ) (replies : 
 
   -- One more event got its reply.
   pub run_goes_on : (new : List MirrorData) (d : Event) (r : Reply) (replies2 : List Reply) (count2 space2 : ℕ) → i < length events
-      → IsAnswer mid (get_or events i d) r → new ≡ mirrors_after mid (get_or events i d) r →
+      → IsReplyTo mid (get_or events i d) r → new ≡ mirrors_after mid (get_or events i d) r →
       replies2 ≡ replies ++ r ∷ [] → count2 ≡ count + 1 → space2 ≡ space → IsRunning old events (i + 1) replies2 count2 space2 new
   run_goes_on new d r replies2 count2 space2 below answer is more longer same =
-      let now : IsAnswer (mirrors_after_all old (take i events) replies) (get_or events i d) r =
-      subst (λ (ms : List MirrorData). IsAnswer ms (get_or events i d) r) h.mirrors answer in
-      let P : List Event → List Reply → Type 0 = λ es rs. AreAnswers old es rs × (new ≡ mirrors_after_all old es rs) in
+      let now : IsReplyTo (mirrors_after_all old (take i events) replies) (get_or events i d) r =
+      subst (λ (ms : List MirrorData). IsReplyTo ms (get_or events i d) r) h.mirrors answer in
+      let P : List Event → List Reply → Type 0 = λ es rs. AreRepliesTo old es rs × (new ≡ mirrors_after_all old es rs) in
       let next : P (take i events ++ get_or events i d ∷ []) (replies ++ r ∷ []) = (
         answers_more old (take i events) replies (get_or events i d) r h.answers now,
         is ∙ ap (λ ms. mirrors_after ms (get_or events i d) r) h.mirrors
@@ -388,8 +388,8 @@ module _ (old mid : List MirrorData) (events : List Event) (i : ℕ) (replies : 
       record { answers = both.0; mirrors = both.1; filled = omega (arith, h.filled, longer); enough = omega (arith, h.enough, same) }
 
   -- Once each event got its reply, the run converges.
-  pub run_ends : AreKept old → All (IsWithin (length old)) events → length events ≤ i → Converges old events replies mid
+  pub run_ends : AreOwnSnapshots old → All (IsWithin (length old)) events → length events ≤ i → Converges old events replies mid
   run_ends kept_part within end =
       let all : take i events ≡ events = take_all i events end in
-      converges old events replies mid kept_part within (subst (λ (es : List Event). AreAnswers old es replies) all h.answers)
+      converges old events replies mid kept_part within (subst (λ (es : List Event). AreRepliesTo old es replies) all h.answers)
       (h.mirrors ∙ ap (λ es. mirrors_after_all old es replies) all)

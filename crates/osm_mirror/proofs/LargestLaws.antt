@@ -1,10 +1,10 @@
 -- The largest of some files, one by one.
-use Rattle.std.proofs.Common.{◌≡◌, ◌⊎◌, inl, inr, ⊎_elim, ℕ, suc, ◌+◌, ◌≤◌, ◌<◌, Bool, true, false, nat_le, cond, List, length, refl, sym, ap, ◌∙◌}
+use Rattle.std.proofs.Common.{◌≡◌, ◌⊎◌, inl, inr, ⊎_elim, ℕ, ◌+◌, ◌≤◌, ◌<◌, true, false, nat_le, cond, List, refl, sym, ap, ◌∙◌}
 use Rattle.std.proofs.Common.{subst, arith, Option, Some, None}
 use Rattle.std.proofs.lemmas.Bool.{leb-true, leb-false}
-use Rattle.osm_mirror.specs.Largest.{size_at, IsFirstLargest, IsLargestBefore, IsLargest, larger}
+use Rattle.osm_mirror.specs.Largest.{size_at, IsFirstLargest, IsLargestBefore, larger}
 
--- a number is below the next one where it is below this one, or this one
+-- a number below the next one is below this one, or is this one
 below_next : (number before : ℕ) → number < before + 1 → (number < before) ⊎ (number ≡ before)
 below_next number before below =
     elim (nat_le before number) as (λ t. nat_le before number ≡ t → (number < before) ⊎ (number ≡ before)) [

@@ -18,7 +18,7 @@ use Rattle.osm_model.proofs.VersionLaws.{version_cmp-IsAntisymmetric, to_list-vi
 use Rattle.osm_files.specs.declared.fault.Fault.{Fault}
 use Rattle.osm_files.specs.declared.format.Format.{Format}
 use Rattle.osm_files.specs.Fault.{memory_fault}
-use Rattle.osm_files.specs.Input.{Coming}
+use Rattle.osm_files.specs.Input.{InputRest}
 use Rattle.osm_files.specs.declared.output.Output.{Ghosts}
 use Rattle.osm_files.specs.Output.{Content, IsAppended, Change, Appends}
 use Rattle.osm_files.specs.Change.{change_of}
@@ -75,7 +75,7 @@ union_given_is all =
     (has_union empty all v ∙ ap (λ b. b || among v (merged.versions_of all)) (ap is_some (get-empty {X = Unit {0}} version_cmp v))))
 
 -- ---- one input
-pub source_sorted : (number : ℕ) (c : Coming) (held : VersionSet) → c.broken ≡ false → HoldsSorted c.bytes held
+pub source_sorted : (number : ℕ) (c : InputRest) (held : VersionSet) → c.broken ≡ false → HoldsSorted c.bytes held
     → sorted_source number c ≡ record { list = to_list held; refusal = None }
 source_sorted number c held unbroken file =
     (λ i. sorted_source number (record { bytes = c.bytes; broken = unbroken i })) ∙ source_gives_held number c.bytes held file
@@ -87,14 +87,14 @@ source_whole number bytes true whole = absurd (broken_is_refused number bytes wh
 source_whole number bytes false whole = record { unbroken = refl; file = whole_source_is_held number bytes whole }
 
 -- An input whose source isn't refused gives a sorted file that holds what the source gives.
-pub gives : (number : ℕ) (c : Coming) → (sorted_source number c).refusal ≡ None → GivesSorted c (set_given (sorted_source number c))
+pub gives : (number : ℕ) (c : InputRest) → (sorted_source number c).refusal ≡ None → GivesSorted c (set_given (sorted_source number c))
 gives number c whole = source_whole number c.bytes c.broken whole
 
 -- ---- all inputs
 pub All-first : {X : Type 0} (P : X → Type 0) (x : X) (xs : List X) → All P (x ∷ xs) → P x
 All-first P x xs h = h 0 x (omega arith)
 
--- What holds of all items holds of all but the first.
+-- A property of all items is one of all but the first.
 pub All-others : {X : Type 0} (P : X → Type 0) (x : X) (xs : List X) → All P (x ∷ xs) → All P xs
 All-others P x xs h = λ k d below. h (suc k) d (omega (arith, below))
 
@@ -102,7 +102,7 @@ All-others P x xs h = λ k d below. h (suc k) d (omega (arith, below))
 abbrev pub AreWhole : List source.VersionsToCome → Type 0
 AreWhole all = All (λ s. s.refusal ≡ None) all
 
-all_give : (number : ℕ) (inputs : List Coming) → AreWhole (sources number inputs)
+all_give : (number : ℕ) (inputs : List InputRest) → AreWhole (sources number inputs)
     → Pairwise GivesSorted inputs (map set_given (sources number inputs))
 all_give number [] h = tt
 all_give number (c ∷ inputs) h = (
@@ -111,7 +111,7 @@ all_give number (c ∷ inputs) h = (
       inputs (All-others (λ s. s.refusal ≡ None) (sorted_source number c) (sources (number + 1) inputs) h),
 )
 
-each_size : (number : ℕ) (inputs : List Coming)
+each_size : (number : ℕ) (inputs : List InputRest)
     → sum_by (λ s. length s.list) (sources number inputs) ≡ sum_by size (map set_given (sources number inputs))
 each_size number [] = refl
 each_size number (c ∷ inputs) =
@@ -120,15 +120,15 @@ each_size number (c ∷ inputs) =
     ∙ (λ i. sym (ap length (to_list-view s.list (source_rises number c))) i + each_size (number + 1) inputs i)
     ∙ sym (sum_by-cons size (set_given s) (map set_given (sources (number + 1) inputs)))
 
-sizes : (number : ℕ) (inputs : List Coming)
+sizes : (number : ℕ) (inputs : List InputRest)
     → length (merged.versions_of (sources number inputs)) ≡ sum_by size (map set_given (sources number inputs))
 sizes number inputs = length-flat_map (λ s. s.list) (sources number inputs) ∙ each_size number inputs
 
-so_many : (number : ℕ) (inputs : List Coming) → length (sources number inputs) ≡ length inputs
+so_many : (number : ℕ) (inputs : List InputRest) → length (sources number inputs) ≡ length inputs
 so_many number [] = refl
 so_many number (c ∷ inputs) = ap suc (so_many (number + 1) inputs)
 
-merged_files : (inputs : List Coming) (format : Format) (change : Change) (counts : Counts)
+merged_files : (inputs : List InputRest) (format : Format) (change : Change) (counts : Counts)
     → merge.MergesSources (sources 0 inputs) format change counts → IsMerged inputs format change counts
 merged_files inputs format change counts m =
     let held : List VersionSet = map set_given (sources 0 inputs) in
@@ -145,7 +145,7 @@ merged_files inputs format change counts m =
     }
 
 -- ---- sorted inputs
-sorted_sources : (number : ℕ) (inputs : List Coming) (held : List VersionSet) → Pairwise GivesSorted inputs held
+sorted_sources : (number : ℕ) (inputs : List InputRest) (held : List VersionSet) → Pairwise GivesSorted inputs held
     → (map set_given (sources number inputs) ≡ held) × AreWhole (sources number inputs)
 sorted_sources number [] [] h = (refl, All-nil (λ s. s.refusal ≡ None))
 sorted_sources number [] (s ∷ held) h = absurd h
@@ -158,17 +158,17 @@ sorted_sources number (c ∷ inputs) (s ∷ held) h =
           (sources (number + 1) inputs) (ap (λ x. x.refusal) is) others.1,
     )
 
-cut_files : (inputs : List Coming) (format : Format) (change : Change) (fault : Fault) → IsRefused inputs format change fault
+cut_files : (inputs : List InputRest) (format : Format) (change : Change) (fault : Fault) → IsRefused inputs format change fault
     → IsCutShort inputs format change fault
 cut_files inputs format change fault (inl cut) = λ held h.
     subst (λ (s : VersionSet). CutShort (length inputs) change (spell format s) fault)
     (union_given_is (sources 0 inputs) ∙ ap union_of (sorted_sources 0 inputs held h).0) cut
 cut_files inputs format change fault (inr f) = λ held h.
-    absurd (let none : (source.coming_at (sources 0 inputs) f.place).refusal ≡ None = (sorted_sources 0 inputs held h).1 f.place _ f.within
+    absurd (let none : (source.rest_at (sources 0 inputs) f.place).refusal ≡ None = (sorted_sources 0 inputs held h).1 f.place _ f.within
     in let e : None ≡ Some fault = sym none ∙ f.refusal in cc)
 
 -- ---- the possible rests of the sources
--- one more was opened
+-- one more source was opened
 pub opened_more : {R : Type 0} (number : ℕ) (inputs : List R) (reader : R)
     → new_sources number (inputs ++ reader ∷ []) ≡ new_sources number inputs ++ new_source (number + length inputs) reader ∷ []
 opened_more number [] reader = ap (λ n. new_source n reader ∷ []) (let e : number ≡ number + 0 = omega arith in e)
@@ -182,17 +182,17 @@ pub length_opened : {R : Type 0} (number : ℕ) (inputs : List R) → length (ne
 length_opened number [] = refl
 length_opened number (r ∷ inputs) = ap suc (length_opened (number + 1) inputs)
 
-module _ {R : Type 0} (can : R → Coming → Type 0) where
+module _ {R : Type 0} (can : R → InputRest → Type 0) where
   -- a source that was opened gives the versions of its file's source
   pub one_gives : (number : ℕ) (reader : R) (still : source.VersionsToCome) → FileCanGive can (new_source number reader) still
-      → (c : Coming) × can reader c × (still ≡ sorted_source number c)
+      → (c : InputRest) × can reader c × (still ≡ sorted_source number c)
   one_gives number reader still h =
       let told : Some still ≡ Some (sorted_source number h.0) =
       sym h.2 ∙ source_begins_told (with_coming (new_source number reader).units h.0) [] number (Some h.0) refl refl in
       (h.0, h.1, cc)
 
   inputs_give : (number : ℕ) (inputs : List R) (all : List source.VersionsToCome) → AllGive (FileCanGive can) (new_sources number inputs) all
-      → (given : List Coming) × AllGive can inputs given × (all ≡ sources number given)
+      → (given : List InputRest) × AllGive can inputs given × (all ≡ sources number given)
   inputs_give number [] [] g = ([], tt, refl)
   inputs_give number [] (s ∷ all) g = absurd g
   inputs_give number (r ∷ inputs) [] g = absurd g
@@ -201,7 +201,7 @@ module _ {R : Type 0} (can : R → Coming → Type 0) where
       let others = inputs_give (number + 1) inputs all g.1 in
       (one.0 ∷ others.0, (one.1, others.1), (λ i. one.2 i ∷ others.2 i))
 
-  pub give_count : (inputs : List R) (all : List Coming) → AllGive can inputs all → length inputs ≡ length all
+  pub give_count : (inputs : List R) (all : List InputRest) → AllGive can inputs all → length inputs ≡ length all
   give_count [] [] g = refl
   give_count [] (c ∷ all) g = absurd g
   give_count (r ∷ inputs) [] g = absurd g
@@ -210,13 +210,13 @@ module _ {R : Type 0} (can : R → Coming → Type 0) where
   -- a property of the versions that the sources gave is one of the bytes that the inputs gave
   module _ (inputs : List R) (items : List (FileSourceData R)) (is : items ≡ new_sources 0 inputs) where
     of_inputs : (P : List source.VersionsToCome → Type 0) → SomeInputsGive (FileCanGive can) items P
-        → (given : List Coming) × AllGive can inputs given × P (sources 0 given)
+        → (given : List InputRest) × AllGive can inputs given × P (sources 0 given)
     of_inputs P h =
         let q = inputs_give 0 inputs h.0 (subst (λ (ss : List (FileSourceData R)). AllGive (FileCanGive can) ss h.0) is h.1) in
         (q.0, q.1, subst P q.2 h.2)
 
     module _ (format given : Format) (same : given ≡ format) (change : Change) where
-      -- What a merge of the sources of files writes is what the merge of the files writes.
+      -- A merge of the sources of files writes the same as the merge of the files.
       pub run_merged : (result : Result Counts Fault)
           → IfOk result (λ counts. SomeInputsGive (FileCanGive can) items (λ all. merge.MergesSources all given change counts))
           → IfOk result (λ counts. SomeInputsGive can inputs (λ all. IsMerged all format change counts))
@@ -244,14 +244,14 @@ module _ {R : Type 0} (can : R → Coming → Type 0) where
 at_first : (content : Content) → IsAppended content content []
 at_first content held h = subst content (sym (append-nil held)) h
 
--- out of memory before anything was written
+-- a merge for which memory ran out before anything was written
 module _ {O : Type 0} (w : Ghosts O) (out : O) where
-  -- If memory is refused before anything is written, the file is cut after nothing.
+  -- If memory runs out before anything is written, the file is cut after no bytes.
   pub cut_at_once : (number : ℕ) (bytes : List ℕ) (fault : Fault) → fault ≡ memory_fault → CutShort number (change_of w out out) bytes fault
   cut_at_once number bytes fault memory = record { count = 0; within = omega arith; appended = at_first (w.holds out); why = inl memory }
 
-  -- If memory is refused before anything is written, the merge is refused.
-  pub refused_at_once : (all : List Coming) (format : Format) (fault : Fault) → fault ≡ memory_fault
+  -- If memory runs out before anything is written, the merge is refused.
+  pub refused_at_once : (all : List InputRest) (format : Format) (fault : Fault) → fault ≡ memory_fault
       → Refuses all format (change_of w out out) fault
   refused_at_once all format fault memory =
       let why : IsRefused all format (change_of w out out) fault =

@@ -13,7 +13,7 @@ use Rattle.osm_files.specs.declared.load.Loaded.{Loaded}
 use Rattle.osm_files.specs.declared.reason.Reason.TheVariants.{TooLong, Memory, WriteFault}
 use Rattle.osm_files.specs.Fault.{memory_fault, too_long_fault, write_fault}
 use Rattle.osm_files.specs.Held.{Holds, HoldsSorted}
-use Rattle.osm_files.specs.Input.{Coming, GivesOne, whole_input}
+use Rattle.osm_files.specs.Input.{InputRest, GivesOne, whole_input}
 use Rattle.osm_files.specs.Load.{Loads, StopsLoading}
 use Rattle.osm_files.specs.Output.{IsAppended}
 use Rattle.osm_files.specs.Position.{fault_of}
@@ -27,7 +27,7 @@ use Rattle.osm_merge.specs.Selected.{snapshot}
 use Rattle.osm_merge.specs.Union.{capped_count}
 use Rattle.osm_mirror.specs.declared.keep.Keep.{Keep}
 use Rattle.osm_mirror.specs.declared.keep.Keep.TheVariants.{Full, Latest}
-use Rattle.osm_mirror.specs.Mirror.{MirrorData, kept_part, after_taking, new_mirror, IsSound, TakesFile, WhyNotTaken, WhyNotSpelled}
+use Rattle.osm_mirror.specs.Mirror.{MirrorData, kept_part, after_taking, new_mirror, IsMirror, TakesFile, WhyNotTaken, WhyNotSpelled}
 use Rattle.std.specs.Prelude.{slice_set}
 use Rattle.osm_mirror.specs.Fleet.{mirror_at, IsShort}
 use Rattle.osm_mirror.proofs.FleetLaws.{snapshot_part, took_kept, fresh_kept, in_none, equal_sets}
@@ -61,48 +61,48 @@ kept_valid : (keep : Keep) (set : VersionSet) → AreVersions set → AreVersion
 kept_valid Full set h = h
 kept_valid Latest set h = are_fewer set (snapshot set) h (snapshot_part set)
 
-pub took_sound : (m : MirrorData) (set : VersionSet) → IsSound m → AreVersions set → IsSound (after_taking m set)
+pub took_sound : (m : MirrorData) (set : VersionSet) → IsMirror m → AreVersions set → IsMirror (after_taking m set)
 took_sound m set h valid =
-    record { is_kept = took_kept m set; versions = kept_valid m.keep (union m.held set) (unions_are_versions m.held set h.versions valid) }
+    record { own_snapshot = took_kept m set; versions = kept_valid m.keep (union m.held set) (unions_are_versions m.held set h.versions valid) }
 
 -- A new mirror is sound.
-pub fresh_sound : (keep : Keep) → IsSound (new_mirror keep)
-fresh_sound keep = record { is_kept = fresh_kept keep; versions = none_valid }
+pub fresh_sound : (keep : Keep) → IsMirror (new_mirror keep)
+fresh_sound keep = record { own_snapshot = fresh_kept keep; versions = none_valid }
 
 -- a mirror that took a set, or ran out of memory
-pub absorbed : {E : Type 0} (m : MirrorData) (set all now : VersionSet) (result : Result (Unit {0}) E) → IsSound m → AreVersions set
+pub absorbed : {E : Type 0} (m : MirrorData) (set all now : VersionSet) (result : Result (Unit {0}) E) → IsMirror m → AreVersions set
     → all ≡ kept_part m.keep (union m.held set) →
-    MatchResult result (λ _. now ≡ all) (λ _. now ≡ m.held) → IsSound (record { keep = m.keep; held = now })
+    MatchResult result (λ _. now ≡ all) (λ _. now ≡ m.held) → IsMirror (record { keep = m.keep; held = now })
 absorbed m set all now (Ok u) h valid both is =
-    subst (λ (held : VersionSet). IsSound (record { keep = m.keep; held = held })) (sym (is ∙ both)) (took_sound m set h valid)
-absorbed m set all now (Err e) h valid both is = subst (λ (held : VersionSet). IsSound (record { keep = m.keep; held = held })) (sym is) h
+    subst (λ (held : VersionSet). IsMirror (record { keep = m.keep; held = held })) (sym (is ∙ both)) (took_sound m set h valid)
+absorbed m set all now (Err e) h valid both is = subst (λ (held : VersionSet). IsMirror (record { keep = m.keep; held = held })) (sym is) h
 
 -- ---- the files that a mirror takes
 -- a property of something that a slice can give is one of its bytes
-pub of_slice : (bytes : List ℕ) (P : Coming → Type 0) → GivesOne (λ c. c ≡ whole_input bytes) P → P (whole_input bytes)
+pub of_slice : (bytes : List ℕ) (P : InputRest → Type 0) → GivesOne (λ c. c ≡ whole_input bytes) P → P (whole_input bytes)
 of_slice bytes P h = subst P h.1 h.2
 
--- a file that is loaded is accepted, and the result is its set
+-- a file that is loaded is accepted, and the history loaded is the file's set
 pub loaded_holds : (bytes : List ℕ) (loaded : Loaded) → Loads (whole_input bytes) loaded
     → Holds bytes (held_by bytes) × (loaded.history ≡ held_by bytes)
 loaded_holds bytes loaded h =
     let same = ((held_without_verdict bytes loaded.history).0 h.holds).1 in
     (subst (Holds bytes) same h.holds, same)
 
--- What was loaded of a file has versions only.
+-- A history that was loaded is a set of versions.
 pub loaded_valid : (bytes : List ℕ) (loaded : Loaded) → Loads (whole_input bytes) loaded → AreVersions loaded.history
 loaded_valid bytes loaded h = held_are_versions bytes loaded.history h.holds
 
--- A mirror that took what was loaded took the file.
+-- A mirror that took the history loaded of a file took the file.
 pub takes_file : (bytes given : List ℕ) (old new : MirrorData) (loaded : Loaded) (count : ℕ) → given ≡ bytes → Loads (whole_input given) loaded
     → new ≡ after_taking old loaded.history → count ≡ size loaded.history → count < 2 ^ 64
     → TakesFile bytes old new (record { versions = count })
 takes_file bytes given old new loaded count same h is counted below =
     let held = loaded_holds bytes loaded (subst (λ (b : List ℕ). Loads (whole_input b) loaded) same h) in
     let whole_count : count ≡ size (held_by bytes) = counted ∙ ap size held.1 in
-    record { accepted = held.0; holds = is ∙ ap (after_taking old) held.1; told = within_limit count (size (held_by bytes)) whole_count below }
+    record { accepted = held.0; holds = is ∙ ap (after_taking old) held.1; count = within_limit count (size (held_by bytes)) whole_count below }
 
--- one that isn't is refused with its verdict
+-- a file that isn't accepted is refused with its verdict
 some_fault : (input : ℕ) (v : Option Verdict) (fault : Fault) → option_map (fault_of input) v ≡ Some fault
     → (w : Verdict) × (v ≡ Some w) × (fault ≡ fault_of input w)
 some_fault input None fault e = absurd cc
@@ -126,7 +126,7 @@ written_not_taken bytes format set fault h (inr refused) =
     ((held_without_verdict bytes set).0 (record { short = h.short; versions = h.versions; file = h.file; members = h.members })).0 in
     absurd (none_some (sym none ∙ refused.1))
 
--- a mirror that is handed it refuses it only for memory, or takes exactly the writer's history
+-- a mirror that is given the file refuses it only for memory, or takes exactly the writer's history
 pub written_answer : {A : Type 0} (bytes given : List ℕ) (format : Format) (set : VersionSet) (r : Result A Fault) → given ≡ bytes
     → HoldsSorted bytes set → bytes ≡ spell format set
     → MatchResult r (λ _. Holds given (held_by given)) (WhyNotTaken given)
@@ -138,7 +138,7 @@ written_answer bytes given format set (Err fault) same h spelled answer =
 pub given_set : (bytes given : List ℕ) (set : VersionSet) → given ≡ bytes → HoldsSorted bytes set → held_by given ≡ set
 given_set bytes given set same h = ap held_by same ∙ written_is_held bytes set h
 
--- What a mirror writes holds what the mirror holds, so another mirror takes this set.
+-- The file that a mirror writes holds the mirror's set, so another mirror takes this set.
 pub written_behind : {A : Type 0} (bytes given : List ℕ) (set : VersionSet) (r : Result A Fault) (old new : List MirrorData) (to : ℕ)
     → given ≡ bytes → HoldsSorted bytes set
     → MatchResult r (λ _. new ≡ slice_set old to (after_taking (mirror_at old to) (held_by given))) (λ _. new ≡ old)
@@ -147,13 +147,13 @@ written_behind bytes given set (Ok done) old new to same h is =
     is ∙ ap (λ (s : VersionSet). slice_set old to (after_taking (mirror_at old to) s)) (given_set bytes given set same h)
 written_behind bytes given set (Err fault) old new to same h is = is
 
--- What a mirror writes is refused only for Memory or its length.
+-- The file that a mirror writes is refused only for Memory or its length.
 pub given_not_taken : (bytes given : List ℕ) (format : Format) (set : VersionSet) (fault : Fault) → given ≡ bytes → HoldsSorted bytes set
     → WhyNotTaken given fault → WhyNotSpelled format set fault
 given_not_taken bytes given format set fault same h why =
     written_not_taken bytes format set fault h (subst (λ (b : List ℕ). WhyNotTaken b fault) same why)
 
--- A new mirror that takes what the old one wrote takes what the old one held.
+-- A new mirror that takes the file of the old one takes the old one's set.
 pub restarted : (bytes given : List ℕ) (x blank new : MirrorData) → given ≡ bytes → HoldsSorted bytes x.held → blank ≡ new_mirror x.keep
     → new ≡ after_taking blank (held_by given) → new ≡ after_taking (new_mirror x.keep) x.held
 restarted bytes given x blank new same h is took_it = took_it ∙ (λ i. after_taking (is i) (given_set bytes given x.held same h i))
@@ -163,7 +163,7 @@ pub spelling_holds : (format : Format) (set : VersionSet) (bytes : List ℕ) →
     → length (spell format set) < 2 ^ 62 → HoldsSorted bytes set
 spelling_holds format set bytes valid is short = subst (λ (b : List ℕ). HoldsSorted b set) (sym is) (spell_holds format set valid short)
 
--- the bytes appended to nothing
+-- the bytes appended to an empty output
 pub appended_alone : (old new bytes file : List ℕ) → IsAppended (λ held. old ≡ held) (λ held. new ≡ held) bytes → old ≡ [] → file ≡ new
     → file ≡ bytes
 appended_alone old new bytes file h none is = is ∙ h [] none

@@ -35,7 +35,7 @@ no_more Less Greater e h k = absurd (false≢true (sym k))
 no_more Equal s e h k = refl
 no_more Greater s e h k = absurd (false≢true (sym h))
 
--- a version between two versions of an object is one too
+-- a version between two versions of an object is a version of this object
 together : (u v w : VersionData) → version_cmp u v ≡ Less → version_cmp v w ≡ Less → same_object u w ≡ true → same_object u v ≡ true
 together u v w uv vw uw =
     let back : is_gt (object_cmp w u) ≡ false = ap is_gt (object_cmp_total.antisymm w u)
@@ -52,7 +52,7 @@ and_false : (a : Bool) → (a && false) ≡ false
 and_false true = refl
 and_false false = refl
 
--- none is greater than itself, or than one above it
+-- no version is greater than itself, or than a version above it
 not_itself : (v : VersionData) → beats v v ≡ false
 not_itself v = ap (λ b. same_object v v && b) (ap is_lt (tied_itself version_cmp_total v)) ∙ and_false (same_object v v)
 
@@ -64,7 +64,7 @@ false_unless : (b : Bool) → (b ≡ true → ⊥) → b ≡ false
 false_unless true f = absurd (f refl)
 false_unless false f = refl
 
--- after one of another object there is none of this one
+-- after a version of another object, an ascending list has no version of this object
 none_behind : (v w : VersionData) → version_cmp v w ≡ Less → same_object v w ≡ false → (xs : List VersionData) →
     AllByRecursion (λ x. version_cmp w x ≡ Less) xs → list_any (beats v) xs ≡ false
 none_behind v w less other [] h = refl
@@ -76,7 +76,7 @@ none_behind v w less other (x ∷ xs) h =
 abbrev newest : List VersionData → VersionData → Bool
 newest xs v = not (list_any (beats v) xs)
 
--- the first of an ascending list is the newest of its object exactly if the second is of another one
+-- the first version of an ascending list is the newest of its object exactly if the second is of another object
 first_newest : (v w : VersionData) (xs : List VersionData) → version_cmp v w ≡ Less → AllByRecursion (λ x. version_cmp w x ≡ Less) xs →
     newest (v ∷ w ∷ xs) v ≡ not (same_object v w)
 first_newest v w xs less above =
@@ -87,7 +87,7 @@ first_newest v w xs less above =
       | false ↦ λ e. ap not (none_behind v w less e xs above)
     ] refl)
 
--- a list with one more at the front has the same newest ones among the others
+-- one more version at the front of a list changes nothing about which of the others are newest
 same_behind : (v : VersionData) (all xs : List VersionData) → AllByRecursion (λ x. version_cmp v x ≡ Less) xs →
     filter (newest (v ∷ all)) xs ≡ filter (newest all) xs
 same_behind v all [] h = refl

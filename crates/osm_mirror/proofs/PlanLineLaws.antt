@@ -40,11 +40,11 @@ parsed_none word r e parsed digits few is n number =
 number_one : (word : List ℕ) (n k : ℕ) → IsNumber word n → IsNumber word k → n ≡ k
 number_one word n k one other = one.value ∙ sym other.value
 
--- it is the name of at most one file
+-- a word is the name of at most one file
 name_one : (word file other : List ℕ) → IsName word file → IsName word other → file ≡ other
 name_one word file other one two = encodes_same file other (sym one.bytes ∙ two.bytes)
 
--- it is the name of at most one format
+-- a word is the name of at most one format
 format_one : (f g : Format) → format_name f ≡ format_name g → f ≡ g
 format_one Opl Opl e = refl
 format_one O5m O5m e = refl
@@ -140,7 +140,7 @@ empty_says (Mirror k) a = omega (arith, mirror_letter ([] ∷ []) k a)
 empty_says (Step s) a = omega (arith, step_letter ([] ∷ []) s a)
 empty_says (Write w) a = omega (arith, write_letter ([] ∷ []) w a)
 
--- so a line that spells a part is not empty
+-- a line that spells a part is not empty
 pub says_full : (line : List ℕ) (said : PlanLine) → LineSays line said → is_full line ≡ true
 says_full [] said a = absurd (empty_says said a)
 says_full (b ∷ bs) said a = refl

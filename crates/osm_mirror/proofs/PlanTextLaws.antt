@@ -1,4 +1,4 @@
--- Lines that spell plans: with one more line; and that they spell only one plan.
+-- Lines that spell a plan, and one more line after them; lines spell at most one plan.
 use Rattle.std.proofs.Common.{◌≡◌, ◌⊎◌, ℕ, suc, ◌+◌, ◌<◌, ◌==◌, true, take, drop, get_or, ◌≤◌, cond, List, [], ◌∷◌, ◌++◌, length, map}
 use Rattle.std.proofs.Common.{filter, refl, sym, ap, ◌∙◌, subst, append_assoc, append-nil, length-append, length-take, drop-cons, add-one}
 use Rattle.std.proofs.Common.{Result, Ok, Err, IfErr, inl, inr, arith}
@@ -32,7 +32,7 @@ plan_lines-push before (Mirror k) turn = rw (turn.0, turn.1) (simp (map-append, 
 plan_lines-push before (Step s) turn = rw turn (simp (map-append, append-nil, append_assoc))
 plan_lines-push before (Write w) turn = simp (map-append, append_assoc)
 
--- mirrors are added, and none goes
+-- a line adds mirrors, and drops none
 mirrors_stay : (before : Parts) (said : PlanLine) → length before.mirrors ≤ length (with_line before said).mirrors
 mirrors_stay before (Mirror k) = simp length-append (omega arith)
 mirrors_stay before (Step s) = omega arith
@@ -45,7 +45,7 @@ names_more few many h (Step (Pass m n f)) named = (omega arith, omega arith)
 names_more few many h (Step (Restart m f)) named = omega arith
 names_more few many h (Write w) named = omega arith
 
--- lines spell one more line
+-- lines with one more line spell the plan with that line's part
 pub line_added : (lines : List (List ℕ)) (line : List ℕ) (before after : Parts) → LinesSpell lines before → IsLineAdded line before after →
     LinesSpell (lines ++ line ∷ []) after
 line_added lines line before after spelled (inl (empty, same)) =
@@ -63,7 +63,7 @@ line_added lines line before after spelled (inr (said, says, added)) =
       named = rw order named;
     })
 
--- The parts of lines, added in sequence, each in its turn and naming only earlier mirrors.
+-- The parts of lines are added in sequence, each in its turn, and each names only mirrors that were added before.
 abbrev Builds : Parts → List PlanLine → Parts → Type 0
 Builds before [] after = before ≡ after
 Builds before (x ∷ xs) after = IsInTurn before x × NamesMirrors (length before.mirrors) x × Builds (with_line before x) xs after
@@ -82,7 +82,7 @@ mirrors_build n had (m ∷ ms) rest after all then = (
       (λ others. rw append_assoc (then others)),
 )
 
--- then its steps
+-- the steps of a plan are added after its mirrors
 steps_build : (ms : List Keep) (had ss : List event.Step) (rest : List PlanLine) (after : Parts) →
     All (NamesMirrors (length ms)) (map Step ss ++ rest)
     → (All (NamesMirrors (length ms)) rest → Builds (parts ms (had ++ ss) []) rest after) →
@@ -95,7 +95,7 @@ steps_build ms had (s ∷ ss) rest after all then = (
       (λ others. rw append_assoc (then others)),
 )
 
--- and then its writes
+-- the writes of a plan are added after its steps
 writes_build : (ms : List Keep) (ss : List event.Step) (had ws : List PlanWrite) → All (NamesMirrors (length ms)) (map Write ws)
     → Builds (parts ms ss had) (map Write ws) (parts ms ss (had ++ ws))
 writes_build ms ss had [] all = λ i. parts ms ss (sym (append-nil had) i)
@@ -129,7 +129,7 @@ lines_one lines one other a b =
     let same = pairwise_one LineSays line_one (filter is_full lines) (plan_lines one) (plan_lines other) a.said b.said in
     built_one (parts [] [] []) (plan_lines one) one other (in_order_builds one a.named) (rw (← same) at (in_order_builds other b.named))
 
--- a part that is refused is out of its turn, or names a mirror that is not there
+-- a part that is refused is out of its turn, or names a mirror that doesn't exist
 refused_not : (before : Parts) (x : PlanLine) (reason : PlanReason) → IsLineRefused before x reason → IsInTurn before x →
     NamesMirrors (length before.mirrors) x → ⊥
 refused_not before x BadOrder refused turn named = refused turn
@@ -172,7 +172,7 @@ first_fault_none text fault first plan spells =
     lines_none first.front first.rest first.faulty first.before (parts_of plan) fault.reason first.spelled first.refused
     (rw first.lines at spells.spelled)
 
--- so if lines aren't read, the text spells no plan, or memory ran out
+-- if the lines of a text aren't read, the text spells no plan, or memory ran out
 pub fault_none : {A : Type 0} → (text : List ℕ) (read : Result A PlanFault) →
     IfErr read (λ fault. (fault ≡ memory_fault) ⊎ IsFirstFault text fault) →
     IfErr read (λ fault. (fault ≡ memory_fault) ⊎ SpellsNoPlan text)
@@ -180,7 +180,7 @@ fault_none text (Ok plan) why = why
 fault_none text (Err fault) (inl memory) = inl memory
 fault_none text (Err fault) (inr first) = inr (first_fault_none text fault first)
 
--- no line spells the plan of nothing
+-- no lines spell the empty plan
 pub nothing_spelled : (p : Parts) → p.mirrors ≡ [] → p.steps ≡ [] → p.writes ≡ [] → LinesSpell [] p
 nothing_spelled p ms ss ws =
     let nothing : plan_lines p ≡ [] = rw (ms, ss, ws) refl in
@@ -208,7 +208,7 @@ first_fault text line n before fault within here spelled refused numbered =
 pub lines_few : (text : List ℕ) → length (lines_of text) ≤ length text + 1
 lines_few text = omega (arith, length-slice_split (λ b. b == 10) text, count_by-le-length (λ b. b == 10) text)
 
--- a property of all is one of the ends of a list, and of the list that it was made from
+-- a property of all items of a list is one of all items of its end
 all_behind : {X : Type 0} (P : X → Type 0) (xs ys : List X) → All P (xs ++ ys) → All P ys
 all_behind P [] ys all = all
 all_behind P (x ∷ xs) ys all = all_behind P xs ys (All-tail P x (xs ++ ys) all)

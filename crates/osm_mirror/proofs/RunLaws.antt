@@ -5,7 +5,7 @@ use Rattle.osm_model.specs.VersionSet.{VersionSet}
 use Rattle.osm_model.specs.Sets.{size}
 use Rattle.osm_files.specs.declared.fault.Fault.{Fault}
 use Rattle.osm_files.specs.declared.format.Format.{Format}
-use Rattle.osm_files.specs.Input.{Coming}
+use Rattle.osm_files.specs.Input.{InputRest}
 use Rattle.osm_files.specs.declared.output.Output.{Ghosts}
 use Rattle.osm_files.specs.Output.{Change, Appends}
 use Rattle.osm_files.specs.Change.{change_of}
@@ -23,14 +23,14 @@ use Rattle.osm_merge.specs.Giving.{SomeInputsGive}
 use Rattle.osm_merge.proofs.GiveLaws.{give_size}
 use Rattle.osm_mirror.specs.declared.input.InputFile.{InputFile}
 use Rattle.osm_mirror.specs.declared.source.RunSource.{RunSource}
-use Rattle.osm_mirror.specs.Still.{SourceCanGive}
+use Rattle.osm_mirror.specs.SourceRest.{SourceCanGive}
 use Rattle.osm_mirror.specs.Given.{sources, FileGives, AreOpened, IsUnopened}
 use Rattle.osm_mirror.specs.Run.{IsRun, IsRunRefused, IsRunCutShort, RefusesRun}
 use Rattle.osm_mirror.proofs.MergeLaws.{union_given_is, cut_at_once}
 use Rattle.osm_mirror.proofs.SourceLaws.{members, all_give, sizes, so_many, as_all_given, not_unread, opened_give}
 
 module _ (selection : Selection) (format : Format) (change : Change) where
-  run_is : (inputs : List (Order × Coming)) (counts : Counts) → merged.IsMergedAs selection (sources 0 inputs) format change counts
+  run_is : (inputs : List (Order × InputRest)) (counts : Counts) → merged.IsMergedAs selection (sources 0 inputs) format change counts
       → IsRun selection inputs format change counts
   run_is inputs counts m =
       let held : List VersionSet = map members (sources 0 inputs) in
@@ -49,8 +49,8 @@ module _ (selection : Selection) (format : Format) (change : Change) where
       }
 
 module _ {O : Type 0} (output : Ghosts O) (selection : Selection) (format : Format) (before after : O) where
-  -- for files of the required order, a front was written
-  pub cut_is : (inputs : List (Order × Coming)) (fault : Fault) → IsRunRefused output selection inputs format before after fault
+  -- for files of their required orders, a front of the output was written
+  pub cut_is : (inputs : List (Order × InputRest)) (fault : Fault) → IsRunRefused output selection inputs format before after fault
       → IsRunCutShort selection inputs format (change_of output before after) fault
   cut_is inputs fault (inl (memory, same)) = λ held h.
       subst (λ (a : O). CutShort (length inputs) (change_of output before a) (spell format (selection_of selection (union_of held))) fault)
@@ -60,17 +60,17 @@ module _ {O : Type 0} (output : Ghosts O) (selection : Selection) (format : Form
       subst (λ (s : VersionSet). CutShort (length inputs) (change_of output before after) (spell format (selection_of selection s)) fault)
       (union_given_is (sources 0 inputs) ∙ ap union_of (as_all_given 0 inputs held h).0) cut
   cut_is inputs fault (inr (inr (read, inr f))) = λ held h.
-      absurd (let none : (source.coming_at (sources 0 inputs) f.place).refusal ≡ None = (as_all_given 0 inputs held h).1 f.place _ f.within
+      absurd (let none : (source.rest_at (sources 0 inputs) f.place).refusal ≡ None = (as_all_given 0 inputs held h).1 f.place _ f.within
       in let e : None ≡ Some fault = sym none ∙ f.refusal in cc)
 
 -- ---- the results of the sources, in terms of the inputs
-module _ {R : Type 0} (can : R → Coming → Type 0) {O : Type 0} (output : Ghosts O) (selection : Selection) (format : Format)
+module _ {R : Type 0} (can : R → InputRest → Type 0) {O : Type 0} (output : Ghosts O) (selection : Selection) (format : Format)
     (files : List (InputFile R)) where
-  refuses : (before after : O) (inputs : List (Order × Coming)) (fault : Fault)
+  refuses : (before after : O) (inputs : List (Order × InputRest)) (fault : Fault)
       → IsRunRefused output selection inputs format before after fault → RefusesRun output selection inputs format before after fault
   refuses before after inputs fault why = record { why = why; cut = cut_is output selection format before after inputs fault why }
 
-  -- nothing was opened
+  -- no source was opened
   pub unopened : (before : O) (fault : Fault) → SomeInputsGive (FileGives can) files (λ all. IsUnopened 0 all fault)
       → SomeInputsGive (FileGives can) files (λ all. RefusesRun output selection all format before before fault)
   unopened before fault h = (
@@ -84,7 +84,7 @@ module _ {R : Type 0} (can : R → Coming → Type 0) {O : Type 0} (output : Gho
 
   module _ (opened : List (RunSource R)) (are : AreOpened can 0 files opened) (given : Format) (same : given ≡ format)
       (before after : O) where
-    -- What a merge of the opened sources writes is what the run writes.
+    -- A merge of the opened sources writes the same as the run.
     pub ran_written : (result : Result Counts Fault)
         → IfOk result (λ counts. SomeInputsGive (SourceCanGive can) opened
         (λ all. merged.IsMergedAs selection all given (change_of output before after) counts))

@@ -1,36 +1,29 @@
 -- Parts of a file between offsets, and the runs over the parts of several files.
-use Rattle.std.proofs.Common.{◌≡◌, ◌⊎◌, inl, inr, ⊎_elim, ℕ, zero, suc, ◌+◌, ◌-◌, ◌≤◌, ◌<◌, ◌^◌, List, [], ◌∷◌, ◌++◌, length, take, drop, map}
+use Rattle.std.proofs.Common.{◌≡◌, ◌⊎◌, inl, inr, ⊎_elim, ℕ, zero, suc, ◌+◌, ◌-◌, ◌≤◌, List, [], ◌∷◌, ◌++◌, take, drop, map}
 use Rattle.std.proofs.Common.{refl, sym, ap, ◌∙◌, subst, arith, Option, Some, None, append-nil, append_assoc, take-append-drop}
 use Rattle.std.proofs.lemmas.List.{drop-drop, append_cancel_right}
-use Rattle.std.specs.List.{AllByRecursion}
-use Rattle.std.specs.List.Sorted.{IsSorted}
 use Rattle.osm_model.specs.Data.{VersionData}
 use Rattle.osm_model.specs.Pairwise.{Pairwise}
 use Rattle.osm_model.specs.VersionSet.{VersionSet}
 use Rattle.osm_files.specs.Lines.{lines_from}
 use Rattle.osm_files.specs.Held.{IsFile, HoldsSorted}
-use Rattle.osm_files.specs.SortedRun.{SplitAfterLine}
 use Rattle.osm_files.specs.Units.{InOpl, start_of}
-use Rattle.osm_files.proofs.FileLaws.{Rises, rises_sorted, sorted_all, one_list}
+use Rattle.osm_files.proofs.FileLaws.{one_list}
 use Rattle.osm_merge.specs.declared.object.Object.{Object}
 use Rattle.osm_merge.specs.declared.object.Span.{Span}
-use Rattle.osm_merge.specs.Slice.{slice_of, slices, spans, spans_from, reaches, is_under, span_of, IsWithin}
-use Rattle.osm_merge.specs.ToCome.{VersionsToCome}
+use Rattle.osm_merge.specs.Slice.{slice_of, spans, spans_from, IsWithin}
 use Rattle.osm_merge.specs.Union as merged
-use Rattle.osm_merge.proofs.PieceLaws.{sets_within_are_slices}
 use Rattle.osm_merge.proofs.SliceLaws.{Rise, rise}
 use Rattle.osm_mirror.specs.CutOffset.{BeginsLines}
-use Rattle.osm_mirror.specs.Merge.{union_of}
-use Rattle.osm_mirror.specs.Shards.{parts_from, parts_at, AreCutsFrom, AreCuts, PartsHoldTheFile, first_set, other_sets, by_span}
-use Rattle.osm_mirror.specs.Shards.{HasSlices, ShardsWriteTheRun}
+use Rattle.osm_mirror.specs.Shards.{parts_from, AreCutsFrom, PartsHoldTheFile, first_set, other_sets, by_span}
+use Rattle.osm_mirror.specs.Shards.{ShardsWriteTheRun}
 use Rattle.osm_mirror.specs.Slices.{AreSlicesWithin}
-use Rattle.osm_mirror.proofs.CutLaws.{Ended, SplitLines, split_lines}
-use Rattle.osm_mirror.proofs.MergeLaws.{set_given, union_given_is}
+use Rattle.osm_mirror.proofs.CutLaws.{Ended, split_lines}
 use Rattle.osm_mirror.proofs.SlicedFileLaws.{SpelledFrom, no_spans, spelled_more, spelled_last, slices_of_all, slices_write_the_run}
 use Rattle.osm_mirror.proofs.SortedRunLaws.{after_line}
 
 -- ---- runs over the parts of several files
--- what the files have within each span, of what all of them hold
+-- the parts of all files within a span are the slices of the files' sets
 first_slices : (sets : List VersionSet) (span : Span) (others : List Span) (parts : List (List VersionSet)) →
     Pairwise (λ held slices. map (λ s. slice_of s.from s.to held) (span ∷ others) ≡ slices) sets parts →
     (map first_set parts ≡ map (slice_of span.from span.to) sets)
@@ -74,7 +67,7 @@ starts_as : (front rest : List ℕ) (last : ℕ) → start_of (front ++ last ∷
 starts_as [] rest last = refl
 starts_as (b ∷ front) rest last = refl
 
--- lines and the lines after them
+-- lines, and the lines after them, spell the versions of both
 joined : (bytes file rest : List ℕ) (earlier later : List VersionData) → bytes ≡ file ++ rest → start_of bytes ≡ InOpl →
     start_of rest ≡ InOpl → (file ≡ []) ⊎ (rest ≡ []) ⊎ Ended file → IsFile file earlier → IsFile rest later →
     IsFile bytes (earlier ++ later)

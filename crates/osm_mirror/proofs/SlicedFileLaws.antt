@@ -52,7 +52,7 @@ is_not : (b : Bool) → not b ≡ true → b ≡ false
 is_not true h = absurd (false≢true h)
 is_not false h = refl
 
--- a version that reaches a bound has no key below one under it
+-- a version that reaches a bound has no key below that of a version under the bound
 over_bound : (bound : Object) (v w : VersionData) → is_under (Some bound) v ≡ true → reaches (Some bound) w ≡ true →
     is_lt (key_cmp w v) ≡ false
 over_bound bound v w under over =
@@ -68,7 +68,7 @@ map_all : {K : Type 0} (P Q : K → Type 0) → ((x : K) → P x → Q x) → (x
 map_all P Q f [] h = tt
 map_all P Q f (x ∷ xs) h = (f x h.0, map_all P Q f xs h.1)
 
--- the last one, if there is one, is under the bound
+-- the version before, if there is one, is under the bound
 abbrev BeforeUnder : Object → Option VersionData → Type 0
 BeforeUnder bound None = Unit {0}
 BeforeUnder bound (Some v) = is_under (Some bound) v ≡ true
@@ -106,7 +106,7 @@ all_within from to s vs is within =
     (ap (λ t. contains t v) is ∙ contains-from_list version_cmp_total vs v ∙ e))
 
 -- ---- the law
--- files in sequence spell these versions together in the order of keys, from a bound on, and hold these sets
+-- files in sequence spell these versions, in the order of keys and from a bound on, and hold these sets
 pub record SpelledFrom (from : Option Object) (bytes : List ℕ) (held : List VersionSet) : Type 0 where
   pub given : List VersionsToCome
   pub file : IsFile bytes (merged.versions_of given)
@@ -173,7 +173,7 @@ spelled_from from (bound ∷ bounds) bytes (file ∷ next ∷ files) (s ∷ held
 union_is : (held : List VersionSet) → union_of held ≡ union_all held
 union_is held = same_set version_cmp_total version_cmp-IsAntisymmetric _ _ (λ v. in_union_of held v ∙ sym (in_union_all held v))
 
--- what files hold that are within spans and spell a file together
+-- the sets of files that are within spans and together spell a file are the file's slices
 pub slices_of_all : (bounds : List Object) (bytes : List ℕ) (held : List VersionSet) → length bytes < 2 ^ 62 →
     IsSorted object_order bounds → Pairwise IsWithin (spans bounds) held → SpelledFrom None bytes held →
     HoldsSorted bytes (union_of held) × (slices bounds (union_of held) ≡ held)

@@ -47,7 +47,7 @@ module _ (p : ℕ → Bool) (last : ℕ) (ends : p last ≡ true) (rest : List �
         | false ↦ ap (with_first_byte b) (cut_after front) ∙ rw (cut_split p front) refl
       ]
 
--- the lines that are read
+-- the lines that aren't skipped
 abbrev pub lines_of : List ℕ → List (List ℕ)
 lines_of bytes = filter is_read (split_all is_line_end bytes)
 
@@ -144,7 +144,7 @@ module _ (file rest bytes : List ℕ) (earlier later : List VersionData) (one : 
       rw (c.whole, starts) (o5_joined c.front c.header c.after earlier later c.is_header (rw c.is_file at sets) more)
 
 -- ---- the law
--- files in sequence spell these versions together, and hold these sets
+-- files in sequence together spell these versions, and hold these sets
 record Spelled (bytes : List ℕ) (held : List VersionSet) : Type 0 where
   given : List VersionsToCome
   file : IsFile bytes (merged.versions_of given)
@@ -170,7 +170,7 @@ spelled bytes (file ∷ next ∷ files) (s ∷ held) (rest, split, more_split) (
       sets = λ i. h.members i ∷ more.sets i;
     }
 
--- A file that is split into sorted runs holds the union of what they hold.
+-- A file that is split into sorted runs holds the union of the runs' sets.
 pub sorted_runs_hold_the_file : SortedRunsHoldTheFile
 unfolding merged.union_given
 sorted_runs_hold_the_file bytes files held short split holds =

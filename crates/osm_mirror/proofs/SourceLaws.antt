@@ -16,7 +16,7 @@ use Rattle.osm_model.proofs.VersionLaws.{to_list-view}
 use Rattle.osm_files.specs.declared.fault.Fault.{Fault}
 use Rattle.osm_files.specs.declared.load.Loaded.{Loaded}
 use Rattle.osm_files.specs.Fault.{memory_fault}
-use Rattle.osm_files.specs.Input.{Coming, GivesOne}
+use Rattle.osm_files.specs.Input.{InputRest, GivesOne}
 use Rattle.osm_files.specs.Groups.{FileSourceData, FileCanGive, new_source, set_given, set_ascends}
 use Rattle.osm_files.specs.Load.{Loads, StopsLoading}
 use Rattle.osm_files.specs.Position.{units_from, fault_of}
@@ -34,7 +34,7 @@ use Rattle.osm_merge.specs.Giving.{AllGive, SomeInputsGive}
 use Rattle.osm_mirror.specs.declared.input.InputFile.{InputFile}
 use Rattle.osm_mirror.specs.declared.source.RunSource.{RunSource}
 use Rattle.osm_mirror.specs.declared.source.RunSource.TheVariants.{Streamed, Held}
-use Rattle.osm_mirror.specs.Still.{SourceCanGive, source_one, source_possible}
+use Rattle.osm_mirror.specs.SourceRest.{SourceCanGive, source_one, source_possible}
 use Rattle.osm_mirror.specs.Given.{GivesFile, GivesAs, refusal, whole_or_refused, held_source, source_of, sources, FileGives, FileGivesOne}
 use Rattle.osm_mirror.specs.Given.{file_in_order, one_of_file, IsRead, IsOpened, AreOpened, IsUnread, IsUnopened}
 use Rattle.osm_mirror.proofs.MergeLaws.{source_sorted, gives, one_gives, All-first, All-others, AreWhole}
@@ -44,15 +44,15 @@ abbrev pub members : source.VersionsToCome → VersionSet
 members s = from_list {R = version_cmp} s.list
 
 -- ---- a file that was read to its end
-held_is : (number : ℕ) (c : Coming) → held_source number c ≡ whole_or_refused (refusal number c) (versions_of (units_from None 0 c).list)
+held_is : (number : ℕ) (c : InputRest) → held_source number c ≡ whole_or_refused (refusal number c) (versions_of (units_from None 0 c).list)
 unfolding held_source
 held_is number c = refl
 
-module _ (number : ℕ) (c : Coming) (held : VersionSet) (h : GivesFile c held) where
+module _ (number : ℕ) (c : InputRest) (held : VersionSet) (h : GivesFile c held) where
   all_units : units_from None 0 c ≡ file_units c.bytes
   all_units = (λ i. units_from None 0 (record { bytes = c.bytes; broken = h.unbroken i })) ∙ whole_units c.bytes
 
-  -- no unit of it is refused
+  -- no unit of the file is refused
   pub file_refusal : refusal number c ≡ None
   file_refusal =
       (λ i. option_map (fault_of number) (all_units i).refusal)
@@ -61,7 +61,7 @@ module _ (number : ℕ) (c : Coming) (held : VersionSet) (h : GivesFile c held) 
   file_list : versions_of (units_from None 0 c).list ≡ h.file.versions
   file_list = (λ i. versions_of (all_units i).list) ∙ (files_are_read c.bytes h.file.versions h.file.short h.file.file).1
 
-  -- it gives its set
+  -- the source of the file gives its set
   pub file_read : held_source number c ≡ set_given held
   file_read = held_is number c ∙ (λ i. whole_or_refused (file_refusal i) (file_list i)) ∙ ap set_given (sym h.file.members)
 
@@ -70,7 +70,7 @@ unrefused None versions e = refl
 unrefused (Some fault) versions e = absurd (let f : Some fault ≡ None = e in cc)
 
 -- an input without a refusal is a file
-file_gives : (number : ℕ) (c : Coming) → (held_source number c).refusal ≡ None → GivesFile c (members (held_source number c))
+file_gives : (number : ℕ) (c : InputRest) → (held_source number c).refusal ≡ None → GivesFile c (members (held_source number c))
 file_gives number c e =
     let versions : List VersionData = versions_of (units_from None 0 c).list in
     let none : refusal number c ≡ None = unrefused (refusal number c) versions (ap (λ s. s.refusal) (sym (held_is number c)) ∙ e) in
@@ -87,23 +87,23 @@ read_rises None versions = set_ascends (from_list versions)
 read_rises (Some fault) versions = tt
 
 -- ---- one input
-as_given : (number : ℕ) (input : Order × Coming) (held : VersionSet) → GivesAs input held → source_of number input ≡ set_given held
+as_given : (number : ℕ) (input : Order × InputRest) (held : VersionSet) → GivesAs input held → source_of number input ≡ set_given held
 as_given number (Sorted, c) held h = source_sorted number c held h.unbroken h.file
 as_given number (Any, c) held h = file_read number c held h
 
-gives_as : (number : ℕ) (input : Order × Coming) → (source_of number input).refusal ≡ None
+gives_as : (number : ℕ) (input : Order × InputRest) → (source_of number input).refusal ≡ None
     → GivesAs input (members (source_of number input))
 gives_as number (Sorted, c) e = gives number c e
 gives_as number (Any, c) e = file_gives number c e
 
-rises : (number : ℕ) (input : Order × Coming) → Ascends (source_of number input)
+rises : (number : ℕ) (input : Order × InputRest) → Ascends (source_of number input)
 rises number (Sorted, c) = source_rises number c
 rises number (Any, c) =
     subst (λ (s : source.VersionsToCome). Ascends s) (sym (held_is number c))
     (read_rises (refusal number c) (versions_of (units_from None 0 c).list))
 
 -- ---- all inputs
-pub all_give : (number : ℕ) (inputs : List (Order × Coming)) → AreWhole (sources number inputs)
+pub all_give : (number : ℕ) (inputs : List (Order × InputRest)) → AreWhole (sources number inputs)
     → Pairwise GivesAs inputs (map members (sources number inputs))
 all_give number [] h = tt
 all_give number (input ∷ inputs) h = (
@@ -112,7 +112,7 @@ all_give number (input ∷ inputs) h = (
       (number + 1) inputs (All-others (λ s. s.refusal ≡ None) (source_of number input) (sources (number + 1) inputs) h),
 )
 
-each_size : (number : ℕ) (inputs : List (Order × Coming))
+each_size : (number : ℕ) (inputs : List (Order × InputRest))
     → sum_by (λ s. length s.list) (sources number inputs) ≡ sum_by size (map members (sources number inputs))
 each_size number [] = refl
 each_size number (input ∷ inputs) =
@@ -122,17 +122,17 @@ each_size number (input ∷ inputs) =
     ∙ sym (sum_by-cons size (members s) (map members (sources (number + 1) inputs)))
 
 -- The sources of some inputs give as many versions as their sets have.
-pub sizes : (number : ℕ) (inputs : List (Order × Coming))
+pub sizes : (number : ℕ) (inputs : List (Order × InputRest))
     → length (union.versions_of (sources number inputs)) ≡ sum_by size (map members (sources number inputs))
 sizes number inputs = length-flat_map (λ s. s.list) (sources number inputs) ∙ each_size number inputs
 
 -- There is a source for each input.
-pub so_many : (number : ℕ) (inputs : List (Order × Coming)) → length (sources number inputs) ≡ length inputs
+pub so_many : (number : ℕ) (inputs : List (Order × InputRest)) → length (sources number inputs) ≡ length inputs
 so_many number [] = refl
 so_many number (input ∷ inputs) = ap suc (so_many (number + 1) inputs)
 
 -- the sources of files of the required order
-pub as_all_given : (number : ℕ) (inputs : List (Order × Coming)) (held : List VersionSet) → Pairwise GivesAs inputs held
+pub as_all_given : (number : ℕ) (inputs : List (Order × InputRest)) (held : List VersionSet) → Pairwise GivesAs inputs held
     → (map members (sources number inputs) ≡ held) × AreWhole (sources number inputs)
 as_all_given number [] [] h = (refl, All-nil (λ s. s.refusal ≡ None))
 as_all_given number [] (s ∷ held) h = absurd h
@@ -156,7 +156,7 @@ drop_at (x ∷ xs) zero d low = refl
 drop_at (x ∷ xs) (suc k) d low = let e : suc k + 1 ≡ suc (k + 1) = omega arith in rw e (drop_at xs k d (omega (arith, low)))
 
 -- ---- inputs that can't be read
-pub not_unread : (number : ℕ) (inputs : List (Order × Coming)) (held : List VersionSet) (fault : Fault) → Pairwise GivesAs inputs held
+pub not_unread : (number : ℕ) (inputs : List (Order × InputRest)) (held : List VersionSet) (fault : Fault) → Pairwise GivesAs inputs held
     → IsUnread number inputs fault → ⊥
 not_unread number [] held fault h unread = unread
 not_unread number (input ∷ inputs) [] fault h unread = absurd h
@@ -164,40 +164,40 @@ not_unread number ((Sorted, c) ∷ inputs) (s ∷ held) fault h unread = not_unr
 not_unread number ((Any, c) ∷ inputs) (s ∷ held) fault h (inl e) = let f : None ≡ Some fault = sym (file_refusal number c s h.0) ∙ e in cc
 not_unread number ((Any, c) ∷ inputs) (s ∷ held) fault h (inr others) = not_unread (number + 1) inputs held fault h.1 others
 
-unread_first : (number : ℕ) (input : Order × Coming) (rest : List (Order × Coming)) (fault : Fault) → IsUnopened number (input ∷ []) fault
+unread_first : (number : ℕ) (input : Order × InputRest) (rest : List (Order × InputRest)) (fault : Fault) → IsUnopened number (input ∷ []) fault
     → IsUnopened number (input ∷ rest) fault
 unread_first number input rest fault (inl e) = inl e
 unread_first number (Sorted, c) rest fault (inr h) = absurd h
 unread_first number (Any, c) rest fault (inr (inl h)) = inr (inl h)
 unread_first number (Any, c) rest fault (inr (inr h)) = absurd h
 
-unread_more : (number : ℕ) (input : Order × Coming) (rest : List (Order × Coming)) (fault : Fault) → IsUnopened (number + 1) rest fault
+unread_more : (number : ℕ) (input : Order × InputRest) (rest : List (Order × InputRest)) (fault : Fault) → IsUnopened (number + 1) rest fault
     → IsUnopened number (input ∷ rest) fault
 unread_more number input rest fault (inl e) = inl e
 unread_more number (Sorted, c) rest fault (inr h) = inr h
 unread_more number (Any, c) rest fault (inr h) = inr (inr h)
 
 -- ---- sources that were opened
-pub stream_opens : {R : Type 0} (can : R → Coming → Type 0) (number : ℕ) (reader : R) (s : FileSourceData R) → s ≡ new_source number reader
+pub stream_opens : {R : Type 0} (can : R → InputRest → Type 0) (number : ℕ) (reader : R) (s : FileSourceData R) → s ≡ new_source number reader
     → IsOpened can number (file_in_order Sorted reader) (Streamed s)
 stream_opens can number reader s is still h =
     let q = one_gives can number reader still (subst (λ (x : FileSourceData _). FileCanGive can x still) is h) in
     ((Sorted, q.0), (refl, q.1), (q.2, tt))
 
--- A file that was loaded is opened as a source of what it holds.
-pub load_opens : {R : Type 0} (can : R → Coming → Type 0) (number : ℕ) (reader : R) (loaded : Loaded) (set : VersionSet)
+-- A file that was loaded is opened as a source of its set.
+pub load_opens : {R : Type 0} (can : R → InputRest → Type 0) (number : ℕ) (reader : R) (loaded : Loaded) (set : VersionSet)
     → set ≡ loaded.history → GivesOne (can reader) (λ c. Loads c loaded) → IsOpened can number (file_in_order Any reader) (Held set)
 load_opens can number reader loaded set is h still e =
     let file : GivesFile h.0 loaded.history = record { unbroken = h.2.unbroken; file = h.2.holds } in
     ((Any, h.0), (refl, h.1), (e ∙ ap set_given is ∙ sym (file_read number h.0 loaded.history file), (loaded.history, file)))
 
 -- A file that isn't loaded isn't opened.
-pub load_stops : {R : Type 0} (can : R → Coming → Type 0) (number : ℕ) (reader : R) (fault : Fault)
+pub load_stops : {R : Type 0} (can : R → InputRest → Type 0) (number : ℕ) (reader : R) (fault : Fault)
     → GivesOne (can reader) (λ c. StopsLoading number c fault)
     → FileGivesOne can (file_in_order Any reader) (λ input. IsUnopened number (input ∷ []) fault)
 load_stops can number reader fault h = ((Any, h.0), (refl, h.1), ⊎_elim (λ e. inl e) (λ e. inr (inl e)) h.2)
 
-module _ {R : Type 0} (can : R → Coming → Type 0) where
+module _ {R : Type 0} (can : R → InputRest → Type 0) where
   pub opened_more : (number : ℕ) (files : List (InputFile R)) (opened : List (RunSource R)) (file : InputFile R) (s : RunSource R)
       → AreOpened can number files opened → IsOpened can (number + length files) file s
       → AreOpened can number (files ++ file ∷ []) (opened ++ s ∷ [])
@@ -219,10 +219,10 @@ module _ {R : Type 0} (can : R → Coming → Type 0) where
   opened_many number (f ∷ files) [] all = absurd all
   opened_many number (f ∷ files) (s ∷ opened) all = ap suc (opened_many (number + 1) files opened all.1)
 
-  -- the rests of the sources are those of the sources of the bytes that the files gave
+  -- for all that the sources can give, the files could give bytes whose sources give the same
   pub opened_give : (number : ℕ) (files : List (InputFile R)) (opened : List (RunSource R)) (stills : List source.VersionsToCome)
       → AreOpened can number files opened → AllGive (SourceCanGive can) opened stills
-      → (all : List (Order × Coming)) × AllGive (FileGives can) files all × (stills ≡ sources number all) × All IsRead all
+      → (all : List (Order × InputRest)) × AllGive (FileGives can) files all × (stills ≡ sources number all) × All IsRead all
   opened_give number [] [] [] all g = ([], tt, refl, All-nil IsRead)
   opened_give number [] [] (s ∷ stills) all g = absurd g
   opened_give number [] (t ∷ opened) stills all g = absurd all
@@ -233,7 +233,7 @@ module _ {R : Type 0} (can : R → Coming → Type 0) where
       let others = opened_give (number + 1) files opened stills all.1 g.1 in
       (one.0 ∷ others.0, (one.1, others.1), (λ i. one.2.0 i ∷ others.2 i), All-cons IsRead one.0 others.0 one.2.1 others.3)
 
-  module _ (one : R → Coming) (possible : (r : R) → can r (one r)) where
+  module _ (one : R → InputRest) (possible : (r : R) → can r (one r)) where
     pub give_files : (files : List (InputFile R)) → AllGive (FileGives can) files (map (one_of_file one) files)
     give_files [] = tt
     give_files (f ∷ files) = ((refl, possible f.reader), give_files files)
@@ -259,7 +259,7 @@ module _ {R : Type 0} (can : R → Coming → Type 0) where
         ) in
         (first.0 ∷ others.0, (first.1, others.1), unread_more number first.0 others.0 fault others.2)
 
-    -- one of the files, after those that were opened
+    -- one of the files can't be opened, after others that were opened
     pub stop_unread : (ys xs : List (InputFile R)) (y : InputFile R) (items : List (RunSource R)) (n : ℕ) (fault : Fault)
         → AreOpened can 0 ys items → n ≡ length items → map (λ f. f) ys ≡ take (length ys) xs
         → (length ys < length xs) × (y ≡ get_or xs (length ys) y)

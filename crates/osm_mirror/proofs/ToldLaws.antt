@@ -7,7 +7,7 @@ use Rattle.osm_model.specs.VersionSet.{VersionSet}
 use Rattle.osm_model.specs.Pairwise.{Pairwise}
 use Rattle.osm_files.specs.declared.fault.Fault.{Fault}
 use Rattle.osm_files.specs.declared.format.Format.{Format}
-use Rattle.osm_files.specs.Input.{Coming}
+use Rattle.osm_files.specs.Input.{InputRest}
 use Rattle.osm_files.specs.declared.output.Output.{Ghosts}
 use Rattle.osm_files.specs.Output.{Change}
 use Rattle.osm_files.specs.Change.{change_of}
@@ -27,7 +27,7 @@ use Rattle.osm_mirror.specs.Run.{IsRun, IsRunRefused, RefusesRun}
 use Rattle.osm_mirror.specs.KnownInputs.{AllKnownToGive, IsFileIfKnown, KnownIsGiven}
 
 module _ {R C : Type 0} (can : R → C → Type 0) where
-  -- Inputs that are known to give something give this.
+  -- Inputs that report their bytes give these bytes.
   pub told_given : (inputs : List R) → KnownIsGiven can inputs
   told_given [] [] [] t g = refl
   told_given [] [] (d ∷ given) t g = absurd g
@@ -36,21 +36,21 @@ module _ {R C : Type 0} (can : R → C → Type 0) where
   told_given (r ∷ inputs) (c ∷ told) [] t g = absurd g
   told_given (r ∷ inputs) (c ∷ told) (d ∷ given) t g = λ i. t.0 d g.0 i ∷ told_given inputs told given t.1 g.1 i
 
-  -- a property of some bytes that they can give is one of those that they report
+  -- a property of some bytes that the inputs can give is a property of the bytes that they report
   pub told_done : (inputs : List R) (P : List C → Counts → Type 0) (result : Result Counts Fault)
       → IfOk result (λ counts. SomeInputsGive can inputs (λ all. P all counts))
       → IfOk result (λ counts. (all : List C) → AllKnownToGive can inputs all → P all counts)
   told_done inputs P (Ok counts) h = λ all t. subst (λ (xs : List C). P xs counts) (told_given inputs all h.0 t h.1) h.2
   told_done inputs P (Err fault) h = tt
 
-  -- What a refusal says of something that the inputs can give, it says of what they are known to give.
+  -- A property of the refusal for some bytes that the inputs can give is one for the bytes that they report.
   pub told_refused : (inputs : List R) (P : List C → Fault → Type 0) (result : Result Counts Fault)
       → IfErr result (λ fault. SomeInputsGive can inputs (λ all. P all fault))
       → IfErr result (λ fault. (all : List C) → AllKnownToGive can inputs all → P all fault)
   told_refused inputs P (Ok counts) h = tt
   told_refused inputs P (Err fault) h = λ all t. subst (λ (xs : List C). P xs fault) (told_given inputs all h.0 t h.1) h.2
 
-  -- each of them gave a file
+  -- each input that reports its bytes gave a file
   each_told : (gives : C → VersionSet → Type 0) (inputs : List R) (all : List C) (held : List VersionSet) → AllGive can inputs all
       → Pairwise gives all held → All (IsFileIfKnown can gives) inputs
   each_told gives [] all held g files = All-nil (IsFileIfKnown can gives)
@@ -60,7 +60,7 @@ module _ {R C : Type 0} (can : R → C → Type 0) where
       All-cons (IsFileIfKnown can gives) r inputs (λ d told. (s, subst (λ (x : C). gives x s) (told c g.0) files.0))
       (each_told gives inputs all held g.1 files.1)
 
-  -- Each input that is known to give something gives a file.
+  -- Each input that reports its bytes gives a file.
   pub told_files : (gives : C → VersionSet → Type 0) (inputs : List R) (P : List C → Counts → Type 0)
       → ((all : List C) (counts : Counts) → P all counts → (held : List VersionSet) × Pairwise gives all held)
       → (result : Result Counts Fault)
@@ -68,7 +68,7 @@ module _ {R C : Type 0} (can : R → C → Type 0) where
   told_files gives inputs P files (Ok counts) h = let q = files h.0 counts h.2 in each_told gives inputs h.0 q.0 h.1 q.1
   told_files gives inputs P files (Err fault) h = tt
 
-  -- and the file of a set was written
+  -- the file of a set was written
   pub told_writes : (format : Format) (change : Change) (inputs : List R) (P : List C → Counts → Type 0)
       → ((all : List C) (counts : Counts) → P all counts → WritesSet format change counts) → (result : Result Counts Fault)
       → IfOk result (λ counts. SomeInputsGive can inputs (λ all. P all counts)) → IfOk result (WritesSet format change)
@@ -77,25 +77,25 @@ module _ {R C : Type 0} (can : R → C → Type 0) where
 
 module _ (format : Format) (change : Change) where
   -- A merge that is done wrote the file of a set.
-  pub merged_set : (all : List Coming) (counts : Counts) → merge.IsMerged all format change counts → WritesSet format change counts
+  pub merged_set : (all : List InputRest) (counts : Counts) → merge.IsMerged all format change counts → WritesSet format change counts
   merged_set all counts m = record { set = merge.union_of m.held; appended = m.written; written = m.written_count }
 
   -- A run that is done wrote the file of a set.
-  pub run_set : (selection : Selection) (all : List (Order × Coming)) (counts : Counts) → IsRun selection all format change counts
+  pub run_set : (selection : Selection) (all : List (Order × InputRest)) (counts : Counts) → IsRun selection all format change counts
       → WritesSet format change counts
   run_set selection all counts m =
       record { set = selection_of selection (merge.union_of m.held); appended = m.written; written = m.written_count }
 
   -- the output of a merge that was refused is a front of the file of the union
-  pub told_begun : {R : Type 0} (can : R → Coming → Type 0) (inputs : List R) (result : Result Counts Fault)
+  pub told_begun : {R : Type 0} (can : R → InputRest → Type 0) (inputs : List R) (result : Result Counts Fault)
       → IfErr result (λ fault. SomeInputsGive can inputs (λ all. merge.Refuses all format change fault))
-      → OnErr result ((all : List Coming) → AllKnownToGive can inputs all → HasBegun (merge.sources 0 all) format change)
+      → OnErr result ((all : List InputRest) → AllKnownToGive can inputs all → HasBegun (merge.sources 0 all) format change)
   told_begun can inputs (Ok counts) h = tt
   told_begun can inputs (Err fault) h = λ all t.
-      let given = subst (λ (xs : List Coming). merge.Refuses xs format change fault) (told_given can inputs all h.0 t h.1) h.2 in
+      let given = subst (λ (xs : List InputRest). merge.Refuses xs format change fault) (told_given can inputs all h.0 t h.1) h.2 in
       begun_refused selection.All (merge.sources 0 all) format (length all) change fault given.why
 
--- and that of a run that was refused is a front of the file of the selection
+-- an unchanged output has a front of the file, which is empty
 none_begun : {O : Type 0} (output : Ghosts O) (set : VersionSet) (format : Format) (before after : O) → after ≡ before
     → HasBegunIn set format (change_of output before after)
 none_begun output set format before after same =
@@ -103,7 +103,7 @@ none_begun output set format before after same =
     (record { count = 0; within = omega arith; appended = nothing_appended (output.holds before) })
 
 module _ {O : Type 0} (output : Ghosts O) (selection : Selection) (format : Format) (before after : O) where
-  run_begun : (all : List (Order × Coming)) (fault : Fault) → IsRunRefused output selection all format before after fault
+  run_begun : (all : List (Order × InputRest)) (fault : Fault) → IsRunRefused output selection all format before after fault
       → HasBegunIn (selection_of selection (union.union_given (sources 0 all))) format (change_of output before after)
   run_begun all fault (inl (memory, same)) =
       none_begun output (selection_of selection (union.union_given (sources 0 all))) format before after same
@@ -113,13 +113,13 @@ module _ {O : Type 0} (output : Ghosts O) (selection : Selection) (format : Form
       begun_refused selection (sources 0 all) format (length all) (change_of output before after) fault refused
 
   -- A run that is refused wrote a front of the file of the union.
-  pub told_run_begun : {R : Type 0} (can : R → Coming → Type 0) (inputs : List (InputFile R)) (result : Result Counts Fault)
+  pub told_run_begun : {R : Type 0} (can : R → InputRest → Type 0) (inputs : List (InputFile R)) (result : Result Counts Fault)
       → IfErr result (λ fault. SomeInputsGive (FileGives can) inputs (λ all. RefusesRun output selection all format before after fault))
-      → OnErr result ((all : List (Order × Coming)) → AllKnownToGive (FileGives can) inputs all → HasBegunIn
+      → OnErr result ((all : List (Order × InputRest)) → AllKnownToGive (FileGives can) inputs all → HasBegunIn
       (selection_of selection (union.union_given (sources 0 all))) format (change_of output before after))
   told_run_begun can inputs (Ok counts) h = tt
   told_run_begun can inputs (Err fault) h = λ all t.
       let given =
-      subst (λ (xs : List (Order × Coming)). RefusesRun output selection xs format before after fault)
+      subst (λ (xs : List (Order × InputRest)). RefusesRun output selection xs format before after fault)
       (told_given (FileGives can) inputs all h.0 t h.1) h.2 in
       run_begun all fault given.why

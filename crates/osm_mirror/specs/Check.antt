@@ -4,7 +4,7 @@ use Rattle.osm_model.specs.Data.{VersionData}
 use Rattle.osm_model.specs.VersionSet.{VersionSet}
 use Rattle.osm_model.specs.Sets.{size}
 use Rattle.osm_files.specs.Held.{HoldsSorted}
-use Rattle.osm_files.specs.Input.{Coming}
+use Rattle.osm_files.specs.Input.{InputRest}
 use Rattle.osm_files.specs.Load.{format_of}
 use Rattle.osm_merge.specs.ToCome as source
 use Rattle.osm_merge.specs.Pass.{same_object}
@@ -18,8 +18,9 @@ use Rattle.osm_mirror.specs.Given.{GivesFile}
 abbrev pub object_count : VersionSet → ℕ
 object_count set = size (snapshot set)
 
--- The input gives a file; this is its format, the numbers of versions and objects of its set, and whether it is sorted.
-pub record Reports (c : Coming) (report : CheckReport) : Type 0 where
+-- The input gives a file. The report has its format, the numbers of versions and of objects of its set, and whether it
+-- is sorted.
+pub record Reports (c : InputRest) (report : CheckReport) : Type 0 where
   pub held : VersionSet
   pub file : GivesFile c held
   pub format : report.format ≡ format_of c.bytes
@@ -27,22 +28,22 @@ pub record Reports (c : Coming) (report : CheckReport) : Type 0 where
   pub objects : report.objects ≡ capped_count (object_count held)
   pub sorted : IsTrue report.sorted ↔ HoldsSorted c.bytes held
 
--- 1 where a version is of another object than the one before it, else 0
+-- 1 if a version is of another object than the version before it, or is the first version; else 0
 abbrev pub new_objects : Option VersionData → VersionData → ℕ
 new_objects None v = 1
 new_objects (Some last) v = if same_object last v then 0 else 1
 
--- the number of objects that begin in a list, after this version
+-- the number of objects that begin in a list of versions, after the version `last`
 abbrev pub objects_after : Option VersionData → List VersionData → ℕ
 objects_after last [] = 0
 objects_after last (v ∷ versions) = new_objects last v + objects_after (Some v) versions
 
--- a source is whole, and gives as many versions and objects as counted
+-- a source ends without a refusal, and the sizes are the numbers of versions and of objects that it gives
 pub record IsCounted (still : source.VersionsToCome) (sizes : Sizes) : Type 0 where
   pub whole : still.refusal ≡ None
   pub versions : sizes.versions ≡ capped_count (length still.list)
   pub objects : sizes.objects ≡ capped_count (objects_after None still.list)
 
--- a source can give something with this property
+-- a source can give a list with this property
 abbrev pub SourceGives : (source.VersionsToCome → Type 0) → (source.VersionsToCome → Type 0) → Type 0
 SourceGives can P = (still : source.VersionsToCome) × can still × P still

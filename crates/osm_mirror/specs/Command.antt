@@ -1,5 +1,5 @@
--- The output of the commands that read all of their inputs first, and the reasons why they are refused: an own rule of
--- this project.
+-- The output of the commands that read all of their inputs first, and the reasons why the commands are refused: an own
+-- rule of this project.
 use Rattle.std.specs.Prelude.{◌≡◌, ◌⊎◌, Bool, true, false, List, length, map, sum_by}
 use Rattle.osm_model.specs.VersionSet.{VersionSet}
 use Rattle.osm_model.specs.Sets.{size}
@@ -7,7 +7,7 @@ use Rattle.osm_model.specs.Pairwise.{Pairwise}
 use Rattle.osm_files.specs.declared.fault.Fault.{Fault}
 use Rattle.osm_files.specs.declared.format.Format.{Format}
 use Rattle.osm_files.specs.Fault.{memory_fault}
-use Rattle.osm_files.specs.Input.{Coming}
+use Rattle.osm_files.specs.Input.{InputRest}
 use Rattle.osm_files.specs.declared.output.Output.{Ghosts}
 use Rattle.osm_files.specs.Output.{Change, Appends}
 use Rattle.osm_files.specs.Change.{change_of}
@@ -24,7 +24,7 @@ use Rattle.osm_mirror.specs.Given.{GivesFile, IsUnread}
 
 -- A command over these inputs, with this change of the output: each input gave a file, and the one spelling of the
 -- choice from the union of their sets was appended.
-pub record IsWritten (choice : VersionSet → VersionSet) (inputs : List Coming) (format : Format) (change : Change)
+pub record IsWritten (choice : VersionSet → VersionSet) (inputs : List InputRest) (format : Format) (change : Change)
     (counts : Counts) : Type 0 where
   pub held : List VersionSet
   pub files : Pairwise GivesFile inputs held
@@ -33,18 +33,18 @@ pub record IsWritten (choice : VersionSet → VersionSet) (inputs : List Coming)
   pub written_count : counts.written ≡ capped_count (size (choice (union_of held)))
   pub compared_count : counts.compared ≡ 0
 
--- a reader of a file, as one whose versions may have any order
+-- a file whose versions may have any order, with this reader
 abbrev pub any_order_file : {X : Type 0} → X → InputFile X
 any_order_file reader = record { reader = reader; order = Any }
 
--- an input of any order
-abbrev pub any_order : Coming → Order × Coming
+-- an input whose versions may have any order
+abbrev pub any_order : InputRest → Order × InputRest
 any_order c = (Any, c)
 
 -- Why a command was refused: memory ran out before anything was written; or an input can't be read, and nothing was
 -- written; or all inputs are files, and a front of the one spelling of the choice from the union of their sets was
 -- appended. If the output failed, the number of bytes of this front is the fault's `place`.
-abbrev pub IsNotWritten : {O : Type 0} → Ghosts O → (VersionSet → VersionSet) → List Coming → Format → O → O → Fault
+abbrev pub IsNotWritten : {O : Type 0} → Ghosts O → (VersionSet → VersionSet) → List InputRest → Format → O → O → Fault
     → Type 0
 IsNotWritten output choice inputs format before after fault =
     ((fault ≡ memory_fault) × (after ≡ before))

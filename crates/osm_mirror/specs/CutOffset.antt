@@ -1,50 +1,64 @@
--- Where an OPL file is cut at an object: an own rule of this project.
-use Rattle.std.specs.Prelude.{◌≡◌, ℕ, ◌<◌, ◌^◌, Bool, false, List, [], ◌∷◌, length, take, drop, Option, Some, IfSome}
+-- The offset at which an OPL file is cut at an object: an own rule of this project.
+use Rattle.std.specs.Prelude.{◌≡◌, ◌⊎◌, ℕ, ◌<◌, ◌^◌, Bool, false, List, [], ◌∷◌, length, take, drop, Option, Some, IfSome}
+use Rattle.std.specs.Prelude.{if◌then◌else◌}
 use Rattle.std.specs.List.{filter}
 use Rattle.std.specs.List.Sorted.{IsSorted}
 use Rattle.osm_model.specs.Data.{VersionData}
 use Rattle.osm_model.specs.Order.{key_cmp}
-use Rattle.osm_files.specs.Input.{Coming, whole_input}
-use Rattle.osm_files.specs.Lines.{lines_from}
+use Rattle.osm_files.specs.declared.fault.Fault.{Fault}
+use Rattle.osm_files.specs.Input.{InputRest, whole_input}
+use Rattle.osm_files.specs.Lines.{lines_from, IsDeviceFault}
 use Rattle.osm_files.specs.Opl.{OplFile}
-use Rattle.osm_files.specs.Units.{InOpl, start_of}
+use Rattle.osm_files.specs.Units.{FileStateData, InOpl, BeforeHeader, start_of}
 use Rattle.osm_merge.specs.declared.object.Object.{Object}
 use Rattle.osm_merge.specs.Slice.{reaches, is_under}
 
--- the lines before the offset spell the versions of a sorted file below the bound, and the others spell the other ones
+-- for a sorted file, the lines before the offset spell its versions whose objects are below the bound, and the lines
+-- from the offset on spell the others
 abbrev pub IsCutAt : List ℕ → Object → ℕ → Type 0
 IsCutAt bytes bound offset =
     (versions : List VersionData) → OplFile bytes versions → IsSorted key_cmp versions
     → OplFile (take offset bytes) (filter (is_under (Some bound)) versions)
     × OplFile (drop offset bytes) (filter (reaches (Some bound)) versions)
 
--- at the offset lines begin that are no o5 file
+-- lines begin at the offset, and the bytes from there on don't begin as an o5 file does
 pub record BeginsLines (bytes : List ℕ) (offset : ℕ) : Type 0 where
   pub from : ℕ
   pub lines : drop offset bytes ≡ lines_from from bytes
   pub start : start_of (drop offset bytes) ≡ InOpl
 
--- what an offset is at which a file is cut, where its bytes are known and it isn't too long
+-- the offset is one at which a file is cut, if the file's bytes are known and aren't too many
 abbrev pub IsCutOf : Option (List ℕ) → Object → ℕ → Type 0
 IsCutOf bytes bound offset = IfSome bytes (λ all. length all < 2 ^ 62 → IsCutAt all bound offset)
 
--- what begins at the offset is no o5 file, where the file's bytes are known
-abbrev pub StartsOpl : Option (List ℕ) → ℕ → Type 0
-StartsOpl bytes offset = IfSome bytes (λ all. start_of (drop offset all) ≡ InOpl)
+-- A file is refused because memory ran out, the device failed or the file is too long; or it is no OPL file.
+abbrev pub IsCutRefusal : Option (List ℕ) → Fault → Type 0
+IsCutRefusal bytes fault = IfSome bytes (λ all. length all < 2 ^ 62 →
+    IsDeviceFault fault ⊎ ((versions : List VersionData) → OplFile all versions → ⊥))
 
--- a reader that can give only some bytes doesn't give an o5 file
-abbrev pub GivesOpl : {R : Type 0} → (R → Coming → Type 0) → R → Type 0
-GivesOpl can reader = (bytes : List ℕ) → ((c : Coming) → can reader c → c ≡ whole_input bytes) → start_of bytes ≡ InOpl
+-- the state at the start of bytes that begin as an o5 file does, or of others
+abbrev pub start_if : Bool → FileStateData
+start_if is_o5 = if is_o5 then BeforeHeader else InOpl
 
+-- `is_o5` is whether the bytes from the offset on begin as an o5 file does, if the file's bytes are known
+abbrev pub BeginsAs : Option (List ℕ) → ℕ → Bool → Type 0
+BeginsAs bytes offset is_o5 = IfSome bytes (λ all. start_of (drop offset all) ≡ start_if is_o5)
+
+-- `is_o5` is whether the bytes begin as an o5 file does, if the reader can give only these bytes
+abbrev pub ReadsAs : {R : Type 0} → (R → InputRest → Type 0) → R → Bool → Type 0
+ReadsAs can reader is_o5 =
+    (bytes : List ℕ) → ((c : InputRest) → can reader c → c ≡ whole_input bytes) → start_of bytes ≡ start_if is_o5
+
+-- lines of OPL begin at the offset, if the file's bytes are known
 abbrev pub BeginsLinesOf : Option (List ℕ) → ℕ → Type 0
 BeginsLinesOf bytes offset = IfSome bytes (λ all. BeginsLines all offset)
 
--- is the first of some versions below the bound?
+-- is the object of the first of some versions below the bound?
 abbrev pub first_is_under : Object → List VersionData → Bool
 first_is_under bound [] = false
 first_is_under bound (v ∷ versions) = is_under (Some bound) v
 
--- whether the first version of the lines from an offset on is below the bound
+-- whether the object of the first version in the lines from an offset on is below the bound
 abbrev pub IsFirstUnder : Option (List ℕ) → Object → ℕ → Bool → Type 0
 IsFirstUnder bytes bound offset is_below = IfSome bytes (λ all. length all < 2 ^ 62 → (versions : List VersionData) →
     OplFile (lines_from offset all) versions → is_below ≡ first_is_under bound versions)

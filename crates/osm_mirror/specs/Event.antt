@@ -4,9 +4,11 @@ use Rattle.std.specs.Borrow.{Bor}
 use Rattle.osm_mirror.specs.declared.event.MirrorEvent.{MirrorEvent}
 use Rattle.osm_mirror.specs.declared.event.MirrorEvent.TheVariants.{Take, Pass, Restart}
 
+-- an event of a fleet
 abbrev pub Event : Type 0
 Event = MirrorEvent (Bor (List ℕ))
 
+-- a step of a plan
 abbrev pub Step : Type 0
 Step = MirrorEvent (List ℕ)
 

@@ -7,13 +7,14 @@ use Rattle.osm_files.specs.declared.reason.Reason.{Reason}
 use Rattle.osm_files.specs.declared.reason.Reason.TheVariants.{Opl, O5, Memory}
 use Rattle.osm_files.specs.Reason.{reason_name}
 
--- the line of a reason at a byte of the file of this name; out of memory names no file
+-- the line of a reason at an offset of the file with this name; out of memory names no file
 abbrev pub reason_line : List ℕ → ℕ → Reason → List ℕ
 reason_line name place Memory = codes "out of memory"
 reason_line name place (Opl opl.Memory) = codes "out of memory"
 reason_line name place (O5 o5.Memory) = codes "out of memory"
 reason_line name place reason = name ++ codes ": " ++ decimal place ++ codes ": " ++ reason_name reason
 
--- the line of a fault, by the names of the inputs and that of the output, whose number is the number of the inputs
+-- the line of a fault: its name is that of the input with the fault's number, or of the output if there is no such
+-- input
 abbrev pub fault_line : Fault → List (List ℕ) → List ℕ → List ℕ
 fault_line fault inputs out = reason_line (slice_index_or inputs fault.input out) fault.place fault.reason

@@ -10,7 +10,7 @@ use Rattle.osm_mirror.specs.declared.event.Reply.{Reply}
 use Rattle.osm_mirror.specs.Mirror.{MirrorData}
 use Rattle.osm_mirror.specs.Fleet.{Source, File, mirror_at, tracks, Converges}
 
--- the same files are among the sources
+-- the two lists of sources have the same files
 abbrev pub SameFilesAmong : List Source → List Source → Type 0
 SameFilesAmong some others = (bytes : List ℕ) → Contains some (File bytes) ↔ Contains others (File bytes)
 
@@ -18,8 +18,8 @@ SameFilesAmong some others = (bytes : List ℕ) → Contains some (File bytes) �
 abbrev pub AreEmpty : List MirrorData → Type 0
 AreEmpty mirrors = (m : ℕ) → (mirror_at mirrors m).held ≡ empty
 
--- Two latest mirrors of a new fleet that the same files reached, through any mirrors and with any repetitions, hold the
--- same history after the run, and write the same bytes in each format.
+-- If the same files reached two latest mirrors of a new fleet, through any mirrors and with any repetitions, the two
+-- hold the same history after the run, and write the same bytes in each format.
 abbrev pub LatestMirrorsAgree : Type 0
 LatestMirrorsAgree =
     (old new : List MirrorData) (events : List Event) (replies : List Reply) → Converges old events replies new →
@@ -29,8 +29,8 @@ LatestMirrorsAgree =
     → ((mirror_at new m).held ≡ (mirror_at new n).held) × ((format : Format) →
     spell format (mirror_at new m).held ≡ spell format (mirror_at new n).held)
 
--- Two full mirrors of a new fleet that the same files reached, only through full ones, hold the same history after the
--- run, and write the same bytes in each format.
+-- If the same files reached two full mirrors of a new fleet, through full mirrors only, the two hold the same history
+-- after the run, and write the same bytes in each format.
 abbrev pub FullMirrorsAgree : Type 0
 FullMirrorsAgree =
     (old new : List MirrorData) (events : List Event) (replies : List Reply) → Converges old events replies new →

@@ -3,7 +3,7 @@ use Rattle.std.specs.Prelude.{◌≡◌, List}
 use Rattle.osm_model.specs.VersionSet.{VersionSet}
 use Rattle.osm_merge.specs.Giving.{AllGive}
 
--- an input reports its bytes: it can give nothing else
+-- an input reports these bytes: it can give nothing else
 abbrev pub IsKnownToGive : {R C : Type 0} → (R → C → Type 0) → R → C → Type 0
 IsKnownToGive {C = C} can input c = (given : C) → can input given → given ≡ c
 
@@ -11,7 +11,7 @@ IsKnownToGive {C = C} can input c = (given : C) → can input given → given �
 abbrev pub AllKnownToGive : {R C : Type 0} → (R → C → Type 0) → List R → List C → Type 0
 AllKnownToGive can inputs all = AllGive (IsKnownToGive can) inputs all
 
--- an input that reports its bytes gives a file that holds a set
+-- if an input reports its bytes, they are a file that holds a set
 abbrev pub IsFileIfKnown : {R C : Type 0} → (R → C → Type 0) → (C → VersionSet → Type 0) → R → Type 0
 IsFileIfKnown {C = C} can gives input = (c : C) → IsKnownToGive can input c → (held : VersionSet) × gives c held
 

@@ -1,5 +1,5 @@
 pub mod Merge
-pub mod Still
+pub mod SourceRest
 pub mod Given
 pub mod Run
 pub mod Command

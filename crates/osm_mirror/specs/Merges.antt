@@ -14,14 +14,14 @@ pub data Inputs : Type 0 where
   file : List ℕ → Inputs → Inputs
   merged : Format → Inputs → Inputs → Inputs
 
--- the files that went in, in the end
+-- the files that all these merges have as inputs in the end
 abbrev pub files_of : Inputs → List (List ℕ)
 files_of none = []
 files_of (file bytes others) = bytes ∷ files_of others
 files_of (merged format inputs others) = files_of inputs ++ files_of others
 
--- Inputs hold these sets, one each: each is a sorted file; a file that a merge wrote is the one spelling of the union
--- of the sets of that merge's inputs.
+-- The inputs hold these sets, one for one, and each is a sorted file. A file that a merge wrote is the one spelling of
+-- the union of the sets of that merge's inputs.
 abbrev pub Hold : Inputs → List VersionSet → Type 0
 Hold none [] = Unit {0}
 Hold none (set ∷ held) = ⊥
@@ -31,7 +31,7 @@ Hold (merged format inputs others) [] = ⊥
 Hold (merged format inputs others) (set ∷ held) =
     ((below : List VersionSet) × Hold inputs below × HoldsSorted (spell format (union_of below)) set) × Hold others held
 
--- the same files, in any order and with any repetitions
+-- the two lists have the same files, in any order and with any repetitions
 abbrev pub SameFiles : List (List ℕ) → List (List ℕ) → Type 0
 SameFiles files others = (bytes : List ℕ) → Contains files bytes ↔ Contains others bytes
 

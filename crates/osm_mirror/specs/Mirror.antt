@@ -40,26 +40,26 @@ kept_part Latest set = snapshot set
 abbrev pub new_mirror : Keep → MirrorData
 new_mirror keep = record { keep = keep; held = empty }
 
--- a mirror that took a set keeps its part of the union with its history
+-- the mirror after it took a set: it keeps its part of the union of its history and the set
 abbrev pub after_taking : MirrorData → VersionSet → MirrorData
 after_taking m set = record { keep = m.keep; held = kept_part m.keep (union m.held set) }
 
 -- a latest mirror holds its own snapshot, and so no more than the newest version of each object
-abbrev pub IsKept : MirrorData → Type 0
-IsKept m = m.keep ≡ Latest → m.held ≡ snapshot m.held
+abbrev pub IsOwnSnapshot : MirrorData → Type 0
+IsOwnSnapshot m = m.keep ≡ Latest → m.held ≡ snapshot m.held
 
--- the history of a mirror is kept, and within the ranges of versions
-pub record IsSound (m : MirrorData) : Type 0 where
-  pub is_kept : IsKept m
+-- a latest mirror holds its own snapshot, and the history is within the ranges of versions
+pub record IsMirror (m : MirrorData) : Type 0 where
+  pub own_snapshot : IsOwnSnapshot m
   pub versions : AreVersions m.held
 
 -- the file is accepted, and the mirror took the file's set; `taken` has the size of that set
 pub record TakesFile (bytes : List ℕ) (old new : MirrorData) (taken : Taken) : Type 0 where
   pub accepted : Holds bytes (held_by bytes)
   pub holds : new ≡ after_taking old (held_by bytes)
-  pub told : taken.versions ≡ capped_count (size (held_by bytes))
+  pub count : taken.versions ≡ capped_count (size (held_by bytes))
 
--- why a file isn't taken: memory ran out, or it is the verdict of the file, which is the input 0
+-- why a file isn't taken: memory ran out, or the file, which is the input 0, has this verdict
 abbrev pub WhyNotTaken : List ℕ → Fault → Type 0
 WhyNotTaken bytes fault = (fault ≡ memory_fault) ⊎ ((v : Verdict) × (verdict bytes ≡ Some v) × (fault ≡ fault_of 0 v))
 

@@ -51,13 +51,15 @@ pub record NamesItsMirrors (plan : Plan) : Type 0 where
 abbrev pub SpellsNoPlan : List ℕ → Type 0
 SpellsNoPlan text = (plan : Plan) → ¬ PlanSpells text plan
 
--- a line is in its turn, after lines that spell these parts: a mirror line before all others, a step before the writes
+-- the part of a line comes in its turn after the parts of the lines before: a mirror before all steps and writes, a
+-- step before all writes
 abbrev pub IsInTurn : Parts → PlanLine → Type 0
 IsInTurn before (Mirror keep) = (before.steps ≡ []) × (before.writes ≡ [])
 IsInTurn before (Step s) = before.writes ≡ []
 IsInTurn before (Write w) = Unit {0}
 
--- why the part of a line is refused after lines that spell these parts: its order first, then the mirrors that it names
+-- why the part of a line is refused after the parts of the lines before: for its order first, then for the mirrors that
+-- it names
 abbrev pub IsLineRefused : Parts → PlanLine → PlanReason → Type 0
 IsLineRefused before said BadOrder = ¬ IsInTurn before said
 IsLineRefused before said NoMirror = IsInTurn before said × (¬ NamesMirrors (length before.mirrors) said)
@@ -68,7 +70,7 @@ abbrev pub LineFault : Parts → List ℕ → PlanReason → Type 0
 LineFault before line BadWord = (is_full line ≡ true) × ((said : PlanLine) → ¬ LineSays line said)
 LineFault before line reason = (said : PlanLine) × LineSays line said × IsLineRefused before said reason
 
--- the first faulty line of a text, and why it is faulty: the lines before it spell a plan
+-- the first faulty line of a text, and why it is faulty; the lines before it spell a plan
 pub record IsFirstFault (text : List ℕ) (fault : PlanFault) : Type 0 where
   pub front : List (List ℕ)
   pub faulty : List ℕ
@@ -79,7 +81,7 @@ pub record IsFirstFault (text : List ℕ) (fault : PlanFault) : Type 0 where
   pub refused : LineFault before faulty fault.reason
   pub numbered : fault.line ≡ length front + 1
 
--- why a text is refused: it isn't UTF-8, which is the fault of no line; or else its first faulty line
+-- why a text is refused: it isn't UTF-8, which is the fault of no line, or it has a first faulty line
 abbrev pub PlanFaultOf : List ℕ → PlanFault → Type 0
 PlanFaultOf text fault =
     ((¬ IsUtf8 text) × (fault ≡ record { line = 0; reason = NotUtf8 })) ⊎ (IsUtf8 text × IsFirstFault text fault)

@@ -12,11 +12,11 @@ plan_reason_name BadOrder = codes "BadOrder"
 plan_reason_name NoMirror = codes "NoMirror"
 plan_reason_name Memory = codes "Memory"
 
--- out of memory, at no line
+-- the fault of a text for which memory ran out, at no line
 abbrev pub memory_fault : PlanFault
 memory_fault = record { line = 0; reason = Memory }
 
--- a reason at a line; out of memory has no line
+-- the fault for a reason at a line; out of memory has no line
 abbrev pub fault_at : ℕ → PlanReason → PlanFault
 fault_at line Memory = memory_fault
 fault_at line reason = record { line = line; reason = reason }

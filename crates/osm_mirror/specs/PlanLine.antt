@@ -36,7 +36,7 @@ WordsSay words (Step (Restart mirror format)) =
 WordsSay words (Write w) =
     (m f : List ℕ) × (words ≡ codes "write" ∷ m ∷ format_name w.format ∷ f ∷ []) × IsNumber m w.mirror × IsName f w.file
 
--- the part that a line spells, if its words have one space between each two
+-- the part that a line spells; the line's words have single spaces between them
 abbrev pub LineSays : List ℕ → PlanLine → Type 0
 LineSays line said = WordsSay (slice_split (λ b. b == 32) line) said
 

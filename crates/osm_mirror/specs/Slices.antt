@@ -16,19 +16,19 @@ use Rattle.osm_merge.specs.Slice.{object_order, slice_of, spans, slices, IsWithi
 use Rattle.osm_mirror.specs.Merge.{union_of}
 
 -- A file that is split into sorted files, each within its span, is sorted. It holds the union of their sets, and each
--- of them holds its slice of that.
+-- of them holds its slice of the union.
 abbrev pub SlicesHoldTheFile : Type 0
 SlicesHoldTheFile =
     (bounds : List Object) (bytes : List ℕ) (pieces : List (List ℕ)) (held : List VersionSet) → length bytes < 2 ^ 62
     → IsSorted object_order bounds → IsSplitInto bytes pieces → Pairwise HoldsSorted pieces held
     → Pairwise IsWithin (spans bounds) held → HoldsSorted bytes (union_of held) × (slices bounds (union_of held) ≡ held)
 
--- the sets are the slices of all these sets within a span
+-- the sets `sliced` are the slices of the sets `sets` within a span
 abbrev pub AreSlicesWithin : List VersionSet → Span → List VersionSet → Type 0
 AreSlicesWithin sets span sliced = sliced ≡ map (slice_of span.from span.to) sets
 
--- One run for each span, over the slices of some sets, writes the same as one run over the sets: its OPL files, in
--- sequence, are the OPL file of the one run.
+-- One run for each span, over the slices of some sets, writes the same as one run over the sets: the OPL files of the
+-- runs, in sequence, are the OPL file of the one run.
 abbrev pub SlicesWriteTheRun : Type 0
 SlicesWriteTheRun =
     (selection : Selection) (bounds : List Object) (sets : List VersionSet) (runs : List (List VersionSet))

@@ -10,29 +10,29 @@ use osm_files::{Fault, FileSource, Format, HistorySource, Input, Source, load_an
 use osm_model::Version;
 use std::alloc::Global;
 
-/// The format and the sizes of a file. A number stops at 2^64 - 1.
+/// The format and the sizes of a file. A number above 2^64 - 1 is given as 2^64 - 1.
 #[derive(Clone, Copy, Debug, PartialEq, Eq)]
 pub struct CheckReport {
     /// The file's format.
     pub format: Format,
-    /// The number of its versions, each counted once.
+    /// The number of the file's versions, each counted once.
     pub versions: u64,
-    /// The number of objects of which it holds versions.
+    /// The number of objects of which the file holds versions.
     pub objects: u64,
-    /// Whether it is sorted: no version's key is below that of the version before it.
+    /// Whether the file is sorted: no version's key is below that of the version before it.
     pub sorted: bool,
 }
 
-/// The sizes of a file. A number stops at 2^64 - 1.
+/// The sizes of a file. A number above 2^64 - 1 is given as 2^64 - 1.
 #[derive(Clone, Copy, Debug, PartialEq, Eq)]
 pub(crate) struct Sizes {
-    /// The number of its versions, each counted once.
+    /// The number of the file's versions, each counted once.
     pub(crate) versions: u64,
-    /// The number of objects of which it holds versions.
+    /// The number of objects of which the file holds versions.
     pub(crate) objects: u64,
 }
 
-/// Checks a file whose versions may have any order. All its versions are kept until they are counted.
+/// Checks a file whose versions may have any order. The call keeps all versions until it has counted them.
 ///
 /// # Errors
 ///
@@ -52,13 +52,13 @@ pub fn run_check<R: Input + Drop>(alloc: Global, input: R) -> Result<CheckReport
     })
 }
 
-/// Checks a sorted file in one pass over it, and keeps only the versions of one key. It returns the same report as
-/// [`run_check`].
+/// Checks a sorted file in one pass over it, and keeps only the versions of one key. The report is the one that
+/// [`run_check`] returns.
 ///
 /// # Errors
 ///
-/// The offset and the reason of the first unit that is faulty or whose key is below that of the one before it,
-/// `ReadFault` if the input fails, or `Memory`.
+/// The offset and the reason of the first unit that is faulty or whose version's key is below that of the version
+/// before it; `ReadFault` if the input fails; or `Memory`.
 pub fn run_check_sorted<R: Input + Drop>(alloc: Global, input: R) -> Result<CheckReport, Fault>
     ensures report { IfOk result (λ report. GivesOne (R.can_give input) (λ c. Reports c report)) }
     ensures sorted { IfOk result (λ report. report.sorted ≡ true) }
@@ -96,7 +96,7 @@ fn count<S: Source>(source: &mut S) -> Result<Sizes, Fault>
     }
 }
 
-/// Gives a version that isn't needed any more back to a source, if there is one.
+/// Gives `version`, which isn't needed any more, back to the source, if there is one.
 fn give_back<S: Source>(source: &mut S, version: Option<Version>)
     ensures { source.new ≡ source.old }
 {
@@ -105,7 +105,7 @@ fn give_back<S: Source>(source: &mut S, version: Option<Version>)
     }
 }
 
-/// The sizes with one more version, after the last one before it.
+/// The sizes with one version more: `version`, which comes after `last`.
 fn count_one(sizes: Sizes, last: &Option<Version>, version: &Version) -> Sizes
     ensures versions { result.versions ≡ capped_count (sizes.versions + 1) }
     ensures objects { result.objects ≡ capped_count (sizes.objects + new_objects last.now version.now) }
@@ -116,7 +116,7 @@ fn count_one(sizes: Sizes, last: &Option<Version>, version: &Version) -> Sizes
     }
 }
 
-/// 1 if a version begins an object, 0 if it is of the object of the last one.
+/// 1 if `version` is the first version of its object, 0 if it has the object of `last`.
 fn begins(last: &Option<Version>, version: &Version) -> u64
     ensures { result ≡ new_objects last.now version.now }
 {

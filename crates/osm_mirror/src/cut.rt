@@ -1,22 +1,23 @@
-//! Where an OPL file is cut at an object, so that each of several runs reads only its slice of the file.
-ghost use Rattle.std.specs.Prelude.{◌≡◌, false, Ok, IfOk, OnOk};
-ghost use Rattle.osm_mirror.specs.CutOffset.{IsCutOf, BeginsLinesOf, IsFirstUnder, StartsOpl, GivesOpl};
+//! The offset at which an OPL file is cut at an object, so that each of several runs reads only its slice of the file.
+ghost use Rattle.std.specs.Prelude.{IfOk, IfErr};
+ghost use Rattle.osm_files.specs.Lines.{IsDeviceFault};
+ghost use Rattle.osm_mirror.specs.CutOffset.{IsCutOf, BeginsLinesOf, IsCutRefusal, IsFirstUnder, BeginsAs, ReadsAs};
 
 use opl_line::OplReason;
 use osm_files::{Broken, Fault, Input, OpenAt, Reason, first_version, line_start};
 use osm_merge::Object;
 use std::alloc::Global;
 
-/// The offset of a sorted OPL file before which are the versions whose objects are below `bound`, and from which on are
-/// the others. It is 0, the file's length, or follows the end of a line. It is found by halving: about 30 lines are
-/// read of a file of 1 GB.
+/// The offset at which a sorted OPL file is cut at `bound`. The lines before it have the versions whose objects are
+/// below `bound`, and the lines from it on have the others. It is 0, the file's length, or the offset after the end of
+/// a line. The search halves a range of offsets: it reads about 30 lines of a file of 1 GB.
 ///
-/// Of a file that isn't sorted it is some offset after the end of a line.
+/// For a file that isn't sorted, it is some offset at which a line begins, or the file's length.
 ///
 /// # Errors
 ///
-/// Why a line that was looked at can't be read, with its offset; `ReadFault` where the file can't be read; `TooLong` or
-/// `Memory`. `input` is the file's number.
+/// The reason why a line that the search reads can't be read, at the line's offset. `ReadFault` if the file can't be
+/// read; `TooLong`; or `Memory`. `input` is the file's number.
 pub fn cut_offset<R: Input + Drop, F: OpenAt<R>>(
     alloc: Global,
     file: &F,
@@ -25,6 +26,7 @@ pub fn cut_offset<R: Input + Drop, F: OpenAt<R>>(
 ) -> Result<u64, Fault>
     ensures cut { IfOk result (IsCutOf (F.bytes file.now) bound) }
     ensures begins { IfOk result (BeginsLinesOf (F.bytes file.now)) }
+    ensures refused { IfErr result (IsCutRefusal (F.bytes file.now)) }
 {
     let mut low = 0_u64;
     let mut high = match file.size() {
@@ -41,11 +43,14 @@ pub fn cut_offset<R: Input + Drop, F: OpenAt<R>>(
         }
     }
     let offset = line_start(file, input, low)?;
-    refuse_o5(file, input, offset)?;
+    if begins_as_o5(file, input, offset)? {
+        return Err(Fault::at(input, offset, Reason::Opl(OplReason::NotUtf8)));
+    }
     Ok(offset)
 }
 
-/// Whether the first version at `offset` or after it is below `bound`.
+/// Whether the object of the first version in the lines at `offset` or after it is below `bound`; `false` without such
+/// a version.
 fn is_first_below<R: Input + Drop, F: OpenAt<R>>(
     alloc: Global,
     file: &F,
@@ -53,7 +58,8 @@ fn is_first_below<R: Input + Drop, F: OpenAt<R>>(
     offset: u64,
     bound: Object,
 ) -> Result<bool, Fault>
-    ensures { IfOk result (IsFirstUnder (F.bytes file.now) bound offset) }
+    ensures below { IfOk result (IsFirstUnder (F.bytes file.now) bound offset) }
+    ensures refused { IfErr result (IsCutRefusal (F.bytes file.now)) }
 {
     match first_version(alloc, file, input, offset)? {
         Some(version) => Ok(Object::of(&version).order(&bound).is_lt()),
@@ -61,30 +67,30 @@ fn is_first_below<R: Input + Drop, F: OpenAt<R>>(
     }
 }
 
-/// Refuses lines that begin with the first byte of o5 files. No line begins so that is UTF-8.
-fn refuse_o5<R: Input + Drop, F: OpenAt<R>>(
+/// Whether the bytes of a file from `offset` on begin as an o5 file does. No line of an OPL file begins so.
+fn begins_as_o5<R: Input + Drop, F: OpenAt<R>>(
     file: &F,
     input: usize,
     offset: u64,
-) -> Result<(), Fault>
-    ensures { OnOk result (StartsOpl (F.bytes file.now) offset) }
+) -> Result<bool, Fault>
+    ensures begins { IfOk result (BeginsAs (F.bytes file.now) offset) }
+    ensures refused { IfErr result IsDeviceFault }
 {
     let broken = Fault::at(input, offset, Reason::ReadFault);
     let Ok(mut reader) = file.open_at(offset) else {
         return Err(broken);
     };
-    let is_o5 = begins_as_o5(&mut reader);
+    let is_o5 = reads_o5_start(&mut reader);
     drop(reader);
     match is_o5 {
-        Ok(false) => Ok(()),
-        Ok(true) => Err(Fault::at(input, offset, Reason::Opl(OplReason::NotUtf8))),
+        Ok(is_o5) => Ok(is_o5),
         Err(Broken) => Err(broken),
     }
 }
 
-/// Whether an input begins with the first byte of o5 files.
-fn begins_as_o5<R: Input>(reader: &mut R) -> Result<bool, Broken>
-    ensures { result ≡ Ok false → GivesOpl R.can_give reader.old }
+/// Whether the first byte of an input is that of o5 files.
+fn reads_o5_start<R: Input>(reader: &mut R) -> Result<bool, Broken>
+    ensures { IfOk result (ReadsAs R.can_give reader.old) }
 {
     let mut byte = [0u8; 1];
     if reader.read(&mut byte)? == 0 {

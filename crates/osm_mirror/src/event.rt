@@ -24,7 +24,7 @@ pub enum MirrorEvent<F> {
         /// The format that is written.
         format: Format,
     },
-    /// A mirror is replaced by a new one of its kind that took the file that the old one wrote.
+    /// A new mirror of the same kind takes the file that a mirror writes, and replaces that mirror.
     Restart {
         /// The number of the mirror.
         mirror: usize,
@@ -56,9 +56,9 @@ impl<F> MirrorEvent<F> {
 /// The reply to an event.
 #[derive(Clone, Copy, Debug, PartialEq, Eq)]
 pub enum Reply {
-    /// The file was taken, or the file that a mirror wrote.
+    /// The mirror took the file: the event's own, or the one that a mirror wrote.
     Taken,
-    /// It was refused, and no mirror was changed. A file that is taken is the input 0; a file that a mirror writes is
-    /// the output 1.
+    /// The mirror refused the file, and no mirror was changed. In the fault the input 0 is the file that a mirror
+    /// takes, and the output 1 is the file that a mirror writes.
     Refused(Fault),
 }

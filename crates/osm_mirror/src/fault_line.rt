@@ -10,8 +10,8 @@ use osm_files::{Fault, Reason};
 use osm_model::Memory;
 use std::alloc::Global;
 
-/// The line of a fault, without its end: `NAME: PLACE: REASON`, with the name of the input at the fault's number, or
-/// that of the output if there are no more inputs than that number; `out of memory` for [`Reason::Memory`].
+/// The line of a fault, without its end: `NAME: PLACE: REASON`. The name is the one in `inputs` at the fault's number,
+/// or else `out`, the name of the output. The line of [`Reason::Memory`] is `out of memory`.
 ///
 /// # Errors
 ///
@@ -47,7 +47,7 @@ fn name_at<'a>(names: &[&'a str], place: usize, other: &'a str) -> &'a str
     }
 }
 
-/// The line of a reason at a byte of the file of this name.
+/// The line of `reason` at the offset `place` of the file with the name `name`.
 fn reason_text(alloc: Global, name: &str, place: u64, reason: Reason) -> Result<String, Memory>
     ensures { IfOk result (λ line.
         string_bytes line ≡ name.now ++ codes ": " ++ decimal place ++ codes ": " ++ reason_name reason) }

@@ -4,7 +4,7 @@ ghost use Rattle.std.specs.List.{All};
 ghost use Rattle.osm_files.specs.Held.{Holds};
 ghost use Rattle.osm_files.specs.Verdict.{held_by};
 ghost use Rattle.osm_mirror.specs.Mirror.{new_mirror, after_taking, WhyNotTaken, WhyNotSpelled};
-ghost use Rattle.osm_mirror.specs.Fleet.{mirror_at, IsShort, IsAnswer, mirrors_after, Converges};
+ghost use Rattle.osm_mirror.specs.Fleet.{mirror_at, IsShort, IsReplyTo, mirrors_after, Converges};
 ghost use Rattle.osm_mirror.specs.Event.{IsWithin};
 
 use crate::event::{Event, Reply};
@@ -24,7 +24,7 @@ pub struct Fleet {
 impl Model for Fleet {
     ghost use Rattle.std.specs.Prelude.{List};
     ghost use Rattle.osm_mirror.specs.Mirror.{MirrorData, mirrors_code};
-    ghost use Rattle.osm_mirror.specs.Fleet.{AreKept};
+    ghost use Rattle.osm_mirror.specs.Fleet.{AreOwnSnapshots};
 
     ghost Value = { List MirrorData };
 
@@ -32,11 +32,11 @@ impl Model for Fleet {
 
     ghost view = { λ f. f.mirrors.items };
 
-    ghost invariant = { λ f. AreKept f.mirrors.items };
+    ghost invariant = { λ f. AreOwnSnapshots f.mirrors.items };
 }
 
 impl Fleet {
-    /// A new mirror of each of these kinds, in this order. They hold nothing yet.
+    /// A fleet of one new mirror for each of `kinds`, in their order. The mirrors hold nothing yet.
     ///
     /// # Errors
     ///
@@ -58,7 +58,7 @@ impl Fleet {
         self.mirrors.len()
     }
 
-    /// The mirror of this number, which is below the number of mirrors.
+    /// The mirror with the number `place`, which must be below the number of mirrors.
     pub fn mirror(&self, place: usize) -> &Mirror
         requires { place < length self.now }
         ensures { result.now ≡ mirror_at self.now place }
@@ -66,23 +66,25 @@ impl Fleet {
         &self.mirrors[place]
     }
 
-    /// Whether these events may be run: each mirror number is below the number of mirrors.
+    /// Whether `events` may be run: each mirror number in them is below the number of mirrors.
     pub fn may_run(&self, events: &[Event]) -> bool
         ensures { IsTrue result ↔ All (IsWithin (length self.now)) events.now }
     {
         are_within(self.mirrors.len(), events)
     }
 
-    /// Runs these events, in sequence, and returns a reply for each. Every mirror number is below the number of
+    /// Runs `events` in sequence, and returns a reply to each. Each mirror number in them must be below the number of
     /// mirrors.
     ///
-    /// For all events, in any order, with repeats and refusals: afterwards each mirror's snapshot is that of all that
-    /// reached it. A latest mirror holds exactly that snapshot, and a full one all that reached it, if no latest one
-    /// passed to it. A Pass and a Restart write and read the bytes of the format, as between machines.
+    /// For all events, in any order, with any repeats and refusals, each mirror's snapshot is afterwards the snapshot
+    /// of all versions that reached it. A latest mirror holds exactly that snapshot. A full mirror holds all versions
+    /// that reached it, if they came only through full mirrors. `Pass` and `Restart` write and read whole files, as
+    /// mirrors on different machines would.
     ///
     /// # Errors
     ///
-    /// `Memory`, if there is none for the replies, before any event runs. Later, out of memory is a reply.
+    /// `Memory` if memory runs out for the list of replies; then no event has run. If memory runs out later, a reply
+    /// reports it.
     pub fn run(&mut self, events: &[Event]) -> Result<Vec<Reply>, Memory>
         requires { All (IsWithin (length self.old)) events.now }
         ensures run { IfOk result (λ replies. Converges self.old events.now replies.items self.new) }
@@ -100,7 +102,7 @@ impl Fleet {
     /// Runs one event.
     fn answer(&mut self, event: &Event) -> Reply
         requires { IsWithin (length self.old) event.now }
-        ensures answer { IsAnswer self.old event.now result }
+        ensures answer { IsReplyTo self.old event.now result }
         ensures behind { self.new ≡ mirrors_after self.old event.now result }
     {
         match *event {
@@ -146,7 +148,7 @@ impl Fleet {
         self.take(to, &file)
     }
 
-    /// A new mirror takes the file that the old one writes, and replaces it.
+    /// A new mirror takes the file that the old one writes, and replaces the old one.
     fn restart(&mut self, mirror: usize, format: Format) -> Result<(), Fault>
         requires { mirror < length self.old }
         ensures answer { MatchResult result
@@ -165,7 +167,7 @@ impl Fleet {
     }
 }
 
-/// Whether all of these events name only mirrors below `count`.
+/// Whether all mirror numbers in `events` are below `count`.
 fn are_within(count: usize, events: &[Event]) -> bool
     ensures { IsTrue result ↔ All (IsWithin count) events.now }
 {

@@ -15,17 +15,18 @@ use osm_files::{Fault, Format, Input, Output};
 use osm_merge::{Counts, NoProgress, Selection};
 use std::alloc::Global;
 
-/// Sorts and merges files whose versions may have any order: appends the one file of this format that holds the
+/// Sorts and merges files whose versions may have any order: appends the one file of the format `format` that holds the
 /// versions of all inputs, each once.
 ///
-/// `read` is the sum of the numbers of versions of the inputs, `written` counts those written, `compared` is 0.
+/// In the counts, `read` is the sum of the inputs' numbers of versions, `written` is the number of versions written,
+/// and `compared` is 0.
 ///
 /// # Errors
 ///
-/// The inputs are numbered from 0, and the output has the number of the inputs. If an input can't be read, the fault
-/// has its number, the reason and the offset, and nothing was written; if several can't, it is the fault of one of
-/// them. `WriteFault` if the output failed, `TooLong` if a file has 2^62 bytes or more, `Memory` if a growth was
-/// refused. The output written then is a front of the file.
+/// The inputs are numbered from 0, and the number of the output is the number of inputs. If an input can't be read, the
+/// fault has its number, the reason and the offset, and nothing was written. If several can't be read, it is the fault
+/// of one of them. `WriteFault` if the output failed, `TooLong` if a file has 2^62 bytes or more, `Memory` if memory
+/// ran out. The bytes that were written are a front of the file.
 pub fn run_sort<R: Input + Drop, W: Output>(
     alloc: Global,
     inputs: Vec<R>,
@@ -42,18 +43,19 @@ pub fn run_sort<R: Input + Drop, W: Output>(
     run_held(alloc, Selection::All, inputs, format, out)
 }
 
-/// Applies changes: appends the one file of this format that holds the newest one of each object among the versions of
-/// all inputs, if it isn't a deletion; with history, all versions. The distribution of the versions over the inputs
-/// makes no difference.
+/// Applies changes: appends the one file of the format `format` that holds the newest version of each object in all
+/// inputs, unless it is a deletion. If `with_history` is set, the file holds all versions. It makes no difference which
+/// of the inputs has a version.
 ///
-/// `read` is the sum of the numbers of versions of the inputs, `written` counts those written, `compared` is 0.
+/// In the counts, `read` is the sum of the inputs' numbers of versions, `written` is the number of versions written,
+/// and `compared` is 0.
 ///
 /// # Errors
 ///
-/// The inputs are numbered from 0, and the output has the number of the inputs. If an input can't be read, the fault
-/// has its number, the reason and the offset, and nothing was written; if several can't, it is the fault of one of
-/// them. `WriteFault` if the output failed, `TooLong` if a file has 2^62 bytes or more, `Memory` if a growth was
-/// refused. The output written then is a front of the file.
+/// The inputs are numbered from 0, and the number of the output is the number of inputs. If an input can't be read, the
+/// fault has its number, the reason and the offset, and nothing was written. If several can't be read, it is the fault
+/// of one of them. `WriteFault` if the output failed, `TooLong` if a file has 2^62 bytes or more, `Memory` if memory
+/// ran out. The bytes that were written are a front of the file.
 pub fn run_apply<R: Input + Drop, W: Output>(
     alloc: Global,
     inputs: Vec<R>,
@@ -75,16 +77,17 @@ pub fn run_apply<R: Input + Drop, W: Output>(
     }
 }
 
-/// The map at a moment: appends the one file of this format that holds the newest one of each object among the versions
-/// up to the moment, if it isn't a deletion.
+/// Appends the map at the moment `time`: the one file of the format `format` that holds the newest version of each
+/// object up to that moment, unless it is a deletion.
 ///
-/// `read` is the number of versions of the input, `written` counts those written, `compared` is 0.
+/// In the counts, `read` is the number of the input's versions, `written` is the number of versions written, and
+/// `compared` is 0.
 ///
 /// # Errors
 ///
-/// The input has the number 0 and the output 1. If the input can't be read, the fault has its reason and the offset,
+/// The input has the number 0 and the output 1. If the input can't be read, the fault has the reason and the offset,
 /// and nothing was written. `WriteFault` if the output failed, `TooLong` if a file has 2^62 bytes or more, `Memory` if
-/// a growth was refused. The output written then is a front of the file.
+/// memory ran out. The bytes that were written are a front of the file.
 pub fn run_time_filter<R: Input + Drop, W: Output>(
     alloc: Global,
     input: R,
@@ -102,16 +105,17 @@ pub fn run_time_filter<R: Input + Drop, W: Output>(
     run_one(alloc, Selection::StateVisible(time), input, format, out)
 }
 
-/// The history of a period: appends the one file of this format that holds the versions, deletions too, that came
-/// before `to` and were current at `from` or later.
+/// Appends the history of a period: the one file of the format `format` that holds the versions, deletions too, that
+/// came before `to` and were current at `from` or later.
 ///
-/// `read` is the number of versions of the input, `written` counts those written, `compared` is 0.
+/// In the counts, `read` is the number of the input's versions, `written` is the number of versions written, and
+/// `compared` is 0.
 ///
 /// # Errors
 ///
-/// The input has the number 0 and the output 1. If the input can't be read, the fault has its reason and the offset,
+/// The input has the number 0 and the output 1. If the input can't be read, the fault has the reason and the offset,
 /// and nothing was written. `WriteFault` if the output failed, `TooLong` if a file has 2^62 bytes or more, `Memory` if
-/// a growth was refused. The output written then is a front of the file.
+/// memory ran out. The bytes that were written are a front of the file.
 pub fn run_period_filter<R: Input + Drop, W: Output>(
     alloc: Global,
     input: R,
@@ -130,7 +134,7 @@ pub fn run_period_filter<R: Input + Drop, W: Output>(
     run_one(alloc, Selection::Between { from, to }, input, format, out)
 }
 
-/// Writes the selection of the versions of one file, which may have any order.
+/// Writes the selection of the versions of one file, whose versions may have any order.
 fn run_one<R: Input + Drop, W: Output>(
     alloc: Global,
     selection: Selection,
@@ -150,7 +154,7 @@ fn run_one<R: Input + Drop, W: Output>(
     run_held(alloc, selection, inputs, format, out)
 }
 
-/// Writes the selection of the versions of files, which may have any order.
+/// Writes the selection of the versions of several files, whose versions may have any order.
 fn run_held<R: Input + Drop, W: Output>(
     alloc: Global,
     selection: Selection,

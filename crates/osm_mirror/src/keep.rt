@@ -1,4 +1,4 @@
-//! The versions that a mirror keeps, and the numbers of a file that it took.
+//! The versions that a mirror keeps, and the size of a file that it took.
 
 /// The versions that a mirror keeps of those that reach it.
 #[derive(Clone, Copy, Debug, PartialEq, Eq)]
@@ -9,9 +9,9 @@ pub enum Keep {
     Latest,
 }
 
-/// The numbers of a file that a mirror took. A number stops at 2^64 - 1.
+/// The size of a file that a mirror took. A number above 2^64 - 1 is given as 2^64 - 1.
 #[derive(Clone, Copy, Debug, PartialEq, Eq)]
 pub struct Taken {
-    /// The versions of the file, each counted once, even if the mirror held them before.
+    /// The number of the file's versions, each counted once, even if the mirror held them before.
     pub versions: u64,
 }

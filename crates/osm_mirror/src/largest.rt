@@ -2,7 +2,8 @@
 ghost use Rattle.std.specs.Prelude.{◌≡◌};
 ghost use Rattle.osm_mirror.specs.Largest.{IsLargest, larger};
 
-/// The number of the first of the largest files, by the size of each that counts; none where none counts.
+/// The number of the largest file, and of the first one if several are equally large. A file whose size is `None`
+/// doesn't count. `None` if no file counts.
 pub fn largest_file(sizes: &[Option<u64>]) -> Option<usize>
     ensures { IsLargest sizes.now result }
 {
@@ -16,7 +17,8 @@ pub fn largest_file(sizes: &[Option<u64>]) -> Option<usize>
     }
 }
 
-/// The larger one of the largest file before `number` and of that file, whose size is `size`; of equal ones the first.
+/// The larger one of `largest` and the file `number`, whose size is `size`; the first of two equal ones. `largest` is
+/// the largest file before `number`, with its size.
 fn larger(largest: Option<(usize, u64)>, number: usize, size: Option<u64>) -> Option<(usize, u64)>
     ensures { result ≡ larger largest number size }
 {

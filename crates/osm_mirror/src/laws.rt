@@ -1,5 +1,5 @@
-//! Laws of merges, fleets and files that are split, each the contract of a function with an empty body. They run no
-//! code.
+//! Laws of merges, fleets and files that are split. Each is the `ensures` clause of a function with an empty body,
+//! which runs no code.
 ghost use Rattle.osm_mirror.specs.FleetLaws.{LatestMirrorsAgree, FullMirrorsAgree};
 ghost use Rattle.osm_mirror.specs.Merges.{MergesOfTheSameFiles};
 ghost use Rattle.osm_mirror.specs.Shards.{PartsHoldTheFile, ShardsWriteTheRun};
@@ -12,14 +12,14 @@ pub fn merges_of_the_same_files()
     ensures { MergesOfTheSameFiles }
 {}
 
-/// Two latest mirrors of a new fleet that the same files reached hold the same history, and write the same bytes in one
-/// format, through any kinds of mirrors.
+/// If the same files reached two latest mirrors of a new fleet, through any kinds of mirrors, the two hold the same
+/// history, and write the same bytes in each format.
 pub fn latest_mirrors_agree()
     ensures { LatestMirrorsAgree }
 {}
 
-/// Two full mirrors of a new fleet that the same files reached, only through full ones, hold the same history, and
-/// write the same bytes in one format.
+/// If the same files reached two full mirrors of a new fleet, through full mirrors only, the two hold the same history,
+/// and write the same bytes in each format.
 pub fn full_mirrors_agree()
     ensures { FullMirrorsAgree }
 {}
@@ -29,29 +29,30 @@ pub fn sorted_runs_hold_the_file()
     ensures { SortedRunsHoldTheFile }
 {}
 
-/// A run over a file in any order writes the same bytes as a run over the files that this one is split into.
+/// A run over a file in any order writes the same bytes as a run over the files into which that file is split.
 pub fn sorted_runs_write_the_file()
     ensures { SortedRunsWriteTheFile }
 {}
 
-/// A file that is split at objects into sorted files, each within its span, is sorted, and each of these holds its
-/// slice.
+/// If a file is split at objects into sorted files, each within its span, the file is sorted, and each of the sorted
+/// files holds its slice.
 pub fn slices_hold_the_file()
     ensures { SlicesHoldTheFile }
 {}
 
-/// One run for each span, over the slices of the inputs' sets, writes the same bytes as one run over the inputs.
+/// The runs over the slices of the inputs' sets, one run for each span, write the same bytes as one run over the
+/// inputs.
 pub fn slices_write_the_run()
     ensures { SlicesWriteTheRun }
 {}
 
-/// An OPL file whose parts between offsets are sorted files, each within its span, is sorted, and its parts hold its
-/// slices.
+/// If the parts of an OPL file between offsets are sorted files, each within its span, the file is sorted, and each
+/// part holds its slice.
 pub fn parts_hold_the_file()
     ensures { PartsHoldTheFile }
 {}
 
-/// The runs over the slices of several files, one for each span, write what one run over the files writes.
+/// The runs over the slices of several files, one run for each span, write the same bytes as one run over the files.
 pub fn shards_write_the_run()
     ensures { ShardsWriteTheRun }
 {}

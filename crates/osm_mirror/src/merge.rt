@@ -12,18 +12,18 @@ use osm_files::{Fault, FileSource, Format, Input, Output, Sink};
 use osm_merge::{Counts, merge_into};
 use std::alloc::Global;
 
-/// Merges sorted files: appends the one file of this format that holds the versions of all inputs, each once.
+/// Merges sorted files: appends the one file of the format `format` that holds the versions of all inputs, each once.
 ///
 /// If it returns `Ok`, every input is a sorted file of its grammar, and the bytes written are the one spelling of the
-/// union of the versions held. The inputs are read in parallel, one key at a time, and a version is written before the
-/// next one of its input is read.
+/// union of the inputs' versions. The inputs are read in parallel, one key at a time. Of each input's versions only
+/// those of one key, and the first one after them, are in memory.
 ///
 /// # Errors
 ///
-/// The inputs are numbered from 0, and the output has the number of the inputs. If an input can't be read or isn't
-/// sorted, the fault has its number, the reason and the offset; if this is so for several, it is the fault of one of
-/// them. `WriteFault` if the output failed, `TooLong` if a file has 2^62 bytes or more, `Memory` if a growth was
-/// refused. The output written then is a front of the file.
+/// The inputs are numbered from 0, and the number of the output is the number of inputs. If an input can't be read or
+/// isn't sorted, the fault has its number, the reason and the offset. If several inputs are faulty, it is the fault of
+/// one of them. `WriteFault` if the output failed, `TooLong` if a file has 2^62 bytes or more, `Memory` if memory ran
+/// out. The bytes that were written are a front of the file.
 pub fn run_merge<R: Input + Drop, W: Output>(
     alloc: Global,
     inputs: Vec<R>,
@@ -56,7 +56,7 @@ fn open_sources<R: Input + Drop>(alloc: Global, inputs: Vec<R>) -> Result<Vec<Fi
     Ok(sources)
 }
 
-/// Appends the source of one of `count` readers, with the next number.
+/// Appends the source of `reader`, which is one of `count` readers, with the next number.
 fn push_source<R: Input + Drop>(
     alloc: Global,
     count: usize,

@@ -15,11 +15,11 @@ use osm_model::{History, Memory};
 use std::alloc::Global;
 use std::marker::Model;
 
-/// A copy of the map, in memory: a full one holds the whole history that reached it, a latest one the newest version of
-/// each object.
+/// A copy of the map in memory. A full mirror holds the whole history that reached it; a latest mirror holds the newest
+/// version of each object.
 ///
-/// For all files that mirrors take, in any order and with any repetitions, each mirror's snapshot is that of all that
-/// reached it.
+/// Whatever files mirrors take, in any order and with any repetitions, each mirror's snapshot is the snapshot of all
+/// versions that reached it.
 #[derive(Drop)]
 pub struct Mirror {
     alloc: Global,
@@ -28,7 +28,7 @@ pub struct Mirror {
 }
 
 impl Model for Mirror {
-    ghost use Rattle.osm_mirror.specs.Mirror.{MirrorData, mirror_code, IsSound};
+    ghost use Rattle.osm_mirror.specs.Mirror.{MirrorData, mirror_code, IsMirror};
 
     ghost Value = { MirrorData };
 
@@ -36,7 +36,7 @@ impl Model for Mirror {
 
     ghost view = { λ m. record { keep = m.keep; held = m.held } };
 
-    ghost invariant = { λ m. IsSound (record { keep = m.keep; held = m.held }) };
+    ghost invariant = { λ m. IsMirror (record { keep = m.keep; held = m.held }) };
 }
 
 impl Mirror {
@@ -54,7 +54,7 @@ impl Mirror {
         Mirror::new(alloc, Keep::Latest)
     }
 
-    /// A mirror that keeps `keep`, and holds nothing yet.
+    /// A mirror that keeps what `keep` names, and holds nothing yet.
     pub(crate) fn new(alloc: Global, keep: Keep) -> Mirror
         ensures { result ≡ spec.new_mirror keep }
     {
@@ -72,10 +72,10 @@ impl Mirror {
         Mirror::new(self.alloc, self.keep)
     }
 
-    /// The history that it holds.
+    /// The history that the mirror holds.
     pub fn held(&self) -> &History
         ensures value { result.now ≡ self.now.held }
-        ensures latest { spec.IsKept self.now }
+        ensures latest { spec.IsOwnSnapshot self.now }
     {
         &self.held
     }
@@ -98,12 +98,13 @@ impl Mirror {
     /// Takes the versions of a file, which may have any format and any order of its versions. A full mirror then holds
     /// the union of its history and the file's set, a latest one the snapshot of that union.
     ///
-    /// The history held isn't copied. The file is read first, and all memory is allocated, so that a refusal changes
-    /// nothing.
+    /// The mirror's own history isn't copied. The call first reads the file and allocates all memory, so a refusal
+    /// changes nothing.
     ///
     /// # Errors
     ///
-    /// The offset and the reason of the file's first faulty unit, as the input 0; or `Memory`. The mirror is unchanged.
+    /// The offset and the reason of the file's first faulty unit, with the input number 0; or `Memory`. The mirror is
+    /// unchanged.
     pub fn take(&mut self, file: &[u8]) -> Result<Taken, Fault>
         ensures taken { IfOk result (spec.TakesFile file.now self.old self.new) }
         ensures refused { IfErr result (spec.WhyNotTaken file.now) }
@@ -126,11 +127,11 @@ impl Mirror {
         }
     }
 
-    /// The one file of this format that holds the mirror's history.
+    /// The one file of the format `format` that holds the mirror's history.
     ///
     /// # Errors
     ///
-    /// `Memory`; or `TooLong` if that file would have 2^62 bytes or more, as the output 1.
+    /// `Memory`; or `TooLong`, with the output number 1, if the file would have 2^62 bytes or more.
     pub fn write(&self, format: Format) -> Result<Vec<u8>, Fault>
         ensures written { IfOk result (λ file. file.items ≡ spell format self.now.held) }
         ensures accepted { IfOk result (λ file. HoldsSorted file.items self.now.held) }
@@ -144,7 +145,8 @@ impl Mirror {
     }
 }
 
-/// Why nothing was written to memory: the file would be too long, or memory was refused, by which the output fails too.
+/// The fault of a file that wasn't written to memory. A fault other than `TooLong` becomes `Memory`: an output in
+/// memory fails only if memory runs out.
 fn unwritten(fault: Fault) -> Fault
     ensures long { fault.reason ≡ reason.TooLong → result ≡ fault }
     ensures other { (fault.reason ≡ reason.TooLong → ⊥) → result ≡ memory_fault }

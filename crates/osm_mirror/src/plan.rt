@@ -1,4 +1,4 @@
-//! Plans: the mirrors of a fleet, their events, and the files that are made in the end.
+//! Plans: the mirrors of a fleet, their events, and the files that the mirrors write at the end.
 ghost use Rattle.std.specs.Prelude.{◌≡◌, ◌⊎◌, OnOk, IfOk, IfErr};
 ghost use Rattle.osm_mirror.specs.declared.plan_line.PlanLine.TheVariants as line;
 ghost use Rattle.osm_mirror.specs.declared.plan_fault.PlanReason.TheVariants as why;
@@ -14,23 +14,23 @@ use crate::plan_line::{PlanLine, PlanWrite, read_plan_line};
 use std::alloc::Global;
 use std::str;
 
-/// The mirrors of a fleet, their events, and the files that are made in the end.
+/// The mirrors of a fleet, their events, and the files that the mirrors write at the end.
 #[derive(Debug, Drop)]
 pub struct Plan {
     /// The kind of each mirror. The mirrors are numbered from 0, in this order.
     pub mirrors: Vec<Keep>,
     /// The events, in sequence.
     pub steps: Vec<Step>,
-    /// The files that are made once all steps are done, in sequence.
+    /// The files that the mirrors write once all steps are done, in sequence.
     pub writes: Vec<PlanWrite>,
 }
 
-/// The plan that a text spells. Its mirror numbers are below the number of its mirrors.
+/// The plan that a text spells. Each mirror number in it is below the number of its mirrors.
 ///
 /// # Errors
 ///
-/// `NotUtf8` if the text isn't UTF-8; else the first faulty line and its reason: `BadWord`, `BadOrder` or `NoMirror`,
-/// the first that applies in this order; `Memory` if a growth was refused.
+/// `NotUtf8` if the text isn't UTF-8. Otherwise the first faulty line and its reason: `BadWord`, `BadOrder` or
+/// `NoMirror`, the first that applies in this order. `Memory` if memory ran out.
 pub fn read_plan(alloc: Global, text: &[u8]) -> Result<Plan, PlanFault>
     ensures plan { IfOk result (PlanSpells text.now) }
     ensures named { IfOk result NamesItsMirrors }
@@ -47,7 +47,7 @@ pub fn read_plan(alloc: Global, text: &[u8]) -> Result<Plan, PlanFault>
 ///
 /// # Errors
 ///
-/// The first faulty line and its reason; `Memory`.
+/// The first faulty line and its reason, or `Memory`.
 fn read_lines(alloc: Global, text: &str) -> Result<Plan, PlanFault>
     ensures plan { IfOk result (λ plan. LinesSpell (lines_of text.now) (parts_of plan)) }
     ensures named { IfOk result NamesItsMirrors }
@@ -69,11 +69,11 @@ fn read_lines(alloc: Global, text: &str) -> Result<Plan, PlanFault>
 }
 
 impl Plan {
-    /// Adds the part of a line; an empty line has none.
+    /// Adds the part that a line spells; an empty line spells none.
     ///
     /// # Errors
     ///
-    /// The reason of the line; `Memory`.
+    /// The reason why the line is faulty, or `Memory`.
     fn add_line(&mut self, alloc: Global, line: &str) -> Result<(), PlanReason>
         ensures added { OnOk result (IsLineAdded line.now (parts_of self.old) (parts_of self.new)) }
         ensures refused { IfErr result (λ reason. (reason ≡ why.Memory) ⊎ LineFault (parts_of self.old) line.now reason) }
@@ -113,7 +113,7 @@ impl Plan {
         Ok(self.steps.push(step)?)
     }
 
-    /// Adds a file that is made in the end.
+    /// Adds a file that a mirror writes at the end.
     fn add_write(&mut self, write: PlanWrite) -> Result<(), PlanReason>
         ensures added { OnOk result (IsAdded (parts_of self.old) (line.Write write) (parts_of self.new)) }
         ensures refused { IfErr result (λ reason. (reason ≡ why.Memory) ⊎ IsLineRefused (parts_of self.old) (line.Write write) reason) }

@@ -10,14 +10,14 @@ use thiserror::Error;
 #[derive(Clone, Copy, Debug, PartialEq, Eq, Error)]
 #[error("line {line}: {}", .reason.name())]
 pub struct PlanFault {
-    /// The number of the line, from 1, including empty lines; 0 if the fault is of no line.
+    /// The number of the line, counted from 1 with the empty lines; 0 if the fault is of no line.
     pub line: u64,
-    /// Why.
+    /// The reason for the refusal.
     pub reason: PlanReason,
 }
 
 impl PlanFault {
-    /// This reason at the line of this number; out of memory has line 0.
+    /// The fault for `reason` at the line with the number `line`. Out of memory has the line 0.
     pub(crate) fn at(line: u64, reason: PlanReason) -> PlanFault
         ensures { result ≡ fault_at line reason }
     {
@@ -34,8 +34,8 @@ pub enum PlanReason {
     /// The text isn't UTF-8. The fault is of no line.
     #[error("not UTF-8")]
     NotUtf8,
-    /// A line has an unknown first word, a wrong number of words, an empty word, or a word that isn't the number or the
-    /// format that its place requires.
+    /// A line has an unknown first word, a wrong number of words, an empty word, or another word where a number or a
+    /// format is required.
     #[error("ill-formed line")]
     BadWord,
     /// A mirror line comes after another line, or a step after a write line.
@@ -44,7 +44,7 @@ pub enum PlanReason {
     /// A line names a mirror that no line before it has made.
     #[error("no such mirror")]
     NoMirror,
-    /// Memory was refused. The fault is of no line.
+    /// Memory ran out. The fault is of no line.
     #[error("out of memory")]
     Memory,
 }

@@ -1,4 +1,4 @@
-//! Laws of plan files, each the contract of a function with an empty body. They run no code.
+//! Laws of plan files. Each is the `ensures` clause of a function with an empty body, which runs no code.
 ghost use Rattle.osm_mirror.specs.PlanLaws.{OnePlan, FaultySpellsNothing};
 
 /// A text spells at most one plan.

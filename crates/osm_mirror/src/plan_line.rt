@@ -15,7 +15,7 @@ use std::alloc::Global;
 /// The most digits of a mirror's number.
 const MOST_DIGITS: usize = 9;
 
-/// A file that is made once all steps are done.
+/// A file that a mirror writes once all steps are done.
 #[derive(Debug, Drop)]
 pub struct PlanWrite {
     /// The number of the mirror that is written, from 0.
@@ -33,15 +33,15 @@ pub(crate) enum PlanLine {
     Mirror(Keep),
     /// A step.
     Step(Step),
-    /// A file that is made in the end.
+    /// A file that a mirror writes at the end.
     Write(PlanWrite),
 }
 
-/// The part that a line that isn't empty spells.
+/// The part of a plan that `line` spells, which isn't empty.
 ///
 /// # Errors
 ///
-/// `BadWord` if it spells none; `Memory`.
+/// `BadWord` if the line spells no part, or `Memory`.
 pub(crate) fn read_plan_line(alloc: Global, line: &str) -> Result<PlanLine, PlanReason>
     ensures says { IfOk result (LineSays line.now) }
     ensures nothing { IfErr result (IsNoneOrMemory (LineSays line.now)) }
@@ -148,7 +148,7 @@ fn are_digits(word: &str) -> bool
     word.bytes().all(|byte| byte.is_ascii_digit())
 }
 
-/// The format of this name.
+/// The format with the name `word`.
 fn read_format(word: &str) -> Result<Format, PlanReason>
     ensures format { IfOk result (λ format. word.now ≡ format_name format) }
     ensures none { IfErr result (IsNone (λ format. word.now ≡ format_name format)) }

@@ -13,20 +13,21 @@ use osm_files::{Fault, Format, Input, Output, Sink};
 use osm_merge::{Counts, Progress, Selection, merge_selected};
 use std::alloc::Global;
 
-/// Appends the one file of this format that holds the selection of the versions of all inputs, each once.
+/// Appends the one file of the format `format` that holds the selection of the versions of all inputs, each once.
 ///
-/// If it returns `Ok`, every input is a file of its grammar, and sorted if its order is `Sorted`, and the bytes written
-/// are the one spelling of the selection of the union of the versions held. Each input of any order is read to its end
-/// before anything is written; the sorted ones are read in parallel, one key at a time. `progress` observes, and
-/// changes nothing.
+/// If it returns `Ok`, every input is a file of its grammar, and sorted if its order is `Sorted`. The bytes written are
+/// the one spelling of the selection of the union of the inputs' versions.
+///
+/// Each input of any order is read to its end before anything is written. The sorted inputs are read in parallel, one
+/// key at a time. `progress` observes the run, and changes nothing.
 ///
 /// # Errors
 ///
-/// The inputs are numbered from 0, and the output has the number of the inputs. If an input can't be read, or isn't
-/// sorted though its order is `Sorted`, the fault has its number, the reason and the offset; if this is so for several,
-/// it is the fault of one of them. `WriteFault` if the output failed, `TooLong` if a file has 2^62 bytes or more,
-/// `Memory` if a growth was refused. If an input of any order is refused, nothing was written. Otherwise the output
-/// written is a front of the file.
+/// The inputs are numbered from 0, and the number of the output is the number of inputs. If an input can't be read, or
+/// isn't sorted though its order is `Sorted`, the fault has its number, the reason and the offset. If several inputs
+/// are faulty, it is the fault of one of them. `WriteFault` if the output failed, `TooLong` if a file has 2^62 bytes or
+/// more, `Memory` if memory ran out. If an input of any order is refused, nothing was written. Otherwise the bytes that
+/// were written are a front of the file.
 pub fn run_selected<R: Input + Drop, W: Output, P: Progress>(
     alloc: Global,
     selection: Selection,

@@ -13,12 +13,12 @@ use osm_files::{Fault, FileSource, Format, Input, Output, Sink};
 use osm_merge::{Counts, Outside, Progress, Selection, Span, Within, merge_selected};
 use std::alloc::Global;
 
-/// What a run for a slice writes: what is selected of the objects within a span.
+/// The slice that a run writes: the selected versions of the objects within a span.
 #[derive(Clone, Copy, Debug, PartialEq, Eq)]
 pub struct Slice {
-    /// The objects.
+    /// The span of the objects.
     pub span: Span,
-    /// Which of their versions.
+    /// The selection of their versions.
     pub selection: Selection,
 }
 
@@ -27,19 +27,20 @@ pub struct Slice {
 pub struct SliceFile<R> {
     /// The reader.
     pub reader: R,
-    /// What becomes of versions outside of the slice: those of a whole file are dropped, and those of a part of a file
-    /// that is to be the slice are refused.
+    /// The effect of a version outside of the span. In a whole file it is dropped. In a part of a file, which is to
+    /// have only the slice, it is refused.
     pub outside: Outside,
 }
 
-/// Appends the one file of this format that holds a slice of what is selected of the versions of all inputs, each once.
+/// Appends the one file of the format `format` that holds a slice of the selection of the versions of all inputs, each
+/// once.
 ///
-/// Of a whole file all up to the upper bound is read. `progress` looks on, and changes nothing.
+/// A whole file is read only up to the upper bound. `progress` observes the run, and changes nothing.
 ///
 /// # Errors
 ///
-/// As of a run over sorted files. A version of a part of a file that is outside of the slice is refused as `Unsorted`,
-/// at the place 0. The inputs are numbered from 0, and the output has the number of the inputs.
+/// As for a run over sorted files. A version of a part of a file that is outside of the span is refused as `Unsorted`,
+/// at the offset 0. The inputs are numbered from 0, and the number of the output is the number of inputs.
 pub fn run_slice<R: Input + Drop, W: Output, P: Progress>(
     alloc: Global,
     slice: Slice,
@@ -78,7 +79,7 @@ fn open_slices<R: Input + Drop>(
     Ok(sources)
 }
 
-/// Appends the source of one of `count` inputs within a span, with the next number.
+/// Appends the source of `file` within `span`, with the next number. `file` is one of `count` inputs.
 fn push_slice<R: Input + Drop>(
     alloc: Global,
     count: usize,

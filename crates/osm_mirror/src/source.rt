@@ -1,4 +1,4 @@
-//! The sources of files: streams of those that are sorted, and histories of the others.
+//! The sources of files: a stream for each sorted file, and a history for each of the others.
 ghost use Rattle.std.specs.Prelude.{◌≡◌, [], ◌∷◌, ◌++◌, length, IfOk, IfErr, OnOk};
 ghost use Rattle.osm_files.specs.Fault.{memory_fault};
 ghost use Rattle.osm_merge.specs.Giving.{SomeInputsGive};
@@ -12,15 +12,15 @@ use std::alloc::Global;
 /// The versions of a file, ascending.
 #[derive(Drop)]
 pub enum RunSource<R: Input> {
-    /// Of a sorted file, which is read as it is needed.
+    /// The versions of a sorted file, which is read as it is needed.
     Streamed(FileSource<R>),
-    /// Of a file that was read to its end.
+    /// The versions of a file that was read to its end.
     Held(HistorySource),
 }
 
 impl<R: Input> Source for RunSource<R> {
-    ghost use Rattle.osm_mirror.specs.Still.{SourceCanGive, source_one, left_of, number_of, failed_of};
-    ghost use Rattle.osm_mirror.specs.Still.{source_possible, source_ascends};
+    ghost use Rattle.osm_mirror.specs.SourceRest.{SourceCanGive, source_one, left_of, number_of, failed_of};
+    ghost use Rattle.osm_mirror.specs.SourceRest.{source_possible, source_ascends};
 
     ghost can_give = { λ s still. SourceCanGive R.can_give s still };
 
@@ -53,8 +53,8 @@ impl<R: Input> Source for RunSource<R> {
     }
 }
 
-/// The files as sources, numbered from 0. Those of any order were read to their ends; nothing was read of the others
-/// yet.
+/// The files as sources, numbered from 0. The call reads each file of any order to its end, and nothing of a sorted
+/// file.
 ///
 /// # Errors
 ///
@@ -75,7 +75,7 @@ pub fn open_inputs<R: Input + Drop>(
     Ok(sources)
 }
 
-/// Appends the source of one of `count` files, with the next number.
+/// Appends the source of `file`, which is one of `count` files, with the next number.
 fn push_input<R: Input + Drop>(
     alloc: Global,
     count: usize,
@@ -90,7 +90,7 @@ fn push_input<R: Input + Drop>(
     Ok(sources.push(open_input(alloc, sources.len(), count, file)?)?)
 }
 
-/// The file as the source of the input `number`, which is one of `count`.
+/// The file as the source of the input `number`, which is one of `count` inputs.
 fn open_input<R: Input + Drop>(
     alloc: Global,
     number: usize,
@@ -107,7 +107,7 @@ fn open_input<R: Input + Drop>(
     }
 }
 
-/// A sorted file as a source, which is one of `count`. Nothing is read yet.
+/// A sorted file as the source of the input `number`, which is one of `count` inputs. The call reads nothing.
 fn stream<R: Input + Drop>(
     alloc: Global,
     number: usize,
@@ -121,7 +121,7 @@ fn stream<R: Input + Drop>(
     Ok(RunSource::Streamed(source))
 }
 
-/// A file of any order as a source. It is read to its end.
+/// A file of any order as the source of the input `number`. The call reads the file to its end.
 fn load<R: Input + Drop>(alloc: Global, number: usize, reader: R) -> Result<RunSource<R>, Fault>
     ensures opened { IfOk result (λ source. IsOpened R.can_give number (file_in_order Order.Any reader) source) }
     ensures refused { IfErr result (λ fault. FileGivesOne R.can_give (file_in_order Order.Any reader) (λ input.

@@ -43,12 +43,12 @@ impl Command {
     }
 }
 
-/// Any order, or else sorted.
+/// Any order if `is_any` is set, else sorted.
 fn any_if(is_any: bool) -> Order {
     if is_any { Order::Any } else { Order::Sorted }
 }
 
-/// The choice of sorted files that are read as such; the others are read as files of any order.
+/// The choice of the files that are read as sorted ones; the others are read as files of any order.
 #[derive(Clone, Copy)]
 enum Mix {
     AllSorted,
@@ -75,7 +75,7 @@ const MIXES: [Mix; 4] = [
     Mix::OddAny,
 ];
 
-/// Readers of these files.
+/// Readers of `files`.
 fn readers<'a>(alloc: Global, files: &'a [&'a [u8]]) -> Vec<SliceIn<'a>> {
     let mut inputs = Vec::new(alloc);
     for file in files {
@@ -84,7 +84,7 @@ fn readers<'a>(alloc: Global, files: &'a [&'a [u8]]) -> Vec<SliceIn<'a>> {
     inputs
 }
 
-/// Readers of these files, some of them read as sorted ones.
+/// Readers of `files`. `mix` chooses those that are read as sorted ones.
 fn mixed<'a>(alloc: Global, files: &'a [&'a [u8]], mix: Mix) -> Vec<InputFile<SliceIn<'a>>> {
     let mut inputs = Vec::new(alloc);
     for (place, file) in files.iter().enumerate() {
@@ -96,7 +96,7 @@ fn mixed<'a>(alloc: Global, files: &'a [&'a [u8]], mix: Mix) -> Vec<InputFile<Sl
     inputs
 }
 
-/// The selection of these files, some of them read as sorted ones.
+/// Runs the selection over `files`. `mix` chooses those that are read as sorted ones.
 fn select(
     alloc: Global,
     selection: Selection,
@@ -115,7 +115,7 @@ fn select(
     )
 }
 
-/// The output and the result of the command over these files. The filters read only the first one.
+/// Runs the command over `files`. The filters read only the first file.
 fn run(
     alloc: Global,
     command: Command,
@@ -137,7 +137,7 @@ fn run(
     }
 }
 
-/// The bytes that a run wrote; a word that is no file if it was refused.
+/// The bytes that a run wrote, and then the word `refused` if it was refused.
 fn bytes_of(out: VecOut, outcome: Result<Counts, Fault>) -> Vec<u8> {
     let mut bytes = out.into_vec();
     if outcome.is_err() {
@@ -146,14 +146,14 @@ fn bytes_of(out: VecOut, outcome: Result<Counts, Fault>) -> Vec<u8> {
     bytes
 }
 
-/// The file that the command makes of these files.
+/// The file that the command makes of `files`.
 fn made(alloc: Global, command: Command, files: &[&[u8]], format: Format) -> Vec<u8> {
     let mut out = VecOut::new(alloc);
     let outcome = run(alloc, command, files, format, &mut out);
     bytes_of(out, outcome)
 }
 
-/// The file of the run with the same selection of these files, some of them read as sorted ones.
+/// The file that the run with the selection makes of `files`. `mix` chooses those that are read as sorted ones.
 fn chosen(
     alloc: Global,
     selection: Selection,
@@ -166,12 +166,12 @@ fn chosen(
     bytes_of(out, outcome)
 }
 
-/// The file with the same versions in this format, sorted.
+/// The versions of `file`, sorted, as a file of the format `format`.
 fn in_format(alloc: Global, file: &[u8], format: Format) -> Vec<u8> {
     made(alloc, Command::Sort, &[file], format)
 }
 
-/// Whether the command, and the runs with the same selection, make this file of these.
+/// Whether the command, and all runs with its selection, make `file` of `files`.
 fn is_made_of(
     alloc: Global,
     command: Command,
@@ -186,7 +186,7 @@ fn is_made_of(
     is_made
 }
 
-/// Whether the command makes this file, in each format, of these files.
+/// Whether the command makes the versions of `wanted` of `files`, in each format.
 fn is_made_in_all(alloc: Global, command: Command, files: &[&[u8]], wanted: &[u8]) -> bool {
     let mut is_made = true;
     for format in FORMATS {
@@ -196,7 +196,7 @@ fn is_made_in_all(alloc: Global, command: Command, files: &[&[u8]], wanted: &[u8
     is_made
 }
 
-/// Whether the command makes this file, in each format, of one or two files that are given in this format.
+/// Whether the command makes the versions of `wanted`, in each format, of one or two files in the format `given`.
 fn is_made_from(
     alloc: Global,
     command: Command,
@@ -221,7 +221,7 @@ fn is_made_from(
 /// A command, one or two files, and the canonical lines that it makes of them.
 type Row = (Command, &'static [&'static [u8]], &'static [u8]);
 
-/// Asserts that the commands of these rows make their lines, in all formats.
+/// Asserts that the command of each row makes its lines, in all formats.
 fn assert_rows<R: AllocGlobal + Abort>(rt: &R, rows: &[Row]) {
     for (command, files, wanted) in rows {
         for given in FORMATS {
@@ -418,7 +418,7 @@ const STATE: Command = Command::TimeFilter(7);
 
 const PERIOD: Command = Command::PeriodFilter { from: 1, to: 7 };
 
-/// Without a time a version came before every moment.
+/// Small files. A version without a time came before every moment.
 const LITTLE: &[Row] = &[
     (Command::Sort, EMPTY, b""),
     (GONE, EMPTY, b""),
@@ -436,7 +436,7 @@ fn little_is_made_of_little(rt: HostRuntime) {
     assert_rows(&rt, LITTLE);
 }
 
-/// The counts of a command over these files: read, written and compared.
+/// The counts of a command over `files`: read, written and compared.
 fn counted(alloc: Global, command: Command, files: &[&[u8]]) -> Option<(u64, u64, u64)> {
     let mut out = VecOut::new(alloc);
     match run(alloc, command, files, Format::O5m, &mut out) {
@@ -487,7 +487,7 @@ fn checked_text(alloc: Global, file: &[u8]) -> String {
     text
 }
 
-/// The results of the runs over a file that must be sorted, and the numbers of bytes they write.
+/// The results of the runs over a file that must be sorted, and the number of bytes that they write.
 fn sorted_text(alloc: Global, file: &[u8]) -> String {
     let mut text = String::new(alloc);
     let mut out = VecOut::new(alloc);
@@ -537,8 +537,8 @@ fn check_and_cut(rt: HostRuntime) {
     );
 }
 
-/// The results of runs over three files of which the second is cut, and the numbers of bytes they write. The first and
-/// the third file are streamed in the second run.
+/// The results of two runs over three files of which the second is cut, and the number of bytes that the runs write.
+/// The second run streams the first and the third file.
 fn cut_text(alloc: Global, format: Format) -> String {
     let mut text = String::new(alloc);
     let mut out = VecOut::new(alloc);
@@ -561,7 +561,7 @@ fn nothing_is_written_before_all_are_read(rt: HostRuntime) {
     }
 }
 
-/// An input that gives one byte a read, and then ends or fails.
+/// An input that gives one byte in each read, and then ends or fails.
 #[derive(Drop)]
 struct Dripping<'a> {
     rest: &'a [u8],
@@ -610,7 +610,7 @@ fn one_fails<'a>(alloc: Global) -> Vec<Dripping<'a>> {
     inputs
 }
 
-/// The results of the commands over an input that fails, and the numbers of bytes they write.
+/// The results of the commands over an input that fails, and the number of bytes that they write.
 fn failing_text(alloc: Global) -> String {
     let mut text = String::new(alloc);
     let mut out = VecOut::new(alloc);
@@ -637,7 +637,7 @@ fn an_input_that_fails_is_named(rt: HostRuntime) {
     );
 }
 
-/// The merge of these files, which report their bytes, and the selection of them.
+/// The merge of `files`, which report their bytes, or the run with the selection over them.
 fn told(alloc: Global, files: &[&[u8]], selection: Option<Selection>) -> Vec<u8> {
     let mut out = VecOut::new(alloc);
     let outcome = match selection {

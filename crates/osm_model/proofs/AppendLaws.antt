@@ -1,4 +1,4 @@
--- The stretches of a line, in sequence.
+-- The parts of a line, in sequence.
 use Rattle.std.proofs.Common.{◌≡◌, ℕ, List, [], ◌∷◌, ◌++◌, codes, refl, ap, sym, ◌∙◌, append_assoc}
 use Rattle.std.specs.Str.{chars}
 use Rattle.osm_model.specs.Escape.{escape}
@@ -16,7 +16,7 @@ pub list_begins : {X : Type 0} (text : X → List ℕ) (x : X) (all rest : List 
 list_begins text x all rest mark before now a n = rw (a, n, list_text-cons text x rest)
     (sym (append_assoc before (mark ++ text x) _ ∙ ap (λ t. before ++ t) (append_assoc mark (text x) _)))
 
--- a text continues after its raw characters
+-- an escaped text is its raw front, and then the escaped rest
 pub plain_stretch : (before all bytes front back now : List ℕ) → before ≡ all ++ escape (chars bytes) →
     escape (chars bytes) ≡ front ++ escape (chars back) → now ≡ all ++ front →
     before ≡ now ++ escape (chars back)
@@ -28,13 +28,13 @@ pub line-parts : (v : VersionData) → line v ≡ head_text v
     ++ (escape v.user ++ ((codes " T" ++ list_text tag_text (tags_of v.body)) ++ (32 ∷ join_with 32 (kind_fields v.body))))
 line-parts v = line-from_object v ∙ simp append_assoc
 
--- items in two stretches
+-- items in two parts
 pub more_in_two : {X : Type 0} (text : X → List ℕ) (xs ys : List X) → more_text text (xs ++ ys) ≡ more_text text xs ++ more_text text ys
 more_in_two text [] ys = refl
 more_in_two text (x ∷ xs) ys = ap (λ t. 44 ∷ t) (ap (λ t. text x ++ t) (more_in_two text xs ys)
     ∙ sym (append_assoc (text x) (more_text text xs) (more_text text ys)))
 
--- items are appended, except for those after them
+-- after a front of the items was appended, the other items remain
 pub more_behind : {X : Type 0} (text : X → List ℕ) (all before now : List ℕ) (items few behind : List X) → items ≡ few ++ behind →
     all ≡ before ++ more_text text items → now ≡ before ++ more_text text few →
     all ≡ now ++ more_text text behind

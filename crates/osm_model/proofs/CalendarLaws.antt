@@ -47,7 +47,7 @@ year_walk-within (suc most) year days h =
           (let some = year_some year in let long = ltb-false days (days_in_year year) e in omega arith)
     ] refl
 
--- the walk over months does the same
+-- the walk over whole months loses no day
 record IsMonthWalk (year month days : ℕ) (found : ℕ × ℕ) : Type 0 where
   some : 1 ≤ found.0
   sum : days_of_months year (found.0 - 1) + found.1 ≡ days_of_months year (month - 1) + days
@@ -70,7 +70,7 @@ month_walk-sum (suc most) year (suc before) days h =
           record { some = rest.some; sum = s ∙ rw none (omega arith) }
     ] refl
 
--- and the rest is within the month
+-- the walk ends in a month of the year, at one of its days
 record IsMonthDay (year : ℕ) (found : ℕ × ℕ) : Type 0 where
   month_in : found.0 ≤ 12
   day_in : found.1 < days_in_month year found.0
@@ -96,7 +96,7 @@ month_walk-within (suc most) year (suc before) days h all short =
           (rw one (omega arith))
     ] refl
 
--- a date of the calendar, in numbers
+-- the month is one of the year, and the day one of the month
 pub record IsCivil (year month day : ℕ) : Type 0 where
   pub month_in : IsInRange 1 12 month
   pub day_in : IsInRange 1 (days_in_month year month) day
@@ -141,7 +141,7 @@ not_below f grows a b r q ha e less =
     let at : f (b - suc a + suc a) ≡ f b = ap f there in
     absurd (omega arith)
 
--- in steps that grow, a position determines its step
+-- if `f` doesn't decrease, a position determines the step that it is in
 same_step : (f : ℕ → ℕ) → ((n : ℕ) → f n ≤ f (suc n)) → (a b r q : ℕ) → f a + r < f (suc a) → f b + q < f (suc b) → f a + r ≡ f b + q →
     a ≡ b
 same_step f grows a b r q ha hb e =
@@ -180,7 +180,7 @@ year_step year month day is =
       days_of_months-year year,
     )
 
--- two dates of one day number are one
+-- the parts of two dates are the same
 pub record SameDate (y m d year month day : ℕ) : Type 0 where
   pub same_year : y ≡ year
   pub same_month : m ≡ month
@@ -213,7 +213,7 @@ same_date y m d year month day is other e =
     (year_step y m d is) (year_step year month day other) (omega (arith, e)))
     is other e
 
--- the calendar has a date exactly if its parts are in range
+-- a date that `is_date` accepts has its parts in range
 pub is_date-civil : (y m d : ℕ) → is_date y m d ≡ true → IsCivil y m d
 is_date-civil y m d e =
     let both = and_parts _ _ e in
@@ -239,7 +239,7 @@ days_of_years-more (suc k) n =
     let some = year_some (k + n) in
     rw same (omega arith)
 
--- a year has 365 days at least
+-- if the days are fewer than `k` years of 365 days, the year is below `k` + 1970
 pub year_below : (k days : ℕ) → days < 365 * k → (date_of days).year < k + 1970
 year_below k days short =
     let is = date_of-is days in

@@ -1,4 +1,4 @@
--- A coordinate's text determines it, and holds no separator.
+-- The text of a coordinate determines the coordinate, and has no separator.
 use Rattle.std.proofs.Common.{◌≡◌, ◌≢◌, ℕ, zero, suc, ◌+◌, ◌-◌, ◌/◌, ◌%◌, ◌^◌, ◌<◌, cond, eqb, true, false, List, [], ◌∷◌, ◌++◌, length}
 use Rattle.std.proofs.Common.{replicate, refl, sym, ap, ◌∙◌, arith, ℤ, pos, negsuc, inl}
 use Rattle.std.specs.Char.{digit_char}
@@ -66,7 +66,7 @@ decimals_injective m n hm hn e =
     padded_injective 10 7 7 m n (omega arith) (omega arith)
     (without_last_zeros_injective _ _ (length-decimals m hm ∙ sym (length-decimals n hn)) e)
 
--- the whole degrees and the rest
+-- the text of degrees determines the whole degrees and the rest
 parts_injective : (a b m n : ℕ) → m < 10_000_000 → n < 10_000_000 → number_text a ++ fraction_text m ≡ number_text b ++ fraction_text n →
     (a ≡ b) × (m ≡ n)
 unfolding fraction_text
@@ -147,7 +147,7 @@ coordinate_lacks (negsuc n) s = (
   degrees_lack _ (suc n) (no_digit-separator s) (mark-separator 46 (inl (omega arith, omega arith)) s),
 )
 
--- one zero less at the end
+-- a last digit 0 can be dropped: the decimals without zeros at their end remain the same
 pub fraction_next : (places digits : ℕ) → 0 < digits → digits < 10 ^ places → digits % 10 ≡ 0 →
     (0 < digits / 10) × (digits / 10 < 10 ^ (places - 1))
     × (without_last_zeros (pad_zeros places (number_text digits)) ≡ without_last_zeros (pad_zeros (places - 1) (number_text (digits / 10))))
@@ -166,7 +166,7 @@ fraction_next (suc (suc places)) digits some fits last =
 digit_char-some : (d : ℕ) → d < 10 → 0 < d → digit_char d ≢ 48
 digit_char-some d small some e = grind (arith, nat_tests)
 
--- no zero at the end
+-- decimals whose last digit isn't 0 have no zeros at their end
 fraction_end : (places digits : ℕ) → digits < 10 ^ places → 0 < digits % 10 →
     without_last_zeros (pad_zeros places (number_text digits)) ≡ pad_zeros places (number_text digits)
 unfolding number_text
@@ -181,7 +181,7 @@ fraction_end (suc (suc places)) digits fits some =
     ∙ without_last_zeros-digit (pad_zeros (suc places) (numeral 10 (digits / 10))) (digit_char (digits % 10))
     (digit_char-some (digits % 10) (omega arith) some) ∙ sym last
 
--- a fraction, from the digits that are left of it
+-- a fraction's text, from the digits that remain without the zeros at their end
 pub fraction_is : (places digits units : ℕ) → 0 < units → digits < 10 ^ places → (digits % 10 ≡ 0 → ⊥)
     → without_last_zeros (pad_zeros places (number_text digits)) ≡ without_last_zeros (pad_zeros 7 (number_text units)) →
     fraction_text units ≡ 46 ∷ pad_zeros places (number_text digits)

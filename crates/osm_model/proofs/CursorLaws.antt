@@ -17,7 +17,7 @@ use Rattle.osm_model.specs.Escape.{escape, escape_char, is_raw, code_escape}
 use Rattle.osm_model.specs.Joined.{join_with}
 use Rattle.osm_model.specs.Data.{VersionData, tags_of}
 use Rattle.osm_model.specs.Line.{list_text, tag_text, reference_text, member_text, kind_fields, line}
-use Rattle.osm_model.specs.Cursor.{more_text, items_text, from_place, from_next, from_object}
+use Rattle.osm_model.specs.Cursor.{more_text, items_text, bytes_from, from_next, from_object}
 
 -- no character has an empty form
 pub escape_char-full : (c : ℕ) → 0 < length (escape_char c)
@@ -27,7 +27,7 @@ escape_char-full c = elim (is_raw c) as (λ b. 0 < length (if b then encode_utf8
   | false ↦ omega arith
 ]
 
--- No bytes are no characters.
+-- Without bytes there are no characters.
 pub text_end : (bs : List ℕ) → length bs ≡ 0 → chars bs ≡ []
 text_end [] h = chars-nil
 text_end (b ∷ bs) h = absurd (omega arith)
@@ -39,10 +39,10 @@ text_more bs rest given piece c u same e is =
     let v : IsUtf8 bs = subst IsUtf8 same u in
     (ap escape (chars_past_char bs rest c v e) ∙ ap (λ xs. xs ++ escape (chars rest)) (sym is), rw is (escape_char-full c))
 
--- a `Continuation`, by its two parts
+-- the rest of a line, by the two parts of a `Continuation`
 pub coming_is : (v : VersionData) (next : Continuation) (cs : List ℕ) (p : Place) → chars next.text.now ≡ cs → next.place ≡ p →
-    from_next v next ≡ escape cs ++ from_place v p
-coming_is v next cs p t e = λ i. escape (t i) ++ from_place v (e i)
+    from_next v next ≡ escape cs ++ bytes_from v p
+coming_is v next cs p t e = λ i. escape (t i) ++ bytes_from v (e i)
 
 -- A list's text is the text of its first item, and each other item after a comma.
 pub list_text-cons : {X : Type 0} (text : X → List ℕ) (x : X) (xs : List X) → list_text text (x ∷ xs) ≡ text x ++ more_text text xs

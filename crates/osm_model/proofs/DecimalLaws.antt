@@ -1,4 +1,4 @@
--- A decimal number's text determines it, and holds no separator.
+-- The text of a decimal number determines the number, and has no separator.
 use Rattle.std.proofs.Common.{◌≡◌, ℕ, zero, suc, ◌+◌, ◌/◌, ◌%◌, ◌^◌, ◌<◌, ◌≤◌, List, [], ◌∷◌, ◌++◌, map, length, refl, sym, ap, ◌∙◌, arith}
 use Rattle.std.proofs.Common.{append_assoc, ℤ, pos, negsuc, inl}
 use Rattle.std.specs.Fmt.{decimal}
@@ -95,11 +95,11 @@ padded_behind width n =
     ∙ append_assoc (pad_zeros (suc width) (numeral 10 (n / 100))) (digit_char (n % 100 / 10) ∷ []) (digit_char (n % 100 % 10) ∷ [])
     ∙ ap (λ t. pad_zeros (suc width) (numeral 10 (n / 100)) ++ t) (sym ones)
 
--- a number below 10000 in four digits
+-- a number in four digits: the quotient and the remainder by 100, in two digits each
 pub padded_pairs : (n : ℕ) → pad_zeros 4 (number_text n) ≡ pad_zeros 2 (number_text (n / 100)) ++ pad_zeros 2 (number_text (n % 100))
 padded_pairs n = padded_behind 1 n
 
--- a number below 10^7 in seven
+-- a number in seven digits: three pairs of digits and the last digit
 pub padded_seven : (n : ℕ) →
     pad_zeros 7 (number_text n) ≡ pad_zeros 2 (number_text (n / 100_000))
     ++ (pad_zeros 2 (number_text (n / 1000 % 100)) ++ (pad_zeros 2 (number_text (n / 10 % 100)) ++ (48 + n % 10) ∷ []))

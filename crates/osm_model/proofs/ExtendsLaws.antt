@@ -10,7 +10,7 @@ pub extends_trans : {before middle now : List ℕ} → Extends before middle →
 extends_trans {before} first second = extends_by (first.rest ++ second.rest)
     (second.behind ∙ ap (λ t. t ++ second.rest) first.behind ∙ append_assoc before first.rest second.rest)
 
--- the results of `push` and `extend_from_slice`
+-- `push` and `extend_from_slice` extend the bytes, whether they fail or not
 pub extends_or_same : {before now : List ℕ} (done : Bool) (more : List ℕ) → now ≡ cond done (before ++ more) before → Extends before now
 extends_or_same true more e = extends_by more e
 extends_or_same {before} false more e = extends_by [] (e ∙ sym (append-nil before))

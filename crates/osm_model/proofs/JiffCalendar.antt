@@ -1,4 +1,4 @@
--- The calendar of jiff, which counts from the year -10000, is this one.
+-- The calendar of jiff, which counts days from the year -10000, has the dates of `Calendar.antt`.
 use Rattle.std.proofs.Common.{◌≡◌, ℕ, zero, suc, ◌+◌, ◌-◌, ◌≤◌, refl, ap, ◌∙◌, arith, ℤ, pos, negsuc, ◌+ℤ◌}
 use Rattle.std.proofs.lemmas.Int.{by_lt_z}
 use borrow.Author.Differences.{up, down}
@@ -66,7 +66,7 @@ pub record IsDateOf (day : ℕ) (date : civil.Date) : Type 0 where
   pub same_month : date.month ≡ (date_of day).month
   pub same_day : date.day ≡ (date_of day).day
 
--- A date of jiff whose day is 4,371,587 after this one has the fields of this one.
+-- The date of jiff that comes `day` days after 1970-01-01 has the fields of `date_of day`.
 pub jiff_date : (day : ℕ) (date : civil.Date) → epoch_day date +ℤ pos 4_371_587 ≡ pos (day + 4_371_587) → IsDateOf day date
 jiff_date day date e =
     let up_e = ap up e in

@@ -1,4 +1,4 @@
--- Texts that lack the separator and determine their items still do so when they are joined.
+-- Joined texts determine the items, if each text lacks the separator and determines its item.
 use Rattle.std.proofs.Common.{◌≡◌, ◌≢◌, ℕ, List, [], ◌∷◌, ◌++◌, map, refl, sym}
 use Rattle.osm_model.specs.Joined.{join_with}
 use Rattle.osm_model.proofs.Separators.{Lacks, AllLack, split_same, lacks_append, lacks_clash}

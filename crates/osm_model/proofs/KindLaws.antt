@@ -1,4 +1,4 @@
--- The kinds of an ascending list don't fall.
+-- The kinds of an ascending list never decrease.
 use Rattle.std.proofs.Common.{◌≡◌, ℕ, zero, suc, ◌<◌, ◌≤◌, false, List, [], ◌∷◌, length, get_or, refl, ap, arith}
 use Rattle.std.specs.declared.cmp.Ordering.{Ordering}
 use Rattle.std.specs.declared.cmp.Ordering.TheVariants.{Less, Equal, Greater}
@@ -6,13 +6,13 @@ use Rattle.std.specs.Ordering.{ordering_then, is_gt, nat_cmp}
 use Rattle.std.specs.List.{AllByRecursion}
 use Rattle.std.specs.List.Sorted.{IsStrictlySortedBy}
 use Rattle.std.proofs.lemmas.Bool.Decides.{nat_tests}
-use Rattle.osm_model.specs.Kind.{kind_rank}
+use Rattle.osm_model.specs.Kind.{kind_order}
 use Rattle.osm_model.specs.Data.{VersionData, kind_of}
 use Rattle.osm_model.specs.Order.{object_cmp, key_cmp, data_cmp, version_cmp}
 use Rattle.osm_model.specs.KindLaw.{KindsDontFall}
 
 abbrev rank_of : VersionData → ℕ
-rank_of v = kind_rank (kind_of v.body)
+rank_of v = kind_order (kind_of v.body)
 
 first_not_greater : (a b : Ordering) → is_gt (ordering_then a b) ≡ false → is_gt a ≡ false
 first_not_greater Less b h = refl

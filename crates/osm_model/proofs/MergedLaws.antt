@@ -19,7 +19,7 @@ module _ {K : Type 0} (R : K → K → Ordering) where
   merge-nil [] = refl
   merge-nil (x ∷ xs) = ap (λ t. x ∷ t) (merge-nil xs)
 
-  -- Of two first members the left one comes first if it is less.
+  -- If the first member of the left list is less, it comes first.
   pub merge-less : (x y : K) (xs ys : List K) → R x y ≡ Less → merge R (x ∷ xs) (y ∷ ys) ≡ x ∷ merge R xs (y ∷ ys)
   merge-less x y xs ys e = ap (λ r. elim r as (λ _. List K) [
     | Less ↦ x ∷ merge R xs (y ∷ ys)
@@ -28,7 +28,7 @@ module _ {K : Type 0} (R : K → K → Ordering) where
         ∷ merge R (x ∷ xs) ys
   ]) e
 
-  -- Of two first members that tie the left one stays.
+  -- If the two first members tie, the left one stays.
   pub merge-equal : (x y : K) (xs ys : List K) → R x y ≡ Equal → merge R (x ∷ xs) (y ∷ ys) ≡ x ∷ merge R xs ys
   merge-equal x y xs ys e = ap (λ r. elim r as (λ _. List K) [
     | Less ↦ x ∷ merge R xs (y ∷ ys)
@@ -37,7 +37,7 @@ module _ {K : Type 0} (R : K → K → Ordering) where
         ∷ merge R (x ∷ xs) ys
   ]) e
 
-  -- Of two first members the right one comes first if it is less.
+  -- If the first member of the right list is less, it comes first.
   pub merge-greater : (x y : K) (xs ys : List K) → R x y ≡ Greater → merge R (x ∷ xs) (y ∷ ys) ≡ y ∷ merge R (x ∷ xs) ys
   merge-greater x y xs ys e = ap (λ r. elim r as (λ _. List K) [
     | Less ↦ x ∷ merge R xs (y ∷ ys)
@@ -46,7 +46,7 @@ module _ {K : Type 0} (R : K → K → Ordering) where
         ∷ merge R (x ∷ xs) ys
   ]) e
 
-  -- x is below all of them
+  -- `x` is below each of `ys`
   abbrev Below : K → List K → Type 0
   Below x ys = AllByRecursion (λ y. R x y ≡ Less) ys
 
@@ -104,7 +104,7 @@ module _ {K : Type 0} {R : K → K → Ordering} (o : IsTotalOrder R) where
   sorted_merged [] ys h g = g
   sorted_merged (x ∷ xs) ys h g = sorted_from x xs ys (λ zs. sorted_merged xs zs h.1) h.0 g
 
-  -- one of two that tie is left out
+  -- a test of membership doesn't change if one of two equal members is left out
   or_same : (a b c : Bool) → (a || (b || c)) ≡ (a || (b || (a || c)))
   or_same true b c = refl
   or_same false b c = refl
@@ -145,7 +145,7 @@ module _ {K : Type 0} {R : K → K → Ordering} (o : IsTotalOrder R) where
       ∙ sym (contains-from_list o (xs ++ ys) q))
 
 module _ {K : Type 0} (R : K → K → Ordering) where
-  -- after the end of the right list, the rest is the left one
+  -- after the end of the right list, the merge is the left list
   pub merge-end : (j : ℕ) (xs ys : List K) → j ≡ length ys → merge R xs (drop j ys) ≡ xs
   merge-end j xs ys e =
       let none : drop j ys ≡ [] = nil_from_length _ (omega (arith, length-drop j ys)) in

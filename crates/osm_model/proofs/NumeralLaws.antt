@@ -1,4 +1,4 @@
--- A number's digits determine it, and hold no other byte.
+-- The digits of a number determine the number, and each of its bytes is a digit.
 use Rattle.std.proofs.Common.{◌≡◌, ◌≢◌, ℕ, zero, suc, ◌+◌, ◌-◌, ◌*◌, ◌/◌, ◌%◌, ◌^◌, ◌<◌, ◌≤◌, List, [], ◌∷◌, ◌++◌, map, length, replicate}
 use Rattle.std.proofs.Common.{refl, sym, ap, ◌∙◌, arith, append_assoc, ⊎_elim}
 use Rattle.std.proofs.lemmas.Bool.Decides.{nat_tests}
@@ -17,7 +17,7 @@ unfolding numeral
 numeral-positive base zero h = absurd (omega arith)
 numeral-positive base (suc n) h = refl
 
--- one digit
+-- the numeral of a number below the base is one digit
 pub numeral-digit : (base n : ℕ) → 2 ≤ base → n < base → numeral base n ≡ digit_char n ∷ []
 unfolding numeral
 numeral-digit base zero low h = refl
@@ -26,7 +26,7 @@ numeral-digit base (suc n) low h =
     let all : suc n % base ≡ suc n = mod-eq_of_lt h in
     ap (map digit_char) (digits_of_step base (suc n) low (omega arith) ∙ (λ i. digits_of base (none i) ++ (all i ∷ [])))
 
--- the last digit of several
+-- the numeral of any other number ends with the digit of its remainder
 pub numeral-step : (base n : ℕ) → 2 ≤ base → base ≤ n → numeral base n ≡ numeral base (n / base) ++ digit_char (n % base) ∷ []
 numeral-step base n low h =
     let some : 0 < n / base = grind arith in
@@ -82,7 +82,7 @@ all_below_more b c more (d ∷ ds) below = (omega (arith, below.0), all_below_mo
 zero_apart : (c : ℕ) → NoDigit c → 48 ≢ c
 zero_apart c apart e = grind arith
 
--- a byte that writes no digit occurs in no number
+-- a byte that is no digit occurs in no numeral
 pub numeral_lacks : (c base n : ℕ) → NoDigit c → 2 ≤ base → base ≤ 16 → Lacks c (numeral base n)
 unfolding numeral
 numeral_lacks c base zero apart low high = (zero_apart c apart, tt)
@@ -144,7 +144,7 @@ pad_zeros-small base width n low small =
     ∙ padded_push (suc width) [] (digit_char n)
     ∙ ap (λ t. t ++ digit_char n ∷ []) (sym (pad_zeros-zero width))
 
--- the last digit of a number with leading zeros
+-- a padded number ends with the digit of its remainder
 pub pad_zeros-step : (base width n : ℕ) → 2 ≤ base → pad_zeros (suc (suc width)) (numeral base n) ≡ pad_zeros (suc width) (numeral base (n / base))
     ++ digit_char (n % base) ∷ []
 pad_zeros-step base width n low =
@@ -155,7 +155,7 @@ pad_zeros-step base width n low =
     ∙ padded_push (suc width) (numeral base (n / base)) (digit_char (n % base)))
     (cases_lt n base)
 
--- the only digit
+-- a number below the base, padded to one digit
 pub pad_zeros-digit : (base n : ℕ) → 2 ≤ base → n < base → pad_zeros 1 (numeral base n) ≡ digit_char n ∷ []
 unfolding pad_zeros
 pad_zeros-digit base n low small = ap (pad_zeros 1) (numeral-digit base n low small)

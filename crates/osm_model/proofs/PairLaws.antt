@@ -19,7 +19,7 @@ pair_below (suc n) number t h =
       | inr g ↦ pair_below n number (and_r _ (are_pairs n) t) (omega arith)
     ]
 
--- the digits of a number below 100 are adjacent
+-- the table's first digit of a number below 100 is the number's first digit
 pub first_digit : (number : ℕ) → number < 100 → get_or PAIRS (2 * number) 0 ≡ 48 + number / 10
 first_digit number small = eqb→eq _ _ (and_l _ (eqb (get_or PAIRS (2 * number + 1) 0) (48 + number % 10)) (pair_below 100 number tt small))
 

@@ -3,14 +3,14 @@ use Rattle.std.proofs.Common.{◌≡◌, List, [], ◌∷◌, ◌++◌, refl, ap
 use Rattle.osm_model.specs.Pairwise.{Pairwise}
 
 module _ {X Y : Type 0} (R : X → Y → Type 0) where
-  -- one more pair
+  -- a pair is appended
   pub pairwise_push : (xs : List X) (ys : List Y) (x : X) (y : Y) → Pairwise R xs ys → R x y → Pairwise R (xs ++ x ∷ []) (ys ++ y ∷ [])
   pairwise_push [] [] x y all this = (this, tt)
   pairwise_push [] (z ∷ ys) x y all this = absurd all
   pairwise_push (w ∷ xs) [] x y all this = absurd all
   pairwise_push (w ∷ xs) (z ∷ ys) x y all this = (all.0, pairwise_push xs ys x y all.1 this)
 
-  -- a split of one list splits its partner
+  -- `ys` is split into the members that belong with `front`, the one that belongs with `x`, and the others
   pub record Parted (front : List X) (x : X) (ys : List Y) : Type 0 where
     pub before : List Y
     pub here : Y
@@ -35,7 +35,7 @@ module _ {X Y : Type 0} (R : X → Y → Type 0) where
         this = p.this;
       }
 
-  -- if each belongs with at most one, so does a list
+  -- if each member belongs with at most one, a list belongs with at most one list
   pub pairwise_one : ((x : X) (y z : Y) → R x y → R x z → y ≡ z) → (xs : List X) (ys zs : List Y) → Pairwise R xs ys → Pairwise R xs zs →
       ys ≡ zs
   pairwise_one one [] [] [] a b = refl

@@ -7,7 +7,7 @@ use Rattle.std.specs.Cmp.{nat_cmp_is}
 use Rattle.std.specs.declared.cmp.Ordering.{Ordering}
 use Rattle.std.specs.declared.cmp.Ordering.TheVariants.{Less, Equal, Greater}
 use Rattle.std.specs.Ordering.{ordering_then, ordering_reverse, nat_cmp, bool_cmp}
-use Rattle.osm_model.specs.Kind.{kind_rank}
+use Rattle.osm_model.specs.Kind.{kind_order}
 use Rattle.osm_model.specs.Data.{VersionData, kind_of}
 use Rattle.osm_model.specs.Order.{is_positive, key_cmp, version_cmp, version_cmp_total}
 use Rattle.osm_model.specs.Rank.{kind_and_sign, capped_id, capped_number, rank_of}
@@ -39,9 +39,11 @@ of_one_class k l true false h = absurd (omega arith)
 of_one_class k l false true h = absurd (omega arith)
 
 -- ---- the size of the id and the number
+-- the first absolute value of an id that a rank doesn't distinguish from greater ones
 abbrev far : ℕ
 far = 2 ^ 45 - 1
 
+-- the version number in the last 16 bits of a rank
 abbrev turn : ℕ → ℕ → ℕ
 turn size number = if nat_lt size far then min number (2 ^ 16 - 1) else 0
 
@@ -57,14 +59,14 @@ short_turn size number = elim (cases_lt size far) [
   | inr h ↦ omega (arith, turn_far size number h)
 ]
 
--- of two capped numbers, the lesser belongs to the lesser number
+-- the lesser of two capped numbers is that of the lesser number
 of_capped : (m n most : ℕ) → min m most < min n most → m < n
 of_capped m n most h = elim (cases_lt m n) [
   | inl k ↦ k
   | inr k ↦ absurd (grind arith)
 ]
 
--- in one reach, the turns order the numbers of one id
+-- of two versions with one capped id, that of the lesser turn has the lesser number, and both have one id
 of_one_reach : (a b m n : ℕ) → min a far ≡ min b far → turn a m < turn b n → (a ≡ b) × (m < n)
 of_one_reach a b m n one h = elim (cases_lt b far) [
   | inl k ↦
@@ -75,7 +77,7 @@ of_one_reach a b m n one h = elim (cases_lt b far) [
 ]
 
 -- ---- the rank
--- of two numbers made of a front and a part after it, the fronts decide, and then the parts
+-- a number with 16 bits after a front: the fronts decide, and if they are equal, the 16 bits
 by_turn : (c d r s : ℕ) → r < 2 ^ 16 → s < 2 ^ 16 → c * 2 ^ 16 + r < d * 2 ^ 16 + s → (c < d) ⊎ ((c ≡ d) × (r < s))
 by_turn c d r s low high h = elim (cases_lt c d) [
   | inl k ↦ inl k
@@ -95,19 +97,19 @@ module _ (v w : VersionData) where
   short_reach : (u : VersionData) → capped_id u < 2 ^ 45
   short_reach u = omega (arith, min-le_right (unsigned_abs u.id) far)
 
-  -- the order of the kinds and the signs
+  -- the order of the kinds, then of the signs
   abbrev class_cmp : Ordering
-  class_cmp = ordering_then (nat_cmp (kind_rank (kind_of v.body)) (kind_rank (kind_of w.body)))
+  class_cmp = ordering_then (nat_cmp (kind_order (kind_of v.body)) (kind_order (kind_of w.body)))
       (bool_cmp (is_positive v.id) (is_positive w.id))
 
   abbrev size_cmp : Ordering
   size_cmp = nat_cmp (unsigned_abs v.id) (unsigned_abs w.id)
 
   of_lower_class : kind_and_sign v < kind_and_sign w → class_cmp ≡ Less
-  of_lower_class h = of_classes (kind_rank (kind_of v.body)) (kind_rank (kind_of w.body)) (is_positive v.id) (is_positive w.id) h
+  of_lower_class h = of_classes (kind_order (kind_of v.body)) (kind_order (kind_of w.body)) (is_positive v.id) (is_positive w.id) h
 
   of_class : kind_and_sign v ≡ kind_and_sign w → class_cmp ≡ Equal
-  of_class h = of_one_class (kind_rank (kind_of v.body)) (kind_rank (kind_of w.body)) (is_positive v.id) (is_positive w.id) h
+  of_class h = of_one_class (kind_order (kind_of v.body)) (kind_order (kind_of w.body)) (is_positive v.id) (is_positive w.id) h
 
   less_key : (o p q : Ordering) → ordering_then o p ≡ Less → ordering_then (ordering_then o p) q ≡ Less
   less_key o p q e = ap (λ r. ordering_then r q) e

@@ -18,8 +18,8 @@ use Rattle.osm_model.specs.declared.escape.TheConstants.{RAW_BYTES}
 use Rattle.osm_model.specs.Escape.{is_raw, is_raw_byte, are_raw_bytes, escape, raw_width, raw_length, IsPlain}
 use Rattle.osm_model.proofs.EscapeLaws.{escape_char-raw}
 
--- What a text's first two bytes show of its first character's width. A character of one byte is that byte. A character
--- of two bytes after 0xC2 has the code of its second byte, and all after 0xC3 to 0xD7 are raw.
+-- The width of a text's first character, from its first two bytes. A character of one byte is that byte. A character of two bytes of which
+-- the first is 0xC2 has the code of the second. All characters of two bytes of which the first is 0xC3 to 0xD7 are raw.
 pub record IsLead (width lead next len : ℕ) : Type 0 where
   pub byte : lead < 0x80 → width ≡ (if is_raw lead then 1 else 0)
   pub latin : lead ≡ 0xC2 → (1 < len) × (0x80 ≤ next) × (next < 0xC0) × (width ≡ (if is_raw next then 2 else 0))
@@ -186,7 +186,7 @@ plain_whole bs n e all =
     let none : escape (chars (drop n bs)) ≡ [] = ap (λ t. escape (chars t)) (drop_all n bs all) ∙ ap escape chars-nil in
     e ∙ (λ i. take_all n bs all i ++ none i) ∙ append-nil bs
 
--- the width that each test of the first bytes gives
+-- a byte that is a raw character by itself has width 1
 pub width-byte : (width lead next len : ℕ) → IsLead width lead next len → (is_raw lead && ltb lead 0x80) ≡ true → 1 ≡ width
 width-byte width lead next len is e = let both = and_parts (is_raw lead) (ltb lead 0x80) e in
     sym (is.byte (ltb-true lead 0x80 both.1) ∙ rw both.0 refl)
@@ -223,7 +223,7 @@ raw_byte_at byte small =
     rw (raw_bytes_below 256 byte tt small) (elim (is_raw byte && ltb byte 0x80) as
     (λ b. eqb (cond b 1 0) 1 ≡ b) [ true ↦ refl | false ↦ refl ])
 
--- one byte more that is a raw character by itself
+-- raw characters, and one more of one byte
 plain_byte : (bs : List ℕ) (n : ℕ) → IsPlainTo bs n → n < length bs → is_raw_byte (get_or bs n 0) ≡ true → IsPlainTo bs (n + 1)
 plain_byte bs n so_far more raw =
     let some : 0 < length (drop n bs) = omega (arith, length-drop n bs) in

@@ -1,4 +1,4 @@
--- Texts that lack a byte, and what a split at that byte shows of them.
+-- Texts that lack a byte, and splits at that byte.
 use Rattle.std.proofs.Common.{◌≡◌, ◌≢◌, ℕ, ◌<◌, List, [], ◌∷◌, ◌++◌, refl, subst, arith, ◌⊎◌, inl, inr}
 use Rattle.std.specs.List.{AllByRecursion}
 
@@ -39,7 +39,7 @@ mark-separator b mark comma e = grind arith
 mark-separator b mark equals e = grind arith
 mark-separator b mark at e = grind arith
 
--- the parts before and after the first c
+-- a text determines the parts before and after its first `c`
 pub split_same : (c : ℕ) (xs ys us vs : List ℕ) → Lacks c xs → Lacks c ys → xs ++ c ∷ us ≡ ys ++ c ∷ vs → (xs ≡ ys) × (us ≡ vs)
 split_same c [] [] us vs lx ly e = (refl, cc)
 split_same c [] (y ∷ ys) us vs lx ly e = let same : y ≡ c = cc in absurd (ly.0 same)
@@ -57,7 +57,7 @@ lacks_not c (x ∷ xs) us lacks = lacks_not c xs us lacks.1
 pub lacks_clash : (c : ℕ) (text xs us : List ℕ) → text ≡ xs ++ c ∷ us → Lacks c text → ⊥
 lacks_clash c text xs us e lacks = lacks_not c xs us (subst (Lacks c) e lacks)
 
--- Two texts that lack a byte lack it together.
+-- If two texts lack a byte, so does their concatenation.
 pub lacks_append : (c : ℕ) (xs ys : List ℕ) → Lacks c xs → Lacks c ys → Lacks c (xs ++ ys)
 lacks_append c [] ys lx ly = ly
 lacks_append c (x ∷ xs) ys lx ly = (lx.0, lacks_append c xs ys lx.1 ly)

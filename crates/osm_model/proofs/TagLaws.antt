@@ -46,12 +46,12 @@ not_both : (a b : Bool) → (a && not b) ≡ not (not a || b)
 not_both true b = refl
 not_both false b = refl
 
--- all pass where none fails
+-- all items pass a test if none fails it
 list_all-none : {X : Type 0} (p : X → Bool) (xs : List X) → list_all p xs ≡ not (list_any (λ x. not (p x)) xs)
 list_all-none p [] = refl
 list_all-none p (x ∷ xs) = ap (λ b. p x && b) (list_all-none p xs) ∙ not_both (p x) _
 
--- the texts of tags are those of the tags without repeats
+-- a test of all texts of tags gives the same result after the tags are sorted and repeats are dropped
 pub list_all-normal : (p : List ℕ → Bool) (ts : List Tag) → list_all p (texts_of_tags (normal_tags ts)) ≡ list_all p (texts_of_tags ts)
 list_all-normal p ts =
     list_all-texts_of_tags p (normal_tags ts) ∙ list_all-none _ (normal_tags ts)
@@ -68,13 +68,13 @@ below_next (t ∷ u ∷ ts) up zero d low = ap is_lt up.0.0
 below_next (t ∷ u ∷ ts) up (suc k) d low = let next : suc k + 1 ≡ suc (k + 1) = omega arith in
     rw next (below_next (u ∷ ts) up.1 k d (omega arith))
 
--- two neighbours that don't ascend
+-- a strictly ascending list has no two neighbours that don't ascend
 descends : (ts : List Tag) → IsStrictlySortedBy tag_cmp ts → (k : ℕ) → k + 1 < length ts →
     ((d : Tag) → false ≡ is_lt (tag_cmp (slice_index_or ts k d) (slice_index_or ts (k + 1) d))) → ⊥
 descends [] up k low h = absurd (omega arith)
 descends (t ∷ ts) up k low h = false≢true (h t ∙ below_next (t ∷ ts) up k t low)
 
--- a test of each two neighbours: only tags that ascend are those of their set
+-- a test of each two neighbours shows whether the tags are the list of their set
 pub normal_test : (b : Bool) (xs ts : List Tag) → xs ≡ ts → IsAllAdjacentAnswer (λ x y a. a ≡ is_lt (tag_cmp x y)) xs b →
     IsTrue b ↔ (normal_tags ts ≡ ts)
 normal_test true xs ts e h = (
@@ -87,6 +87,6 @@ normal_test false xs ts e h = (
   λ same. absurd (descends xs (subst (IsStrictlySortedBy tag_cmp) (same ∙ sym e) (strict-listed (from_list {R = tag_cmp} ts))) h.0 h.1 h.2),
 )
 
--- one tag ascends, and so does none
+-- fewer than two tags are the list of their set
 pub few_normal : (ts : List Tag) → length ts < 2 → normal_tags ts ≡ ts
 few_normal ts few = (normal_test true ts ts refl (λ k d below. absurd (omega (arith, few, below)))).0 refl

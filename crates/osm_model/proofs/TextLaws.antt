@@ -15,7 +15,7 @@ use Rattle.osm_model.specs.declared.text.Storage.TheVariants.{InlineRaw, Inline,
 use Rattle.osm_model.specs.Storage.{bytes_of, is_heap}
 use Rattle.osm_model.specs.Text.{text_cmp, is_empty}
 
--- The characters of a string's bytes have these bytes.
+-- The UTF-8 of the characters of a string is the string's bytes.
 pub text_bytes : {Z : Type 0} (s : String Z) → encodes (chars (string_bytes s)) ≡ string_bytes s
 text_bytes s = encodes-chars _ (IsUtf8-string_bytes s)
 
@@ -54,7 +54,7 @@ text_chars bs cs u e = encodes_same _ _ (encodes-chars bs u ∙ e)
 pub appended_chars : (before more now : List ℕ) → IsUtf8 before → now ≡ before ++ more → chars now ≡ chars before ++ chars more
 appended_chars before more now u e = ap chars e ∙ chars-append before more u
 
--- a property of the bytes that the value itself holds
+-- if the storage isn't `Heap`, a property that holds for the other storages holds
 of_value : (P : Type 0) (s : Storage) → OnFalse (is_heap s) P → ((string : String Global) → s ≡ Heap string → ⊥) → P
 of_value P (InlineRaw plain) h other = h
 of_value P (Inline string) h other = h

@@ -1,4 +1,4 @@
--- A time's text determines it, holds no separator, and is that of a date of the calendar.
+-- The text of a time determines the time, has no separator, and spells a date of the calendar.
 use Rattle.std.proofs.Common.{◌≡◌, ◌≢◌, ℕ, ◌+◌, ◌*◌, ◌/◌, ◌%◌, ◌^◌, ◌<◌, List, [], ◌∷◌, ◌++◌, Option, Some, None, refl, sym, ap, ◌∙◌, subst}
 use Rattle.std.proofs.Common.{arith, inl, inr}
 use Rattle.osm_model.specs.declared.calendar.Date.{Date}

@@ -104,7 +104,7 @@ valid_version id meta b h location =
       tags = sorted_tags b;
     }
 
--- a version without its body is one of a deleted object
+-- a version remains one if its body is replaced by that of a deleted object
 pub without_body : (v : VersionData) (k : Kind) → IsVersion v → IsVersion (record v { body = body.Deleted k })
 without_body v k h =
     record {

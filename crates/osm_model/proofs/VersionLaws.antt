@@ -29,7 +29,7 @@ version_cmp-IsAntisymmetric v w e = line_injective v w (slice_cmp-IsAntisymmetri
 pub equal_of_same : (v w : VersionData) → v ≡ w → version_cmp v w ≡ Equal
 equal_of_same v w e = subst (λ u. version_cmp v u ≡ Equal) e (tied_itself version_cmp_total v)
 
--- a test of equal data is one of the order
+-- a test whether data is equal is a test whether versions tie
 pub same_test : (r : Bool) (v w : VersionData) → (IsTrue r ↔ (v ≡ w)) → r ≡ eq_by_cmp version_cmp v w
 same_test true v w h = sym (ap is_eq (equal_of_same v w (h.0 refl)))
 same_test false v w h = elim (version_cmp v w) as (λ o. version_cmp v w ≡ o → false ≡ is_eq o) [
@@ -52,6 +52,6 @@ union-view vs ws h k =
 less_first : (o p : Ordering) → o ≡ Less → ordering_then o p ≡ Less
 less_first o p e = ap (λ r. ordering_then r p) e
 
--- the keys decide, if they differ
+-- the version of the lesser key is less
 pub less_by_key : (v w : VersionData) → key_cmp v w ≡ Less → version_cmp v w ≡ Less
 less_by_key v w e = less_first _ _ (less_first _ _ (less_first _ _ e))

@@ -1,5 +1,4 @@
--- The stretches of a canonical line that are appended at once (own definitions of this project, for
--- `Version::append_line`).
+-- The parts of a canonical line that `Version::append_line` appends at once (own definitions of this project).
 use Rattle.std.specs.Prelude.{ℕ, ℤ, List, ◌∷◌, ◌++◌, codes}
 use Rattle.osm_model.specs.Kind.{kind_letter}
 use Rattle.osm_model.specs.Decimal.{number_text, integer_text}

@@ -1,10 +1,10 @@
--- Coordinates in degrees, as the OPL manual has them; that a text has as few decimals as it can is an own rule of this
--- project.
+-- Coordinates in degrees, as the OPL manual has them. One rule is this project's own: the decimals don't end with a
+-- zero.
 use Rattle.std.specs.Prelude.{ℕ, ℤ, unsigned_abs, ◌/◌, ◌%◌, ◌==◌, List, [], ◌∷◌, ◌++◌, if◌then◌else◌}
 use Rattle.osm_model.specs.Numeral.{pad_zeros}
 use Rattle.osm_model.specs.Decimal.{number_text, sign_text}
 
--- a digit before others, which is left out if it is a zero with none after it
+-- a digit before other digits; a zero without a digit after it is left out
 abbrev pub digit_before : ℕ → List ℕ → List ℕ
 digit_before d [] = if d == 48 then [] else (d ∷ [])
 digit_before d (e ∷ es) = d ∷ e ∷ es

@@ -30,7 +30,7 @@ abbrev pub items_text : {X : Type 0} → Bool → (X → List ℕ) → List X �
 items_text true text xs = list_text text xs
 items_text false text xs = more_text text xs
 
--- the line from a field on
+-- ---- the line from a field on
 abbrev pub from_kind : VersionData → List ℕ
 from_kind v = 32 ∷ join_with 32 (kind_fields v.body)
 
@@ -70,28 +70,29 @@ from_field v field.Tags = from_tags v
 from_field v field.Kind = from_kind v
 
 -- the line from a position on
-abbrev pub from_place : VersionData → Place → List ℕ
-from_place v (place.Field f) = from_field v f
-from_place v (place.Equals value tags) = codes "=" ++ (escape value.now ++ (more_text tag_text tags.now ++ from_kind v))
-from_place v (place.MoreTags tags) = more_text tag_text tags.now ++ from_kind v
-from_place v (place.Latitude lat) = codes " y" ++ coordinate_text lat
-from_place v (place.References is_first ids) = items_text is_first reference_text ids.now
-from_place v (place.Members is_first members) = items_text is_first member_text members.now
-from_place v (place.At role members) = codes "@" ++ (escape role.now ++ more_text member_text members.now)
-from_place v place.End = []
+abbrev pub bytes_from : VersionData → Place → List ℕ
+bytes_from v (place.Field f) = from_field v f
+bytes_from v (place.Equals value tags) = codes "=" ++ (escape value.now ++ (more_text tag_text tags.now ++ from_kind v))
+bytes_from v (place.MoreTags tags) = more_text tag_text tags.now ++ from_kind v
+bytes_from v (place.Latitude lat) = codes " y" ++ coordinate_text lat
+bytes_from v (place.References is_first ids) = items_text is_first reference_text ids.now
+bytes_from v (place.Members is_first members) = items_text is_first member_text members.now
+bytes_from v (place.At role members) = codes "@" ++ (escape role.now ++ more_text member_text members.now)
+bytes_from v place.End = []
 
 -- a text, and then the line from a position on
 abbrev pub from_next : VersionData → Continuation → List ℕ
-from_next v next = escape (chars next.text.now) ++ from_place v next.place
+from_next v next = escape (chars next.text.now) ++ bytes_from v next.place
 
--- the bytes are those of the buffer, at least one, and then what comes after it
+-- `bytes` are those of the buffer, at least one, and then those of `next`
 abbrev pub Emits : VersionData → List ℕ → SmallBuffer → Continuation → Type 0
 Emits v bytes small_buffer next = (bytes ≡ bytes_left small_buffer ++ from_next v next) × (0 < length (bytes_left small_buffer))
 
--- likewise; but if there are no bytes, the result is `None`
+-- as `Emits`, with the continuation in `answer`; but without bytes `answer` is `None`
 abbrev pub EmitsOrEnds : VersionData → List ℕ → SmallBuffer → Option Continuation → Type 0
 EmitsOrEnds v bytes small_buffer answer = MatchOption answer (bytes ≡ []) (λ next. Emits v bytes small_buffer next)
 
+-- the bytes of a chunk
 abbrev pub chunk_text : Chunk → SmallBuffer → List ℕ
 chunk_text chunk.SmallBuffer small_buffer = bytes_left small_buffer
 chunk_text (chunk.Plain bytes) small_buffer = bytes.now
@@ -100,7 +101,7 @@ chunk_text (chunk.Plain bytes) small_buffer = bytes.now
 abbrev pub chunk_of : LineBytes → List ℕ
 chunk_of c = chunk_text c.chunk c.small_buffer
 
--- what comes after the current run
+-- the bytes after the current run
 abbrev pub after_chunk : LineBytes → List ℕ
 after_chunk c = from_next c.version.now c.next
 

@@ -1,5 +1,5 @@
--- The data of a version, which is all that contracts see of it (its parts are those of the OSM wiki's page Elements;
--- that a deleted version has a kind and nothing else in its body is an own rule).
+-- The data of a version. Contracts see nothing else of a version. Its parts are those of the OSM wiki's page Elements.
+-- One rule is this project's own: the body of a deleted version has a kind and nothing else.
 use Rattle.std.specs.Prelude.{ℕ, ℤ, Bool, true, false, List, [], ◌++◌, Option}
 use Rattle.osm_model.specs.declared.kind.Kind.{Kind}
 use Rattle.osm_model.specs.declared.kind.Kind.TheVariants as kind
@@ -53,14 +53,14 @@ texts_of (Node lon lat tags) = texts_of_tags tags
 texts_of (Way refs tags) = texts_of_tags tags
 texts_of (Relation members tags) = roles_of members ++ texts_of_tags tags
 
--- the tags ascending, each once
+-- a body with its tags ascending, each once
 abbrev pub normal_body : Body → Body
 normal_body (Deleted k) = Deleted k
 normal_body (Node lon lat tags) = Node lon lat (normal_tags tags)
 normal_body (Way refs tags) = Way refs (normal_tags tags)
 normal_body (Relation members tags) = Relation members (normal_tags tags)
 
--- the version of data that was handed in
+-- the version of an id, metadata and a body, as `Version::new` makes it
 abbrev pub version_of : ℤ → Meta → Body → VersionData
 version_of id meta body = record {
   id = id;

@@ -1,5 +1,5 @@
--- The characters of a text in OPL. The form of an escape is that of the OPL manual; which characters are raw, and how
--- many digits an escape has, are own rules of this project.
+-- The characters of a text in OPL. The form of an escape is that of the OPL manual. Two rules are this project's own:
+-- the characters that are raw, and the number of digits of an escape.
 use Rattle.std.specs.Prelude.{◌≡◌, ℕ, Bool, nat_lt, ◌+◌, ◌&&◌, ◌||◌, List, [], ◌∷◌, ◌++◌, length, slice_index}
 use Rattle.std.specs.Prelude.{encode_utf8, encode_utf8_all, if◌then◌else◌}
 use Rattle.std.specs.Char.{len_utf8}
@@ -14,11 +14,11 @@ is_raw c =
     is_in_range 0x21 0x24 c || is_in_range 0x26 0x2B c || is_in_range 0x2D 0x3C c || is_in_range 0x3E 0x3F c
     || is_in_range 0x41 0x7E c || is_in_range 0xA1 0xAC c || is_in_range 0xAE 0x5FF c
 
--- the bytes that are such a character by themselves
+-- the bytes that are a raw character by themselves
 abbrev pub is_raw_byte : ℕ → Bool
 is_raw_byte b = is_raw b && nat_lt b 0x80
 
--- four of them, from an offset on
+-- the four bytes from an offset on are raw characters by themselves
 abbrev pub are_raw_bytes : List ℕ → ℕ → Bool
 are_raw_bytes bs n =
     is_raw_byte (slice_index bs n) && (is_raw_byte (slice_index bs (n + 1))
@@ -40,15 +40,15 @@ escape_char c = if is_raw c then encode_utf8 c else code_escape c
 abbrev pub escape : List ℕ → List ℕ
 escape cs = flat_map escape_char cs
 
--- the number of bytes of the first of some characters, if it is raw
+-- the number of bytes of the first of some characters, if it is raw, and else 0
 abbrev pub raw_width : List ℕ → ℕ
 raw_width [] = 0
 raw_width (c ∷ cs) = if is_raw c then len_utf8 c else 0
 
--- the number of bytes of the raw characters before the first other one
+-- the number of bytes of the raw characters before the first character that isn't raw
 abbrev pub raw_length : List ℕ → ℕ
 raw_length cs = length (encode_utf8_all (take_while is_raw cs))
 
--- texts, by their bytes, that are written as they are in a line
+-- the bytes of a text that a line has unchanged
 abbrev pub IsPlain : List ℕ → Type 0
 IsPlain bytes = escape (chars bytes) ≡ bytes

@@ -1,4 +1,4 @@
--- The meaning of a version's fields.
+-- The data that the fields of a `Version` hold, and their invariant.
 use Rattle.std.specs.Prelude.{◌≡◌}
 use Rattle.osm_model.specs.declared.version.Version.TheInside.{Inside}
 use Rattle.osm_model.specs.Data.{VersionData, kind_of}

@@ -3,10 +3,10 @@ use Rattle.std.specs.Prelude.{ℕ}
 use Rattle.osm_model.specs.declared.kind.Kind.{Kind}
 use Rattle.osm_model.specs.declared.kind.Kind.TheVariants.{Node, Way, Relation}
 
-abbrev pub kind_rank : Kind → ℕ
-kind_rank Node = 0
-kind_rank Way = 1
-kind_rank Relation = 2
+abbrev pub kind_order : Kind → ℕ
+kind_order Node = 0
+kind_order Way = 1
+kind_order Relation = 2
 
 -- `n`, `w`, `r`
 abbrev pub kind_letter : Kind → ℕ

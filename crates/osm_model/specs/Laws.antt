@@ -8,8 +8,8 @@ use Rattle.osm_model.specs.Order.{version_cmp}
 use Rattle.osm_model.specs.Rank.{rank_of}
 
 -- two versions with one line are equal (no premise on their ranges is needed)
-abbrev pub LineTellsAllData : Type 0
-LineTellsAllData = (v w : VersionData) → line v ≡ line w → v ≡ w
+abbrev pub LineDeterminesData : Type 0
+LineDeterminesData = (v w : VersionData) → line v ≡ line w → v ≡ w
 
 -- the order is total, and only equal versions tie
 abbrev pub OrderIsTotal : Type 0

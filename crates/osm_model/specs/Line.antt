@@ -47,6 +47,7 @@ kind_fields (Node lon lat tags) = (codes "x" ++ coordinate_text lon) ∷ (codes 
 kind_fields (Way refs tags) = (codes "N" ++ list_text reference_text refs) ∷ []
 kind_fields (Relation members tags) = (codes "M" ++ list_text member_text members) ∷ []
 
+-- the fields of a version, in their order
 abbrev pub fields : VersionData → List (List ℕ)
 fields v =
     (kind_letter (kind_of v.body) ∷ integer_text v.id)

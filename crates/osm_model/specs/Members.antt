@@ -1,4 +1,4 @@
--- The parts of members (the OSM wiki's page Relation).
+-- The ids and the roles of members (the OSM wiki's page Relation).
 use Rattle.std.specs.Prelude.{ℕ, ℤ, List, map}
 use Rattle.osm_model.specs.declared.members.Member.{Member}
 

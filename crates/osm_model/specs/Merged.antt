@@ -4,7 +4,8 @@ use Rattle.std.specs.declared.cmp.Ordering.{Ordering}
 use Rattle.std.specs.declared.cmp.Ordering.TheVariants.{Less, Equal, Greater}
 
 module _ {K : Type 0} (R : K → K → Ordering) where
-  -- the merge of a right list with a left list, whose first member and the merges of whose rest are given
+  -- the merge of a left list with a right one; the left list has the first member `x`, and `rest` merges its other
+  -- members
   abbrev pub merge_from : K → (List K → List K) → List K → List K
   merge_from x rest [] = x ∷ rest []
   merge_from x rest (y ∷ ys) = elim (R x y) as

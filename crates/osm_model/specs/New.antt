@@ -1,4 +1,4 @@
--- Which data makes a version, and why other data doesn't (own rules of this project).
+-- The data that makes a version, and the faults of other data (own rules of this project).
 use Rattle.std.specs.Prelude.{◌≡◌, ◌≤◌, ℕ, ℤ, ◌^◌, Bool, true, not, ◌&&◌, ◌||◌, nat_lt, List, [], ◌∷◌, Option, Some}
 use Rattle.std.specs.Prelude.{None, is_some, Result, Ok, Err, ◌==◌, if◌then◌else◌, length, encode_utf8_all}
 use Rattle.std.specs.List.{list_all}
@@ -35,7 +35,7 @@ tests id meta body =
     ∷ (not (list_all is_text (meta.user ∷ texts_of body)), ZeroInText)
     ∷ []
 
--- the first whose test applies
+-- the fault of the first test that applies
 abbrev pub first_of_tests : List (Bool × ValueFault) → Option ValueFault
 first_of_tests [] = None
 first_of_tests (t ∷ ts) = if t.0 then Some t.1 else first_of_tests ts

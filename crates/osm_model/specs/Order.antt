@@ -5,7 +5,7 @@ use Rattle.std.specs.declared.cmp.Ordering.{Ordering}
 use Rattle.std.specs.Ordering.{then_cmp, on, nat_cmp, bool_cmp}
 use Rattle.std.specs.Cmp.{IsTotalOrder, then_total, on_total, nat_cmp_total, bool_cmp_total}
 use Rattle.std.specs.Cmp.Lexicographic.{slice_cmp, nat_list_cmp_total}
-use Rattle.osm_model.specs.Kind.{kind_rank}
+use Rattle.osm_model.specs.Kind.{kind_order}
 use Rattle.osm_model.specs.Data.{VersionData, kind_of, is_deleted}
 use Rattle.osm_model.specs.Line.{line}
 
@@ -15,7 +15,7 @@ is_positive (negsuc n) = false
 
 -- the kind, ids above 0 after the others, the absolute value of the id
 abbrev pub object_cmp : VersionData → VersionData → Ordering
-object_cmp = then_cmp (then_cmp (on (λ v. kind_rank (kind_of v.body)) nat_cmp) (on (λ v. is_positive v.id) bool_cmp))
+object_cmp = then_cmp (then_cmp (on (λ v. kind_order (kind_of v.body)) nat_cmp) (on (λ v. is_positive v.id) bool_cmp))
     (on (λ v. unsigned_abs v.id) nat_cmp)
 
 -- the object, then the version number
@@ -32,7 +32,7 @@ version_cmp = then_cmp data_cmp (on line (slice_cmp nat_cmp))
 
 pub object_cmp_total : IsTotalOrder object_cmp
 object_cmp_total =
-    then_total (then_total (on_total (λ v. kind_rank (kind_of v.body)) nat_cmp_total)
+    then_total (then_total (on_total (λ v. kind_order (kind_of v.body)) nat_cmp_total)
     (on_total (λ v. is_positive v.id) bool_cmp_total))
     (on_total (λ v. unsigned_abs v.id) nat_cmp_total)
 

@@ -1,19 +1,18 @@
--- The rank of a version: the position of its key among all keys, as far as 64 bits hold it: an own rule of this
--- project.
+-- The rank of a version: its key as one number, as far as 64 bits hold the key (own rule of this project).
 use Rattle.std.specs.Prelude.{ℕ, ◌+◌, ◌*◌, ◌-◌, ◌^◌, min, nat_lt, if◌then◌else◌, unsigned_abs}
-use Rattle.osm_model.specs.Kind.{kind_rank}
+use Rattle.osm_model.specs.Kind.{kind_order}
 use Rattle.osm_model.specs.Data.{VersionData, kind_of}
 use Rattle.osm_model.specs.Order.{is_positive}
 
 -- the kind, then whether the id is above 0
 abbrev pub kind_and_sign : VersionData → ℕ
-kind_and_sign v = 2 * kind_rank (kind_of v.body) + (if is_positive v.id then 1 else 0)
+kind_and_sign v = 2 * kind_order (kind_of v.body) + (if is_positive v.id then 1 else 0)
 
 -- the absolute value of the id, up to 2^45 - 1
 abbrev pub capped_id : VersionData → ℕ
 capped_id v = min (unsigned_abs v.id) (2 ^ 45 - 1)
 
--- the version number, up to 2^16 - 1, if the reach determines the id
+-- the version number, up to 2^16 - 1; 0 if `capped_id` doesn't determine the id
 abbrev pub capped_number : VersionData → ℕ
 capped_number v = if nat_lt (unsigned_abs v.id) (2 ^ 45 - 1) then min v.number (2 ^ 16 - 1) else 0
 

@@ -1,5 +1,5 @@
--- Finite sets of values in an order. A set is a finite map of std to nothing, so it carries its order, and sets with
--- the same members are equal.
+-- Finite sets of values in an order. A set is a finite map of std from its members to `tt`. It carries its order, so
+-- sets with the same members are equal.
 use Rattle.std.specs.Prelude.{ℕ, Bool, List, ◌++◌, map, length}
 use Rattle.std.specs.declared.cmp.Ordering.{Ordering}
 use Rattle.std.specs.FinMap as fin

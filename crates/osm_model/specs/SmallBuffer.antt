@@ -1,7 +1,7 @@
--- The bytes that a piece has left to give.
+-- The remaining bytes of a `SmallBuffer`.
 use Rattle.std.specs.Prelude.{ℕ, List, drop}
 use Rattle.osm_model.specs.declared.small_buffer.SmallBuffer.{SmallBuffer}
 
--- the bytes that are left
+-- the bytes from `start` on
 abbrev pub bytes_left : SmallBuffer → List ℕ
 bytes_left small_buffer = drop small_buffer.start small_buffer.bytes

@@ -30,6 +30,6 @@ pub record IsTimeText (seconds : ℕ) (text : List ℕ) : Type 0 where
       ≡ 86_400 * day_number year month day + 3_600 * hour + 60 * minute + second
   pub spelled : text ≡ spelled_time year month day hour minute second
 
--- the text of a time of 32 bits is the one such text
+-- for a time below 2^32, `time_text` is the only text with `IsTimeText`
 abbrev pub TimeLaw : Type 0
 TimeLaw = (seconds : ℕ) (text : List ℕ) → seconds < 2 ^ 32 → (text ≡ time_text (Some seconds)) ↔ IsTimeText seconds text

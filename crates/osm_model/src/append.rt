@@ -1,10 +1,11 @@
 //! Canonical lines, appended to a vector.
 //!
-//! Why: `LineBytes` gives the same bytes from left to right, but takes more than twice as long. `append` writes a line
-//! in few stretches. The line of a node without tags takes one stretch; eight of ten lines of an extract are such
-//! lines.
+//! Why: `LineBytes` gives the same bytes from left to right, but takes more than twice as long. This module appends a
+//! line in stretches: it makes each stretch in a buffer, from its end to its start, and appends it at once. The line of
+//! a node without tags is one stretch. Eight of ten lines of an extract are lines of such nodes.
 //! Assumes: for one stretch, a visible node without tags whose user name is known to be plain.
-//! Otherwise: one stretch up to the user name, one for the name, one for the tags, and one for the fields of the kind.
+//! Otherwise: the line is appended part by part: the fields before the user name, the name, the tags, and the fields of
+//! the kind.
 //! Compared by: `both_writers_write_one_line` (opl_line) and `a_node_without_tags_has_one_line`.
 ghost use Rattle.std.specs.Prelude.{◌≡◌, ◌++◌, ◌+◌, [], ◌∷◌, ◌≤◌, ℕ, List, codes, length, drop, OnOk};
 ghost use Rattle.osm_model.specs.Joined.{join_with};
@@ -21,11 +22,10 @@ use crate::put::{put, put_byte, put_coordinate, put_integer, put_number, put_tim
 use crate::small_buffer::SmallBuffer;
 use crate::{Body, Member, Memory, Tag, Text, Version};
 
-/// The number of bytes that a stretch has room for. A stretch is appended at once. The fields before a user name take
-/// fewer bytes.
+/// The size of the buffer of a stretch. The fields before a user name take fewer bytes.
 const STRETCH_BYTES: usize = 128;
 
-/// An upper bound for the bytes of the line of a node that has no tags and a user name that is known to be plain.
+/// An upper bound on the length of the line of a node without tags whose user name is known to be plain.
 const BARE_NODE: usize = STRETCH_BYTES + INLINE_TEXT_BYTES + 64;
 
 impl Version {
@@ -44,7 +44,7 @@ impl Version {
     }
 }
 
-/// Appends the line of a node without tags at once: most nodes have none.
+/// Appends the line of a node without tags in one stretch. Most nodes have no tags.
 #[inline(always)]
 fn append_bare_node(
     node: &Version,
@@ -99,7 +99,8 @@ fn append_head(version: &Version, out: &mut Vec<u8>) -> Result<(), Memory>
     append_from(&room, start, out)
 }
 
-/// Writes the fields before the user name, and the mark of the user name, into `room` before `end`.
+/// Writes the fields before the user name, and the mark of the user name, into `room` before `end`. Returns the offset
+/// where they begin.
 #[inline(always)]
 fn put_head(room: &mut [u8], end: usize, version: &Version) -> usize
     requires within { end ≤ length room.old }
@@ -141,7 +142,7 @@ fn append_text(text: &Text, out: &mut Vec<u8>) -> Result<(), Memory>
     append_characters(text, out)
 }
 
-/// Appends the characters of a text, and looks at each of them.
+/// Appends the characters of a text, raw or as escapes. It tests each character.
 #[inline(never)]
 fn append_characters(text: &Text, out: &mut Vec<u8>) -> Result<(), Memory>
     ensures appended { OnOk result (out.new.items ≡ out.old.items ++ escape text.now) }
@@ -253,7 +254,7 @@ fn append_kind_fields(body: &Body, out: &mut Vec<u8>) -> Result<(), Memory>
     }
 }
 
-/// The number of references that a stretch has room for, each of them after a comma.
+/// The number of references that the buffer of a stretch can hold, each after a comma.
 const REFERENCES_PER_STRETCH: usize = 5;
 
 /// Appends the field of references.
@@ -275,7 +276,7 @@ fn append_references(ids: &[i64], out: &mut Vec<u8>) -> Result<(), Memory>
     Ok(())
 }
 
-/// Appends a few references, each after a comma, by one stretch.
+/// Appends at most 5 references, each after a comma, in one stretch.
 fn append_few_references(ids: &[i64], out: &mut Vec<u8>) -> Result<(), Memory>
     requires few { length ids.now ≤ 5 }
     ensures appended { OnOk result (out.new.items ≡ out.old.items ++ more_text reference_text ids.now) }
@@ -302,7 +303,7 @@ fn append_location(lon: i32, lat: i32, out: &mut Vec<u8>) -> Result<(), Memory>
     append_from(&room, start, out)
 }
 
-/// Writes the fields of a location into `room` before `end`.
+/// Writes the fields of a location into `room` before `end`. Returns the offset where they begin.
 #[inline(always)]
 fn put_location(room: &mut [u8], end: usize, lon: i32, lat: i32) -> usize
     requires within { end ≤ length room.old }

@@ -58,7 +58,7 @@ impl Body {
         }
     }
 
-    /// Whether all references and members have ids.
+    /// Whether each reference and the id of each member is in the range of ids.
     pub(crate) fn are_ids(&self) -> bool
         ensures { result ≡ list_all is_id (ids_of self.now) }
     {
@@ -100,14 +100,14 @@ impl Body {
     {
         match self {
             Body::Deleted(_) => true,
-            // One arm for each kind, so that the body need not lie in memory for it.
+            // Each kind has its own arm: one arm for all would need the body in memory.
             Body::Node { tags, .. } => tags.are_normal(),
             Body::Way { tags, .. } => tags.are_normal(),
             Body::Relation { tags, .. } => tags.are_normal(),
         }
     }
 
-    /// Replaces the body. This is the assignment `*self = body`; it is fast where the old body holds no memory.
+    /// Replaces the body. This is the assignment `*self = body`, but faster if the old body holds no memory.
     #[inline(always)]
     pub fn replace(&mut self, body: Body)
         ensures { self.new ≡ body }
@@ -119,7 +119,7 @@ impl Body {
         mem::forget(mem::replace(self, body));
     }
 
-    /// Drops the contents of the body.
+    /// Drops the contents of the body, and leaves the body of a deleted node.
     #[inline(never)]
     pub(crate) fn release(&mut self)
         ensures { self.new ≡ Deleted kind.Node }
@@ -127,7 +127,8 @@ impl Body {
         *self = Body::Deleted(Kind::Node);
     }
 
-    /// Shows contracts that a location is within its range, as its numbers have 32 bits.
+    /// Shows contracts that the location of a node is within its range. The code only reads the two numbers, which have
+    /// 32 bits.
     #[inline(always)]
     pub(crate) fn show_in_range(&self)
         ensures { IsInRange self.now }

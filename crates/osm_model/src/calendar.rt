@@ -3,16 +3,16 @@ ghost use Rattle.std.specs.Prelude.{◌≡◌, ◌<◌, ◌≤◌};
 
 use jiff_core::civil;
 
-/// The days from -9999-01-01, the first that `jiff_core` has, to 1970-01-01.
+/// The number of days from -9999-01-01, the first date of `jiff_core`, to 1970-01-01.
 const DAYS_FROM_MIN_TO_1970: u32 = 4_371_587;
 
 /// A day of the Gregorian calendar, from the year 0 on.
 #[derive(Clone, Copy)]
 pub(crate) struct Date {
     pub(crate) year: u16,
-    /// From 1.
+    /// The month, counted from 1.
     pub(crate) month: u8,
-    /// From 1.
+    /// The day of the month, counted from 1.
     pub(crate) day: u8,
 }
 

@@ -1,11 +1,11 @@
-//! Recognizes the characters of lines.
+//! Recognizes a character by its form in a line.
 ghost use Rattle.std.specs.Prelude.{◌≡◌, ◌≢◌, ◌++◌, ℕ, List, MatchOption};
 ghost use Rattle.osm_model.specs.Escape.{escape_char};
 
 use crate::small_buffer::SmallBuffer;
 
-/// The bytes after the escaped form of `c` in a canonical line, if `bytes` begins with that form. A character has one
-/// form.
+/// Returns the bytes after the form of `c`, if `bytes` begins with that form. The form of a character is the one that a
+/// canonical line has for it: the character itself or its escape.
 pub fn strip_escaped(bytes: &[u8], c: char) -> Option<&[u8]>
     ensures { MatchOption result
         ((rest : List ℕ) → bytes.now ≢ escape_char c ++ rest)

@@ -1,7 +1,7 @@
 //! Faults of data.
 use thiserror::Error;
 
-/// Why data makes no version.
+/// The reason why data makes no version.
 #[derive(Clone, Copy, Debug, PartialEq, Eq, Error)]
 pub enum ValueFault {
     /// An id, a reference or the id of a member is outside -4611686018427387903 to 4611686018427387903.
@@ -19,10 +19,10 @@ pub enum ValueFault {
     /// A text holds the character U+0000.
     #[error("U+0000 in a text")]
     ZeroInText,
-    /// A growth of memory was refused.
+    /// An allocation failed.
     #[error("out of memory")]
     Memory,
-    /// There is a changeset, a user id or a user name, and no time.
+    /// The time is missing, but there is a changeset, a user id or a user name.
     #[error("author without a time")]
     NoTime,
 }

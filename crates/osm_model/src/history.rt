@@ -33,7 +33,7 @@ impl Model for History {
 }
 
 impl History {
-    /// Holds nothing.
+    /// The empty history.
     pub fn new(alloc: Global) -> History
         ensures { result ≡ set.empty }
     {
@@ -42,8 +42,8 @@ impl History {
         }
     }
 
-    /// The set of the versions of a list. The list may have any order and repeats. If it consists of a few ascending
-    /// stretches, like sorted files in sequence, these are merged.
+    /// The set of the versions of a list. The list may have any order and repeats. A list of a few ascending runs, like
+    /// sorted files in sequence, is sorted fast: the sort merges the runs.
     ///
     /// # Errors
     ///
@@ -58,7 +58,7 @@ impl History {
         Ok(History { versions })
     }
 
-    /// The set of the versions of a list that ascends strictly. It takes no memory and compares nothing.
+    /// The set of the versions of a strictly ascending list. The call allocates nothing and compares nothing.
     pub fn from_ascending(versions: Vec<Version>) -> History
         requires { IsStrictlySortedBy version_cmp versions.items }
         ensures { result ≡ set.from_list versions.items }
@@ -66,7 +66,7 @@ impl History {
         History { versions }
     }
 
-    /// The union. Both histories remain unchanged.
+    /// The union of the two histories. Both remain unchanged.
     pub fn join(&self, other: &History) -> Result<History, Memory>
         ensures { IfOk result (λ h. h ≡ set.union self.now other.now) }
     {
@@ -96,7 +96,7 @@ impl History {
         self.versions.is_empty()
     }
 
-    /// The version that has `place` lesser ones in the history. `place` is below the length.
+    /// The version at index `place` of the history in ascending order. `place` is below the length.
     pub fn get(&self, place: usize) -> &Version
         requires { place < set.size self.now }
         ensures { result.now ≡ slice_index_or (set.to_list self.now) place result.now }
@@ -104,7 +104,7 @@ impl History {
         &self.versions[place]
     }
 
-    /// The versions, ascending. They are moved out, so nothing is copied.
+    /// The versions in ascending order. They are moved out, not copied.
     pub fn into_versions(self) -> Vec<Version>
         ensures { result.items ≡ set.to_list self }
     {
@@ -132,7 +132,7 @@ fn append_copies(versions: &mut Vec<Version>, more: &[Version]) -> Result<(), Me
     Ok(())
 }
 
-/// Appends copies of the versions of two ascending lists to `versions`, ascending. One of two equal versions is copied.
+/// Merges two ascending lists, and appends copies of their versions to `versions`. It copies one of two equal versions.
 fn append_merged(
     versions: &mut Vec<Version>,
     left: &[Version],

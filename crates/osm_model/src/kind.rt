@@ -1,6 +1,6 @@
 //! The kinds of objects.
 ghost use Rattle.std.specs.Prelude.{◌≡◌, ◌≤◌, ◌∷◌, length};
-ghost use Rattle.osm_model.specs.Kind.{kind_rank, kind_letter};
+ghost use Rattle.osm_model.specs.Kind.{kind_order, kind_letter};
 ghost use Rattle.osm_model.specs.Joined.{join_with};
 ghost use Rattle.osm_model.specs.Line as text;
 
@@ -14,8 +14,8 @@ pub enum Kind {
 
 impl Kind {
     /// The index of the kind in the order of versions: nodes, ways, relations.
-    pub fn rank(self) -> u8
-        ensures { result ≡ kind_rank self }
+    pub fn index(self) -> u8
+        ensures { result ≡ kind_order self }
     {
         match self {
             Kind::Node => 0,

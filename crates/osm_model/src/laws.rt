@@ -1,11 +1,11 @@
-//! Laws of the definitions, each the contract of a function with an empty body. They run no code.
-ghost use Rattle.osm_model.specs.Laws.{LineTellsAllData, LowerRankIsLess, OrderIsTotal};
+//! Laws of the definitions. Each law is the contract of a function with an empty body.
+ghost use Rattle.osm_model.specs.Laws.{LineDeterminesData, LowerRankIsLess, OrderIsTotal};
 ghost use Rattle.osm_model.specs.KindLaw.{KindsDontFall};
 ghost use Rattle.osm_model.specs.TimeLaw.{TimeLaw};
 
 /// The canonical line determines all data of a version.
-pub fn line_tells_all_data()
-    ensures { LineTellsAllData }
+pub fn line_determines_data()
+    ensures { LineDeterminesData }
 {}
 
 /// The order of versions is total, and only equal versions tie.
@@ -23,7 +23,7 @@ pub fn time_text_spells_the_moment()
     ensures { TimeLaw }
 {}
 
-/// The kinds of an ascending list of versions don't fall.
+/// In an ascending list of versions nodes come first, then ways, then relations.
 pub fn kinds_dont_fall()
     ensures { KindsDontFall }
 {}

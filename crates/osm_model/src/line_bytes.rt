@@ -1,4 +1,4 @@
-//! The bytes of a canonical line, given from left to right without memory.
+//! An iterator over the bytes of a canonical line, from left to right. It allocates nothing.
 ghost use Rattle.std.specs.Prelude.{◌≡◌, ◌++◌, ◌∷◌, ◌<◌, [], length, MatchOption};
 ghost use Rattle.std.specs.Bool.{MatchBool};
 ghost use Rattle.std.specs.Str.{chars};
@@ -7,7 +7,7 @@ ghost use Rattle.osm_model.specs.Data.{VersionData, tags_of};
 ghost use Rattle.osm_model.specs.Escape.{escape};
 ghost use Rattle.osm_model.specs.SmallBuffer.{bytes_left};
 ghost use Rattle.osm_model.specs.Line.{list_text, tag_text, reference_text, member_text, line};
-ghost use Rattle.osm_model.specs.Cursor.{from_place, from_field, from_kind, from_next, more_text, items_text, chunk_text, chunk_of};
+ghost use Rattle.osm_model.specs.Cursor.{bytes_from, from_field, from_kind, from_next, more_text, items_text, chunk_text, chunk_of};
 ghost use Rattle.osm_model.specs.Cursor.{after_chunk, remaining_bytes, Emits, EmitsOrEnds};
 
 use crate::escape::raw_length;
@@ -25,7 +25,7 @@ enum Field {
     Uid,
     User,
     Tags,
-    /// The fields after the tags, which the kind of the object decides.
+    /// The fields after the tags, which depend on the kind of the object.
     Kind,
 }
 
@@ -62,10 +62,11 @@ enum Place<'a> {
         role: &'a Text,
         more: &'a [Member],
     },
+    /// At the end of the line.
     End,
 }
 
-/// What comes next in a line: the rest of a text, and then the line from a position on.
+/// The rest of a line: the rest of a text, and then the line from a position on.
 #[derive(Clone, Copy)]
 struct Continuation<'a> {
     text: &'a str,
@@ -91,7 +92,7 @@ impl<'a> Continuation<'a> {
     }
 }
 
-/// Fills `small_buffer` with a field, and returns what comes after it.
+/// Fills `small_buffer` with a field, or with the front of a field, and returns the rest of the line.
 fn emit_field<'a>(
     version: &'a Version,
     field: Field,
@@ -137,7 +138,7 @@ fn emit_field<'a>(
     }
 }
 
-/// What comes after the mark of the tags.
+/// The rest of the line after the mark of the tags.
 fn first_tag(version: &Version) -> Continuation<'_>
     ensures { from_next version.now result ≡ list_text tag_text (tags_of version.now.body) ++ from_kind version.now }
 {
@@ -153,7 +154,7 @@ fn first_tag(version: &Version) -> Continuation<'_>
     }
 }
 
-/// Fills `small_buffer` with what comes after a tag.
+/// Fills `small_buffer` with the comma before the next tag, or, after the last tag, as `emit_kind_field` does.
 fn emit_next_tag<'a>(
     version: &'a Version,
     tags: &'a [Tag],
@@ -176,7 +177,7 @@ fn emit_next_tag<'a>(
     }
 }
 
-/// Fills `small_buffer` with the first field after the tags, or with its mark.
+/// Fills `small_buffer` with the front of the fields after the tags.
 fn emit_kind_field<'a>(version: &'a Version, small_buffer: &mut SmallBuffer) -> Continuation<'a>
     ensures { Emits version.now (from_kind version.now) small_buffer.new result }
 {
@@ -246,13 +247,14 @@ fn emit_member<'a>(
     }))
 }
 
-/// Fills `small_buffer` with the bytes at `place`, and returns what comes after them; `None` at the end.
+/// Fills `small_buffer` with the bytes at `place`, and returns the rest of the line. Returns `None` at the end of the
+/// line.
 fn emit<'a>(
     version: &'a Version,
     place: Place<'a>,
     small_buffer: &mut SmallBuffer,
 ) -> Option<Continuation<'a>>
-    ensures { EmitsOrEnds version.now (from_place version.now place.entry) small_buffer.new result }
+    ensures { EmitsOrEnds version.now (bytes_from version.now place.entry) small_buffer.new result }
 {
     match place {
         Place::Field(field) => Some(emit_field(version, field, small_buffer)),
@@ -281,12 +283,12 @@ fn emit<'a>(
     }
 }
 
-/// The storage of the bytes of a run.
+/// The storage of the current run of bytes.
 #[derive(Clone, Copy)]
 enum Chunk<'a> {
-    /// In the buffer of the cursor.
+    /// In the small buffer of the `LineBytes`.
     SmallBuffer,
-    /// In a text of the version.
+    /// In a text of the version, whose bytes are raw.
     Plain(&'a [u8]),
 }
 
@@ -308,8 +310,8 @@ fn emit_text<'a>(text: &'a str, small_buffer: &mut SmallBuffer) -> Option<(Chunk
     Some((Chunk::SmallBuffer, characters.as_str()))
 }
 
-/// The remaining bytes of a version's canonical line: those of the current run, and what comes after it. It takes no
-/// memory: it holds a position in the version, and at most 32 bytes of the current number, time or escape.
+/// The remaining bytes of a version's canonical line: the current run and the bytes after it. A `LineBytes` allocates
+/// nothing: it holds a position in the version, and at most 32 bytes of the current number, time or escape.
 #[derive(Drop)]
 pub struct LineBytes<'a> {
     version: &'a Version,
@@ -334,7 +336,7 @@ impl Version {
 }
 
 impl<'a> LineBytes<'a> {
-    /// Drops what is left of the current run, takes the next chunk, and returns whether there is one.
+    /// Drops the rest of the current run and takes the next one. Returns whether there is a next run.
     pub fn advance(&mut self) -> bool
         ensures { MatchBool result
             ((after_chunk self.old ≡ chunk_of self.new ++ after_chunk self.new) × (0 < length (chunk_of self.new)))
@@ -364,7 +366,7 @@ impl<'a> LineBytes<'a> {
         }
     }
 
-    /// Takes the first byte of the current run.
+    /// Takes the first byte of the current run. Returns `None` at the end of the run.
     fn take(&mut self) -> Option<u8>
         ensures chunk { MatchOption result
             ((chunk_of self.old ≡ []) × (chunk_of self.new ≡ []))

@@ -50,7 +50,7 @@ impl Model for Members {
 }
 
 impl Members {
-    /// The members of a vector, which is kept as it is.
+    /// The members of a vector. The vector is moved, not copied.
     pub fn from_vec(members: Vec<Member>) -> Members
         ensures { result ≡ members.items }
     {

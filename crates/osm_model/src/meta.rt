@@ -6,7 +6,7 @@ ghost use Rattle.osm_model.specs.New.{is_number, is_time, is_dated};
 use crate::same::Same;
 use crate::{Memory, Text};
 
-/// The version number of data and its author, without ranges: `Version::new` checks the ranges.
+/// The metadata of a version: its number and its author. The values may be out of range: `Version::new` checks them.
 #[derive(Debug, Drop)]
 pub struct Meta {
     /// The version number.
@@ -21,11 +21,11 @@ pub struct Meta {
     pub user: Text,
 }
 
-/// The bound of version numbers, changesets, user ids and times: all are below it.
+/// The exclusive upper bound of version numbers, changesets, user ids and times.
 const NUMBER_LIMIT: u64 = 1 << 32;
 
 impl Meta {
-    /// No version number, no author and no time; a reader fills it.
+    /// Metadata without a version number, a time and an author. A reader fills it.
     pub fn blank() -> Meta
         ensures { result ≡ record { version = 0; time = None; changeset = 0; uid = 0; user = [] } }
     {
@@ -38,7 +38,7 @@ impl Meta {
         }
     }
 
-    /// Whether the version number, the changeset and the user id are within their ranges, but for version number 0.
+    /// Whether the version number, the changeset and the user id are below 2^32. Version number 0 passes.
     pub(crate) fn are_numbers(&self) -> bool
         ensures { result ≡ list_all is_number (self.now.version ∷ self.now.changeset ∷ self.now.uid ∷ []) }
     {

@@ -1,7 +1,7 @@
 //! Short texts of which each character is written raw.
 //!
-//! Why: such a text is appended to a line by one copy, which takes 0.94 to 0.96 of the time of a merge from o5m to OPL.
-//! Assumes: at most 24 bytes, which were looked at once (`Text::mark_plain`).
+//! Why: one copy appends such a text to a line. A merge from o5m to OPL then takes 0.94 to 0.96 of the time.
+//! Assumes: the text has at most 24 bytes, and `Text::mark_plain` has tested it.
 //! Otherwise: the text is escaped character by character.
 //! Compared by: `a_look_changes_no_text` and `both_writers_write_users_that_are_plain`.
 ghost use Rattle.std.specs.Prelude.{◌≡◌, ◌≤◌, ◌↔◌, length, IsSome, IfSome};
@@ -11,10 +11,10 @@ ghost use Rattle.osm_model.specs.Escape.{raw_length, IsPlain};
 use crate::escape::raw_length;
 use arrayvec::ArrayString;
 
-/// The most bytes that a text without memory of its own has: most user names, keys and values have fewer.
+/// The greatest number of bytes of a text without memory of its own. Most user names, keys and values have fewer.
 pub(crate) const INLINE_TEXT_BYTES: usize = 24;
 
-/// A short text that a line has byte for byte, since each of its characters is written as itself.
+/// A short text whose characters are all written as themselves, so a line has the same bytes.
 #[derive(Debug, Clone, Copy)]
 pub(crate) struct PlainString {
     string: ArrayString<INLINE_TEXT_BYTES>,

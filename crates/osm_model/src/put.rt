@@ -1,9 +1,10 @@
-//! Parts of a line, written into `room` before the bytes from `end` on.
+//! Writes parts of a line into `room`, so that they end at the offset `end`. Each function returns the offset where its
+//! part begins.
 //!
-//! Why: a number is written from its last digit on. The offset where the bytes begin is a parameter and a result, so it
-//! stays in a register; as a field of a struct it was stored and loaded 25 times for a line.
-//! Assumes: each call has room for the longest form of its part.
-//! Otherwise: nothing; `append` appends a text that may be longer.
+//! Why: a number is written from its last digit to its first. The offset where the bytes begin is a parameter and a
+//! result, so it stays in a register. As a field of a struct it was stored and loaded 25 times for a line.
+//! Assumes: `room` has enough bytes before `end` for the longest form of the part.
+//! Otherwise: nothing; `append` appends the texts, which may be longer.
 //! Compared by: `both_writers_write_one_line` (opl_line).
 ghost use Rattle.std.specs.Prelude.{◌≡◌, ◌++◌, ◌+◌, ◌/◌, ◌%◌, ◌∷◌, ◌≤◌, ◌<◌, ◌^◌, length, drop, replicate};
 ghost use Rattle.std.specs.Option.{ForSome};
@@ -15,7 +16,7 @@ ghost use Rattle.osm_model.specs.Time.{date_of, date_text, clock_text, time_text
 use crate::calendar::Date;
 use crate::escape::hex_digit;
 
-/// The units of a coordinate in one degree.
+/// The number of units of a coordinate in one degree.
 const UNITS_IN_DEGREE: u32 = 10_000_000;
 
 const SECONDS_IN_DAY: u64 = 86_400;
@@ -106,7 +107,8 @@ pub(crate) fn put_coordinate(room: &mut [u8], end: usize, units: i32) -> usize
     put_sign(room, degrees, i64::from(units))
 }
 
-/// Writes the point and the decimals of a part of a degree, or nothing if the part is 0. Most have all seven decimals.
+/// Writes the point and the decimals of a part of a degree, or nothing if the part is 0. Most parts have seven
+/// decimals.
 #[inline(always)]
 fn put_fraction(room: &mut [u8], end: usize, units: u32) -> usize
     requires within { end ≤ length room.old }

@@ -10,8 +10,8 @@ const RANKED_ID_LIMIT: u64 = (1 << 45) - 1;
 /// From this number on, a rank doesn't distinguish version numbers.
 const RANKED_NUMBER_LIMIT: u64 = (1 << 16) - 1;
 
-/// The rank of a version. A version of a lower rank is less, so ranks decide nearly all comparisons of versions without
-/// a look at their data. Two versions of one rank can differ. Ranks compare as numbers, in one comparison.
+/// The rank of a version: a number that is made of its key. A version of a lower rank is less, so ranks decide nearly
+/// all comparisons of versions without a look at their data. Different versions can have the same rank.
 #[derive(Clone, Copy, Debug, PartialEq, Eq, PartialOrd, Ord)]
 pub struct Rank {
     value: u64,
@@ -25,7 +25,7 @@ impl Version {
         ensures { result.value ≡ rank_of self.now }
     {
         let id = self.id();
-        let class = 2 * u64::from(self.kind().rank()) + u64::from(id > 0);
+        let class = 2 * u64::from(self.kind().index()) + u64::from(id > 0);
         let size = id.unsigned_abs();
         let value = if size < RANKED_ID_LIMIT {
             (((class << 45) + size) << 16) + self.number().min(RANKED_NUMBER_LIMIT)

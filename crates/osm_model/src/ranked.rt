@@ -1,6 +1,6 @@
 //! Versions with their ranks.
 //!
-//! Why: versions are scattered in memory, and ranks are adjacent: a sort of lines in any order takes 0.62 to 0.73 of
+//! Why: versions are scattered in memory, and ranks are adjacent. A sort of lines in any order takes 0.62 to 0.73 of
 //! the time.
 //! Assumes: the rank is that of the version, which is an invariant of `Ranked`.
 //! Otherwise: if two ranks are equal, the versions are compared.
@@ -16,8 +16,8 @@ use std::cmp::Ordering;
 use std::marker::Model;
 
 impl Version {
-    /// The order of two versions that may be equal, such as two of one rank. Nearly always they are equal, so equality
-    /// is tested first.
+    /// Compares two versions as `cmp` does, but tests equality first. It is faster for two versions of one rank: nearly
+    /// always they are equal.
     #[inline(always)]
     pub(crate) fn cmp_equal_first(&self, other: &Version) -> Ordering
         ensures { result ≡ version_cmp self.now other.now }

@@ -23,7 +23,7 @@ impl Model for References {
 }
 
 impl References {
-    /// The references of a vector, which is kept as it is.
+    /// The references of a vector. The vector is moved, not copied.
     pub fn from_vec(ids: Vec<i64>) -> References
         ensures { result ≡ ids.items }
     {

@@ -1,4 +1,4 @@
-//! Some bytes of a line, filled in place.
+//! A buffer for a few bytes of a line.
 ghost use Rattle.std.specs.Prelude.{◌≡◌, ◌++◌, ◌∷◌, [], ◌≤◌, ◌<◌, ◌^◌};
 ghost use Rattle.std.specs.Prelude.{length, MatchOption, OnOk};
 ghost use Rattle.std.specs.Option.{ForSome};
@@ -14,10 +14,10 @@ use crate::put::{
     put, put_byte, put_coordinate, put_hex, put_integer, put_number, put_time, put_zeros,
 };
 
-/// The room of a buffer in bytes: a mark and a coordinate take at most 31.
+/// The size of a buffer in bytes. A mark and a coordinate, the longest content, take at most 31.
 const SMALL_BUFFER_BYTES: usize = 32;
 
-/// At most 32 bytes that are left to give. They end where the room ends.
+/// A buffer of at most 32 remaining bytes: those from `start` to the end of `bytes`.
 #[derive(Drop)]
 pub(crate) struct SmallBuffer {
     bytes: [u8; SMALL_BUFFER_BYTES],
@@ -28,7 +28,7 @@ pub(crate) struct SmallBuffer {
 impl SmallBuffer {
     ghost use Rattle.osm_model.specs.SmallBuffer.{bytes_left};
 
-    /// A buffer with nothing left.
+    /// An empty buffer.
     pub(crate) fn new() -> SmallBuffer
         ensures { bytes_left result ≡ [] }
     {
@@ -38,7 +38,7 @@ impl SmallBuffer {
         }
     }
 
-    /// The bytes that are left.
+    /// The remaining bytes.
     pub(crate) fn as_slice(&self) -> &[u8]
         ensures { result.now ≡ bytes_left self.now }
     {
@@ -46,7 +46,7 @@ impl SmallBuffer {
         &room[self.start..]
     }
 
-    /// Appends the bytes that are left.
+    /// Appends the remaining bytes to `out`.
     pub(crate) fn append_to(&self, out: &mut Vec<u8>) -> Result<(), Memory>
         ensures appended { OnOk result (out.new.items ≡ out.old.items ++ bytes_left self.now) }
         ensures kept { Extends out.old.items out.new.items }
@@ -55,7 +55,7 @@ impl SmallBuffer {
         Ok(())
     }
 
-    /// Takes the first byte that is left.
+    /// Takes the first of the remaining bytes.
     pub(crate) fn take(&mut self) -> Option<u8>
         ensures { MatchOption result
             ((bytes_left self.old ≡ []) × (bytes_left self.new ≡ []))

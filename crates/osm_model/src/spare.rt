@@ -12,8 +12,8 @@ use std::alloc::Global;
 use std::marker::Model;
 use std::mem;
 
-/// A version that isn't needed any more, and its lists, emptied. A reader that gets one back allocates nothing for the
-/// next version.
+/// The memory of versions that aren't needed any more: one version and three lists. A reader makes the next version in
+/// it, and allocates only if that version needs more.
 #[derive(Drop)]
 pub struct Spare {
     version: Option<Version>,
@@ -30,7 +30,7 @@ impl Model for Spare {
 }
 
 impl Spare {
-    /// No memory.
+    /// A `Spare` without memory.
     pub fn new(alloc: Global) -> Spare {
         Spare {
             version: None,
@@ -66,13 +66,13 @@ impl Spare {
         }
     }
 
-    /// The version, if there is one.
+    /// Takes the version out, if there is one.
     #[inline(always)]
     pub(crate) fn take_version(&mut self) -> Option<Version> {
         self.version.take()
     }
 
-    /// An empty list of references.
+    /// An empty list of references, in memory that was kept if there is some.
     #[inline(always)]
     pub fn take_references(&mut self) -> Vec<i64>
         ensures { result.items ≡ [] }
@@ -80,7 +80,7 @@ impl Spare {
         take(&mut self.references)
     }
 
-    /// An empty list of members.
+    /// An empty list of members, in memory that was kept if there is some.
     #[inline(always)]
     pub fn take_members(&mut self) -> Vec<Member>
         ensures { result.items ≡ [] }
@@ -88,7 +88,7 @@ impl Spare {
         take(&mut self.members)
     }
 
-    /// An empty list of tags.
+    /// An empty list of tags, in memory that was kept if there is some.
     #[inline(always)]
     pub fn take_tags(&mut self) -> Vec<Tag>
         ensures { result.items ≡ [] }
@@ -97,7 +97,7 @@ impl Spare {
     }
 }
 
-/// Replaces `kept` by `list`, if `list` has room.
+/// Replaces `kept` by `list`, if `list` has memory.
 #[inline(always)]
 fn keep<T: Drop>(kept: &mut Vec<T>, list: Vec<T>) {
     if list.capacity() > 0 {
@@ -105,7 +105,7 @@ fn keep<T: Drop>(kept: &mut Vec<T>, list: Vec<T>) {
     }
 }
 
-/// Takes a list out, and empties it.
+/// Takes the list out of `kept`, and empties it.
 #[inline(always)]
 fn take<T: Drop>(kept: &mut Vec<T>) -> Vec<T>
     ensures { result.items ≡ [] }

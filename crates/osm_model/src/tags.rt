@@ -89,7 +89,7 @@ impl Model for Tags {
 }
 
 impl Tags {
-    /// The tags of a vector, which is kept as it is.
+    /// The tags of a vector. The vector is moved, not copied.
     pub fn from_vec(tags: Vec<Tag>) -> Tags
         ensures { result ≡ tags.items }
     {
@@ -119,7 +119,7 @@ impl Tags {
         self.tags.capacity() > 0
     }
 
-    /// Sorts the tags by the bytes of the key and then of the value, and drops repeats. It takes no memory.
+    /// Sorts the tags by the bytes of the key and then of the value, and drops repeats. The call allocates nothing.
     #[inline(always)]
     pub(crate) fn normalize(&mut self)
         ensures { self.new ≡ normal_tags self.old }
@@ -129,7 +129,7 @@ impl Tags {
         }
     }
 
-    /// Sorts the tags and drops repeats, for any order.
+    /// Sorts the tags, whatever their order, and drops repeats.
     #[cold]
     #[inline(never)]
     fn sort(&mut self)
@@ -139,7 +139,7 @@ impl Tags {
         self.tags.dedup();
     }
 
-    /// Whether each tag is below the next one. This holds for a single tag.
+    /// Whether each tag is below the next one. Fewer than two tags pass.
     #[tactic(auto, using(crate::proofs::TagLaws::few_normal))]
     #[inline(always)]
     pub(crate) fn are_normal(&self) -> bool

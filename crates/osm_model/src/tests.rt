@@ -1,4 +1,4 @@
-//! Each public call once, with values worked out by hand.
+//! Calls each public function once, and compares its results with values worked out by hand.
 use crate::version::first_fault;
 use crate::{
     Body, History, Kind, Member, Members, Memory, Meta, Parts, Rank, Ranked, References, Spare,
@@ -83,7 +83,7 @@ fn way(alloc: Global, id: i64, refs: Vec<i64>) -> Result<Version, ValueFault> {
     Version::new(alloc, id, number(alloc, 1), body)
 }
 
-/// One node as a member.
+/// A list of one member, a node.
 fn members(alloc: Global, id: i64, role: &str) -> Result<Members, Fail> {
     let member = Member {
         kind: Kind::Node,
@@ -105,7 +105,7 @@ fn deleted(alloc: Global, kind: Kind, version: u64) -> Result<Version, ValueFaul
     Version::new(alloc, 1, number(alloc, version), Body::Deleted(kind))
 }
 
-/// The relation of the canonical texts.
+/// The relation of the test `canonical_texts`.
 fn texts(alloc: Global) -> Result<Version, Fail> {
     let tags = vec![in alloc; tag(alloc, "\u{1f600}", "=")?, tag(alloc, "é", "1")?]?;
     let members = vec![in alloc;
@@ -157,12 +157,12 @@ fn a_copy_is_equal(rt: HostRuntime) -> Result<(), Fail> {
 
 #[test]
 fn kinds_have_ranks_and_letters(rt: HostRuntime) {
-    for (kind, rank, letter) in [
+    for (kind, index, letter) in [
         (Kind::Node, 0, b'n'),
         (Kind::Way, 1, b'w'),
         (Kind::Relation, 2, b'r'),
     ] {
-        assert_eq!(rt; (kind.rank(), kind.letter()), (rank, letter));
+        assert_eq!(rt; (kind.index(), kind.letter()), (index, letter));
     }
 }
 
@@ -431,14 +431,14 @@ fn a_deleted_version_has_all_fields(rt: HostRuntime) -> Result<(), Fail> {
     Ok(())
 }
 
-/// The nodes of the examples of ties and others, ascending.
+/// Nodes in ascending order. A comment names the rule that puts a node after the one before.
 fn ascending_nodes(alloc: Global) -> Result<Vec<Version>, Fail> {
     let mut versions = Vec::new(alloc);
     for (id, lon, lat) in [
         (-1, 0, 0),
-        // 0 and negative ids come before the others, then the absolute value decides
+        // ids that aren't above 0 come before the others, by their absolute value
         (-3, 0, 0),
-        // a space is below a point
+        // in a line, a space is below a point
         (1, 10_000_000, 10_000_000),
         (1, 15_000_000, 10_000_000),
         // `x10` comes before `x9`
@@ -447,7 +447,7 @@ fn ascending_nodes(alloc: Global) -> Result<Vec<Version>, Fail> {
     ] {
         versions.push(node(alloc, id, 1, lon, lat)?)?;
     }
-    // the line's `%` is below the bytes of `é`
+    // in a line, the `%` of an escape is below the bytes of `é`
     for key in ["\u{1f600}", "é"] {
         versions.push(tagged_node(alloc, key)?)?;
     }
@@ -473,18 +473,18 @@ fn timed_node(alloc: Global) -> Result<Version, Fail> {
     Ok(Version::new(alloc, 1, timed, Body::Node { lon, lat, tags })?)
 }
 
-/// Adds the last of the nodes, ascending.
+/// Adds nodes after those of `ascending_nodes`, ascending.
 fn add_nodes(alloc: Global, versions: &mut Vec<Version>) -> Result<(), Fail> {
     // a visible version comes before a deleted one
     versions.push(deleted(alloc, Kind::Node, 1)?)?;
-    // but not before an earlier one
+    // a deleted version without a time comes before a visible one with a time
     versions.push(timed_node(alloc)?)?;
     versions.push(node(alloc, 1, 2, 0, 0)?)?;
     versions.push(node(alloc, 3, 1, 0, 0)?)?;
     Ok(())
 }
 
-/// The versions of the examples of ties and others, ascending.
+/// Versions in ascending order: nodes, ways, relations.
 fn ascending(alloc: Global) -> Result<Vec<Version>, Fail> {
     let mut versions = ascending_nodes(alloc)?;
     add_nodes(alloc, &mut versions)?;
@@ -499,7 +499,7 @@ fn compare(left: &Version, right: &Version, order: Ordering) -> bool {
         && left.partial_cmp(right) == Some(order)
 }
 
-/// Comparisons take no memory: the test also passes if each allocation after those that make the versions is refused.
+/// Comparisons allocate nothing: the test also passes if each allocation fails that comes after `ascending`.
 #[test]
 fn versions_are_ordered(rt: HostRuntime) -> Result<(), Fail> {
     let versions = ascending(rt.alloc())?;
@@ -511,7 +511,7 @@ fn versions_are_ordered(rt: HostRuntime) -> Result<(), Fail> {
     Ok(())
 }
 
-/// The rank of the node of this id and version number.
+/// The rank of a node with an id and a version number.
 fn rank(alloc: Global, (id, version): (i64, u64)) -> Result<Rank, Fail> {
     Ok(node(alloc, id, version, 0, 0)?.rank())
 }
@@ -529,7 +529,7 @@ fn versions_have_ranks(rt: HostRuntime) -> Result<(), Fail> {
         ((-3, 2), (1, 1), Ordering::Less),
         ((3, 2), (4, 1), Ordering::Less),
         ((3, 3), (3, 2), Ordering::Greater),
-        // ranks don't distinguish ids that are too far, nor numbers that are too late
+        // ranks don't distinguish ids from 2^45 - 1 on, nor version numbers from 2^16 - 1 on
         ((1 << 45, 2), (1 << 46, 1), Ordering::Equal),
         ((3, 1 << 16), (3, 1 << 17), Ordering::Equal),
     ] {
@@ -575,7 +575,7 @@ fn objects_and_keys_are_ordered(rt: HostRuntime) -> Result<(), Fail> {
     Ok(())
 }
 
-/// The history of version 1 at this longitude and of version 2, twice, of one node.
+/// A history of one node: version 1 at longitude `lon`, and version 2, which is in the list twice.
 fn history(alloc: Global, lon: i32) -> Result<History, Fail> {
     let versions = vec![in alloc;
         node(alloc, 1, 2, 0, 0)?,

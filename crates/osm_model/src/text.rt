@@ -143,7 +143,7 @@ impl Text {
         }
     }
 
-    /// The text of a string, which is kept as it is.
+    /// The text of a string. The string is moved, not copied.
     pub fn from_string(string: String) -> Text
         ensures bytes { encode_utf8_all result ≡ string_bytes string }
         ensures characters { result ≡ chars (string_bytes string) }
@@ -185,7 +185,7 @@ impl Text {
 
     /// Tests whether the text is plain, and keeps the result. A text is plain if the value itself holds its bytes and
     /// each of its characters is written as itself in a line. A text that is known to be plain, and each copy of it, is
-    /// written without another look. Takes no memory.
+    /// written without another test. The call allocates nothing.
     pub fn mark_plain(&mut self)
         ensures { self.new ≡ self.old }
     {
@@ -227,8 +227,7 @@ impl Text {
         })
     }
 
-    /// Replaces the text. This is the assignment `*self = text`; it is fast where the old text holds no memory of its
-    /// own.
+    /// Replaces the text. This is the assignment `*self = text`, but faster if the old text holds no memory of its own.
     #[inline(always)]
     pub fn replace(&mut self, text: Text)
         ensures { self.new ≡ text }
@@ -248,7 +247,7 @@ impl Text {
         *self = Text::new();
     }
 
-    /// Replaces the text `place` by an equal one, as [`Text::replace`] does.
+    /// Replaces the text `place` by a copy of this text, as [`Text::replace`] does.
     ///
     /// # Errors
     ///
@@ -270,8 +269,8 @@ impl Text {
         }
     }
 
-    /// Replaces the text `place` by a new copy: the case in which the two aren't both stored in the value itself in one
-    /// way.
+    /// Replaces the text `place` by a new copy. [`Text::copy_into`] calls it unless the value itself holds the bytes of
+    /// both texts, in the same form.
     #[inline(never)]
     fn overwrite_with_copy(&self, place: &mut Text) -> Result<(), Memory>
         ensures { OnOk result (place.new ≡ self.now) }

@@ -82,8 +82,8 @@ pub(crate) fn first_fault(id: i64, meta: &Meta, body: &Body) -> Option<ValueFaul
 }
 
 impl Parts {
-    /// Parts to fill, in the memory of a version that isn't needed any more, or else in new memory. Their body has no
-    /// ids and no texts, and their user name has at most 24 bytes: neither holds memory of its own.
+    /// Parts to fill, in the memory of the version of `spare`, or in new memory if it has none. Their body has no ids
+    /// and no texts, and their user name has at most 24 bytes: neither holds memory of its own.
     ///
     /// # Errors
     ///
@@ -108,8 +108,8 @@ impl Parts {
         parts
     }
 
-    /// Parts in new memory. The result is taken apart here, so that a caller that doesn't get here clears no room for
-    /// it.
+    /// Parts in new memory. The function unwraps the result of `blank`, so that a caller that doesn't allocate
+    /// initializes no space for it.
     #[inline(always)]
     fn allocate(alloc: Global) -> Result<Box<Parts>, Memory>
         ensures { IfOk result (λ parts. IsToFill parts.value.meta parts.value.body) }
@@ -145,7 +145,7 @@ impl Parts {
         }
     }
 
-    /// Takes the body out, and leaves that of a deleted object of its kind.
+    /// Takes the body out, and leaves the body of a deleted object of its kind.
     #[inline(always)]
     fn take_body(&mut self) -> Body
         ensures id { self.new.id ≡ self.old.id }
@@ -156,7 +156,7 @@ impl Parts {
         mem::replace(&mut self.body, Body::Deleted(self.kind))
     }
 
-    /// Replaces the data.
+    /// Replaces the id, the metadata and the body.
     #[inline(always)]
     fn fill(&mut self, id: i64, meta: Meta, body: Body)
         ensures id { self.new.id ≡ id }
@@ -169,7 +169,7 @@ impl Parts {
         self.body.replace(body);
     }
 
-    /// Makes the parts those of a version: sorts the tags and drops repeats.
+    /// Completes the parts of a version: sets the kind, sorts the tags and drops repeats.
     #[inline(always)]
     fn finish(&mut self)
         ensures id { self.new.id ≡ self.old.id }
@@ -185,12 +185,13 @@ impl Parts {
 }
 
 impl Version {
-    /// The version of this data, its tags ascending by the bytes of key and value, exact repeats dropped.
+    /// The version of an id, metadata and a body. Its tags are sorted by the bytes of key and value, without exact
+    /// repeats.
     ///
     /// # Errors
     ///
     /// The first fault in the order of `IdRange`, `NoVersion`, `NumberRange`, `TimeRange`, `NoTime`, `ZeroInText`. If
-    /// there is none, `Memory`, if a growth was refused.
+    /// there is none and an allocation fails, `Memory`.
     pub fn new(alloc: Global, id: i64, meta: Meta, body: Body) -> Result<Version, ValueFault>
         ensures value { MatchResult result
             (λ version. version_or_fault id meta body ≡ Ok version)
@@ -207,8 +208,8 @@ impl Version {
         }
     }
 
-    /// The version of data that has no fault, as [`Version::new`] makes it, without its tests. It is made in the memory
-    /// of a version that isn't needed any more, if `spare` has one.
+    /// The version of data that has no fault, as [`Version::new`] makes it, without its tests. If `spare` has a
+    /// version, the new one is made in its memory.
     ///
     /// # Errors
     ///
@@ -303,7 +304,7 @@ impl Version {
     pub fn object_cmp(&self, other: &Version) -> Ordering
         ensures { result ≡ object_cmp self.now other.now }
     {
-        let kind = self.kind().rank().cmp(&other.kind().rank());
+        let kind = self.kind().index().cmp(&other.kind().index());
         if kind != Ordering::Equal {
             return kind;
         }
@@ -329,7 +330,7 @@ impl Version {
         self.number().cmp(&other.number())
     }
 
-    /// Takes the body out, and leaves that of a deleted object.
+    /// Takes the body out, and leaves the body of a deleted object of its kind.
     #[inline(always)]
     pub(crate) fn take_body(&mut self) -> Body {
         self.parts.take_body()
@@ -351,7 +352,7 @@ impl Version {
         })
     }
 
-    /// The order of what is compared before the bytes of the lines.
+    /// Compares the keys, the times, and whether the versions are deleted. The lines are compared only after these.
     fn data_cmp(&self, other: &Version) -> Ordering
         ensures { result ≡ data_cmp self.now other.now }
     {

@@ -1,4 +1,4 @@
-//! Files that come and go in pieces, and fail.
+//! Readers and writers that move few bytes at a time, and fail.
 use anyhow::Result;
 use std::io;
 use std::io::{Read, Write};
@@ -12,16 +12,24 @@ pub struct Pace {
 }
 
 impl Pace {
-    /// The pace that these parts of a word give; a part that isn't given sets no bound.
+    /// The pace that the next two parts of an argument give. A part that is missing sets no bound.
     pub fn of_parts(parts: &mut Split<'_, char>) -> Result<Pace> {
         Ok(Pace {
             step: bound(parts)?,
             end: bound(parts)?,
         })
     }
+
+    /// The pace of the rest of a file after its first `count` bytes.
+    pub fn after(self, count: usize) -> Pace {
+        Pace {
+            step: self.step,
+            end: self.end.saturating_sub(count),
+        }
+    }
 }
 
-/// The number in the next part of a word, if there is one.
+/// The number in the next part of an argument. Without another part there is no bound.
 fn bound(parts: &mut Split<'_, char>) -> Result<usize> {
     match parts.next() {
         Some(part) => Ok(part.parse::<usize>()?),
@@ -34,12 +42,12 @@ fn bound(parts: &mut Split<'_, char>) -> Result<usize> {
 pub struct Pieces<'a> {
     rest: &'a [u8],
     step: usize,
-    /// The number of bytes that are given before every read fails.
+    /// The number of bytes that may still be read before every read fails.
     left: usize,
 }
 
 impl<'a> Pieces<'a> {
-    /// A reader of these bytes at this pace.
+    /// A reader of `bytes` at the pace `pace`.
     pub fn new(bytes: &'a [u8], pace: Pace) -> Pieces<'a> {
         Pieces {
             rest: bytes,
@@ -64,20 +72,20 @@ impl Read for Pieces<'_> {
     }
 }
 
-/// The bytes that a writer has room for.
-pub const ROOM: usize = 65536;
+/// The capacity of a writer's buffer in bytes.
+pub const OUTPUT_CAPACITY: usize = 65536;
 
-/// A writer into a buffer that has this room already.
+/// A writer into a buffer whose `OUTPUT_CAPACITY` bytes are already allocated.
 #[derive(Drop)]
 pub struct Buffer<'a> {
     taken: &'a mut Vec<u8>,
     step: usize,
-    /// The number of bytes that are taken before every write and every flush fails.
+    /// The number of bytes that may still be written before every write and every flush fails.
     left: usize,
 }
 
 impl<'a> Buffer<'a> {
-    /// A writer that appends to the bytes of the buffer, at this pace.
+    /// A writer that appends to `taken` at the pace `pace`.
     pub fn new(taken: &'a mut Vec<u8>, pace: Pace) -> Buffer<'a> {
         Buffer {
             taken,

@@ -1,5 +1,6 @@
-//! The arguments of a call: words and files.
+//! The arguments of a call: files, and words, which are the other arguments.
 use crate::device::{Pace, Pieces};
+use crate::slices::PacedFile;
 use anyhow::{Result, bail};
 use osm_files::{Format, FromRead};
 use std::alloc::Global;
@@ -21,20 +22,20 @@ pub struct Given {
 }
 
 impl Given {
-    /// Reads the files among these words.
+    /// Reads the files that the arguments `all` name. The argument of a file begins with `@`.
     pub fn read<R: Files + AllocGlobal>(rt: &R, all: &[String]) -> Result<Given> {
         let mut words = Vec::new(rt.alloc());
         let mut files = Vec::new(rt.alloc());
         for word in all {
             match word.as_str().strip_prefix('@') {
-                Some(told) => files.push(read_file(rt, told)?)?,
+                Some(printed) => files.push(read_file(rt, printed)?)?,
                 None => words.push(word.clone()?)?,
             }
         }
         Ok(Given { words, files })
     }
 
-    /// The word at this index.
+    /// The word at the index `place`.
     pub fn word(&self, place: usize) -> Result<&str> {
         match self.words.get(place) {
             Some(word) => Ok(word.as_str()),
@@ -42,17 +43,17 @@ impl Given {
         }
     }
 
-    /// The number of seconds in the word at this index.
+    /// The number of seconds in the word at the index `place`.
     pub fn time(&self, place: usize) -> Result<u32> {
         Ok(self.word(place)?.parse::<u32>()?)
     }
 
-    /// The format that the word at this index names.
+    /// The format that the word at the index `place` names.
     pub fn format(&self, place: usize) -> Result<Format> {
         format_of(self.word(place)?)
     }
 
-    /// The format and the pace of the output: the first word, as `opl` or `o5m:1:20`.
+    /// The format and the pace of the output: the first word, such as `opl` or `o5m:1:20`.
     pub fn output(&self) -> Result<(Format, Pace)> {
         let mut parts = self.word(0)?.split(':');
         let format = format_of(parts.next().unwrap_or(""))?;
@@ -64,7 +65,7 @@ impl Given {
         self.files.len()
     }
 
-    /// The bytes of the file at this index.
+    /// The bytes of the file at the index `place`.
     pub fn file(&self, place: usize) -> Result<&[u8]> {
         match self.files.get(place) {
             Some(file) => Ok(file.bytes.as_slice()),
@@ -72,7 +73,7 @@ impl Given {
         }
     }
 
-    /// The file at this index, to be read at its pace.
+    /// A reader of the file at the index `place`, at the pace of the file.
     pub fn reader(&self, place: usize) -> Result<FromRead<Pieces<'_>>> {
         match self.files.get(place) {
             Some(file) => Ok(FromRead::new(Pieces::new(&file.bytes, file.pace))),
@@ -80,7 +81,15 @@ impl Given {
         }
     }
 
-    /// All files, each to be read at its pace.
+    /// The file at this index, to be opened at offsets and read at its pace.
+    pub fn paced_file(&self, place: usize) -> Result<PacedFile<'_>> {
+        match self.files.get(place) {
+            Some(file) => Ok(PacedFile::new(&file.bytes, file.pace)),
+            None => bail!("a file is missing"),
+        }
+    }
+
+    /// Readers of all files, each at the pace of its file.
     pub fn readers(&self, alloc: Global) -> Result<Vec<FromRead<Pieces<'_>>>> {
         let mut readers = Vec::new(alloc);
         for file in &self.files {
@@ -90,15 +99,15 @@ impl Given {
     }
 }
 
-/// Reads the file that a word names after its `@`.
-fn read_file<R: Files + AllocGlobal>(rt: &R, told: &str) -> Result<File> {
-    let mut parts = told.split(':');
+/// Reads the file that an argument names. `printed` is the argument without its `@`.
+fn read_file<R: Files + AllocGlobal>(rt: &R, printed: &str) -> Result<File> {
+    let mut parts = printed.split(':');
     let bytes = fs::read(rt, parts.next().unwrap_or(""))?;
     let pace = Pace::of_parts(&mut parts)?;
     Ok(File { bytes, pace })
 }
 
-/// The format of this name.
+/// The format that has the name `name`.
 fn format_of(name: &str) -> Result<Format> {
     match name {
         "opl" => Ok(Format::Opl),

@@ -1,13 +1,13 @@
 //! Calls that make values for other calls.
 use crate::given::Given;
-use crate::told::told;
+use crate::printed::printed;
 use anyhow::Result;
 use o5_codec::{Decoder, Encoder};
 use osm_files::{FileSource, Format, Sink};
 use osm_mirror::{Fleet, Keep};
 use std::alloc::Global;
 
-/// The calls.
+/// The names of the calls of this module.
 pub const CALLS: &[&str] = &[
     "Decoder::new",
     "Encoder::new",
@@ -25,5 +25,5 @@ pub fn answer(alloc: Global, call: &str, given: &Given) -> Result<Vec<u8>> {
         "FileSource::new" => drop(FileSource::new(alloc, 0, given.reader(0)?)?),
         _ => drop(Fleet::new(alloc, &[Keep::Full, Keep::Latest])?),
     }
-    told(alloc, "made", b"")
+    printed(alloc, "made", b"")
 }

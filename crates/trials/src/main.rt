@@ -1,8 +1,9 @@
-//! Calls of the libraries: measured, with memory refused, and over devices that fail.
+//! Makes one call of the libraries in each run, for tests in which memory is refused or devices fail, and for
+//! measurements.
 //!
-//! The arguments are a call, as `load_any`, and its arguments. A file is given as `@NAME`, as `@NAME:STEP` if a read
-//! gives at most STEP bytes, or as `@NAME:STEP:END` if the file fails after END bytes. The program prints the result of
-//! the call.
+//! The arguments are a call, such as `load_any`, and the arguments of the call. A file is given as `@NAME`, as
+//! `@NAME:STEP` if a read gives at most STEP bytes, or as `@NAME:STEP:END` if the file fails after END bytes. The
+//! program prints the result of the call.
 //!
 //! `measure` takes a measurement and its amount, and prints the results:
 //!
@@ -12,10 +13,10 @@
 //! - `measure write-sets 1000000`: nodes, and a fifth as many ways, written as data sets.
 //! - `measure take 1000000`: a file of 10,000 changes taken by mirrors that hold that number of versions, and runs of a
 //!   fleet.
-//! - `measure file map.opl`: the units of a file only, through a source, and by `load_any`.
+//! - `measure file map.opl`: a file read in three ways: only its units, through a source, and by `load_any`.
 //!
-//! Without arguments the program takes each measurement of a small amount, and then prints the names of the calls, one
-//! a line.
+//! Without arguments the program takes each measurement with a small amount, and then prints the names of the calls,
+//! one on each line.
 #![tactic(auto)]
 
 use crate::given::Given;
@@ -29,15 +30,16 @@ mod given;
 mod made;
 mod measure;
 mod mirrors;
+mod printed;
 mod runs;
 mod selections;
+mod slices;
 mod streams;
-mod told;
 mod units;
 mod values;
 
-/// The calls, group by group.
-const GROUPS: [&[&str]; 7] = [
+/// The names of the calls, module by module.
+const GROUPS: [&[&str]; 8] = [
     values::CALLS,
     made::CALLS,
     units::CALLS,
@@ -45,6 +47,7 @@ const GROUPS: [&[&str]; 7] = [
     selections::CALLS,
     mirrors::CALLS,
     runs::CALLS,
+    slices::CALLS,
 ];
 
 fn main(rt: HostRuntime) -> Result<()> {
@@ -86,10 +89,13 @@ fn answer(alloc: Global, call: &str, given: &Given) -> Result<Vec<u8>> {
     if runs::CALLS.contains(&call) {
         return runs::answer(alloc, call, given);
     }
+    if slices::CALLS.contains(&call) {
+        return slices::answer(alloc, call, given);
+    }
     bail!("there is no such call")
 }
 
-/// The names of the calls, a line each.
+/// The names of the calls, one on each line.
 fn names(alloc: Global) -> Result<Vec<u8>> {
     let mut names = Vec::new(alloc);
     for calls in GROUPS {

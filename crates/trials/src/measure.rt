@@ -1,4 +1,4 @@
-//! Measures the crates below the program: the amounts that they process in a second.
+//! Measures the crates below the program: the amounts that they process per second.
 use anyhow::{Result, bail};
 use std::fs;
 use std::rt::{Clock, Files};
@@ -12,10 +12,10 @@ mod take;
 mod versions;
 mod write_sets;
 
-/// The file that is read if none is named.
+/// The file that `measure_a_little` reads.
 const SAMPLE: &[u8] = b"n1 v1 dV x1.5 y2\nn1 v2 dV x1.5 y3\n";
 
-/// Takes a measurement of an amount, and returns the results, one line each.
+/// Takes a measurement with an amount, and returns the results, one on each line.
 pub(crate) fn measure<R: Files + Clock + AllocGlobal>(
     rt: &R,
     measurement: &str,
@@ -32,7 +32,7 @@ pub(crate) fn measure<R: Files + Clock + AllocGlobal>(
     }
 }
 
-/// Takes each measurement of a small amount.
+/// Takes each measurement with a small amount.
 pub(crate) fn measure_a_little<R: Clock + AllocGlobal>(rt: &R) -> Result<()> {
     versions::measure(rt, 20)?;
     lines::measure(rt, 2_000)?;

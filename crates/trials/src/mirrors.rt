@@ -1,13 +1,13 @@
 //! Calls of mirrors, fleets and plans.
 use crate::given::Given;
-use crate::told::told;
+use crate::printed::printed;
 use anyhow::{Result, bail};
 use osm_files::{Fault, Format};
 use osm_mirror::{Event, Fleet, Keep, Mirror, Reply, read_plan};
 use osm_model::Memory;
 use std::alloc::Global;
 
-/// The calls.
+/// The names of the calls of this module.
 pub const CALLS: &[&str] = &[
     "Mirror::take",
     "Mirror::copy",
@@ -45,7 +45,8 @@ fn full(alloc: Global, given: &Given) -> Result<Mirror> {
     Ok(mirror)
 }
 
-/// The result of a take of the second file by a mirror that took the first one, and its history then.
+/// The result of the take of the second file by a mirror that took the first one, and the history of the mirror after
+/// it. A take that is refused must leave the mirror unchanged.
 fn take(alloc: Global, given: &Given) -> Result<Vec<u8>> {
     let mut mirror = mirror(alloc, given)?;
     mirror.take(given.file(0)?)?;
@@ -56,7 +57,7 @@ fn take(alloc: Global, given: &Given) -> Result<Vec<u8>> {
         Err(fault) if is_equal(&mirror, &earlier)? => format!(in alloc; "{fault}")?,
         Err(_) => bail!("a mirror that refused is another"),
     };
-    told(alloc, line.as_str(), &mirror.write(Format::Opl)?)
+    printed(alloc, line.as_str(), &mirror.write(Format::Opl)?)
 }
 
 /// Whether two mirrors write the same bytes.
@@ -71,8 +72,8 @@ fn copy(alloc: Global, given: &Given) -> Result<Vec<u8>> {
     Ok(full(alloc, given)?.copy()?.write(Format::Opl)?)
 }
 
-/// The replies of two latest mirrors that take a file each, pass to each other, and take the first file again, and
-/// their histories then; and their histories after the same events once more.
+/// Runs events over two latest mirrors: each takes a file, each passes its history to the other, and the first one
+/// takes its file again. Returns the replies, the histories after the run, and the histories after a second run.
 fn run(alloc: Global, first: &[u8], second: &[u8]) -> Result<Vec<u8>> {
     let mut fleet = Fleet::new(alloc, &[Keep::Latest, Keep::Latest])?;
     let events = events(first, second);
@@ -86,10 +87,10 @@ fn run(alloc: Global, first: &[u8], second: &[u8]) -> Result<Vec<u8>> {
     }
     lines.extend_from_slice(b"then\n")?;
     lines.extend_from_slice(&fleet_lines(alloc, &fleet)?)?;
-    told(alloc, line.as_str(), &lines)
+    printed(alloc, line.as_str(), &lines)
 }
 
-/// The events of two mirrors that take these files.
+/// The events of `run`, in which the two mirrors take the files `first` and `second`.
 fn events<'a>(first: &'a [u8], second: &'a [u8]) -> [Event<'a>; 5] {
     let take = Event::Take {
         mirror: 0,
@@ -115,7 +116,7 @@ fn events<'a>(first: &'a [u8], second: &'a [u8]) -> [Event<'a>; 5] {
     ]
 }
 
-/// Runs events.
+/// Runs events, all of whose mirrors must exist.
 fn happen(fleet: &mut Fleet, events: &[Event]) -> Result<Result<Vec<Reply>, Memory>> {
     if !fleet.may_run(events) {
         bail!("an event names a mirror that isn't there");
@@ -154,5 +155,5 @@ fn plan(alloc: Global, text: &[u8]) -> Result<Vec<u8>> {
         plan.steps.len(),
         plan.writes.len()
     )?;
-    told(alloc, line.as_str(), b"")
+    printed(alloc, line.as_str(), b"")
 }

@@ -1,8 +1,8 @@
-//! Runs over whole files, and the lines of their faults.
-use crate::device::{Buffer, ROOM};
+//! Calls that run over whole files, and the lines of their faults.
+use crate::device::{Buffer, OUTPUT_CAPACITY};
 use crate::given::Given;
+use crate::printed::printed;
 use crate::streams::told_run;
-use crate::told::told;
 use anyhow::{Result, bail};
 use osm_files::{Fault, Format, Output, ToWrite};
 use osm_merge::Counts;
@@ -12,7 +12,7 @@ use osm_mirror::{
 };
 use std::alloc::Global;
 
-/// The calls.
+/// The names of the calls of this module.
 pub const CALLS: &[&str] = &[
     "run_merge",
     "run_apply",
@@ -46,7 +46,7 @@ fn check(alloc: Global, given: &Given) -> Result<Vec<u8>> {
         "{}: {versions} versions, {objects} objects, {order}",
         format.name()
     )?;
-    told(alloc, line.as_str(), b"")
+    printed(alloc, line.as_str(), b"")
 }
 
 /// The line of the fault of a file, with the first word as the file's name.
@@ -55,13 +55,13 @@ fn text_of_fault(alloc: Global, given: &Given) -> Result<Vec<u8>> {
         bail!("the file has no fault");
     };
     let line = fault_text(alloc, &fault, &[given.word(0)?], "out")?;
-    told(alloc, line.as_str(), b"")
+    printed(alloc, line.as_str(), b"")
 }
 
 /// The result of a run that writes, and its output.
 fn write(alloc: Global, call: &str, given: &Given) -> Result<Vec<u8>> {
     let (format, pace) = given.output()?;
-    let mut taken = Vec::with_capacity(alloc, ROOM)?;
+    let mut taken = Vec::with_capacity(alloc, OUTPUT_CAPACITY)?;
     let mut out = ToWrite::new(Buffer::new(&mut taken, pace));
     let outcome = match call {
         "run_time_filter" | "run_period_filter" => filter(alloc, call, given, format, &mut out)?,
@@ -70,7 +70,7 @@ fn write(alloc: Global, call: &str, given: &Given) -> Result<Vec<u8>> {
     told_run(alloc, outcome, &taken)
 }
 
-/// Runs a call that writes the output of several files.
+/// Runs a call that reads several files and writes one output.
 fn combine<W: Output>(
     alloc: Global,
     call: &str,

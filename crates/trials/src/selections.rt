@@ -1,12 +1,12 @@
-//! Calls that choose from a history.
+//! Calls that select versions of a history.
 use crate::given::Given;
-use crate::told::{history_of, lines_of};
+use crate::printed::{history_of, lines_of};
 use anyhow::Result;
 use osm_merge::{at, between, snapshot, visible};
 use osm_model::{History, Memory};
 use std::alloc::Global;
 
-/// The calls.
+/// The names of the calls of this module.
 pub const CALLS: &[&str] = &["snapshot", "visible", "at", "between"];
 
 /// The result of a call.
@@ -21,7 +21,7 @@ pub fn answer(alloc: Global, call: &str, given: &Given) -> Result<Vec<u8>> {
     chosen_lines(alloc, chosen)
 }
 
-/// The lines of a choice.
+/// The lines of the selected versions.
 fn chosen_lines(alloc: Global, chosen: Result<History, Memory>) -> Result<Vec<u8>> {
     lines_of(alloc, &chosen?)
 }

@@ -1,14 +1,14 @@
 //! Calls that read files and write them, version by version.
-use crate::device::{Buffer, ROOM};
+use crate::device::{Buffer, OUTPUT_CAPACITY};
 use crate::given::Given;
-use crate::told::{history_of, line_of, lines_of, told};
+use crate::printed::{history_of, line_of, lines_of, printed};
 use anyhow::{Result, bail};
 use osm_files::{Fault, FileSource, Format, Output, Sink, Source, ToWrite, load_any};
 use osm_merge::{Counts, merge_into};
 use osm_model::History;
 use std::alloc::Global;
 
-/// The calls.
+/// The names of the calls of this module.
 pub const CALLS: &[&str] = &["load_any", "FileSource", "Sink", "merge_into"];
 
 /// The result of a call.
@@ -26,10 +26,10 @@ fn load(alloc: Global, given: &Given) -> Result<Vec<u8>> {
     let loaded = load_any(alloc, 0, given.reader(0)?)?;
     let order = if loaded.sorted { "sorted" } else { "unsorted" };
     let line = format!(in alloc; "{}, {order}", loaded.format.name())?;
-    told(alloc, line.as_str(), &lines_of(alloc, &loaded.history)?)
+    printed(alloc, line.as_str(), &lines_of(alloc, &loaded.history)?)
 }
 
-/// The number of calls of a source: more than a file of a trial has versions.
+/// The most calls of a source. The file of a trial has fewer versions.
 const TURNS: usize = 100;
 
 /// The versions of a source, and its end.
@@ -40,38 +40,38 @@ fn read(alloc: Global, given: &Given) -> Result<Vec<u8>> {
         let given = source.next();
         match given {
             Ok(Some(version)) => lines.extend_from_slice(&line_of(alloc, &version)?)?,
-            Ok(None) => return told(alloc, "whole", &lines),
+            Ok(None) => return printed(alloc, "whole", &lines),
             Err(fault) => return refused(alloc, fault, source.next().err(), &lines),
         }
     }
     bail!("a source has no end")
 }
 
-/// Why a source was refused, its next result, and the versions that it had given.
+/// Why a source was refused, why its next call was refused, and the versions that it had given.
 fn refused(alloc: Global, fault: Fault, then: Option<Fault>, lines: &[u8]) -> Result<Vec<u8>> {
     let Some(then) = then else {
         bail!("a source goes on that was refused");
     };
-    told(
+    printed(
         alloc,
         format!(in alloc; "{fault}, then {then}")?.as_str(),
         lines,
     )
 }
 
-/// The output of a sink for a file, and why it was refused, if it was.
+/// The output of a sink for the first version of a file, and the fault of the sink, if there is one.
 fn write(alloc: Global, given: &Given) -> Result<Vec<u8>> {
     let history = history_of(alloc, given.file(0)?)?;
     let (format, pace) = given.output()?;
-    let mut taken = Vec::with_capacity(alloc, ROOM)?;
+    let mut taken = Vec::with_capacity(alloc, OUTPUT_CAPACITY)?;
     let mut out = ToWrite::new(Buffer::new(&mut taken, pace));
     match put_first(alloc, format, &history, &mut out) {
-        Ok(()) => told(alloc, "written", &taken),
-        Err(fault) => told(alloc, format!(in alloc; "{fault}")?.as_str(), &taken),
+        Ok(()) => printed(alloc, "written", &taken),
+        Err(fault) => printed(alloc, format!(in alloc; "{fault}")?.as_str(), &taken),
     }
 }
 
-/// Writes the file of the first version of a history, or that of none.
+/// Writes the file of the first version of a history, or of no version if the history is empty.
 fn put_first<W: Output>(
     alloc: Global,
     format: Format,
@@ -89,7 +89,7 @@ fn put_first<W: Output>(
 /// The result of a merge of sources, and its output.
 fn merge(alloc: Global, given: &Given) -> Result<Vec<u8>> {
     let (format, pace) = given.output()?;
-    let mut taken = Vec::with_capacity(alloc, ROOM)?;
+    let mut taken = Vec::with_capacity(alloc, OUTPUT_CAPACITY)?;
     let outcome = merge_files(
         alloc,
         given,
@@ -114,13 +114,13 @@ fn merge_files<W: Output>(
     Ok(merge_into(alloc, sources, &mut sink, out))
 }
 
-/// The counts of a run, or why it was refused, and its output.
+/// The counts of a run, or why the run was refused, and then its output.
 pub fn told_run(alloc: Global, outcome: Result<Counts, Fault>, taken: &[u8]) -> Result<Vec<u8>> {
     match outcome {
         Ok(counts) => {
             let line = format!(in alloc; "read {}, written {}", counts.read, counts.written)?;
-            told(alloc, line.as_str(), taken)
+            printed(alloc, line.as_str(), taken)
         }
-        Err(fault) => told(alloc, format!(in alloc; "{fault}")?.as_str(), taken),
+        Err(fault) => printed(alloc, format!(in alloc; "{fault}")?.as_str(), taken),
     }
 }

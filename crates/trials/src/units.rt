@@ -1,13 +1,13 @@
 //! Calls that read and write lines and data sets.
 use crate::given::Given;
-use crate::told::{history_of, line_of, told};
+use crate::printed::{history_of, line_of, printed};
 use anyhow::{Result, bail};
 use o5_codec::{Decoder, EncodeFault, Encoder};
 use opl_line::{read_line, write_line};
 use osm_model::{History, Kind};
 use std::alloc::Global;
 
-/// The calls.
+/// The names of the calls of this module.
 pub const CALLS: &[&str] = &["read_line", "write_line", "read_set", "write_set"];
 
 /// The result of a call.
@@ -20,11 +20,11 @@ pub fn answer(alloc: Global, call: &str, given: &Given) -> Result<Vec<u8>> {
     }
 }
 
-/// The version that a line spells, if it spells one.
+/// The canonical line of the version that `line` spells, or `skipped`.
 fn read(alloc: Global, line: &[u8]) -> Result<Vec<u8>> {
     match read_line(alloc, line)? {
         Some(version) => line_of(alloc, &version),
-        None => told(alloc, "skipped", b""),
+        None => printed(alloc, "skipped", b""),
     }
 }
 
@@ -37,7 +37,7 @@ fn write(alloc: Global, file: &[u8]) -> Result<Vec<u8>> {
     Ok(write_line(alloc, history.get(0))?)
 }
 
-/// The node that the content of a data set spells.
+/// The line of the node that the content of a data set spells.
 fn read_node(alloc: Global, content: &[u8]) -> Result<Vec<u8>> {
     let version = Decoder::new(alloc)?.read_set(Kind::Node, content)?;
     line_of(alloc, &version)
@@ -47,26 +47,27 @@ fn read_node(alloc: Global, content: &[u8]) -> Result<Vec<u8>> {
 #[derive(Drop)]
 enum Outcome {
     /// The data sets.
-    Written(Vec<u8>),
-    /// Why one was refused, and the encoder's next result, if it was refused again.
+    WriterState(Vec<u8>),
+    /// Why a version was refused, and why the encoder's next call was refused, if it was.
     Refused {
         refused: EncodeFault,
         again: Option<EncodeFault>,
     },
 }
 
-/// The data sets of a file. If they are refused, the encoder's next result, and the output of a new one.
+/// The data sets of a file. If a version is refused: why, why the encoder's next call is refused, and the data sets of
+/// a new encoder.
 fn write_anew(alloc: Global, file: &[u8]) -> Result<Vec<u8>> {
     let history = history_of(alloc, file)?;
     match write_sets(alloc, &history)? {
-        Outcome::Written(sets) => Ok(sets),
+        Outcome::WriterState(sets) => Ok(sets),
         Outcome::Refused { again: None, .. } => bail!("an encoder goes on that was refused"),
         Outcome::Refused {
             refused,
             again: Some(again),
         } => {
             let line = format!(in alloc; "{refused}, then {again}")?;
-            told(
+            printed(
                 alloc,
                 line.as_str(),
                 &written(write_sets(alloc, &history)?)?,
@@ -78,7 +79,7 @@ fn write_anew(alloc: Global, file: &[u8]) -> Result<Vec<u8>> {
 /// The data sets, if they were written.
 fn written(outcome: Outcome) -> Result<Vec<u8>> {
     match outcome {
-        Outcome::Written(sets) => Ok(sets),
+        Outcome::WriterState(sets) => Ok(sets),
         Outcome::Refused { refused, .. } => bail!("{refused}"),
     }
 }
@@ -90,7 +91,7 @@ fn write_sets(alloc: Global, history: &History) -> Result<Outcome> {
     let mut last = Kind::Node;
     for place in 0..history.len() {
         let version = history.get(place);
-        if version.kind().rank() < last.rank() {
+        if version.kind().index() < last.index() {
             bail!("the kinds fall");
         }
         match encoder.write_set(version) {
@@ -102,5 +103,5 @@ fn write_sets(alloc: Global, history: &History) -> Result<Outcome> {
         }
         last = version.kind();
     }
-    Ok(Outcome::Written(sets))
+    Ok(Outcome::WriterState(sets))
 }

@@ -1,11 +1,11 @@
 //! Calls that make versions and histories.
 use crate::given::Given;
-use crate::told::{history_of, line_of, lines_of, told};
+use crate::printed::{history_of, line_of, lines_of, printed};
 use anyhow::{Result, bail};
 use osm_model::{Body, History, Meta, Tag, Tags, Text, Version};
 use std::alloc::Global;
 
-/// The calls.
+/// The names of the calls of this module.
 pub const CALLS: &[&str] = &[
     "Version::new",
     "Version::copy",
@@ -27,7 +27,7 @@ pub fn answer(alloc: Global, call: &str, given: &Given) -> Result<Vec<u8>> {
     }
 }
 
-/// A node of this time.
+/// The line of a new node with the time `time`.
 fn new_version(alloc: Global, time: u64) -> Result<Vec<u8>> {
     let mut tags = Vec::new(alloc);
     tags.push(Tag {
@@ -49,7 +49,7 @@ fn new_version(alloc: Global, time: u64) -> Result<Vec<u8>> {
     line_of(alloc, &Version::new(alloc, 1, meta, body)?)
 }
 
-/// A copy of the first version of a file.
+/// The line of a copy of the first version of a file.
 fn copy_version(alloc: Global, file: &[u8]) -> Result<Vec<u8>> {
     let history = history_of(alloc, file)?;
     if history.is_empty() {
@@ -58,7 +58,7 @@ fn copy_version(alloc: Global, file: &[u8]) -> Result<Vec<u8>> {
     line_of(alloc, &history.get(0).copy()?)
 }
 
-/// The set of the versions of all files, in the order in which the files are given.
+/// The history that is made from the versions of all files, file by file.
 fn from_versions(alloc: Global, given: &Given) -> Result<Vec<u8>> {
     let mut versions = Vec::new(alloc);
     for place in 0..given.count() {
@@ -70,7 +70,7 @@ fn from_versions(alloc: Global, given: &Given) -> Result<Vec<u8>> {
     lines_of(alloc, &History::from_versions(versions)?)
 }
 
-/// The union of two files; if it is refused, the histories of both afterwards.
+/// The union of two files. If the union is refused: why, and the histories of both files after that.
 fn join(alloc: Global, left: &[u8], right: &[u8]) -> Result<Vec<u8>> {
     let left = history_of(alloc, left)?;
     let right = history_of(alloc, right)?;
@@ -80,12 +80,12 @@ fn join(alloc: Global, left: &[u8], right: &[u8]) -> Result<Vec<u8>> {
         Err(refused) => {
             let mut lines = lines_of(alloc, &left)?;
             lines.extend_from_slice(&lines_of(alloc, &right)?)?;
-            told(alloc, format!(in alloc; "{refused}")?.as_str(), &lines)
+            printed(alloc, format!(in alloc; "{refused}")?.as_str(), &lines)
         }
     }
 }
 
-/// A copy of a history; if it is refused, the history afterwards.
+/// A copy of a history. If the copy is refused: why, and the history after that.
 fn copy_history(alloc: Global, file: &[u8]) -> Result<Vec<u8>> {
     let history = history_of(alloc, file)?;
     let outcome = history.copy();
@@ -93,13 +93,12 @@ fn copy_history(alloc: Global, file: &[u8]) -> Result<Vec<u8>> {
         Ok(copy) => lines_of(alloc, &copy),
         Err(refused) => {
             let lines = lines_of(alloc, &history)?;
-            told(alloc, format!(in alloc; "{refused}")?.as_str(), &lines)
+            printed(alloc, format!(in alloc; "{refused}")?.as_str(), &lines)
         }
     }
 }
 
-/// Compares each version of a file with each, this number of times. The growths of memory are those of reading the
-/// file.
+/// Compares each version of a file with each, `rounds` times. Only reading the file takes memory, not comparing.
 fn compare_all(alloc: Global, rounds: u64, file: &[u8]) -> Result<Vec<u8>> {
     let history = history_of(alloc, file)?;
     for _ in 0..rounds {
@@ -107,7 +106,7 @@ fn compare_all(alloc: Global, rounds: u64, file: &[u8]) -> Result<Vec<u8>> {
             bail!("a history does not ascend");
         }
     }
-    told(alloc, "compared", b"")
+    printed(alloc, "compared", b"")
 }
 
 /// Whether each version is greater than those before it, equal to itself, and less than those after it.

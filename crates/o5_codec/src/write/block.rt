@@ -1,8 +1,8 @@
 //! Up to 128 bytes of a data set, filled in place.
 //!
 //! Why: a data set has many numbers of one to four bytes. One test of room for each number, and straight code for up to
-//! four groups, take 2.3 percent off the instructions of a merge from o5m to o5m.
-//! Assumes: each call has room for what it appends; `make_room` tests for it.
+//! four groups, save 2.3 percent of the instructions of a merge from o5m to o5m.
+//! Assumes: each call has room for the bytes that it appends; `make_room` tests for it.
 //! Otherwise: a full block moves its bytes to the end of a vector, `front`. A loop writes a number of more than four
 //! groups.
 //! Compared by: `writes_numbers_at_their_limits`.
@@ -11,10 +11,10 @@ ghost use Rattle.o5_codec.specs.Shortest.{shortest_number};
 
 use osm_model::Memory;
 
-/// The number of bytes that a block has room for: more than a short data set has.
+/// The capacity of a block in bytes. A short data set has fewer bytes.
 pub(crate) const BLOCK_BYTES: usize = 128;
 
-/// At most 128 bytes, in place.
+/// A buffer of at most 128 bytes, without an allocation.
 #[derive(Drop)]
 pub(crate) struct Block {
     bytes: [u8; BLOCK_BYTES],
@@ -43,7 +43,7 @@ impl Block {
         self.end = 0;
     }
 
-    /// Drops all bytes, and leaves room for two at the front, which are set later.
+    /// Drops all bytes, and leaves room for two bytes at the front, which `set_front` sets later.
     pub(crate) fn begin(&mut self)
         ensures { length (filled_bytes self.new) ≡ 2 }
     {
@@ -74,7 +74,7 @@ impl Block {
         &self.bytes[..self.end]
     }
 
-    /// Makes room for `count` bytes: without room the bytes move to the end of `front`.
+    /// Makes room for `count` bytes. If there is too little, the bytes of the block move to the end of `front`.
     ///
     /// # Errors
     ///

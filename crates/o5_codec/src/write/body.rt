@@ -8,14 +8,14 @@ ghost use Rattle.o5_codec.specs.Shortest.{shortest_number};
 ghost use Rattle.o5_codec.specs.Appended.{AppendsSpelling};
 ghost use Rattle.o5_codec.specs.Writing as spec;
 
-use crate::write::draft::SetBuffer;
 use crate::write::segment::EncoderSegment;
+use crate::write::set_buffer::SetBuffer;
 use crate::write::string_key::StringKey;
 use osm_model::{Body, Member, Memory, Tag};
 
 impl EncoderSegment {
-    /// Appends a body. The section of references or members is made in a buffer of the caller.
-    #[tactic(auto, unfolding(crate::specs::Writing::body_written))]
+    /// Appends a body. The section of references or members is first made in `section`.
+    #[tactic(auto, unfolding(crate::specs::Writing::body_spelling))]
     pub(crate) fn append_body(
         &mut self,
         out: &mut SetBuffer,
@@ -23,7 +23,7 @@ impl EncoderSegment {
         body: &Body,
     ) -> Result<(), Memory>
         requires { list_all is_id (ids_of body.now) ≡ true }
-        ensures { OnOk result (AppendsSpelling out.old out.new self.new (spec.body_written body.now self.old)) }
+        ensures { OnOk result (AppendsSpelling out.old out.new self.new (spec.body_spelling body.now self.old)) }
     {
         match body {
             Body::Deleted(_) => Ok(()),
@@ -49,7 +49,7 @@ impl EncoderSegment {
     /// Appends the tags.
     #[inline(always)]
     fn append_tags(&mut self, out: &mut SetBuffer, tags: &[Tag]) -> Result<(), Memory>
-        ensures { OnOk result (AppendsSpelling out.old out.new self.new (spec.tags_written tags.now self.old)) }
+        ensures { OnOk result (AppendsSpelling out.old out.new self.new (spec.tags_spelling tags.now self.old)) }
     {
         if tags.is_empty() {
             return Ok(());
@@ -60,9 +60,9 @@ impl EncoderSegment {
     /// Appends the tags, which are not empty. This is a function of its own only for the optimizer, since most objects
     /// have no tags.
     #[inline(never)]
-    #[tactic(auto, unfolding(crate::specs::Writing::tags_written))]
+    #[tactic(auto, unfolding(crate::specs::Writing::tags_spelling))]
     fn append_each_tag(&mut self, out: &mut SetBuffer, tags: &[Tag]) -> Result<(), Memory>
-        ensures { OnOk result (AppendsSpelling out.old out.new self.new (spec.tags_written tags.now self.old)) }
+        ensures { OnOk result (AppendsSpelling out.old out.new self.new (spec.tags_spelling tags.now self.old)) }
     {
         for tag in tags {
             self.append_strings(out, StringKey::of_tag(tag))?;
@@ -71,7 +71,7 @@ impl EncoderSegment {
     }
 
     /// Appends the section of a way's references.
-    #[tactic(auto, unfolding(crate::specs::Writing::section_written))]
+    #[tactic(auto, unfolding(crate::specs::Writing::section_spelling))]
     fn append_references(
         &mut self,
         out: &mut SetBuffer,
@@ -80,17 +80,18 @@ impl EncoderSegment {
     ) -> Result<(), Memory>
         requires { list_all is_id ids.now ≡ true }
         ensures { OnOk result
-            (AppendsSpelling out.old out.new self.new (spec.section_written (spec.references_written ids.now) self.old)) }
+            (AppendsSpelling out.old out.new self.new (spec.section_spelling (spec.references_spelling ids.now) self.old)) }
     {
         section.clear();
         self.append_each_reference(section, ids)?;
         append_section(out, section)
     }
 
-    #[tactic(auto, unfolding(crate::specs::Writing::references_written))]
+    /// Appends each reference.
+    #[tactic(auto, unfolding(crate::specs::Writing::references_spelling))]
     fn append_each_reference(&mut self, out: &mut SetBuffer, ids: &[i64]) -> Result<(), Memory>
         requires { list_all is_id ids.now ≡ true }
-        ensures { OnOk result (AppendsSpelling out.old out.new self.new (spec.references_written ids.now self.old)) }
+        ensures { OnOk result (AppendsSpelling out.old out.new self.new (spec.references_spelling ids.now self.old)) }
     {
         for id in ids {
             self.append_reference(out, *id)?;
@@ -99,7 +100,7 @@ impl EncoderSegment {
     }
 
     /// Appends the section of a relation's members.
-    #[tactic(auto, unfolding(crate::specs::Writing::section_written))]
+    #[tactic(auto, unfolding(crate::specs::Writing::section_spelling))]
     fn append_members(
         &mut self,
         out: &mut SetBuffer,
@@ -108,17 +109,18 @@ impl EncoderSegment {
     ) -> Result<(), Memory>
         requires { list_all is_id (ids_of_members members.now) ≡ true }
         ensures { OnOk result
-            (AppendsSpelling out.old out.new self.new (spec.section_written (spec.members_written members.now) self.old)) }
+            (AppendsSpelling out.old out.new self.new (spec.section_spelling (spec.members_spelling members.now) self.old)) }
     {
         section.clear();
         self.append_each_member(section, members)?;
         append_section(out, section)
     }
 
-    #[tactic(auto, unfolding(crate::specs::Writing::members_written))]
+    /// Appends each member.
+    #[tactic(auto, unfolding(crate::specs::Writing::members_spelling))]
     fn append_each_member(&mut self, out: &mut SetBuffer, members: &[Member]) -> Result<(), Memory>
         requires { list_all is_id (ids_of_members members.now) ≡ true }
-        ensures { OnOk result (AppendsSpelling out.old out.new self.new (spec.members_written members.now self.old)) }
+        ensures { OnOk result (AppendsSpelling out.old out.new self.new (spec.members_spelling members.now self.old)) }
     {
         for member in members {
             self.append_member(out, member)?;
@@ -126,10 +128,11 @@ impl EncoderSegment {
         Ok(())
     }
 
-    #[tactic(auto, unfolding(crate::specs::Writing::member_written))]
+    /// Appends a member: its id, and then its kind and its role as a single string.
+    #[tactic(auto, unfolding(crate::specs::Writing::member_spelling))]
     fn append_member(&mut self, out: &mut SetBuffer, member: &Member) -> Result<(), Memory>
         requires { is_id member.now.id ≡ true }
-        ensures { OnOk result (AppendsSpelling out.old out.new self.new (spec.member_written member.now self.old)) }
+        ensures { OnOk result (AppendsSpelling out.old out.new self.new (spec.member_spelling member.now self.old)) }
     {
         self.append_member_id(out, member.kind, member.id)?;
         self.append_strings(out, StringKey::of_member(member.kind, &member.role))?;
@@ -137,7 +140,7 @@ impl EncoderSegment {
     }
 }
 
-/// Appends a section after its length.
+/// Appends the length of a section, and then the section.
 fn append_section(out: &mut SetBuffer, section: &SetBuffer) -> Result<(), Memory>
     ensures { OnOk result (out.new ≡ out.old ++ (shortest_number (length section.now) ++ section.now)) }
 {

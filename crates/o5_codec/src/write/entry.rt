@@ -6,7 +6,7 @@ ghost use Rattle.std.specs.Cmp.{decided, partial_equiv_from_equiv};
 ghost use Rattle.std.proofs.Common.{ap};
 ghost use Rattle.o5_codec.specs.Table.{is_short};
 ghost use Rattle.o5_codec.specs.Block.{filled_bytes};
-ghost use Rattle.o5_codec.specs.Digest.{digest};
+ghost use Rattle.o5_codec.specs.EntryHash.{entry_hash};
 ghost use Rattle.o5_codec.specs.Formed.{formed_entry, same_form, same_entry, inline_bytes};
 ghost use Rattle.o5_codec.specs.Writing.{uid_string, member_string};
 ghost use Rattle.o5_codec.specs.StringKey.{formed_of};
@@ -15,7 +15,7 @@ ghost use Rattle.o5_codec.specs.SameEntry.{same_entry_decides};
 use crate::strings::{Form, StringPair};
 use crate::table::is_short;
 use crate::write::block::Block;
-use crate::write::draft::SetBuffer;
+use crate::write::set_buffer::SetBuffer;
 use crate::write::string_key::StringKey;
 use osm_model::{Kind, Memory};
 use smallvec::SmallVec;
@@ -23,21 +23,21 @@ use std::alloc::Global;
 use std::hash::{DefaultHasher, Hash, Hasher};
 use std::marker::Model;
 
-/// The number of bytes that an entry keeps without an allocation. Most pairs, and most names, have fewer.
+/// The number of bytes that an entry keeps without an allocation. Most entries have fewer.
 const INLINE_BYTES: usize = 24;
 
 /// A pair or a single string. The bytes are those of the first string and then those of the second. Contracts see the
 /// form and the strings.
 ///
-/// Two entries are compared by their digests first, and the map of the table hashes the digest. The digest is SipHash
-/// with a fixed key, so only a search could find strings whose digests are equal.
+/// Two entries are compared by their hashes first, and the map of the table hashes that hash again. The hash is SipHash
+/// with a fixed key, so only a deliberate search could find strings whose hashes are equal.
 #[derive(Drop)]
 pub(crate) struct Entry {
     form: Form,
     bytes: SmallVec<u8, INLINE_BYTES>,
     split: usize,
-    /// The digest of the bytes.
-    digest: u64,
+    /// The hash of the bytes.
+    entry_hash: u64,
     /// The user id that the first string spells, if the entry was filled as a user's.
     uid: Option<u64>,
 }
@@ -55,6 +55,7 @@ impl Model for Entry {
 }
 
 impl Form {
+    /// Whether two forms are the same.
     fn is_same(self, other: Form) -> bool
         ensures { result ≡ same_form self other }
     {
@@ -71,7 +72,7 @@ impl PartialEq for Entry {
     ghost laws = { partial_equiv_from_equiv (decided same_entry same_entry_decides) };
 
     fn eq(&self, other: &Entry) -> bool {
-        if self.digest != other.digest {
+        if self.entry_hash != other.entry_hash {
             return false;
         }
         let same = self.split == other.split && self.form.is_same(other.form);
@@ -84,13 +85,13 @@ impl Eq for Entry {
 }
 
 impl Hash for Entry {
-    ghost hash_input = { λ e. fed.u64 (digest (e.strings.first ++ e.strings.second)) };
+    ghost hash_input = { λ e. fed.u64 (entry_hash (e.strings.first ++ e.strings.second)) };
 
     ghost respects_eq = { λ x y same.
-        ap (λ e. fed.u64 (digest (e.strings.first ++ e.strings.second))) ((same_entry_decides x y).0 same) };
+        ap (λ e. fed.u64 (entry_hash (e.strings.first ++ e.strings.second))) ((same_entry_decides x y).0 same) };
 
     fn hash<H: Hasher>(&self, state: &mut H) {
-        state.write_u64(self.digest);
+        state.write_u64(self.entry_hash);
     }
 }
 
@@ -101,11 +102,12 @@ impl Entry {
             form: Form::Pair,
             bytes: SmallVec::new(alloc),
             split: 0,
-            digest: digest_of(&[]),
+            entry_hash: hash_of(&[]),
             uid: None,
         }
     }
 
+    /// The two strings.
     fn strings(&self) -> StringPair<'_>
         ensures { result ≡ self.now.strings }
     {
@@ -113,7 +115,8 @@ impl Entry {
         StringPair { first, second }
     }
 
-    /// Whether this is the entry of the strings of `key`.
+    /// Whether the entry is known to have the strings of `key`. A user's strings are known only if the entry was filled
+    /// with a user's.
     #[inline(always)]
     pub(crate) fn matches(&self, key: StringKey<'_>) -> bool
         ensures { OnTrue result (self.now ≡ formed_of key.entry) }
@@ -163,7 +166,7 @@ impl Entry {
         Ok(())
     }
 
-    /// An equal entry.
+    /// A copy of the entry.
     pub(crate) fn copy(&self, alloc: Global) -> Result<Entry, Memory>
         ensures { IfOk result (λ e. e ≡ self.now) }
     {
@@ -171,7 +174,7 @@ impl Entry {
             form: self.form,
             bytes: SmallVec::from_slice(alloc, self.bytes.as_slice())?,
             split: self.split,
-            digest: self.digest,
+            entry_hash: self.entry_hash,
             uid: self.uid,
         })
     }
@@ -190,13 +193,14 @@ impl Entry {
             }
             StringKey::Tag { key, value } => self.fill_strings(Form::Pair, &[], key, value),
             StringKey::Member { kind, role } => {
-                let digit = [b'0' + kind.rank()];
+                let digit = [b'0' + kind.index()];
                 self.fill_strings(Form::Single, &digit, role, &[])
             }
         }
     }
 
-    /// Fills the entry with two strings: `front` and `rest` together, and `second`. Memory of long strings is freed.
+    /// Fills the entry with two strings: `front` followed by `rest`, and `second`. The memory of earlier long strings
+    /// is freed.
     fn fill_strings(
         &mut self,
         form: Form,
@@ -211,29 +215,29 @@ impl Entry {
         bytes.extend_from_slice(rest)?;
         let split = bytes.len();
         bytes.extend_from_slice(second)?;
-        let digest = digest_of(bytes.as_slice());
+        let entry_hash = hash_of(bytes.as_slice());
         *self = Entry {
             form,
             bytes,
             split,
-            digest,
+            entry_hash,
             uid: None,
         };
         Ok(())
     }
 }
 
-/// The digest of an entry's bytes.
-#[tactic(auto, unfolding(crate::specs::Digest::digest))]
-fn digest_of(bytes: &[u8]) -> u64
-    ensures { result ≡ digest bytes.now }
+/// The hash of an entry's bytes.
+#[tactic(auto, unfolding(crate::specs::EntryHash::entry_hash))]
+fn hash_of(bytes: &[u8]) -> u64
+    ensures { result ≡ entry_hash bytes.now }
 {
     let mut hasher = DefaultHasher::new();
     hasher.write(bytes);
     hasher.finish()
 }
 
-/// The string of a user id.
+/// The string that spells a user id. It is empty for 0.
 fn uid_digits(uid: u64) -> Block
     ensures { filled_bytes result ≡ uid_string uid }
 {
@@ -244,13 +248,13 @@ fn uid_digits(uid: u64) -> Block
     digits
 }
 
-/// Whether a string is the digit of a member's kind, followed by this role.
+/// Whether `string` is the digit of `kind`, followed by `role`.
 #[inline(always)]
 fn is_member_string(string: &[u8], kind: Kind, role: &[u8]) -> bool
     ensures { OnTrue result (string.now ≡ member_string kind role.now) }
 {
     match string.split_first() {
-        Some((digit, behind)) => *digit == b'0' + kind.rank() && behind == role,
+        Some((digit, behind)) => *digit == b'0' + kind.index() && behind == role,
         None => false,
     }
 }

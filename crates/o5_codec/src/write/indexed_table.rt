@@ -1,9 +1,9 @@
 //! The string table of a segment that is written.
 //!
 //! Why: a table has up to 15,000 entries, and a search of it would compare each. The hash map finds an entry by its
-//! digest, and the cache of `slot` finds most of them before that, which saves half of the cost of writing a version.
+//! hash. Before that the cache of `slot` finds most entries, which saves half of the cost of writing a version.
 //! Assumes: the map has exactly the entries of the ring, each with its number (`IsTable`).
-//! Otherwise: an entry that neither has is written inline, and stored in both.
+//! Otherwise: an entry that the map doesn't have is written inline, and stored in the ring and in the map.
 //! Compared by: `refers_as_a_plain_search_does`.
 ghost use Rattle.std.specs.Prelude.{◌≡◌, ◌∷◌, ◌^◌, ◌++◌, [], take, IfOk, OnOk, None, Some, IfSome};
 ghost use Rattle.o5_codec.specs.Table.{table_limit};
@@ -13,8 +13,8 @@ ghost use Rattle.o5_codec.specs.Indexed.{IsNext};
 ghost use Rattle.o5_codec.specs.StringKey.{formed_of};
 
 use crate::table::LIMIT;
-use crate::write::draft::SetBuffer;
 use crate::write::entry::Entry;
+use crate::write::set_buffer::SetBuffer;
 use crate::write::slot::{Slot, SlotCache};
 use crate::write::string_key::StringKey;
 use circular_buffer::HeapCircularBuffer;
@@ -24,9 +24,9 @@ use std::collections::HashMap;
 use std::marker::Model;
 
 /// The entries that references can name, in a ring, and the number of each in a hash map. Contracts see the list of the
-/// entries, the one stored last first.
+/// entries, the newest first.
 ///
-/// The ring's block is allocated once. Its pages cost no resident memory before an entry is written into them.
+/// The ring is allocated once. A page of it costs no resident memory until an entry is written into the page.
 #[derive(Drop)]
 pub(crate) struct IndexedTable {
     ring: HeapCircularBuffer<Entry>,
@@ -53,7 +53,7 @@ impl Model for IndexedTable {
 }
 
 impl IndexedTable {
-    /// The empty table, with room for all its entries.
+    /// An empty table with room for `LIMIT` entries.
     pub(crate) fn new(alloc: Global) -> Result<IndexedTable, Memory>
         ensures { IfOk result (λ t. t ≡ []) }
     {
@@ -75,8 +75,8 @@ impl IndexedTable {
         self.next = 0;
     }
 
-    /// Appends an entry: its reference if the table has it, else its strings inline, which are stored unless they are
-    /// too long. The cache then has the entry in the slot.
+    /// Appends an entry: its reference if the table has it, else its strings inline. Inline strings are stored unless
+    /// they are too long. The cache then has the number of the entry in `slot`.
     ///
     /// # Errors
     ///
@@ -116,7 +116,8 @@ impl IndexedTable {
         }
     }
 
-    /// The entry that the cache has in a slot, if it is still in the table, and its reference.
+    /// The entry of the table that the number in a slot of the cache names, if there is one, and its reference. If the
+    /// number is out of date, the entry may be another one than the entry that was written.
     #[inline(always)]
     fn remembered(&self, slot: Slot) -> Option<(&Entry, u64)>
         ensures { IfSome result (λ x. reference_to x.0.now self.now ≡ Some x.1) }

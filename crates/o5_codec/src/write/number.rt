@@ -4,7 +4,7 @@ ghost use Rattle.o5_codec.specs.Number.{unsigned_of};
 ghost use Rattle.o5_codec.specs.Shortest.{shortest_number, shortest_signed};
 
 use crate::write::block::Block;
-use crate::write::draft::SetBuffer;
+use crate::write::set_buffer::SetBuffer;
 use osm_model::Memory;
 
 /// Appends an unsigned number.
@@ -35,7 +35,7 @@ pub(crate) fn append_signed(out: &mut SetBuffer, number: i64) -> Result<(), Memo
     out.append_number(to_unsigned(number))
 }
 
-/// The unsigned number of a signed one: 0, 1, 2 and so on have even ones, -1, -2 and so on have odd ones.
+/// The unsigned number that encodes a signed one: even numbers encode 0, 1, 2 and so on, odd numbers -1, -2 and so on.
 fn to_unsigned(number: i64) -> u64
     ensures { result ≡ unsigned_of number }
 {

@@ -1,16 +1,16 @@
 //! The context of a data set that is written, and the steps of a data set before its body.
 ghost use Rattle.std.specs.Prelude.{◌≡◌, ◌<◌, ◌^◌, true, IfOk, OnOk, unwrap_or};
 ghost use Rattle.osm_model.specs.Id.{is_id};
-ghost use Rattle.o5_codec.specs.Encoder.{new_written_segment};
+ghost use Rattle.o5_codec.specs.Encoder.{new_encoder_segment};
 ghost use Rattle.o5_codec.specs.Formed.{reference_to};
 ghost use Rattle.o5_codec.specs.Appended.{AppendsSpelling};
 ghost use Rattle.o5_codec.specs.StringKey.{formed_of};
 ghost use Rattle.o5_codec.specs.Writing as spec;
 
 use crate::base::Bases;
-use crate::write::draft::SetBuffer;
 use crate::write::entry::Entry;
 use crate::write::indexed_table::IndexedTable;
+use crate::write::set_buffer::SetBuffer;
 use crate::write::slot::Slot;
 use crate::write::string_key::StringKey;
 use osm_model::{Kind, Memory, Version};
@@ -35,9 +35,9 @@ impl Model for EncoderSegment {
 }
 
 impl EncoderSegment {
-    /// The beginning of a segment.
+    /// The context at the start of a segment.
     pub(crate) fn new(alloc: Global) -> Result<EncoderSegment, Memory>
-        ensures { IfOk result (λ c. c ≡ new_written_segment) }
+        ensures { IfOk result (λ c. c ≡ new_encoder_segment) }
     {
         Ok(EncoderSegment {
             bases: Bases::new(),
@@ -46,23 +46,23 @@ impl EncoderSegment {
         })
     }
 
-    /// Begins a segment.
+    /// Begins a segment: all bases are 0, and the table is empty.
     pub(crate) fn clear(&mut self)
-        ensures { self.new ≡ new_written_segment }
+        ensures { self.new ≡ new_encoder_segment }
     {
         self.bases = Bases::new();
         self.table.clear();
     }
 
     /// Appends the content of a version's data set.
-    #[tactic(auto, unfolding(crate::specs::Writing::content_written))]
+    #[tactic(auto, unfolding(crate::specs::Writing::content_spelling))]
     pub(crate) fn append_content(
         &mut self,
         out: &mut SetBuffer,
         section: &mut SetBuffer,
         v: &Version,
     ) -> Result<(), Memory>
-        ensures { OnOk result (AppendsSpelling out.old out.new self.new (spec.content_written v.now self.old)) }
+        ensures { OnOk result (AppendsSpelling out.old out.new self.new (spec.content_spelling v.now self.old)) }
     {
         self.append_id(out, v.id())?;
         out.append_number(v.number())?;
@@ -73,27 +73,27 @@ impl EncoderSegment {
     }
 
     /// Appends the id of an object.
-    #[tactic(auto, unfolding(crate::specs::Writing::id_written))]
+    #[tactic(auto, unfolding(crate::specs::Writing::id_spelling))]
     fn append_id(&mut self, out: &mut SetBuffer, id: i64) -> Result<(), Memory>
         requires { is_id id ≡ true }
-        ensures { OnOk result (AppendsSpelling out.old out.new self.new (spec.id_written id self.old)) }
+        ensures { OnOk result (AppendsSpelling out.old out.new self.new (spec.id_spelling id self.old)) }
     {
         self.bases.id.append(out, id)
     }
 
     /// Appends a time; 0 is none.
-    #[tactic(auto, unfolding(crate::specs::Writing::time_written))]
+    #[tactic(auto, unfolding(crate::specs::Writing::time_spelling))]
     fn append_time(&mut self, out: &mut SetBuffer, time: u32) -> Result<(), Memory>
-        ensures { OnOk result (AppendsSpelling out.old out.new self.new (spec.time_written time self.old)) }
+        ensures { OnOk result (AppendsSpelling out.old out.new self.new (spec.time_spelling time self.old)) }
     {
         self.bases.time.append(out, time)
     }
 
     /// Appends changeset and user, if there is a time.
-    #[tactic(auto, unfolding(crate::specs::Writing::author_written))]
+    #[tactic(auto, unfolding(crate::specs::Writing::author_spelling))]
     fn append_author(&mut self, out: &mut SetBuffer, v: &Version) -> Result<(), Memory>
         requires { v.now.changeset < 2 ^ 32 }
-        ensures { OnOk result (AppendsSpelling out.old out.new self.new (spec.author_written v.now self.old)) }
+        ensures { OnOk result (AppendsSpelling out.old out.new self.new (spec.author_spelling v.now self.old)) }
     {
         match v.time() {
             None => Ok(()),
@@ -105,9 +105,10 @@ impl EncoderSegment {
         }
     }
 
-    #[tactic(auto, unfolding(crate::specs::Writing::changeset_written))]
+    /// Appends a changeset.
+    #[tactic(auto, unfolding(crate::specs::Writing::changeset_spelling))]
     fn append_changeset(&mut self, out: &mut SetBuffer, changeset: u32) -> Result<(), Memory>
-        ensures { OnOk result (AppendsSpelling out.old out.new self.new (spec.changeset_written changeset self.old)) }
+        ensures { OnOk result (AppendsSpelling out.old out.new self.new (spec.changeset_spelling changeset self.old)) }
     {
         self.bases.changeset.append(out, changeset)
     }
@@ -116,14 +117,14 @@ impl EncoderSegment {
     ///
     /// The function is inlined so that each caller has only the code for its kind of strings.
     #[inline(always)]
-    #[tactic(auto, unfolding(crate::specs::Writing::strings_written))]
+    #[tactic(auto, unfolding(crate::specs::Writing::strings_spelling))]
     pub(crate) fn append_strings(
         &mut self,
         out: &mut SetBuffer,
         key: StringKey<'_>,
     ) -> Result<(), Memory>
         ensures { OnOk result
-            (AppendsSpelling out.old out.new self.new (spec.strings_written (formed_of key.entry) self.old)) }
+            (AppendsSpelling out.old out.new self.new (spec.strings_spelling (formed_of key.entry) self.old)) }
     {
         if let Some(reference) = self.table.cached_reference(key) {
             return out.append_number(reference);
@@ -133,7 +134,7 @@ impl EncoderSegment {
     }
 
     /// Appends the id of a member.
-    #[tactic(auto, unfolding(crate::specs::Writing::member_id_written))]
+    #[tactic(auto, unfolding(crate::specs::Writing::member_id_spelling))]
     pub(crate) fn append_member_id(
         &mut self,
         out: &mut SetBuffer,
@@ -141,7 +142,7 @@ impl EncoderSegment {
         id: i64,
     ) -> Result<(), Memory>
         requires { is_id id ≡ true }
-        ensures { OnOk result (AppendsSpelling out.old out.new self.new (spec.member_id_written kind id self.old)) }
+        ensures { OnOk result (AppendsSpelling out.old out.new self.new (spec.member_id_spelling kind id self.old)) }
     {
         match kind {
             Kind::Node => self.bases.node_member.append(out, id),
@@ -151,26 +152,26 @@ impl EncoderSegment {
     }
 
     /// Appends the reference of a way.
-    #[tactic(auto, unfolding(crate::specs::Writing::reference_written))]
+    #[tactic(auto, unfolding(crate::specs::Writing::reference_spelling))]
     pub(crate) fn append_reference(&mut self, out: &mut SetBuffer, id: i64) -> Result<(), Memory>
         requires { is_id id ≡ true }
-        ensures { OnOk result (AppendsSpelling out.old out.new self.new (spec.reference_written id self.old)) }
+        ensures { OnOk result (AppendsSpelling out.old out.new self.new (spec.reference_spelling id self.old)) }
     {
         self.bases.reference.append(out, id)
     }
 
     /// Appends a longitude.
-    #[tactic(auto, unfolding(crate::specs::Writing::longitude_written))]
+    #[tactic(auto, unfolding(crate::specs::Writing::longitude_spelling))]
     pub(crate) fn append_longitude(&mut self, out: &mut SetBuffer, lon: i32) -> Result<(), Memory>
-        ensures { OnOk result (AppendsSpelling out.old out.new self.new (spec.longitude_written lon self.old)) }
+        ensures { OnOk result (AppendsSpelling out.old out.new self.new (spec.longitude_spelling lon self.old)) }
     {
         self.bases.lon.append(out, lon)
     }
 
     /// Appends a latitude.
-    #[tactic(auto, unfolding(crate::specs::Writing::latitude_written))]
+    #[tactic(auto, unfolding(crate::specs::Writing::latitude_spelling))]
     pub(crate) fn append_latitude(&mut self, out: &mut SetBuffer, lat: i32) -> Result<(), Memory>
-        ensures { OnOk result (AppendsSpelling out.old out.new self.new (spec.latitude_written lat self.old)) }
+        ensures { OnOk result (AppendsSpelling out.old out.new self.new (spec.latitude_spelling lat self.old)) }
     {
         self.bases.lat.append(out, lat)
     }

@@ -1,11 +1,11 @@
 //! A cache of the numbers in the hash map of the writer's string table.
 //!
 //! Why: the map hashes all bytes of an entry, and the entry has to be filled before. The cache finds an entry by a few
-//! of its bytes. To write a version takes 704 instructions instead of 1,405, which is 30 percent of a merge from o5m to
+//! of its bytes. Writing a version takes 704 instructions instead of 1,405, which is 30 percent of a merge from o5m to
 //! o5m.
 //! Assumes: nothing. Several entries share a slot, and an entry that leaves the table remains in its slot, so the table
 //! compares the entry that the cache names. No byte that is written depends on the cache.
-//! Otherwise: if the entry is another one, the table looks in its map.
+//! Otherwise: if the entry is another one, the table searches its map.
 //! Compared by: `refers_as_a_plain_search_does`.
 use crate::write::string_key::StringKey;
 use osm_model::Memory;
@@ -14,10 +14,10 @@ use std::alloc::Global;
 /// The number of slots.
 const SLOTS: usize = 65_536;
 
-/// A slot keeps the number of an entry modulo this. A table has fewer entries.
+/// A slot keeps the number of an entry modulo `NUMBERS`. A table has fewer entries.
 const NUMBERS: u64 = 65_536;
 
-/// For each slot, the number of the entry that was written last. The table may have dropped that entry.
+/// For each slot, the number of the entry of the slot that was written last. The table may have dropped that entry.
 #[derive(Drop)]
 pub(crate) struct SlotCache {
     numbers: Vec<u16>,
@@ -63,11 +63,12 @@ impl Slot {
             StringKey::User { uid, .. } => Slot(uid),
             StringKey::Tag { key, value } => Slot::of_two(slot_hash(key), slot_hash(value)),
             StringKey::Member { kind, role } => {
-                Slot::of_two(slot_hash(role), u64::from(kind.rank()))
+                Slot::of_two(slot_hash(role), u64::from(kind.index()))
             }
         }
     }
 
+    /// The slot of two numbers.
     fn of_two(first: u64, second: u64) -> Slot {
         Slot(first.wrapping_mul(31).wrapping_add(second))
     }
@@ -78,7 +79,7 @@ impl Slot {
     }
 }
 
-/// A number that differs for most strings. It depends on their length and on three of their bytes.
+/// A number that differs for most strings. It depends on the length and on three bytes of the string.
 #[inline(always)]
 fn slot_hash(string: &[u8]) -> u64 {
     let Some(last) = string.last() else {

@@ -1,4 +1,4 @@
-//! The strings that the writer appends, as references to the parts of a version.
+//! The strings that the writer appends, borrowed from the parts of a version.
 use osm_model::{Kind, Tag, Text};
 
 /// The strings of a user, of a tag or of a member. Contracts see the entry that has them.

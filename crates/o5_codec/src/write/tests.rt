@@ -2,9 +2,9 @@
 ghost use Rattle.std.specs.Prelude.{◌≡◌, false};
 
 use crate::number::read_number;
-use crate::write::draft::SetBuffer;
 use crate::write::entry::Entry;
 use crate::write::segment::EncoderSegment;
+use crate::write::set_buffer::SetBuffer;
 use crate::write::string_key::StringKey;
 use crate::{Decoder, Encoder};
 use osm_model::{Body, Kind, Meta, Tag, Tags, Text, Version};
@@ -29,7 +29,7 @@ impl Writer {
     }
 
     fn write(&mut self, v: &Version) -> Result<Vec<u8>, Fail> {
-        if v.kind().rank() < self.last.rank() {
+        if v.kind().index() < self.last.index() {
             return Err(Fail::from("the kinds fall"));
         }
         let set = self.encoder.write_set(v)?;
@@ -89,8 +89,8 @@ fn check(
     Ok(())
 }
 
-/// Checks a row: a data set that spells a version in a segment of its own, the version's line, and the data set that is
-/// written.
+/// Checks a row: a data set that spells a version at the start of a segment, the line of the version, and the data set
+/// that `writer` is expected to write for the version.
 fn check_row(
     rt: &impl Abort,
     alloc: Global,
@@ -265,8 +265,8 @@ fn refers_to_the_last_15000_pairs(rt: HostRuntime) -> Result<(), Fail> {
     check_second(&rt, alloc, 15_001, "00002", "10 07 02 01 00 00 00 98 75")
 }
 
-/// The table as the format defines it: the numbers of the entries stored last, the latest at the end, and a search of
-/// them.
+/// The table as the format defines it: the numbers of the entries stored last, the newest at the end. A search compares
+/// each number.
 #[derive(Drop)]
 struct Plain {
     stored: Vec<u32>,
@@ -292,10 +292,10 @@ impl Plain {
     }
 }
 
-/// The bytes of a draft.
-fn all_of(alloc: Global, draft: &SetBuffer) -> Result<Vec<u8>, Fail> {
+/// The bytes of a buffer.
+fn all_of(alloc: Global, set_buffer: &SetBuffer) -> Result<Vec<u8>, Fail> {
     let mut bytes = Vec::new(alloc);
-    draft.append_to(&mut bytes)?;
+    set_buffer.append_to(&mut bytes)?;
     Ok(bytes)
 }
 
@@ -308,7 +308,7 @@ fn long_text(alloc: Global) -> Result<String, Fail> {
     Ok(text)
 }
 
-/// The strings of a number: those of a user, a tag or a member; some of them are long.
+/// Strings that depend on `number`: those of a user, a tag or a member. Some of them are long.
 fn key_of<'a>(number: u32, digits: &'a [u8], long: &'a [u8]) -> StringKey<'a> {
     match number % 16 {
         0..=3 => StringKey::User {
@@ -334,7 +334,7 @@ fn key_of<'a>(number: u32, digits: &'a [u8], long: &'a [u8]) -> StringKey<'a> {
     }
 }
 
-/// Appends the strings of a number to both tables, and compares the bytes.
+/// Appends the strings of `number` with both tables, and compares the bytes.
 fn append_to_both(
     rt: &impl Abort,
     alloc: Global,

@@ -5,10 +5,10 @@ ghost use Rattle.opl_line.specs.Delimiter.{is_end, split_first, split_all, piece
 use super::scan::{ByteClass, find};
 use std::simd::prelude::*;
 
-/// The number of bytes that one step looks at.
+/// The number of bytes that one step compares.
 const CUT_LANES: usize = 16;
 
-/// The bytes at which a text is cut.
+/// The delimiters at which a text is cut.
 #[derive(Clone, Copy, Debug)]
 pub(crate) enum Delimiter {
     /// At each space and each tab.
@@ -26,7 +26,8 @@ pub(crate) enum Delimiter {
 }
 
 impl Delimiter {
-    /// The text before the first byte that is cut at, and the text after it, if there is such a byte.
+    /// Splits a text at its first delimiter: the text before it, and the text after it. Without a delimiter they are
+    /// the whole text and `None`.
     #[inline(always)]
     pub(crate) fn split(self, text: &str) -> (&str, Option<&str>)
         ensures first { result.0.now ≡ (split_first (is_end self) text.now).0 }
@@ -40,7 +41,8 @@ impl Delimiter {
         }
     }
 
-    /// The bytes before the first one that is cut at, and those after it, if there is such a byte.
+    /// Splits bytes at their first delimiter: the bytes before it, and those after it. Without a delimiter they are all
+    /// bytes and `None`.
     #[inline(always)]
     pub(crate) fn split_bytes(self, bytes: &[u8]) -> (&[u8], Option<&[u8]>)
         ensures first { result.0.now ≡ (split_first (is_end self) bytes.now).0 }
@@ -52,7 +54,7 @@ impl Delimiter {
         }
     }
 
-    /// The bytes that are cut at, which may be the same.
+    /// The two delimiters, or the only one twice.
     #[inline(always)]
     fn ends(self) -> (u8, u8)
         ensures { (byte : ℕ) → is_end self byte ≡ (byte == result.0 || byte == result.1) }

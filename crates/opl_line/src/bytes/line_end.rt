@@ -5,7 +5,7 @@ ghost use Rattle.opl_line.specs.Delimiter.{is_line_end};
 use super::scan::{ByteClass, find};
 use std::simd::prelude::*;
 
-/// The number of bytes that one step looks at.
+/// The number of bytes that one step compares.
 const LINE_END_LANES: usize = 64;
 
 /// The line feed and the carriage return, each of which ends a line.

@@ -1,7 +1,7 @@
 //! A search for bytes of a class, many at a time.
 //!
-//! Why: lines are read and cut at bytes of a class, and one instruction compares 8 to 64 bytes.
-//! Assumes: as many bytes are left.
+//! Why: lines end and are cut at bytes of a class, and one instruction compares 8 to 64 bytes.
+//! Assumes: at least `LANES` bytes are left.
 //! Otherwise: the last bytes are compared one by one.
 //! Compared by: `line_ends_are_found`.
 ghost use Rattle.std.specs.Prelude.{◌≡◌, ◌+◌, ◌<◌, ◌≤◌, ℕ, Bool, not, length, position};
@@ -11,10 +11,11 @@ ghost use Rattle.opl_line.specs.Scan.{marks_of};
 
 /// A class of bytes.
 pub(crate) trait ByteClass<const LANES: usize>: Copy {
-    /// Which bytes are of the class.
+    /// The test whether a byte is of the class.
     ghost has: { Self → ℕ → Bool };
 
-    /// Marks the bytes from `from` on that are of the class: a bit for each byte, the lowest for the first.
+    /// Returns a bit for each of the `LANES` bytes from `from` on, the lowest for the first. The bit is set if the byte
+    /// is of the class.
     fn marks(self, bytes: &[u8], from: usize) -> u64
         requires { from + LANES ≤ length bytes.now }
         ensures { result ≡ marks_of (has self) (chunk from LANES bytes.now) };
@@ -24,7 +25,8 @@ pub(crate) trait ByteClass<const LANES: usize>: Copy {
         ensures { result ≡ has self byte };
 }
 
-/// The offset of the first byte of a class. One step looks at `LANES` bytes; the last bytes are looked at one by one.
+/// The offset of the first byte of a class. One step compares `LANES` bytes. Fewer bytes at the end are compared one by
+/// one.
 #[inline(always)]
 pub(crate) fn find<const LANES: usize, C: ByteClass<LANES>>(class: C, bytes: &[u8]) -> Option<usize>
     requires some { 0 < LANES }
@@ -47,7 +49,8 @@ pub(crate) fn find<const LANES: usize, C: ByteClass<LANES>>(class: C, bytes: &[u
     None
 }
 
-/// The number of bytes before the first one of a class among the `LANES` bytes from `from` on.
+/// The number of bytes before the first one of a class among the `LANES` bytes from `from` on, or `LANES` if there is
+/// none.
 #[inline(always)]
 fn run<const LANES: usize, C: ByteClass<LANES>>(class: C, bytes: &[u8], from: usize) -> usize
     requires few { LANES ≤ 64 }

@@ -1,7 +1,7 @@
-//! Lines as texts.
+//! The test whether a line is UTF-8.
 //!
 //! Why: a test for ASCII costs less than one for UTF-8, and most lines are ASCII.
-//! Assumes: for the fast test, that the line has at least 64 bytes.
+//! Assumes: for the fast test, the line has at least 64 bytes.
 //! Otherwise: `simdutf8` tests the line.
 //! Compared by: `faulty_texts` and `lines_of_each_kind`.
 ghost use Rattle.std.specs.Prelude.{◌≡◌, ◌+◌, ◌<◌, ◌≤◌, ℕ, length, slice_index, MatchOption, IsUtf8};
@@ -11,7 +11,7 @@ ghost use Rattle.std.specs.Str.{IsAscii};
 use std::simd::prelude::*;
 use std::str;
 
-/// The number of bytes that one step looks at.
+/// The number of bytes that one step compares.
 const UTF8_LANES: usize = 64;
 
 /// The line as a text, if it is UTF-8. Most lines are ASCII, for which the test costs less.
@@ -26,7 +26,7 @@ pub(crate) fn to_str(line: &[u8]) -> Option<&str>
     simdutf8::compat::from_utf8(line).ok()
 }
 
-/// Whether a line has 64 bytes at least, and all of them are ASCII.
+/// Whether a line has at least 64 bytes, all of them ASCII.
 #[inline(always)]
 fn is_long_ascii(line: &[u8]) -> bool
     ensures { OnTrue result (IsAscii line.now) }

@@ -1,4 +1,4 @@
-//! The contents of fields that take no memory.
+//! Readers of the contents of fields. They allocate nothing.
 ghost use Rattle.std.specs.Prelude.{◌≡◌};
 ghost use Rattle.opl_line.specs.Number.{reading_coordinate};
 ghost use Rattle.opl_line.specs.Time.{reading_time};
@@ -8,14 +8,14 @@ use crate::OplReason;
 use crate::number::{GREATEST_NUMBER, read_coordinate, read_number};
 use crate::time::read_time;
 
-/// A version number.
+/// A number of 32 bits: a version number, a changeset or a user id.
 pub(crate) fn read_number_32(content: &[u8]) -> Result<u64, OplReason>
     ensures { result ≡ spec.reading_number_32 content.now }
 {
     read_number(content, GREATEST_NUMBER)
 }
 
-/// Whether an object was deleted: `D`, or `V` for visible.
+/// Whether an object was deleted: `D` for deleted, `V` for visible.
 pub(crate) fn read_deleted(content: &[u8]) -> Result<bool, OplReason>
     ensures { result ≡ spec.reading_deleted content.now }
 {
@@ -26,7 +26,7 @@ pub(crate) fn read_deleted(content: &[u8]) -> Result<bool, OplReason>
     }
 }
 
-/// A changeset or a user id, 0 if there is none.
+/// A changeset or a user id. It is 0 if the content is empty.
 pub(crate) fn read_count(content: &[u8]) -> Result<u64, OplReason>
     ensures { result ≡ spec.reading_count content.now }
 {
@@ -36,7 +36,7 @@ pub(crate) fn read_count(content: &[u8]) -> Result<u64, OplReason>
     read_number_32(content)
 }
 
-/// A time, if there is one.
+/// A time, or `None` if the content is empty.
 pub(crate) fn read_optional_time(content: &[u8]) -> Result<Option<u64>, OplReason>
     ensures { result ≡ spec.reading_optional reading_time content.now }
 {
@@ -46,7 +46,7 @@ pub(crate) fn read_optional_time(content: &[u8]) -> Result<Option<u64>, OplReaso
     Ok(Some(u64::from(read_time(content)?)))
 }
 
-/// A coordinate, if there is one.
+/// A coordinate, or `None` if the content is empty.
 pub(crate) fn read_optional_coordinate(content: &[u8]) -> Result<Option<i32>, OplReason>
     ensures { result ≡ spec.reading_optional reading_coordinate content.now }
 {

@@ -44,7 +44,7 @@ pub(crate) struct Fields {
 impl Fields {
     ghost use Rattle.opl_line.specs.Field as spec;
 
-    /// The contents of no field.
+    /// The fields of a line that has none.
     pub(crate) fn no_fields() -> Fields
         ensures { result ≡ spec.no_fields }
     {
@@ -63,11 +63,12 @@ impl Fields {
         }
     }
 
-    /// Adds the contents of the fields after a line's first blank, for an object of this kind.
+    /// Adds the contents of the fields in `text`, which is the line after its first blank. The object has the kind
+    /// `kind`.
     ///
     /// # Errors
     ///
-    /// The reason of the leftmost faulty field; `Memory`.
+    /// The reason of the leftmost faulty field, or `Memory`.
     pub(crate) fn read(
         &mut self,
         alloc: Global,
@@ -108,7 +109,7 @@ impl Fields {
         self.add_content(alloc, kind, *letter, &field[1..])
     }
 
-    /// Whether a field of this letter was read.
+    /// Whether a field with the letter `letter` was read.
     fn has(&self, letter: u8) -> bool
         ensures { result ≡ spec.has_field self.now letter }
     {
@@ -128,7 +129,7 @@ impl Fields {
         }
     }
 
-    /// Adds the content after a letter.
+    /// Adds the content of the field with the letter `letter`.
     fn add_content(
         &mut self,
         alloc: Global,
@@ -153,7 +154,7 @@ impl Fields {
         Ok(())
     }
 
-    /// Adds the content of a field whose letter not every kind has.
+    /// Adds the content of a field that only one kind of object has.
     fn add_body_content(
         &mut self,
         alloc: Global,

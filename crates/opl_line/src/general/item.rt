@@ -1,7 +1,7 @@
 //! The items of lists in OPL lines.
 ghost use Rattle.std.specs.Prelude.{◌≡◌, ◌⊎◌, Ok, Err, None, Some, drop, MatchOption, MatchResult};
 ghost use Rattle.opl_line.specs.declared.reason.OplReason.TheVariants.{Memory};
-ghost use Rattle.opl_line.specs.Answer.{OplAnswers};
+ghost use Rattle.opl_line.specs.Answer.{OplReads};
 ghost use Rattle.opl_line.specs.Item as spec;
 
 use super::text::read_text;
@@ -11,8 +11,8 @@ use crate::number::read_id;
 use osm_model::{Kind, Member, Tag};
 use std::alloc::Global;
 
-/// The bytes of a usual item and its comma, as `n123456789,`. A list gets room for as many usual items as its content
-/// has space for, so that a content of commas can't ask for much memory.
+/// The number of bytes of a usual item and its comma, such as `n123456789,`. The capacity of a new list is the number
+/// of usual items that its content has space for. A content of commas has more items, but can't ask for much memory.
 pub(crate) const USUAL_ITEM: usize = 11;
 
 /// An item of a list.
@@ -26,17 +26,17 @@ pub(crate) trait Item: Drop + Sized {
     ///
     /// # Errors
     ///
-    /// `BadList` if the text doesn't have the item's form, `OutOfRange` if an id is out of range, `BadText` if a part
-    /// of it is no text; `Memory`.
+    /// `BadList` if the text doesn't have the item's form, `OutOfRange` if an id is out of range, `BadText` if a key, a
+    /// value or a role is no text, or `Memory`.
     fn read(alloc: Global, text: &str) -> Result<Self, OplReason>
-        ensures { OplAnswers (reading text.now) result };
+        ensures { OplReads (reading text.now) result };
 }
 
 /// The items of a list, which has a comma between each two.
 ///
 /// # Errors
 ///
-/// The reason of the first faulty item; `Memory`.
+/// The reason of the first faulty item, or `Memory`.
 pub(crate) fn read_list<T: Item>(alloc: Global, content: &str) -> Result<Vec<T>, OplReason>
     ensures { MatchResult result
         (λ items. spec.reading_list T.reading content.now ≡ Ok items.items)
@@ -55,7 +55,7 @@ pub(crate) fn read_list<T: Item>(alloc: Global, content: &str) -> Result<Vec<T>,
     Ok(items)
 }
 
-/// `key=value`.
+/// A tag, as `key=value`.
 impl Item for Tag {
     ghost reading = { spec.reading_tag };
 
@@ -73,7 +73,7 @@ impl Item for Tag {
     }
 }
 
-/// The id of a node after its letter, as `n1`.
+/// A reference: the letter `n` and the id of a node, as `n1`.
 impl Item for i64 {
     ghost reading = { spec.reading_reference };
 
@@ -85,7 +85,7 @@ impl Item for i64 {
     }
 }
 
-/// `w1@role`.
+/// A member: an object and its role, as `w1@role`.
 impl Item for Member {
     ghost reading = { spec.reading_member };
 
@@ -107,7 +107,8 @@ fn read_object_name(text: &[u8]) -> Result<(Kind, i64), OplReason>
     Ok((kind, read_item_id(digits)?))
 }
 
-/// The kind whose letter a text begins with, and the bytes after it; `None` if it begins with no such letter.
+/// The kind whose letter a text begins with, and the bytes after the letter. `None` if the text begins with no such
+/// letter.
 pub(crate) fn split_kind(text: &[u8]) -> Option<(Kind, &[u8])>
     ensures { MatchOption result
         (spec.first_kind text.now ≡ None)
@@ -117,7 +118,7 @@ pub(crate) fn split_kind(text: &[u8]) -> Option<(Kind, &[u8])>
     Some((kind_of_letter(*letter)?, rest))
 }
 
-/// The kind of a letter.
+/// The kind with the letter `letter`: `n`, `w` or `r`.
 pub(crate) fn kind_of_letter(letter: u8) -> Option<Kind>
     ensures { result ≡ spec.kind_of_letter letter }
 {
@@ -129,14 +130,14 @@ pub(crate) fn kind_of_letter(letter: u8) -> Option<Kind>
     }
 }
 
-/// The id in an item.
+/// The id of an item, from its digits with or without a minus sign.
 fn read_item_id(digits: &[u8]) -> Result<i64, OplReason>
     ensures { result ≡ spec.reading_item_id digits.now }
 {
     read_id(digits).map_err(item_reason)
 }
 
-/// The reason of an item whose id has the reason `reason`.
+/// The reason of an item whose id is refused for `reason`.
 fn item_reason(reason: OplReason) -> OplReason
     ensures { result ≡ spec.item_reason reason }
 {

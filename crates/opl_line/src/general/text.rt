@@ -4,7 +4,7 @@ ghost use Rattle.std.specs.Prelude.{length, string_bytes, option_copied, MatchOp
 ghost use Rattle.std.specs.List.{list_all};
 ghost use Rattle.opl_line.specs.declared.bytes.cut.Delimiter.TheVariants.{Percents};
 ghost use Rattle.opl_line.specs.declared.reason.OplReason.TheVariants.{Memory, BadText};
-ghost use Rattle.opl_line.specs.Answer.{OplAnswers};
+ghost use Rattle.opl_line.specs.Answer.{OplReads};
 ghost use Rattle.opl_line.specs.Delimiter.{is_end, split_first, split_all, pieces_of};
 ghost use Rattle.opl_line.specs.Text as spec;
 
@@ -17,9 +17,9 @@ use std::alloc::Global;
 ///
 /// # Errors
 ///
-/// `BadText` if a character is raw that must be escaped, or if an escape is faulty; `Memory`.
+/// `BadText` if a character is raw that must be escaped, or if an escape is faulty, or `Memory`.
 pub(crate) fn read_text(alloc: Global, text: &str) -> Result<Text, OplReason>
-    ensures { OplAnswers (spec.reading_text text.now) result }
+    ensures { OplReads (spec.reading_text text.now) result }
 {
     let Some((raw, escapes)) = split_accepted(text) else {
         return Err(OplReason::BadText);
@@ -38,8 +38,8 @@ pub(crate) fn read_text(alloc: Global, text: &str) -> Result<Text, OplReason>
     Ok(Text::from_string(out))
 }
 
-/// Appends the character of an escape, which follows its percent sign, and the raw piece after it. Returns the text
-/// after the next percent sign.
+/// Appends the character of an escape, and the raw characters after the escape. `escape` is the text after the first
+/// percent sign of the escape. Returns the text after the next percent sign, if there is one.
 fn append_escape<'a>(out: &mut String, escape: &'a str) -> Result<Option<&'a str>, OplReason>
     ensures text { MatchResult result
         (λ more. spec.text_from (string_bytes out.old) (split_all (is_end Percents) escape.now)
@@ -62,12 +62,12 @@ fn append_escape<'a>(out: &mut String, escape: &'a str) -> Result<Option<&'a str
     Ok(more)
 }
 
-/// The raw characters that a text begins with, and the text after the percent sign that ends them, if there is one;
-/// `None` if another character ends them, which must be escaped.
+/// Splits a text at its first percent sign: the raw characters before it, and the text after it. Without a percent sign
+/// they are the whole text and `None`. The result is `None` if the text before it has a byte that must be escaped.
 fn split_accepted(text: &str) -> Option<(&str, Option<&str>)>
     ensures parts { MatchOption result
-        (list_all spec.stands_for_itself (split_first (is_end Percents) text.now).0 ≡ false)
-        (λ parts. (list_all spec.stands_for_itself parts.0.now ≡ true)
+        (list_all spec.is_literal (split_first (is_end Percents) text.now).0 ≡ false)
+        (λ parts. (list_all spec.is_literal parts.0.now ≡ true)
         × (split_first (is_end Percents) text.now ≡ (parts.0.now, option_copied parts.1))) }
     ensures shorter { IfSome result (λ parts. IfSome parts.1 (λ behind. length behind.now < length text.now)) }
 {
@@ -81,21 +81,21 @@ fn split_accepted(text: &str) -> Option<(&str, Option<&str>)>
     Some((&text[..end], Some(&text[end + 1..])))
 }
 
-/// Whether a reader accepts a byte only as an escape. The writer escapes more characters than these.
+/// Whether a reader accepts a byte only as an escape. The writer escapes more characters than a reader requires.
 fn must_be_escaped(byte: u8) -> bool
-    ensures { result ≡ not (spec.stands_for_itself byte) }
+    ensures { result ≡ not (spec.is_literal byte) }
 {
     matches!(byte, 0 | b'\t' | b'\n' | b'\r' | b' ' | b'%' | b',' | b'=')
 }
 
 /// The offset of the first byte that must be escaped.
 fn find_escape(bytes: &[u8]) -> Option<usize>
-    ensures { result ≡ position (λ byte. not (spec.stands_for_itself byte)) bytes.now }
+    ensures { result ≡ position (λ byte. not (spec.is_literal byte)) bytes.now }
 {
     bytes.iter().position(|byte| must_be_escaped(*byte))
 }
 
-/// The character that 1 to 8 hexadecimal digits name, which is not U+0000.
+/// The character whose code point is written in 1 to 8 hexadecimal digits. It isn't U+0000.
 pub(crate) fn scalar_of(digits: &[u8]) -> Option<char>
     ensures { result ≡ spec.scalar_of digits.now }
 {

@@ -1,4 +1,4 @@
-//! Lists of which each item has its canonical form. The items may have any order.
+//! Lists whose items have their canonical forms, in any order.
 ghost use Rattle.std.specs.Prelude.{◌≡◌, [], ◌++◌, ◌∷◌, ◌&&◌, true, ℕ, List, Bool, IfSome};
 ghost use Rattle.std.specs.List.{list_all};
 ghost use Rattle.osm_model.specs.Id.{is_id};
@@ -23,13 +23,13 @@ pub(crate) trait StraightItem: Drop + Sized {
     fn take_list(spare: &mut Spare) -> Vec<Self>
         ensures { result.items ≡ [] };
 
-    /// The item that a text begins with, and the text after it.
+    /// The item that a text begins with, and the text after it. `None` if the item doesn't have its canonical form.
     fn parse(alloc: Global, text: &[u8]) -> Option<(Self, &[u8])>
         ensures text { IfSome result (λ read. text.now ≡ form read.0 ++ read.1.now) }
         ensures valid { IfSome result (λ read. is_valid read.0 ≡ true) };
 }
 
-/// `key=value`.
+/// A tag, as `key=value`.
 impl StraightItem for Tag {
     ghost form = { tag_text };
 
@@ -48,7 +48,7 @@ impl StraightItem for Tag {
     }
 }
 
-/// The id of a node after its letter, as `n1`.
+/// A reference: the letter `n` and the id of a node, as `n1`.
 impl StraightItem for i64 {
     ghost form = { reference_text };
 
@@ -65,7 +65,7 @@ impl StraightItem for i64 {
     }
 }
 
-/// An object and its role, as `w1@role`.
+/// A member: an object and its role, as `w1@role`.
 impl StraightItem for Member {
     ghost form = { member_text };
 
@@ -124,7 +124,8 @@ pub(crate) fn parse_list<'a, T: StraightItem>(
     parse_items(alloc, spare, text)
 }
 
-/// A list for the items that a text begins with: a used list, or one with room for usual items.
+/// An empty list for the items that a text begins with. It is made in memory that isn't needed any more, or has the
+/// capacity for usual items.
 #[inline(always)]
 fn list_for<T: StraightItem>(spare: &mut Spare, text: &[u8]) -> Option<Vec<T>>
     ensures { IfSome result (λ items. items.items ≡ []) }

@@ -9,13 +9,13 @@ ghost use Rattle.osm_model.specs.Time.{time_text};
 use crate::number::{DEGREE, GREATEST_NUMBER, leading_digits, scale, split_sign, to_units};
 use crate::time::read_time;
 
-/// The most digits of a number of 32 bits without leading zeros.
+/// The greatest number of digits of a number of 32 bits without leading zeros.
 const MOST_DIGITS: usize = 10;
 
-/// Each number of this many digits is an id.
+/// Each number of at most this many digits is an id.
 const MOST_ID_DIGITS: usize = 18;
 
-/// The bytes of a time.
+/// The number of bytes of a time.
 const TIME_LENGTH: usize = 20;
 
 /// A version number, a changeset or a user id, and the text after it.

@@ -1,6 +1,6 @@
 //! Lines of the usual form, and lines that nearly have it.
 use super::read_straight;
-use super::upload::SharedAuthor;
+use super::shared_author::SharedAuthor;
 use crate::LineReader;
 use osm_model::Spare;
 use std::alloc::Global;
@@ -27,8 +27,8 @@ fn check_written(
 /// Whether the straight reader reads a line.
 fn is_straight(alloc: Global, line: &str) -> bool {
     let mut spare = Spare::new(alloc);
-    let mut upload = SharedAuthor::new(alloc);
-    read_straight(alloc, &mut spare, &mut upload, line.as_bytes()).is_some()
+    let mut shared_author = SharedAuthor::new(alloc);
+    read_straight(alloc, &mut spare, &mut shared_author, line.as_bytes()).is_some()
 }
 
 #[test]
@@ -147,7 +147,7 @@ q1 v1 dV c0 t i0 u T x1 y2";
     }
 }
 
-/// Neighbours of which some were uploaded together, and others differ from the lines before in one field.
+/// Lines in sequence. Some were uploaded together, and others differ in one field from the line before.
 const NEIGHBOURS: &str = "\
 n1 v1 dV c5 t2014-05-06T07:08:09Z i5 uanna T x8.6 y49.1
 n2 v1 dV c5 t2014-05-06T07:08:09Z i5 uanna T x8.6 y49.2
@@ -169,11 +169,11 @@ r1 v1 dV c5 t2014-05-06T07:08:09Z i5 uanna%20%B. T Mw1@";
 #[test]
 fn neighbours_are_read_as_alone(rt: HostRuntime) -> Result<(), Fail> {
     let alloc = rt.alloc();
-    let mut upload = SharedAuthor::new(alloc);
+    let mut shared_author = SharedAuthor::new(alloc);
     let mut reader = LineReader::new(alloc);
     for line in NEIGHBOURS.lines() {
         let mut spare = Spare::new(alloc);
-        let version = read_straight(alloc, &mut spare, &mut upload, line.as_bytes());
+        let version = read_straight(alloc, &mut spare, &mut shared_author, line.as_bytes());
         assert!(&rt; version.is_some());
         check_written(&rt, alloc, &mut reader, line, line)?;
     }

@@ -14,7 +14,7 @@ use std::alloc::Global;
 use std::simd::prelude::*;
 use std::str;
 
-/// The number of bytes that one step looks at.
+/// The number of bytes that one step compares.
 const TEXT_LANES: usize = 16;
 
 /// A text, and the bytes after it.
@@ -35,7 +35,7 @@ pub(crate) fn parse_text(alloc: Global, bytes: &[u8]) -> Option<(Text, &[u8])>
     Some((text, &bytes[length..]))
 }
 
-/// The number of raw characters of one byte before the first other one.
+/// The number of bytes before the first that isn't a raw character by itself.
 #[inline(always)]
 fn unescaped_length(bytes: &[u8]) -> usize
     ensures within { result ≤ length bytes.now }
@@ -47,8 +47,8 @@ fn unescaped_length(bytes: &[u8]) -> usize
     }
 }
 
-/// The bytes that the writer does not write as characters of their own: those that it escapes, and those of characters
-/// outside ASCII. A reader accepts more raw bytes than the writer leaves raw.
+/// The bytes that aren't raw characters by themselves: those that the writer escapes, and those of characters outside
+/// ASCII. A reader accepts more raw bytes than the writer leaves raw.
 #[derive(Clone, Copy, Debug)]
 struct WriterEscapes;
 
@@ -81,7 +81,8 @@ fn is_raw_byte(byte: u8) -> bool
     matches!(byte, 0x21..=0x24 | 0x26..=0x2B | 0x2D..=0x3C | 0x3E..=0x3F | 0x41..=0x7E)
 }
 
-/// Whether a text continues at a byte that is no raw character by itself.
+/// Whether a text continues at `byte`, which isn't a raw character by itself: an escape or a character outside ASCII
+/// may begin there.
 #[inline(always)]
 fn needs_decoding(byte: u8) -> bool {
     byte == b'%' || byte >= 0x80

@@ -7,7 +7,7 @@ use o5_codec::O5Reason;
 use opl_line::OplReason;
 use std::alloc::{AllocError, Global};
 
-/// Whether a format has this name, and the name that format.
+/// Whether the name of `format` is `name`, and `name` names `format`.
 fn is_named(format: Format, name: &str) -> bool {
     format.name() == name && Format::named(name) == Some(format)
 }

@@ -6,7 +6,7 @@ use crate::tests::UNSORTED;
 use crate::texts::{push_fault, push_given};
 use std::alloc::Global;
 
-/// The versions that a history gives as a source, if the history was loaded from a file.
+/// The versions that the history of a file gives as a source.
 fn held_text(alloc: Global, file: &[u8]) -> String {
     let mut text = String::new(alloc);
     match load_any(alloc, 0, SliceIn::new(file)) {

@@ -4,7 +4,7 @@ use crate::devices::Pieces;
 use std::alloc::Global;
 use std::cell::Cell;
 
-/// Appends the bytes of one read into two bytes, or that the input is broken.
+/// Appends the bytes that one read into two bytes gives, or `broken`.
 fn push_read<I: Input>(text: &mut String, input: &mut I) {
     let mut buffer = [0u8; 2];
     let given = match input.read(&mut buffer) {

@@ -5,7 +5,7 @@ use std::alloc::Global;
 /// Two nodes, a comment, an empty line, a way and a line that is no version. Lines begin at 0, 9, 19, 28, 29 and 38.
 const FILE: &[u8] = b"n1 v1 dD\n# comment\nn2 v1 dD\r\nw3 v1 dD\nn4";
 
-/// Where the first line at an offset or after it begins, and its first version.
+/// The offset of the first line that begins at `offset` or after it, and the id of the first version from there.
 fn line_text(alloc: Global, offset: u64) -> String {
     let mut text = String::new(alloc);
     match line_start(&FILE, 3, offset) {

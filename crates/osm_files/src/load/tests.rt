@@ -7,7 +7,7 @@ use crate::tests::{NODE_THEN_DELETION, UNSORTED};
 use crate::texts::{loaded_text, push_fault};
 use std::alloc::Global;
 
-/// The result of loading an input that gives these bytes one by one, and then ends or fails.
+/// The result of loading an input that gives `bytes` one by one, and then ends, or fails if `fails` is set.
 fn dripping_text(alloc: Global, bytes: &[u8], fails: bool) -> String {
     loaded_text(alloc, 3, Dripping { rest: bytes, fails })
 }

@@ -29,7 +29,7 @@ fn push_taken(text: &mut String, taken: &[u8]) {
     let _ = text.push_str(str::from_utf8(taken).unwrap_or("?"));
 }
 
-/// The results of these writes to memory, and the bytes that it took.
+/// The results of `push_writes` to memory, and the bytes that the memory took.
 fn memory_text(alloc: Global) -> String {
     let mut text = String::new(alloc);
     let mut out = VecOut::new(alloc);
@@ -38,7 +38,7 @@ fn memory_text(alloc: Global) -> String {
     text
 }
 
-/// The results of these writes to a device of this room, and the bytes that it took.
+/// The results of `push_writes` to a device that takes `room` bytes, and the bytes that the device took.
 fn device_text(alloc: Global, room: usize, full: Full) -> String {
     let mut text = String::new(alloc);
     let mut taken = Vec::new(alloc);

@@ -42,12 +42,13 @@ fn spelled(alloc: Global, format: Format, text: &[u8]) -> Vec<u8> {
     out.into_vec()
 }
 
-/// Whether the versions of a text are written as this header and these data sets.
+/// Whether the versions of a text are written as `header` and then `sets`.
 fn is_spelled(alloc: Global, format: Format, text: &[u8], header: &[u8], sets: &[u8]) -> bool {
     spelled(alloc, format, text).strip_prefix(header) == Some(sets)
 }
 
-/// Whether the versions of this canonical text are written as that text, and as these data sets after their headers.
+/// Whether the versions of the canonical lines `text` are written as `text` in OPL, and as `sets` after the header in
+/// o5m and o5c.
 fn is_written(alloc: Global, text: &[u8], sets: &[u8]) -> bool {
     is_spelled(alloc, Format::Opl, text, b"", text)
         && is_spelled(alloc, Format::O5m, text, b"\xff\xe0\x04o5m2", sets)
@@ -77,8 +78,8 @@ fn way_without_references(rt: HostRuntime) {
     assert!(rt; is_written(rt.alloc(), WAYS, sets));
 }
 
-/// The result of writing a node and its deletion as o5m to a device of this room; and whether the device took the first
-/// `room` bytes of the file.
+/// The result of writing a node and its deletion as o5m to a device that takes `room` bytes; and whether the device
+/// took the first `room` bytes of the file.
 fn write_to_device(
     alloc: Global,
     room: usize,
@@ -97,7 +98,7 @@ fn write_to_device(
     (outcome, is_front)
 }
 
-/// The output 2 failed after it took `place` bytes.
+/// The fault of the output 2, which failed after it took `place` bytes.
 fn write_fault(place: usize) -> Fault {
     Fault {
         input: 2,
@@ -124,7 +125,7 @@ fn flush_that_fails_is_a_write_fault(rt: HostRuntime) {
     }
 }
 
-/// The results of a new sink for a version and its end, or the fault of its beginning.
+/// The results of writing a version with a new sink and of ending the file; or the fault of beginning the file.
 fn put_one<W: Output>(
     sink: &mut Sink,
     out: &mut W,
@@ -138,7 +139,8 @@ fn put_one<W: Output>(
     Ok([put, end])
 }
 
-/// The results of a sink of this format, to the output 2, for a deletion and its end.
+/// The results of writing a deletion with a sink to the output 2 and of ending the file; or the fault of beginning the
+/// file.
 fn put_deletion<W: Output>(
     alloc: Global,
     format: Format,

@@ -18,7 +18,7 @@ fn opened_text(alloc: Global, file: &[u8]) -> String {
     text
 }
 
-/// The versions of a source that is one of 500.
+/// The versions of a source that is one of 500 in a merge.
 fn beside_text(alloc: Global, file: &[u8]) -> String {
     let mut text = String::new(alloc);
     let opened = FileSource::with_peers(alloc, 2, SliceIn::new(file), 500);
@@ -26,8 +26,8 @@ fn beside_text(alloc: Global, file: &[u8]) -> String {
     text
 }
 
-/// A group is sorted and has no repeats; a fault replaces its group; lists of versions that were given back are used
-/// again.
+/// Files, and what their sources give. A group is sorted and has no repeats. A fault replaces its group. A version that
+/// was given back lends its lists to a later one.
 const GIVEN: [(&[u8], &str); 7] = [
     (
         b"n1 v1 x2 y1\nn1 v1 x1 y1\nn1 v1 x2 y1\nn2 v1 x1 y1",

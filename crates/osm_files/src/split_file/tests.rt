@@ -2,7 +2,7 @@
 use crate::sorted_run::{BytesAtSplit, SortedRun};
 use crate::split_file::SplitFile;
 
-/// A file of lines after `start`.
+/// The part of an OPL file from `start` on, of at most `size` bytes.
 fn lines(start: u64, size: u64) -> SortedRun {
     SortedRun {
         start,

@@ -4,7 +4,7 @@ use crate::devices::Dripping;
 use crate::input::{Input, SliceIn};
 use std::alloc::Global;
 
-/// What an input gives in reads of up to three bytes, with what it ends in.
+/// The number of bytes that each read into three bytes gives, and then `end` or `broken`.
 fn given<I: Input>(alloc: Global, input: &mut I) -> String {
     let mut text = String::new(alloc);
     for _ in 0..8 {

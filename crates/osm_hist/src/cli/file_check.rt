@@ -1,5 +1,5 @@
 //! Checks of files.
-use super::files::{Stream, input_name, open, open_word};
+use super::files::{Stream, input_name, open, open_arg};
 use super::input::{Failure, LastLine, Noted, fault_by_failures, file_input, no_failures};
 use super::refusal::Refusal;
 use super::request::FileCheck;
@@ -10,8 +10,9 @@ use std::alloc::Global;
 use std::io::{IsTerminal, Read, Write};
 use std::rt::Files;
 
-/// Prints for each file what it holds and whether it is sorted. A refusal of a file is reported, and the check
-/// continues with the next file, unless standard output fails. The last refusal is returned.
+/// Prints for each file its format, the numbers of its versions and objects, and whether it is sorted. After a refusal
+/// the check continues with the next file, unless standard output fails. Reports each refusal but the last, which it
+/// returns.
 pub(super) fn check_files<
     'a,
     R: Files + AllocGlobal,
@@ -26,9 +27,9 @@ pub(super) fn check_files<
     err: &mut E,
 ) -> Result<(), Refusal<'a>> {
     let mut last = None;
-    for word in &check.files {
-        let outcome = match report_of(rt, check, *word, &mut input) {
-            Ok(report) => print_report(rt.alloc(), check, *word, &report, out),
+    for arg in &check.files {
+        let outcome = match report_of(rt, check, *arg, &mut input) {
+            Ok(report) => print_report(rt.alloc(), check, *arg, &report, out),
             Err(refusal) => Err(refusal),
         };
         if let Err(refusal) = outcome {
@@ -61,7 +62,7 @@ fn report_refusal<'a, R: Files, E: Write + IsTerminal>(
 fn print_report<'a, O: Write>(
     alloc: Global,
     check: &FileCheck<'a>,
-    word: &'a str,
+    arg: &'a str,
     report: &CheckReport,
     out: &mut O,
 ) -> Result<(), Refusal<'a>> {
@@ -69,7 +70,7 @@ fn print_report<'a, O: Write>(
     let format = report.format.name();
     let (versions, objects) = (report.versions, report.objects);
     let (name, mark) = if check.files.len() > 1 {
-        (input_name(word), ": ")
+        (input_name(arg), ": ")
     } else {
         ("", "")
     };
@@ -79,45 +80,45 @@ fn print_report<'a, O: Write>(
     print(out, &line)
 }
 
-/// Checks the file that `word` names.
+/// Checks the file that `arg` names.
 fn report_of<'a, R: Files + AllocGlobal, I: Read + Drop>(
     rt: &R,
     check: &FileCheck<'a>,
-    word: &'a str,
+    arg: &'a str,
     input: &mut Option<I>,
 ) -> Result<CheckReport, Refusal<'a>> {
     let failures = no_failures(rt.alloc(), 1)?;
     let outcome = match failures.first() {
-        Some(failure) => report_noting(rt, check, word, input, failure)?,
+        Some(failure) => report_noting(rt, check, arg, input, failure)?,
         None => return Err(Refusal::Memory),
     };
     match outcome {
         Ok(report) => Ok(report),
         Err(fault) => {
             let fault = fault_by_failures(&fault, failures.as_slice());
-            Err(refused(rt.alloc(), word, &fault))
+            Err(refused(rt.alloc(), arg, &fault))
         }
     }
 }
 
-/// Checks the file that `word` names, and notes its reader's error in `failure`. The file is held in memory only if
+/// Checks the file that `arg` names, and notes its reader's error in `failure`. The file is held in memory only if
 /// unsorted files aren't refused, and it is unsorted or can't be read again.
 fn report_noting<'a, R: Files + AllocGlobal, I: Read + Drop>(
     rt: &R,
     check: &FileCheck<'a>,
-    word: &'a str,
+    arg: &'a str,
     input: &mut Option<I>,
     failure: &Failure,
 ) -> Result<Result<CheckReport, Fault>, Refusal<'a>> {
     let alloc = rt.alloc();
     let last_line = LastLine::wanted(check.whole);
-    let file = open_word(rt, word, input)?;
+    let file = open_arg(rt, arg, input)?;
     if !check.sorted && !file.can_be_read_again() {
         return Ok(run_check(alloc, file_input(Noted::new(file, failure), last_line)));
     }
     match run_check_sorted(alloc, file_input(Noted::new(file, failure), last_line)) {
         Err(fault) if is_unsorted(&fault) && !check.sorted => {
-            let again: Stream<R::File, I> = Stream::File(open(rt, word)?);
+            let again: Stream<R::File, I> = Stream::File(open(rt, arg)?);
             Ok(run_check(alloc, file_input(Noted::new(again, failure), last_line)))
         }
         outcome => Ok(outcome),
@@ -130,7 +131,7 @@ pub(super) fn is_unsorted(fault: &Fault) -> bool {
 }
 
 /// The refusal of a file.
-fn refused<'a>(alloc: Global, word: &'a str, fault: &Fault) -> Refusal<'a> {
-    let name = input_name(word);
+fn refused<'a>(alloc: Global, arg: &'a str, fault: &Fault) -> Refusal<'a> {
+    let name = input_name(arg);
     Refusal::of_fault(alloc, fault, &[name], name, None)
 }

@@ -11,7 +11,7 @@ use super::request::FileRun;
 use super::runs::{
     MOST_RUNS, OrderCheck, RunReader, check_order, open_at, run_reader, split_into_runs,
 };
-use super::shard::{Shard, ShardPlan, plan_shard, refuse_unfit};
+use super::shard::{Shard, ShardPlan, check_shardable, plan_shard};
 use super::summary::Summary;
 use super::tally::{Tallied, Tally};
 use super::target::{Destination, Target};
@@ -47,7 +47,7 @@ where
     let run = Runner {
         rt,
         asked,
-        target: Target::of_word(rt, asked.output),
+        target: Target::of_arg(rt, asked.output),
         meter: Meter::new(rt, err, asked.progress),
         tally: Tally::new(asked.format, asked.summary),
     };
@@ -82,12 +82,12 @@ where
         input: &mut Option<I>,
         out: &mut O,
     ) -> Result<(), Refusal<'a>> {
-        let words = self.asked.files.as_slice();
-        self.target.refuse_part(words)?;
+        let args = self.asked.files.as_slice();
+        self.target.refuse_part(args)?;
         if self.asked.shard.is_some() {
-            refuse_unfit(self.rt, words)?;
+            check_shardable(self.rt, args)?;
         }
-        open_all(self.rt, words, input, files)?;
+        open_all(self.rt, args, input, files)?;
         let inputs: &[Option<Stream<R::File, I>>] = files;
         match self.target.open(self.rt, self.rt.alloc(), inputs, out) {
             Ok(mut destination) => self.finish(files, &mut destination),
@@ -242,7 +242,8 @@ where
         )
     }
 
-    /// A fault of a file of a shard. The place of `Unsorted` is that of the file's first version that is out of order.
+    /// The fault of a file of a shard. The place of a fault `Unsorted` is the offset of the file's first version that
+    /// is out of order.
     fn fault_of_shard(&self, fault: &Fault) -> Result<Result<Counts, Fault>, Refusal<'a>> {
         let place = match self.asked.files.get(fault.input) {
             Some(name) if is_unsorted(fault) => {
@@ -256,11 +257,13 @@ where
         Ok(Err(Fault::at(fault.input, place, fault.reason)))
     }
 
-    /// Writes the selected versions, in a few turns. The first turn takes all files that can be read again as sorted.
-    /// If one of them isn't sorted, the run splits that file into sorted runs or holds it in memory, and writes again.
+    /// Writes the selected versions, in a few turns. The first turn reads all files that can be read again as sorted
+    /// files. If one of them isn't sorted, the run splits it into sorted runs or holds it in memory, and writes again.
     /// If that happens a second time, the run checks the order of the other files before it writes. So there are few
-    /// turns, however many files there are. There is only one turn if a file can't be read again, or if the output
-    /// can't be emptied.
+    /// turns, however many files there are.
+    ///
+    /// There is only one turn if a file can't be read again, or if the output can't be emptied. Then the run checks the
+    /// order of the files before it writes. There is only one turn, without this check, if all files have to be sorted.
     fn write_with_retries<I: Read + Drop, O: Write>(
         &self,
         files: &mut OpenFiles<R::File, I>,
@@ -290,8 +293,8 @@ where
         Ok(outcome)
     }
 
-    /// Takes each file for the first turn. A file that can't be read again is held in memory, unless all files have to
-    /// be sorted.
+    /// Sets how the first turn reads each file. A file that can't be read again is held in memory, unless all files
+    /// have to be sorted.
     fn set_initial_modes<I>(
         &self,
         files: &[Option<Stream<R::File, I>>],
@@ -308,7 +311,7 @@ where
         Ok(())
     }
 
-    /// Checks the order of the files that are taken as sorted. An unsorted one is split, or held in memory.
+    /// Checks the order of each file that is read as a sorted file. An unsorted file is split, or held in memory.
     fn split_unsorted(&self, modes: &mut [InputMode]) -> Result<(), Refusal<'a>> {
         let whole = SortedRun::whole();
         for (file, name) in self.asked.files.iter().enumerate() {
@@ -336,9 +339,9 @@ where
         }
     }
 
-    /// Takes a file by its sorted runs from now on. The version at `offset` is the file's first that is out of order.
-    /// The file is held in memory if it can't be split, if it has too many runs, or if it was split before and has
-    /// changed since.
+    /// Splits a file: from now on its sorted runs are read. The version at `offset` is the file's first that is out of
+    /// order. The file is held in memory if it can't be split, if it has too many runs, or if it was split before and
+    /// has changed since.
     fn split(&self, modes: &mut [InputMode], file: usize, offset: u64) -> Result<(), Refusal<'a>> {
         let most = MOST_RUNS.saturating_sub(runs_of_others(modes, file));
         let (Some(mode), Some(name)) = (modes.get_mut(file), self.asked.files.get(file)) else {
@@ -354,7 +357,8 @@ where
         Ok(())
     }
 
-    /// Writes the selected versions of the files, which are read as `modes` say. A fault is that of a file.
+    /// Writes the selected versions of the files. Each file is read by its mode in `modes`. A fault is that of a file,
+    /// and not of a run of it.
     fn write<I: Read + Drop, O: Write>(
         &self,
         files: &mut [Option<Stream<R::File, I>>],
@@ -464,7 +468,7 @@ fn slice_inputs<F: Read + Drop>(
     Ok(inputs)
 }
 
-/// Merges files that are all taken as sorted.
+/// Merges files that are all read as sorted files.
 fn merge<F: Read + Drop, W: Write + Drop>(
     alloc: Global,
     format: Format,
@@ -517,8 +521,8 @@ fn runs_of_others(modes: &[InputMode], file: usize) -> usize {
     count
 }
 
-/// The fault of a run as a fault of its file, with the place in the file. A fault of the output gets the number of
-/// files instead of a file's number.
+/// The fault of a run as the fault of its file. Its place is the offset in the file. A fault of the output gets the
+/// number of files instead of a file's number.
 fn fault_of_file(modes: &[InputMode], fault: &Fault) -> Fault {
     let mut input = fault.input;
     for (file, mode) in modes.iter().enumerate() {

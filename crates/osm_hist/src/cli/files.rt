@@ -37,7 +37,7 @@ impl<F: Read, S: Read> Read for Stream<F, S> {
     }
 }
 
-/// Reads. A read that a signal interrupts is tried again.
+/// Reads bytes into `buffer`, as `Read::read` does. A read that a signal interrupts is tried again.
 pub(super) fn read_retried<R: Read>(reader: &mut R, buffer: &mut [u8]) -> io::Result<usize>
     ensures bound { IfOk result (λ n. IsPrefixLen n buffer.new) }
 {
@@ -50,7 +50,7 @@ pub(super) fn read_retried<R: Read>(reader: &mut R, buffer: &mut [u8]) -> io::Re
     Err(io::Error::from(ErrorKind::Interrupted))
 }
 
-/// Writes. A write that a signal interrupts is tried again.
+/// Writes a front of `bytes`, as `Write::write` does. A write that a signal interrupts is tried again.
 pub(super) fn write_retried<W: Write>(writer: &mut W, bytes: &[u8]) -> io::Result<usize>
     ensures bound { IfOk result (λ n. n ≤ length bytes.now) }
 {
@@ -101,23 +101,16 @@ pub(super) fn push<T: Drop>(items: &mut Vec<T>, item: T) -> Result<(), AllocErro
     }
 }
 
-/// The name in the line of a fault of the input file that the argument `word` names.
-pub(super) fn input_name<'a>(word: &'a str) -> &'a str {
-    if word == STANDARD {
-        STANDARD_INPUT
-    } else {
-        word
-    }
+/// The name of an input file in the line of its fault. The argument `arg` names the file.
+pub(super) fn input_name<'a>(arg: &'a str) -> &'a str {
+    if arg == STANDARD { STANDARD_INPUT } else { arg }
 }
 
-/// The names in the lines of faults of the input files that the arguments `words` name.
-pub(super) fn input_names<'a>(
-    alloc: Global,
-    words: &[&'a str],
-) -> Result<Vec<&'a str>, AllocError> {
+/// The names of the input files in the lines of their faults. The arguments `args` name the files.
+pub(super) fn input_names<'a>(alloc: Global, args: &[&'a str]) -> Result<Vec<&'a str>, AllocError> {
     let mut names = Vec::new(alloc);
-    for word in words {
-        names.push(input_name(*word))?;
+    for arg in args {
+        names.push(input_name(*arg))?;
     }
     Ok(names)
 }
@@ -130,29 +123,29 @@ pub(super) fn open<'a, R: Files>(rt: &R, name: &'a str) -> Result<R::File, Refus
     }
 }
 
-/// Drops the open `streams` and opens those that `words` name, in their order. `words` names standard input at most
+/// Drops the open `streams` and opens those that `args` name, in their order. `args` names standard input at most
 /// once.
 pub(super) fn open_all<'a, R: Files, I: Read + Drop>(
     rt: &R,
-    words: &[&'a str],
+    args: &[&'a str],
     input: &mut Option<I>,
     streams: &mut Vec<Option<Stream<R::File, I>>>,
 ) -> Result<(), Refusal<'a>> {
     streams.clear();
-    for word in words {
-        streams.push(Some(open_word(rt, *word, input)?))?;
+    for arg in args {
+        streams.push(Some(open_arg(rt, *arg, input)?))?;
     }
     Ok(())
 }
 
-/// Opens the stream that `word` names: a file, or standard input, which is taken from `input`.
-pub(super) fn open_word<'a, R: Files, I: Read + Drop>(
+/// Opens the stream that `arg` names: a file, or standard input, which is taken from `input`.
+pub(super) fn open_arg<'a, R: Files, I: Read + Drop>(
     rt: &R,
-    word: &'a str,
+    arg: &'a str,
     input: &mut Option<I>,
 ) -> Result<Stream<R::File, I>, Refusal<'a>> {
-    if word != STANDARD {
-        return match open(rt, word) {
+    if arg != STANDARD {
+        return match open(rt, arg) {
             Ok(file) => Ok(Stream::File(file)),
             Err(refusal) => Err(refusal),
         };
@@ -160,7 +153,7 @@ pub(super) fn open_word<'a, R: Files, I: Read + Drop>(
     match input.take() {
         Some(stream) => Ok(Stream::Standard(stream)),
         None => Err(Refusal::CannotRead {
-            name: input_name(word),
+            name: input_name(arg),
         }),
     }
 }

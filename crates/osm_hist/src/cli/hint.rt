@@ -55,7 +55,7 @@ fn write_hint<R: Files, E: Write>(rt: &R, refusal: &Refusal<'_>, err: &mut E) ->
         Refusal::CannotRead { name } if *name != STANDARD_INPUT => write_unread(rt, name, err),
         Refusal::CannotCreate { output } => write_uncreated(rt, output, err),
         Refusal::CannotRename { output } => match fs::metadata(rt, *output) {
-            Ok(there) if there.is_dir() => {
+            Ok(metadata) if metadata.is_dir() => {
                 writeln!(err, "hint: {} is a directory", Escaped { text: *output })
             }
             _ => Ok(()),
@@ -149,7 +149,7 @@ fn write_unreadable<R: Files, E: Write>(rt: &R, name: &str, err: &mut E) -> io::
 /// Whether `name` is a regular file, which can be read once more.
 fn is_regular<R: Files>(rt: &R, name: &str) -> bool {
     match fs::metadata(rt, name) {
-        Ok(there) => there.is_file(),
+        Ok(metadata) => metadata.is_file(),
         Err(_) => false,
     }
 }

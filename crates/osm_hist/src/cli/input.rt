@@ -6,7 +6,7 @@ use std::cell::Cell;
 use std::io;
 use std::io::Read;
 
-/// The system's number of a reader's last error: 0 for an error without a number, and none if no read failed.
+/// The system's number of a reader's last error. It is 0 for an error without a number, and none if no read failed.
 pub(super) type Failure = Cell<Option<i32>>;
 
 /// How an OPL file may end.
@@ -19,7 +19,7 @@ pub(super) enum LastLine {
 }
 
 impl LastLine {
-    /// The ending that `--whole` requires if `whole`, and any ending otherwise.
+    /// The ending that `--whole` requires if `whole` is true, and else any ending.
     pub(super) fn wanted(whole: bool) -> LastLine {
         if whole {
             LastLine::HasEnd
@@ -62,7 +62,7 @@ impl<'n, F> Noted<'n, F> {
 pub(super) struct RunFile<F, M> {
     /// The reader of the file.
     pub(super) reader: F,
-    /// The order that the file's versions must have, or how those outside of a slice are treated.
+    /// The order that the file's versions must have, or the treatment of versions outside of a slice.
     pub(super) mode: M,
     /// How the file may end.
     pub(super) last_line: LastLine,
@@ -80,7 +80,7 @@ pub(super) fn file_input<F: Read + Drop>(reader: F, last_line: LastLine) -> File
     }
 }
 
-/// The files, each with a reader that notes its errors in the `Failure` of its number.
+/// The files with readers that note their errors. The errors of a file go to the `Failure` at its index.
 pub(super) fn note_errors<'n, F: Read + Drop, M: Drop>(
     alloc: Global,
     files: Vec<RunFile<F, M>>,
@@ -107,8 +107,8 @@ pub(super) fn no_failures(alloc: Global, count: usize) -> Result<Vec<Failure>, A
     Ok(failures)
 }
 
-/// The fault of a run, adjusted to the errors of its readers. If a read of an input fails and its reader had no error,
-/// the last line of the file has no end.
+/// The fault of a run, with `NoEnd` instead of `ReadFault` if the input's reader had no error. Then the read failed
+/// since the last line of the file has no end.
 pub(super) fn fault_by_failures(fault: &Fault, failures: &[Failure]) -> Fault {
     match failures.get(fault.input) {
         Some(failure) if fault.reason == Reason::ReadFault && failure.get().is_none() => {

@@ -1,5 +1,5 @@
 //! Lists of files. `--files0-from` names a file that holds names, each ended by NUL.
-use super::files::{input_name, open_word};
+use super::files::{input_name, open_arg};
 use super::refusal::Refusal;
 use super::target::STANDARD;
 use std::alloc::Global;
@@ -16,11 +16,11 @@ pub(super) fn read_list<'a, R: Files + AllocGlobal, I: Read + Drop>(
     input: &mut Option<I>,
 ) -> Result<String, Refusal<'a>> {
     let mut text = String::new(rt.alloc());
-    let Some(word) = list else {
+    let Some(arg) = list else {
         return Ok(text);
     };
-    let name = input_name(word);
-    let mut file = open_word(rt, word, input)?;
+    let name = input_name(arg);
+    let mut file = open_arg(rt, arg, input)?;
     match file.read_to_string(&mut text) {
         Ok(_) => Ok(text),
         Err(error) => match error.kind() {

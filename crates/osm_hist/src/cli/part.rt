@@ -70,7 +70,7 @@ enum Attempt<F> {
 
 /// OUT.part, open and locked.
 #[derive(Drop)]
-pub(super) struct Part<F> {
+pub(super) struct OutPart<F> {
     /// The file's name.
     name: String,
     /// The file.
@@ -84,17 +84,17 @@ pub(super) fn is_part(name: &str, output: &str) -> bool {
     name.strip_suffix(ENDING) == Some(output)
 }
 
-impl<F: PartFile + Seek + Write> Part<F> {
+impl<F: PartFile + Seek + Write> OutPart<F> {
     /// Makes OUT.part, which must not be one of `inputs`. It gets the mode and the owner of an existing OUT.
     pub(super) fn make<'a, R: Files<File = F>, I>(
         rt: &R,
         alloc: Global,
         output: &'a str,
         inputs: &[Option<Stream<F, I>>],
-    ) -> Result<Part<F>, Refusal<'a>> {
+    ) -> Result<OutPart<F>, Refusal<'a>> {
         let name = format!(in alloc; "{output}{ENDING}")?;
         match attempts(rt, name.as_str(), output, inputs) {
-            Attempt::Made(file, id) => Ok(Part { name, file, id }),
+            Attempt::Made(file, id) => Ok(OutPart { name, file, id }),
             Attempt::IsInput => Err(Refusal::InputIsOutput { output }),
             Attempt::Again | Attempt::CannotCreate => Err(Refusal::CannotCreate { output }),
         }
@@ -134,7 +134,7 @@ impl<F: PartFile + Seek + Write> Part<F> {
         Ok(())
     }
 
-    /// Removes the file if its name is still its own. If it can't be removed, it stays.
+    /// Removes the file if its name still belongs to it. If the removal fails, the file stays.
     pub(super) fn discard<R: Files>(&self, rt: &R) {
         if is_named(rt, self.name.as_str(), self.id) {
             let _ = fs::remove_file(rt, self.name.as_str());
@@ -142,7 +142,7 @@ impl<F: PartFile + Seek + Write> Part<F> {
     }
 }
 
-/// Tries to get OUT.part until it is made or refused.
+/// Makes OUT.part, in at most `ATTEMPTS` attempts.
 fn attempts<R: Files, I>(
     rt: &R,
     name: &str,
@@ -188,7 +188,7 @@ where
     let id = FileId::of(&metadata);
     let outcome = match take_lock(&file) {
         Lock::Held if !is_named(rt, name, id) => return Attempt::Again,
-        Lock::Held => take_after(rt, output, &file, &metadata),
+        Lock::Held => copy_mode_and_owner(rt, output, &file, &metadata),
         Lock::Failed => Err(io::Error::from(ErrorKind::Other)),
         Lock::OfAnother => return Attempt::CannotCreate,
     };
@@ -208,7 +208,7 @@ pub(super) enum Lock {
     Held,
     /// Another run has the lock.
     OfAnother,
-    /// The system failed.
+    /// The system can't lock the file.
     Failed,
 }
 
@@ -224,7 +224,12 @@ pub(super) fn take_lock<F: PartFile>(file: &F) -> Lock {
 
 /// Gives OUT.part the mode of OUT, and its owner if that is permitted. If OUT isn't an existing regular file, nothing
 /// changes.
-fn take_after<R: Files>(rt: &R, output: &str, file: &R::File, metadata: &Metadata) -> io::Result<()>
+fn copy_mode_and_owner<R: Files>(
+    rt: &R,
+    output: &str,
+    file: &R::File,
+    metadata: &Metadata,
+) -> io::Result<()>
 where
     R::File: PartFile,
 {
@@ -246,8 +251,8 @@ where
     file.set_permissions(Permissions::from_mode(mode))
 }
 
-/// Removes the regular file that a killed run left. A link, a folder, a device, an input and a file that another run
-/// has locked stay.
+/// Removes the regular file that a killed run left. It doesn't remove a link, a folder, a device, an input, or a file
+/// that another run has locked.
 fn remove_leftover<R: Files, I>(
     rt: &R,
     name: &str,

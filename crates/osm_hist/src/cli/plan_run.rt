@@ -1,4 +1,4 @@
-//! Runs of a plan. The mirrors take files and pass on what they hold. At the end the run makes files of what they hold.
+//! Runs of a plan. The mirrors take files and pass on what they hold. At the end the run writes the files of the plan.
 ghost use Rattle.std.specs.Prelude.{ℕ, ◌<◌, length, IfOk};
 ghost use Rattle.std.specs.List.{All};
 ghost use Rattle.osm_mirror.specs.Event.{IsWithin};
@@ -172,7 +172,7 @@ where
     outcome
 }
 
-/// Writes `bytes` as all of an output.
+/// Writes `bytes` as the whole content of an output.
 fn write_bytes<W: Write + Drop>(bytes: &[u8], writer: W) -> Result<(), Fault> {
     let mut output = ToWrite::new(writer);
     if !bytes.is_empty() {

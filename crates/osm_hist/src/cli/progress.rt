@@ -184,7 +184,7 @@ impl<'a, C: Clock, E: Write + IsTerminal> Meter<'a, C, E> {
         now(self.clock).saturating_sub(self.start).as_millis()
     }
 
-    /// Prints a line.
+    /// Prints a line on standard error.
     pub(super) fn print<T: Display>(&self, line: &T) {
         let Ok(mut err) = self.err.try_borrow_mut() else {
             return;
@@ -194,7 +194,7 @@ impl<'a, C: Clock, E: Write + IsTerminal> Meter<'a, C, E> {
         let _ = err.flush();
     }
 
-    /// Ends the reports, with the counts of the run unless it was refused.
+    /// Ends the reports. If the run wasn't refused, a last report has its counts.
     pub(super) fn end(&self, outcome: &Result<Counts, Fault>) {
         if !self.is_wanted {
             return;
@@ -223,7 +223,7 @@ impl<'a, C: Clock, E: Write + IsTerminal> Meter<'a, C, E> {
 
 impl<'m, 'a, C, E> Progress for &'m Meter<'a, C, E> {
     #[inline(always)]
-    fn tell(&mut self, read: u64, written: u64) {
+    fn observe(&mut self, read: u64, written: u64) {
         let done = self.done.get();
         self.done.set(Done {
             read,
@@ -233,7 +233,7 @@ impl<'m, 'a, C, E> Progress for &'m Meter<'a, C, E> {
     }
 }
 
-/// A reader whose bytes are counted by a meter.
+/// A reader whose bytes a meter counts.
 #[derive(Drop)]
 pub(super) struct Metered<'m, 'a, F, C, E> {
     /// The reader.
@@ -243,7 +243,7 @@ pub(super) struct Metered<'m, 'a, F, C, E> {
 }
 
 impl<'m, 'a, F, C, E> Metered<'m, 'a, F, C, E> {
-    /// A reader whose bytes are counted by `meter`.
+    /// A reader whose bytes `meter` counts.
     pub(super) fn new(reader: F, meter: &'m Meter<'a, C, E>) -> Metered<'m, 'a, F, C, E> {
         Metered { reader, meter }
     }

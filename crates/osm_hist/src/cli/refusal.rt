@@ -123,7 +123,7 @@ pub(crate) struct NamedFault<'a> {
 
 impl<'a> Refusal<'a> {
     /// The refusal of the arguments by `clap`.
-    pub(crate) fn of_words(error: clap::Error) -> Refusal<'a> {
+    pub(crate) fn of_args(error: clap::Error) -> Refusal<'a> {
         match error.kind() {
             ErrorKind::OutOfMemory => Refusal::Memory,
             _ => Refusal::Words(error),

@@ -20,7 +20,7 @@ pub(super) enum Request<'a> {
     Check(FileCheck<'a>),
     /// A run of a plan.
     Plan(PlanRun<'a>),
-    /// Help or the version, with this text.
+    /// Help or the version. The error has the text.
     Help(Error),
 }
 
@@ -66,7 +66,8 @@ pub(super) struct FileRun<'a> {
     pub(super) format: Format,
     /// The names of the input files.
     pub(super) files: Vec<&'a str>,
-    /// The list that has these names instead, if one is given.
+    /// The name of a list that has the names of the input files, if there is one. Then `files` is empty until the list
+    /// is read.
     pub(super) list: Option<&'a str>,
     /// The versions of the input files that are written.
     pub(super) selection: Selection,
@@ -74,7 +75,7 @@ pub(super) struct FileRun<'a> {
     pub(super) shard: Option<Shard>,
     /// Whether each input file has to be sorted.
     pub(super) sorted: bool,
-    /// Whether each OPL file has to end its last line.
+    /// Whether the last line of each OPL file must have a line feed.
     pub(super) whole: bool,
     /// Whether the output is synced to the disk before it is renamed.
     pub(super) fsync: bool,
@@ -89,13 +90,14 @@ pub(super) struct FileRun<'a> {
 pub(super) struct FileCheck<'a> {
     /// The names of the files.
     pub(super) files: Vec<&'a str>,
-    /// The list that has these names instead, if one is given.
+    /// The name of a list that has the names of the files, if there is one. Then `files` is empty until the list is
+    /// read.
     pub(super) list: Option<&'a str>,
     /// Whether each file has to be sorted.
     pub(super) sorted: bool,
-    /// Whether each OPL file has to end its last line.
+    /// Whether the last line of each OPL file must have a line feed.
     pub(super) whole: bool,
-    /// Whether hints are asked for.
+    /// Whether the arguments ask for hints.
     pub(super) hints: bool,
 }
 
@@ -116,7 +118,7 @@ impl<'a> Request<'a> {
         }
     }
 
-    /// This request with the names in its list of files, whose text is `text`.
+    /// Fills the request with the names in its list of files. `text` is the text of the list.
     ///
     /// # Errors
     ///
@@ -141,61 +143,60 @@ impl<'a> Request<'a> {
         Ok(self)
     }
 
-    /// The request that `words` make. They are the arguments after the program's name.
+    /// The request that the arguments make. `args` are the arguments after the program's name.
     ///
     /// # Errors
     ///
     /// A mistake in the arguments, times included, or out of memory.
     pub(super) fn parse<S: AsStr>(
         alloc: Global,
-        words: &'a [S],
+        args: &'a [S],
     ) -> Result<Request<'a>, Refusal<'a>> {
-        if words.is_empty() {
-            return match FileRun::of_no_words(alloc) {
+        if args.is_empty() {
+            return match FileRun::of_no_args(alloc) {
                 Ok(run) => Ok(Request::Files(run)),
                 Err(refusal) => Err(refusal),
             };
         }
         match command(alloc) {
-            Ok(mut command) => Request::of_words(alloc, &mut command, words),
+            Ok(mut command) => Request::of_args(alloc, &mut command, args),
             Err(AllocError) => Err(Refusal::Memory),
         }
     }
 
-    /// The request that `words` make. `command` parses them.
-    fn of_words<S: AsStr>(
+    /// The request that the arguments make. `command` parses them.
+    fn of_args<S: AsStr>(
         alloc: Global,
         command: &mut Command<'a>,
-        words: &'a [S],
+        args: &'a [S],
     ) -> Result<Request<'a>, Refusal<'a>> {
-        match command.try_get_matches_from_mut(words) {
+        match command.try_get_matches_from_mut(args) {
             Ok(matches) => match Request::of_matches(alloc, &matches) {
                 Ok(Some(request)) => Ok(request),
                 Ok(None) => Err(missing_command(command)),
                 Err(refusal) => Err(refusal),
             },
-            Err(error) if error.use_stderr() => Err(Refusal::of_words(error)),
+            Err(error) if error.use_stderr() => Err(Refusal::of_args(error)),
             Err(help) => Ok(Request::Help(help)),
         }
     }
 
-    /// The request that `matches` make. There always is one, since `clap` has checked that all required arguments are
+    /// The request that `matches` make. It is never none, since `clap` has checked that all required arguments are
     /// given.
     fn of_matches(
         alloc: Global,
         matches: &ArgMatches<'a>,
     ) -> Result<Option<Request<'a>>, Refusal<'a>> {
         match matches.subcommand() {
-            Some(("check", words)) => {
-                Ok(Some(Request::Check(FileCheck::of_matches(alloc, words)?)))
+            Some(("check", args)) => {
+                Ok(Some(Request::Check(FileCheck::of_matches(alloc, args)?)))
             }
-            Some(("plan", words)) => Ok(
-                words
-                    .get_str("plan")
+            Some(("plan", args)) => Ok(
+                args.get_str("plan")
                     .map(|plan| Request::Plan(PlanRun { plan })),
             ),
-            Some((name, words)) => {
-                Ok(FileRun::of_matches(alloc, name, words)?.map(|run| Request::Files(run)))
+            Some((name, args)) => {
+                Ok(FileRun::of_matches(alloc, name, args)?.map(|run| Request::Files(run)))
             }
             None => Ok(None),
         }
@@ -205,14 +206,14 @@ impl<'a> Request<'a> {
 /// The refusal of arguments that have no command.
 fn missing_command<'a>(command: &mut Command<'a>) -> Refusal<'a> {
     match command.error(ErrorKind::MissingSubcommand, "a command is missing") {
-        Ok(error) => Refusal::of_words(error),
+        Ok(error) => Refusal::of_args(error),
         Err(AllocError) => Refusal::Memory,
     }
 }
 
 impl<'a> FileRun<'a> {
     /// The run without arguments, which merges standard input to standard output.
-    fn of_no_words(alloc: Global) -> Result<FileRun<'a>, Refusal<'a>> {
+    fn of_no_args(alloc: Global) -> Result<FileRun<'a>, Refusal<'a>> {
         let mut files = Vec::new(alloc);
         files.push(STANDARD)?;
         Ok(FileRun {
@@ -235,25 +236,25 @@ impl<'a> FileRun<'a> {
     fn of_matches(
         alloc: Global,
         name: &str,
-        words: &ArgMatches<'a>,
+        args: &ArgMatches<'a>,
     ) -> Result<Option<FileRun<'a>>, Refusal<'a>> {
-        let output = words.get_str("output");
-        let format = words.get_str("format").and_then(|name| Format::named(name));
-        let files = files_given(alloc, words)?;
-        match (output, format, selection(name, words)?) {
+        let output = args.get_str("output");
+        let format = args.get_str("format").and_then(|name| Format::named(name));
+        let files = files_given(alloc, args)?;
+        match (output, format, selection(name, args)?) {
             (Some(output), Some(format), Some(selection)) => Ok(Some(FileRun {
                 command: FileCommand::named(name),
                 output,
                 format,
                 files,
-                list: words.get_str(LIST),
+                list: args.get_str(LIST),
                 selection,
-                shard: shard(words)?,
-                sorted: name == "merge" || words.get_flag("sorted"),
-                whole: words.get_flag("whole"),
-                fsync: words.get_flag("fsync"),
-                progress: words.get_flag("progress"),
-                summary: words.get_flag("summary"),
+                shard: shard(args)?,
+                sorted: name == "merge" || args.get_flag("sorted"),
+                whole: args.get_flag("whole"),
+                fsync: args.get_flag("fsync"),
+                progress: args.get_flag("progress"),
+                summary: args.get_flag("summary"),
             })),
             _ => Ok(None),
         }
@@ -262,22 +263,22 @@ impl<'a> FileRun<'a> {
 
 impl<'a> FileCheck<'a> {
     /// The check for which the arguments of `check` ask.
-    fn of_matches(alloc: Global, words: &ArgMatches<'a>) -> Result<FileCheck<'a>, Refusal<'a>> {
+    fn of_matches(alloc: Global, args: &ArgMatches<'a>) -> Result<FileCheck<'a>, Refusal<'a>> {
         Ok(FileCheck {
-            files: files_given(alloc, words)?,
-            list: words.get_str(LIST),
-            sorted: words.get_flag("sorted"),
-            whole: words.get_flag("whole"),
-            hints: words.get_flag("hints"),
+            files: files_given(alloc, args)?,
+            list: args.get_str(LIST),
+            sorted: args.get_flag("sorted"),
+            whole: args.get_flag("whole"),
+            hints: args.get_flag("hints"),
         })
     }
 }
 
 /// The names of the files among the arguments. With a list of files there are none.
-fn files_given<'a>(alloc: Global, words: &ArgMatches<'a>) -> Result<Vec<&'a str>, Refusal<'a>> {
-    match words.get_strs("files") {
+fn files_given<'a>(alloc: Global, args: &ArgMatches<'a>) -> Result<Vec<&'a str>, Refusal<'a>> {
+    match args.get_strs("files") {
         Some(files) if names_standard_input_twice(files) => Err(Refusal::StandardInputTwice),
-        Some(files) if words.get_str(LIST).is_none() => Ok(Vec::from_slice(alloc, files)?),
+        Some(files) if args.get_str(LIST).is_none() => Ok(Vec::from_slice(alloc, files)?),
         _ => Ok(Vec::new(alloc)),
     }
 }
@@ -288,12 +289,12 @@ fn names_standard_input_twice(files: &[&str]) -> bool {
 }
 
 /// The versions that the command `name` writes, or none if the command doesn't write a file.
-fn selection<'a>(name: &str, words: &ArgMatches<'a>) -> Result<Option<Selection>, Refusal<'a>> {
+fn selection<'a>(name: &str, args: &ArgMatches<'a>) -> Result<Option<Selection>, Refusal<'a>> {
     match name {
         "merge" | "sort" => Ok(Some(Selection::All)),
-        "apply" if words.get_flag("with-history") => Ok(Some(Selection::All)),
+        "apply" if args.get_flag("with-history") => Ok(Some(Selection::All)),
         "apply" => Ok(Some(Selection::NewestVisible)),
-        "time-filter" => match times(words) {
+        "time-filter" => match times(args) {
             (Some(time), None) => Ok(Some(Selection::StateVisible(moment(time)?))),
             (Some(from), Some(to)) => Ok(Some(period(from, to)?)),
             (None, _) => Ok(None),
@@ -302,18 +303,19 @@ fn selection<'a>(name: &str, words: &ArgMatches<'a>) -> Result<Option<Selection>
     }
 }
 
-/// The times of `time-filter`. With a list of files, `files` is the first time and `time` is the second.
-fn times<'a>(words: &ArgMatches<'a>) -> (Option<&'a str>, Option<&'a str>) {
-    if words.get_str(LIST).is_some() {
-        (words.get_str("files"), words.get_str("time"))
+/// The times of `time-filter`. With a list of files, the first time is in the argument `files` and the second in
+/// `time`.
+fn times<'a>(args: &ArgMatches<'a>) -> (Option<&'a str>, Option<&'a str>) {
+    if args.get_str(LIST).is_some() {
+        (args.get_str("files"), args.get_str("time"))
     } else {
-        (words.get_str("time"), words.get_str("end"))
+        (args.get_str("time"), args.get_str("end"))
     }
 }
 
 /// The shard for which the arguments ask.
-fn shard<'a>(words: &ArgMatches<'a>) -> Result<Option<Shard>, Refusal<'a>> {
-    match words.get_str("shard") {
+fn shard<'a>(args: &ArgMatches<'a>) -> Result<Option<Shard>, Refusal<'a>> {
+    match args.get_str("shard") {
         None => Ok(None),
         Some(text) => match Shard::parse(text) {
             Some(shard) => Ok(Some(shard)),

@@ -8,7 +8,7 @@ use osm_mirror::run_check_sorted;
 use std::io::{Chain, Empty, Read, Seek, SeekFrom, Take};
 use std::rt::Files;
 
-/// The most runs that the program reads at the same time. Each is an open file.
+/// The greatest number of runs that the program reads at the same time. Each run is an open file.
 pub(super) const MOST_RUNS: usize = 128;
 
 /// The order of a run's versions.

@@ -1,5 +1,5 @@
-//! Shards. Each of several processes writes a slice of the objects, and reads a part of each file. All processes find
-//! the same slices in the same files.
+//! Shards. Each of several processes writes a slice of the objects, and reads a part of each file. From the same files
+//! all processes compute the same slices.
 use super::files::Stream;
 use super::refusal::Refusal;
 use super::runs::{byte_at, open_at};
@@ -10,7 +10,7 @@ use std::fs;
 use std::io::Empty;
 use std::rt::Files;
 
-/// The most shards of an output.
+/// The greatest number of shards of an output.
 const MOST_SHARDS: u64 = 9999;
 
 /// The first byte of o5 files.
@@ -106,7 +106,7 @@ impl<'a, 'r, R: Files> OpenAt<FromRead<Stream<R::File, Empty>>> for NamedFile<'a
 }
 
 /// Refuses files that can't be sharded. All must be regular files, and at least one must be OPL.
-pub(super) fn refuse_unfit<'a, R: Files + AllocGlobal>(
+pub(super) fn check_shardable<'a, R: Files + AllocGlobal>(
     rt: &R,
     names: &[&'a str],
 ) -> Result<(), Refusal<'a>> {
@@ -133,7 +133,7 @@ fn opl_sizes<'a, R: Files + AllocGlobal>(
     Ok(sizes)
 }
 
-/// The size of the file `name`, which must be regular.
+/// The size of the file `name`. A file that isn't regular is refused.
 fn regular_size<'a, R: Files>(rt: &R, name: &'a str) -> Result<u64, Refusal<'a>> {
     if name == STANDARD {
         return Err(Refusal::NotRegular { name });
@@ -145,7 +145,7 @@ fn regular_size<'a, R: Files>(rt: &R, name: &'a str) -> Result<u64, Refusal<'a>>
     }
 }
 
-/// The plan of `shard`, or the fault of a file that was searched for a bound. The place of `Unsorted` is then 0.
+/// The plan of `shard`, or the fault of a file that was searched for a bound. The place of a fault `Unsorted` is 0.
 pub(super) fn plan_shard<'a, R: Files + AllocGlobal>(
     rt: &R,
     names: &[&'a str],
@@ -210,7 +210,7 @@ fn span_of_shard<'a, R: Files + AllocGlobal>(
     }
 }
 
-/// The object of the first version at `offset` of an OPL file, or after it.
+/// The object of the first version at or after `offset` of an OPL file.
 fn bound<'a, R: Files + AllocGlobal>(
     rt: &R,
     file: &NamedFile<'a, '_, R>,

@@ -1,4 +1,4 @@
-//! Counts of the file that a run writes, made from its bytes: versions by kind, and keys with several versions.
+//! Counts of the file that a run writes, computed from its bytes: versions by kind, and keys with several versions.
 use osm_files::Format;
 use std::cell::{Cell, RefCell};
 use std::io;
@@ -6,7 +6,7 @@ use std::io::Write;
 
 /// The counts of a file that was written.
 #[derive(Clone, Copy, Debug, PartialEq, Eq)]
-pub(super) struct Written {
+pub(super) struct WriterState {
     pub(super) nodes: u64,
     pub(super) ways: u64,
     pub(super) relations: u64,
@@ -15,14 +15,15 @@ pub(super) struct Written {
 }
 
 /// The counts of an empty file.
-const NOTHING: Written = Written {
+const NOTHING: WriterState = WriterState {
     nodes: 0,
     ways: 0,
     relations: 0,
     shared_keys: 0,
 };
 
-/// The letter of a kind, an id and a version number. The id is read from OPL's digits, or summed from o5's differences.
+/// A key: the letter of a kind, an id and a version number. The id is the number that OPL's digits write, or the sum of
+/// o5's differences.
 #[derive(Clone, Copy, Debug, PartialEq, Eq)]
 struct Key {
     kind: u8,
@@ -31,7 +32,7 @@ struct Key {
     version: u64,
 }
 
-/// No key.
+/// The key of no version.
 const NO_KEY: Key = Key {
     kind: 0,
     id: 0,
@@ -39,9 +40,9 @@ const NO_KEY: Key = Key {
     version: 0,
 };
 
-/// The position of the next byte.
+/// The position of the next byte in a line or a data set.
 #[derive(Clone, Copy, Debug, PartialEq, Eq)]
-enum Place {
+enum KeyPosition {
     /// At the first byte of a line, or at the type of a data set.
     Start,
     /// In the length of a data set.
@@ -56,16 +57,19 @@ enum Place {
 
 /// The state of a count.
 #[derive(Clone, Copy, Debug)]
-struct State {
-    written: Written,
+struct TallyState {
+    /// The counts so far.
+    written: WriterState,
     /// The key that is being read.
     key: Key,
-    /// The key before it, and whether it was counted as a key with several versions.
+    /// The key of the version before.
     last: Key,
+    /// Whether `last` was counted as a key with several versions.
     is_shared: bool,
-    place: Place,
-    /// The number of an o5 file that is being read, and how many bits of it were read.
+    place: KeyPosition,
+    /// The bits that were read of a number of an o5 file.
     number: u64,
+    /// The number of bits that were read.
     bits: u32,
     /// The number of bytes that are left of a data set.
     left: u64,
@@ -73,14 +77,14 @@ struct State {
     base: u64,
 }
 
-impl State {
-    fn new() -> State {
-        State {
+impl TallyState {
+    fn new() -> TallyState {
+        TallyState {
             written: NOTHING,
             key: NO_KEY,
             last: NO_KEY,
             is_shared: false,
-            place: Place::Start,
+            place: KeyPosition::Start,
             number: 0,
             bits: 0,
             left: 0,
@@ -103,32 +107,32 @@ impl State {
             written.shared_keys = written.shared_keys.saturating_add(1);
         }
         self.last = self.key;
-        self.place = Place::Rest;
+        self.place = KeyPosition::Rest;
     }
 
     /// Reads a byte of OPL.
     fn read_opl(&mut self, byte: u8) {
         match self.place {
-            Place::Start => {
+            KeyPosition::Start => {
                 self.key = Key {
                     kind: byte,
                     ..NO_KEY
                 };
-                self.place = Place::Id;
+                self.place = KeyPosition::Id;
             }
-            Place::Id => match byte {
-                b' ' => self.place = Place::Version,
+            KeyPosition::Id => match byte {
+                b' ' => self.place = KeyPosition::Version,
                 b'-' => self.key.is_negative = true,
                 digit => self.key.id = with_digit(self.key.id, digit),
             },
-            Place::Version => match byte {
+            KeyPosition::Version => match byte {
                 b' ' => self.count(),
                 b'v' => {}
                 digit => self.key.version = with_digit(self.key.version, digit),
             },
-            Place::Rest | Place::Length => {
+            KeyPosition::Rest | KeyPosition::Length => {
                 if byte == b'\n' {
-                    self.place = Place::Start;
+                    self.place = KeyPosition::Start;
                 }
             }
         }
@@ -137,35 +141,35 @@ impl State {
     /// Reads a byte of o5.
     fn read_o5(&mut self, byte: u8) {
         match self.place {
-            Place::Start => self.read_type(byte),
-            Place::Length => {
+            KeyPosition::Start => self.read_type(byte),
+            KeyPosition::Length => {
                 if let Some(length) = self.read_number(byte) {
                     self.left = length;
                     self.place = match self.key.kind {
-                        0 => Place::Rest,
-                        _ => Place::Id,
+                        0 => KeyPosition::Rest,
+                        _ => KeyPosition::Id,
                     };
                 }
             }
-            Place::Id => {
+            KeyPosition::Id => {
                 if let Some(number) = self.read_number(byte) {
                     self.base = self.base.wrapping_add(difference(number));
                     self.key.id = self.base;
-                    self.place = Place::Version;
+                    self.place = KeyPosition::Version;
                 }
                 self.left = self.left.saturating_sub(1);
             }
-            Place::Version => {
+            KeyPosition::Version => {
                 if let Some(number) = self.read_number(byte) {
                     self.key.version = number;
                     self.count();
                 }
                 self.left = self.left.saturating_sub(1);
             }
-            Place::Rest => self.left = self.left.saturating_sub(1),
+            KeyPosition::Rest => self.left = self.left.saturating_sub(1),
         }
-        if self.left == 0 && self.place == Place::Rest {
-            self.place = Place::Start;
+        if self.left == 0 && self.place == KeyPosition::Rest {
+            self.place = KeyPosition::Start;
         }
     }
 
@@ -182,7 +186,7 @@ impl State {
             self.base = 0;
         }
         if byte < 0xf0 {
-            self.place = Place::Length;
+            self.place = KeyPosition::Length;
         }
     }
 
@@ -219,7 +223,7 @@ fn difference(number: u64) -> u64 {
 pub(super) struct Tally {
     format: Format,
     is_wanted: bool,
-    state: RefCell<State>,
+    state: RefCell<TallyState>,
     /// The system's number of the last write error.
     failure: Cell<Option<i32>>,
 }
@@ -230,7 +234,7 @@ impl Tally {
         Tally {
             format,
             is_wanted,
-            state: RefCell::new(State::new()),
+            state: RefCell::new(TallyState::new()),
             failure: Cell::new(None),
         }
     }
@@ -243,12 +247,12 @@ impl Tally {
     /// Begins the count again.
     pub(super) fn clear(&self) {
         if let Ok(mut state) = self.state.try_borrow_mut() {
-            *state = State::new();
+            *state = TallyState::new();
         }
     }
 
     /// The counts of the bytes written until now.
-    pub(super) fn written(&self) -> Written {
+    pub(super) fn written(&self) -> WriterState {
         match self.state.try_borrow() {
             Ok(state) => state.written,
             Err(_) => NOTHING,
@@ -272,7 +276,7 @@ impl Tally {
     }
 }
 
-/// A writer whose bytes are counted by a tally.
+/// A writer whose bytes a tally counts.
 #[derive(Drop)]
 pub(super) struct Tallied<'n, W> {
     writer: W,
@@ -280,7 +284,7 @@ pub(super) struct Tallied<'n, W> {
 }
 
 impl<'n, W> Tallied<'n, W> {
-    /// A writer whose bytes are counted by `tally`.
+    /// A writer whose bytes `tally` counts.
     pub(super) fn new(writer: W, tally: &'n Tally) -> Tallied<'n, W> {
         Tallied { writer, tally }
     }

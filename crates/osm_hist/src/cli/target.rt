@@ -1,6 +1,6 @@
 //! Targets of a run: a file that the run makes, an existing pipe or device, or standard output.
 use super::files::{Stream, write_retried};
-use super::part::{Part, PartFile, is_part};
+use super::part::{OutPart, PartFile, is_part};
 use super::refusal::Refusal;
 use std::alloc::Global;
 use std::fs::{File, OpenFile};
@@ -24,11 +24,11 @@ pub(super) enum Target<'a> {
 
 impl<'a> Target<'a> {
     /// The target that the argument of `--output` names.
-    pub(super) fn of_word<R: Files>(rt: &R, word: &'a str) -> Target<'a> {
-        if word == STANDARD {
+    pub(super) fn of_arg<R: Files>(rt: &R, arg: &'a str) -> Target<'a> {
+        if arg == STANDARD {
             Target::StandardOutput
         } else {
-            Target::of_name(rt, word)
+            Target::of_name(rt, arg)
         }
     }
 
@@ -39,7 +39,7 @@ impl<'a> Target<'a> {
             return Target::StandardOutput;
         }
         match fs::metadata(rt, name) {
-            Ok(there) if !there.is_file() && !there.is_dir() => Target::Device(name),
+            Ok(metadata) if !metadata.is_file() && !metadata.is_dir() => Target::Device(name),
             _ => Target::File(name),
         }
     }
@@ -74,8 +74,8 @@ impl<'a> Target<'a> {
         R::File: PartFile,
     {
         match self {
-            Target::File(output) => match Part::make(rt, alloc, output, inputs) {
-                Ok(part) => Ok(Destination::Part(part)),
+            Target::File(output) => match OutPart::make(rt, alloc, output, inputs) {
+                Ok(part) => Ok(Destination::OutPart(part)),
                 Err(refusal) => Err(refusal),
             },
             Target::Device(name) => match File::options().write(true).open(rt, name) {
@@ -92,7 +92,7 @@ impl<'a> Target<'a> {
         destination: &mut Destination<F, O>,
     ) -> Result<(), Refusal<'a>> {
         match (self, destination) {
-            (Target::File(output), Destination::Part(part)) => match part.empty() {
+            (Target::File(output), Destination::OutPart(part)) => match part.empty() {
                 Ok(()) => Ok(()),
                 Err(_) => Err(Refusal::CannotCreate { output }),
             },
@@ -111,7 +111,7 @@ impl<'a> Target<'a> {
         R::File: PartFile,
     {
         match (self, destination) {
-            (Target::File(output), Destination::Part(part)) => part.complete(rt, output, fsync),
+            (Target::File(output), Destination::OutPart(part)) => part.complete(rt, output, fsync),
             _ => Ok(()),
         }
     }
@@ -121,7 +121,7 @@ impl<'a> Target<'a> {
 #[derive(Drop)]
 pub(super) enum Destination<F, O> {
     /// OUT.part, which becomes OUT.
-    Part(Part<F>),
+    OutPart(OutPart<F>),
     /// A pipe or a device.
     Device(F),
     /// Standard output.
@@ -132,14 +132,14 @@ impl<F: PartFile + Seek + Write, O> Destination<F, O> {
     /// Whether the target can be emptied and written again.
     pub(super) fn can_be_emptied(&self) -> bool {
         match self {
-            Destination::Part(_) => true,
+            Destination::OutPart(_) => true,
             _ => false,
         }
     }
 
     /// Removes OUT.part after a refusal.
     pub(super) fn discard<R: Files>(&self, rt: &R) {
-        if let Destination::Part(part) = self {
+        if let Destination::OutPart(part) = self {
             part.discard(rt);
         }
     }
@@ -148,7 +148,7 @@ impl<F: PartFile + Seek + Write, O> Destination<F, O> {
 impl<F: PartFile + Seek + Write, O: Write> Write for Destination<F, O> {
     fn write(&mut self, bytes: &[u8]) -> io::Result<usize> {
         match self {
-            Destination::Part(part) => write_retried(part.file(), bytes),
+            Destination::OutPart(part) => write_retried(part.file(), bytes),
             Destination::Device(file) => write_retried(file, bytes),
             Destination::Standard(stream) => write_retried(stream, bytes),
         }
@@ -156,7 +156,7 @@ impl<F: PartFile + Seek + Write, O: Write> Write for Destination<F, O> {
 
     fn flush(&mut self) -> io::Result<()> {
         match self {
-            Destination::Part(part) => part.file().flush(),
+            Destination::OutPart(part) => part.file().flush(),
             Destination::Device(file) => file.flush(),
             Destination::Standard(stream) => stream.flush(),
         }

@@ -90,7 +90,7 @@ impl IsTerminal for &mut Log {
 /// The status of a command, and the text that it printed on standard output and standard error.
 fn outcome<R: Files + Clock + AllocGlobal, I: Read + Drop>(
     rt: &R,
-    words: &[&str],
+    args: &[&str],
     input: I,
 ) -> String
 where
@@ -98,7 +98,7 @@ where
 {
     let mut out = Vec::new(rt.alloc());
     let mut err = Log::new(rt.alloc());
-    let status = run_words(rt, words, input, &mut out, &mut err);
+    let status = run_words(rt, args, input, &mut out, &mut err);
     let outcome = format!(in rt.alloc(); "{status} {}{}", text(&out), text(&err.bytes));
     outcome.unwrap_or(String::new(rt.alloc()))
 }
@@ -132,8 +132,8 @@ fn words_and_what_they_get(rt: HostRuntime) -> Result<(), Fail> {
         (month, "2 2014-13-01T00:00:00Z: not a moment\n"),
         (zero, "2 1970-01-01T00:00:00Z: not a moment\n"),
     ] {
-        let words = ["time-filter", "--output", "o.opl", "a.opl", time];
-        assert_eq!(rt; outcome(&rt, &words, b"".as_slice()).as_str(), wanted);
+        let args = ["time-filter", "--output", "o.opl", "a.opl", time];
+        assert_eq!(rt; outcome(&rt, &args, b"".as_slice()).as_str(), wanted);
     }
     let [early, late] = ["2014-05-06T07:08:09Z", "2014-05-06T07:08:10Z"];
     for (from, to, wanted) in [
@@ -141,8 +141,8 @@ fn words_and_what_they_get(rt: HostRuntime) -> Result<(), Fail> {
         (late, late, "2 2014-05-06T07:08:10Z: not after the first\n"),
         (late, early, "2 2014-05-06T07:08:09Z: not after the first\n"),
     ] {
-        let words = ["time-filter", "--output", "o.opl", "a.opl", from, to];
-        assert_eq!(rt; outcome(&rt, &words, b"".as_slice()).as_str(), wanted);
+        let args = ["time-filter", "--output", "o.opl", "a.opl", from, to];
+        assert_eq!(rt; outcome(&rt, &args, b"".as_slice()).as_str(), wanted);
     }
     for (first, second, wanted) in [
         ("a.opl", "o.opl.part", "2 o.opl.part: input is the output\n"),
@@ -151,8 +151,8 @@ fn words_and_what_they_get(rt: HostRuntime) -> Result<(), Fail> {
         ("a.opl", "bad.opl", "1 bad.opl: 0: NoLocation\n"),
         ("a.opl", "b.opl", "0 "),
     ] {
-        let words = ["merge", "--output", "o.opl", first, second];
-        assert_eq!(rt; outcome(&rt, &words, b"".as_slice()).as_str(), wanted);
+        let args = ["merge", "--output", "o.opl", first, second];
+        assert_eq!(rt; outcome(&rt, &args, b"".as_slice()).as_str(), wanted);
     }
     assert_eq!(rt; content(&rt, "o.opl").as_str(), MERGED);
     assert!(rt; !fs::exists(&rt, "o.opl.part")?);
@@ -161,7 +161,7 @@ fn words_and_what_they_get(rt: HostRuntime) -> Result<(), Fail> {
 
 #[test]
 fn mistaken_words_are_refused_and_help_is_printed(rt: HostRuntime) {
-    for (words, status) in [
+    for (args, status) in [
         (["merge", "a.opl"].as_slice(), "2 "),
         (
             &["merge", "--output", "o.opl", "--format", "xml", "a.opl"],
@@ -175,32 +175,32 @@ fn mistaken_words_are_refused_and_help_is_printed(rt: HostRuntime) {
         (&["merge", "--help"], "0 "),
         (&["--version"], "0 osm_hist "),
     ] {
-        assert!(rt; outcome(&rt, words, b"".as_slice()).starts_with(status));
+        assert!(rt; outcome(&rt, args, b"".as_slice()).starts_with(status));
     }
 }
 
 #[test]
 fn standard_input(rt: HostRuntime) {
-    let words: [&str; 0] = [];
+    let args: [&str; 0] = [];
     let merged = outcome(
         &rt,
-        &words,
+        &args,
         b"n1 v1 dV x1.5 y2\nn1 v2 dV x1.5 y3\n".as_slice(),
     );
     assert_eq!(rt; merged.as_str().strip_prefix("0 "), Some(MERGED));
-    let faulty = outcome(&rt, &words, b"n1 v1 x1 y1 q".as_slice());
+    let faulty = outcome(&rt, &args, b"n1 v1 x1 y1 q".as_slice());
     assert_eq!(rt; faulty.as_str(), "1 standard input: 0: UnknownField\n");
-    let failing = outcome(&rt, &words, Broken);
+    let failing = outcome(&rt, &args, Broken);
     assert_eq!(rt; failing.as_str(), "1 standard input: 0: ReadFault\n");
 }
 
 /// The status and the error text of a command whose standard output fails.
-fn unprinted<R: Files + Clock + AllocGlobal>(rt: &R, words: &[&str]) -> String
+fn unprinted<R: Files + Clock + AllocGlobal>(rt: &R, args: &[&str]) -> String
 where
     R::File: PartFile,
 {
     let mut err = Log::new(rt.alloc());
-    let status = run_words(rt, words, MERGED.as_bytes(), Broken, &mut err);
+    let status = run_words(rt, args, MERGED.as_bytes(), Broken, &mut err);
     let outcome = format!(in rt.alloc(); "{status} {}", text(&err.bytes));
     outcome.unwrap_or(String::new(rt.alloc()))
 }
@@ -208,13 +208,13 @@ where
 #[test]
 fn standard_output_that_fails(rt: HostRuntime) -> Result<(), Fail> {
     enter(&rt, "standard_output_that_fails")?;
-    for (words, wanted) in [
+    for (args, wanted) in [
         ([].as_slice(), "1 standard output: 58: WriteFault\n"),
         (&["check", "a.opl"], "1 standard output: cannot write\n"),
         (&["--help"], "1 standard output: cannot write\n"),
         (&["plan", "two.plan"], "1 standard output: cannot write\n"),
     ] {
-        assert_eq!(rt; unprinted(&rt, words).as_str(), wanted);
+        assert_eq!(rt; unprinted(&rt, args).as_str(), wanted);
     }
     assert!(rt; !fs::exists(&rt, "x.opl")?);
     Ok(())
@@ -281,7 +281,8 @@ fn out_part_belongs_to_one_run(rt: HostRuntime) -> Result<(), Fail> {
     Ok(())
 }
 
-/// A file whose lock has the outcome `outcome`, or is held by another run.
+/// A file that another run has locked if `is_held`. Else an attempt to lock it fails with the error `outcome`, if there
+/// is one.
 #[derive(Drop)]
 struct Locking {
     outcome: Option<ErrorKind>,

@@ -42,7 +42,7 @@ const SEEN: &[(Lines, Lines)] = &[
     (&[DELETED_NEXT], &[]),
 ];
 
-/// Whether the visible ones of `lines` are `seen`.
+/// Whether the visible versions of `lines` are `seen`.
 fn is_visible_part(alloc: Global, lines: &[&[u8]], seen: &[&[u8]]) -> bool {
     holds(alloc, visible(alloc, &history(alloc, lines)), seen)
 }

@@ -17,7 +17,7 @@ struct Held<'a> {
     history: History,
     /// The number of versions that were given.
     place: usize,
-    /// The fault of the rest, if it can't be given.
+    /// The fault after the versions, if there is one.
     fault: Option<Fault>,
     number: usize,
     has_failed: bool,
@@ -73,7 +73,7 @@ enum Call {
     Select(Selection),
 }
 
-/// The result of a call over these sources, to the output whose number is the number of the sources.
+/// The result of a call over `sources`. The number of the output is the number of the sources.
 fn merge_to<S: Source + Drop, W: Output>(
     alloc: Global,
     call: Call,
@@ -93,7 +93,7 @@ fn merge_to<S: Source + Drop, W: Output>(
     }
 }
 
-/// Sources of these lines. The source that the fault names ends with the fault.
+/// A source for each list of lines in `sources`. The source that the fault names ends with the fault.
 fn sources_of<'a>(
     alloc: Global,
     sources: &[&[&[u8]]],
@@ -114,7 +114,7 @@ fn sources_of<'a>(
     inputs
 }
 
-/// The result of a call over sources of these lines, and the bytes that it wrote.
+/// The result of a call over the sources of `sources_of`, and the bytes that the call wrote.
 fn merged(
     alloc: Global,
     call: Call,
@@ -129,7 +129,7 @@ fn merged(
     (outcome, out.into_vec())
 }
 
-/// Sources of these lines, the call over them, the number of versions read, and the lines written.
+/// The lines of each source, the call over the sources, the number of versions read, and the lines written.
 type Row = (
     &'static [&'static [&'static [u8]]],
     Call,
@@ -137,7 +137,7 @@ type Row = (
     &'static [&'static [u8]],
 );
 
-/// Whether the call over sources of these lines writes the lines of the row, and counts both.
+/// Whether the call of a row over its sources writes the lines of the row, and counts the versions read and written.
 fn is_merged(alloc: Global, row: &Row) -> bool {
     let (sources, call, read, lines) = row;
     let (outcome, written) = merged(alloc, *call, Format::Opl, sources, None);
@@ -148,7 +148,7 @@ fn is_merged(alloc: Global, row: &Row) -> bool {
     }
 }
 
-/// Asserts that the merges of these rows write their lines, and count them.
+/// Asserts that the call of each row writes the lines of the row, and counts the versions.
 fn assert_rows<R: AllocGlobal + Abort>(rt: &R, rows: &[Row]) {
     for row in rows {
         assert!(rt; is_merged(rt.alloc(), row));
@@ -198,7 +198,7 @@ fn empty_inputs(rt: HostRuntime) {
     }
 }
 
-/// A node of this id, without a time.
+/// Node 1, without a time.
 const N1: &[u8] = b"n1 v1 dV c0 t i0 u T x1 y1\n";
 
 const N2: &[u8] = b"n2 v1 dV c0 t i0 u T x1 y1\n";
@@ -215,9 +215,9 @@ const N7: &[u8] = b"n7 v1 dV c0 t i0 u T x1 y1\n";
 
 const N8: &[u8] = b"n8 v1 dV c0 t i0 u T x1 y1\n";
 
-/// Sources, and the least and the most comparisons of their merge. Of two sources with the same three versions five
-/// games are played. Three versions are compared with the one put last: the first has none before it, and two of the
-/// others are known repeats.
+/// Sources, and the least and the most comparisons of their merge. A merge of two sources with the same three versions
+/// plays five games. Three of the six versions are compared with the one put last: the first has none before it, and
+/// two of the others are known repeats.
 const COMPARISONS: &[(&[&[&[u8]]], u64, u64)] = &[
     (&[], 0, 0),
     (&[&[FIRST, SECOND]], 1, 2),
@@ -226,7 +226,7 @@ const COMPARISONS: &[(&[&[&[u8]]], u64, u64)] = &[
     (&[&[N1, N2, N3], &[N1, N2, N3]], 8, 8),
 ];
 
-/// The number of comparisons of a merge of these sources.
+/// The number of comparisons of a merge of sources that have the lines `sources`.
 fn compared(alloc: Global, sources: &[&[&[u8]]]) -> Option<u64> {
     let (outcome, _) = merged(alloc, Call::Merge, Format::Opl, sources, None);
     match outcome {
@@ -250,8 +250,8 @@ const CUT: Fault = Fault {
     reason: Reason::NoEnd,
 };
 
-/// Whether the call over sources of these lines, of which the second is cut, returns the fault after it wrote the
-/// expected lines.
+/// Whether a call over sources that have the lines `sources` writes `lines` and then returns the fault `CUT`, with
+/// which the second source ends.
 fn is_cut(
     alloc: Global,
     call: Call,
@@ -284,7 +284,7 @@ fn read_ahead(rt: HostRuntime) {
 
 const NEXT_OF_1: &[u8] = b"n1 v2 dV c0 t i0 u T x1 y1\n";
 
-/// An output that notes the number of versions that the sources gave and that it has no line of yet.
+/// An output that notes the greatest number of versions that the sources gave and that it had no line of yet.
 #[derive(Drop)]
 struct Ahead<'a> {
     given: &'a Cell<usize>,
@@ -315,7 +315,7 @@ impl Output for Ahead<'_> {
     }
 }
 
-/// A hundred nodes, each with the third id after the one before.
+/// A hundred nodes. Their ids begin at `first`, and each is 3 more than the one before.
 fn every_third(alloc: Global, first: u32) -> History {
     let mut text = String::new(alloc);
     for step in 0..100u32 {
@@ -325,7 +325,7 @@ fn every_third(alloc: Global, first: u32) -> History {
     history_of(alloc, text.as_bytes())
 }
 
-/// The result of a merge of three such sources.
+/// The result of a merge of three sources, each with the nodes of `every_third` from another id on.
 fn merge_thirds<W: Output>(
     alloc: Global,
     given: &Cell<usize>,

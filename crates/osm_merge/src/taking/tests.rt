@@ -1,4 +1,4 @@
-//! Histories taken in, compared with the plain union and its snapshot.
+//! Histories that took others in, compared with the plain union and its snapshot.
 use super::{absorb, absorb_newest};
 use crate::chosen::snapshot;
 use crate::rows::history_of;
@@ -15,8 +15,8 @@ fn nodes(alloc: Global, count: u32, apart: u32, number: u32) -> History {
     history_of(alloc, text.as_bytes())
 }
 
-/// Arguments of `nodes` for histories that are taken into these 300 versions: nothing, older and newer versions, the
-/// same ones, all objects and some, others after them.
+/// Arguments of `nodes` for histories that a history of 300 nodes takes in: no versions; older, equal and newer ones;
+/// versions of all its nodes, of some of them, and of nodes after them.
 const TAKEN: &[(u32, u32, u32)] = &[
     (0, 1, 1),
     (5, 50, 1),
@@ -35,7 +35,7 @@ fn union_taken(alloc: Global, held: &History, more: History) -> Result<History, 
     Ok(taken)
 }
 
-/// The snapshot of a history, which took another one in.
+/// The snapshot of a history, after the snapshot took another history in.
 fn newest_taken(alloc: Global, held: &History, more: History) -> Result<History, Memory> {
     let mut taken = snapshot(alloc, held)?;
     absorb_newest(alloc, &mut taken, more)?;
@@ -50,7 +50,7 @@ fn are_same(one: Result<History, Memory>, other: Result<History, Memory>) -> boo
     one.into_versions() == other.into_versions()
 }
 
-/// Whether the 300 versions that take these in are the union.
+/// Whether a history of 300 nodes has the union, after it took other nodes in.
 fn holds_union(alloc: Global, count: u32, apart: u32, number: u32) -> bool {
     let held = nodes(alloc, 300, 1, 2);
     let more = nodes(alloc, count, apart, number);
@@ -65,7 +65,7 @@ fn a_history_absorbs_another(rt: HostRuntime) {
     }
 }
 
-/// These versions, and some of the 300.
+/// The versions of `nodes`, and some of the 300 versions.
 fn more_nodes(alloc: Global, count: u32, apart: u32, number: u32) -> History {
     let more = nodes(alloc, count, apart, number);
     match more.join(&nodes(alloc, 20, 31, 2)) {
@@ -74,7 +74,7 @@ fn more_nodes(alloc: Global, count: u32, apart: u32, number: u32) -> History {
     }
 }
 
-/// Whether the snapshot of the 300 versions that takes these in is the snapshot of the union.
+/// Whether the snapshot of 300 nodes is the snapshot of the union, after it took other nodes in.
 fn holds_newest(alloc: Global, count: u32, apart: u32, number: u32) -> bool {
     let held = nodes(alloc, 300, 1, 2);
     let more = more_nodes(alloc, count, apart, number);

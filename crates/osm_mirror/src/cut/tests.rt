@@ -1,4 +1,4 @@
-//! Where files are cut at objects.
+//! The offsets at which files are cut at objects.
 use super::cut_offset;
 use osm_merge::Object;
 use osm_model::Kind;
@@ -7,7 +7,7 @@ use std::alloc::Global;
 /// Versions of two nodes and a way. Their lines begin at 0, 9, 22 and 31.
 const FILE: &[u8] = b"n1 v1 dD\nn1 v2 dD\n# c\nn3 v1 dD\nw1 v1 dD";
 
-/// The offset at which a file is cut.
+/// The offset at which `file` is cut at the object of the kind `kind` with the id `id`.
 fn cut_text(alloc: Global, file: &[u8], kind: Kind, id: i64) -> String {
     let mut text = String::new(alloc);
     match cut_offset(alloc, &file, 2, Object { kind, id }) {

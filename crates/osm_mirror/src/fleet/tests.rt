@@ -32,7 +32,7 @@ const FILES: [&[u8]; 5] = [
 /// The snapshot of all versions of the files.
 const NEWEST: &[u8] = b"n1 v2 dD c0 t i0 u T x y\nn2 v1 dV c0 t i0 u T x9 y1\n";
 
-/// Runs these events, and returns the replies; none if the events name other mirrors.
+/// Runs `events`, and returns the replies; no replies if the events name mirrors that the fleet doesn't have.
 fn run(alloc: Global, fleet: &mut Fleet, events: &[Event]) -> Vec<Reply> {
     if fleet.may_run(events)
         && let Ok(replies) = fleet.run(events)
@@ -42,7 +42,7 @@ fn run(alloc: Global, fleet: &mut Fleet, events: &[Event]) -> Vec<Reply> {
     Vec::new(alloc)
 }
 
-/// The file of the mirror of this number, as OPL.
+/// The file of the mirror with the number `place`, as OPL.
 fn written(alloc: Global, fleet: &Fleet, place: usize) -> Vec<u8> {
     if place < fleet.len()
         && let Ok(file) = fleet.mirror(place).write(Format::Opl)
@@ -52,7 +52,7 @@ fn written(alloc: Global, fleet: &Fleet, place: usize) -> Vec<u8> {
     Vec::new(alloc)
 }
 
-/// The snapshot of the mirror of this number, as OPL.
+/// The snapshot of the mirror with the number `place`, as OPL.
 fn newest(alloc: Global, fleet: &Fleet, place: usize) -> Vec<u8> {
     let mut latest = Mirror::new_latest(alloc);
     let file = written(alloc, fleet, place);
@@ -74,7 +74,7 @@ fn has_one_map(alloc: Global, fleet: &Fleet) -> bool {
     fleet.len() == KINDS.len()
 }
 
-/// The number of replies of nine new mirrors to these events, if they have one snapshot then; 0 if they have not.
+/// The number of replies of nine new mirrors to `events`, if all mirrors then have the snapshot `NEWEST`; otherwise 0.
 fn replies_to_one_map(alloc: Global, events: &[Event]) -> usize {
     let Ok(mut fleet) = Fleet::new(alloc, &KINDS) else {
         return 0;
@@ -83,7 +83,7 @@ fn replies_to_one_map(alloc: Global, events: &[Event]) -> usize {
     if has_one_map(alloc, &fleet) { count } else { 0 }
 }
 
-/// The first mirrors take a file each; the last file is none.
+/// Appends the events in which each of the first mirrors takes a file. The last of `FILES` is refused.
 fn deliver<'a>(events: &mut Vec<Event<'a>>) {
     for (mirror, file) in FILES.iter().enumerate() {
         let _ = events.push(Event::Take {
@@ -93,13 +93,14 @@ fn deliver<'a>(events: &mut Vec<Event<'a>>) {
     }
 }
 
-/// A mirror passes to another one, in the format of this turn.
+/// Appends the event in which a mirror passes to another one, in a format that `turn` chooses.
 fn pass(events: &mut Vec<Event>, from: usize, to: usize, turn: usize) {
     let format = FORMATS[turn % 3];
     let _ = events.push(Event::Pass { from, to, format });
 }
 
-/// All mirrors pass to the first one, and that one to all, itself included.
+/// Appends the events in which all mirrors pass to the first one, and then the first one passes to all, itself
+/// included.
 fn meet(events: &mut Vec<Event>) {
     for other in 0..KINDS.len() {
         pass(events, other, 0, other);
@@ -109,7 +110,7 @@ fn meet(events: &mut Vec<Event>) {
     }
 }
 
-/// Each mirror passes to the next one, and the last one to the first, twice.
+/// The number of replies if each mirror passes to the next one, and the last one to the first, twice.
 fn replies_in_a_ring(alloc: Global) -> usize {
     let mut events = Vec::new(alloc);
     deliver(&mut events);
@@ -129,7 +130,7 @@ fn mirrors_in_a_ring(rt: HostRuntime) {
     assert_eq!(rt; replies_in_a_ring(rt.alloc()), 23);
 }
 
-/// All mirrors meet in the first one.
+/// The number of replies if all mirrors meet in the first one.
 fn replies_in_a_star(alloc: Global) -> usize {
     let mut events = Vec::new(alloc);
     deliver(&mut events);
@@ -142,7 +143,7 @@ fn mirrors_in_a_star(rt: HostRuntime) {
     assert_eq!(rt; replies_in_a_star(rt.alloc()), 23);
 }
 
-/// A pseudorandom event: the digits of a number determine the mirrors, the file and the format.
+/// A pseudorandom event: `number` determines the mirrors, the file and the format.
 fn chance(number: usize) -> Event<'static> {
     let mirror = number % KINDS.len();
     let other = number / 9 % KINDS.len();
@@ -161,7 +162,7 @@ fn chance(number: usize) -> Event<'static> {
     }
 }
 
-/// Sixty pseudorandom events, before the mirrors meet.
+/// The number of replies to sixty pseudorandom events, after which each file is taken and the mirrors meet.
 fn replies_by_chance(alloc: Global) -> usize {
     let mut events = Vec::new(alloc);
     let mut number: usize = 1;
@@ -179,7 +180,8 @@ fn mirrors_by_chance(rt: HostRuntime) {
     assert_eq!(rt; replies_by_chance(rt.alloc()), 83);
 }
 
-/// A full and a latest mirror take the files in turns, and pass to each other twice in each format.
+/// Appends the events in which a full and a latest mirror take the files by turns, and pass to each other twice in each
+/// format.
 fn two_mirrors_events<'a>(events: &mut Vec<Event<'a>>) {
     for (place, file) in FILES.iter().enumerate() {
         let _ = events.push(Event::Take {
@@ -192,8 +194,8 @@ fn two_mirrors_events<'a>(events: &mut Vec<Event<'a>>) {
     }
 }
 
-/// The number of replies to these, if the snapshot of the full mirror then is the history of the latest one; 0 if it
-/// isn't.
+/// The number of replies to `two_mirrors_events`, if `NEWEST` then is the snapshot of the full mirror and the file of
+/// the latest one; otherwise 0.
 fn replies_of_two_mirrors(alloc: Global) -> usize {
     let Ok(mut fleet) = Fleet::new(alloc, &[Keep::Full, Keep::Latest]) else {
         return 0;
@@ -219,7 +221,7 @@ fn push_reply(text: &mut String, reply: &Reply) {
     };
 }
 
-/// The replies of new mirrors of these kinds, and the file that the last one writes then.
+/// The replies of new mirrors of the kinds `kinds`, and the file that the last mirror writes afterwards.
 fn fleet_text(alloc: Global, kinds: &[Keep], events: &[Event]) -> String {
     let mut text = String::new(alloc);
     let Ok(mut fleet) = Fleet::new(alloc, kinds) else {

@@ -13,7 +13,7 @@ const B: &[u8] = b"n1 v2 dV x1.5 y3\n";
 
 const BOTH: &[u8] = b"n1 v1 dV c0 t i0 u T x1.5 y2\nn1 v2 dV c0 t i0 u T x1.5 y3\n";
 
-/// Readers of these files.
+/// Readers of `files`.
 fn readers<'a>(alloc: Global, files: &'a [&'a [u8]]) -> Vec<SliceIn<'a>> {
     let mut inputs = Vec::new(alloc);
     for file in files {
@@ -22,7 +22,7 @@ fn readers<'a>(alloc: Global, files: &'a [&'a [u8]]) -> Vec<SliceIn<'a>> {
     inputs
 }
 
-/// The result of a merge of these files in this format, and the bytes that it wrote.
+/// The result of a merge of `inputs` in the format `format`, and the bytes that it wrote.
 fn merged<R: Input + Drop>(
     alloc: Global,
     inputs: Vec<R>,
@@ -33,7 +33,7 @@ fn merged<R: Input + Drop>(
     (outcome, out.into_vec())
 }
 
-/// The output of a merge of these files to OPL, and then its counts, or its fault.
+/// The output of a merge of `files` to OPL, and then its counts or its fault.
 fn merged_text(alloc: Global, files: &[&[u8]]) -> String {
     let mut text = String::new(alloc);
     let (outcome, written) = merged(alloc, readers(alloc, files), Format::Opl);
@@ -48,7 +48,7 @@ fn merged_text(alloc: Global, files: &[&[u8]]) -> String {
 /// Files, and the text of their merge to OPL.
 type Row = (&'static [&'static [u8]], &'static str);
 
-/// Asserts that the merges of these rows give their texts.
+/// Asserts that the merge of each row has its text.
 fn assert_rows<R: AllocGlobal + Abort>(rt: &R, rows: &[Row]) {
     for (files, text) in rows {
         assert_eq!(rt; merged_text(rt.alloc(), files).as_str(), *text);
@@ -118,7 +118,8 @@ fn key_group_in_any_order(rt: HostRuntime) {
     assert_rows(&rt, ANY_ORDER);
 }
 
-/// Blanks, fields in any order, leading zeros, CR and LF, a last line without its end, contents of a deletion.
+/// Lines as others write them: blanks, fields in any order, leading zeros, CR and LF, a last line without its end,
+/// contents of a deletion.
 const WRITTEN_ELSEWHERE: &[Row] = &[
     (
         &[
@@ -282,7 +283,7 @@ fn hostile_numbers(rt: HostRuntime) {
 const NODE_THEN_DELETION: &[u8] =
     b"\xff\xe0\x04o5m2\x10\x0b\x02\x01\x02\x02\x00\x01\x00a\x00\x00\x00\x10\x05\x00\x02\x02\x00\x01\xfe";
 
-/// The text of a merge of the first `length` bytes of this file.
+/// The text of a merge of the first `length` bytes of `NODE_THEN_DELETION`.
 fn cut_text(alloc: Global, length: usize) -> String {
     merged_text(alloc, &[NODE_THEN_DELETION.get(..length).unwrap_or(b"?")])
 }
@@ -315,7 +316,7 @@ fn cut_file(rt: HostRuntime) {
     assert_rows(&rt, BYTE_AFTER_THE_END);
 }
 
-/// The bytes that a merge of these files in this format writes; none if it is refused.
+/// The bytes that a merge of `files` in the format `format` writes; none if it is refused.
 fn written(alloc: Global, files: &[&[u8]], format: Format) -> Vec<u8> {
     let (outcome, written) = merged(alloc, readers(alloc, files), format);
     if outcome.is_ok() {
@@ -326,16 +327,16 @@ fn written(alloc: Global, files: &[&[u8]], format: Format) -> Vec<u8> {
 }
 
 /// Files, a format, and the bytes that are written.
-type Written = (&'static [&'static [u8]], Format, &'static [u8]);
+type WriterState = (&'static [&'static [u8]], Format, &'static [u8]);
 
-/// Asserts that the merges of these rows write their bytes.
-fn assert_written<R: AllocGlobal + Abort>(rt: &R, rows: &[Written]) {
+/// Asserts that the merge of each row writes its bytes.
+fn assert_written<R: AllocGlobal + Abort>(rt: &R, rows: &[WriterState]) {
     for (files, format, bytes) in rows {
         assert_eq!(rt; written(rt.alloc(), files, *format).as_slice(), *bytes);
     }
 }
 
-const EMPTY: &[Written] = &[
+const EMPTY: &[WriterState] = &[
     (&[], Format::O5m, b"\xff\xe0\x04o5m2\xfe"),
     (
         &[b"\xff\xe0\x04o5m2\xfe", b""],
@@ -349,11 +350,11 @@ const EMPTY: &[Written] = &[
 const LINES: &[u8] =
     b"n1 v1 dV c1 t1970-01-01T00:00:01Z i1 ua T x0 y0\nn1 v2 dD c1 t1970-01-01T00:00:02Z i1 ua T x y\n";
 
-/// The same in o5c.
+/// The node and its deletion in o5c.
 const O5C: &[u8] =
     b"\xff\xe0\x04o5c2\x10\x0b\x02\x01\x02\x02\x00\x01\x00a\x00\x00\x00\x10\x05\x00\x02\x02\x00\x01\xfe";
 
-const THREE_FORMATS: &[Written] = &[
+const THREE_FORMATS: &[WriterState] = &[
     (&[LINES], Format::Opl, LINES),
     (&[NODE_THEN_DELETION], Format::Opl, LINES),
     (&[O5C], Format::Opl, LINES),
@@ -378,7 +379,7 @@ fn node_then_deletion_o5m(rt: HostRuntime) {
     assert_written(&rt, THREE_FORMATS);
 }
 
-const WAYS: &[Written] = &[
+const WAYS: &[WriterState] = &[
     (
         &[b"w5 v1 dV\n", b"w5 v2 dD\n"],
         Format::O5m,
@@ -396,14 +397,15 @@ fn way_without_references(rt: HostRuntime) {
     assert_written(&rt, WAYS);
 }
 
-/// Two nodes half a turn east and west of each other, by the plain difference, and by one that goes round.
+/// Two nodes at the longitudes -180 and 180, by the plain difference.
 const PLAIN: &[u8] =
     b"\xff\xe0\x04o5m2\x10\x09\x02\x01\x00\xff\xc7\xce\xb4\x0d\x00\x10\x09\x02\x01\x00\x80\x90\x9d\xe9\x1a\x00\xfe";
 
+/// The same nodes, by a difference that wraps around.
 const WRAPPED: &[u8] =
     b"\xff\xe0\x04o5m2\x10\x09\x02\x01\x00\xff\xc7\xce\xb4\x0d\x00\x10\x09\x02\x01\x00\xff\xef\xe2\x96\x05\x00\xfe";
 
-const LONGITUDES: &[Written] = &[
+const LONGITUDES: &[WriterState] = &[
     (&[PLAIN], Format::O5m, PLAIN),
     (&[WRAPPED], Format::O5m, PLAIN),
 ];
@@ -416,7 +418,7 @@ fn longitude_wrap(rt: HostRuntime) {
 const DELETION_LAST: &[u8] =
     b"\xff\xe0\x04o5m2\x10\x0b\x02\x01\x00\x80\xda\xc4\x09\x80\xda\xc4\x09\x10\x03\x00\x01\x00\xfe";
 
-const OLD_ORDER: &[Written] = &[
+const OLD_ORDER: &[WriterState] = &[
     (
         &[
             b"\xff\xe0\x04o5m2\x10\x03\x02\x01\x00\x10\x0b\x00\x01\x00\x80\xda\xc4\x09\x80\xda\xc4\x09\xfe",
@@ -432,7 +434,7 @@ fn old_order_files(rt: HostRuntime) {
     assert_written(&rt, OLD_ORDER);
 }
 
-/// The number of comparisons of a merge of these files; the greatest number if it is refused.
+/// The number of comparisons of a merge of `files`; the greatest number if the merge is refused.
 fn compared(alloc: Global, files: &[&[u8]]) -> u64 {
     let mut out = VecOut::new(alloc);
     match run_merge(alloc, readers(alloc, files), Format::Opl, &mut out) {
@@ -466,7 +468,8 @@ fn comparison_bounds(rt: HostRuntime) {
     }
 }
 
-/// A writer that takes one byte a write, as long as it has room, and then fails. Its flush fails unless `flushes`.
+/// A writer that takes one byte in each write until it has taken `room` bytes, and then fails. Its flush fails unless
+/// `flushes` is set.
 #[derive(Drop)]
 struct Narrow<'a> {
     taken: &'a mut Vec<u8>,
@@ -494,7 +497,8 @@ impl Write for Narrow<'_> {
     }
 }
 
-/// Whether a merge of A and B to a writer of this room fails there, and the writer took the front of the file.
+/// Whether a merge of A and B to a writer that takes `room` bytes fails there, and the writer took the front of the
+/// file.
 fn fails_after(alloc: Global, room: usize, flushes: bool) -> bool {
     let mut taken = Vec::new(alloc);
     let device = Narrow {
@@ -524,7 +528,7 @@ fn failing_devices(rt: HostRuntime) {
     assert!(rt; fails_after(rt.alloc(), 58, false));
 }
 
-/// A reader that gives `step` bytes a read, and then ends or fails.
+/// A reader that gives `step` bytes in each read, and then ends or fails.
 #[derive(Drop)]
 struct Slow<'a> {
     rest: &'a [u8],
@@ -545,8 +549,8 @@ impl Read for Slow<'_> {
     }
 }
 
-/// The output of a merge to OPL of two files that come by `step` bytes a read, and its fault, if it has one. The second
-/// file may fail.
+/// The output of a merge to OPL of two files, of which each read gives `step` bytes, and the fault, if there is one.
+/// The second file fails if `fails` is set.
 fn slow_text(alloc: Global, files: [&[u8]; 2], step: usize, fails: bool) -> String {
     let mut inputs = Vec::new(alloc);
     let [rest, second] = files;
@@ -589,8 +593,8 @@ fn a_reader_that_fails_is_named(rt: HostRuntime) {
     );
 }
 
-/// The output of a merge in this format of `count` files that hold the same versions, in each format by turns,
-/// beginning with the file at the index `first`.
+/// The output of a merge in the format `format` of `count` inputs that hold the same versions. The inputs are `files`
+/// by turns, beginning with the file at the index `first`.
 fn in_turns(
     alloc: Global,
     files: [&[u8]; 3],
@@ -610,7 +614,7 @@ fn in_turns(
     }
 }
 
-/// Whether `count` files by turns make these files, for each first one.
+/// Whether `count` inputs by turns make `files`, whichever file is first.
 fn is_same_in_turns(alloc: Global, files: [&[u8]; 3], count: usize) -> bool {
     for first in 0..3usize {
         for (format, file) in [Format::Opl, Format::O5m, Format::O5c]
@@ -629,7 +633,7 @@ fn is_same_in_turns(alloc: Global, files: [&[u8]; 3], count: usize) -> bool {
 const ALL_KINDS: &[u8] =
     b"n1 v1 dV c1 t1970-01-01T00:00:01Z i1 ua T x0 y0\nw5 v1 dV c0 t i0 u Ta=b Nn1,n-2\nr6 v2 dV c0 t i0 u T Mw5@outer,n1@\n";
 
-/// Whether `count` files of these make one file in each format.
+/// Whether `count` inputs that hold `ALL_KINDS`, in the three formats by turns, make one file in each format.
 fn is_one_mixture(alloc: Global, count: usize) -> bool {
     let o5m = written(alloc, &[ALL_KINDS], Format::O5m);
     let o5c = written(alloc, &[ALL_KINDS], Format::O5c);

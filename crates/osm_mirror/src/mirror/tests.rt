@@ -36,7 +36,7 @@ fn push_written(text: &mut String, mirror: &Mirror) {
     let _ = text.push_str(str::from_utf8(&file).unwrap_or("?"));
 }
 
-/// The results of a mirror that keeps `keep` for these files, and its file then.
+/// The results of a mirror that keeps `keep` and takes `files`, and the file that it writes afterwards.
 fn mirror_text(alloc: Global, keep: Keep, files: &[&[u8]]) -> String {
     let mut text = String::new(alloc);
     let mut mirror = new_mirror(alloc, keep);
@@ -47,7 +47,7 @@ fn mirror_text(alloc: Global, keep: Keep, files: &[&[u8]]) -> String {
     text
 }
 
-/// A kind of mirror, the files that it takes, and the text of these calls.
+/// A kind of mirror, the files that the mirror takes, and the text of its results.
 type Row = (Keep, &'static [&'static [u8]], &'static str);
 
 /// Mirrors that take one file, and mirrors that take another one after it.
@@ -114,8 +114,8 @@ fn cut_file(rt: HostRuntime) {
     assert_eq!(rt; mirror_text(rt.alloc(), Keep::Full, &files).as_str(), text);
 }
 
-/// The result of a latest mirror for a file, the files of the mirror and of a copy of it then, and the number of
-/// versions of the copy.
+/// The result of a latest mirror that takes `file`. Then the number of versions of a copy of the mirror, whether the
+/// two write the same file in o5c, and the copy's file as OPL.
 fn copied_text(alloc: Global, file: &[u8]) -> String {
     let mut text = String::new(alloc);
     let mut mirror = Mirror::new_latest(alloc);

@@ -35,7 +35,7 @@ fn push_step(text: &mut String, step: &Step) -> Result<(), AllocError> {
     }
 }
 
-/// The lines of the plan that these bytes spell, or the first faulty line and its reason.
+/// The lines of the plan that `bytes` spell, or the first faulty line and its reason.
 fn plan_text(alloc: Global, bytes: &[u8]) -> String {
     let mut text = String::new(alloc);
     match read_plan(alloc, bytes) {

@@ -8,7 +8,7 @@ use std::alloc::Global;
 /// Versions of three nodes.
 const FILE: &[u8] = b"n1 v1 dD\nn2 v1 dD\nn3 v1 dD\n";
 
-/// What a run writes of the second node of a file.
+/// The bytes that a run for the second node writes of a file, or the run's fault.
 fn slice_text(alloc: Global, file: &[u8], outside: Outside) -> String {
     let mut text = String::new(alloc);
     let mut inputs = Vec::new(alloc);
@@ -52,7 +52,11 @@ fn slices_are_written(rt: HostRuntime) {
             Outside::Dropped,
             "file 0, byte 9: NoVersion",
         ),
-        (b"n3 v1 dD\nn4 v1 dD\nn1\n".as_slice(), Outside::Dropped, "0 of 0"),
+        (
+            b"n3 v1 dD\nn4 v1 dD\nn1\n".as_slice(),
+            Outside::Dropped,
+            "0 of 0",
+        ),
     ] {
         assert_eq!(rt; slice_text(rt.alloc(), file, outside).as_str(), text);
     }

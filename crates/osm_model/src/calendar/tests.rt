@@ -1,4 +1,4 @@
-//! Dates by their day.
+//! Dates, from the number of days since 1970-01-01.
 use crate::calendar::Date;
 
 #[test]

@@ -1,4 +1,4 @@
-//! Plain stretches of texts.
+//! The lengths of the raw characters at the front of texts.
 use crate::escape::raw_length;
 
 #[test]

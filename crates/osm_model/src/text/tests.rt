@@ -27,12 +27,12 @@ fn looked_at(alloc: Global, characters: &str) -> Result<Text, Fail> {
     Ok(text)
 }
 
-/// The line of a deletion by a user of this name.
+/// The line of a deletion by `user`.
 fn line(alloc: Global, user: Text) -> Result<Vec<u8>, Fail> {
     line_with(alloc, user, Body::Deleted(Kind::Node))
 }
 
-/// The line of a version with this body by a user of this name.
+/// The line of a version with `body`, by `user`.
 fn line_with(alloc: Global, user: Text, body: Body) -> Result<Vec<u8>, Fail> {
     let meta = Meta {
         version: 1,
@@ -130,7 +130,7 @@ fn what_is_behind_a_plain_text_may_not_be(rt: HostRuntime) -> Result<(), Fail> {
     Ok(())
 }
 
-/// The result of `try_into_string` for a text of these characters: the string or the text.
+/// Whether `try_into_string` returns a string or a text, if the result has the characters `characters`.
 fn given_back(text: Text, characters: &str) -> &'static str {
     let (form, is_kept) = match text.try_into_string() {
         Ok(string) => ("string", string.as_str() == characters),

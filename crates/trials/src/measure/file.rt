@@ -1,4 +1,4 @@
-//! A file read in three ways: its units only, through a `FileSource` to its end, and by `load_any`.
+//! A file read in three ways: only its units, through a `FileSource` to its end, and by `load_any`.
 use super::rate::megabytes;
 use anyhow::{Result, bail};
 use o5_codec::{Decoder, read_number};
@@ -9,7 +9,7 @@ use std::alloc::Global;
 use std::rt::Clock;
 use std::time::Instant;
 
-/// The bytes of the header of o5 files.
+/// The number of bytes of the header of an o5 file.
 const HEADER: usize = 7;
 
 /// Reads each line by itself, and returns the number of versions.
@@ -29,7 +29,7 @@ fn read_lines(alloc: Global, bytes: &[u8]) -> Result<u64> {
     Ok(versions)
 }
 
-/// The kind of object of a type byte.
+/// The kind of object that a type byte means, if it means one.
 fn kind_of(byte: u8) -> Option<Kind> {
     match byte {
         0x10 => Some(Kind::Node),
@@ -69,7 +69,7 @@ fn read_data_sets(alloc: Global, bytes: &[u8]) -> Result<u64> {
     Ok(versions)
 }
 
-/// Reads only the units of a file.
+/// Reads only the units of a file, and returns the number of versions.
 fn read_units(alloc: Global, bytes: &[u8], format: Format) -> Result<u64> {
     match format {
         Format::Opl => read_lines(alloc, bytes),
@@ -90,7 +90,7 @@ fn read_source(alloc: Global, bytes: &[u8]) -> Result<u64> {
     }
 }
 
-/// Measures how fast a file with these bytes is read.
+/// Measures how fast a file that has the bytes `bytes` is read.
 pub fn measure<R: Clock + AllocGlobal>(rt: &R, bytes: &[u8]) -> Result<String> {
     let alloc = rt.alloc();
     let size = bytes.len() as u64;

@@ -9,10 +9,10 @@ use std::fmt::Write;
 use std::rt::Clock;
 use std::time::Instant;
 
-/// The bytes of a megabyte.
+/// The number of bytes of a megabyte.
 pub const MEGABYTE: u64 = 1_000_000;
 
-/// Appends the fields that every line begins with, as osmium writes them.
+/// Appends the fields that every line begins with, in the form that osmium writes.
 fn append_front(text: &mut String, letter: char, number: u32) -> Result<()> {
     write!(
         text,
@@ -81,7 +81,7 @@ fn samples(alloc: Global, bytes: u64) -> Result<String> {
     Ok(text)
 }
 
-/// The versions of all lines.
+/// The versions of all lines of `text`.
 fn read_all(alloc: Global, text: &str) -> Result<Vec<Version>> {
     let mut versions = Vec::new(alloc);
     for line in text.lines() {
@@ -92,12 +92,12 @@ fn read_all(alloc: Global, text: &str) -> Result<Vec<Version>> {
     Ok(versions)
 }
 
-/// The number of lines that end in these bytes.
+/// The number of lines that end within `bytes`.
 fn count_lines(bytes: &[u8]) -> usize {
     bytes.iter().filter(|byte| **byte == b'\n').count()
 }
 
-/// Makes `bytes` bytes of lines and measures them.
+/// Makes at least `bytes` bytes of lines, and measures how fast they are read, written and passed over.
 pub fn measure<R: Clock + AllocGlobal>(rt: &R, bytes: u64) -> Result<String> {
     let alloc = rt.alloc();
     let text = samples(alloc, bytes)?;

@@ -1,4 +1,4 @@
-//! Nodes read from data sets, with users by reference.
+//! Nodes read from data sets, most of whose users are references.
 use super::rate::rate;
 use anyhow::Result;
 use o5_codec::Decoder;
@@ -27,7 +27,7 @@ fn append_number(content: &mut Vec<u8>, number: u64) -> Result<()> {
     Ok(())
 }
 
-/// Appends a signed number: 0, -1, 1, -2 and so on are 0, 1, 2, 3 and so on.
+/// Appends a signed number: the unsigned numbers 0, 1, 2, 3 and so on encode 0, -1, 1, -2 and so on.
 fn append_signed(content: &mut Vec<u8>, number: i32) -> Result<()> {
     let size = u64::from(number.unsigned_abs());
     if number < 0 {
@@ -37,7 +37,7 @@ fn append_signed(content: &mut Vec<u8>, number: i32) -> Result<()> {
     }
 }
 
-/// Appends the user: inline for the first node of each, and by reference for the others.
+/// Appends the user of a node: inline for the first node of each user, and by reference for the others.
 fn append_user(content: &mut Vec<u8>, number: u32) -> Result<()> {
     if number >= USERS {
         return append_number(content, u64::from(number % USERS) + 1);
@@ -64,6 +64,7 @@ fn node(alloc: Global, number: u32) -> Result<Vec<u8>> {
     Ok(content)
 }
 
+/// The contents of the data sets of `count` nodes.
 fn nodes(alloc: Global, count: u32) -> Result<Vec<Vec<u8>>> {
     let mut nodes = Vec::new(alloc);
     for number in 0..count {
@@ -86,7 +87,7 @@ fn read_all(alloc: Global, nodes: &[Vec<u8>]) -> Result<u64> {
     Ok(count)
 }
 
-/// Makes `count` nodes and measures how fast they are read.
+/// Makes `count` nodes, and measures how fast they are read.
 pub fn measure<R: Clock + AllocGlobal>(rt: &R, count: u32) -> Result<String> {
     let alloc = rt.alloc();
     let nodes = nodes(alloc, count)?;

@@ -8,7 +8,7 @@ use std::alloc::Global;
 use std::rt::Clock;
 use std::time::Instant;
 
-/// The versions of a file of changes.
+/// The number of versions of a file of changes.
 const CHANGES: u32 = 10_000;
 
 /// A version of a node, with the metadata that osmium writes.
@@ -39,7 +39,7 @@ fn file(alloc: Global, count: u32, apart: u32, number: u64) -> Result<Vec<u8>> {
     Ok(bytes)
 }
 
-/// The sum of the numbers of the versions that a mirror holds: a pass over them.
+/// The sum of the version numbers of the versions that a mirror holds. It takes one pass over the versions.
 fn pass(mirror: &Mirror) -> u64 {
     let history = mirror.held();
     let mut sum: u64 = 0;

@@ -11,7 +11,7 @@ use std::time::Instant;
 /// The number of passes of each measure over all versions.
 const ROUNDS: u64 = 10;
 
-/// The bytes after which a buffer of lines is emptied.
+/// The number of bytes after which a buffer of lines is emptied.
 pub const BUFFER: usize = 65536;
 
 /// The two tags that every tenth version has.
@@ -24,6 +24,7 @@ fn tags(alloc: Global, number: u32) -> Result<Tags> {
     Ok(Tags::from_vec(tags))
 }
 
+/// The body of a node, or of a way with 10 references for every eighth number.
 fn body(alloc: Global, number: u32) -> Result<Body> {
     let tags = tags(alloc, number)?;
     if number % 8 != 7 {
@@ -44,7 +45,7 @@ fn body(alloc: Global, number: u32) -> Result<Body> {
     })
 }
 
-/// A version as osmium writes them, of which every eighth is a way.
+/// A version with metadata like that of osmium's files. Every eighth version is a way.
 fn version(alloc: Global, number: u32) -> Result<Version> {
     let meta = Meta {
         version: 1 + u64::from(number % 5),
@@ -56,6 +57,7 @@ fn version(alloc: Global, number: u32) -> Result<Version> {
     Ok(Version::new(alloc, i64::from(number) + 1, meta, body(alloc, number)?)?)
 }
 
+/// `count` versions, whose ids ascend.
 fn versions(alloc: Global, count: u32) -> Result<Vec<Version>> {
     let mut versions = Vec::new(alloc);
     for number in 0..count {
@@ -64,7 +66,7 @@ fn versions(alloc: Global, count: u32) -> Result<Vec<Version>> {
     Ok(versions)
 }
 
-/// The number of neighbours that ascend.
+/// The number of pairs of neighbours whose second version is greater than the first.
 fn ascents(versions: &[Version]) -> u64 {
     let mut count: u64 = 0;
     for pair in versions.windows(2) {
@@ -77,7 +79,7 @@ fn ascents(versions: &[Version]) -> u64 {
     count
 }
 
-/// Appends all lines to a buffer that is emptied now and then, and returns the number of bytes.
+/// Appends the lines of all versions to a buffer that is emptied after `BUFFER` bytes. Returns the number of bytes.
 pub fn append_lines(alloc: Global, versions: &[Version]) -> Result<u64> {
     let mut buffer = Vec::with_capacity(alloc, 2 * BUFFER)?;
     let mut bytes: u64 = 0;
@@ -92,7 +94,7 @@ pub fn append_lines(alloc: Global, versions: &[Version]) -> Result<u64> {
     Ok(bytes.saturating_add(buffer.len() as u64))
 }
 
-/// All lines.
+/// The lines of all versions.
 fn all_lines(alloc: Global, versions: &[Version]) -> Result<Vec<u8>> {
     let mut lines = Vec::new(alloc);
     for version in versions {
@@ -102,7 +104,7 @@ fn all_lines(alloc: Global, versions: &[Version]) -> Result<Vec<u8>> {
     Ok(lines)
 }
 
-/// Copies all lines into a buffer that is emptied now and then, and returns the number of bytes.
+/// Copies all lines into a buffer that is emptied after `BUFFER` bytes. Returns the number of bytes.
 fn copy_lines(alloc: Global, lines: &[u8]) -> Result<u64> {
     let mut buffer = Vec::with_capacity(alloc, 2 * BUFFER)?;
     let mut bytes: u64 = 0;
@@ -114,7 +116,7 @@ fn copy_lines(alloc: Global, lines: &[u8]) -> Result<u64> {
     Ok(bytes)
 }
 
-/// Makes `count` versions and measures them.
+/// Makes `count` versions, and measures how fast they are compared, appended and copied.
 pub fn measure<R: Clock + AllocGlobal>(rt: &R, count: u32) -> Result<String> {
     let alloc = rt.alloc();
     let versions = versions(alloc, count)?;

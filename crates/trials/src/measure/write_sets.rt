@@ -14,6 +14,7 @@ const ROUNDS: u64 = 5;
 /// The number of users.
 const USERS: u32 = 2000;
 
+/// Made-up metadata, which depends on `number`.
 fn meta(alloc: Global, number: u32) -> Result<Meta> {
     let user = number % USERS;
     let name = format!(in alloc; "mapper_{user}")?;
@@ -26,6 +27,7 @@ fn meta(alloc: Global, number: u32) -> Result<Meta> {
     })
 }
 
+/// A made-up node without tags, which depends on `number`.
 fn node(alloc: Global, number: u32) -> Result<Version> {
     let place = (number % 10_000) as i32;
     let body = Body::Node {
@@ -36,6 +38,7 @@ fn node(alloc: Global, number: u32) -> Result<Version> {
     Ok(Version::new(alloc, i64::from(number) + 1, meta(alloc, number)?, body)?)
 }
 
+/// A made-up way with eight references and four tags, which depends on `number`.
 fn way(alloc: Global, number: u32) -> Result<Version> {
     let name = format!(in alloc; "Street {}", number % 3000)?;
     let tags = vec![in alloc;
@@ -55,6 +58,7 @@ fn way(alloc: Global, number: u32) -> Result<Version> {
     Ok(Version::new(alloc, i64::from(number) + 1, meta(alloc, number)?, body)?)
 }
 
+/// `count` nodes, whose ids ascend.
 fn nodes(alloc: Global, count: u32) -> Result<Vec<Version>> {
     let mut nodes = Vec::new(alloc);
     for number in 0..count {
@@ -63,6 +67,7 @@ fn nodes(alloc: Global, count: u32) -> Result<Vec<Version>> {
     Ok(nodes)
 }
 
+/// `count` ways, whose ids ascend.
 fn ways(alloc: Global, count: u32) -> Result<Vec<Version>> {
     let mut ways = Vec::new(alloc);
     for number in 0..count {
@@ -71,14 +76,14 @@ fn ways(alloc: Global, count: u32) -> Result<Vec<Version>> {
     Ok(ways)
 }
 
-/// Writes all versions, whose kinds may not fall, and returns the number of bytes.
+/// Writes all versions, whose kinds have to ascend, and returns the number of bytes.
 fn write_all(alloc: Global, versions: &[Version]) -> Result<u64> {
     let mut encoder = Encoder::new(alloc)?;
     let mut last = Kind::Node;
     let mut out = Vec::new(alloc);
     let mut size: u64 = 0;
     for version in versions {
-        if version.kind().rank() < last.rank() {
+        if version.kind().index() < last.index() {
             bail!("the kinds fall");
         }
         out.clear();
@@ -89,7 +94,7 @@ fn write_all(alloc: Global, versions: &[Version]) -> Result<u64> {
     Ok(size)
 }
 
-/// Writes all versions several times, and returns the versions a second and the bytes of one time.
+/// Writes all versions `ROUNDS` times, and returns the versions per second and the bytes of one pass.
 fn measure_writing<R: Clock + AllocGlobal>(rt: &R, versions: &[Version]) -> Result<(u128, u64)> {
     let start = Instant::now(rt)?;
     let mut size: u64 = 0;

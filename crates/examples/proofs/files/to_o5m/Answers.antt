@@ -1,6 +1,6 @@
 use Rattle.std.proofs.Common.{◌∙◌, ap, subst, []}
 use Rattle.osm_files.specs.Held.{Holds}
-use Rattle.osm_files.specs.Input.{Coming, whole_input}
+use Rattle.osm_files.specs.Input.{InputRest, whole_input}
 use Rattle.examples.proofs.files.to_o5m.Goals as goal
 
 pub returns : goal.returns
@@ -9,7 +9,7 @@ returns c =
     let loaded = c.in_ok-loaded.ensures.loaded in
     let written = c.in_ok-write_history.ensures.written in (
       held,
-      subst (λ (given : Coming). Holds given.bytes held) (loaded.1 ∙ ap whole_input c.new.ensures) loaded.2.holds,
+      subst (λ (given : InputRest). Holds given.bytes held) (loaded.1 ∙ ap whole_input c.new.ensures) loaded.2.holds,
       c.into_vec.ensures
           ∙ written.appended [] c.new-output.ensures.bytes,
     )

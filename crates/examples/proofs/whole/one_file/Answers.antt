@@ -2,16 +2,16 @@ use Rattle.std.proofs.Common.{◌≡◌, ◌∙◌, subst, ℕ, List, [], ◌∷
 use Rattle.osm_model.specs.VersionSet.{VersionSet}
 use Rattle.osm_model.specs.Pairwise.{Pairwise}
 use Rattle.osm_files.specs.Held.{HoldsSorted}
-use Rattle.osm_files.specs.Input.{Coming, whole_input}
+use Rattle.osm_files.specs.Input.{InputRest, whole_input}
 use Rattle.osm_merge.specs.Giving.{AllGive}
 use Rattle.osm_mirror.specs.Merge.{GivesSorted}
 use Rattle.examples.proofs.whole.one_file.Goals as goal
 
--- an input over bytes gives these
-abbrev GivesBytes : List ℕ → Coming → Type 0
+-- an input gives these bytes and then its end
+abbrev GivesBytes : List ℕ → InputRest → Type 0
 GivesBytes bytes given = given ≡ whole_input bytes
 
-all_hold : (files : List (List ℕ)) (all : List Coming) (held : List VersionSet) → AllGive GivesBytes files all →
+all_hold : (files : List (List ℕ)) (all : List InputRest) (held : List VersionSet) → AllGive GivesBytes files all →
     Pairwise GivesSorted all held → Pairwise HoldsSorted files held
 all_hold [] [] [] gives sorted = tt
 all_hold [] [] (set ∷ held) gives sorted = sorted
@@ -19,7 +19,7 @@ all_hold [] (given ∷ all) held gives sorted = absurd gives
 all_hold (file ∷ files) [] held gives sorted = absurd gives
 all_hold (file ∷ files) (given ∷ all) [] gives sorted = sorted
 all_hold (file ∷ files) (given ∷ all) (set ∷ held) gives sorted =
-    (subst (λ (c : Coming). HoldsSorted c.bytes set) gives.0 sorted.0.file, all_hold files all held gives.1 sorted.1)
+    (subst (λ (c : InputRest). HoldsSorted c.bytes set) gives.0 sorted.0.file, all_hold files all held gives.1 sorted.1)
 
 pub returns : goal.returns
 returns c =

@@ -1,6 +1,5 @@
-use Rattle.std.proofs.Common.{◌≡◌, ◌+◌, length, take, arith, rules, sym, ◌∙◌}
+use Rattle.std.proofs.Common.{◌+◌, take, arith, rules, sym, ◌∙◌}
 use Rattle.std.proofs.lemmas.Result.{IfOk-weaker}
-use Rattle.osm_files.specs.Lines.{LeadsTo}
 use Rattle.osm_files.proofs.LineStarts.{scans_on, scan_finds}
 use Rattle.osm_files.proofs.lines.next_line_start.Goals as goal
 

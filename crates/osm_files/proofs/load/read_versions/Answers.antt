@@ -4,7 +4,7 @@ use Rattle.std.proofs.lemmas.Result.{err_from_is_err_and}
 use Rattle.osm_model.specs.Data.{VersionData}
 use Rattle.osm_model.specs.Order.{key_cmp}
 use Rattle.osm_files.specs.Load.{format_of}
-use Rattle.osm_files.specs.Position.{Position, KnownPosition, with_coming, bytes_ahead, units_or_failed, GoesOn}
+use Rattle.osm_files.specs.Position.{Position, KnownPosition, with_coming, rest_of_bytes, units_or_failed, KeepsRest}
 use Rattle.osm_files.specs.Source.{SourceStep}
 use Rattle.osm_files.specs.Stream.{Placed}
 use Rattle.osm_files.proofs.LoadLaws.{LoadsOn, fresh, load_step, load_ends, load_stops, is_read, stops, stops_at_once, loads_begin}
@@ -15,14 +15,14 @@ pub units-init : goal.units-init
 units-init g c =
     rw c.requires.empty (record {
       loads = λ later k. (
-          let z = c.in_ok-format.ensures.tells later k in
+          let z = c.in_ok-format.ensures.shown later k in
           let begins = ap (λ (v : Position _). with_coming v z.0) c.requires.begins in (
             z.0,
             subst (λ (v : Position _). g.R.Input.can_give v.coming z.0) c.requires.begins z.1,
             (
               loads_begin (fresh c.args.reading.now.input (Some z.0)) (with_coming c.format.new.self later)
-                  (subst (λ (q : KnownPosition). GoesOn q (with_coming c.format.new.self later)) begins z.2.0) refl,
-              subst (λ (q : KnownPosition). IfSome (bytes_ahead q) (λ x. c.in_ok-format.format ≡ format_of x.bytes)) begins z.2.1,
+                  (subst (λ (q : KnownPosition). KeepsRest q (with_coming c.format.new.self later)) begins z.2.0) refl,
+              subst (λ (q : KnownPosition). IfSome (rest_of_bytes q) (λ x. c.in_ok-format.format ≡ format_of x.bytes)) begins z.2.1,
             ),
           ));
       sorted = (λ t k d from within. absurd (omega (arith, within)), λ s. refl);

@@ -29,7 +29,7 @@ puts-init g c =
     )
 
 pub put-requires-clause-open : goal.put-requires-clause-open
-put-requires-clause-open g c = (ap (λ s. s.begun) c.puts.invariant.0.state, ap (λ s. s.ended) c.puts.invariant.0.state)
+put-requires-clause-open g c = (ap (λ s. s.has_begun) c.puts.invariant.0.state, ap (λ s. s.ended) c.puts.invariant.0.state)
 
 pub put-requires-clause-follows : goal.put-requires-clause-follows
 put-requires-clause-follows g c = λ going.
@@ -76,7 +76,7 @@ puts-preserved g c =
     )
 
 pub end-requires : goal.end-requires
-end-requires g c = (ap (λ s. s.begun) c.puts.invariant.0.state, ap (λ s. s.ended) c.puts.invariant.0.state)
+end-requires g c = (ap (λ s. s.has_begun) c.puts.invariant.0.state, ap (λ s. s.ended) c.puts.invariant.0.state)
 
 pub returns-clause-written : goal.returns-clause-written
 returns-clause-written g c =

@@ -10,11 +10,11 @@ use std::{io, str};
 
 /// A clock that a test sets.
 #[derive(Drop)]
-struct Still {
+struct SourceRest {
     milliseconds: Cell<u64>,
 }
 
-impl Clock for Still {
+impl Clock for SourceRest {
     fn monotonic(&self) -> io::Result<Duration> {
         Ok(Duration::from_millis(self.milliseconds.get()))
     }
@@ -69,8 +69,8 @@ impl OpenFile for Thousand {
     }
 }
 
-/// Reads 100 bytes at each of these times.
-fn read_at(clock: &Still, screen: &mut Screen, times: &[u64]) {
+/// Reads 100 bytes at each of `times`.
+fn read_at(clock: &SourceRest, screen: &mut Screen, times: &[u64]) {
     let files: [Option<Stream<Thousand, Empty>>; 1] = [Some(Stream::File(Thousand))];
     let meter = Meter::new(clock, screen, true);
     meter.read_files(&files);
@@ -82,9 +82,9 @@ fn read_at(clock: &Still, screen: &mut Screen, times: &[u64]) {
     }
 }
 
-/// What is reported of reads at these times.
+/// The reports of a run that reads 100 bytes at each of `times`.
 fn reports(alloc: Global, is_terminal: bool, times: &[u64]) -> String {
-    let clock = Still {
+    let clock = SourceRest {
         milliseconds: Cell::new(0),
     };
     let mut screen = Screen {

@@ -10,7 +10,7 @@ put_byte-start-requires-clause-fits c =
     let more = length-numeral-step 16 c.loop-rest.rest (omega arith) c.loop-rest-test.true in
     omega arith
 
--- one digit of several
+-- the next digit of a number that has several
 next_digit : (rest digit : ℕ) (all here next : List ℕ) → 16 ≤ rest → all ≡ numeral 16 rest ++ here → digit ≡ digit_char (rest % 16) →
     next ≡ digit ∷ here →
     all ≡ numeral 16 (rest / 16) ++ next

@@ -4,7 +4,7 @@ use mir.Val.{SFits}
 use mir.Syntax.{w64}
 use Rattle.std.proofs.lemmas.Result.{err_from_is_err_and}
 use Rattle.o5_codec.specs.Body.{reference_at}
-use Rattle.o5_codec.proofs.ItemSteps.{items_begin, items_end, items_more, items_wanting, empty_by_test, filled_by_test}
+use Rattle.o5_codec.proofs.ItemSteps.{items_begin, items_end, items_more, items_fail, empty_by_test, filled_by_test}
 use Rattle.o5_codec.proofs.segment.Segment.read_references.Goals as goal
 
 pub loop-rest-init : goal.loop-rest-init
@@ -13,7 +13,7 @@ loop-rest-init c = rw c.in_ok-ids.ensures (items_begin reference_at c.args.self.
 pub returns-in_err-id : goal.returns-in_err-id
 returns-in_err-id c =
     let p = err_from_is_err_and c.from_residual-in_err-id.result c.from_residual-in_err-id.ensures.1 in
-    rw (p.1, p.2) (items_wanting reference_at _ _ _ _ _ _ c.loop-rest.invariant (filled_by_test _ c.loop-rest-test.ensures)
+    rw (p.1, p.2) (items_fail reference_at _ _ _ _ _ _ c.loop-rest.invariant (filled_by_test _ c.loop-rest-test.ensures)
     (inr c.in_err-id.ensures.value))
 
 pub loop-rest-preserved : goal.loop-rest-preserved

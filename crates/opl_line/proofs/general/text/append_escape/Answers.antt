@@ -4,7 +4,7 @@ use Rattle.std.specs.String.{string_bytes}
 use Rattle.std.specs.Char.{encode_utf8}
 use Rattle.opl_line.specs.declared.bytes.cut.Delimiter.TheVariants.{Percents}
 use Rattle.opl_line.specs.Delimiter.{is_end, split_first, split_all, pieces_of}
-use Rattle.opl_line.specs.Text.{stands_for_itself, scalar_of, text_from}
+use Rattle.opl_line.specs.Text.{is_literal, scalar_of, text_from}
 use Rattle.opl_line.proofs.CutLaws.{cut_split}
 use Rattle.opl_line.proofs.TextLaws.{never_ended, bad_scalar, bad_raw, one_escape}
 use Rattle.opl_line.proofs.general.text.append_escape.Goals as goal
@@ -29,7 +29,7 @@ pub returns-in_default-split_accepted-clause-text : goal.returns-in_default-spli
 returns-in_default-split_accepted-clause-text c =
     let e : split_all (is_end Percents) c.args.escape.now ≡ c.split.result.0.now ∷ split_all (is_end Percents) c.in_default-Some.behind.now =
     search rules in
-    let other : list_all stands_for_itself (split_first (is_end Percents) c.in_default-Some.behind.now).0 ≡ false = search rules in
+    let other : list_all is_literal (split_first (is_end Percents) c.in_default-Some.behind.now).0 ≡ false = search rules in
     inr (
       refl,
       bad_raw (string_bytes c.args.out.now) c.split.result.0.now _ _ _ _ e
@@ -40,7 +40,7 @@ pub returns-clause-text : goal.returns-clause-text
 returns-clause-text c =
     let e : split_all (is_end Percents) c.args.escape.now ≡ c.split.result.0.now ∷ split_all (is_end Percents) c.in_default-Some.behind.now =
     search rules in
-    let raw : list_all stands_for_itself c.in-Some-split_accepted.raw.now ≡ true = search rules in
+    let raw : list_all is_literal c.in-Some-split_accepted.raw.now ≡ true = search rules in
     let parts : split_first (is_end Percents) c.in_default-Some.behind.now
     ≡ (c.in-Some-split_accepted.raw.now, option_copied c.in-Some-split_accepted.more) = search rules in
     let f : split_all (is_end Percents) c.in_default-Some.behind.now ≡ c.in-Some-split_accepted.raw.now

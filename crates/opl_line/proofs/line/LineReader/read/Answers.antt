@@ -3,7 +3,7 @@ use Rattle.std.specs.Str.{IsUtf8}
 use Rattle.osm_model.specs.Data.{VersionData}
 use Rattle.opl_line.specs.declared.reason.OplReason.{OplReason}
 use Rattle.opl_line.specs.declared.reason.OplReason.TheVariants.{NotUtf8}
-use Rattle.opl_line.specs.Answer.{OplAnswers, as_value}
+use Rattle.opl_line.specs.Answer.{OplReads, as_value}
 use Rattle.opl_line.specs.Reading.{is_skipped, reading_version, reading_line}
 use Rattle.opl_line.proofs.ReadingLaws.{not_utf8, utf8_line, as_answer}
 use Rattle.opl_line.proofs.SpellsLaws.{answer_spelled, answer_refused}
@@ -19,14 +19,14 @@ returns-then-is_skipped c =
 pub returns-in-Some : goal.returns-in-Some
 returns-in-Some c =
     let answer : Result (Option VersionData) OplReason = Ok (Some c.in-Some.version) in
-    let reading : OplAnswers (reading_line c.args.line.now) answer = c.in-Some.ensures in
+    let reading : OplReads (reading_line c.args.line.now) answer = c.in-Some.ensures in
     record { reading = reading; spelled = answer_spelled c.args.line.now answer reading; refused = tt; reason = tt }
 
 pub returns-in_default-to_str : goal.returns-in_default-to_str
 returns-in_default-to_str c =
     let kept : is_skipped c.args.line.now ≡ false = search rules in
     let answer : Result (Option VersionData) OplReason = Err NotUtf8 in
-    let reading : OplAnswers (reading_line c.args.line.now) answer = inr (not_utf8 c.args.line.now kept c.in_default-to_str.ensures) in
+    let reading : OplReads (reading_line c.args.line.now) answer = inr (not_utf8 c.args.line.now kept c.in_default-to_str.ensures) in
     record {
       reading = reading;
       spelled = tt;
@@ -42,9 +42,9 @@ returns c =
     let text : c.in-Some-to_str.text.now ≡ c.args.line.now = search rules in
     let some : VersionData → Option VersionData = λ v. Some v in
     let mapped : c.map.result ≡ as_value some c.read_version.result = search rules in
-    let P : Result (Option VersionData) OplReason → Type 0 = λ r. OplAnswers r c.map.result in
-    let Q : Result (Option VersionData) OplReason → Type 0 = OplAnswers (as_value some (reading_version c.in-Some-to_str.text.now)) in
-    let reading : OplAnswers (reading_line c.args.line.now) c.map.result =
+    let P : Result (Option VersionData) OplReason → Type 0 = λ r. OplReads r c.map.result in
+    let Q : Result (Option VersionData) OplReason → Type 0 = OplReads (as_value some (reading_version c.in-Some-to_str.text.now)) in
+    let reading : OplReads (reading_line c.args.line.now) c.map.result =
     subst P (ap (λ t. as_value some (reading_version t)) text ∙ sym (utf8_line c.args.line.now kept utf8))
     (subst Q (sym mapped) (as_answer some _ _ c.read_version.ensures)) in
     record {

@@ -4,7 +4,7 @@ use Rattle.osm_model.specs.Data.{VersionData}
 use Rattle.osm_files.specs.declared.fault.Fault.{Fault}
 use Rattle.osm_files.specs.Groups.{set_given}
 use Rattle.osm_files.specs.Source.{SourceStep}
-use Rattle.osm_files.specs.Stream.{Still}
+use Rattle.osm_files.specs.Stream.{SourceRest}
 use Rattle.osm_files.proofs.GivenLaws.{given_rises, given_step, given_fewer}
 use Rattle.osm_files.proofs.history_source.HistorySourceSource.next.Goals as goal
 
@@ -17,7 +17,7 @@ returns-clause-step c = λ later is.
     let before = set_given c.args.self.now in (
       before,
       refl,
-      subst (λ (s : Still VersionData Fault). SourceStep (Some before) (Ok c.next.result) (Some s)) (sym is) (
+      subst (λ (s : SourceRest VersionData Fault). SourceStep (Some before) (Ok c.next.result) (Some s)) (sym is) (
           given_step c.args.self.now (into_iter_items c.self.inside.versions)
           (into_iter_items c.next.new.self) c.self.view_is c.self.invariant c.next.result _ c.next.ensures.items
           c.self.inside.versions.rest.ok.0 c.next.ensures.variant),

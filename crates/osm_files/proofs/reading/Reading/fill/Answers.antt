@@ -12,7 +12,7 @@ returns-in-Ok-eq0-clause-on g c =
     let is = c.self.view_is in
     let more = c.in-Ok-eq0.ensures.gave in
     let none : c.read_more.result ≡ Ok 0 = rw c.in-Ok-eq0.field-0-test at c.in-Ok-eq0.is in
-    fill_ended can c.args.self.now _ more.0 c.requires refl (ap (λ v. v.input) is) (ap (λ v. v.place) is) (ap (λ v. v.stand) is)
+    fill_ended can c.args.self.now _ more.0 c.requires refl (ap (λ v. v.input) is) (ap (λ v. v.place) is) (ap (λ v. v.stage) is)
     (ap (λ v. v.failed) is) (more.2 ∙ ap (λ v. v.held ++ more.0) is) (more.3 ∙ c.in-Ok-eq0.field-0-test)
     (subst (λ (v : Position _). can v.coming (whole_input [])) is (c.read_more.ensures.end none))
 

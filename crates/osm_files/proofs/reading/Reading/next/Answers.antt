@@ -80,9 +80,9 @@ returns-in-Ok-None-clause-step g c =
     let q = c.read_held.new.self in
     let found = none_found m q c.in-Ok-None.field-0 c.in-Ok-None.field-0-is c.in-Ok-None.ensures.found in
     let same = none_same m q found in
-    steps_from g.R.Input.can_give c.args.self.now q c.last.new.self c.last.result
+    steps_from g.R.Input.can_give c.args.self.now q c.finish_input.new.self c.finish_input.result
     (gone_none g.R.Input.can_give c.args.self.now m q c.units.invariant.on found same.0 same.1 same.2 same.3)
-    (sym (ap (λ v. v.failed) c.self.view_is) ∙ c.if-self.false) c.last.ensures.step
+    (sym (ap (λ v. v.failed) c.self.view_is) ∙ c.if-self.false) c.finish_input.ensures.step
 
 pub units-preserved : goal.units-preserved
 units-preserved g c =
@@ -98,7 +98,7 @@ units-preserved g c =
           (gone_none g.R.Input.can_give c.args.self.now m q c.units.invariant.on found same.0 same.1 same.2 same.3) read.on
           c.fill.ensures.number;
       within = omega (arith, size, ap length read.kept, length-take (length q.held) c.fill.new.self.held);
-      none = rw size (none_still m q c.fill.new.self found read.on.stand read.kept);
+      none = rw size (none_still m q c.fill.new.self found read.on.stage read.kept);
     }
 
 pub returns-in_err-fill-in-Ok-None-2-clause-step : goal.returns-in_err-fill-in-Ok-None-2-clause-step

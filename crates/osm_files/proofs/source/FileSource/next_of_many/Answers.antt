@@ -22,7 +22,7 @@ returns-in-Err-clause-step g c =
     (memory_step g.R.Input.can_give (source_data i.units group []) new c.refuse.result c.refuse.ensures.fault c.refuse.ensures.failed
     (ap (λ v. v.ready) c.self.view_is ∙ c.requires.nothing))
 
--- the group that starts with the two is theirs
+-- the versions after the first have its key
 abbrev AreGroup : List VersionData → Type 0
 AreGroup [] = Unit {0}
 AreGroup (first ∷ others) = IsGroup first others

@@ -1,4 +1,4 @@
-use Rattle.std.proofs.Common.{◌≡◌, sym, ◌∙◌, rules}
+use Rattle.std.proofs.Common.{sym, ◌∙◌}
 use Rattle.osm_merge.proofs.WithinLaws.{drop_gives, drop_ends, drop_refused}
 use Rattle.osm_merge.proofs.within.Within.next_dropping.Goals as goal
 

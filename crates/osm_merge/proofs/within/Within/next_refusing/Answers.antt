@@ -1,5 +1,5 @@
-use Rattle.std.proofs.Common.{◌≡◌, sym, ◌∙◌, rules}
-use Rattle.osm_merge.proofs.WithinLaws.{piece_gives, piece_ends, piece_strays, piece_refused}
+use Rattle.std.proofs.Common.{sym, ◌∙◌}
+use Rattle.osm_merge.proofs.WithinLaws.{piece_gives, piece_strays, piece_refused}
 use Rattle.osm_merge.proofs.within.Within.next_refusing.Goals as goal
 
 pub returns-in-Err-clause-step : goal.returns-in-Err-clause-step

@@ -2,7 +2,7 @@ use Rattle.std.proofs.Common.{sym, subst}
 use Rattle.osm_files.specs.Source.{SourceSteps}
 use Rattle.osm_mirror.specs.declared.source.RunSource.{RunSource}
 use Rattle.osm_mirror.specs.declared.source.RunSource.TheVariants.{Streamed, Held}
-use Rattle.osm_mirror.specs.Still.{SourceCanGive}
+use Rattle.osm_mirror.specs.SourceRest.{SourceCanGive}
 use Rattle.osm_mirror.proofs.source.RunSourceSource.next.Goals as goal
 
 pub returns-in-Streamed-clause-step : goal.returns-in-Streamed-clause-step

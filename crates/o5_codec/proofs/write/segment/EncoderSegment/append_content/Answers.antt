@@ -3,11 +3,11 @@ use Rattle.std.proofs.lemmas.Int.{to_z-of_z}
 use mir.Val.{SFits}
 use mir.Syntax.{w64}
 use Rattle.o5_codec.proofs.TurnSteps.{turn_next, turn_last, plainly}
-use Rattle.o5_codec.specs.Writing.{content_written}
+use Rattle.o5_codec.specs.Writing.{content_spelling}
 use Rattle.o5_codec.proofs.write.segment.EncoderSegment.append_content.Goals as goal
 
 pub returns : goal.returns
-unfolding content_written
+unfolding content_spelling
 returns c =
     let fits : SFits w64 c.id.result = search rules in
     let own = simp to_z-of_z at c.in_ok-append_id.ensures in

@@ -1,7 +1,7 @@
 use Rattle.std.proofs.Common.{◌∷◌, ◌+◌, ◌∙◌, ap, sym, drop}
 use Rattle.std.proofs.lemmas.List.{drop_more, drop_all}
 use Rattle.o5_codec.proofs.TurnSteps.{turns_begin, turns_more, turns_end, member_at}
-use Rattle.o5_codec.specs.Writing.{members_written}
+use Rattle.o5_codec.specs.Writing.{members_spelling}
 use Rattle.o5_codec.proofs.write.segment.EncoderSegment.append_each_member.Goals as goal
 
 pub loop-member-init : goal.loop-member-init
@@ -19,5 +19,5 @@ loop-member-preserved c =
     c.in_ok-append_member.ensures
 
 pub returns : goal.returns
-unfolding members_written
+unfolding members_spelling
 returns c = turns_end _ _ _ _ _ _ _ c.loop-member.invariant (drop_all _ _ c.loop-member-test.false)

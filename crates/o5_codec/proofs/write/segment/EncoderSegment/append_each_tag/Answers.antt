@@ -1,7 +1,7 @@
 use Rattle.std.proofs.Common.{◌∷◌, ◌+◌, ◌∙◌, ap, sym, drop}
 use Rattle.std.proofs.lemmas.List.{drop_more, drop_all}
 use Rattle.o5_codec.proofs.TurnSteps.{turns_begin, turns_more, turns_end}
-use Rattle.o5_codec.specs.Writing.{tags_written}
+use Rattle.o5_codec.specs.Writing.{tags_spelling}
 use Rattle.o5_codec.proofs.write.segment.EncoderSegment.append_each_tag.Goals as goal
 
 pub loop-tag-init : goal.loop-tag-init
@@ -15,5 +15,5 @@ loop-tag-preserved c =
     (rw c.of_tag.ensures at c.in_ok-append_strings.ensures)
 
 pub returns : goal.returns
-unfolding tags_written
+unfolding tags_spelling
 returns c = turns_end _ _ _ _ _ _ _ c.loop-tag.invariant (drop_all _ _ c.loop-tag-test.false)

@@ -3,11 +3,11 @@ use Rattle.std.proofs.lemmas.Int.{to_z-of_z}
 use mir.Val.{SFits}
 use mir.Syntax.{w64}
 use Rattle.o5_codec.proofs.TurnSteps.{turn_next, turn_last}
-use Rattle.o5_codec.specs.Writing.{member_written}
+use Rattle.o5_codec.specs.Writing.{member_spelling}
 use Rattle.o5_codec.proofs.write.segment.EncoderSegment.append_member.Goals as goal
 
 pub returns : goal.returns
-unfolding member_written
+unfolding member_spelling
 returns c =
     let fits : SFits w64 c.args.member.now.id = search rules in
     let id = simp to_z-of_z at c.in_ok-append_member_id.ensures in

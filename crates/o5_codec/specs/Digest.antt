@@ -1,7 +1,0 @@
--- The digest of an entry's bytes.
-use Rattle.std.specs.Prelude.{ℕ, List}
-use Rattle.std.specs.Hash.DefaultHasher as sip
-
--- SipHash-1-3 with the key 0
-unfoldable pub digest : List ℕ → ℕ
-digest bytes = sip.finish (sip.write sip.initial bytes)

@@ -1,5 +1,0 @@
-use Rattle.opl_line.proofs.LineReasonLaws.{reason_is_told}
-use Rattle.opl_line.proofs.laws.reason_is_told.Goals as goal
-
-pub returns : goal.returns
-returns c = reason_is_told

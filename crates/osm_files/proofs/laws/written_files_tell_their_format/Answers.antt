@@ -1,5 +1,0 @@
-use Rattle.osm_files.proofs.LoadFormats.{formats_told}
-use Rattle.osm_files.proofs.laws.written_files_tell_their_format.Goals as goal
-
-pub returns : goal.returns
-returns c = formats_told
