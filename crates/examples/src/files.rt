@@ -14,7 +14,8 @@ use std::alloc::Global;
 ///
 /// The first fault of the file, which has the number 0; `TooLong` of the output, which has the number 1; or `Memory`.
 pub fn to_o5m(alloc: Global, file: &[u8]) -> Result<Vec<u8>, Fault>
-    ensures { IfOk result (λ written. (held : VersionSet) × Holds file.now held × (written.items ≡ spell format.O5m held)) }
+    ensures { IfOk result (λ written. (held : VersionSet) × Holds file.now held ×
+        (written.items ≡ spell format.O5m held)) }
 {
     let loaded = load_any(alloc, 0, SliceIn::new(file))?;
     let mut output = VecOut::new(alloc);

@@ -19,10 +19,10 @@ use Rattle.o5_codec.specs.Earlier.{times, changesets, longitudes, latitudes, ref
 use Rattle.o5_codec.specs.Earlier.{last_from, last_spelled, bases_of, has_references, has_node_members, segment_of, inline_entries}
 use Rattle.o5_codec.specs.Earlier.{SpellSets, sets_at}
 use Rattle.o5_codec.proofs.SoundStrings.{first_ok, same_value}
-use Rattle.o5_codec.proofs.AnswerSteps.{read_next}
+use Rattle.o5_codec.proofs.ResultSteps.{read_next}
 use Rattle.o5_codec.proofs.StepLaws.{set_found, set_only}
 use Rattle.o5_codec.proofs.EarlierSteps.{last_append, bases_after, set_bases, set_table}
-use Rattle.o5_codec.proofs.EarlierLists.{Told, told_as, set_seen}
+use Rattle.o5_codec.proofs.EarlierLists.{Agrees, agrees_as, set_seen}
 
 spelled_more : {X : Type 0} (x : X) (spelled : VersionData → List X) (objects : List VersionData) (v : VersionData) →
     last_from (last_spelled x spelled objects) (spelled v) ≡ last_spelled x spelled (objects ++ v ∷ [])
@@ -50,62 +50,66 @@ any_more test objects v = ap (λ b. list_any test objects || b) (sym (or-false (
 
 -- `seen` agrees with the lists that some objects have
 abbrev Lists : ListsSeen → List VersionData → Type 0
-Lists seen objects = Told seen (list_any has_references objects) (list_any has_node_members objects)
+Lists seen objects = Agrees seen (list_any has_references objects) (list_any has_node_members objects)
 
 pub lists_more : (objects : List VersionData) (s : Segment) (k : Kind) (content : List ℕ) (x : VersionData × Segment) →
     SpellsSet k s content x → Lists s.seen objects → Lists x.1.seen (objects ++ x.0 ∷ [])
 lists_more objects s k content x spells h =
-    told_as _ _ _ _ _ _ refl (any_more has_references objects x.0) (any_more has_node_members objects x.0)
+    agrees_as _ _ _ _ _ _ refl (any_more has_references objects x.0) (any_more has_node_members objects x.0)
     (set_seen k s content x (list_any has_references objects) (list_any has_node_members objects) spells h)
 
 -- the bases and the table of a segment are those of some objects and entries
-record IsTold (s : Segment) (objects : List VersionData) (entries : List EntryStrings) : Type 0 where
+record IsSegmentAfter (s : Segment) (objects : List VersionData) (entries : List EntryStrings) : Type 0 where
   bases_are : s.bases ≡ bases_of objects
   table_is : s.table ≡ table_of entries
 
 -- the same after one more data set
-told_more : (objects : List VersionData) (entries : List EntryStrings) (s : Segment) (k : Kind) (content : List ℕ) (x : VersionData × Segment) →
-    IsTold s objects entries → (spells : SpellsSet k s content x) →
-    IsTold x.1 (objects ++ x.0 ∷ []) (entries ++ inline_entries k s content x spells)
-told_more objects entries s k content x told spells = record {
-  bases_are = set_bases k s content x spells ∙ ap (λ b. bases_after b x.0) told.bases_are ∙ bases_more objects x.0;
-  table_is = set_table k s content x spells entries told.table_is;
+segment_after_more : (objects : List VersionData) (entries : List EntryStrings) (s : Segment) (k : Kind) (content : List ℕ)
+    (x : VersionData × Segment) →
+    IsSegmentAfter s objects entries → (spells : SpellsSet k s content x) →
+    IsSegmentAfter x.1 (objects ++ x.0 ∷ []) (entries ++ inline_entries k s content x spells)
+segment_after_more objects entries s k content x known spells = record {
+  bases_are = set_bases k s content x spells ∙ ap (λ b. bases_after b x.0) known.bases_are ∙ bases_more objects x.0;
+  table_is = set_table k s content x spells entries known.table_is;
 }
 
 -- the same after several more data sets
-all_told : (objects : List VersionData) (entries : List EntryStrings) (s : Segment) (sets : List (Kind × List ℕ)) (versions : List VersionData)
+segment_after_all : (objects : List VersionData) (entries : List EntryStrings) (s : Segment) (sets : List (Kind × List ℕ))
+    (versions : List VersionData)
     (inline : List EntryStrings) (end : Segment) →
-    IsTold s objects entries → Lists s.seen objects → SpellSets s sets versions inline end →
-    IsTold end (objects ++ versions) (entries ++ inline) × Lists end.seen (objects ++ versions)
-all_told objects entries s [] [] inline end told lists spells =
-    let P : List VersionData × List EntryStrings × Segment → Type 0 = λ y. IsTold y.2 y.0 y.1 × Lists y.2.seen y.0 in
+    IsSegmentAfter s objects entries → Lists s.seen objects → SpellSets s sets versions inline end →
+    IsSegmentAfter end (objects ++ versions) (entries ++ inline) × Lists end.seen (objects ++ versions)
+segment_after_all objects entries s [] [] inline end known lists spells =
+    let P : List VersionData × List EntryStrings × Segment → Type 0 = λ y. IsSegmentAfter y.2 y.0 y.1 × Lists y.2.seen y.0 in
     let none = sym (append-nil entries) ∙ ap (λ es. entries ++ es) (sym spells.0) in
-    subst P (λ i. (sym (append-nil objects) i, none i, spells.1 i)) (told, lists)
-all_told objects entries s [] (v ∷ versions) inline end told lists spells = absurd spells
-all_told objects entries s (set ∷ sets) [] inline end told lists spells = absurd spells
-all_told objects entries s (set ∷ sets) (v ∷ versions) inline end told lists (middle, later, spells, all, more) =
+    subst P (λ i. (sym (append-nil objects) i, none i, spells.1 i)) (known, lists)
+segment_after_all objects entries s [] (v ∷ versions) inline end known lists spells = absurd spells
+segment_after_all objects entries s (set ∷ sets) [] inline end known lists spells = absurd spells
+segment_after_all objects entries s (set ∷ sets) (v ∷ versions) inline end known lists (middle, later, spells, all, more) =
     let here = inline_entries set.0 s set.1 (v, middle) spells in
-    let P : List VersionData × List EntryStrings → Type 0 = λ y. IsTold end y.0 y.1 × Lists end.seen y.0 in
-    let behind = append_assoc entries here later ∙ ap (λ es. entries ++ es) (sym all) in
-    subst P (λ i. (append_assoc objects (v ∷ []) versions i, behind i))
-    (all_told (objects ++ v ∷ []) (entries ++ here) middle sets versions later end
-    (told_more objects entries s set.0 set.1 (v, middle) told spells) (lists_more objects s set.0 set.1 (v, middle) spells lists) more)
+    let P : List VersionData × List EntryStrings → Type 0 = λ y. IsSegmentAfter end y.0 y.1 × Lists end.seen y.0 in
+    let rest = append_assoc entries here later ∙ ap (λ es. entries ++ es) (sym all) in
+    subst P (λ i. (append_assoc objects (v ∷ []) versions i, rest i))
+    (segment_after_all (objects ++ v ∷ []) (entries ++ here) middle sets versions later end
+    (segment_after_more objects entries s set.0 set.1 (v, middle) known spells) (lists_more objects s set.0 set.1 (v, middle) spells lists)
+    more)
 
-new_told : IsTold new_segment [] []
-new_told = record { bases_are = refl; table_is = sym (take-nil {A = EntryStrings} table_limit) }
+segment_after_none : IsSegmentAfter new_segment [] []
+segment_after_none = record { bases_are = refl; table_is = sym (take-nil {A = EntryStrings} table_limit) }
 
 -- The segment after some data sets is determined by their versions and inline entries.
 pub from_new : (sets : List (Kind × List ℕ)) (versions : List VersionData) (inline : List EntryStrings) (end : Segment) →
     SpellSets new_segment sets versions inline end → end ≡ segment_of versions inline
 from_new sets versions inline end spells =
-    let told = all_told [] [] new_segment sets versions inline end new_told (refl, refl) spells in
-    (λ i. record { bases = told.0.bases_are i; table = told.0.table_is i; seen = told.1.0 i })
+    let known = segment_after_all [] [] new_segment sets versions inline end segment_after_none (refl, refl) spells in
+    (λ i. record { bases = known.0.bases_are i; table = known.0.table_is i; seen = known.1.0 i })
 
 -- No segment has both a way with references and a relation with a node member.
 pub not_mixed : (sets : List (Kind × List ℕ)) (versions : List VersionData) (inline : List EntryStrings) (end : Segment) →
     SpellSets new_segment sets versions inline end →
     list_any has_references versions && list_any has_node_members versions ≡ false
-not_mixed sets versions inline end spells = (all_told [] [] new_segment sets versions inline end new_told (refl, refl) spells).1.1
+not_mixed sets versions inline end spells = (segment_after_all [] [] new_segment sets versions inline end segment_after_none
+    (refl, refl) spells).1.1
 
 -- ---- reading in sequence
 pub sets_found : (s : Segment) (sets : List (Kind × List ℕ)) (x : List VersionData × Segment) → sets_at s sets ≡ Ok x →
@@ -134,7 +138,8 @@ sets_only s (set ∷ sets) (v ∷ versions) inline end (middle, later, spells, a
     ∙ read_next (sets_at middle sets) _ _ (sets_only middle sets versions later end more)
 
 -- ---- one data set after others
-pub sets_continue : (s : Segment) (sets : List (Kind × List ℕ)) (versions : List VersionData) (inline : List EntryStrings) (end : Segment) (k : Kind)
+pub sets_continue : (s : Segment) (sets : List (Kind × List ℕ)) (versions : List VersionData) (inline : List EntryStrings) (end : Segment)
+    (k : Kind)
     (content : List ℕ) (x : VersionData × Segment) →
     SpellSets s sets versions inline end → (spells : SpellsSet k end content x) →
     SpellSets s (sets ++ (k, content) ∷ []) (versions ++ x.0 ∷ []) (inline ++ inline_entries k end content x spells) x.1

@@ -37,9 +37,9 @@ same_bytes f g i j xs ys place form =
     ∙ ap (λ k. same_entry (cut f i xs) (cut g k ys)) place
 
 -- entries whose bytes differ by some measure are not the same
-pub told_apart : (measure : List ℕ → ℕ) (f g : Form) (i j : ℕ) (xs ys : List ℕ) → (measure xs ≡ measure ys → ⊥) →
+pub differ_by : (measure : List ℕ → ℕ) (f g : Form) (i j : ℕ) (xs ys : List ℕ) → (measure xs ≡ measure ys → ⊥) →
     false ≡ same_entry (cut f i xs) (cut g j ys)
-told_apart measure f g i j xs ys differ = elim (cases_Bool (same_entry (cut f i xs) (cut g j ys))) [
+differ_by measure f g i j xs ys differ = elim (cases_Bool (same_entry (cut f i xs) (cut g j ys))) [
   | inl same ↦ absurd (differ (ap measure (whole f g i j xs ys ((same_entry_decides (cut f i xs) (cut g j ys)).0 same))))
   | inr other ↦ sym other
 ]

@@ -3,8 +3,8 @@ use Rattle.std.proofs.Common.{◌≡◌, ℕ, ◌-◌, ◌++◌, ◌∷◌, [], 
 use Rattle.std.proofs.Math.Seq.{drop-append_seam}
 
 -- without the first two bytes, the content is left
-pub behind_two : (front content : List ℕ) → length front ≡ 2 → drop 2 (front ++ content) ≡ content
-behind_two front content two = ap (λ n. drop n (front ++ content)) (sym two) ∙ drop-append_seam front content
+pub after_two : (front content : List ℕ) → length front ≡ 2 → drop 2 (front ++ content) ≡ content
+after_two front content two = ap (λ n. drop n (front ++ content)) (sym two) ∙ drop-append_seam front content
 
 -- the same for bytes in two parts, of which each loses its share of the two bytes
 pub drop_both : (xs ys : List ℕ) (gone : ℕ) → gone ≡ min (length xs) 2 → drop gone xs ++ drop (2 - gone) ys ≡ drop 2 (xs ++ ys)

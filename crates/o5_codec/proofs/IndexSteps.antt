@@ -258,10 +258,10 @@ standing (x ∷ table) zero e distinct at =
     let here : x ≡ e = cc in
     cond-true (same_entry e x) (Some 1) _ ((same_entry_decides e x).1 (sym here))
 standing (x ∷ table) (suc i) e distinct at =
-    let behind : reference_to e table ≡ Some (i + 1) = standing table i e distinct.1 at in
+    let later : reference_to e table ≡ Some (i + 1) = standing table i e distinct.1 at in
     elim (cases_Bool (same_entry e x)) [
       | inl is ↦ absurd (let twice : Some (i + 1) ≡ None =
-          sym behind ∙ ap (λ f. reference_to f table) ((same_entry_decides e x).0 is) ∙ distinct.0 in cc)
+          sym later ∙ ap (λ f. reference_to f table) ((same_entry_decides e x).0 is) ∙ distinct.0 in cc)
       | inr other ↦ (let one : i + 1 + 1 ≡ suc i + 1 = omega arith in
-          cond-false (same_entry e x) (Some 1) _ other ∙ ap (option_map (λ n. n + 1)) behind ∙ ap (λ n. Some n) one)
+          cond-false (same_entry e x) (Some 1) _ other ∙ ap (option_map (λ n. n + 1)) later ∙ ap (λ n. Some n) one)
     ]

@@ -6,30 +6,30 @@ use Rattle.std.proofs.lemmas.List.{append-nil}
 use Rattle.o5_codec.specs.declared.reason.O5Reason.{O5Reason}
 use Rattle.o5_codec.specs.declared.reason.O5Reason.TheVariants.{Memory}
 use Rattle.o5_codec.specs.declared.segment.Segment.{Segment}
-use Rattle.o5_codec.specs.Answer.{and_then}
+use Rattle.o5_codec.specs.Results.{and_then}
 use Rattle.o5_codec.specs.Segment.{ReadStep}
 use Rattle.o5_codec.specs.Items.{items_up_to, items_at, and_one_more}
 
 module _ {X : Type 0} where
   -- a reading of items, with the items that were read before it in front
-  abbrev pub behind : List X → Result (List X × Segment) O5Reason → Result (List X × Segment) O5Reason
-  behind done (Ok x) = Ok (done ++ x.0, x.1)
-  behind done (Err reason) = Err reason
+  abbrev pub later : List X → Result (List X × Segment) O5Reason → Result (List X × Segment) O5Reason
+  later done (Ok x) = Ok (done ++ x.0, x.1)
+  later done (Err reason) = Err reason
 
   -- the items `done` were read from the front of `bytes`, and the bytes `rest` are left
   pub record HasItems (item_at : Segment → List ℕ → ReadStep X) (start : Segment) (bytes : List ℕ) (done : List X) (s : Segment)
       (rest : List ℕ) : Type 0 where
     pub room : length rest + length done ≤ length bytes
-    pub left : (most : ℕ) → most + length done ≡ length bytes → items_at item_at start bytes ≡ behind done (items_up_to item_at most s rest)
+    pub left : (most : ℕ) → most + length done ≡ length bytes → items_at item_at start bytes ≡ later done (items_up_to item_at most s rest)
 
-  behind_none : (r : Result (List X × Segment) O5Reason) → behind [] r ≡ r
-  behind_none (Ok x) = refl
-  behind_none (Err reason) = refl
+  after_none : (r : Result (List X × Segment) O5Reason) → later [] r ≡ r
+  after_none (Ok x) = refl
+  after_none (Err reason) = refl
 
-  behind_one : (done : List X) (x : X) (r : Result (List X × Segment) O5Reason) →
-      behind done (and_then r (λ more. Ok (x ∷ more.0, more.1))) ≡ behind (done ++ x ∷ []) r
-  behind_one done x (Ok more) = ap (λ xs. Ok (xs, more.1)) (sym (append_assoc done (x ∷ []) more.0))
-  behind_one done x (Err reason) = refl
+  after_one : (done : List X) (x : X) (r : Result (List X × Segment) O5Reason) →
+      later done (and_then r (λ more. Ok (x ∷ more.0, more.1))) ≡ later (done ++ x ∷ []) r
+  after_one done x (Ok more) = ap (λ xs. Ok (xs, more.1)) (sym (append_assoc done (x ∷ []) more.0))
+  after_one done x (Err reason) = refl
 
 module _ {X : Type 0} (item_at : Segment → List ℕ → ReadStep X) where
   -- At first no item was read.
@@ -38,7 +38,7 @@ module _ {X : Type 0} (item_at : Segment → List ℕ → ReadStep X) where
   items_begin s bytes = record {
     room = omega arith;
     left = λ most e. (let same : length bytes ≡ most = omega arith in ap (λ n. items_up_to item_at n s bytes) same
-        ∙ sym (behind_none (items_up_to item_at most s bytes)));
+        ∙ sym (after_none (items_up_to item_at most s bytes)));
   }
 
   -- No bytes are read as no items.
@@ -65,8 +65,8 @@ module _ {X : Type 0} (item_at : Segment → List ℕ → ReadStep X) where
     room = omega (arith, h.room, length-append done (x ∷ []));
     left = λ most e. (let lengths : length (done ++ x ∷ []) ≡ length done + 1 = length-append done (x ∷ []) in
         h.left (suc most) (omega arith)
-        ∙ ap (λ r. behind done (and_then r (λ y. and_then (items_up_to item_at most y.1 y.2) (λ more. Ok (y.0 ∷ more.0, more.1))))) is
-        ∙ behind_one done x (items_up_to item_at most next after));
+        ∙ ap (λ r. later done (and_then r (λ y. and_then (items_up_to item_at most y.1 y.2) (λ more. Ok (y.0 ∷ more.0, more.1))))) is
+        ∙ after_one done x (items_up_to item_at most next after));
   }
 
   items_refused : (start : Segment) (bytes : List ℕ) (done : List X) (s : Segment) (rest : List ℕ) (reason : O5Reason) →
@@ -76,7 +76,7 @@ module _ {X : Type 0} (item_at : Segment → List ℕ → ReadStep X) where
   items_refused start bytes done s (b ∷ rest) reason h some is =
       let most : ℕ = length bytes - length done - 1 in
       h.left (suc most) (omega (arith, h.room))
-      ∙ ap (λ r. behind done (and_then r (λ y. and_then (items_up_to item_at most y.1 y.2) (λ more. Ok (y.0 ∷ more.0, more.1))))) is
+      ∙ ap (λ r. later done (and_then r (λ y. and_then (items_up_to item_at most y.1 y.2) (λ more. Ok (y.0 ∷ more.0, more.1))))) is
 
   -- If an item can't be read, the list can't be read.
   pub items_fail : (start : Segment) (bytes : List ℕ) (done : List X) (s : Segment) (rest : List ℕ) (reason : O5Reason) →

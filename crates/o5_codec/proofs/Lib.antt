@@ -1,5 +1,5 @@
 pub mod NumberSteps
-pub mod AnswerSteps
+pub mod ResultSteps
 pub mod Newest
 pub mod TextSteps
 pub mod MeaningSteps
@@ -16,7 +16,7 @@ pub mod EarlierSteps
 pub mod EarlierLists
 pub mod EarlierLaws
 pub mod RefusalNames
-pub mod AnswerLaws
+pub mod ResultLaws
 pub mod UserLaws
 pub mod EntryBytes
 pub mod FrontLaws

@@ -5,7 +5,7 @@ use Rattle.std.proofs.lemmas.Bool.{le-ltb, lt-ltb, cases_lt}
 use Rattle.std.proofs.lemmas.Bool.Decides.{nat_tests}
 use Rattle.o5_codec.specs.declared.reason.O5Reason.{O5Reason}
 use Rattle.o5_codec.specs.declared.reason.O5Reason.TheVariants.{BadNumber}
-use Rattle.o5_codec.specs.Answer.{and_then}
+use Rattle.o5_codec.specs.Results.{and_then}
 use Rattle.o5_codec.specs.Number.{groups_at, with_low, within_word, number_at, AreGroups, SpellsNumber, unsigned_of, signed_of, signed_at}
 use Rattle.o5_codec.specs.Spelling.{NumberAtFront, SignedAtFront}
 use Rattle.o5_codec.proofs.SoundStrings.{first_ok, tested_ok}

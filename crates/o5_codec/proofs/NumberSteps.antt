@@ -8,7 +8,7 @@ use Rattle.std.proofs.lemmas.List.{drop_more, take_rest}
 use Rattle.std.proofs.lemmas.Grind.{pow_more}
 use Rattle.o5_codec.specs.declared.reason.O5Reason.{O5Reason}
 use Rattle.o5_codec.specs.declared.reason.O5Reason.TheVariants.{BadNumber}
-use Rattle.o5_codec.specs.Answer.{and_then}
+use Rattle.o5_codec.specs.Results.{and_then}
 use Rattle.o5_codec.specs.Number.{groups_at, with_low, number_at, within_word}
 
 abbrev pub scaled : ℕ → ℕ → Result (ℕ × List ℕ) O5Reason → Result (ℕ × List ℕ) O5Reason

@@ -12,26 +12,29 @@ use Rattle.o5_codec.specs.declared.strings.Form.{Form}
 use Rattle.o5_codec.specs.declared.strings.Form.TheVariants.{Pair, Single}
 use Rattle.o5_codec.specs.declared.strings.StringRef.{StringRef}
 use Rattle.o5_codec.specs.declared.strings.StringRef.TheVariants.{Inline, Reference}
-use Rattle.o5_codec.specs.Answer.{and_then}
+use Rattle.o5_codec.specs.Results.{and_then}
 use Rattle.o5_codec.specs.Entry.{EntryStrings}
 use Rattle.o5_codec.specs.Table.{entry_at}
 use Rattle.o5_codec.specs.Number.{groups_at, with_low, within_word, number_at, signed_at}
 use Rattle.o5_codec.specs.Base.{moved_id, moved_number, moved_coordinate}
 use Rattle.o5_codec.specs.StringPair.{split_at_end, string_at, inline_at, spelled_at, entry_or_fault, strings_of, table_after, strings_at}
 use Rattle.o5_codec.specs.Text.{text_of, tag_of, user_of}
-use Rattle.o5_codec.specs.Segment.{ReadStep, with_bases, id_at, nonzero_version, version_at, time_at, changeset_at, user_at, author, author_after_changeset}
+use Rattle.o5_codec.specs.Segment.{ReadStep, with_bases, id_at, nonzero_version, version_at, time_at, changeset_at, user_at, author}
+use Rattle.o5_codec.specs.Segment.{author_after_changeset}
 use Rattle.o5_codec.specs.Segment.{author_at, meta_at}
 use Rattle.o5_codec.specs.Items.{items_up_to, items_at}
 use Rattle.o5_codec.specs.Body.{with_seen, tag_at, longitude_at, latitude_at, node_at, cut_at, section_at, with_section, reference_at}
 use Rattle.o5_codec.specs.Body.{way_at, kind_and_role, with_member, moved_member, member_at, relation_at, body_at, set_at}
 use Rattle.o5_codec.specs.Spelling.{NumberAtFront, SignedAtFront, InlineAtFront, StringsAtFront, IdAtFront, TimeAtFront, ChangesetAtFront}
-use Rattle.o5_codec.specs.Spelling.{LongitudeAtFront, LatitudeAtFront, ReferenceAtFront, VersionAtFront, MetaAtFront, TagAtFront, MemberAtFront}
+use Rattle.o5_codec.specs.Spelling.{LongitudeAtFront, LatitudeAtFront, ReferenceAtFront, VersionAtFront, MetaAtFront, TagAtFront}
+use Rattle.o5_codec.specs.Spelling.{MemberAtFront}
 use Rattle.o5_codec.specs.Spelling.{SectionAtFront}
 use Rattle.o5_codec.specs.Refusal.{Nothing, Then, NumberRefused, SignedRefused, InlineRefused, ReferenceMissing, StringsRefused}
 use Rattle.o5_codec.specs.Refusal.{MovedRefused, VersionRefused, UserRefused, UserOrEndRefused, AuthorRefused, MetaRefused, TagRefused}
-use Rattle.o5_codec.specs.Refusal.{ReferenceRefused, MemberRefused, RefusedAfterItems, ItemsRefused, TagsRefused, NodeRefused, SectionRefused}
+use Rattle.o5_codec.specs.Refusal.{ReferenceRefused, MemberRefused, RefusedAfterItems, ItemsRefused, TagsRefused, NodeRefused}
+use Rattle.o5_codec.specs.Refusal.{SectionRefused}
 use Rattle.o5_codec.specs.Refusal.{WayRefused, RelationRefused, BodyRefused, SetReason}
-use Rattle.o5_codec.proofs.AnswerSteps.{read_next, not_refused}
+use Rattle.o5_codec.proofs.ResultSteps.{read_next, not_refused}
 use Rattle.o5_codec.proofs.NumberLaws.{number_found, number_only, signed_found, signed_only}
 use Rattle.o5_codec.proofs.StringLaws.{inline_found, inline_only, strings_found, strings_only}
 use Rattle.o5_codec.proofs.StepLaws.{moved_found, moved_only, version_found, version_only, meta_found, meta_only, tag_found, tag_only}
@@ -49,24 +52,25 @@ then_found : {X Y : Type 0} (reading : Result X O5Reason) (next : X → Result Y
     (AtFront later : X → Type 0) →
     (reading ≡ Err reason → first) → ((x : X) → reading ≡ Ok x → AtFront x) → ((x : X) → next x ≡ Err reason → later x) →
     and_then reading next ≡ Err reason → Then first AtFront later
-then_found (Ok x) next reason first AtFront later refused found behind h = inr (x, found x refl, behind x h)
-then_found (Err f) next reason first AtFront later refused found behind h = inl (refused (ap (λ e. Err e) (same_reason f reason h)))
+then_found (Ok x) next reason first AtFront later refused found remaining h = inr (x, found x refl, remaining x h)
+then_found (Err f) next reason first AtFront later refused found remaining h = inl (refused (ap (λ e. Err e) (same_reason f reason h)))
 
 then_only : {X Y : Type 0} (reading : Result X O5Reason) (next : X → Result Y O5Reason) (reason : O5Reason) (first : Type 0)
     (AtFront later : X → Type 0) →
     (first → reading ≡ Err reason) → ((x : X) → AtFront x → reading ≡ Ok x) → ((x : X) → later x → next x ≡ Err reason) →
     Then first AtFront later → and_then reading next ≡ Err reason
-then_only reading next reason first AtFront later refused only behind (inl h) = ap (λ r. and_then r next) (refused h)
-then_only reading next reason first AtFront later refused only behind (inr h) = read_next reading next h.0 (only h.0 h.1) ∙ behind h.0 h.2
+then_only reading next reason first AtFront later refused only remaining (inl h) = ap (λ r. and_then r next) (refused h)
+then_only reading next reason first AtFront later refused only remaining (inr h) = read_next reading next h.0 (only h.0 h.1)
+    ∙ remaining h.0 h.2
 
 -- a reading in two steps is refused exactly if the first step is, or the first is spelled and the second is refused
 then_same : {X Y : Type 0} (reading : Result X O5Reason) (next : X → Result Y O5Reason) (reason : O5Reason) (first : Type 0)
     (AtFront later : X → Type 0) →
     Same (reading ≡ Err reason) first → ((x : X) → Same (reading ≡ Ok x) (AtFront x)) → ((x : X) → Same (next x ≡ Err reason) (later x)) →
     Same (and_then reading next ≡ Err reason) (Then first AtFront later)
-then_same reading next reason first AtFront later refused stands behind = (
-  then_found reading next reason first AtFront later refused.0 (λ x. (stands x).0) (λ x. (behind x).0),
-  then_only reading next reason first AtFront later refused.1 (λ x. (stands x).1) (λ x. (behind x).1),
+then_same reading next reason first AtFront later refused spelled remaining = (
+  then_found reading next reason first AtFront later refused.0 (λ x. (spelled x).0) (λ x. (remaining x).0),
+  then_only reading next reason first AtFront later refused.1 (λ x. (spelled x).1) (λ x. (remaining x).1),
 )
 
 -- a last step that only makes a value adds no refusal
@@ -82,9 +86,9 @@ last_same (Err f) value reason first refused = (
 only_reason : {X : Type 0} (reading : Result X O5Reason) (only reason : O5Reason) (AtFront : X → Type 0) →
     ((f : O5Reason) → reading ≡ Err f → f ≡ only) →
     ((x : X) → Same (reading ≡ Ok x) (AtFront x)) → Same (reading ≡ Err reason) ((reason ≡ only) × Nothing AtFront)
-only_reason (Ok x) only reason AtFront single stands = (λ h. cc, λ h. absurd (h.1 x ((stands x).0 refl)))
-only_reason (Err f) only reason AtFront single stands =
-    (λ h. (single reason h, λ x s. not_refused (Err f) x f ((stands x).1 s) refl), λ h. ap (λ e. Err e) (single f refl ∙ sym h.0))
+only_reason (Ok x) only reason AtFront single spelled = (λ h. cc, λ h. absurd (h.1 x ((spelled x).0 refl)))
+only_reason (Err f) only reason AtFront single spelled =
+    (λ h. (single reason h, λ x s. not_refused (Err f) x f ((spelled x).1 s) refl), λ h. ap (λ e. Err e) (single f refl ∙ sym h.0))
 
 low_reason : (low : ℕ) (r : Result (ℕ × List ℕ) O5Reason) (f : O5Reason) → with_low low r ≡ Err f → r ≡ Err f
 low_reason low (Ok x) f h = cc
@@ -139,8 +143,8 @@ ended_reason bytes (Some end) f h = cc
 next_reason : {X Y : Type 0} {only : O5Reason} (r : Result X O5Reason) (next : X → Result Y O5Reason) (f : O5Reason) →
     ((g : O5Reason) → r ≡ Err g → g ≡ only) →
     ((x : X) → next x ≡ Err f → f ≡ only) → and_then r next ≡ Err f → f ≡ only
-next_reason (Ok x) next f single behind h = behind x h
-next_reason (Err e) next f single behind h = single f (ap (λ g. Err g) (same_reason e f h))
+next_reason (Ok x) next f single remaining h = remaining x h
+next_reason (Err e) next f single remaining h = single f (ap (λ g. Err g) (same_reason e f h))
 
 string_reason : (bytes : List ℕ) (f : O5Reason) → string_at bytes ≡ Err f → f ≡ BadText
 unfolding string_at
@@ -204,20 +208,20 @@ strings_refused : (form : Form) (table : List EntryStrings) (bytes : List ℕ) (
 unfolding strings_at spelled_at
 strings_refused form table [] reason = (λ h. sym (same_reason BadText reason h), λ h. ap (λ e. Err e) (sym h))
 strings_refused form table (b ∷ bytes) reason =
-    let behind : StringRef × List ℕ → Result (EntryStrings × List EntryStrings × List ℕ) O5Reason =
+    let remaining : StringRef × List ℕ → Result (EntryStrings × List EntryStrings × List ℕ) O5Reason =
     λ x. and_then (strings_of table x.0) (λ e. Ok (e, table_after x.0 table, x.1)) in
     let inline : Result (StringRef × List ℕ) O5Reason = and_then (inline_at form bytes) (λ y. Ok (Inline y.0, y.1)) in
     let reference : Result (StringRef × List ℕ) O5Reason = and_then (number_at (b ∷ bytes)) (λ y. Ok (Reference y.0, y.1)) in
-    elim (eqb b 0) as (λ t. Same (and_then (if t then inline else reference) behind ≡ Err reason)
+    elim (eqb b 0) as (λ t. Same (and_then (if t then inline else reference) remaining ≡ Err reason)
     (((t ≡ true) × InlineRefused form bytes reason) ⊎ ((t ≡ false) × ReferenceMissing table (b ∷ bytes) reason))) [
       | true ↦ (let r = inline_refused form bytes reason in (
         λ h. inl (refl, r.0 (inline_first (inline_at form bytes) table reason h)),
         λ s. inline_again form table bytes reason s r.1,
       ))
-      | false ↦ (let r = then_same (number_at (b ∷ bytes)) (λ y. behind (Reference y.0, y.1)) reason (NumberRefused (b ∷ bytes) reason)
+      | false ↦ (let r = then_same (number_at (b ∷ bytes)) (λ y. remaining (Reference y.0, y.1)) reason (NumberRefused (b ∷ bytes) reason)
           (NumberAtFront (b ∷ bytes)) (λ x. (entry_at table x.0 ≡ None) × (reason ≡ BadReference))
           (number_refused (b ∷ bytes) reason) (number_same (b ∷ bytes)) (λ x. missing table x.1 (entry_at table x.0) reason) in
-          let same = joined (number_at (b ∷ bytes)) (λ y. (Reference y.0, y.1)) behind in
+          let same = joined (number_at (b ∷ bytes)) (λ y. (Reference y.0, y.1)) remaining in
           (λ h. inr (refl, r.0 (sym same ∙ h)), λ s. reference_again table (b ∷ bytes) reason s (λ m. same ∙ r.1 m)))
     ]
 
@@ -236,7 +240,8 @@ moved_refused moved after bytes reason =
 version_refused : (bytes : List ℕ) (reason : O5Reason) → Same (version_at bytes ≡ Err reason) (VersionRefused bytes reason)
 unfolding version_at
 version_refused bytes reason =
-    then_same (number_at bytes) nonzero_version reason (NumberRefused bytes reason) (NumberAtFront bytes) (λ x. nonzero_version x ≡ Err reason)
+    then_same (number_at bytes) nonzero_version reason (NumberRefused bytes reason) (NumberAtFront bytes)
+    (λ x. nonzero_version x ≡ Err reason)
     (number_refused bytes reason) (number_same bytes) (λ x. (λ h. h, λ h. h))
 
 user_refused : (s : Segment) (bytes : List ℕ) (reason : O5Reason) → Same (user_at s bytes ≡ Err reason) (UserRefused s bytes reason)
@@ -246,11 +251,11 @@ user_refused s bytes reason =
     (λ x. user_of x.0 ≡ Err reason)
     (strings_refused Pair s.table bytes reason) (strings_same Pair s.table bytes) (λ x. last_same (user_of x.0) _ reason _ (λ h. h, λ h. h))
 
-behind_refused : (changeset : ℕ) (s : Segment) (bytes : List ℕ) (reason : O5Reason) →
+after_refused : (changeset : ℕ) (s : Segment) (bytes : List ℕ) (reason : O5Reason) →
     Same (author_after_changeset (changeset, s, bytes) ≡ Err reason) (UserOrEndRefused s bytes reason)
 unfolding author_after_changeset
-behind_refused changeset s [] reason = (λ h. cc, λ h. absurd h)
-behind_refused changeset s (b ∷ bytes) reason = last_same (user_at s (b ∷ bytes)) _ reason _ (user_refused s (b ∷ bytes) reason)
+after_refused changeset s [] reason = (λ h. cc, λ h. absurd h)
+after_refused changeset s (b ∷ bytes) reason = last_same (user_at s (b ∷ bytes)) _ reason _ (user_refused s (b ∷ bytes) reason)
 
 author_refused : (time : ℕ) (s : Segment) (bytes : List ℕ) (reason : O5Reason) →
     Same (author_at time s bytes ≡ Err reason) (AuthorRefused time s bytes reason)
@@ -262,11 +267,12 @@ author_refused time s bytes reason =
     (λ x. UserOrEndRefused x.1 x.2 reason))) [
       | true ↦ (λ h. cc, λ h. (let clash = h.0 in cc))
       | false ↦ (let after : ℕ → Segment = λ c. with_bases s (record s.bases { changeset = c }) in
-          let r = then_same (changeset_at s bytes) author_after_changeset reason (MovedRefused (moved_number s.bases.changeset) bytes reason)
+          let r = then_same (changeset_at s bytes) author_after_changeset reason
+          (MovedRefused (moved_number s.bases.changeset) bytes reason)
           (ChangesetAtFront s bytes) (λ x. UserOrEndRefused x.1 x.2 reason)
           (moved_refused (moved_number s.bases.changeset) after bytes reason)
           (λ x. (moved_found (moved_number s.bases.changeset) after bytes x, moved_only (moved_number s.bases.changeset) after bytes x))
-          (λ x. behind_refused x.0 x.1 x.2 reason) in
+          (λ x. after_refused x.0 x.1 x.2 reason) in
           (λ h. (refl, r.0 h), λ h. r.1 h.1))
     ]
 
@@ -327,11 +333,11 @@ module _ {X : Type 0} (item_at : Segment → List ℕ → ReadStep X) (AtFront :
       ((refused s (b ∷ bytes) reason).0) (λ x e. e) (λ x e. e) h) [
         | inl first ↦ ([], (first, λ e. (let clash = e in cc)))
         | inr later ↦ (let x = later.0 in
-            let stands = found s (b ∷ bytes) x later.1 in
-            let shorter = (only s (b ∷ bytes) x stands).1 in
+            let spelled = found s (b ∷ bytes) x later.1 in
+            let shorter = (only s (b ∷ bytes) x spelled).1 in
             let more = up_to_refused most x.1 x.2 (omega arith)
             (((last_same (items_up_to item_at most x.1 x.2) _ reason _ (λ e. e, λ e. e)).0) later.2) in
-            (x.0 ∷ more.0, (x.1, x.2, stands, more.1)))
+            (x.0 ∷ more.0, (x.1, x.2, spelled, more.1)))
       ]
 
   up_to_again : (xs : List X) (most : ℕ) (s : Segment) (bytes : List ℕ) → length bytes ≤ most →
@@ -350,7 +356,8 @@ module _ {X : Type 0} (item_at : Segment → List ℕ → ReadStep X) (AtFront :
       read_next (item_at s (b ∷ bytes)) _ _ one.0 ∙ ap (λ r. and_then r (λ more. Ok (x ∷ more.0, more.1)))
       (up_to_again xs most h.0 h.1 (omega arith) h.3)
 
-  items_refused : (s : Segment) (bytes : List ℕ) → Same (items_at item_at s bytes ≡ Err reason) (ItemsRefused AtFront Refused s bytes reason)
+  items_refused : (s : Segment) (bytes : List ℕ) →
+      Same (items_at item_at s bytes ≡ Err reason) (ItemsRefused AtFront Refused s bytes reason)
   unfolding items_at
   items_refused s bytes = (
     up_to_refused (length bytes) s bytes (omega arith),
@@ -389,10 +396,13 @@ node_refused s bytes reason =
     then_same (longitude_at s bytes) _ reason _ (LongitudeAtFront s bytes) _
     (moved_refused (moved_coordinate s.bases.lon) after bytes reason)
     (λ x. (moved_found (moved_coordinate s.bases.lon) after bytes x, moved_only (moved_coordinate s.bases.lon) after bytes x)) (λ lon.
-    let behind : ℤ → Segment = λ v. with_bases lon.1 (record lon.1.bases { lat = v }) in
+    let remaining : ℤ → Segment = λ v. with_bases lon.1 (record lon.1.bases { lat = v }) in
     then_same (latitude_at lon.1 lon.2) _ reason _ (LatitudeAtFront lon.1 lon.2) _
-    (moved_refused (moved_coordinate lon.1.bases.lat) behind lon.2 reason)
-    (λ x. (moved_found (moved_coordinate lon.1.bases.lat) behind lon.2 x, moved_only (moved_coordinate lon.1.bases.lat) behind lon.2 x))
+    (moved_refused (moved_coordinate lon.1.bases.lat) remaining lon.2 reason)
+    (λ x. (
+      moved_found (moved_coordinate lon.1.bases.lat) remaining lon.2 x,
+      moved_only (moved_coordinate lon.1.bases.lat) remaining lon.2 x,
+    ))
     (λ lat.
     last_same (items_at tag_at lat.1 lat.2) _ reason _ (tags_refused lat.1 lat.2 reason)))
 

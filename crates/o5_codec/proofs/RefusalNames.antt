@@ -19,14 +19,15 @@ use Rattle.o5_codec.specs.declared.strings.Form.TheVariants.{Pair, Single}
 use Rattle.o5_codec.specs.declared.strings.StringRef.{StringRef}
 use Rattle.o5_codec.specs.declared.strings.StringRef.TheVariants.{Inline, Reference}
 use Rattle.o5_codec.specs.Reason.{is_step_reason}
-use Rattle.o5_codec.specs.Answer.{and_then}
+use Rattle.o5_codec.specs.Results.{and_then}
 use Rattle.o5_codec.specs.Entry.{EntryStrings}
 use Rattle.o5_codec.specs.Table.{entry_at}
 use Rattle.o5_codec.specs.Number.{with_low, groups_at, within_word, number_at, signed_at}
 use Rattle.o5_codec.specs.Base.{moved_id, within_range, number_within, moved_number, moved_coordinate}
 use Rattle.o5_codec.specs.StringPair.{is_zero, split_at_end, string_at, inline_at, spelled_at, entry_or_fault, strings_of, strings_at}
 use Rattle.o5_codec.specs.Text.{text_of, tag_of, whole_number, uid_of, user_of}
-use Rattle.o5_codec.specs.Segment.{ReadStep, id_at, nonzero_version, version_at, time_at, changeset_at, user_at, author_after_changeset, author_at, meta_at}
+use Rattle.o5_codec.specs.Segment.{ReadStep, id_at, nonzero_version, version_at, time_at, changeset_at, user_at, author_after_changeset}
+use Rattle.o5_codec.specs.Segment.{author_at, meta_at}
 use Rattle.o5_codec.specs.Items.{items_up_to, items_at}
 use Rattle.o5_codec.specs.Body.{with_seen, tag_at, longitude_at, latitude_at, node_at, cut_at, section_at, with_section, reference_at}
 use Rattle.o5_codec.specs.Body.{way_at, member_kind, kind_and_role, with_member, moved_member, member_at, relation_at, body_at, set_at}
@@ -173,15 +174,15 @@ unfolding user_at
 user_named s bytes = named_then (strings_at Pair s.table bytes) _ (strings_named Pair s.table bytes)
     (λ x. named_last (user_of x.0) _ (user_of_named x.0))
 
-behind_named : (x : ℕ × Segment × List ℕ) → Named (author_after_changeset x)
+after_named : (x : ℕ × Segment × List ℕ) → Named (author_after_changeset x)
 unfolding author_after_changeset
-behind_named (changeset, s, []) = tt
-behind_named (changeset, s, b ∷ bytes) = named_last (user_at s (b ∷ bytes)) _ (user_named s (b ∷ bytes))
+after_named (changeset, s, []) = tt
+after_named (changeset, s, b ∷ bytes) = named_last (user_at s (b ∷ bytes)) _ (user_named s (b ∷ bytes))
 
 author_named : (time : ℕ) (s : Segment) (bytes : List ℕ) → Named (author_at time s bytes)
 unfolding author_at
 author_named time s bytes = named_if (eqb time 0) _ (and_then (changeset_at s bytes) author_after_changeset) tt
-    (named_then (changeset_at s bytes) author_after_changeset (changeset_named s bytes) behind_named)
+    (named_then (changeset_at s bytes) author_after_changeset (changeset_named s bytes) after_named)
 
 meta_named : (s : Segment) (bytes : List ℕ) → Named (meta_at s bytes)
 unfolding meta_at

@@ -59,7 +59,7 @@ unfolding shortest_number groups_of
 write_one n low = rw (lt-ltb n 128 low) refl
 
 -- one more byte after those that are filled
-pub fill_more : (bytes written : List ℕ) (end behind byte : ℕ) → behind ≡ end + 1 → take end bytes ≡ written → end < length bytes →
-    take behind (slice_set bytes end byte) ≡ written ++ byte ∷ []
-fill_more bytes written end behind byte next same inside = ap (λ n. take n (slice_set bytes end byte)) next
+pub fill_more : (bytes written : List ℕ) (end after byte : ℕ) → after ≡ end + 1 → take end bytes ≡ written → end < length bytes →
+    take after (slice_set bytes end byte) ≡ written ++ byte ∷ []
+fill_more bytes written end after byte next same inside = ap (λ n. take n (slice_set bytes end byte)) next
     ∙ take_more_set bytes end byte inside ∙ ap (λ xs. xs ++ byte ∷ []) same

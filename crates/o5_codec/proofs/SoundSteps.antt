@@ -20,13 +20,14 @@ use Rattle.o5_codec.specs.declared.base.Bases.{Bases}
 use Rattle.o5_codec.specs.declared.segment.Segment.{Segment}
 use Rattle.o5_codec.specs.Author.{Author}
 use Rattle.o5_codec.specs.declared.strings.Form.TheVariants.{Pair, Single}
-use Rattle.o5_codec.specs.Answer.{and_then}
+use Rattle.o5_codec.specs.Results.{and_then}
 use Rattle.o5_codec.specs.Entry.{EntryStrings}
 use Rattle.o5_codec.specs.Number.{number_at, signed_at}
 use Rattle.o5_codec.specs.Base.{moved_id, within_range, number_within, moved_number, moved_coordinate}
 use Rattle.o5_codec.specs.StringPair.{strings_at}
 use Rattle.o5_codec.specs.Text.{text_of, tag_of, whole_number, uid_of, user_of}
-use Rattle.o5_codec.specs.Segment.{ReadStep, with_bases, with_table, id_at, nonzero_version, version_at, time_at, changeset_at, user_at, author}
+use Rattle.o5_codec.specs.Segment.{ReadStep, with_bases, with_table, id_at, nonzero_version, version_at, time_at, changeset_at, user_at}
+use Rattle.o5_codec.specs.Segment.{author}
 use Rattle.o5_codec.specs.Segment.{author_after_changeset, author_at, time_of, meta_of, meta_at}
 use Rattle.o5_codec.specs.Items.{items_up_to, items_at}
 use Rattle.o5_codec.specs.Body.{tag_at, kind_and_role, moved_member, with_member, member_at, reference_at, longitude_at, latitude_at}
@@ -157,14 +158,14 @@ user_ok s bytes x sound h =
 abbrev is_author : Author → Bool
 is_author a = is_number a.changeset && (is_number a.uid && is_text a.user)
 
-behind_ok : (x : ℕ × Segment × List ℕ) (y : Author × Segment × List ℕ) → is_number x.0 ≡ true → is_sound x.1 ≡ true →
+after_ok : (x : ℕ × Segment × List ℕ) (y : Author × Segment × List ℕ) → is_number x.0 ≡ true → is_sound x.1 ≡ true →
     author_after_changeset x ≡ Ok y →
     (is_author y.0 ≡ true) × (is_sound y.1 ≡ true)
 unfolding author_after_changeset
-behind_ok (changeset, s, []) y number sound h =
+after_ok (changeset, s, []) y number sound h =
     let same : (author changeset 0 [], s, []) ≡ y = cc in
     (ap (λ z. is_author z.0) (sym same) ∙ and_true _ _ number refl, ap (λ z. is_sound z.1) (sym same) ∙ sound)
-behind_ok (changeset, s, b ∷ bytes) y number sound h =
+after_ok (changeset, s, b ∷ bytes) y number sound h =
     let f = first_ok (user_at s (b ∷ bytes)) _ y h in
     let same : (author changeset f.0.0.0 f.0.0.1, f.0.1, f.0.2) ≡ y = cc in
     let user = user_ok s (b ∷ bytes) f.0 sound f.1 in
@@ -208,7 +209,7 @@ meta_ok s bytes x sound h =
       ))
       | false ↦ λ some is. (let c = first_ok (changeset_at t.0.1 t.0.2) author_after_changeset a.0 is in
           let changeset = changeset_ok t.0.1 t.0.2 c.0 time.1 c.1 in
-          let made = behind_ok c.0 a.0 changeset.0 changeset.1 c.2 in (
+          let made = after_ok c.0 a.0 changeset.0 changeset.1 c.2 in (
             ap (λ y. is_meta y.0) (sym same) ∙ timed_ok v.0.0 t.0.0 a.0.0 version time.0 some made.0,
             ap (λ y. is_sound y.1) (sym same)
                 ∙ made.1,

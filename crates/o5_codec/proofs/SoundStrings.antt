@@ -12,11 +12,12 @@ use Rattle.o5_codec.specs.declared.strings.Form.{Form}
 use Rattle.o5_codec.specs.declared.strings.Form.TheVariants.{Pair, Single}
 use Rattle.o5_codec.specs.declared.strings.StringRef.{StringRef}
 use Rattle.o5_codec.specs.declared.strings.StringRef.TheVariants.{Inline, Reference}
-use Rattle.o5_codec.specs.Answer.{and_then}
+use Rattle.o5_codec.specs.Results.{and_then}
 use Rattle.o5_codec.specs.Entry.{EntryStrings}
 use Rattle.o5_codec.specs.Table.{table_limit, is_short, table_with, entry_at}
 use Rattle.o5_codec.specs.Number.{number_at}
-use Rattle.o5_codec.specs.StringPair.{split_at_end, string_at, entry_of, inline_at, spelled_at, entry_or_fault, strings_of, table_after, strings_at}
+use Rattle.o5_codec.specs.StringPair.{split_at_end, string_at, entry_of, inline_at, spelled_at, entry_or_fault, strings_of, table_after}
+use Rattle.o5_codec.specs.StringPair.{strings_at}
 use Rattle.o5_codec.specs.Text.{text_of}
 use Rattle.o5_codec.specs.Sound.{has_no_zero, is_entry}
 
@@ -129,7 +130,8 @@ pub referred_ok : (o : Option EntryStrings) (e : EntryStrings) → entry_or_faul
 referred_ok None e h = cc
 referred_ok (Some f) e h = let same : f ≡ e = cc in ap (λ y. Some y) same
 
-entry_ok : (table : List EntryStrings) (n : ℕ) (e : EntryStrings) → list_all is_entry table ≡ true → entry_at table n ≡ Some e → is_entry e ≡ true
+entry_ok : (table : List EntryStrings) (n : ℕ) (e : EntryStrings) → list_all is_entry table ≡ true → entry_at table n ≡ Some e →
+    is_entry e ≡ true
 entry_ok table zero e h is = cc
 entry_ok table (suc n) e h is = get_passes is_entry table n e h is
 
@@ -139,7 +141,8 @@ strings_of_ok table (Inline f) e h g is = let same : f ≡ e = cc in ap is_entry
 strings_of_ok table (Reference n) e h g is = entry_ok table n e g (referred_ok (entry_at table n) e is)
 
 -- Strings that are read with a sound table have no zero byte, and the table stays sound.
-pub strings_ok : (form : Form) (table : List EntryStrings) (bytes : List ℕ) (x : EntryStrings × List EntryStrings × List ℕ) → list_all is_entry table ≡ true →
+pub strings_ok : (form : Form) (table : List EntryStrings) (bytes : List ℕ) (x : EntryStrings × List EntryStrings × List ℕ) →
+    list_all is_entry table ≡ true →
     strings_at form table bytes ≡ Ok x → (is_entry x.0 ≡ true) × (list_all is_entry x.1 ≡ true)
 unfolding strings_at
 strings_ok form table bytes x g h =

@@ -17,20 +17,22 @@ use Rattle.o5_codec.specs.declared.reason.O5Reason.TheVariants.{BadSection, NoVe
 use Rattle.o5_codec.specs.declared.segment.Segment.{Segment}
 use Rattle.o5_codec.specs.Author.{Author}
 use Rattle.o5_codec.specs.declared.strings.Form.TheVariants.{Pair, Single}
-use Rattle.o5_codec.specs.Answer.{and_then}
+use Rattle.o5_codec.specs.Results.{and_then}
 use Rattle.o5_codec.specs.Number.{number_at, signed_at}
 use Rattle.o5_codec.specs.Base.{moved_id, within_range, moved_number, moved_coordinate}
 use Rattle.o5_codec.specs.StringPair.{strings_at}
 use Rattle.o5_codec.specs.Text.{text_of, tag_of, user_of}
-use Rattle.o5_codec.specs.Segment.{ReadStep, with_bases, with_table, id_at, nonzero_version, version_at, time_at, changeset_at, user_at, author}
+use Rattle.o5_codec.specs.Segment.{ReadStep, with_bases, with_table, id_at, nonzero_version, version_at, time_at, changeset_at, user_at}
+use Rattle.o5_codec.specs.Segment.{author}
 use Rattle.o5_codec.specs.Segment.{author_after_changeset, author_at, meta_at}
 use Rattle.o5_codec.specs.Items.{items_up_to, items_at}
 use Rattle.o5_codec.specs.Body.{with_seen, tag_at, longitude_at, latitude_at, node_at, cut_at, section_at, with_section, reference_at}
 use Rattle.o5_codec.specs.Body.{way_at, kind_and_role, with_member, moved_member, member_at, relation_at, body_at, set_at}
-use Rattle.o5_codec.specs.Spelling.{NumberAtFront, MovedAtFront, ReferenceAtFront, VersionAtFront, UserAtFront, AuthorAfterChangeset, AuthorAtFront}
+use Rattle.o5_codec.specs.Spelling.{NumberAtFront, MovedAtFront, ReferenceAtFront, VersionAtFront, UserAtFront, AuthorAfterChangeset}
+use Rattle.o5_codec.specs.Spelling.{AuthorAtFront}
 use Rattle.o5_codec.specs.Spelling.{MetaAtFront, TagAtFront, ItemsInAll, NodeInAll, SectionAtFront, WayInAll, MemberAtFront, RelationInAll}
 use Rattle.o5_codec.specs.Spelling.{BodyInAll, SpellsSet}
-use Rattle.o5_codec.proofs.AnswerSteps.{read_next, one_value}
+use Rattle.o5_codec.proofs.ResultSteps.{read_next, one_value}
 use Rattle.o5_codec.proofs.SoundStrings.{first_ok, tested_ok, same_value}
 use Rattle.o5_codec.proofs.NumberLaws.{number_found, number_only, signed_found, signed_only, signed_shorter}
 use Rattle.o5_codec.proofs.StringLaws.{strings_found, strings_only, strings_shorter}
@@ -96,28 +98,30 @@ user_only s bytes x u =
     read_next (strings_at Pair s.table bytes) _ _ (strings_only Pair s.table bytes (u.0, u.1, x.2) u.2) ∙ read_next (user_of u.0) _ _ u.3
     ∙ ap (λ z. Ok (x.0, z, x.2)) (sym u.4)
 
-behind_found : (changeset : ℕ) (s : Segment) (bytes : List ℕ) (x : Author × Segment × List ℕ) → author_after_changeset (changeset, s, bytes) ≡ Ok x →
+after_found : (changeset : ℕ) (s : Segment) (bytes : List ℕ) (x : Author × Segment × List ℕ) →
+    author_after_changeset (changeset, s, bytes) ≡ Ok x →
     AuthorAfterChangeset changeset s bytes x
 unfolding author_after_changeset
-behind_found changeset s [] x h = sym (same_value _ _ h)
-behind_found changeset s (b ∷ bytes) x h =
+after_found changeset s [] x h = sym (same_value _ _ h)
+after_found changeset s (b ∷ bytes) x h =
     let f = first_ok (user_at s (b ∷ bytes)) _ x h in
     let same : (author changeset f.0.0.0 f.0.0.1, f.0.1, f.0.2) ≡ x = same_value _ _ f.2 in
     let P : Author × Segment × List ℕ → Type 0 = λ y. AuthorAfterChangeset changeset s (b ∷ bytes) y in
     subst P same (f.0.0, user_found s (b ∷ bytes) f.0 f.1, refl)
 
-behind_only : (changeset : ℕ) (s : Segment) (bytes : List ℕ) (x : Author × Segment × List ℕ) → AuthorAfterChangeset changeset s bytes x →
+after_only : (changeset : ℕ) (s : Segment) (bytes : List ℕ) (x : Author × Segment × List ℕ) → AuthorAfterChangeset changeset s bytes x →
     author_after_changeset (changeset, s, bytes) ≡ Ok x
 unfolding author_after_changeset
-behind_only changeset s [] x e = ap (λ y. Ok y) (sym e)
-behind_only changeset s (b ∷ bytes) x u =
+after_only changeset s [] x e = ap (λ y. Ok y) (sym e)
+after_only changeset s (b ∷ bytes) x u =
     read_next (user_at s (b ∷ bytes)) _ _ (user_only s (b ∷ bytes) (u.0, x.1, x.2) u.1) ∙ ap (λ a. Ok (a, x.1, x.2)) (sym u.2)
 
 author_found : (time : ℕ) (s : Segment) (bytes : List ℕ) (x : Author × Segment × List ℕ) → author_at time s bytes ≡ Ok x →
     AuthorAtFront time s bytes x
 unfolding author_at changeset_at
 author_found time s bytes x h =
-    elim (eqb time 0) as (λ t. eqb time 0 ≡ t → (if t then Ok (author 0 0 [], s, bytes) else and_then (changeset_at s bytes) author_after_changeset)
+    elim (eqb time 0) as (λ t. eqb time 0 ≡ t → (if t then Ok (author 0 0 [], s, bytes)
+    else and_then (changeset_at s bytes) author_after_changeset)
     ≡ Ok x → AuthorAtFront time s bytes x) [
       | true ↦ λ t e. inl (t, sym (same_value _ _ e))
       | false ↦ λ t e. (let f = first_ok (changeset_at s bytes) author_after_changeset x e in
@@ -126,7 +130,7 @@ author_found time s bytes x h =
             (
               f.0,
               moved_found (moved_number s.bases.changeset) (λ c. with_bases s (record s.bases { changeset = c })) bytes f.0 f.1,
-              behind_found f.0.0 f.0.1 f.0.2 x f.2,
+              after_found f.0.0 f.0.1 f.0.2 x f.2,
             ),
           ))
     ] refl h
@@ -138,7 +142,7 @@ author_only time s bytes x (inl a) = rw a.0 (ap (λ y. Ok y) (sym a.1))
 author_only time s bytes x (inr a) =
     rw a.0 (read_next (changeset_at s bytes) author_after_changeset _
     (moved_only (moved_number s.bases.changeset) (λ c. with_bases s (record s.bases { changeset = c })) bytes a.1.0 a.1.1)
-    ∙ behind_only a.1.0.0 a.1.0.1 a.1.0.2 x a.1.2)
+    ∙ after_only a.1.0.0 a.1.0.1 a.1.0.2 x a.1.2)
 
 -- If metadata is read, the bytes spell it.
 pub meta_found : (s : Segment) (bytes : List ℕ) (x : Meta × Segment × List ℕ) → meta_at s bytes ≡ Ok x → MetaAtFront s bytes x

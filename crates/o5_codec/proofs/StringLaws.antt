@@ -10,14 +10,14 @@ use Rattle.o5_codec.specs.declared.strings.Form.{Form}
 use Rattle.o5_codec.specs.declared.strings.Form.TheVariants.{Pair, Single}
 use Rattle.o5_codec.specs.declared.strings.StringRef.{StringRef}
 use Rattle.o5_codec.specs.declared.strings.StringRef.TheVariants.{Inline, Reference}
-use Rattle.o5_codec.specs.Answer.{and_then}
+use Rattle.o5_codec.specs.Results.{and_then}
 use Rattle.o5_codec.specs.Entry.{EntryStrings}
 use Rattle.o5_codec.specs.Table.{table_with, entry_at}
 use Rattle.o5_codec.specs.Number.{number_at}
 use Rattle.o5_codec.specs.StringPair.{split_at_end, string_at, entry_of, inline_at, spelled_at, strings_of, table_after, strings_at}
 use Rattle.o5_codec.specs.Sound.{has_no_zero}
 use Rattle.o5_codec.specs.Spelling.{NumberAtFront, StringAtFront, InlineAtFront, StringsAtFront}
-use Rattle.o5_codec.proofs.AnswerSteps.{read_next}
+use Rattle.o5_codec.proofs.ResultSteps.{read_next}
 use Rattle.o5_codec.proofs.SoundStrings.{first_ok, both_true, string_ok, referred_ok}
 use Rattle.o5_codec.proofs.NumberLaws.{number_found, number_only, number_shorter}
 
@@ -41,11 +41,11 @@ split_at_zero (b ∷ bytes) h =
           rw (one, more) (ap (λ xs. b ∷ xs) (split_at_zero bytes inside)))
     ] refl h
 
-zero_behind : (string rest : List ℕ) → has_no_zero string ≡ true → before_zero (string ++ 0 ∷ rest) ≡ length string
-zero_behind [] rest h = refl
-zero_behind (b ∷ string) rest h =
+zero_after : (string rest : List ℕ) → has_no_zero string ≡ true → before_zero (string ++ 0 ∷ rest) ≡ length string
+zero_after [] rest h = refl
+zero_after (b ∷ string) rest h =
     let both = both_true (not (eqb b 0)) (has_no_zero string) h in
-    rw both.0 (let e = zero_behind string rest both.1 in omega arith)
+    rw both.0 (let e = zero_after string rest both.1 in omega arith)
 
 pub string_found : (bytes : List ℕ) (x : List ℕ × List ℕ) → string_at bytes ≡ Ok x → StringAtFront bytes x
 unfolding string_at
@@ -62,7 +62,7 @@ string_found bytes x h = (
 string_there : (string rest : List ℕ) → has_no_zero string ≡ true → string_at (string ++ 0 ∷ rest) ≡ Ok (string, rest)
 unfolding string_at
 string_there string rest h =
-    let place : before_zero (string ++ 0 ∷ rest) ≡ length string = zero_behind string rest h in
+    let place : before_zero (string ++ 0 ∷ rest) ≡ length string = zero_after string rest h in
     let lengths : length (string ++ 0 ∷ rest) ≡ length string + length (0 ∷ rest) = length-append string (0 ∷ rest) in
     let inside : ltb (length string) (length (string ++ 0 ∷ rest)) ≡ true =
     lt-ltb (length string) (length (string ++ 0 ∷ rest)) (omega arith) in
@@ -175,7 +175,8 @@ strings_there form table n (b ∷ bytes) x s e t =
     rw (some, number_only (b ∷ bytes) (n, x.2) s, e) (ap (λ u. Ok (x.0, u, x.2)) (sym t))
 
 -- Strings that are spelled are read.
-pub strings_only : (form : Form) (table : List EntryStrings) (bytes : List ℕ) (x : EntryStrings × List EntryStrings × List ℕ) → StringsAtFront form table bytes x →
+pub strings_only : (form : Form) (table : List EntryStrings) (bytes : List ℕ) (x : EntryStrings × List EntryStrings × List ℕ) →
+    StringsAtFront form table bytes x →
     strings_at form table bytes ≡ Ok x
 unfolding strings_at spelled_at
 strings_only form table bytes x (inl s) =

@@ -3,7 +3,7 @@ use Rattle.std.proofs.Common.{◌≡◌, ℕ, true, false, List, refl, ap, sym, 
 use Rattle.std.specs.Str.{chars, IsUtf8, is_utf8}
 use Rattle.std.proofs.lemmas.Str.{IsUtf8-from_is_utf8, is_utf8-from_IsUtf8}
 use Rattle.o5_codec.specs.declared.reason.O5Reason.TheVariants.{NotUtf8}
-use Rattle.o5_codec.specs.Answer.{and_then}
+use Rattle.o5_codec.specs.Results.{and_then}
 use Rattle.o5_codec.specs.Entry.{EntryStrings}
 use Rattle.o5_codec.specs.Text.{text_of, tag_of, uid_of, user_of}
 
@@ -22,7 +22,8 @@ text_refused bytes none =
     ] refl
 
 -- A user id and a user name that are read are the user of the entry.
-pub user_read : (e : EntryStrings) (uid : ℕ) (name : List ℕ) → uid_of e.first ≡ Ok uid → text_of e.second ≡ Ok name → user_of e ≡ Ok (uid, name)
+pub user_read : (e : EntryStrings) (uid : ℕ) (name : List ℕ) → uid_of e.first ≡ Ok uid → text_of e.second ≡ Ok name →
+    user_of e ≡ Ok (uid, name)
 unfolding user_of
 user_read e uid name id text =
     ap (λ r. and_then r (λ uid. and_then (text_of e.second) (λ name. Ok (uid, name)))) id

@@ -18,15 +18,16 @@ turn_none bytes s = record { bytes = sym (append-nil bytes); segment = refl }
 
 -- A step and then the other steps append the bytes that all steps spell.
 pub turn_next : (step : WriteStep) (steps : List WriteStep) (b0 b1 b2 : List ℕ) (s0 s1 s2 : EncoderSegment) →
-    AppendsSpelling b0 b1 s1 (step s0) → AppendsSpelling b1 b2 s2 (sequence steps s1) → AppendsSpelling b0 b2 s2 (sequence (step ∷ steps) s0)
+    AppendsSpelling b0 b1 s1 (step s0) → AppendsSpelling b1 b2 s2 (sequence steps s1) →
+    AppendsSpelling b0 b2 s2 (sequence (step ∷ steps) s0)
 unfolding sequence
 turn_next step steps b0 b1 b2 s0 s1 s2 first rest =
     let P : EncoderSegment → Type 0 = λ s. AppendsSpelling b1 b2 s2 (sequence steps s) in
-    let behind : AppendsSpelling b1 b2 s2 (sequence steps (step s0).1) = subst P first.segment rest in
+    let later : AppendsSpelling b1 b2 s2 (sequence steps (step s0).1) = subst P first.segment rest in
     record {
-      bytes = behind.bytes ∙ ap (λ b. b ++ (sequence steps (step s0).1).0) first.bytes
+      bytes = later.bytes ∙ ap (λ b. b ++ (sequence steps (step s0).1).0) first.bytes
           ∙ append_assoc b0 (step s0).0 (sequence steps (step s0).1).0;
-      segment = behind.segment;
+      segment = later.segment;
     }
 
 -- A single step appends the bytes that the sequence of only this step spells.
@@ -35,7 +36,8 @@ pub turn_last : (step : WriteStep) (b0 b1 : List ℕ) (s0 s1 : EncoderSegment) �
 turn_last step b0 b1 s0 s1 first = turn_next step [] b0 b1 b1 s0 s1 s1 first (turn_none b1 s1)
 
 -- Fixed bytes leave the segment as it is.
-pub plainly : (bytes before after : List ℕ) (s : EncoderSegment) → after ≡ before ++ bytes → AppendsSpelling before after s (fixed_bytes bytes s)
+pub plainly : (bytes before after : List ℕ) (s : EncoderSegment) → after ≡ before ++ bytes →
+    AppendsSpelling before after s (fixed_bytes bytes s)
 unfolding fixed_bytes
 plainly bytes before after s e = record { bytes = e; segment = refl }
 
@@ -53,7 +55,8 @@ module _ {X : Type 0} (step : X → WriteStep) where
   pub turns_more : (all rest more : List X) (x : X) (before now next : List ℕ) (start s t : EncoderSegment) →
       Turns all rest before now start s → rest ≡ x ∷ more → AppendsSpelling now next t (step x s) → Turns all more before next start t
   turns_more all rest more x before now next start s t h is one = record {
-    left = λ after reached k. h.left after reached (let P : List X → Type 0 = λ xs. AppendsSpelling now after reached (sequence (map step xs) s) in
+    left = λ after reached k. h.left after reached (let P : List X → Type 0 =
+        λ xs. AppendsSpelling now after reached (sequence (map step xs) s) in
         subst P (sym is) (turn_next (step x) (map step more) now next after s t reached one k));
   }
 

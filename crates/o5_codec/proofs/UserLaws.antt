@@ -9,7 +9,7 @@ use Rattle.o5_codec.specs.Number.{SpellsNumber, number_at}
 use Rattle.o5_codec.specs.Text.{text_of, whole_number, uid_of, user_of}
 use Rattle.o5_codec.specs.Laws.{SpellsUid}
 use Rattle.o5_codec.proofs.SoundStrings.{first_ok, tested_ok, same_value}
-use Rattle.o5_codec.proofs.AnswerSteps.{read_next}
+use Rattle.o5_codec.proofs.ResultSteps.{read_next}
 use Rattle.o5_codec.proofs.NumberLaws.{number_found, number_only}
 
 below_limit : (n : ℕ) → ltb n (2 ^ 32) ≡ true → n < 2 ^ 32
@@ -19,9 +19,9 @@ whole_found : (bytes : List ℕ) (y : ℕ × List ℕ) (n : ℕ) → number_at b
     SpellsNumber bytes n × (n < 2 ^ 32)
 whole_found bytes (m, []) n read h =
     let t = tested_ok (ltb m (2 ^ 32)) m n OutOfRange h in
-    let stands = number_found bytes (m, []) read in
+    let spelled = number_found bytes (m, []) read in
     let P : List ℕ × ℕ → Type 0 = λ z. SpellsNumber z.0 z.1 × (z.1 < 2 ^ 32) in
-    subst P (λ i. ((sym (append-nil stands.0) ∙ sym stands.2) i, t.1 i)) (stands.1, below_limit m t.0)
+    subst P (λ i. ((sym (append-nil spelled.0) ∙ sym spelled.2) i, t.1 i)) (spelled.1, below_limit m t.0)
 whole_found bytes (m, b ∷ rest) n read h = cc
 
 uid_found : (bytes : List ℕ) (n : ℕ) → uid_of bytes ≡ Ok n → SpellsUid bytes n

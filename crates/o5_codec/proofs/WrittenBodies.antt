@@ -22,11 +22,12 @@ use Rattle.o5_codec.specs.Base.{moved_id}
 use Rattle.o5_codec.specs.Spelling.{NumberAtFront, TagAtFront, MemberAtFront, ItemsInAll, SectionAtFront, VisibleInAll, BodyInAll}
 use Rattle.o5_codec.specs.Shortest.{shortest_number}
 use Rattle.o5_codec.specs.Formed.{FormedEntry}
-use Rattle.o5_codec.specs.Writing.{EncoderSegment, WriteStep, sequence, longitude_spelling, latitude_spelling, reference_spelling, member_id_spelling}
+use Rattle.o5_codec.specs.Writing.{EncoderSegment, WriteStep, sequence, longitude_spelling, latitude_spelling, reference_spelling}
+use Rattle.o5_codec.specs.Writing.{member_id_spelling}
 use Rattle.o5_codec.specs.Writing.{strings_spelling, member_entry, tag_spelling, tags_spelling, member_spelling, section_spelling}
 use Rattle.o5_codec.specs.Writing.{references_spelling, members_spelling, body_spelling}
 use Rattle.o5_codec.specs.Agreement.{strings_in, reader_segment, IsEncoderSegment, MayHaveSeen}
-use Rattle.o5_codec.proofs.AnswerSteps.{read_next}
+use Rattle.o5_codec.proofs.ResultSteps.{read_next}
 use Rattle.o5_codec.proofs.NumberLaws.{number_shorter, signed_shorter}
 use Rattle.o5_codec.proofs.SoundStrings.{both_true}
 use Rattle.o5_codec.proofs.WrittenNumbers.{number_back, id_difference, id_moved}
@@ -40,11 +41,11 @@ seen_with kind.Node seen = NodeMembers
 seen_with kind.Way seen = seen
 seen_with kind.Relation seen = seen
 
-seen_told : (k : Kind) (seen : ListsSeen) → MayHaveSeen kind.Relation seen → with_member seen k ≡ Ok (seen_with k seen)
-seen_told kind.Node seen (inl e) = ap (λ s. with_member s kind.Node) e
-seen_told kind.Node seen (inr e) = ap (λ s. with_member s kind.Node) e
-seen_told kind.Way seen may = refl
-seen_told kind.Relation seen may = refl
+seen_with_member : (k : Kind) (seen : ListsSeen) → MayHaveSeen kind.Relation seen → with_member seen k ≡ Ok (seen_with k seen)
+seen_with_member kind.Node seen (inl e) = ap (λ s. with_member s kind.Node) e
+seen_with_member kind.Node seen (inr e) = ap (λ s. with_member s kind.Node) e
+seen_with_member kind.Way seen may = refl
+seen_with_member kind.Relation seen may = refl
 
 may_continue : (k : Kind) (seen : ListsSeen) → MayHaveSeen kind.Relation seen → MayHaveSeen kind.Relation (seen_with k seen)
 may_continue kind.Node seen may = inr refl
@@ -68,16 +69,16 @@ unfolding member_id_spelling strings_spelling
 member_at_front kind.Node id role c seen rest ok may h text =
     let e : FormedEntry = member_entry kind.Node role in
     let c1 : EncoderSegment = (member_id_spelling kind.Node id c).1 in
-    let behind : List ℕ = (strings_spelling e c1).0 ++ rest in (
-      (id -ℤ c.bases.node_member, behind),
+    let later : List ℕ = (strings_spelling e c1).0 ++ rest in (
+      (id -ℤ c.bases.node_member, later),
       (e.strings, strings_in (strings_spelling e c1).1.table),
       (kind.Node, encode_utf8_all role),
       NodeMembers,
       (id, c1.bases),
-      id_difference c.bases.node_member id behind ok.ids.node_member h,
+      id_difference c.bases.node_member id later ok.ids.node_member h,
       strings_back e c.table rest (role_spellable kind.Node role text) ok.few,
       role_back kind.Node role,
-      seen_told kind.Node seen may,
+      seen_with_member kind.Node seen may,
       read_next (moved_id c.bases.node_member (id -ℤ c.bases.node_member)) _ _ (id_moved c.bases.node_member id h),
       text_back role text,
       refl,
@@ -87,16 +88,16 @@ member_at_front kind.Node id role c seen rest ok may h text =
 member_at_front kind.Way id role c seen rest ok may h text =
     let e : FormedEntry = member_entry kind.Way role in
     let c1 : EncoderSegment = (member_id_spelling kind.Way id c).1 in
-    let behind : List ℕ = (strings_spelling e c1).0 ++ rest in (
-      (id -ℤ c.bases.way_member, behind),
+    let later : List ℕ = (strings_spelling e c1).0 ++ rest in (
+      (id -ℤ c.bases.way_member, later),
       (e.strings, strings_in (strings_spelling e c1).1.table),
       (kind.Way, encode_utf8_all role),
       seen,
       (id, c1.bases),
-      id_difference c.bases.way_member id behind ok.ids.way_member h,
+      id_difference c.bases.way_member id later ok.ids.way_member h,
       strings_back e c.table rest (role_spellable kind.Way role text) ok.few,
       role_back kind.Way role,
-      seen_told kind.Way seen may,
+      seen_with_member kind.Way seen may,
       read_next (moved_id c.bases.way_member (id -ℤ c.bases.way_member)) _ _ (id_moved c.bases.way_member id h),
       text_back role text,
       refl,
@@ -106,16 +107,16 @@ member_at_front kind.Way id role c seen rest ok may h text =
 member_at_front kind.Relation id role c seen rest ok may h text =
     let e : FormedEntry = member_entry kind.Relation role in
     let c1 : EncoderSegment = (member_id_spelling kind.Relation id c).1 in
-    let behind : List ℕ = (strings_spelling e c1).0 ++ rest in (
-      (id -ℤ c.bases.relation_member, behind),
+    let later : List ℕ = (strings_spelling e c1).0 ++ rest in (
+      (id -ℤ c.bases.relation_member, later),
       (e.strings, strings_in (strings_spelling e c1).1.table),
       (kind.Relation, encode_utf8_all role),
       seen,
       (id, c1.bases),
-      id_difference c.bases.relation_member id behind ok.ids.relation_member h,
+      id_difference c.bases.relation_member id later ok.ids.relation_member h,
       strings_back e c.table rest (role_spellable kind.Relation role text) ok.few,
       role_back kind.Relation role,
-      seen_told kind.Relation seen may,
+      seen_with_member kind.Relation seen may,
       read_next (moved_id c.bases.relation_member (id -ℤ c.bases.relation_member)) _ _ (id_moved c.bases.relation_member id h),
       text_back role text,
       refl,
@@ -136,7 +137,8 @@ member_back m c seen rest ok may h text =
     (strings_spelling (member_entry m.kind m.role) (member_id_spelling m.kind m.id c).1).0 rest))
     (member_at_front m.kind m.id m.role c seen rest ok may h text)
 
-member_id_keeps : (k : Kind) (id : ℤ) (c : EncoderSegment) → IsEncoderSegment c → is_id id ≡ true → IsEncoderSegment (member_id_spelling k id c).1
+member_id_keeps : (k : Kind) (id : ℤ) (c : EncoderSegment) → IsEncoderSegment c → is_id id ≡ true →
+    IsEncoderSegment (member_id_spelling k id c).1
 unfolding member_id_spelling
 member_id_keeps kind.Node id c ok h = record {
   few = ok.few;
@@ -216,7 +218,8 @@ unfolding sequence
 members_keep [] c ok h = ok
 members_keep (m ∷ members) c ok h =
     let all = both_true (is_member m) (list_all is_member members) h in
-    let own = both_true (is_id m.id) (is_text m.role) all.0 in members_keep members (member_spelling m c).1 (member_keeps m c ok own.0) all.1
+    let own = both_true (is_id m.id) (is_text m.role) all.0 in
+    members_keep members (member_spelling m c).1 (member_keeps m c ok own.0) all.1
 
 all_may : (members : List Member) (seen : ListsSeen) → MayHaveSeen kind.Relation seen →
     MayHaveSeen kind.Relation (seen_with_all members seen)
@@ -245,8 +248,8 @@ BodyBack k c seen step body = (after : ListsSeen) × MayHaveSeen k after
 -- a body that has bytes is visible
 visible : (k : Kind) (s : Segment) (bytes : List ℕ) (x : Body × Segment) → VisibleInAll k s bytes x → 0 < length bytes →
     BodyInAll k s bytes x
-visible k s [] x stands some = absurd (omega arith)
-visible k s (b ∷ bytes) x stands some = stands
+visible k s [] x spelled some = absurd (omega arith)
+visible k s (b ∷ bytes) x spelled some = spelled
 
 node_back : (lon lat : ℤ) (tags : List Tag) (c : EncoderSegment) (seen : ListsSeen) → IsEncoderSegment c → MayHaveSeen kind.Node seen →
     FitsSigned w32 lon → FitsSigned w32 lat → list_all are_texts tags ≡ true →
@@ -258,16 +261,16 @@ node_back lon lat tags c seen ok may lon_fits lat_fits texts =
     let ok1 : IsEncoderSegment c1 = longitude_keeps c lon ok lon_fits in
     let ok2 : IsEncoderSegment c2 = latitude_keeps c1 lat ok1 lat_fits in
     let end : List ℕ = (sequence (map tag_spelling tags) c2).0 ++ [] in
-    let behind : List ℕ = (latitude_spelling lat c1).0 ++ end in
-    let first = longitude_back c seen lon behind ok lon_fits in
+    let later : List ℕ = (latitude_spelling lat c1).0 ++ end in
+    let first = longitude_back c seen lon later ok lon_fits in
     let items = subst (λ bytes. ItemsInAll TagAtFront (reader_segment c2 seen) bytes tags
     (reader_segment (sequence (map tag_spelling tags) c2).1 seen))
     (sym (append-nil (sequence (map tag_spelling tags) c2).0)) (tags_back tags c2 seen ok2 texts) in (
       seen,
       may,
-      visible kind.Node (reader_segment c seen) ((longitude_spelling lon c).0 ++ behind)
+      visible kind.Node (reader_segment c seen) ((longitude_spelling lon c).0 ++ later)
           (Node lon lat tags, reader_segment (sequence (map tag_spelling tags) c2).1 seen) (
-            (lon, reader_segment c1 seen, behind),
+            (lon, reader_segment c1 seen, later),
             (lat, reader_segment c2 seen, end),
             tags,
             first,
@@ -275,7 +278,7 @@ node_back lon lat tags c seen ok may lon_fits lat_fits texts =
             items,
             refl,
           )
-          (let short = signed_shorter ((longitude_spelling lon c).0 ++ behind) (first.0, behind) first.1 in omega arith),
+          (let short = signed_shorter ((longitude_spelling lon c).0 ++ later) (first.0, later) first.1 in omega arith),
       tags_keep tags c2 ok2,
     )
 
@@ -365,7 +368,8 @@ unfolding body_spelling sequence
 deleted_back k c seen ok may = (seen, may, refl, ok)
 
 -- A body that is written is read back.
-pub body_back : (body : Body) (c : EncoderSegment) (seen : ListsSeen) → IsEncoderSegment c → MayHaveSeen (kind_of body) seen → IsWritable body →
+pub body_back : (body : Body) (c : EncoderSegment) (seen : ListsSeen) → IsEncoderSegment c → MayHaveSeen (kind_of body) seen →
+    IsWritable body →
     length (body_spelling body c).0 < 2 ^ 64 →
     BodyBack (kind_of body) c seen (body_spelling body) body
 body_back (Deleted k) c seen ok may w small = deleted_back k c seen ok may

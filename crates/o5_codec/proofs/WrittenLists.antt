@@ -17,11 +17,12 @@ use Rattle.o5_codec.specs.Spelling.{SpellsSet}
 use Rattle.o5_codec.specs.Shortest.{shortest_number}
 use Rattle.o5_codec.specs.Writing.{content_spelling}
 use Rattle.o5_codec.specs.Agreement.{reader_segment, IsEncoderSegment, MayHaveSeen}
-use Rattle.o5_codec.specs.Encoder.{WriterState, new_encoder_segment, initial_writer, type_byte, begins_segment, reset_before, segment_to_use}
+use Rattle.o5_codec.specs.Encoder.{WriterState, new_encoder_segment, initial_writer, type_byte, begins_segment, reset_before}
+use Rattle.o5_codec.specs.Encoder.{segment_to_use}
 use Rattle.o5_codec.specs.Encoder.{data_set, segment_before, spelled_set, writer_after}
 use Rattle.o5_codec.specs.WritingLaws.{segment_for, segment_after, AreInStep, content_after, IsReadNext, WrittenSetsAreRead, SetsInAll}
 use Rattle.o5_codec.specs.WritingLaws.{spelled_sets, WrittenListsAreRead}
-use Rattle.o5_codec.proofs.AnswerSteps.{one_value}
+use Rattle.o5_codec.proofs.ResultSteps.{one_value}
 use Rattle.o5_codec.proofs.StepLaws.{section_only, set_only}
 use Rattle.o5_codec.proofs.WrittenBodies.{section_back}
 use Rattle.o5_codec.proofs.WrittenSets.{set_back}
@@ -87,7 +88,7 @@ next_back : (w : WriterState) (seen : ListsSeen) (v : VersionData) → AreInStep
 unfolding segment_before writer_after
 next_back w seen v h valid small =
     let r = next_by (begins_segment w.last (kind_of v.body)) w seen v refl h valid small in
-    record { after = r.0; spells = r.2; behind = record { segment = r.3; lists = r.1 } }
+    record { after = r.0; spells = r.2; in_step = record { segment = r.3; lists = r.1 } }
 
 -- The bytes written for a version are read as that version and no other.
 pub sets_read : WrittenSetsAreRead
@@ -98,12 +99,12 @@ parted : (k : Kind) (reset content rest : List ℕ) →
     (reset ++ data_set k content) ++ rest ≡ reset ++ type_byte k ∷ ((shortest_number (length content) ++ content) ++ rest)
 parted k reset content rest = append_assoc reset (data_set k content) rest
 
-lists_stand : (versions : List VersionData) (w : WriterState) (seen : ListsSeen) → AreInStep w seen → All IsVersion versions →
+lists_in_step : (versions : List VersionData) (w : WriterState) (seen : ListsSeen) → AreInStep w seen → All IsVersion versions →
     length (spelled_sets w versions) < 2 ^ 64 →
     SetsInAll (segment_after w seen) (spelled_sets w versions) versions
 unfolding spelled_set
-lists_stand [] w seen h valid small = refl
-lists_stand (v ∷ versions) w seen h valid small =
+lists_in_step [] w seen h valid small = refl
+lists_in_step (v ∷ versions) w seen h valid small =
     let k : Kind = kind_of v.body in
     let content : List ℕ = content_after w v in
     let rest : List ℕ = spelled_sets (writer_after w v) versions in
@@ -117,7 +118,7 @@ lists_stand (v ∷ versions) w seen h valid small =
       parted k (reset_before (begins_segment w.last k)) content rest,
       section_back content rest room,
       r.spells,
-      lists_stand versions (writer_after w v) r.after r.behind (λ k d inside. valid (suc k) d (omega arith)) (omega arith),
+      lists_in_step versions (writer_after w v) r.after r.in_step (λ k d inside. valid (suc k) d (omega arith)) (omega arith),
     )
 
 -- ---- no other list
@@ -150,8 +151,8 @@ no_reset kind.Relation e = apart 0xff 0x12 refl e
 same_begin : (b c : Bool) (j k : Kind) (x y : List ℕ) → reset_before b ++ type_byte j ∷ x ≡ reset_before c ++ type_byte k ∷ y →
     (b ≡ c) × (j ≡ k) × (x ≡ y)
 same_begin true true j k x y e =
-    let behind : type_byte j ∷ x ≡ type_byte k ∷ y = tails 0xff 0xff (type_byte j ∷ x) (type_byte k ∷ y) e in
-    (refl, one_type j k (heads (type_byte j) (type_byte k) x y behind), tails (type_byte j) (type_byte k) x y behind)
+    let remaining : type_byte j ∷ x ≡ type_byte k ∷ y = tails 0xff 0xff (type_byte j ∷ x) (type_byte k ∷ y) e in
+    (refl, one_type j k (heads (type_byte j) (type_byte k) x y remaining), tails (type_byte j) (type_byte k) x y remaining)
 same_begin true false j k x y e = absurd (no_reset k (heads 0xff (type_byte k) (type_byte j ∷ x) y e))
 same_begin false true j k x y e = absurd (no_reset j (sym (heads (type_byte j) 0xff x (type_byte k ∷ y) e)))
 same_begin false false j k x y e = (refl, one_type j k (heads (type_byte j) (type_byte k) x y e), tails (type_byte j) (type_byte k) x y e)
@@ -182,5 +183,5 @@ one_list (v ∷ versions) (w ∷ others) s bytes (b, set, x, after, is, cut, spe
 -- The bytes written for a list of versions are read as that list and no other.
 pub lists_read : WrittenListsAreRead
 lists_read versions valid small =
-    let stands = lists_stand versions initial_writer Neither begin valid small in
-    (stands, λ others h. one_list versions others new_segment (spelled_sets initial_writer versions) stands h)
+    let spelled = lists_in_step versions initial_writer Neither begin valid small in
+    (spelled, λ others h. one_list versions others new_segment (spelled_sets initial_writer versions) spelled h)

@@ -28,7 +28,8 @@ use Rattle.o5_codec.specs.declared.strings.Form.TheVariants.{Pair}
 use Rattle.o5_codec.specs.Segment.{author, time_of, meta_of}
 use Rattle.o5_codec.specs.Spelling.{UserAtFront, AuthorAfterChangeset, AuthorAtFront, BodyInAll, SpellsSet}
 use Rattle.o5_codec.specs.Shortest.{shortest_number}
-use Rattle.o5_codec.specs.Writing.{EncoderSegment, WriteStep, sequence, fixed_bytes, id_spelling, time_spelling, changeset_spelling, strings_spelling}
+use Rattle.o5_codec.specs.Writing.{EncoderSegment, WriteStep, sequence, fixed_bytes, id_spelling, time_spelling, changeset_spelling}
+use Rattle.o5_codec.specs.Writing.{strings_spelling}
 use Rattle.o5_codec.specs.Writing.{user_entry, author_steps, author_spelling, body_spelling, content_spelling}
 use Rattle.o5_codec.specs.Agreement.{reader_segment, IsEncoderSegment, MayHaveSeen}
 use Rattle.o5_codec.proofs.SoundStrings.{both_true}
@@ -38,12 +39,12 @@ use Rattle.o5_codec.proofs.WrittenSteps.{strings_keep, user_at_front, are_texts}
 use Rattle.o5_codec.proofs.WrittenBodies.{IsWritable, body_back, is_member, two_bytes}
 
 -- ---- the author
-user_behind : (changeset : ℕ) (s : Segment) (bytes : List ℕ) (user : ℕ × List ℕ) (end : Segment) (rest : List ℕ) →
+user_after : (changeset : ℕ) (s : Segment) (bytes : List ℕ) (user : ℕ × List ℕ) (end : Segment) (rest : List ℕ) →
     UserAtFront s bytes (user, end, rest) →
     AuthorAfterChangeset changeset s bytes (author changeset user.0 user.1, end, rest)
-user_behind changeset s [] user end rest stands = absurd
-    (let short = strings_shorter Pair s.table [] (stands.0, stands.1, rest) stands.2 in omega arith)
-user_behind changeset s (b ∷ bytes) user end rest stands = (user, stands, refl)
+user_after changeset s [] user end rest spelled = absurd
+    (let short = strings_shorter Pair s.table [] (spelled.0, spelled.1, rest) spelled.2 in omega arith)
+user_after changeset s (b ∷ bytes) user end rest spelled = (user, spelled, refl)
 
 -- the author of a version
 abbrev author_of : VersionData → Author
@@ -62,7 +63,8 @@ no_author c seen v rest none nobody = inl (
   λ i. (author (nobody.0 i) (nobody.1 i) (nobody.2 i), reader_segment c seen, rest),
 )
 
-some_author : (c : EncoderSegment) (seen : ListsSeen) (v : VersionData) (t : ℕ) (rest : List ℕ) → IsEncoderSegment c → v.time ≡ Some t → 0 < t →
+some_author : (c : EncoderSegment) (seen : ListsSeen) (v : VersionData) (t : ℕ) (rest : List ℕ) → IsEncoderSegment c → v.time ≡ Some t →
+    0 < t →
     v.changeset < 2 ^ 32 → v.uid < 2 ^ 32 → is_text v.user ≡ true →
     AuthorBack c seen v (sequence (changeset_spelling v.changeset ∷ strings_spelling (user_entry v.uid v.user) ∷ [])) rest
 unfolding sequence
@@ -77,7 +79,7 @@ some_author c seen v t rest ok is some changeset uid user =
       (
         (v.changeset, reader_segment c1 seen, user_bytes ++ rest),
         changeset_back c seen v.changeset (user_bytes ++ rest) ok changeset,
-        user_behind v.changeset (reader_segment c1 seen) (user_bytes ++ rest) (v.uid, v.user) (reader_segment c2 seen) rest
+        user_after v.changeset (reader_segment c1 seen) (user_bytes ++ rest) (v.uid, v.user) (reader_segment c2 seen) rest
             (user_at_front c1 seen v.uid v.user rest ok1 uid user),
       ),
     ))
@@ -152,11 +154,13 @@ writable (Relation members tags) ids texts location =
 pub record IsReadBack (v : VersionData) (c : EncoderSegment) (seen : ListsSeen) : Type 0 where
   pub after : ListsSeen
   pub may : MayHaveSeen (kind_of v.body) after
-  pub spells : SpellsSet (kind_of v.body) (reader_segment c seen) (content_spelling v c).0 (v, reader_segment (content_spelling v c).1 after)
+  pub spells : SpellsSet (kind_of v.body) (reader_segment c seen) (content_spelling v c).0
+      (v, reader_segment (content_spelling v c).1 after)
   pub segment : IsEncoderSegment (content_spelling v c).1
 
 -- The bytes written for a version are read back as the version.
-pub set_back : (v : VersionData) (c : EncoderSegment) (seen : ListsSeen) → IsVersion v → IsEncoderSegment c → MayHaveSeen (kind_of v.body) seen →
+pub set_back : (v : VersionData) (c : EncoderSegment) (seen : ListsSeen) → IsVersion v → IsEncoderSegment c →
+    MayHaveSeen (kind_of v.body) seen →
     length (content_spelling v c).0 < 2 ^ 64 → IsReadBack v c seen
 unfolding content_spelling sequence fixed_bytes
 set_back v c seen valid ok may small =

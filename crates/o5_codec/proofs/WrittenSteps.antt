@@ -9,7 +9,8 @@ use Rattle.osm_model.specs.declared.tags.Tag.{Tag}
 use Rattle.osm_model.specs.Id.{is_id}
 use Rattle.osm_model.specs.Text.{is_text}
 use Rattle.o5_codec.specs.declared.segment.ListsSeen.{ListsSeen}
-use Rattle.o5_codec.specs.Spelling.{IdAtFront, TimeAtFront, ChangesetAtFront, LongitudeAtFront, LatitudeAtFront, ReferenceAtFront, VersionAtFront}
+use Rattle.o5_codec.specs.Spelling.{IdAtFront, TimeAtFront, ChangesetAtFront, LongitudeAtFront, LatitudeAtFront, ReferenceAtFront}
+use Rattle.o5_codec.specs.Spelling.{VersionAtFront}
 use Rattle.o5_codec.specs.Spelling.{UserAtFront, TagAtFront, ItemsInAll}
 use Rattle.o5_codec.specs.Shortest.{shortest_number}
 use Rattle.o5_codec.specs.Formed.{FormedEntry}
@@ -88,7 +89,8 @@ changeset_back c seen changeset rest ok h = (
 )
 
 -- A changeset that is written leaves the bases within their ranges.
-pub changeset_keeps : (c : EncoderSegment) (changeset : ℕ) → IsEncoderSegment c → changeset < 2 ^ 32 → IsEncoderSegment (changeset_spelling changeset c).1
+pub changeset_keeps : (c : EncoderSegment) (changeset : ℕ) → IsEncoderSegment c → changeset < 2 ^ 32 →
+    IsEncoderSegment (changeset_spelling changeset c).1
 unfolding changeset_spelling
 changeset_keeps c changeset ok h = record {
   few = ok.few;
@@ -118,7 +120,8 @@ longitude_back c seen lon rest ok h = (
 )
 
 -- A longitude that is written leaves the bases within their ranges.
-pub longitude_keeps : (c : EncoderSegment) (lon : ℤ) → IsEncoderSegment c → FitsSigned w32 lon → IsEncoderSegment (longitude_spelling lon c).1
+pub longitude_keeps : (c : EncoderSegment) (lon : ℤ) → IsEncoderSegment c → FitsSigned w32 lon →
+    IsEncoderSegment (longitude_spelling lon c).1
 unfolding longitude_spelling
 longitude_keeps c lon ok h = record {
   few = ok.few;
@@ -137,7 +140,8 @@ longitude_keeps c lon ok h = record {
 
 -- A latitude that is written is read back.
 pub latitude_back : (c : EncoderSegment) (seen : ListsSeen) (lat : ℤ) (rest : List ℕ) → IsEncoderSegment c → FitsSigned w32 lat →
-    LatitudeAtFront (reader_segment c seen) ((latitude_spelling lat c).0 ++ rest) (lat, reader_segment (latitude_spelling lat c).1 seen, rest)
+    LatitudeAtFront (reader_segment c seen) ((latitude_spelling lat c).0 ++ rest)
+    (lat, reader_segment (latitude_spelling lat c).1 seen, rest)
 unfolding latitude_spelling
 latitude_back c seen lat rest ok h = (
   lat -ℤ c.bases.lat,
@@ -165,7 +169,8 @@ latitude_keeps c lat ok h = record {
 }
 
 reference_back : (c : EncoderSegment) (seen : ListsSeen) (id : ℤ) (rest : List ℕ) → IsEncoderSegment c → is_id id ≡ true →
-    ReferenceAtFront (reader_segment c seen) ((reference_spelling id c).0 ++ rest) (id, reader_segment (reference_spelling id c).1 seen, rest)
+    ReferenceAtFront (reader_segment c seen) ((reference_spelling id c).0 ++ rest)
+    (id, reader_segment (reference_spelling id c).1 seen, rest)
 unfolding reference_spelling
 reference_back c seen id rest ok h = (
   id -ℤ c.bases.reference,

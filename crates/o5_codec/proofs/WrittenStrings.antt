@@ -27,7 +27,7 @@ use Rattle.o5_codec.specs.Agreement.{strings_in}
 use Rattle.o5_codec.specs.SameEntry.{same_entry_decides}
 use Rattle.o5_codec.specs.Writing.{uid_string, user_entry, tag_entry, member_entry}
 use Rattle.o5_codec.proofs.IndexSteps.{Within, within}
-use Rattle.o5_codec.proofs.AnswerSteps.{read_next}
+use Rattle.o5_codec.proofs.ResultSteps.{read_next}
 use Rattle.o5_codec.proofs.NumberLaws.{number_only, number_shorter}
 use Rattle.o5_codec.proofs.SoundStrings.{both_true, not_any}
 use Rattle.o5_codec.proofs.WrittenNumbers.{number_back, number_ranged, shortest_spells}
@@ -55,10 +55,12 @@ named e (x ∷ table) n is = elim (cases_Bool (same_entry e x)) [
 ]
 
 -- to store an entry and drop the forms is the same as to drop the forms and store the strings
-pub kept_strings : (e : FormedEntry) (table : List FormedEntry) → strings_in (formed_table_with e table) ≡ table_with e.strings (strings_in table)
+pub kept_strings : (e : FormedEntry) (table : List FormedEntry) →
+    strings_in (formed_table_with e table) ≡ table_with e.strings (strings_in table)
 kept_strings e table = elim (cases_Bool (is_short e.strings)) [
   | inl short ↦ ap strings_in (cond-true (is_short e.strings) _ table short)
-      ∙ sym (take-map (λ (x : FormedEntry). x.strings) table_limit (e ∷ table)) ∙ sym (cond-true (is_short e.strings) _ (strings_in table) short)
+      ∙ sym (take-map (λ (x : FormedEntry). x.strings) table_limit (e ∷ table))
+      ∙ sym (cond-true (is_short e.strings) _ (strings_in table) short)
   | inr long ↦ ap strings_in (cond-false (is_short e.strings) _ table long)
       ∙ sym (cond-false (is_short e.strings) _ (strings_in table) long)
 ]
@@ -76,7 +78,8 @@ pub record IsSpellable (e : FormedEntry) : Type 0 where
   pub second : has_no_zero e.strings.second ≡ true
   pub single : e.form ≡ Single → e.strings.second ≡ []
 
-inline_back : (form : Form) (strings : EntryStrings) (rest : List ℕ) → has_no_zero strings.first ≡ true → has_no_zero strings.second ≡ true →
+inline_back : (form : Form) (strings : EntryStrings) (rest : List ℕ) → has_no_zero strings.first ≡ true →
+    has_no_zero strings.second ≡ true →
     (form ≡ Single → strings.second ≡ []) →
     (inline : List ℕ) × (inline_bytes form strings ++ rest ≡ 0 ∷ inline) × InlineAtFront form inline (strings, rest)
 inline_back Pair strings rest first second single = (
@@ -104,7 +107,8 @@ pub strings_back : (e : FormedEntry) (table : List FormedEntry) (rest : List ℕ
     (e.strings, strings_in (formed_table_after e (reference_to e table) table), rest)
 strings_back e table rest ok few = by_reference e table (reference_to e table) rest ok few refl (within e table)
 
-few_by : (e : FormedEntry) (table : List FormedEntry) (r : Option ℕ) → length table ≤ table_limit → length (formed_table_after e r table) ≤ table_limit
+few_by : (e : FormedEntry) (table : List FormedEntry) (r : Option ℕ) → length table ≤ table_limit →
+    length (formed_table_after e r table) ≤ table_limit
 few_by e table None few = kept_few e table few
 few_by e table (Some n) few = few
 

@@ -5,7 +5,7 @@ use Rattle.std.specs.Int.{w32, int_wrap}
 use Rattle.osm_model.specs.Id.{is_id}
 use Rattle.o5_codec.specs.declared.reason.O5Reason.{O5Reason}
 use Rattle.o5_codec.specs.declared.reason.O5Reason.TheVariants.{OutOfRange}
-use Rattle.o5_codec.specs.Answer.{and_then}
+use Rattle.o5_codec.specs.Results.{and_then}
 use Rattle.o5_codec.specs.Number.{signed_at}
 
 -- the value whose difference is at the front, and the bytes after it

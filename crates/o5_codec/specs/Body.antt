@@ -16,7 +16,7 @@ use Rattle.o5_codec.specs.declared.segment.Segment.{Segment}
 use Rattle.o5_codec.specs.declared.segment.ListsSeen.{ListsSeen}
 use Rattle.o5_codec.specs.declared.segment.ListsSeen.TheVariants.{Neither, References, NodeMembers}
 use Rattle.o5_codec.specs.declared.strings.Form.TheVariants.{Pair, Single}
-use Rattle.o5_codec.specs.Answer.{and_then}
+use Rattle.o5_codec.specs.Results.{and_then}
 use Rattle.o5_codec.specs.Number.{number_at, signed_at}
 use Rattle.o5_codec.specs.Base.{moved_id, moved_coordinate}
 use Rattle.o5_codec.specs.StringPair.{strings_at}
@@ -52,7 +52,8 @@ node_body_at lon lat s bytes = and_then (items_at tag_at s bytes) (λ tags. Ok (
 
 -- longitude, latitude and tags
 unfoldable pub node_at : Segment → List ℕ → WholeReading Body
-node_at s bytes = and_then (longitude_at s bytes) (λ x. and_then (latitude_at x.1 x.2) (λ y. node_body_at x.0 y.0 y.1 y.2))
+node_at s bytes = and_then (longitude_at s bytes)
+    (λ x. and_then (latitude_at x.1 x.2) (λ y. node_body_at x.0 y.0 y.1 y.2))
 
 -- the section whose length was read, and the bytes after it
 abbrev pub cut_at : ℕ × List ℕ → Result (List ℕ × List ℕ) O5Reason

@@ -36,9 +36,10 @@ abbrev pub reading_in : Segment → DecoderState
 reading_in s = record { segment = s; failed = false }
 
 -- the result of reading the content of a data set, with the state before and the state after
-pub record Reads (k : Kind) (content : List ℕ) (old new : DecoderState) (answer : Result VersionData O5Reason) : Type 0 where
-  pub read : MatchResult answer
+pub record Reads (k : Kind) (content : List ℕ) (old new : DecoderState)
+    (result : Result VersionData O5Reason) : Type 0 where
+  pub read : MatchResult result
       (λ v. (old.failed ≡ false) × (new.failed ≡ false) × (set_at k old.segment content ≡ Ok (v, new.segment)))
       (λ reason. (new.failed ≡ true) ×
       (old.failed ≡ false → (reason ≡ Memory) ⊎ (set_at k old.segment content ≡ Err reason)))
-  pub failed : old.failed ≡ true → answer ≡ Err Failed
+  pub failed : old.failed ≡ true → result ≡ Err Failed

@@ -21,9 +21,10 @@ use Rattle.o5_codec.specs.declared.strings.Form.{Form}
 use Rattle.o5_codec.specs.declared.strings.Form.TheVariants.{Pair, Single}
 use Rattle.o5_codec.specs.Entry.{EntryStrings}
 use Rattle.o5_codec.specs.Table.{table_of}
-use Rattle.o5_codec.specs.Answer.{and_then}
+use Rattle.o5_codec.specs.Results.{and_then}
 use Rattle.o5_codec.specs.Body.{set_at}
-use Rattle.o5_codec.specs.Spelling.{StringsAtFront, AuthorAfterChangeset, AuthorAtFront, TagAtFront, MemberAtFront, ItemsInAll}
+use Rattle.o5_codec.specs.Spelling.{StringsAtFront, AuthorAfterChangeset, AuthorAtFront, TagAtFront, MemberAtFront}
+use Rattle.o5_codec.specs.Spelling.{ItemsInAll}
 use Rattle.o5_codec.specs.Spelling.{NodeInAll, WayInAll, RelationInAll, BodyInAll, SpellsSet}
 
 -- ---- the values that a version spells for a field, in their order
@@ -136,16 +137,17 @@ segment_of objects entries = record { bases = bases_of objects; table = table_of
 
 -- ---- the inline entries in the bytes that spell a version, in their order
 
-abbrev pub inline_strings : (form : Form) (table : List EntryStrings) (bytes : List ℕ) (x : EntryStrings × List EntryStrings × List ℕ) →
+abbrev pub inline_strings : (form : Form) (table : List EntryStrings) (bytes : List ℕ)
+    (x : EntryStrings × List EntryStrings × List ℕ) →
     StringsAtFront form table bytes x → List EntryStrings
 inline_strings form table bytes x (inl inline) = x.0 ∷ []
 inline_strings form table bytes x (inr reference) = []
 
 abbrev pub inline_user : (changeset : ℕ) (s : Segment) (bytes : List ℕ) (x : Author × Segment × List ℕ) →
     AuthorAfterChangeset changeset s bytes x → List EntryStrings
-inline_user changeset s [] x stands = []
-inline_user changeset s (b ∷ bytes) x stands =
-    let user = stands.1 in
+inline_user changeset s [] x at_front = []
+inline_user changeset s (b ∷ bytes) x at_front =
+    let user = at_front.1 in
     inline_strings Pair s.table (b ∷ bytes) (user.0, user.1, x.2) user.2
 
 abbrev pub inline_author : (time : ℕ) (s : Segment) (bytes : List ℕ) (x : Author × Segment × List ℕ) →
@@ -157,12 +159,14 @@ inline_author time s bytes x (inr author) = inline_user author.1.0.0 author.1.0.
 abbrev pub inline_items : {X : Type 0} (AtFront : Segment → List ℕ → X × Segment × List ℕ → Type 0) →
     ((s : Segment) (bytes : List ℕ) (x : X × Segment × List ℕ) → AtFront s bytes x → List EntryStrings) →
     (s : Segment) (bytes : List ℕ) (xs : List X) (end : Segment) → ItemsInAll AtFront s bytes xs end → List EntryStrings
-inline_items AtFront of_item s bytes [] end stands = []
-inline_items AtFront of_item s bytes (x ∷ xs) end stands =
-    of_item s bytes (x, stands.0, stands.1) stands.2 ++ inline_items AtFront of_item stands.0 stands.1 xs end stands.3
+inline_items AtFront of_item s bytes [] end at_front = []
+inline_items AtFront of_item s bytes (x ∷ xs) end at_front =
+    of_item s bytes (x, at_front.0, at_front.1) at_front.2
+    ++ inline_items AtFront of_item at_front.0 at_front.1 xs end at_front.3
 
-abbrev pub inline_tag : (s : Segment) (bytes : List ℕ) (x : Tag × Segment × List ℕ) → TagAtFront s bytes x → List EntryStrings
-inline_tag s bytes x stands = inline_strings Pair s.table bytes (stands.0, stands.1, x.2) stands.2
+abbrev pub inline_tag : (s : Segment) (bytes : List ℕ) (x : Tag × Segment × List ℕ) → TagAtFront s bytes x →
+    List EntryStrings
+inline_tag s bytes x at_front = inline_strings Pair s.table bytes (at_front.0, at_front.1, x.2) at_front.2
 
 abbrev pub inline_tags : (s : Segment) (bytes : List ℕ) (tags : List Tag) (end : Segment) →
     ItemsInAll TagAtFront s bytes tags end → List EntryStrings
@@ -170,29 +174,31 @@ inline_tags = inline_items TagAtFront inline_tag
 
 abbrev pub inline_member : (s : Segment) (bytes : List ℕ) (x : Member × Segment × List ℕ) → MemberAtFront s bytes x →
     List EntryStrings
-inline_member s bytes x stands = inline_strings Single s.table stands.0.1 (stands.1.0, stands.1.1, x.2) stands.6
+inline_member s bytes x at_front = inline_strings Single s.table at_front.0.1
+    (at_front.1.0, at_front.1.1, x.2) at_front.6
 
 abbrev pub inline_members : (s : Segment) (bytes : List ℕ) (members : List Member) (end : Segment) →
     ItemsInAll MemberAtFront s bytes members end → List EntryStrings
 inline_members = inline_items MemberAtFront inline_member
 
 abbrev pub inline_node : (s : Segment) (bytes : List ℕ) (x : Body × Segment) → NodeInAll s bytes x → List EntryStrings
-inline_node s bytes x stands = inline_tags stands.1.1 stands.1.2 stands.2 x.1 stands.5
+inline_node s bytes x at_front = inline_tags at_front.1.1 at_front.1.2 at_front.2 x.1 at_front.5
 
 abbrev pub inline_way : (s : Segment) (bytes : List ℕ) (x : Body × Segment) → WayInAll s bytes x → List EntryStrings
-inline_way s bytes x stands = inline_tags stands.2.1 stands.0.1 stands.3 x.1 stands.7
+inline_way s bytes x at_front = inline_tags at_front.2.1 at_front.0.1 at_front.3 x.1 at_front.7
 
-abbrev pub inline_relation : (s : Segment) (bytes : List ℕ) (x : Body × Segment) → RelationInAll s bytes x → List EntryStrings
-inline_relation s bytes x stands =
-    inline_members s stands.0.0 stands.1.0 stands.1.1 stands.4 ++
-    inline_tags stands.1.1 stands.0.1 stands.2 x.1 stands.5
+abbrev pub inline_relation : (s : Segment) (bytes : List ℕ) (x : Body × Segment) → RelationInAll s bytes x →
+    List EntryStrings
+inline_relation s bytes x at_front =
+    inline_members s at_front.0.0 at_front.1.0 at_front.1.1 at_front.4 ++
+    inline_tags at_front.1.1 at_front.0.1 at_front.2 x.1 at_front.5
 
 abbrev pub inline_body : (k : Kind) (s : Segment) (bytes : List ℕ) (x : Body × Segment) → BodyInAll k s bytes x →
     List EntryStrings
-inline_body k s [] x stands = []
-inline_body kind.Node s (b ∷ bytes) x stands = inline_node s (b ∷ bytes) x stands
-inline_body kind.Way s (b ∷ bytes) x stands = inline_way s (b ∷ bytes) x stands
-inline_body kind.Relation s (b ∷ bytes) x stands = inline_relation s (b ∷ bytes) x stands
+inline_body k s [] x at_front = []
+inline_body kind.Node s (b ∷ bytes) x at_front = inline_node s (b ∷ bytes) x at_front
+inline_body kind.Way s (b ∷ bytes) x at_front = inline_way s (b ∷ bytes) x at_front
+inline_body kind.Relation s (b ∷ bytes) x at_front = inline_relation s (b ∷ bytes) x at_front
 
 -- the inline entries of a data set: those of the user, the members, the tags
 abbrev pub inline_entries : (k : Kind) (s : Segment) (content : List ℕ) (x : VersionData × Segment) →

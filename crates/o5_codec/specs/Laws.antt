@@ -34,7 +34,8 @@ SignedNumbersAreRead =
 
 -- strings are read exactly if they are spelled, inline or by a reference
 abbrev pub StringsAreRead : Type 0
-StringsAreRead = (form : Form) (table : List EntryStrings) (bytes : List ℕ) (x : EntryStrings × List EntryStrings × List ℕ) →
+StringsAreRead = (form : Form) (table : List EntryStrings) (bytes : List ℕ)
+    (x : EntryStrings × List EntryStrings × List ℕ) →
     (strings_at form table bytes ≡ Ok x → StringsAtFront form table bytes x) ×
     (StringsAtFront form table bytes x → strings_at form table bytes ≡ Ok x)
 
@@ -51,7 +52,8 @@ UsersAreRead = (e : EntryStrings) (x : ℕ × List ℕ) →
 
 -- the table of some inline entries and one more is the table of these entries, after the one more is stored
 abbrev pub TableOfEntries : Type 0
-TableOfEntries = (entries : List EntryStrings) (e : EntryStrings) → table_of (entries ++ e ∷ []) ≡ table_with e (table_of entries)
+TableOfEntries = (entries : List EntryStrings) (e : EntryStrings) →
+    table_of (entries ++ e ∷ []) ≡ table_with e (table_of entries)
 
 -- a version is read exactly if the content spells it, so a content that is refused spells none
 abbrev pub SetsAreRead : Type 0
@@ -96,7 +98,8 @@ ListsAreRead = (s : Segment) (sets : List (Kind × List ℕ)) (x : List VersionD
 -- one more data set after others spells one more version, and its inline entries come after those of the others
 abbrev pub SetsGoOn : Type 0
 SetsGoOn =
-    (s : Segment) (sets : List (Kind × List ℕ)) (versions : List VersionData) (inline : List EntryStrings) (end : Segment)
+    (s : Segment) (sets : List (Kind × List ℕ)) (versions : List VersionData) (inline : List EntryStrings)
+    (end : Segment)
     (k : Kind) (content : List ℕ) (x : VersionData × Segment) →
     SpellSets s sets versions inline end → (spells : SpellsSet k end content x) →
     SpellSets s (sets ++ (k, content) ∷ []) (versions ++ x.0 ∷ []) (inline ++ inline_entries k end content x spells) x.1
@@ -110,7 +113,8 @@ ListsDetermineSegments =
 
 -- No segment has both a way with references and a relation with a node member.
 abbrev pub ListsAreNotMixed : Type 0
-ListsAreNotMixed = (sets : List (Kind × List ℕ)) (versions : List VersionData) (inline : List EntryStrings) (end : Segment) →
+ListsAreNotMixed = (sets : List (Kind × List ℕ)) (versions : List VersionData) (inline : List EntryStrings)
+    (end : Segment) →
     SpellSets new_segment sets versions inline end →
     list_any has_references versions && list_any has_node_members versions ≡ false
 

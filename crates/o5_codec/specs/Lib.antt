@@ -1,5 +1,5 @@
 pub mod Reason
-pub mod Answer
+pub mod Results
 pub mod Number
 pub mod Entry
 pub mod Table

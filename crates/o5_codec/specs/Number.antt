@@ -4,7 +4,7 @@ use Rattle.std.specs.Prelude.{◌≡◌, ℕ, zero, suc, ℤ, pos, negsuc, ◌+�
 use Rattle.std.specs.Prelude.{List, [], ◌∷◌, length, Result, Ok, Err, if◌then◌else◌}
 use Rattle.o5_codec.specs.declared.reason.O5Reason.{O5Reason}
 use Rattle.o5_codec.specs.declared.reason.O5Reason.TheVariants.{BadNumber}
-use Rattle.o5_codec.specs.Answer.{and_then}
+use Rattle.o5_codec.specs.Results.{and_then}
 
 -- groups of seven bits, the lowest first; each byte but the last has its top bit set
 abbrev pub AreGroups : List ℕ → ℕ → Type 0

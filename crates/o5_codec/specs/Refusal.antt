@@ -16,7 +16,8 @@ use Rattle.o5_codec.specs.Text.{text_of, tag_of, user_of}
 use Rattle.o5_codec.specs.Segment.{nonzero_version}
 use Rattle.o5_codec.specs.Body.{with_seen, with_section, kind_and_role, with_member, moved_member}
 use Rattle.o5_codec.specs.Spelling.{NumberAtFront, SignedAtFront, InlineAtFront, StringsAtFront, IdAtFront, TimeAtFront}
-use Rattle.o5_codec.specs.Spelling.{ChangesetAtFront, LongitudeAtFront, LatitudeAtFront, ReferenceAtFront, VersionAtFront}
+use Rattle.o5_codec.specs.Spelling.{ChangesetAtFront, LongitudeAtFront, LatitudeAtFront, ReferenceAtFront}
+use Rattle.o5_codec.specs.Spelling.{VersionAtFront}
 use Rattle.o5_codec.specs.Spelling.{MetaAtFront, TagAtFront, MemberAtFront, ItemsInAll, SectionAtFront}
 
 -- no value is spelled
@@ -55,7 +56,8 @@ abbrev pub MovedRefused : {X : Type 0} → (ℤ → Result X O5Reason) → List 
 MovedRefused moved bytes reason = Then (SignedRefused bytes reason) (SignedAtFront bytes) (λ x. moved x.0 ≡ Err reason)
 
 abbrev pub VersionRefused : List ℕ → O5Reason → Type 0
-VersionRefused bytes reason = Then (NumberRefused bytes reason) (NumberAtFront bytes) (λ x. nonzero_version x ≡ Err reason)
+VersionRefused bytes reason = Then (NumberRefused bytes reason) (NumberAtFront bytes)
+    (λ x. nonzero_version x ≡ Err reason)
 
 abbrev pub UserRefused : Segment → List ℕ → O5Reason → Type 0
 UserRefused s bytes reason =
@@ -95,8 +97,8 @@ abbrev pub RefusedAfterItems : {X : Type 0} → (Segment → List ℕ → X × S
     (Segment → List ℕ → O5Reason → Type 0) → O5Reason → List X → Segment → List ℕ → Type 0
 RefusedAfterItems AtFront Refused reason [] s bytes = Refused s bytes reason × (bytes ≡ [] → ⊥)
 RefusedAfterItems AtFront Refused reason (x ∷ xs) s bytes =
-    (middle : Segment) × (behind : List ℕ) × AtFront s bytes (x, middle, behind) ×
-    RefusedAfterItems AtFront Refused reason xs middle behind
+    (middle : Segment) × (rest : List ℕ) × AtFront s bytes (x, middle, rest) ×
+    RefusedAfterItems AtFront Refused reason xs middle rest
 
 -- one of the items of a list is refused
 abbrev pub ItemsRefused : {X : Type 0} → (Segment → List ℕ → X × Segment × List ℕ → Type 0) →

@@ -7,7 +7,7 @@ use Rattle.o5_codec.specs.declared.base.Bases.{Bases}
 use Rattle.o5_codec.specs.declared.segment.Segment.{Segment}
 use Rattle.o5_codec.specs.Author.{Author}
 use Rattle.o5_codec.specs.declared.strings.Form.TheVariants.{Pair}
-use Rattle.o5_codec.specs.Answer.{and_then}
+use Rattle.o5_codec.specs.Results.{and_then}
 use Rattle.o5_codec.specs.Entry.{EntryStrings}
 use Rattle.o5_codec.specs.Number.{number_at, signed_at}
 use Rattle.o5_codec.specs.Base.{moved_id, moved_number, within_range}

@@ -40,7 +40,7 @@ StringAtFront bytes x = (has_no_zero x.0 ≡ true) × (bytes ≡ x.0 ++ 0 ∷ x.
 -- two strings, or one; with one the second is empty
 abbrev pub InlineAtFront : Form → List ℕ → EntryStrings × List ℕ → Type 0
 InlineAtFront Pair bytes x =
-    (behind : List ℕ) × StringAtFront bytes (x.0.first, behind) × StringAtFront behind (x.0.second, x.1)
+    (rest : List ℕ) × StringAtFront bytes (x.0.first, rest) × StringAtFront rest (x.0.second, x.1)
 InlineAtFront Single bytes x = StringAtFront bytes (x.0.first, x.1) × (x.0.second ≡ [])
 
 -- a zero byte and inline strings, which the table stores; or a number that refers to an entry of the table
@@ -50,7 +50,8 @@ StringsAtFront form table bytes x =
     ⊎ ((n : ℕ) × NumberAtFront bytes (n, x.2) × (entry_at table n ≡ Some x.0) × (x.1 ≡ table))
 
 -- a difference, the value that it makes, and the segment after the value
-abbrev pub MovedAtFront : {X : Type 0} → (ℤ → Result X O5Reason) → (X → Segment) → List ℕ → X × Segment × List ℕ → Type 0
+abbrev pub MovedAtFront : {X : Type 0} → (ℤ → Result X O5Reason) → (X → Segment) → List ℕ → X × Segment × List ℕ →
+    Type 0
 MovedAtFront moved after bytes x =
     (difference : ℤ) × SignedAtFront bytes (difference, x.2) × (moved difference ≡ Ok x.0) × (x.1 ≡ after x.0)
 
@@ -79,7 +80,8 @@ VersionAtFront bytes x = (n : ℕ) × NumberAtFront bytes (n, x.1) × (nonzero_v
 
 abbrev pub UserAtFront : Segment → List ℕ → (ℕ × List ℕ) × Segment × List ℕ → Type 0
 UserAtFront s bytes x =
-    (e : EntryStrings) × (table : List EntryStrings) × StringsAtFront Pair s.table bytes (e, table, x.2) × (user_of e ≡ Ok x.0) ×
+    (e : EntryStrings) × (table : List EntryStrings) × StringsAtFront Pair s.table bytes (e, table, x.2) ×
+    (user_of e ≡ Ok x.0) ×
     (x.1 ≡ with_table s table)
 
 -- after a changeset there is a user, or the data set ends
@@ -92,7 +94,8 @@ AuthorAfterChangeset changeset s (b ∷ bytes) x =
 abbrev pub AuthorAtFront : ℕ → Segment → List ℕ → Author × Segment × List ℕ → Type 0
 AuthorAtFront time s bytes x =
     ((time == 0 ≡ true) × (x ≡ (author 0 0 [], s, bytes)))
-    ⊎ ((time == 0 ≡ false) × ((c : ℕ × Segment × List ℕ) × ChangesetAtFront s bytes c × AuthorAfterChangeset c.0 c.1 c.2 x))
+    ⊎ ((time == 0 ≡ false) × ((c : ℕ × Segment × List ℕ) × ChangesetAtFront s bytes c ×
+    AuthorAfterChangeset c.0 c.1 c.2 x))
 
 abbrev pub MetaAtFront : Segment → List ℕ → Meta × Segment × List ℕ → Type 0
 MetaAtFront s bytes x =
@@ -101,7 +104,8 @@ MetaAtFront s bytes x =
 
 abbrev pub TagAtFront : Segment → List ℕ → Tag × Segment × List ℕ → Type 0
 TagAtFront s bytes x =
-    (e : EntryStrings) × (table : List EntryStrings) × StringsAtFront Pair s.table bytes (e, table, x.2) × (tag_of e ≡ Ok x.0) ×
+    (e : EntryStrings) × (table : List EntryStrings) × StringsAtFront Pair s.table bytes (e, table, x.2) ×
+    (tag_of e ≡ Ok x.0) ×
     (x.1 ≡ with_table s table)
 
 -- items in sequence, to the end of the bytes
@@ -109,7 +113,7 @@ abbrev pub ItemsInAll : {X : Type 0} → (Segment → List ℕ → X × Segment 
     Segment → Type 0
 ItemsInAll AtFront s bytes [] end = (bytes ≡ []) × (s ≡ end)
 ItemsInAll AtFront s bytes (x ∷ xs) end =
-    (middle : Segment) × (behind : List ℕ) × AtFront s bytes (x, middle, behind) × ItemsInAll AtFront middle behind xs end
+    (middle : Segment) × (rest : List ℕ) × AtFront s bytes (x, middle, rest) × ItemsInAll AtFront middle rest xs end
 
 abbrev pub NodeInAll : Segment → List ℕ → Body × Segment → Type 0
 NodeInAll s bytes x =
@@ -131,7 +135,8 @@ WayInAll s bytes x =
 -- the difference of the id, and a single string of kind and role
 abbrev pub MemberAtFront : Segment → List ℕ → Member × Segment × List ℕ → Type 0
 MemberAtFront s bytes x =
-    (d : ℤ × List ℕ) × (e : EntryStrings × List EntryStrings) × (m : Kind × List ℕ) × (seen : ListsSeen) × (id : ℤ × Bases) ×
+    (d : ℤ × List ℕ) × (e : EntryStrings × List EntryStrings) × (m : Kind × List ℕ) × (seen : ListsSeen) ×
+    (id : ℤ × Bases) ×
     SignedAtFront bytes d × StringsAtFront Single s.table d.1 (e.0, e.1, x.2) × (kind_and_role e.0.first ≡ Ok m) ×
     (with_member s.seen m.0 ≡ Ok seen) ×
     (moved_member s.bases m.0 d.0 ≡ Ok id) × (text_of m.1 ≡ Ok x.0.role) × (x.0.kind ≡ m.0) × (x.0.id ≡ id.0) ×

@@ -7,7 +7,7 @@ use Rattle.o5_codec.specs.declared.strings.Form.{Form}
 use Rattle.o5_codec.specs.declared.strings.Form.TheVariants.{Pair, Single}
 use Rattle.o5_codec.specs.declared.strings.StringRef.{StringRef}
 use Rattle.o5_codec.specs.declared.strings.StringRef.TheVariants.{Inline, Reference}
-use Rattle.o5_codec.specs.Answer.{and_then}
+use Rattle.o5_codec.specs.Results.{and_then}
 use Rattle.o5_codec.specs.Number.{number_at}
 use Rattle.o5_codec.specs.Entry.{EntryStrings}
 use Rattle.o5_codec.specs.Table.{table_with, entry_at}
@@ -59,6 +59,7 @@ table_after (Inline e) table = table_with e table
 table_after (Reference n) table = table
 
 -- the strings at the front, the table after them, and the bytes after them
-unfoldable pub strings_at : Form → List EntryStrings → List ℕ → Result (EntryStrings × List EntryStrings × List ℕ) O5Reason
+unfoldable pub strings_at : Form → List EntryStrings → List ℕ →
+    Result (EntryStrings × List EntryStrings × List ℕ) O5Reason
 strings_at form table bytes =
     and_then (spelled_at form bytes) (λ x. and_then (strings_of table x.0) (λ e. Ok (e, table_after x.0 table, x.1)))

@@ -70,8 +70,10 @@ member_id_spelling kind.Relation id s =
 
 -- a pair or a single string: a reference if the table has the entry, else the inline form
 unfoldable pub strings_spelling : FormedEntry → WriteStep
-strings_spelling e s =
-    (strings_bytes e (reference_to e s.table), record s { table = formed_table_after e (reference_to e s.table) s.table })
+strings_spelling e s = (
+  strings_bytes e (reference_to e s.table),
+  record s { table = formed_table_after e (reference_to e s.table) s.table },
+)
 
 -- a user id as a string; 0 is the empty one
 abbrev pub uid_string : ℕ → List ℕ
@@ -127,5 +129,6 @@ body_spelling (Relation members tags) = sequence (section_spelling (members_spel
 -- the content of a version's data set; no time spells time 0
 unfoldable pub content_spelling : VersionData → WriteStep
 content_spelling v =
-    sequence (id_spelling v.id ∷ fixed_bytes (shortest_number v.number) ∷ time_spelling (unwrap_or v.time 0) ∷ author_spelling v ∷
+    sequence (id_spelling v.id ∷ fixed_bytes (shortest_number v.number) ∷ time_spelling (unwrap_or v.time 0)
+    ∷ author_spelling v ∷
     body_spelling v.body ∷ [])

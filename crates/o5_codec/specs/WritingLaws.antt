@@ -44,7 +44,7 @@ pub record IsReadNext (w : WriterState) (seen : ListsSeen) (v : VersionData) : T
   pub after : ListsSeen
   pub spells : SpellsSet (kind_of v.body) (segment_for (begins_segment w.last (kind_of v.body)) (segment_after w seen))
       (content_after w v) (v, segment_after (writer_after w v) after)
-  pub behind : AreInStep (writer_after w v) after
+  pub in_step : AreInStep (writer_after w v) after
 
 abbrev pub WrittenSetsAreRead : Type 0
 WrittenSetsAreRead =

@@ -2,7 +2,7 @@
 ghost use Rattle.std.specs.Prelude.{◌≡◌, ◌<◌, ◌++◌, length, true, pos, IfOk, OnOk};
 ghost use Rattle.std.specs.Int.{w32, int_wrap};
 ghost use Rattle.osm_model.specs.Id.{is_id};
-ghost use Rattle.o5_codec.specs.Answer.{O5Gives};
+ghost use Rattle.o5_codec.specs.Results.{O5Gives};
 ghost use Rattle.o5_codec.specs.Base as spec;
 ghost use Rattle.o5_codec.specs.Decoder.{no_bases};
 ghost use Rattle.o5_codec.specs.Shortest.{difference};
@@ -149,7 +149,8 @@ impl NumberBase {
     /// `OutOfRange` if the sum is below 0 or above 4294967295, else as for [`read_signed`].
     #[inline(always)]
     pub(crate) fn read<'a>(&mut self, bytes: &'a [u8]) -> Result<(u32, &'a [u8]), O5Reason>
-        ensures value { O5Gives (λ x. (x.0, x.1.now)) (spec.read_difference (spec.moved_number self.old) bytes.now) result }
+        ensures value { O5Gives (λ x. (x.0, x.1.now)) (spec.read_difference (spec.moved_number self.old) bytes.now)
+            result }
         ensures base { IfOk result (λ x. self.new ≡ x.0) }
         ensures shorter { IfOk result (λ x. length x.1.now < length bytes.now) }
     {
@@ -219,7 +220,8 @@ impl CoordinateBase {
     /// `OutOfRange` if the difference is outside -4294967295 to 4294967295, else as for [`read_signed`].
     #[inline(always)]
     pub(crate) fn read<'a>(&mut self, bytes: &'a [u8]) -> Result<(i32, &'a [u8]), O5Reason>
-        ensures value { O5Gives (λ x. (x.0, x.1.now)) (spec.read_difference (spec.moved_coordinate self.old) bytes.now) result }
+        ensures value { O5Gives (λ x. (x.0, x.1.now)) (spec.read_difference (spec.moved_coordinate self.old) bytes.now)
+            result }
         ensures base { IfOk result (λ x. self.new ≡ x.0) }
         ensures shorter { IfOk result (λ x. length x.1.now < length bytes.now) }
     {

@@ -1,6 +1,6 @@
 //! The bodies of data sets.
 ghost use Rattle.std.specs.Prelude.{◌≡◌, ◌<◌, [], length, IfOk};
-ghost use Rattle.o5_codec.specs.Answer.{O5Gives, O5Reads};
+ghost use Rattle.o5_codec.specs.Results.{O5Gives, O5Reads};
 ghost use Rattle.o5_codec.specs.Items.{items_at, and_one_more};
 ghost use Rattle.o5_codec.specs.Body as spec;
 
@@ -65,7 +65,7 @@ impl Segment {
         ensures { O5Reads (λ _. (body.new, self.new)) (spec.body_at kind self.old bytes.now) result }
     {
         if bytes.is_empty() {
-            body.replace(Body::Deleted(kind));
+            body.overwrite(Body::Deleted(kind));
             return Ok(());
         }
         match kind {
@@ -90,7 +90,7 @@ impl Segment {
         // Most nodes have no tags. This path moves no list of tags.
         if rest.is_empty() {
             let tags = self.no_tags();
-            body.replace(Body::Node { lon, lat, tags });
+            body.overwrite(Body::Node { lon, lat, tags });
             return Ok(());
         }
         self.read_tagged_node(lon, lat, rest, spare, body)
@@ -110,7 +110,7 @@ impl Segment {
         ensures { O5Reads (λ _. (body.new, self.new)) (spec.node_body_at lon lat self.old bytes.now) result }
     {
         let tags = self.read_each_tag(bytes, spare)?;
-        body.replace(Body::Node { lon, lat, tags });
+        body.overwrite(Body::Node { lon, lat, tags });
         Ok(())
     }
 
@@ -139,7 +139,7 @@ impl Segment {
         self.seen = self.seen.with_section(section)?;
         let refs = self.read_references(section, spare)?;
         let tags = self.read_tags(rest, spare)?;
-        body.replace(Body::Way { refs, tags });
+        body.overwrite(Body::Way { refs, tags });
         Ok(())
     }
 
@@ -157,7 +157,7 @@ impl Segment {
         let (section, rest) = read_section(bytes)?;
         let members = self.read_members(section, spare)?;
         let tags = self.read_tags(rest, spare)?;
-        body.replace(Body::Relation { members, tags });
+        body.overwrite(Body::Relation { members, tags });
         Ok(())
     }
 
@@ -168,9 +168,9 @@ impl Segment {
         let mut ids = room_for_references(bytes, spare)?;
         let mut rest = bytes;
         while !rest.is_empty() {
-            let (id, behind) = self.read_reference(rest)?;
+            let (id, after) = self.read_reference(rest)?;
             ids.push(id)?;
-            rest = behind;
+            rest = after;
         }
         Ok(References::from_vec(ids))
     }
@@ -191,9 +191,9 @@ impl Segment {
         let mut members = spare.take_members();
         let mut rest = bytes;
         while !rest.is_empty() {
-            let (member, behind) = self.read_member(rest)?;
+            let (member, after) = self.read_member(rest)?;
             members.push(member)?;
-            rest = behind;
+            rest = after;
         }
         Ok(Members::from_vec(members))
     }

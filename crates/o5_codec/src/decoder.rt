@@ -1,6 +1,6 @@
 //! Reading data sets.
 ghost use Rattle.std.specs.Prelude.{◌≡◌, ◌⊎◌, Ok, true, false, IfOk, IfErr, OnOk};
-ghost use Rattle.o5_codec.specs.Answer.{O5Reads};
+ghost use Rattle.o5_codec.specs.Results.{O5Reads};
 ghost use Rattle.o5_codec.specs.Body.{set_at};
 ghost use Rattle.o5_codec.specs.Sound.{is_sound};
 ghost use Rattle.o5_codec.specs.Decoder.{new_segment, reading_in, Reads};

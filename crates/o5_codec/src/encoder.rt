@@ -96,7 +96,7 @@ impl Encoder {
     }
 
     /// Appends the data set of a version, if the encoder hasn't failed.
-    #[tactic(auto, using(crate::proofs::FrontLaws::behind_two), unfolding(crate::specs::Encoder::segment_before, crate::specs::Encoder::spelled_set, crate::specs::Encoder::writer_after))]
+    #[tactic(auto, using(crate::proofs::FrontLaws::after_two), unfolding(crate::specs::Encoder::segment_before, crate::specs::Encoder::spelled_set, crate::specs::Encoder::writer_after))]
     fn append_version(&mut self, out: &mut Vec<u8>, v: &Version) -> Result<(), Memory>
         ensures bytes { OnOk result (out.new.items ≡ out.old.items ++ spec.spelled_set self.old.written v.now) }
         ensures written { OnOk result
@@ -206,7 +206,7 @@ fn append_any_set(
     }
     out.push(type_byte(kind))?;
     append_number(out, set.len() - 2)?;
-    set.append_behind_front(out)
+    set.append_after_front(out)
 }
 
 /// The byte that begins the data set of an object of this kind.

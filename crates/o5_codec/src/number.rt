@@ -7,7 +7,7 @@
 //! Otherwise: the loop of `read_groups` reads a number of more than five groups, or one that isn't ended.
 //! Compared by: `reads_numbers_at_their_limits`.
 ghost use Rattle.std.specs.Prelude.{◌≡◌, ◌<◌, length, pos, Ok, IfOk, IfSome};
-ghost use Rattle.o5_codec.specs.Answer.{O5Gives};
+ghost use Rattle.o5_codec.specs.Results.{O5Gives};
 ghost use Rattle.o5_codec.specs.Number.{number_at, signed_at, signed_of};
 
 use crate::O5Reason;

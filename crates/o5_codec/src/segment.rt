@@ -1,6 +1,6 @@
 //! The segment that data sets are read relative to, and the steps of a data set before its body.
 ghost use Rattle.std.specs.Prelude.{◌≡◌};
-ghost use Rattle.o5_codec.specs.Answer.{O5Gives, O5Reads};
+ghost use Rattle.o5_codec.specs.Results.{O5Gives, O5Reads};
 ghost use Rattle.o5_codec.specs.Segment as spec;
 
 use crate::O5Reason;
@@ -77,18 +77,18 @@ impl Segment {
         if time == 0 {
             meta.changeset = 0;
             meta.uid = 0;
-            meta.user.replace(Text::new());
+            meta.user.overwrite(Text::new());
             return Ok(bytes);
         }
         let (changeset, rest) = self.read_changeset(bytes)?;
         meta.changeset = u64::from(changeset);
-        self.read_author_behind(rest, meta)
+        self.read_author_after(rest, meta)
     }
 
     /// Reads the user into `meta`, which has the changeset already. Returns the bytes after the user. If `bytes` is
     /// empty, the version has no user.
     #[tactic(auto, unfolding(crate::specs::Segment::author_after_changeset))]
-    fn read_author_behind<'a>(
+    fn read_author_after<'a>(
         &mut self,
         bytes: &'a [u8],
         meta: &mut Meta,
@@ -98,7 +98,7 @@ impl Segment {
     {
         if bytes.is_empty() {
             meta.uid = 0;
-            meta.user.replace(Text::new());
+            meta.user.overwrite(Text::new());
             return Ok(bytes);
         }
         self.read_user(bytes, meta)

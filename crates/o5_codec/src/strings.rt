@@ -1,6 +1,6 @@
 //! Pairs of strings and single strings.
 ghost use Rattle.std.specs.Prelude.{◌≡◌, ◌<◌, length, IfOk, position};
-ghost use Rattle.o5_codec.specs.Answer.{O5Gives};
+ghost use Rattle.o5_codec.specs.Results.{O5Gives};
 ghost use Rattle.o5_codec.specs.StringPair.{is_zero, string_at, inline_at, inline_spelled, spelled_at};
 
 use crate::O5Reason;
@@ -51,11 +51,11 @@ pub(crate) fn read_spelled(form: Form, bytes: &[u8]) -> Result<(StringRef<'_>, &
     ensures value { O5Gives (λ x. (x.0, x.1.now)) (spelled_at form bytes.now) result }
     ensures shorter { IfOk result (λ x. length x.1.now < length bytes.now) }
 {
-    let Some((first, behind)) = bytes.split_first() else {
+    let Some((first, after)) = bytes.split_first() else {
         return Err(O5Reason::BadText);
     };
     if *first == 0 {
-        return spelled_inline(form, behind);
+        return spelled_inline(form, after);
     }
     let (reference, rest) = read_number(bytes)?;
     Ok((StringRef::Reference(reference), rest))

@@ -1,6 +1,6 @@
 //! The string table of a segment.
 ghost use Rattle.std.specs.Prelude.{◌≡◌, [], ◌∷◌, take, IfOk, OnOk, option_copied};
-ghost use Rattle.o5_codec.specs.Answer.{O5Gives, O5Reads, and_then, and_added};
+ghost use Rattle.o5_codec.specs.Results.{O5Gives, O5Reads, and_then, and_added};
 ghost use Rattle.o5_codec.specs.Table.{table_limit, is_short, table_with, entry_at};
 ghost use Rattle.o5_codec.specs.Text.{tag_of, user_of, and_user};
 ghost use Rattle.o5_codec.specs.StringPair.{entry_of, strings_of, table_after};

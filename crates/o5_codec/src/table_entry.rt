@@ -7,7 +7,7 @@
 //! Otherwise: an entry whose strings mean something else is read from its bytes, like an inline one.
 //! Compared by: `takes_strings_by_what_they_mean`.
 ghost use Rattle.std.specs.Prelude.{◌≡◌, IfOk};
-ghost use Rattle.o5_codec.specs.Answer.{O5Reads, and_added};
+ghost use Rattle.o5_codec.specs.Results.{O5Reads, and_added};
 ghost use Rattle.o5_codec.specs.Text.{tag_of, user_of, and_user};
 ghost use Rattle.o5_codec.specs.Decoded.{bytes_of, IsMeant};
 

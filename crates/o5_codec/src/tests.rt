@@ -304,8 +304,10 @@ fn takes_strings_by_what_they_mean(rt: HostRuntime) -> Result<(), Fail> {
 02 01 02 02 00 80 01 00 61 00 = n1 v1 dD c1 t1970-01-01T00:00:01Z i128 ua T x y
 00 02 00 00 01 = n1 v2 dD c1 t1970-01-01T00:00:01Z i128 ua T x y
 
-02 01 00 00 00 00 61 00 62 63 64 65 66 67 68 69 6a 6b 6c 6d 6e 6f 70 71 72 73 74 75 76 77 78 79 7a 00 = n1 v1 dV c0 t i0 u Ta=bcdefghijklmnopqrstuvwxyz x0 y0
-00 02 02 02 01 00 00 01 = n1 v2 dV c1 t1970-01-01T00:00:01Z i97 ubcdefghijklmnopqrstuvwxyz Ta=bcdefghijklmnopqrstuvwxyz x0 y0";
+02 01 00 00 00 00 61 00 62 63 64 65 66 67 68 69 6a 6b 6c 6d 6e 6f 70 71 72 73 74 75 76 77 78 79 7a 00 \
+    = n1 v1 dV c0 t i0 u Ta=bcdefghijklmnopqrstuvwxyz x0 y0
+00 02 02 02 01 00 00 01 = n1 v2 dV c1 t1970-01-01T00:00:01Z i97 ubcdefghijklmnopqrstuvwxyz \
+    Ta=bcdefghijklmnopqrstuvwxyz x0 y0";
     read_all(&rt, rt.alloc(), rows)
 }
 
@@ -406,7 +408,7 @@ r 02 01 00 02 02 00 30 00 = BadText";
 }
 
 #[test]
-fn refuses_mixed_segments_alone(rt: HostRuntime) -> Result<(), Fail> {
+fn refuses_mixed_segments_only(rt: HostRuntime) -> Result<(), Fail> {
     let rows = "\
 r 02 01 00 04 02 00 31 00 = r1 v1 dV c0 t i0 u T Mw1@
 w 00 01 00 01 02 = w1 v1 dV c0 t i0 u T Nn1
@@ -451,7 +453,7 @@ fn reads_texts(rt: HostRuntime) -> Result<(), Fail> {
 }
 
 /// A decoder that has read a node with the content `content`.
-fn decoder_behind(alloc: Global, content: &[u8]) -> Result<Decoder, Fail> {
+fn decoder_after(alloc: Global, content: &[u8]) -> Result<Decoder, Fail> {
     let mut decoder = Decoder::new(alloc)?;
     let version = decoder.read_set(Kind::Node, content)?;
     decoder.reuse(version);
@@ -459,14 +461,14 @@ fn decoder_behind(alloc: Global, content: &[u8]) -> Result<Decoder, Fail> {
 }
 
 /// Reads a content as `read` does, after a node with the content `first`.
-fn read_behind(
+fn read_after(
     rt: &impl Abort,
     alloc: Global,
     first: &[u8],
     content: &str,
     expected: &str,
 ) -> Result<(), Fail> {
-    let mut decoder = decoder_behind(alloc, first)?;
+    let mut decoder = decoder_after(alloc, first)?;
     read(rt, alloc, &mut decoder, content, expected)
 }
 
@@ -492,7 +494,7 @@ fn stores_a_pair_of_250_bytes(rt: HostRuntime) -> Result<(), Fail> {
     let value = letters(rt.alloc(), 249)?;
     let line = format!(in rt.alloc(); "n2 v1 dV c0 t i0 u Tk={value} x0 y0")?;
     let content = tagged(rt.alloc(), value.as_str())?;
-    read_behind(
+    read_after(
         &rt,
         rt.alloc(),
         &content,
@@ -505,7 +507,7 @@ fn stores_a_pair_of_250_bytes(rt: HostRuntime) -> Result<(), Fail> {
 fn stores_no_pair_of_251_bytes(rt: HostRuntime) -> Result<(), Fail> {
     let value = letters(rt.alloc(), 250)?;
     let content = tagged(rt.alloc(), value.as_str())?;
-    read_behind(
+    read_after(
         &rt,
         rt.alloc(),
         &content,
@@ -530,8 +532,8 @@ fn many_tags(alloc: Global, count: usize) -> Result<Vec<u8>, Fail> {
 fn stores_the_last_15000_pairs(rt: HostRuntime) -> Result<(), Fail> {
     let content = many_tags(rt.alloc(), 15_001)?;
     let line = "n2 v1 dV c0 t i0 u T2= x0 y0";
-    read_behind(&rt, rt.alloc(), &content, "02 01 00 00 00 98 75", line)?;
-    read_behind(
+    read_after(&rt, rt.alloc(), &content, "02 01 00 00 00 98 75", line)?;
+    read_after(
         &rt,
         rt.alloc(),
         &content,
@@ -541,11 +543,11 @@ fn stores_the_last_15000_pairs(rt: HostRuntime) -> Result<(), Fail> {
 }
 
 #[test]
-fn a_number_is_read_with_what_is_behind_it(rt: HostRuntime) {
+fn a_number_is_read_with_what_is_after_it(rt: HostRuntime) {
     match read_number(b"\xc3\x02\x05") {
-        Ok((number, behind)) => {
+        Ok((number, rest)) => {
             assert_eq!(rt; number, 323);
-            assert_eq!(rt; behind, b"\x05".as_slice());
+            assert_eq!(rt; rest, b"\x05".as_slice());
         }
         Err(_) => panic!(rt; "the number was refused"),
     }

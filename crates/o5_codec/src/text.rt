@@ -7,7 +7,7 @@
 //! Compared by: `reads_texts`.
 ghost use Rattle.std.specs.Prelude.{◌≡◌, Ok, IfOk, IfSome, encode_utf8_all};
 ghost use Rattle.std.specs.Str.{chars};
-ghost use Rattle.o5_codec.specs.Answer.{O5Gives, O5Reads, and_added};
+ghost use Rattle.o5_codec.specs.Results.{O5Gives, O5Reads, and_added};
 ghost use Rattle.o5_codec.specs.Text.{text_of, tag_of, uid_of, user_of, and_user};
 
 use crate::O5Reason;
@@ -91,7 +91,7 @@ pub(crate) fn put_user(
     let uid = to_uid(strings.first)?;
     let name = to_text(alloc, strings.second)?;
     meta.uid = u64::from(uid);
-    meta.user.replace(name);
+    meta.user.overwrite(name);
     Ok(())
 }
 

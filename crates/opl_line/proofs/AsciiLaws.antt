@@ -19,9 +19,9 @@ module _ (v : List ℕ) (long : length v ≡ 64) where
   -- If no top bit is set, all 64 bytes are ASCII.
   pub none_high : highs ≡ 0 → 64 ≡ prefix_len (λ b. not (leb 128 b)) v
   none_high none =
-      let told : highs ≡ mask_l (map (leb 128) v) = marked (leb 128) v (splat_left (λ x y. cond (leb x y) 255 0) 128 v 64 long)
+      let known : highs ≡ mask_l (map (leb 128) v) = marked (leb 128) v (splat_left (λ x y. cond (leb x y) 255 0) 128 v 64 long)
       (omega (arith, long)) in
-      sym (leading_from_mask_l (leb 128) v (sym told ∙ none) ∙ long)
+      sym (leading_from_mask_l (leb 128) v (sym known ∙ none) ∙ long)
 
 -- If a chunk of 64 bytes is ASCII, so is each of its bytes in the text.
 pub ascii_there : (bytes : List ℕ) (from : ℕ) → from + 64 ≤ length bytes → 64 ≡ prefix_len (λ b. not (leb 128 b)) (chunk from 64 bytes) →

@@ -13,7 +13,7 @@ use Rattle.osm_model.specs.Numeral.{numeral}
 use Rattle.osm_model.specs.Decimal.{number_text, integer_text}
 use Rattle.osm_model.proofs.NumeralLaws.{numeral-digit, numeral-step}
 use Rattle.opl_line.specs.Number.{is_numeral, with_digit, decimal_value, up_to, reading_number, is_negative, without_sign, with_sign}
-use Rattle.opl_line.specs.Answer.{as_value}
+use Rattle.opl_line.specs.Results.{as_value}
 use Rattle.opl_line.specs.Canonical.{NumberIsReadBack, IdIsReadBack}
 use Rattle.opl_line.specs.declared.reason.OplReason.TheVariants.{BadNumber, OutOfRange}
 

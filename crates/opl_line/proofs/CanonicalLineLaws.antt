@@ -50,17 +50,17 @@ valid_roles (m ∷ ms) all =
     λ i. (and_parts (is_id m.id) (is_text m.role) parts.0).1 i && valid_roles ms parts.1 i
 
 -- the tags, and the text after them
-module _ (text from_tags behind : List ℕ) (k : Kind) (deleted : Bool) (tags : List Tag) (marked : text ≡ 32 ∷ 84 ∷ from_tags)
-    (listed : from_tags ≡ list_text tag_text tags ++ behind) (visible : deleted ≡ false)
+module _ (text from_tags after : List ℕ) (k : Kind) (deleted : Bool) (tags : List Tag) (marked : text ≡ 32 ∷ 84 ∷ from_tags)
+    (listed : from_tags ≡ list_text tag_text tags ++ after) (visible : deleted ≡ false)
     (all : list_all (λ tag. is_text tag.key && is_text tag.value) tags ≡ true) where
-  spelled_behind : (rest : List ℕ) → behind ≡ rest → text ≡ 32 ∷ 84 ∷ (list_text tag_text tags ++ rest)
-  spelled_behind rest is = marked ∙ ap (λ t. 32 ∷ 84 ∷ t) (listed ∙ ap (λ t. list_text tag_text tags ++ t) is)
+  spelled_after : (rest : List ℕ) → after ≡ rest → text ≡ 32 ∷ 84 ∷ (list_text tag_text tags ++ rest)
+  spelled_after rest is = marked ∙ ap (λ t. 32 ∷ 84 ∷ t) (listed ∙ ap (λ t. list_text tag_text tags ++ t) is)
 
   -- Tags and then a location are the tail of a node's line.
-  pub node_tail : (lon lat : ℤ) → k ≡ kind.Node → behind ≡ location_text lon lat → IsTail text k deleted (Node lon lat tags)
+  pub node_tail : (lon lat : ℤ) → k ≡ kind.Node → after ≡ location_text lon lat → IsTail text k deleted (Node lon lat tags)
   node_tail lon lat is located =
       record {
-        spelled = spelled_behind (location_text lon lat) located;
+        spelled = spelled_after (location_text lon lat) located;
         same_kind = sym is;
         same_deleted = sym visible;
         ids = refl;
@@ -69,11 +69,11 @@ module _ (text from_tags behind : List ℕ) (k : Kind) (deleted : Bool) (tags : 
       }
 
   -- Tags and then references are the tail of a way's line.
-  pub way_tail : (refs : List ℤ) (rest : List ℕ) → k ≡ kind.Way → behind ≡ 32 ∷ 78 ∷ rest → rest ≡ list_text reference_text refs →
+  pub way_tail : (refs : List ℤ) (rest : List ℕ) → k ≡ kind.Way → after ≡ 32 ∷ 78 ∷ rest → rest ≡ list_text reference_text refs →
       list_all is_id refs ≡ true → IsTail text k deleted (Way refs tags)
   way_tail refs rest is mark list valid =
       record {
-        spelled = spelled_behind (32 ∷ 78 ∷ list_text reference_text refs) (mark ∙ ap (λ t. 32 ∷ 78 ∷ t) list);
+        spelled = spelled_after (32 ∷ 78 ∷ list_text reference_text refs) (mark ∙ ap (λ t. 32 ∷ 78 ∷ t) list);
         same_kind = sym is;
         same_deleted = sym visible;
         ids = valid;
@@ -81,12 +81,12 @@ module _ (text from_tags behind : List ℕ) (k : Kind) (deleted : Bool) (tags : 
       }
 
   -- Tags and then members are the tail of a relation's line.
-  pub relation_tail : (members : List Member) (rest : List ℕ) → k ≡ kind.Relation → behind ≡ 32 ∷ 77 ∷ rest →
+  pub relation_tail : (members : List Member) (rest : List ℕ) → k ≡ kind.Relation → after ≡ 32 ∷ 77 ∷ rest →
       rest ≡ list_text member_text members → list_all (λ member. is_id member.id && is_text member.role) members ≡ true →
       IsTail text k deleted (Relation members tags)
   relation_tail members rest is mark list valid =
       record {
-        spelled = spelled_behind (32 ∷ 77 ∷ list_text member_text members) (mark ∙ ap (λ t. 32 ∷ 77 ∷ t) list);
+        spelled = spelled_after (32 ∷ 77 ∷ list_text member_text members) (mark ∙ ap (λ t. 32 ∷ 77 ∷ t) list);
         same_kind = sym is;
         same_deleted = sym visible;
         ids = valid_ids members valid;
@@ -117,8 +117,8 @@ in_range (Way refs tags) h = h
 in_range (Relation members tags) h = h
 
 -- a line that was parsed from left to right
-module _ (text behind : List ℕ) (k : Kind) (id : ℤ) (deleted : Bool) (meta : Meta) (b : Body) (head : IsHead text k id deleted meta behind)
-    (tail : IsTail behind k deleted b) (some : eqb meta.version 0 ≡ false) (dated : is_dated meta ≡ true) where
+module _ (text after : List ℕ) (k : Kind) (id : ℤ) (deleted : Bool) (meta : Meta) (b : Body) (head : IsHead text k id deleted meta after)
+    (tail : IsTail after k deleted b) (some : eqb meta.version 0 ≡ false) (dated : is_dated meta ≡ true) where
   passes : Passes id meta b
   passes =
       record {

@@ -106,9 +106,11 @@ first_decimal d is =
     let low = range.low in
     let high = range.high in
     let value : with_digit 0 d ≡ d - 48 = omega arith in
-    ap (λ n. pad_zeros 1 (numeral 10 n)) value ∙ pad_zeros-digit 10 (d - 48) (omega arith) (omega arith) ∙ ap (λ c. c ∷ []) (digit_back d is)
+    ap (λ n. pad_zeros 1 (numeral 10 n)) value ∙ pad_zeros-digit 10 (d - 48) (omega arith) (omega arith)
+    ∙ ap (λ c. c ∷ []) (digit_back d is)
 
-decimals_are : (ds : List ℕ) → 0 < length ds → list_all is_ascii_digit ds ≡ true → pad_zeros (length ds) (number_text (decimal_value ds)) ≡ ds
+decimals_are : (ds : List ℕ) → 0 < length ds → list_all is_ascii_digit ds ≡ true →
+    pad_zeros (length ds) (number_text (decimal_value ds)) ≡ ds
 decimals_are [] some all = absurd (omega arith)
 decimals_are (d ∷ ds) some all =
     let parts = and_parts (is_ascii_digit d) (list_all is_ascii_digit ds) all in
@@ -224,9 +226,9 @@ coordinate_signed true (suc n) some = refl
 coordinate_signed false n some = refl
 
 -- a sign before a number above 0
-pub some_signed : (negative told : Bool) (n : ℕ) → negative ≡ told → (negative ≡ true × (n ≡ 0 → ⊥)) ⊎ (negative ≡ false) → told ≡ true →
+pub some_signed : (negative known : Bool) (n : ℕ) → negative ≡ known → (negative ≡ true × (n ≡ 0 → ⊥)) ⊎ (negative ≡ false) → known ≡ true →
     0 < n
-some_signed negative told n same either is = ⊎_elim (λ other. above n other.1) (λ none. absurd (false≢true (sym none ∙ same ∙ is))) either
+some_signed negative known n same either is = ⊎_elim (λ other. above n other.1) (λ none. absurd (false≢true (sym none ∙ same ∙ is))) either
   where
     above : (n : ℕ) → (n ≡ 0 → ⊥) → 0 < n
     above zero other = absurd (other refl)
@@ -242,18 +244,18 @@ place_is negative n place e =
     ] e
 
 -- A sign and the text of a number are the text of an integer.
-pub integer_read : (text behind : List ℕ) (n : ℕ) → (is_negative text ≡ true → 0 < n) → without_sign text ≡ number_text n ++ behind →
-    text ≡ integer_text (with_sign (is_negative text) n) ++ behind
-integer_read text behind n some is =
-    sign_split text ∙ ap (λ t. sign_of (is_negative text) ++ t) is ∙ sym (append_assoc (sign_of (is_negative text)) (number_text n) behind)
-    ∙ ap (λ t. t ++ behind) (sym (integer_signed (is_negative text) n some))
+pub integer_read : (text after : List ℕ) (n : ℕ) → (is_negative text ≡ true → 0 < n) → without_sign text ≡ number_text n ++ after →
+    text ≡ integer_text (with_sign (is_negative text) n) ++ after
+integer_read text after n some is =
+    sign_split text ∙ ap (λ t. sign_of (is_negative text) ++ t) is ∙ sym (append_assoc (sign_of (is_negative text)) (number_text n) after)
+    ∙ ap (λ t. t ++ after) (sym (integer_signed (is_negative text) n some))
 
 -- A sign and the text of degrees are the text of a coordinate.
-pub place_read : (text behind : List ℕ) (n : ℕ) → (is_negative text ≡ true → 0 < n) → without_sign text ≡ degrees_text n ++ behind →
-    text ≡ coordinate_text (with_sign (is_negative text) n) ++ behind
-place_read text behind n some is =
-    sign_split text ∙ ap (λ t. sign_of (is_negative text) ++ t) is ∙ sym (append_assoc (sign_of (is_negative text)) (degrees_text n) behind)
-    ∙ ap (λ t. t ++ behind) (sym (coordinate_signed (is_negative text) n some))
+pub place_read : (text after : List ℕ) (n : ℕ) → (is_negative text ≡ true → 0 < n) → without_sign text ≡ degrees_text n ++ after →
+    text ≡ coordinate_text (with_sign (is_negative text) n) ++ after
+place_read text after n some is =
+    sign_split text ∙ ap (λ t. sign_of (is_negative text) ++ t) is ∙ sym (append_assoc (sign_of (is_negative text)) (degrees_text n) after)
+    ∙ ap (λ t. t ++ after) (sym (coordinate_signed (is_negative text) n some))
 
 -- if a text doesn't begin with a zero, neither does its front
 pub no_zero : (text : List ℕ) (count : ℕ) → get_or text 0 0 ≢ 48 → 1 < length (take count text) → get_or (take count text) 0 0 ≢ 48
@@ -290,8 +292,8 @@ fraction_front (b ∷ bs) decimals count n scale is point within few all value b
     let units : n * scale ≡ decimal_value digits * 10 ^ (7 - length digits) = rw (value, by, long) refl in
     let spelled : fraction_text (n * scale) ≡ 46 ∷ digits = ap fraction_text units
     ∙ fraction_read digits (omega (arith, long)) all (λ e. last (ap (λ v. v % 10) value ∙ e)) in
-    let behind : drop count decimals ≡ take (length (b ∷ bs) - (1 + count)) (drop (1 + count) (b ∷ bs)) =
+    let after : drop count decimals ≡ take (length (b ∷ bs) - (1 + count)) (drop (1 + count) (b ∷ bs)) =
     ap (drop count) is ∙ drop-drop count 1 (b ∷ bs) ∙ sym (take_rest (b ∷ bs) (1 + count)) in
     ap (λ t. t ∷ bs) point
     ∙ ap (λ t. 46 ∷ t) (sym is ∙ sym (take-append-drop count decimals))
-    ∙ (λ i. sym spelled i ++ behind i)
+    ∙ (λ i. sym spelled i ++ after i)

@@ -129,23 +129,23 @@ pub record IsReadTo (bytes text rest : List ℕ) : Type 0 where
 pub read_nothing : (bytes text : List ℕ) → text ≡ [] → IsReadTo bytes text bytes
 read_nothing bytes text e = record { spelled = ap (λ t. escape t ++ bytes) (sym e); valid = ap is_text e }
 
-read_more : (bytes text rest more form behind now : List ℕ) → IsReadTo bytes text rest → rest ≡ form ++ behind → escape more ≡ form →
-    is_text more ≡ true → now ≡ text ++ more → IsReadTo bytes now behind
-read_more bytes text rest more form behind now so_far e is valid n = record {
+read_more : (bytes text rest more form after now : List ℕ) → IsReadTo bytes text rest → rest ≡ form ++ after → escape more ≡ form →
+    is_text more ≡ true → now ≡ text ++ more → IsReadTo bytes now after
+read_more bytes text rest more form after now so_far e is valid n = record {
   spelled =
-      so_far.spelled ∙ ap (λ t. escape text ++ t) e ∙ sym (append_assoc (escape text) form behind)
-      ∙ ap (λ t. t ++ behind) (ap (λ t. escape text ++ t) (sym is) ∙ sym (flat_map-append escape_char text more) ∙ ap escape (sym n));
+      so_far.spelled ∙ ap (λ t. escape text ++ t) e ∙ sym (append_assoc (escape text) form after)
+      ∙ ap (λ t. t ++ after) (ap (λ t. escape text ++ t) (sym is) ∙ sym (flat_map-append escape_char text more) ∙ ap escape (sym n));
   valid = ap is_text n ∙ text_append text more so_far.valid valid;
 }
 
 -- raw characters after the text that was read are read, too
-pub read_raw : (bytes text rest raw behind now : List ℕ) → IsReadTo bytes text rest → AreRaw raw → rest ≡ raw ++ behind →
-    now ≡ text ++ chars raw → IsReadTo bytes now behind
-read_raw bytes text rest raw behind now so_far are e n =
+pub read_raw : (bytes text rest raw after now : List ℕ) → IsReadTo bytes text rest → AreRaw raw → rest ≡ raw ++ after →
+    now ≡ text ++ chars raw → IsReadTo bytes now after
+read_raw bytes text rest raw after now so_far are e n =
     let cs = are.characters in
     let same : chars raw ≡ cs = text_chars raw cs (raw_utf8 raw are) are.spelled in
     let valid : is_text cs ≡ true = (λ i. raw_scalars cs are.raw i && not (raw_no_zero cs are.raw i)) in
-    read_more bytes text rest cs raw behind now so_far e (raw_escape cs are.raw ∙ sym are.spelled) valid (n ∙ ap (λ t. text ++ t) same)
+    read_more bytes text rest cs raw after now so_far e (raw_escape cs are.raw ∙ sym are.spelled) valid (n ∙ ap (λ t. text ++ t) same)
 
 -- the raw characters at the front are read
 pub read_front : (bytes text : List ℕ) (end : ℕ) → list_all is_raw_byte (take end bytes) ≡ true → text ≡ chars (take end bytes) →
@@ -157,20 +157,20 @@ read_front bytes text end raw e =
     (raw_bytes (take end bytes) raw) whole e
 
 -- an escape after the text that was read is read, too
-pub read_escape : (bytes text rest behind now : List ℕ) (c : ℕ) → IsReadTo bytes text rest → rest ≡ escape_char c ++ behind →
-    is_text (c ∷ []) ≡ true → now ≡ text ++ chars (encode c) → IsReadTo bytes now behind
-read_escape bytes text rest behind now c so_far e valid n =
+pub read_escape : (bytes text rest after now : List ℕ) (c : ℕ) → IsReadTo bytes text rest → rest ≡ escape_char c ++ after →
+    is_text (c ∷ []) ≡ true → now ≡ text ++ chars (encode c) → IsReadTo bytes now after
+read_escape bytes text rest after now c so_far e valid n =
     let scalar_c = (and_parts (scalars (c ∷ [])) (not (has_zero (c ∷ []))) valid).0 in
     let whole : encodes (c ∷ []) ≡ encode c = append-nil (encode c) in
     let same : chars (encode c) ≡ c ∷ [] = text_chars (encode c) (c ∷ []) (c ∷ [], (scalar_c, whole)) (sym whole) in
-    read_more bytes text rest (c ∷ []) (escape_char c) behind now so_far e (append-nil (escape_char c)) valid (n ∙ ap (λ t. text ++ t) same)
+    read_more bytes text rest (c ∷ []) (escape_char c) after now so_far e (append-nil (escape_char c)) valid (n ∙ ap (λ t. text ++ t) same)
 
 -- after an escape fewer bytes are left than before
-pub shorter : (rest raw behind next : List ℕ) (c : ℕ) → rest ≡ raw ++ behind → behind ≡ escape_char c ++ next → length next < length rest
-shorter rest raw behind next c e f = omega (
+pub shorter : (rest raw after next : List ℕ) (c : ℕ) → rest ≡ raw ++ after → after ≡ escape_char c ++ next → length next < length rest
+shorter rest raw after next c e f = omega (
   arith,
   length-escape_char-some c,
-  ap length e ∙ length-append raw behind,
+  ap length e ∙ length-append raw after,
   ap length f
       ∙ length-append (escape_char c) next,
 )

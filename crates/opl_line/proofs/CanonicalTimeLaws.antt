@@ -14,10 +14,10 @@ use Rattle.osm_model.specs.TimeLaw.{pair, IsTimeText}
 use Rattle.osm_model.proofs.TimeLaws.{time_law}
 use Rattle.opl_line.specs.declared.reason.OplReason.{OplReason}
 use Rattle.opl_line.specs.declared.reason.OplReason.TheVariants.{BadTime, OutOfRange}
-use Rattle.opl_line.specs.Answer.{and_then}
+use Rattle.opl_line.specs.Results.{and_then}
 use Rattle.opl_line.specs.Number.{is_numeral, decimal_value, value_of}
 use Rattle.opl_line.specs.Time.{digits_at, day_of, second_of, reading_date, reading_clock, epoch, reading_moment, reading_time}
-use Rattle.opl_line.proofs.AnswerLaws.{both}
+use Rattle.opl_line.proofs.ResultLaws.{both}
 use Rattle.opl_line.proofs.JiffDays.{epoch_day_number}
 
 -- consequences of a reading in two steps that succeeds
@@ -51,9 +51,9 @@ digit : (d : ℕ) → is_ascii_digit d ≡ true → IsDigit d
 digit d is = let range = and_parts _ _ is in record { low = leb-true 48 d range.0; high = leb-true d 57 range.1 }
 
 -- a number below 100 in two digits
-record IsPair (n : ℕ) (now behind : List ℕ) : Type 0 where
+record IsPair (n : ℕ) (now after : List ℕ) : Type 0 where
   small : n < 100
-  spelled : now ≡ pair n ++ behind
+  spelled : now ≡ pair n ++ after
 
 two : (xs : List ℕ) (n : ℕ) → 2 ≤ length xs → value_of (take 2 xs) ≡ Some n → IsPair n xs (drop 2 xs)
 two [] n long e = absurd (omega arith)
@@ -74,9 +74,9 @@ two (a ∷ b ∷ rest) n long e =
     record { small = omega arith; spelled = λ i. first i ∷ second i ∷ rest }
 
 -- a number below 10,000 in four digits
-record IsFour (n : ℕ) (now behind : List ℕ) : Type 0 where
+record IsFour (n : ℕ) (now after : List ℕ) : Type 0 where
   small : n < 10_000
-  spelled : now ≡ pair (n / 100) ++ pair (n % 100) ++ behind
+  spelled : now ≡ pair (n / 100) ++ pair (n % 100) ++ after
 
 four : (xs : List ℕ) (n : ℕ) → 4 ≤ length xs → value_of (take 4 xs) ≡ Some n → IsFour n xs (drop 4 xs)
 four [] n long e = absurd (omega arith)
@@ -110,14 +110,14 @@ four (a ∷ b ∷ c ∷ d ∷ rest) n long e =
     record { small = omega arith; spelled = λ i. first i ∷ second i ∷ third i ∷ fourth i ∷ rest }
 
 -- the text of a date that was read, and the text after it
-record IsDate (text : List ℕ) (days : ℕ) (behind : List ℕ) : Type 0 where
+record IsDate (text : List ℕ) (days : ℕ) (after : List ℕ) : Type 0 where
   year : ℕ
   month : ℕ
   day : ℕ
   four_digits : year < 10_000
   of_calendar : is_date year month day ≡ true
   number : days ≡ day_number year month day
-  spelled : text ≡ pair (year / 100) ++ pair (year % 100) ++ 45 ∷ pair month ++ 45 ∷ pair day ++ behind
+  spelled : text ≡ pair (year / 100) ++ pair (year % 100) ++ 45 ∷ pair month ++ 45 ∷ pair day ++ after
 
 record IsClock (text : List ℕ) (seconds : ℕ) : Type 0 where
   hour : ℕ

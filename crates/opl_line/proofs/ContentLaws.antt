@@ -16,7 +16,7 @@ use Rattle.osm_model.specs.Pairwise.{Pairwise}
 use Rattle.opl_line.specs.declared.bytes.cut.Delimiter.TheVariants.{Percents, Commas, Equals, Ats}
 use Rattle.opl_line.specs.declared.reason.OplReason.{OplReason}
 use Rattle.opl_line.specs.declared.reason.OplReason.TheVariants.{BadText, BadList}
-use Rattle.opl_line.specs.Answer.{and_then, as_value, with_reason}
+use Rattle.opl_line.specs.Results.{and_then, as_value, with_reason}
 use Rattle.opl_line.specs.Number.{reading_id}
 use Rattle.opl_line.specs.Item.{reading_items, reading_list, tag_of_pieces, reading_tag, item_reason, reading_item_id, reading_reference}
 use Rattle.opl_line.specs.Item.{kind_of_letter, reading_named, reading_object_name, member_of_parts, reading_member}
@@ -26,7 +26,7 @@ use Rattle.opl_line.specs.Text.{text_of, reading_text}
 use Rattle.opl_line.specs.Content.{SpellsText, raw, escaped, SpellsCharacters, SpellsTag, SpellsReference, SpellsObject, SpellsMember}
 use Rattle.opl_line.specs.Content.{SpellsList}
 use Rattle.opl_line.proofs.NumeralLaws.{id_sound, id_complete}
-use Rattle.opl_line.proofs.AnswerLaws.{both, became, same_success}
+use Rattle.opl_line.proofs.ResultLaws.{both, became, same_success}
 use Rattle.opl_line.proofs.CutLaws.{cut_split, split_front, split_never}
 use Rattle.opl_line.proofs.TextLaws.{one_escape}
 
@@ -56,12 +56,12 @@ scalar_digits digits c =
     ] refl
 
 -- the text that was read before remains at the front
-from_behind : (start done : List ℕ) (pieces : List (List ℕ)) →
+from_rest : (start done : List ℕ) (pieces : List (List ℕ)) →
     text_from (start ++ done) pieces ≡ option_map (λ t. start ++ t) (text_from done pieces)
 unfolding text_from
-from_behind start done [] = refl
-from_behind start done (escape ∷ []) = refl
-from_behind start done (escape ∷ piece ∷ more) =
+from_rest start done [] = refl
+from_rest start done (escape ∷ []) = refl
+from_rest start done (escape ∷ piece ∷ more) =
     elim (scalar_of escape) as (λ s. option_and_then (λ text. text_from text more) (with_escape (start ++ done) piece s)
     ≡ option_map (λ t. start ++ t) (option_and_then (λ text. text_from text more) (with_escape done piece s))) [
       | None ↦ refl
@@ -69,15 +69,15 @@ from_behind start done (escape ∷ piece ∷ more) =
           (λ b. option_and_then (λ text. text_from text more) (cond b (Some (start ++ done ++ encode c ++ piece)) None)
           ≡ option_map (λ t. start ++ t) (option_and_then (λ text. text_from text more) (cond b (Some (done ++ encode c ++ piece)) None))) [
             | true ↦ ap (λ t. text_from t more) (ap (λ t. t ++ piece) (append_assoc start done (encode c))
-                ∙ append_assoc start (done ++ encode c) piece) ∙ from_behind start (done ++ encode c ++ piece) more
+                ∙ append_assoc start (done ++ encode c) piece) ∙ from_rest start (done ++ encode c ++ piece) more
             | false ↦ refl
           ]
     ]
 
 -- ---- texts that are spelled are read
-text_complete_behind : (front digits rest text : List ℕ) (c : ℕ) → list_all is_literal front ≡ true → scalar_of digits ≡ Some c →
+text_complete_after : (front digits rest text : List ℕ) (c : ℕ) → list_all is_literal front ≡ true → scalar_of digits ≡ Some c →
     text_of rest ≡ Some text → text_of (front ++ 37 ∷ (digits ++ 37 ∷ rest)) ≡ Some (front ++ (encode c ++ text))
-text_complete_behind front digits rest text c all some read =
+text_complete_after front digits rest text c all some read =
     let percent = is_end Percents in
     let at = split_front percent front (digits ++ 37 ∷ rest) 37
     (all_weaker is_literal (λ b. not (eqb b 37)) raw_no_percent front all) refl in
@@ -93,7 +93,7 @@ text_complete_behind front digits rest text c all some read =
     text_from front (split_all percent (digits ++ 37 ∷ rest)) ≡ Some (front ++ (encode c ++ text))) [
       | true ↦ λ is e.
           one_escape front digits parts.0 c _ _ _ pieces (cut_split percent rest) some is
-          ∙ from_behind (front ++ encode c) parts.0 (pieces_of percent parts.1)
+          ∙ from_rest (front ++ encode c) parts.0 (pieces_of percent parts.1)
           ∙ ap (option_map (λ t. front ++ encode c ++ t)) e
           ∙ ap (λ t. Some t) (append_assoc front (encode c) text)
       | false ↦ λ is e. cc
@@ -105,51 +105,51 @@ text_complete bytes out (raw text all) =
     ap text_of_pieces (split_never (is_end Percents) text (all_weaker is_literal (λ b. not (eqb b 37)) raw_no_percent text all))
     ∙ ap (λ t. cond t (Some text) None) all
 text_complete bytes out (escaped front digits rest text c all some spelled) =
-    text_complete_behind front digits rest text c all some (text_complete rest text spelled)
+    text_complete_after front digits rest text c all some (text_complete rest text spelled)
 
 -- ---- texts that are read are spelled
-behind_percents : List (List ℕ) → List ℕ
-behind_percents [] = []
-behind_percents (piece ∷ pieces) = 37 ∷ (piece ++ behind_percents pieces)
+after_percents : List (List ℕ) → List ℕ
+after_percents [] = []
+after_percents (piece ∷ pieces) = 37 ∷ (piece ++ after_percents pieces)
 
-uncut : (bytes : List ℕ) → behind_percents (split_all (is_end Percents) bytes) ≡ 37 ∷ bytes
-unfolding behind_percents
+uncut : (bytes : List ℕ) → after_percents (split_all (is_end Percents) bytes) ≡ 37 ∷ bytes
+unfolding after_percents
 uncut [] = refl
 uncut (b ∷ bs) =
-    elim (eqb b 37) as (λ t. eqb b 37 ≡ t → behind_percents
+    elim (eqb b 37) as (λ t. eqb b 37 ≡ t → after_percents
     (cond t ([] ∷ split_all (is_end Percents) bs) (with_first_byte b (split_all (is_end Percents) bs))) ≡ 37 ∷ b ∷ bs) [
       | true ↦ λ is. ap (λ r. 37 ∷ r) (uncut bs) ∙ ap (λ x. 37 ∷ x ∷ bs) (sym (eqb-true b 37 is))
       | false ↦ λ other.
           let parts = split_first (is_end Percents) bs in
           let first = cut_split (is_end Percents) bs in
-          let rest : 37 ∷ (parts.0 ++ behind_percents (pieces_of (is_end Percents) parts.1)) ≡ 37 ∷ bs = sym (ap behind_percents first)
+          let rest : 37 ∷ (parts.0 ++ after_percents (pieces_of (is_end Percents) parts.1)) ≡ 37 ∷ bs = sym (ap after_percents first)
           ∙ uncut bs in
-          let same : parts.0 ++ behind_percents (pieces_of (is_end Percents) parts.1) ≡ bs = cc in
-          ap (λ ps. behind_percents (with_first_byte b ps)) first ∙ ap (λ r. 37 ∷ b ∷ r) same
+          let same : parts.0 ++ after_percents (pieces_of (is_end Percents) parts.1) ≡ bs = cc in
+          ap (λ ps. after_percents (with_first_byte b ps)) first ∙ ap (λ r. 37 ∷ b ∷ r) same
     ] refl
 
 rejoined : (bytes : List ℕ) → let parts = split_first (is_end Percents) bytes in
-    parts.0 ++ behind_percents (pieces_of (is_end Percents) parts.1) ≡ bytes
-unfolding behind_percents
+    parts.0 ++ after_percents (pieces_of (is_end Percents) parts.1) ≡ bytes
+unfolding after_percents
 rejoined bytes =
     let parts = split_first (is_end Percents) bytes in
-    let rest : 37 ∷ (parts.0 ++ behind_percents (pieces_of (is_end Percents) parts.1)) ≡ 37 ∷ bytes =
-    sym (ap behind_percents (cut_split (is_end Percents) bytes)) ∙ uncut bytes in
+    let rest : 37 ∷ (parts.0 ++ after_percents (pieces_of (is_end Percents) parts.1)) ≡ 37 ∷ bytes =
+    sym (ap after_percents (cut_split (is_end Percents) bytes)) ∙ uncut bytes in
     cc
 
-record Behind (start bytes out : List ℕ) : Type 0 where
+record AfterText (start bytes out : List ℕ) : Type 0 where
   text : List ℕ
-  told : out ≡ start ++ text
+  known : out ≡ start ++ text
   spelled : SpellsText bytes text
 
 spelled_from : (pieces : List (List ℕ)) (start front out : List ℕ) → list_all is_literal front ≡ true →
-    text_from (start ++ front) pieces ≡ Some out → Behind start (front ++ behind_percents pieces) out
-unfolding text_from behind_percents
+    text_from (start ++ front) pieces ≡ Some out → AfterText start (front ++ after_percents pieces) out
+unfolding text_from after_percents
 spelled_from [] start front out all e =
     let P : List ℕ → Type 0 = λ bytes. SpellsText bytes front in
     record {
       text = front;
-      told = (let same : start ++ front ≡ out = cc in sym same);
+      known = (let same : start ++ front ≡ out = cc in sym same);
       spelled =
           subst P (sym (append-nil front)) (raw front all);
     }
@@ -157,18 +157,19 @@ spelled_from (escape ∷ []) start front out all e = cc
 spelled_from (escape ∷ piece ∷ more) start front out all read =
     elim (scalar_of escape) as (λ s. scalar_of escape ≡ s →
     option_and_then (λ text. text_from text more) (with_escape (start ++ front) piece s) ≡ Some out →
-    Behind start (front ++ 37 ∷ (escape ++ 37 ∷ (piece ++ behind_percents more))) out) [
+    AfterText start (front ++ 37 ∷ (escape ++ 37 ∷ (piece ++ after_percents more))) out) [
       | None ↦ λ none e. cc
       | Some c ↦ λ some. elim (list_all is_literal piece) as
           (λ b. list_all is_literal piece ≡ b → option_and_then (λ text. text_from text more)
           (cond b (Some (start ++ front ++ encode c ++ piece)) None) ≡ Some out →
-          Behind start (front ++ 37 ∷ (escape ++ 37 ∷ (piece ++ behind_percents more))) out) [
+          AfterText start (front ++ 37 ∷ (escape ++ 37 ∷ (piece ++ after_percents more))) out) [
             | true ↦ λ is e.
                 let rest = spelled_from more (start ++ front ++ encode c) piece out is e in
                 record {
                   text = front ++ (encode c ++ rest.text);
-                  told = rest.told ∙ append_assoc (start ++ front) (encode c) rest.text ∙ append_assoc start front (encode c ++ rest.text);
-                  spelled = escaped front escape (piece ++ behind_percents more) rest.text c all some rest.spelled;
+                  known = rest.known ∙ append_assoc (start ++ front) (encode c) rest.text
+                      ∙ append_assoc start front (encode c ++ rest.text);
+                  spelled = escaped front escape (piece ++ after_percents more) rest.text c all some rest.spelled;
                 }
             | false ↦ λ is e. cc
           ] refl
@@ -182,8 +183,8 @@ text_sound bytes out =
       | true ↦ λ all e.
           let found = spelled_from (pieces_of (is_end Percents) parts.1) [] parts.0 out all e in
           let P : List ℕ → Type 0 = λ b. SpellsText b out in
-          let Q : List ℕ → Type 0 = SpellsText (parts.0 ++ behind_percents (pieces_of (is_end Percents) parts.1)) in
-          subst P (rejoined bytes) (subst Q (sym found.told) found.spelled)
+          let Q : List ℕ → Type 0 = SpellsText (parts.0 ++ after_percents (pieces_of (is_end Percents) parts.1)) in
+          subst P (rejoined bytes) (subst Q (sym found.known) found.spelled)
       | false ↦ λ all e. cc
     ] refl
 
@@ -206,7 +207,8 @@ characters_complete bytes cs s = ap (λ o. ok_or (option_map chars o) BadText) (
     ∙ ap (λ t. Ok t) (sym s.characters)
 
 -- ---- tags
-tag_pieces : (bytes : List ℕ) (tag : Tag) (pieces : List (List ℕ)) → split_all (is_end Equals) bytes ≡ pieces → tag_of_pieces pieces ≡ Ok tag →
+tag_pieces : (bytes : List ℕ) (tag : Tag) (pieces : List (List ℕ)) → split_all (is_end Equals) bytes ≡ pieces →
+    tag_of_pieces pieces ≡ Ok tag →
     SpellsTag bytes tag
 tag_pieces bytes tag [] is e = cc
 tag_pieces bytes tag (key ∷ []) is e = cc
@@ -305,8 +307,8 @@ name_complete bytes k id s =
     ∙ ap (λ o. reading_named o s.digits) (kind_of_its_letter k)
     ∙ ap (λ r. as_value (λ z. (k, z)) (with_reason item_reason r)) (id_complete s.digits id s.spelled)
 
-member_parts : (bytes object : List ℕ) (behind : Option (List ℕ)) (member : Member) → split_first (is_end Ats) bytes ≡ (object, behind) →
-    member_of_parts (object, behind) ≡ Ok member → SpellsMember bytes member
+member_parts : (bytes object : List ℕ) (after : Option (List ℕ)) (member : Member) → split_first (is_end Ats) bytes ≡ (object, after) →
+    member_of_parts (object, after) ≡ Ok member → SpellsMember bytes member
 member_parts bytes object None member is e = cc
 member_parts bytes object (Some role) member is e =
     let o = both (reading_object_name object) (λ (o : Kind × ℤ).

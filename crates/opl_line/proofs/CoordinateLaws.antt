@@ -12,7 +12,7 @@ use Rattle.osm_model.specs.Coordinate.{digit_before, without_last_zeros, fractio
 use Rattle.osm_model.proofs.NumeralLaws.{length-numeral-le, length-padded}
 use Rattle.opl_line.specs.declared.bytes.cut.Delimiter.TheVariants.{Points}
 use Rattle.opl_line.specs.declared.reason.OplReason.TheVariants.{BadCoordinate, OutOfRange}
-use Rattle.opl_line.specs.Answer.{and_then, as_value}
+use Rattle.opl_line.specs.Results.{and_then, as_value}
 use Rattle.opl_line.specs.Delimiter.{is_end}
 use Rattle.opl_line.specs.Number.{with_digit, decimal_value, is_negative, without_sign, with_sign, reading_short_numeral, decimals_value}
 use Rattle.opl_line.specs.Number.{reading_degrees, reading_units, degree_parts}

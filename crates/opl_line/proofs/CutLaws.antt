@@ -18,7 +18,8 @@ module _ (p : ℕ → Bool) where
   pub cut_split : (bytes : List ℕ) → split_all p bytes ≡ (split_first p bytes).0 ∷ pieces_of p (split_first p bytes).1
   cut_split [] = refl
   cut_split (b ∷ bs) =
-      elim (p b) as (λ t. cond t ([] ∷ split_all p bs) (with_first_byte b (split_all p bs)) ≡ (cond t ([], Some bs) (with_byte b (split_first p bs))).0
+      elim (p b) as (λ t. cond t ([] ∷ split_all p bs) (with_first_byte b (split_all p bs)) ≡
+      (cond t ([], Some bs) (with_byte b (split_first p bs))).0
       ∷ pieces_of p (cond t ([], Some bs) (with_byte b (split_first p bs))).1) [
         | true ↦ refl
         | false ↦ ap (with_first_byte b) (cut_split bs)
@@ -122,8 +123,8 @@ cut_before at text n found = let s = split_at (is_end at) text n found in
     IsCharBoundary-before_ascii text n s.within (ends_ascii at _ s.passes)
 
 -- The offset after a delimiter is a boundary of a character.
-pub cut_behind : (at : Delimiter) (text : List ℕ) (n : ℕ) → IsUtf8 text → position (is_end at) text ≡ Some n → IsCharBoundary text (n + 1)
-cut_behind at text n utf8 found = let s = split_at (is_end at) text n found in
+pub cut_rest : (at : Delimiter) (text : List ℕ) (n : ℕ) → IsUtf8 text → position (is_end at) text ≡ Some n → IsCharBoundary text (n + 1)
+cut_rest at text n utf8 found = let s = split_at (is_end at) text n found in
     IsCharBoundary-after_ascii text n utf8 s.within (ends_ascii at _ s.passes)
 
 -- a number that is less after each split: the length of the remaining text and 1, or 0 if there is none

@@ -3,7 +3,7 @@ use Rattle.std.proofs.Common.{◌≡◌, ℕ, List, [], ◌∷◌, Ok, Err, ap, 
 use Rattle.osm_model.specs.declared.kind.Kind.{Kind}
 use Rattle.opl_line.specs.declared.general.field.Fields.{Fields}
 use Rattle.opl_line.specs.declared.reason.OplReason.{OplReason}
-use Rattle.opl_line.specs.Answer.{and_then}
+use Rattle.opl_line.specs.Results.{and_then}
 use Rattle.opl_line.specs.Field.{reading_field, reading_fields}
 
 -- The fields are read by reading the first and then the others.

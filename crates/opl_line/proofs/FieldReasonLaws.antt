@@ -6,7 +6,7 @@ use Rattle.osm_model.specs.declared.kind.Kind.TheVariants as kind
 use Rattle.opl_line.specs.declared.general.field.Fields.{Fields}
 use Rattle.opl_line.specs.declared.reason.OplReason.{OplReason}
 use Rattle.opl_line.specs.declared.reason.OplReason.TheVariants.{UnknownField, RepeatedField}
-use Rattle.opl_line.specs.Answer.{and_then, as_value}
+use Rattle.opl_line.specs.Results.{and_then, as_value}
 use Rattle.opl_line.specs.Number.{reading_coordinate}
 use Rattle.opl_line.specs.Time.{reading_time}
 use Rattle.opl_line.specs.Text.{reading_text}
@@ -18,8 +18,8 @@ use Rattle.opl_line.specs.LineReason.{ContentReason, number, deleted, changeset,
 use Rattle.opl_line.specs.LineReason.{members, body_letters, letters_of, is_among, FieldReason, repeated, unknown, ill_formed, FieldsReason}
 use Rattle.opl_line.proofs.BoolLaws.{neither}
 use Rattle.opl_line.proofs.PartLaws.{choose, met, unmet, parts_of, read_of}
-use Rattle.opl_line.proofs.ReasonLaws.{still_refused, user_refused, no_text_read, tags_refused, tags_told, references_refused}
-use Rattle.opl_line.proofs.ReasonLaws.{references_told, members_refused, members_told}
+use Rattle.opl_line.proofs.ReasonLaws.{still_refused, user_refused, no_text_read, tags_refused, tags_reported, references_refused}
+use Rattle.opl_line.proofs.ReasonLaws.{references_reported, members_refused, members_reported}
 
 -- ---- a field of one letter
 -- the letter is among `letters` and the content is faulty, or the letter isn't among `letters`
@@ -109,9 +109,9 @@ unknown_body kind.Node letter content fields none =
 unknown_body kind.Way letter content fields none = pass letter 78 _ _ _ (neither (eqb letter 78) _ none).0 refl
 unknown_body kind.Relation letter content fields none = pass letter 77 _ _ _ (neither (eqb letter 77) _ none).0 refl
 
-unknown_told : (k : Kind) (letter : ℕ) (content : List ℕ) (fields : Fields) → is_among letter (letters_of k) ≡ false →
+unknown_reported : (k : Kind) (letter : ℕ) (content : List ℕ) (fields : Fields) → is_among letter (letters_of k) ≡ false →
     with_field k letter content fields ≡ Err UnknownField
-unknown_told k letter content fields none =
+unknown_reported k letter content fields none =
     let v = neither (eqb letter 118) _ none in
     let d = neither (eqb letter 100) _ v.1 in
     let c = neither (eqb letter 99) _ d.1 in
@@ -123,59 +123,61 @@ unknown_told k letter content fields none =
     (pass letter 99 _ _ _ c.0 (pass letter 116 _ _ _ t.0 (pass letter 105 _ _ _ i.0 (pass letter 117 _ _ _ u.0 (pass letter 84 _ _ _ g.0
     (unknown_body k letter content fields g.1)))))))
 
-longitude_told : (k : Kind) (content : List ℕ) (fields : Fields) (reason : OplReason) → is_among 120 (letters_of k) ≡ true →
+longitude_reported : (k : Kind) (content : List ℕ) (fields : Fields) (reason : OplReason) → is_among 120 (letters_of k) ≡ true →
     reading_optional reading_coordinate content ≡ Err reason → with_field k 120 content fields ≡ Err reason
-longitude_told kind.Node content fields reason known e = ap (as_value (λ x. record fields { longitude = Some x })) e
-longitude_told kind.Way content fields reason known e = cc
-longitude_told kind.Relation content fields reason known e = cc
+longitude_reported kind.Node content fields reason known e = ap (as_value (λ x. record fields { longitude = Some x })) e
+longitude_reported kind.Way content fields reason known e = cc
+longitude_reported kind.Relation content fields reason known e = cc
 
-latitude_told : (k : Kind) (content : List ℕ) (fields : Fields) (reason : OplReason) → is_among 121 (letters_of k) ≡ true →
+latitude_reported : (k : Kind) (content : List ℕ) (fields : Fields) (reason : OplReason) → is_among 121 (letters_of k) ≡ true →
     reading_optional reading_coordinate content ≡ Err reason → with_field k 121 content fields ≡ Err reason
-latitude_told kind.Node content fields reason known e = ap (as_value (λ x. record fields { latitude = Some x })) e
-latitude_told kind.Way content fields reason known e = cc
-latitude_told kind.Relation content fields reason known e = cc
+latitude_reported kind.Node content fields reason known e = ap (as_value (λ x. record fields { latitude = Some x })) e
+latitude_reported kind.Way content fields reason known e = cc
+latitude_reported kind.Relation content fields reason known e = cc
 
-ids_told : (k : Kind) (content : List ℕ) (fields : Fields) (reason : OplReason) → is_among 78 (letters_of k) ≡ true →
+ids_reported : (k : Kind) (content : List ℕ) (fields : Fields) (reason : OplReason) → is_among 78 (letters_of k) ≡ true →
     reading_list reading_reference content ≡ Err reason → with_field k 78 content fields ≡ Err reason
-ids_told kind.Node content fields reason known e = cc
-ids_told kind.Way content fields reason known e = ap (as_value (λ x. record fields { references = Some x })) e
-ids_told kind.Relation content fields reason known e = cc
+ids_reported kind.Node content fields reason known e = cc
+ids_reported kind.Way content fields reason known e = ap (as_value (λ x. record fields { references = Some x })) e
+ids_reported kind.Relation content fields reason known e = cc
 
-relation_told : (k : Kind) (content : List ℕ) (fields : Fields) (reason : OplReason) → is_among 77 (letters_of k) ≡ true →
+relation_reported : (k : Kind) (content : List ℕ) (fields : Fields) (reason : OplReason) → is_among 77 (letters_of k) ≡ true →
     reading_list reading_member content ≡ Err reason → with_field k 77 content fields ≡ Err reason
-relation_told kind.Node content fields reason known e = cc
-relation_told kind.Way content fields reason known e = cc
-relation_told kind.Relation content fields reason known e = ap (as_value (λ x. record fields { members = Some x })) e
+relation_reported kind.Node content fields reason known e = cc
+relation_reported kind.Way content fields reason known e = cc
+relation_reported kind.Relation content fields reason known e = ap (as_value (λ x. record fields { members = Some x })) e
 
-content_told : (k : Kind) (fields : Fields) (letter : ℕ) (content : List ℕ) (reason : OplReason) → is_among letter (letters_of k) ≡ true →
+content_reported : (k : Kind) (fields : Fields) (letter : ℕ) (content : List ℕ) (reason : OplReason) →
+    is_among letter (letters_of k) ≡ true →
     ContentReason letter content reason → with_field k letter content fields ≡ Err reason
-content_told k fields letter content reason known (number content' reason' e) = ap (as_value (λ x. record fields { number = Some x })) e
-content_told k fields letter content reason known (deleted content' reason' e) = ap (as_value (λ x. record fields { deleted = Some x })) e
-content_told k fields letter content reason known (changeset content' reason' e) =
+content_reported k fields letter content reason known (number content' reason' e) = ap (as_value (λ x. record fields { number = Some x })) e
+content_reported k fields letter content reason known (deleted content' reason' e) =
+    ap (as_value (λ x. record fields { deleted = Some x })) e
+content_reported k fields letter content reason known (changeset content' reason' e) =
     ap (as_value (λ x. record fields { changeset = Some x })) e
-content_told k fields letter content reason known (time content' reason' e) = ap (as_value (λ x. record fields { time = Some x })) e
-content_told k fields letter content reason known (uid content' reason' e) = ap (as_value (λ x. record fields { uid = Some x })) e
-content_told k fields letter content reason known (user content' none) =
+content_reported k fields letter content reason known (time content' reason' e) = ap (as_value (λ x. record fields { time = Some x })) e
+content_reported k fields letter content reason known (uid content' reason' e) = ap (as_value (λ x. record fields { uid = Some x })) e
+content_reported k fields letter content reason known (user content' none) =
     ap (as_value (λ x. record fields { user = Some x })) (no_text_read content' none)
-content_told k fields letter content reason known (tags content' reason' r) =
-    ap (as_value (λ x. record fields { tags = Some x })) (tags_told content' reason' r)
-content_told k fields letter content reason known (longitude content' reason' e) = longitude_told k content' fields reason' known e
-content_told k fields letter content reason known (latitude content' reason' e) = latitude_told k content' fields reason' known e
-content_told k fields letter content reason known (references content' reason' r) =
-    ids_told k content' fields reason' known (references_told content' reason' r)
-content_told k fields letter content reason known (members content' reason' r) =
-    relation_told k content' fields reason' known (members_told content' reason' r)
+content_reported k fields letter content reason known (tags content' reason' r) =
+    ap (as_value (λ x. record fields { tags = Some x })) (tags_reported content' reason' r)
+content_reported k fields letter content reason known (longitude content' reason' e) = longitude_reported k content' fields reason' known e
+content_reported k fields letter content reason known (latitude content' reason' e) = latitude_reported k content' fields reason' known e
+content_reported k fields letter content reason known (references content' reason' r) =
+    ids_reported k content' fields reason' known (references_reported content' reason' r)
+content_reported k fields letter content reason known (members content' reason' r) =
+    relation_reported k content' fields reason' known (members_reported content' reason' r)
 
-field_told : (k : Kind) (fields : Fields) (met_letters : List ℕ) → ((l : ℕ) → has_field fields l ≡ is_among l met_letters) →
+field_reported : (k : Kind) (fields : Fields) (met_letters : List ℕ) → ((l : ℕ) → has_field fields l ≡ is_among l met_letters) →
     (field : List ℕ) (reason : OplReason) → FieldReason k met_letters field reason → reading_field k field fields ≡ Err reason
-field_told k fields met_letters has field reason (repeated letter content again) =
+field_reported k fields met_letters has field reason (repeated letter content again) =
     ap (λ t. cond t (Err RepeatedField) (with_field k letter content fields)) (has letter ∙ again)
-field_told k fields met_letters has field reason (unknown letter content fresh other) =
+field_reported k fields met_letters has field reason (unknown letter content fresh other) =
     ap (λ t. cond t (Err RepeatedField) (with_field k letter content fields)) (has letter ∙ fresh)
-    ∙ unknown_told k letter content fields other
-field_told k fields met_letters has field reason (ill_formed letter content reason' fresh known faulty) =
+    ∙ unknown_reported k letter content fields other
+field_reported k fields met_letters has field reason (ill_formed letter content reason' fresh known faulty) =
     ap (λ t. cond t (Err RepeatedField) (with_field k letter content fields)) (has letter ∙ fresh)
-    ∙ content_told k fields letter content reason' known faulty
+    ∙ content_reported k fields letter content reason' known faulty
 
 -- ---- the letters met
 shuffled : (a b c : Bool) → (b || (a || c)) ≡ ((a || b) || c)
@@ -274,10 +276,10 @@ fields_refused k pieces reason e =
     }
 
 -- Fields whose leftmost faulty field has a reason are refused with it.
-pub fields_told : (k : Kind) (pieces : List (List ℕ)) (reason : OplReason) → FieldsReason k pieces reason →
+pub fields_reported : (k : Kind) (pieces : List (List ℕ)) (reason : OplReason) → FieldsReason k pieces reason →
     reading_fields k pieces no_fields ≡ Err reason
-fields_told k pieces reason r =
+fields_reported k pieces reason r =
     ap (λ ps. reading_fields k ps no_fields) r.parted
     ∙ unsplit k r.front r.field r.later no_fields (fold with_part no_fields r.parts) reason
     (read_of k r.front r.parts r.fine r.different)
-    (field_told k (fold with_part no_fields r.parts) (map letter_of r.parts) (met_by r.parts) r.field reason r.faulty)
+    (field_reported k (fold with_part no_fields r.parts) (map letter_of r.parts) (met_by r.parts) r.field reason r.faulty)

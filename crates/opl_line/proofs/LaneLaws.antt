@@ -31,14 +31,14 @@ both false false = refl
 pub either : (p q : ℕ → Bool) (v : List ℕ) {a b : List ℕ} → a ≡ lanes p v → b ≡ lanes q v → zip2 bit_or a b ≡ lanes (λ x. p x || q x) v
 either p q v e f = zip2_of_maps bit_or (λ x. cond (p x) 255 0) (λ x. cond (q x) 255 0) v e f ∙ ap (λ h. map h v) (λ i x. both (p x) (q x) i)
 
-told : (s : Bool) → top 7 (cond s 255 0) ≡ s
-told true = refl
-told false = refl
+top_of_mask : (s : Bool) → top 7 (cond s 255 0) ≡ s
+top_of_mask true = refl
+top_of_mask false = refl
 
 -- the mask has a bit for each byte that passes
 pub marked : (p : ℕ → Bool) (v : List ℕ) {z : List ℕ} → z ≡ lanes p v → length v ≤ 64 → mask_l (map (top 7) z) % 2 ^ 64 ≡ mask_l (map p v)
 marked p v e few =
-    let tops = ap (map (top 7)) e ∙ map-map (top 7) (λ x. cond (p x) 255 0) v ∙ ap (λ h. map h v) (λ i x. told (p x) i) in
+    let tops = ap (map (top 7)) e ∙ map-map (top 7) (λ x. cond (p x) 255 0) v ∙ ap (λ h. map h v) (λ i x. top_of_mask (p x) i) in
     ap (λ l. mask_l l % 2 ^ 64) tops ∙ mask_l-mod (map p v) 64 (omega (arith, length-map v p, few))
 
 -- the mask of several bytes, with a bit for each that is one of two

@@ -6,7 +6,7 @@ pub mod JiffDays
 pub mod ItemLaws
 pub mod FieldLaws
 pub mod ReadingLaws
-pub mod AnswerLaws
+pub mod ResultLaws
 pub mod NumeralLaws
 pub mod ContentLaws
 pub mod PlaceLaws

@@ -17,7 +17,7 @@ use Rattle.opl_line.specs.declared.bytes.cut.Delimiter.TheVariants.{Blanks}
 use Rattle.opl_line.specs.declared.general.field.Fields.{Fields}
 use Rattle.opl_line.specs.declared.reason.OplReason.{OplReason}
 use Rattle.opl_line.specs.declared.reason.OplReason.TheVariants.{NotUtf8, NoVersion, NoTime, NoLocation, Memory}
-use Rattle.opl_line.specs.Answer.{and_then, as_value, OplReads}
+use Rattle.opl_line.specs.Results.{and_then, as_value, OplReads}
 use Rattle.opl_line.specs.Delimiter.{is_end, split_first, split_all, pieces_of}
 use Rattle.opl_line.specs.Field.{no_fields, reading_fields}
 use Rattle.opl_line.specs.Reading.{is_skipped, reading_object, meta_of, reading_location, reading_visible, reading_body, unless_fault}
@@ -31,11 +31,12 @@ use Rattle.opl_line.proofs.NumeralLaws.{id_complete}
 use Rattle.opl_line.proofs.CutLaws.{cut_split}
 use Rattle.opl_line.proofs.PartLaws.{parts_of}
 use Rattle.opl_line.proofs.ReadingLaws as reading
-use Rattle.opl_line.proofs.SpellsLaws.{object_spelled, object_read, first_and_rest, tells_read, read_is_spelled, refused_spells_nothing}
+use Rattle.opl_line.proofs.SpellsLaws.{object_spelled, object_read, first_and_rest, parts_determine, read_is_spelled}
+use Rattle.opl_line.proofs.SpellsLaws.{refused_spells_nothing}
 use Rattle.opl_line.proofs.SpellsLaws.{skipped_only, not_skipped}
 use Rattle.opl_line.proofs.MadeLaws.{made}
-use Rattle.opl_line.proofs.ReasonLaws.{still_refused, object_refused, object_reason_told}
-use Rattle.opl_line.proofs.FieldReasonLaws.{fields_refused, fields_told}
+use Rattle.opl_line.proofs.ReasonLaws.{still_refused, object_refused, object_reason_reported}
+use Rattle.opl_line.proofs.FieldReasonLaws.{fields_refused, fields_reported}
 use Rattle.opl_line.proofs.Utf8Laws.{cut_utf8}
 use Rattle.opl_line.specs.Within.{AreWithin}
 use Rattle.opl_line.proofs.RangeLaws.{id_within, line_within}
@@ -65,16 +66,16 @@ body_refused k fields reason =
       | false ↦ λ visible e. visible_refused k fields reason visible e
     ] refl
 
-location_told : (lon lat : Option ℤ) (tags : List Tag) → (lon ≡ None) ⊎ (lat ≡ None) → reading_location lon lat tags ≡ Err NoLocation
-location_told None lat tags lacks = refl
-location_told (Some lon) None tags lacks = refl
-location_told (Some lon) (Some lat) tags lacks = ⊎_elim (λ e. cc) (λ e. cc) lacks
+location_reported : (lon lat : Option ℤ) (tags : List Tag) → (lon ≡ None) ⊎ (lat ≡ None) → reading_location lon lat tags ≡ Err NoLocation
+location_reported None lat tags lacks = refl
+location_reported (Some lon) None tags lacks = refl
+location_reported (Some lon) (Some lat) tags lacks = ⊎_elim (λ e. cc) (λ e. cc) lacks
 
-body_told : (k : Kind) (fields : Fields) → LacksLocation k fields → reading_body k fields ≡ Err NoLocation
-body_told k fields l =
+body_reported : (k : Kind) (fields : Fields) → LacksLocation k fields → reading_body k fields ≡ Err NoLocation
+body_reported k fields l =
     let P : Kind → Type 0 = λ x. reading_visible x fields ≡ Err NoLocation in
     ap (λ t. cond t (Ok (Deleted k)) (reading_visible k fields)) l.visible
-    ∙ subst P (sym l.node) (location_told (unwrap_or fields.longitude None) (unwrap_or fields.latitude None)
+    ∙ subst P (sym l.node) (location_reported (unwrap_or fields.longitude None) (unwrap_or fields.latitude None)
     (unwrap_or fields.tags []) l.lacks)
 
 -- ---- all fields together
@@ -108,23 +109,23 @@ whole_refused k id fields reason is h refused =
           ] refl
     ] refl refused
 
-whole_told : (k : Kind) (id : ℤ) (fields : Fields) (reason : OplReason) → WholeReason k fields reason →
+whole_reported : (k : Kind) (id : ℤ) (fields : Fields) (reason : OplReason) → WholeReason k fields reason →
     reading_whole k id fields ≡ Err reason
-whole_told k id fields reason (no_version none) =
+whole_reported k id fields reason (no_version none) =
     let make = λ (b : Body). unless_fault (version_or_fault id (meta_of fields) b) in
     ap (λ n. cond (eqb n 0) (Err NoVersion) (cond (not (is_dated (meta_of fields))) (Err NoTime)
     (and_then (reading_body k fields) make))) none
-whole_told k id fields reason (no_time some undated) =
+whole_reported k id fields reason (no_time some undated) =
     let make = λ (b : Body). unless_fault (version_or_fault id (meta_of fields) b) in
     ap (λ t. cond t (Err NoVersion) (cond (not (is_dated (meta_of fields))) (Err NoTime) (and_then (reading_body k fields) make)))
     (not_zero (unwrap_or fields.number 0) some)
     ∙ ap (λ t. cond (not t) (Err NoTime) (and_then (reading_body k fields) make)) undated
-whole_told k id fields reason (no_location some dated lacks) =
+whole_reported k id fields reason (no_location some dated lacks) =
     let make = λ (b : Body). unless_fault (version_or_fault id (meta_of fields) b) in
     ap (λ t. cond t (Err NoVersion) (cond (not (is_dated (meta_of fields))) (Err NoTime) (and_then (reading_body k fields) make)))
     (not_zero (unwrap_or fields.number 0) some)
     ∙ ap (λ t. cond (not t) (Err NoTime) (and_then (reading_body k fields) make)) dated
-    ∙ ap (λ r. and_then r make) (body_told k fields lacks)
+    ∙ ap (λ r. and_then r make) (body_reported k fields lacks)
 
 -- ---- the line
 fields_fine : (line : List ℕ) (k : Kind) (id : ℤ) (fields : Fields) (reason : OplReason) → is_skipped line ≡ false → IsUtf8 line →
@@ -190,23 +191,23 @@ reported_is_reason line reason =
           ] refl
     ] refl
 
-version_told : (line : List ℕ) (reason : OplReason) → is_skipped line ≡ false → IsUtf8 line → reading_version line ≡ Err reason →
+version_reported : (line : List ℕ) (reason : OplReason) → is_skipped line ≡ false → IsUtf8 line → reading_version line ≡ Err reason →
     reading_line line ≡ Err reason
-version_told line reason kept utf8 e = reading.utf8_line line kept utf8 ∙ ap (as_value (λ w. Some w)) e
+version_reported line reason kept utf8 e = reading.utf8_line line kept utf8 ∙ ap (as_value (λ w. Some w)) e
 
-object_told : (line object : List ℕ) (others : List (List ℕ)) (reason : OplReason) → split_all (is_end Blanks) line ≡ object ∷ others →
+object_reported : (line object : List ℕ) (others : List (List ℕ)) (reason : OplReason) → split_all (is_end Blanks) line ≡ object ∷ others →
     reading_object object ≡ Err reason → reading_version line ≡ Err reason
 unfolding reading_version
-object_told line object others reason parted e =
+object_reported line object others reason parted e =
     let pieces = pieces_of (is_end Blanks) (split_first (is_end Blanks) line).1 in
     let rest = λ (o : Kind × ℤ). and_then (reading_fields o.0 pieces no_fields) (reading_whole o.0 o.1) in
     ap (λ r. and_then r rest) (ap reading_object (first_and_rest line object others parted).0 ∙ e)
 
-fields_of_line_told : (line object : List ℕ) (others : List (List ℕ)) (k : Kind) (id : ℤ) (reason : OplReason) →
+fields_of_line_reported : (line object : List ℕ) (others : List (List ℕ)) (k : Kind) (id : ℤ) (reason : OplReason) →
     split_all (is_end Blanks) line ≡ object ∷ others → SpellsObject object k id → reading_fields k others no_fields ≡ Err reason →
     reading_version line ≡ Err reason
 unfolding reading_version
-fields_of_line_told line object others k id reason parted names e =
+fields_of_line_reported line object others k id reason parted names e =
     let pieces = pieces_of (is_end Blanks) (split_first (is_end Blanks) line).1 in
     let at = first_and_rest line object others parted in
     let rest = λ (o : Kind × ℤ). and_then (reading_fields o.0 pieces no_fields) (reading_whole o.0 o.1) in
@@ -217,22 +218,23 @@ fields_of_line_told line object others k id reason parted names e =
 pub reason_is_reported : ReasonIsReported
 reason_is_reported line reason (not_utf8 line' kept other) = reading.not_utf8 line' kept other
 reason_is_reported line reason (no_object line' object others reason' kept utf8 parted faulty) =
-    version_told line' reason' kept utf8 (object_told line' object others reason' parted (object_reason_told object reason' faulty))
+    version_reported line' reason' kept utf8 (object_reported line' object others reason' parted
+    (object_reason_reported object reason' faulty))
 reason_is_reported line reason (faulty_field line' object others k id reason' kept utf8 parted names faulty) =
-    version_told line' reason' kept utf8 (fields_of_line_told line' object others k id reason' parted names
-    (fields_told k others reason' faulty))
+    version_reported line' reason' kept utf8 (fields_of_line_reported line' object others k id reason' parted names
+    (fields_reported k others reason' faulty))
 reason_is_reported line reason (no_whole line' k id parts reason' line_parts faulty) =
-    version_told line' reason' line_parts.not_skipped line_parts.utf8
-    (tells_read line' k id parts line_parts ∙ whole_told k id (fields_of_parts parts) reason' faulty)
+    version_reported line' reason' line_parts.not_skipped line_parts.utf8
+    (parts_determine line' k id parts line_parts ∙ whole_reported k id (fields_of_parts parts) reason' faulty)
 
-neither_by : (line : List ℕ) (answer : Result (Option VersionData) OplReason) → SpellsNothing line → reading_line line ≡ answer →
+neither_by : (line : List ℕ) (result : Result (Option VersionData) OplReason) → SpellsNothing line → reading_line line ≡ result →
     HasOneReason line
 neither_by line (Ok None) nothing e = let clash = sym nothing.kept ∙ skipped_only line e in cc
 neither_by line (Ok (Some v)) nothing e = absurd (nothing.none v (read_is_spelled line v e))
 neither_by line (Err reason) nothing e = record {
   reason = reason;
   has = reported_is_reason line reason e;
-  alone = (λ other h. let both = sym (reason_is_reported line other h) ∙ e in let same : other ≡ reason = cc in same);
+  only = (λ other h. let both = sym (reason_is_reported line other h) ∙ e in let same : other ≡ reason = cc in same);
 }
 
 -- A line that spells nothing and isn't skipped has exactly one reason.
@@ -246,7 +248,7 @@ reason_spells_nothing line reason h =
     record { kept = not_skipped line reason e; none = λ v s. refused_spells_nothing line reason v e s }
 
 -- a refusal for another reason than Memory has the reason of the line
-pub answer_reason : (line : List ℕ) (answer : Result (Option VersionData) OplReason) → OplReads (reading_line line) answer →
-    IfErr answer (λ reason. (reason ≡ Memory) ⊎ LineReason line reason)
-answer_reason line (Ok read) h = tt
-answer_reason line (Err reason) h = ⊎_elim (λ memory. inl memory) (λ refused. inr (reported_is_reason line reason refused)) h
+pub result_reason : (line : List ℕ) (result : Result (Option VersionData) OplReason) → OplReads (reading_line line) result →
+    IfErr result (λ reason. (reason ≡ Memory) ⊎ LineReason line reason)
+result_reason line (Ok read) h = tt
+result_reason line (Err reason) h = ⊎_elim (λ memory. inl memory) (λ refused. inr (reported_is_reason line reason refused)) h

@@ -8,7 +8,7 @@ use Rattle.opl_line.specs.declared.reason.OplReason.{OplReason}
 use Rattle.opl_line.specs.declared.reason.OplReason.TheVariants.{NotUtf8, UnknownKind, UnknownField, RepeatedField, BadNumber, OutOfRange}
 use Rattle.opl_line.specs.declared.reason.OplReason.TheVariants.{BadTime, BadCoordinate, BadText, BadList, NoVersion, NoTime, NoLocation}
 use Rattle.opl_line.specs.declared.reason.OplReason.TheVariants.{Memory}
-use Rattle.opl_line.specs.Answer.{and_then, as_value}
+use Rattle.opl_line.specs.Results.{and_then, as_value}
 use Rattle.opl_line.specs.Number.{is_numeral, decimal_value, up_to, reading_number, is_negative, without_sign, with_sign, reading_id}
 use Rattle.opl_line.specs.Number.{reading_short_numeral, decimals_value, reading_degrees, reading_units, degree_parts, reading_coordinate}
 use Rattle.opl_line.specs.Time.{reading_date, reading_clock, epoch, reading_moment, reading_time}

@@ -5,12 +5,12 @@ use Rattle.std.proofs.lemmas.Bool.{and_parts, eqb-true, leb-true, le-leb}
 use Rattle.std.specs.Char.{is_ascii_digit}
 use Rattle.std.specs.List.{list_all}
 use Rattle.opl_line.specs.declared.reason.OplReason.TheVariants.{BadNumber, OutOfRange, BadText}
-use Rattle.opl_line.specs.Answer.{as_value}
+use Rattle.opl_line.specs.Results.{as_value}
 use Rattle.opl_line.specs.Number.{is_numeral, decimal_value, up_to, reading_number, with_sign, reading_id}
 use Rattle.opl_line.specs.Field.{reading_number_32, reading_count, reading_deleted}
 use Rattle.opl_line.specs.Content.{SpellsNumeral, SpellsNumber, SpellsCount, no_count, some_count, SpellsId, plain_id, minus_id}
 use Rattle.opl_line.specs.Content.{SpellsDeleted, visible_mark, deleted_mark}
-use Rattle.opl_line.proofs.AnswerLaws.{became}
+use Rattle.opl_line.proofs.ResultLaws.{became}
 use Rattle.opl_line.proofs.CanonicalLaws.{minus_apart}
 
 -- ---- numbers
@@ -65,21 +65,24 @@ pub id_sound : (text : List ℕ) (id : ℤ) → reading_id text ≡ Ok id → Sp
 id_sound [] id e = cc
 id_sound (b ∷ bs) id e =
     let most : ℕ = 4_611_686_018_427_387_903 in
-    elim (eqb b 45) as (λ t. eqb b 45 ≡ t → as_value (with_sign t) (reading_number most (cond t bs (b ∷ bs))) ≡ Ok id → SpellsId (b ∷ bs) id) [
+    elim (eqb b 45) as (λ t. eqb b 45 ≡ t → as_value (with_sign t) (reading_number most (cond t bs (b ∷ bs))) ≡ Ok id →
+    SpellsId (b ∷ bs) id) [
       | true ↦ λ minus read.
           let r = became (with_sign true) (reading_number most bs) id read in
           let of_bs : SpellsId (45 ∷ bs) (with_sign true r.from) = minus_id bs r.from (number_sound most bs r.from r.said_so) in
           subst (SpellsId (b ∷ bs)) r.became (subst (λ c. SpellsId (c ∷ bs) (with_sign true r.from)) (sym (eqb-true b 45 minus)) of_bs)
       | false ↦ λ plain read.
           let r = became (with_sign false) (reading_number most (b ∷ bs)) id read in
-          let of_all : SpellsId (b ∷ bs) (with_sign false r.from) = plain_id (b ∷ bs) r.from (number_sound most (b ∷ bs) r.from r.said_so) in
+          let of_all : SpellsId (b ∷ bs) (with_sign false r.from) =
+          plain_id (b ∷ bs) r.from (number_sound most (b ∷ bs) r.from r.said_so) in
           subst (SpellsId (b ∷ bs)) r.became of_all
     ] refl e
 
 plain_read : (digits : List ℕ) (n : ℕ) → SpellsNumber 4_611_686_018_427_387_903 digits n → reading_id digits ≡ Ok (pos n)
 plain_read [] n s = let numeral = s.digits_spell.numeral in cc
 plain_read (b ∷ bs) n s =
-    ap (λ t. as_value (with_sign t) (reading_number 4_611_686_018_427_387_903 (cond t bs (b ∷ bs)))) (numeral_unsigned b bs n s.digits_spell)
+    ap (λ t. as_value (with_sign t) (reading_number 4_611_686_018_427_387_903 (cond t bs (b ∷ bs))))
+    (numeral_unsigned b bs n s.digits_spell)
     ∙ ap (as_value (with_sign false)) (number_complete 4_611_686_018_427_387_903 (b ∷ bs) n s)
 
 -- An id that is spelled is read.

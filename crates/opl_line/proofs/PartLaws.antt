@@ -10,7 +10,7 @@ use Rattle.osm_model.specs.Pairwise.{Pairwise}
 use Rattle.opl_line.specs.declared.general.field.Fields.{Fields}
 use Rattle.opl_line.specs.declared.reason.OplReason.{OplReason}
 use Rattle.opl_line.specs.declared.reason.OplReason.TheVariants.{UnknownField, RepeatedField}
-use Rattle.opl_line.specs.Answer.{and_then, as_value}
+use Rattle.opl_line.specs.Results.{and_then, as_value}
 use Rattle.opl_line.specs.Number.{reading_coordinate}
 use Rattle.opl_line.specs.Item.{reading_list, reading_reference, reading_member}
 use Rattle.opl_line.specs.Field.{no_fields, reading_optional, has_field, with_body_field, with_field, reading_field, reading_fields}
@@ -152,16 +152,16 @@ Different fields [] = Unit {0}
 Different fields (part ∷ parts) = (has_field fields (letter_of part) ≡ false) × Different (with_part fields part) parts
 
 -- the parts of a sequence of fields
-record Told (k : Kind) (fields next : Fields) (pieces : List (List ℕ)) : Type 0 where
+record FieldsRead (k : Kind) (fields next : Fields) (pieces : List (List ℕ)) : Type 0 where
   parts : List LinePart
   spelled : Pairwise (SpellsPart k) (filter is_full pieces) parts
   different : Different fields parts
   together : next ≡ fold with_part fields parts
 
-one_told : (k : Kind) (letter : ℕ) (content : List ℕ) (more : List (List ℕ)) (fields between next : Fields) →
-    has_field fields letter ≡ false → Says k letter content fields between → Told k between next more →
-    Told k fields next ((letter ∷ content) ∷ more)
-one_told k letter content more fields between next fresh one rest =
+one_read : (k : Kind) (letter : ℕ) (content : List ℕ) (more : List (List ℕ)) (fields between next : Fields) →
+    has_field fields letter ≡ false → Says k letter content fields between → FieldsRead k between next more →
+    FieldsRead k fields next ((letter ∷ content) ∷ more)
+one_read k letter content more fields between next fresh one rest =
     let P : Fields → Type 0 = λ f. Different f rest.parts in
     record {
       parts = one.part ∷ rest.parts;
@@ -173,21 +173,22 @@ one_told k letter content more fields between next fresh one rest =
       together = rest.together ∙ ap (λ f. fold with_part f rest.parts) one.together;
     }
 
-told : (k : Kind) (pieces : List (List ℕ)) (fields next : Fields) → reading_fields k pieces fields ≡ Ok next → Told k fields next pieces
+fields_read : (k : Kind) (pieces : List (List ℕ)) (fields next : Fields) → reading_fields k pieces fields ≡ Ok next →
+    FieldsRead k fields next pieces
 unfolding reading_fields
-told k [] fields next e = record { parts = []; spelled = tt; different = tt; together = (let same : next ≡ fields = cc in same) }
-told k ([] ∷ more) fields next e = let rest = told k more fields next e in
+fields_read k [] fields next e = record { parts = []; spelled = tt; different = tt; together = (let same : next ≡ fields = cc in same) }
+fields_read k ([] ∷ more) fields next e = let rest = fields_read k more fields next e in
     record { parts = rest.parts; spelled = rest.spelled; different = rest.different; together = rest.together }
-told k ((letter ∷ content) ∷ more) fields next e =
+fields_read k ((letter ∷ content) ∷ more) fields next e =
     elim (has_field fields letter) as (λ t. has_field fields letter ≡ t →
     and_then (cond t (Err RepeatedField) (with_field k letter content fields)) (reading_fields k more) ≡ Ok next →
-    Told k fields next ((letter ∷ content) ∷ more)) [
+    FieldsRead k fields next ((letter ∷ content) ∷ more)) [
       | true ↦ λ met refused. cc
       | false ↦ λ fresh. elim (with_field k letter content fields) as
           (λ r. with_field k letter content fields ≡ r → and_then r (reading_fields k more) ≡ Ok next →
-          Told k fields next ((letter ∷ content) ∷ more)) [
-            | Ok between ↦ λ one read. one_told k letter content more fields between next fresh (says k letter content fields between one)
-                (told k more between next read)
+          FieldsRead k fields next ((letter ∷ content) ∷ more)) [
+            | Ok between ↦ λ one read. one_read k letter content more fields between next fresh (says k letter content fields between one)
+                (fields_read k more between next read)
             | Err reason ↦ λ one refused. cc
           ] refl
     ] refl e
@@ -225,7 +226,8 @@ spelled_field k field part fields s fresh =
     ∙ ap (λ t. cond t (Err RepeatedField) (with_field k (letter_of part) s.content fields)) fresh
     ∙ spelled_content k part s.content fields s.of_kind s.spelled
 
-retold : (k : Kind) (pieces : List (List ℕ)) (parts : List LinePart) (fields : Fields) → Pairwise (SpellsPart k) (filter is_full pieces) parts →
+retold : (k : Kind) (pieces : List (List ℕ)) (parts : List LinePart) (fields : Fields) →
+    Pairwise (SpellsPart k) (filter is_full pieces) parts →
     Different fields parts → reading_fields k pieces fields ≡ Ok (fold with_part fields parts)
 unfolding reading_fields
 retold k [] [] fields s d = refl
@@ -310,7 +312,7 @@ pub record PartsOf (k : Kind) (pieces : List (List ℕ)) (next : Fields) : Type 
 -- Fields that are read spell parts, which have the contents that were read.
 pub parts_of : (k : Kind) (pieces : List (List ℕ)) (next : Fields) → reading_fields k pieces no_fields ≡ Ok next → PartsOf k pieces next
 parts_of k pieces next e =
-    let t = told k pieces no_fields next e in
+    let t = fields_read k pieces no_fields next e in
     record { parts = t.parts; spelled = t.spelled; different = distinct no_fields t.parts t.different; together = t.together }
 
 -- Fields that spell parts of different letters are read as these parts.

@@ -9,7 +9,7 @@ use Rattle.osm_model.specs.Time.{time_text}
 use Rattle.opl_line.specs.declared.bytes.cut.Delimiter.TheVariants.{Points}
 use Rattle.opl_line.specs.declared.reason.OplReason.{OplReason}
 use Rattle.opl_line.specs.declared.reason.OplReason.TheVariants.{BadCoordinate, OutOfRange}
-use Rattle.opl_line.specs.Answer.{and_then, as_value}
+use Rattle.opl_line.specs.Results.{and_then, as_value}
 use Rattle.opl_line.specs.Delimiter.{is_end, with_byte}
 use Rattle.opl_line.specs.Field.{reading_optional}
 use Rattle.opl_line.specs.Number.{is_numeral, decimal_value, with_sign, is_negative, without_sign, decimals_value, degree_parts}
@@ -17,7 +17,7 @@ use Rattle.opl_line.specs.Number.{reading_short_numeral, reading_degrees, readin
 use Rattle.opl_line.specs.Time.{reading_time}
 use Rattle.opl_line.specs.Content.{SpellsNumeral, SpellsTime, SpellsDegrees, whole_degrees, with_decimals, SpellsCoordinate, plain_degrees}
 use Rattle.opl_line.specs.Content.{minus_degrees, SpellsOptionalCoordinate, no_place, some_place}
-use Rattle.opl_line.proofs.AnswerLaws.{both, became}
+use Rattle.opl_line.proofs.ResultLaws.{both, became}
 use Rattle.opl_line.proofs.CanonicalTimeLaws.{time_canonical, no_time}
 use Rattle.opl_line.proofs.ContentLaws.{all_weaker}
 use Rattle.opl_line.proofs.CoordinateLaws.{no_point}
@@ -130,7 +130,8 @@ record IsSigned (negative : Bool) (n : ℕ) (units : ℤ) : Type 0 where
 units_sound : (negative : Bool) (n : ℕ) (units : ℤ) → reading_units negative n ≡ Ok units → IsSigned negative n units
 units_sound negative n units =
     let most : ℕ = cond negative 2_147_483_648 2_147_483_647 in
-    elim (leb n most) as (λ t. leb n most ≡ t → cond t (Ok (with_sign negative n)) (Err OutOfRange) ≡ Ok units → IsSigned negative n units) [
+    elim (leb n most) as (λ t. leb n most ≡ t → cond t (Ok (with_sign negative n)) (Err OutOfRange) ≡ Ok units →
+    IsSigned negative n units) [
       | true ↦ λ few e. record { value = (let same : with_sign negative n ≡ units = cc in same); bound = leb-true n most few }
       | false ↦ λ many e. cc
     ] refl
@@ -187,14 +188,16 @@ coordinate_complete text units (minus_degrees bytes n s few) =
     ap (λ r. and_then r (reading_units true)) (degrees_complete bytes n s) ∙ units_complete true n few
 
 -- A coordinate, or none, that is read is spelled.
-pub place_sound : (text : List ℕ) (place : Option ℤ) → reading_optional reading_coordinate text ≡ Ok place → SpellsOptionalCoordinate text place
+pub place_sound : (text : List ℕ) (place : Option ℤ) → reading_optional reading_coordinate text ≡ Ok place →
+    SpellsOptionalCoordinate text place
 place_sound [] place e = let same : None ≡ place = cc in subst (SpellsOptionalCoordinate []) same no_place
 place_sound (b ∷ bs) place e =
     let r = became (λ (x : ℤ). Some x) (reading_coordinate (b ∷ bs)) place e in
     subst (SpellsOptionalCoordinate (b ∷ bs)) r.became (some_place (b ∷ bs) r.from (coordinate_sound (b ∷ bs) r.from r.said_so))
 
 -- A coordinate, or none, that is spelled is read.
-pub place_complete : (text : List ℕ) (place : Option ℤ) → SpellsOptionalCoordinate text place → reading_optional reading_coordinate text ≡ Ok place
+pub place_complete : (text : List ℕ) (place : Option ℤ) → SpellsOptionalCoordinate text place →
+    reading_optional reading_coordinate text ≡ Ok place
 place_complete text place no_place = refl
 place_complete text place (some_place bytes units s) =
     some_optional reading_coordinate bytes units (λ e. cc) (coordinate_complete bytes units s)

@@ -28,8 +28,8 @@ twice false = refl
 abbrev is_odd : ℕ → Bool
 is_odd b = ((((leb b 32 || leb 127 b) || eqb b 37) || eqb b 44) || eqb b 61) || eqb b 64
 
-told_odd : (b : ℕ) → is_odd b ≡ not (is_raw_byte b)
-told_odd b = grind (arith, nat_tests)
+odd_is : (b : ℕ) → is_odd b ≡ not (is_raw_byte b)
+odd_is b = grind (arith, nat_tests)
 
 -- several bytes, compared with others in one step
 module _ (n : ℕ) (few : n ≤ 64) (v : List ℕ) (long : length v ≡ n) where
@@ -51,7 +51,7 @@ module _ (n : ℕ) (few : n ≤ 64) (v : List ℕ) (long : length v ≡ n) where
       let commas = either (λ x. (leb x 32 || leb 127 x) || eqb x 37) (λ x. eqb x 44) v percents (equal 44) in
       let equals = either (λ x. ((leb x 32 || leb 127 x) || eqb x 37) || eqb x 44) (λ x. eqb x 61) v commas (equal 61) in
       let others = either (λ x. (((leb x 32 || leb 127 x) || eqb x 37) || eqb x 44) || eqb x 61) (λ x. eqb x 64) v equals (equal 64) in
-      marked is_odd v others (omega (arith, long, few)) ∙ ap (λ h. mask_l (map h v)) (λ i x. told_odd x i)
+      marked is_odd v others (omega (arith, long, few)) ∙ ap (λ h. mask_l (map h v)) (λ i x. odd_is x i)
 
 -- the bytes before the first that doesn't pass
 module _ (passes : ℕ → Bool) where

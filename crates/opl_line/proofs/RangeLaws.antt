@@ -31,7 +31,7 @@ use Rattle.opl_line.specs.Reading.{reading_location, reading_visible, reading_bo
 use Rattle.opl_line.specs.Spells.{is_full}
 use Rattle.opl_line.specs.Within.{AreWithin}
 use Rattle.opl_line.proofs.NumeralLaws.{number_complete, count_complete, id_complete}
-use Rattle.opl_line.proofs.AnswerLaws.{became}
+use Rattle.opl_line.proofs.ResultLaws.{became}
 use Rattle.opl_line.proofs.Utf8Laws.{utf8_around, OptionUtf8, split_utf8, cut_utf8, characters_within}
 
 -- ---- numbers and times

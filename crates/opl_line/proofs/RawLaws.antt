@@ -83,8 +83,8 @@ other_ends bytes n end apart = ap (λ t. list_all is_literal (split_first (is_en
 abbrev pub AllRaw : List ℕ → Type 0
 AllRaw bytes = (list_all is_literal bytes ≡ true) × (split_first (is_end Percents) bytes ≡ (bytes, None))
 
-pub raw_alone : (bytes : List ℕ) → list_all is_literal bytes ≡ true → AllRaw bytes
-raw_alone bytes raw = (
+pub raw_nowhere_cut : (bytes : List ℕ) → list_all is_literal bytes ≡ true → AllRaw bytes
+raw_nowhere_cut bytes raw = (
   raw,
   split_never (is_end Percents) bytes
       (all_weaker is_literal (λ b. not (eqb b 37)) raw_no_percent bytes raw),
@@ -92,7 +92,7 @@ raw_alone bytes raw = (
 
 -- A text without any other byte is raw.
 pub all_raw : (bytes : List ℕ) → position is_other bytes ≡ None → AllRaw bytes
-all_raw bytes none = raw_alone bytes (sym (ap (λ parts. list_all is_literal parts.0) (split_nowhere is_other bytes none))
+all_raw bytes none = raw_nowhere_cut bytes (sym (ap (λ parts. list_all is_literal parts.0) (split_nowhere is_other bytes none))
     ∙ front_raw bytes)
 
 -- the text that raw characters spell

@@ -9,7 +9,7 @@ use Rattle.osm_model.specs.New.{is_dated, version_or_fault}
 use Rattle.opl_line.specs.declared.general.field.Fields.{Fields}
 use Rattle.opl_line.specs.declared.reason.OplReason.{OplReason}
 use Rattle.opl_line.specs.declared.reason.OplReason.TheVariants.{NotUtf8, NoVersion, NoTime}
-use Rattle.opl_line.specs.Answer.{and_then, as_value, OplReads}
+use Rattle.opl_line.specs.Results.{and_then, as_value, OplReads}
 use Rattle.opl_line.specs.Reading.{is_skipped, meta_of, reading_body, unless_fault, reading_whole, reading_version, reading_line}
 
 -- A line that isn't skipped and isn't UTF-8 is refused as NotUtf8.
@@ -42,7 +42,7 @@ whole_line kind id fields meta body same numbered dated read =
     )
 
 -- the result of a reading with `f` applied to its value
-pub as_answer : {X Y : Type 0} (f : X → Y) (reading answer : Result X OplReason) → OplReads reading answer →
-    OplReads (as_value f reading) (as_value f answer)
-as_answer f reading (Ok x) h = ap (as_value f) h
-as_answer f reading (Err reason) h = ⊎_elim (λ memory. inl memory) (λ refused. inr (ap (as_value f) refused)) h
+pub as_result : {X Y : Type 0} (f : X → Y) (reading result : Result X OplReason) → OplReads reading result →
+    OplReads (as_value f reading) (as_value f result)
+as_result f reading (Ok x) h = ap (as_value f) h
+as_result f reading (Err reason) h = ⊎_elim (λ memory. inl memory) (λ refused. inr (ap (as_value f) refused)) h

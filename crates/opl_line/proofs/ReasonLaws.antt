@@ -12,7 +12,7 @@ use Rattle.osm_model.specs.Pairwise.{Pairwise}
 use Rattle.opl_line.specs.declared.bytes.cut.Delimiter.TheVariants.{Commas, Equals, Ats}
 use Rattle.opl_line.specs.declared.reason.OplReason.{OplReason}
 use Rattle.opl_line.specs.declared.reason.OplReason.TheVariants.{UnknownKind, BadText, BadList}
-use Rattle.opl_line.specs.Answer.{and_then, as_value, with_reason}
+use Rattle.opl_line.specs.Results.{and_then, as_value, with_reason}
 use Rattle.opl_line.specs.Delimiter.{is_end, split_first, split_all}
 use Rattle.opl_line.specs.Number.{reading_id}
 use Rattle.opl_line.specs.Item.{reading_items, reading_list, tag_of_pieces, reading_tag, item_reason, reading_item_id, reading_reference}
@@ -107,9 +107,9 @@ no_value_read key value none =
       | Ok k ↦ λ at. ap (as_value (tag k)) (no_text_read value none)
     ] refl
 
-tag_reason_told : (bytes : List ℕ) (reason : OplReason) → TagReason bytes reason → reading_tag bytes ≡ Err reason
-tag_reason_told bytes reason (uneven bytes' none) = uneven_read bytes' (split_all (is_end Equals) bytes') refl none
-tag_reason_told bytes reason (no_text bytes' key value is which) =
+tag_reason_reported : (bytes : List ℕ) (reason : OplReason) → TagReason bytes reason → reading_tag bytes ≡ Err reason
+tag_reason_reported bytes reason (uneven bytes' none) = uneven_read bytes' (split_all (is_end Equals) bytes') refl none
+tag_reason_reported bytes reason (no_text bytes' key value is which) =
     let tag : List ℕ → List ℕ → Tag = λ k v. record { key = k; value = v } in
     ap tag_of_pieces is ∙ ⊎_elim (λ none. ap (λ r. and_then r (λ k. as_value (tag k) (reading_text value))) (no_text_read key none))
     (no_value_read key value) which
@@ -142,9 +142,9 @@ no_letter_read (letter ∷ digits) none =
       | false ↦ λ is. refl
     ] refl
 
-reference_reason_told : (bytes : List ℕ) (reason : OplReason) → ReferenceReason bytes reason → reading_reference bytes ≡ Err reason
-reference_reason_told bytes reason (no_letter bytes' none) = no_letter_read bytes' none
-reference_reason_told bytes reason (no_number digits bad e) = ap (with_reason item_reason) e
+reference_reason_reported : (bytes : List ℕ) (reason : OplReason) → ReferenceReason bytes reason → reading_reference bytes ≡ Err reason
+reference_reason_reported bytes reason (no_letter bytes' none) = no_letter_read bytes' none
+reference_reason_reported bytes reason (no_number digits bad e) = ap (with_reason item_reason) e
 
 -- ---- objects
 module _ (other : OplReason) (of_id : OplReason → OplReason) (read : List ℕ → Result ℤ OplReason)
@@ -160,7 +160,7 @@ module _ (other : OplReason) (of_id : OplReason → OplReason) (read : List ℕ 
       elim (kind_of_letter letter) as (λ o. kind_of_letter letter ≡ o → named o digits ≡ Err reason →
       ObjectReason other of_id (letter ∷ digits) reason) [
         | None ↦ λ is e.
-            let told = sym (none_is digits) ∙ e in
+            let known = sym (none_is digits) ∙ e in
             let same : other ≡ reason = cc in
             subst P same (no_kind (letter ∷ digits) (λ k ds at. let l : letter ≡ kind_letter k = cc in let clash = sym is
             ∙ ap kind_of_letter l ∙ kind_of_its_letter k in cc))
@@ -170,17 +170,17 @@ module _ (other : OplReason) (of_id : OplReason → OplReason) (read : List ℕ 
             subst P f.became (subst Q (sym (letter_of_kind letter k is)) (no_id k digits f.from f.said_so))
       ] refl refused
 
-  no_kind_told : (letter : ℕ) (digits : List ℕ) → ((k : Kind) (ds : List ℕ) → letter ∷ digits ≡ kind_letter k ∷ ds → ⊥) →
+  no_kind_reported : (letter : ℕ) (digits : List ℕ) → ((k : Kind) (ds : List ℕ) → letter ∷ digits ≡ kind_letter k ∷ ds → ⊥) →
       named (kind_of_letter letter) digits ≡ Err other
-  no_kind_told letter digits none =
+  no_kind_reported letter digits none =
       elim (kind_of_letter letter) as (λ o. kind_of_letter letter ≡ o → named o digits ≡ Err other) [
         | None ↦ λ is. none_is digits
         | Some k ↦ λ is. absurd (none k digits (ap (λ l. l ∷ digits) (letter_of_kind letter k is)))
       ] refl
 
-  no_id_told : (k : Kind) (digits : List ℕ) (reason : OplReason) → reading_id digits ≡ Err reason →
+  no_id_reported : (k : Kind) (digits : List ℕ) (reason : OplReason) → reading_id digits ≡ Err reason →
       named (kind_of_letter (kind_letter k)) digits ≡ Err (of_id reason)
-  no_id_told k digits reason e = ap (λ o. named o digits) (kind_of_its_letter k) ∙ some_is k digits
+  no_id_reported k digits reason e = ap (λ o. named o digits) (kind_of_its_letter k) ∙ some_is k digits
       ∙ ap (as_value (λ id. (k, id))) (reason_to digits reason e)
 
 -- An object that is refused has the reason that is returned.
@@ -195,14 +195,14 @@ object_refused (letter ∷ digits) reason e =
     (λ ds r at. record { from = r; said_so = at; became = refl }) (λ ds r at. at) letter digits reason e
 
 -- An object that has a reason is refused with it.
-pub object_reason_told : (bytes : List ℕ) (reason : OplReason) → ObjectReason UnknownKind (λ r. r) bytes reason →
+pub object_reason_reported : (bytes : List ℕ) (reason : OplReason) → ObjectReason UnknownKind (λ r. r) bytes reason →
     reading_object bytes ≡ Err reason
-object_reason_told bytes reason (no_kind [] none) = refl
-object_reason_told bytes reason (no_kind (letter ∷ digits) none) =
-    no_kind_told UnknownKind (λ r. r) reading_id reading_kind_and_id (λ ds. refl) (λ k ds. refl)
+object_reason_reported bytes reason (no_kind [] none) = refl
+object_reason_reported bytes reason (no_kind (letter ∷ digits) none) =
+    no_kind_reported UnknownKind (λ r. r) reading_id reading_kind_and_id (λ ds. refl) (λ k ds. refl)
     (λ ds r at. record { from = r; said_so = at; became = refl }) (λ ds r at. at) letter digits none
-object_reason_told bytes reason (no_id k digits bad e) =
-    no_id_told UnknownKind (λ r. r) reading_id reading_kind_and_id (λ ds. refl) (λ k ds. refl)
+object_reason_reported bytes reason (no_id k digits bad e) =
+    no_id_reported UnknownKind (λ r. r) reading_id reading_kind_and_id (λ ds. refl) (λ k ds. refl)
     (λ ds r at. record { from = r; said_so = at; became = refl }) (λ ds r at. at) k digits bad e
 
 name_refused : (bytes : List ℕ) (reason : OplReason) → reading_object_name bytes ≡ Err reason →
@@ -215,14 +215,14 @@ name_refused (letter ∷ digits) reason e =
     named_refused BadList item_reason reading_item_id reading_named (λ ds. refl) (λ k ds. refl)
     (λ ds r at. from_reason item_reason (reading_id ds) r at) (λ ds r at. ap (with_reason item_reason) at) letter digits reason e
 
-name_reason_told : (bytes : List ℕ) (reason : OplReason) → ObjectReason BadList item_reason bytes reason →
+name_reason_reported : (bytes : List ℕ) (reason : OplReason) → ObjectReason BadList item_reason bytes reason →
     reading_object_name bytes ≡ Err reason
-name_reason_told bytes reason (no_kind [] none) = refl
-name_reason_told bytes reason (no_kind (letter ∷ digits) none) =
-    no_kind_told BadList item_reason reading_item_id reading_named (λ ds. refl) (λ k ds. refl)
+name_reason_reported bytes reason (no_kind [] none) = refl
+name_reason_reported bytes reason (no_kind (letter ∷ digits) none) =
+    no_kind_reported BadList item_reason reading_item_id reading_named (λ ds. refl) (λ k ds. refl)
     (λ ds r at. from_reason item_reason (reading_id ds) r at) (λ ds r at. ap (with_reason item_reason) at) letter digits none
-name_reason_told bytes reason (no_id k digits bad e) =
-    no_id_told BadList item_reason reading_item_id reading_named (λ ds. refl) (λ k ds. refl)
+name_reason_reported bytes reason (no_id k digits bad e) =
+    no_id_reported BadList item_reason reading_item_id reading_named (λ ds. refl) (λ k ds. refl)
     (λ ds r at. from_reason item_reason (reading_id ds) r at) (λ ds r at. ap (with_reason item_reason) at) k digits bad e
 
 -- ---- members
@@ -249,12 +249,12 @@ member_refused : (bytes : List ℕ) (reason : OplReason) → reading_member byte
 member_refused bytes reason e = member_parts_refused bytes (split_first (is_end Ats) bytes).0
     (split_first (is_end Ats) bytes).1 reason refl e
 
-member_reason_told : (bytes : List ℕ) (reason : OplReason) → MemberReason bytes reason → reading_member bytes ≡ Err reason
-member_reason_told bytes reason (no_at bytes' object is) = ap member_of_parts is
-member_reason_told bytes reason (no_name bytes' object role bad is faulty) =
+member_reason_reported : (bytes : List ℕ) (reason : OplReason) → MemberReason bytes reason → reading_member bytes ≡ Err reason
+member_reason_reported bytes reason (no_at bytes' object is) = ap member_of_parts is
+member_reason_reported bytes reason (no_name bytes' object role bad is faulty) =
     let member : Kind × ℤ → List ℕ → Member = λ o r. record { kind = o.0; id = o.1; role = r } in
-    ap member_of_parts is ∙ ap (λ r. and_then r (λ o. as_value (member o) (reading_text role))) (name_reason_told object bad faulty)
-member_reason_told bytes reason (no_role bytes' object role k id is names none) =
+    ap member_of_parts is ∙ ap (λ r. and_then r (λ o. as_value (member o) (reading_text role))) (name_reason_reported object bad faulty)
+member_reason_reported bytes reason (no_role bytes' object role k id is names none) =
     let member : Kind × ℤ → List ℕ → Member = λ o r. record { kind = o.0; id = o.1; role = r } in
     ap member_of_parts is ∙ ap (λ r. and_then r (λ o. as_value (member o) (reading_text role))) (name_complete object k id names)
     ∙ ap (as_value (member (k, id))) (no_text_read role none)
@@ -264,7 +264,7 @@ module _ {X : Type 0} (reading : List ℕ → Result X OplReason) (SpellsItem : 
     (sound : (bytes : List ℕ) (x : X) → reading bytes ≡ Ok x → SpellsItem bytes x)
     (complete : (bytes : List ℕ) (x : X) → SpellsItem bytes x → reading bytes ≡ Ok x)
     (refused : (bytes : List ℕ) (reason : OplReason) → reading bytes ≡ Err reason → ItemReason bytes reason)
-    (told : (bytes : List ℕ) (reason : OplReason) → ItemReason bytes reason → reading bytes ≡ Err reason) where
+    (known : (bytes : List ℕ) (reason : OplReason) → ItemReason bytes reason → reading bytes ≡ Err reason) where
   items_refused : (pieces : List (List ℕ)) (reason : OplReason) → reading_items reading pieces ≡ Err reason →
       FirstReason SpellsItem ItemReason pieces reason
   unfolding reading_items
@@ -298,59 +298,59 @@ module _ {X : Type 0} (reading : List ℕ → Result X OplReason) (SpellsItem : 
             }
       ] refl e
 
-  items_told : (front : List (List ℕ)) (items : List X) (piece : List ℕ) (later : List (List ℕ)) (reason : OplReason) →
+  items_reported : (front : List (List ℕ)) (items : List X) (piece : List ℕ) (later : List (List ℕ)) (reason : OplReason) →
       Pairwise SpellsItem front items → reading piece ≡ Err reason →
       reading_items reading (front ++ piece ∷ later) ≡ Err reason
   unfolding reading_items
-  items_told [] [] piece later reason fine e = ap (λ r. and_then r (λ x. as_value (λ xs. x ∷ xs) (reading_items reading later))) e
-  items_told [] (x ∷ xs) piece later reason fine e = absurd fine
-  items_told (f ∷ fs) [] piece later reason fine e = absurd fine
-  items_told (f ∷ fs) (x ∷ xs) piece later reason fine e =
+  items_reported [] [] piece later reason fine e = ap (λ r. and_then r (λ x. as_value (λ xs. x ∷ xs) (reading_items reading later))) e
+  items_reported [] (x ∷ xs) piece later reason fine e = absurd fine
+  items_reported (f ∷ fs) [] piece later reason fine e = absurd fine
+  items_reported (f ∷ fs) (x ∷ xs) piece later reason fine e =
       ap (λ r. and_then r (λ y. as_value (λ ys. y ∷ ys) (reading_items reading (fs ++ piece ∷ later)))) (complete f x fine.0)
-      ∙ ap (as_value (λ ys. x ∷ ys)) (items_told fs xs piece later reason fine.1 e)
+      ∙ ap (as_value (λ ys. x ∷ ys)) (items_reported fs xs piece later reason fine.1 e)
 
   list_refused : (content : List ℕ) (reason : OplReason) → reading_list reading content ≡ Err reason →
       ListReason SpellsItem ItemReason content reason
   list_refused [] reason e = cc
   list_refused (b ∷ bs) reason e = items_refused (split_all (is_end Commas) (b ∷ bs)) reason e
 
-  list_told : (content : List ℕ) (reason : OplReason) → ListReason SpellsItem ItemReason content reason →
+  list_reported : (content : List ℕ) (reason : OplReason) → ListReason SpellsItem ItemReason content reason →
       reading_list reading content ≡ Err reason
-  list_told [] reason r = absurd r
-  list_told (b ∷ bs) reason r = ap (reading_items reading) r.parted
-      ∙ items_told r.front r.items r.piece r.later reason r.fine (told r.piece reason r.faulty)
+  list_reported [] reason r = absurd r
+  list_reported (b ∷ bs) reason r = ap (reading_items reading) r.parted
+      ∙ items_reported r.front r.items r.piece r.later reason r.fine (known r.piece reason r.faulty)
 
 -- A list of tags that is refused has the reason that is returned.
 pub tags_refused : (content : List ℕ) (reason : OplReason) → reading_list reading_tag content ≡ Err reason →
     ListReason SpellsTag TagReason content reason
-tags_refused = list_refused reading_tag SpellsTag TagReason tag_sound tag_complete tag_refused tag_reason_told
+tags_refused = list_refused reading_tag SpellsTag TagReason tag_sound tag_complete tag_refused tag_reason_reported
 
 -- A list of tags that has a reason is refused with it.
-pub tags_told : (content : List ℕ) (reason : OplReason) → ListReason SpellsTag TagReason content reason →
+pub tags_reported : (content : List ℕ) (reason : OplReason) → ListReason SpellsTag TagReason content reason →
     reading_list reading_tag content ≡ Err reason
-tags_told = list_told reading_tag SpellsTag TagReason tag_sound tag_complete tag_refused tag_reason_told
+tags_reported = list_reported reading_tag SpellsTag TagReason tag_sound tag_complete tag_refused tag_reason_reported
 
 -- A list of references that is refused has the reason that is returned.
 pub references_refused : (content : List ℕ) (reason : OplReason) → reading_list reading_reference content ≡ Err reason →
     ListReason SpellsReference ReferenceReason content reason
 references_refused = list_refused reading_reference SpellsReference ReferenceReason reference_sound reference_complete reference_refused
-    reference_reason_told
+    reference_reason_reported
 
 -- A list of references that has a reason is refused with it.
-pub references_told : (content : List ℕ) (reason : OplReason) → ListReason SpellsReference ReferenceReason content reason →
+pub references_reported : (content : List ℕ) (reason : OplReason) → ListReason SpellsReference ReferenceReason content reason →
     reading_list reading_reference content ≡ Err reason
-references_told = list_told reading_reference SpellsReference ReferenceReason reference_sound reference_complete reference_refused
-    reference_reason_told
+references_reported = list_reported reading_reference SpellsReference ReferenceReason reference_sound reference_complete reference_refused
+    reference_reason_reported
 
 -- A list of members that is refused has the reason that is returned.
 pub members_refused : (content : List ℕ) (reason : OplReason) → reading_list reading_member content ≡ Err reason →
     ListReason SpellsMember MemberReason content reason
-members_refused = list_refused reading_member SpellsMember MemberReason member_sound member_complete member_refused member_reason_told
+members_refused = list_refused reading_member SpellsMember MemberReason member_sound member_complete member_refused member_reason_reported
 
 -- A list of members that has a reason is refused with it.
-pub members_told : (content : List ℕ) (reason : OplReason) → ListReason SpellsMember MemberReason content reason →
+pub members_reported : (content : List ℕ) (reason : OplReason) → ListReason SpellsMember MemberReason content reason →
     reading_list reading_member content ≡ Err reason
-members_told = list_told reading_member SpellsMember MemberReason member_sound member_complete member_refused member_reason_told
+members_reported = list_reported reading_member SpellsMember MemberReason member_sound member_complete member_refused member_reason_reported
 
 -- A user name that is refused is BadText and spells no text.
 pub user_refused : (content : List ℕ) (reason : OplReason) → reading_text content ≡ Err reason → (reason ≡ BadText) × SpellsNoText content

@@ -12,13 +12,13 @@ use Rattle.opl_line.proofs.CutLaws.{NoneBelow}
 module _ (p : ℕ → Bool) (n : ℕ) (v : List ℕ) (long : length v ≡ n) where
   -- If no byte is marked, none is of the class.
   pub no_mark : (marks : ℕ) → marks ≡ marks_of p v → marks ≡ 0 → n ≡ prefix_len (λ x. not (p x)) v
-  no_mark marks told none = sym (leading_from_mask_l p v (sym told ∙ none) ∙ long)
+  no_mark marks known none = sym (leading_from_mask_l p v (sym known ∙ none) ∙ long)
 
   -- The lowest mark is that of the first byte of the class.
   pub lowest_mark : n ≤ 64 → (marks : ℕ) → marks ≡ marks_of p v → marks ≢ 0 → count_trailing_zeros 64 marks ≡ prefix_len (λ x. not (p x)) v
-  lowest_mark few marks told some =
-      let found : 0 < marks_of p v = omega (arith, told, some) in
-      ap (count_trailing_zeros 64) told ∙ trailing_mask_l p 64 v (omega (arith, long, few)) found
+  lowest_mark few marks known some =
+      let found : 0 < marks_of p v = omega (arith, known, some) in
+      ap (count_trailing_zeros 64) known ∙ trailing_mask_l p 64 v (omega (arith, long, few)) found
 
 -- the search after `n` bytes, of which `run` are before the first of the class
 module _ (p : ℕ → Bool) (n : ℕ) (bytes : List ℕ) (seen run : ℕ) (room : seen + n ≤ length bytes)

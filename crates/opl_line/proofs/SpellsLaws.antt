@@ -17,7 +17,7 @@ use Rattle.opl_line.specs.declared.bytes.cut.Delimiter.TheVariants.{Blanks}
 use Rattle.opl_line.specs.declared.general.field.Fields.{Fields}
 use Rattle.opl_line.specs.declared.reason.OplReason.{OplReason}
 use Rattle.opl_line.specs.declared.reason.OplReason.TheVariants.{NotUtf8, NoVersion, NoTime, Memory}
-use Rattle.opl_line.specs.Answer.{and_then, as_value, OplReads}
+use Rattle.opl_line.specs.Results.{and_then, as_value, OplReads}
 use Rattle.opl_line.specs.Delimiter.{is_end, split_first, split_all, pieces_of}
 use Rattle.opl_line.specs.Number.{reading_id}
 use Rattle.opl_line.specs.Item.{kind_of_letter}
@@ -26,10 +26,11 @@ use Rattle.opl_line.specs.Reading.{is_skipped, reading_kind_and_id, reading_obje
 use Rattle.opl_line.specs.Reading.{reading_version, reading_line}
 use Rattle.opl_line.specs.Content.{SpellsObject}
 use Rattle.opl_line.specs.Part.{LinePart}
-use Rattle.opl_line.specs.Spells.{IsVersionOf, fields_of_parts, SpellsParts, Spells, SpellsNothing, ReadIsSpelled, SpelledIsRead, OneReading}
+use Rattle.opl_line.specs.Spells.{IsVersionOf, fields_of_parts, SpellsParts, Spells, SpellsNothing, ReadIsSpelled, SpelledIsRead}
+use Rattle.opl_line.specs.Spells.{OneReading}
 use Rattle.opl_line.specs.Spells.{RefusedSpellsNothing, SkippedSpellsNothing}
 use Rattle.opl_line.proofs.NumeralLaws.{id_sound, id_complete}
-use Rattle.opl_line.proofs.AnswerLaws.{both, became}
+use Rattle.opl_line.proofs.ResultLaws.{both, became}
 use Rattle.opl_line.proofs.CutLaws.{cut_split}
 use Rattle.opl_line.proofs.ContentLaws.{letter_of_kind, kind_of_its_letter}
 use Rattle.opl_line.proofs.PartLaws.{parts_of, read_of}
@@ -161,10 +162,10 @@ pub first_and_rest : (line object : List ℕ) (others : List (List ℕ)) → spl
 first_and_rest line object others e = let same = sym (cut_split (is_end Blanks) line) ∙ e in (cc, cc)
 
 -- the version of a line is that of its object and parts
-pub tells_read : (line : List ℕ) (k : Kind) (id : ℤ) (parts : List LinePart) → SpellsParts line k id parts →
+pub parts_determine : (line : List ℕ) (k : Kind) (id : ℤ) (parts : List LinePart) → SpellsParts line k id parts →
     reading_version line ≡ reading_whole k id (fields_of_parts parts)
 unfolding reading_version
-tells_read line k id parts t =
+parts_determine line k id parts t =
     let pieces = split_first (is_end Blanks) line in
     let at = first_and_rest line t.object t.others t.fields in
     let rest = λ (object : Kind × ℤ). and_then (reading_fields object.0 (pieces_of (is_end Blanks) pieces.1) no_fields)
@@ -174,7 +175,7 @@ tells_read line k id parts t =
     ∙ read_of k t.others parts t.spelled t.different)
 
 version_read : (line : List ℕ) (v : VersionData) → Spells line v → reading_version line ≡ Ok v
-version_read line v s = tells_read line s.kind s.id s.parts s.line_parts ∙ whole_read s.kind s.id (fields_of_parts s.parts) v s.version
+version_read line v s = parts_determine line s.kind s.id s.parts s.line_parts ∙ whole_read s.kind s.id (fields_of_parts s.parts) v s.version
 
 -- A line that spells a version is read as it.
 pub spelled_is_read : SpelledIsRead
@@ -206,11 +207,11 @@ skipped_only line =
     ]
 
 -- A version that is returned is spelled by the line.
-pub answer_spelled : (line : List ℕ) (answer : Result (Option VersionData) OplReason) → OplReads (reading_line line) answer →
-    IfOk answer (λ read. MatchOption read (is_skipped line ≡ true) (Spells line))
-answer_spelled line (Ok None) h = skipped_only line h
-answer_spelled line (Ok (Some v)) h = read_is_spelled line v h
-answer_spelled line (Err reason) h = tt
+pub result_spelled : (line : List ℕ) (result : Result (Option VersionData) OplReason) → OplReads (reading_line line) result →
+    IfOk result (λ read. MatchOption read (is_skipped line ≡ true) (Spells line))
+result_spelled line (Ok None) h = skipped_only line h
+result_spelled line (Ok (Some v)) h = read_is_spelled line v h
+result_spelled line (Err reason) h = tt
 
 -- A line that is refused isn't skipped.
 pub not_skipped : (line : List ℕ) (reason : OplReason) → reading_line line ≡ Err reason → is_skipped line ≡ false
@@ -222,8 +223,8 @@ not_skipped line reason =
     ]
 
 -- A line that is refused for another reason than Memory spells nothing.
-pub answer_refused : (line : List ℕ) (answer : Result (Option VersionData) OplReason) → OplReads (reading_line line) answer →
-    IfErr answer (λ reason. (reason ≡ Memory) ⊎ SpellsNothing line)
-answer_refused line (Ok read) h = tt
-answer_refused line (Err reason) h = ⊎_elim (λ memory. inl memory)
+pub result_refused : (line : List ℕ) (result : Result (Option VersionData) OplReason) → OplReads (reading_line line) result →
+    IfErr result (λ reason. (reason ≡ Memory) ⊎ SpellsNothing line)
+result_refused line (Ok read) h = tt
+result_refused line (Err reason) h = ⊎_elim (λ memory. inl memory)
     (λ refused. inr (record { kept = not_skipped line reason refused; none = λ v s. refused_spells_nothing line reason v refused s })) h

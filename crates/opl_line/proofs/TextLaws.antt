@@ -25,10 +25,10 @@ unfolding text_from
 never_ended done escape pieces e = rw e refl
 
 -- an escape and the raw piece after it are read in one step
-pub escape_turn : (done escape raw : List ℕ) (pieces behind more : List (List ℕ)) → pieces ≡ escape ∷ behind → behind ≡ raw ∷ more →
+pub escape_turn : (done escape raw : List ℕ) (pieces rest more : List (List ℕ)) → pieces ≡ escape ∷ rest → rest ≡ raw ∷ more →
     text_from done pieces ≡ option_and_then (λ text. text_from text more) (with_escape done raw (scalar_of escape))
 unfolding text_from
-escape_turn done escape raw pieces behind more e f = rw (e, f) refl
+escape_turn done escape raw pieces rest more e f = rw (e, f) refl
 
 -- If no piece is left, the text is `done`.
 pub all_read : (done : List ℕ) (pieces : List (List ℕ)) → pieces ≡ [] → text_from done pieces ≡ Some done
@@ -36,10 +36,10 @@ unfolding text_from
 all_read done pieces e = rw e refl
 
 -- An escape that names no character is refused.
-pub bad_scalar : (done escape raw : List ℕ) (pieces behind more : List (List ℕ)) → pieces ≡ escape ∷ behind → behind ≡ raw ∷ more →
+pub bad_scalar : (done escape raw : List ℕ) (pieces rest more : List (List ℕ)) → pieces ≡ escape ∷ rest → rest ≡ raw ∷ more →
     scalar_of escape ≡ None → text_from done pieces ≡ None
-bad_scalar done escape raw pieces behind more e f none =
-    escape_turn done escape raw pieces behind more e f
+bad_scalar done escape raw pieces rest more e f none =
+    escape_turn done escape raw pieces rest more e f
     ∙ ap (λ s. option_and_then (λ text. text_from text more) (with_escape done raw s)) none
 
 not_raw : (done raw : List ℕ) (s : Option ℕ) → list_all is_literal raw ≡ false → with_escape done raw s ≡ None
@@ -47,17 +47,17 @@ not_raw done raw None other = refl
 not_raw done raw (Some c) other = rw other refl
 
 -- A raw piece with a byte that doesn't stand for itself is refused.
-pub bad_raw : (done escape raw : List ℕ) (pieces behind more : List (List ℕ)) → pieces ≡ escape ∷ behind → behind ≡ raw ∷ more →
+pub bad_raw : (done escape raw : List ℕ) (pieces rest more : List (List ℕ)) → pieces ≡ escape ∷ rest → rest ≡ raw ∷ more →
     list_all is_literal raw ≡ false → text_from done pieces ≡ None
-bad_raw done escape raw pieces behind more e f other =
-    escape_turn done escape raw pieces behind more e f
+bad_raw done escape raw pieces rest more e f other =
+    escape_turn done escape raw pieces rest more e f
     ∙ ap (option_and_then (λ text. text_from text more)) (not_raw done raw (scalar_of escape) other)
 
 -- An escape and a raw piece append their characters.
-pub one_escape : (done escape raw : List ℕ) (c : ℕ) (pieces behind more : List (List ℕ)) → pieces ≡ escape ∷ behind → behind ≡ raw ∷ more →
+pub one_escape : (done escape raw : List ℕ) (c : ℕ) (pieces rest more : List (List ℕ)) → pieces ≡ escape ∷ rest → rest ≡ raw ∷ more →
     scalar_of escape ≡ Some c → list_all is_literal raw ≡ true →
     text_from done pieces ≡ text_from (done ++ encode c ++ raw) more
-one_escape done escape raw c pieces behind more e f some all =
-    escape_turn done escape raw pieces behind more e f
+one_escape done escape raw c pieces rest more e f some all =
+    escape_turn done escape raw pieces rest more e f
     ∙ ap (λ s. option_and_then (λ text. text_from text more) (with_escape done raw s)) some
     ∙ ap (λ t. option_and_then (λ text. text_from text more) (cond t (Some (done ++ encode c ++ raw)) None)) all

@@ -10,7 +10,7 @@ use Rattle.osm_model.specs.TimeLaw.{spelled_time, IsTimeText}
 use Rattle.osm_model.proofs.CalendarLaws.{is_date-civil, day_le}
 use Rattle.osm_model.proofs.TimeLaws.{time_law}
 use Rattle.opl_line.specs.declared.reason.OplReason.TheVariants.{BadTime, OutOfRange}
-use Rattle.opl_line.specs.Answer.{and_then}
+use Rattle.opl_line.specs.Results.{and_then}
 use Rattle.opl_line.specs.Number.{is_numeral, decimal_value}
 use Rattle.opl_line.specs.Time.{day_of, reading_date, second_of, reading_clock, epoch, reading_moment, reading_time}
 use Rattle.opl_line.specs.Canonical.{TimeIsReadBack}

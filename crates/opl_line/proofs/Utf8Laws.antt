@@ -73,18 +73,19 @@ split_utf8 at bytes utf8 = split_parts at bytes utf8 (is_split (is_end at) bytes
 cut_parts : (at : Delimiter) (bytes : List ℕ) → ((rest : List ℕ) → length rest < length bytes → IsUtf8 rest →
     AllByRecursion IsUtf8 (split_all (is_end at) rest)) → IsUtf8 bytes → IsSplit (is_end at) bytes →
     AllByRecursion IsUtf8 (split_all (is_end at) bytes)
-cut_parts at bytes behind utf8 (nowhere e) =
+cut_parts at bytes after utf8 (nowhere e) =
     let P : List ℕ × Option (List ℕ) → Type 0 = λ s. AllByRecursion IsUtf8 (s.0 ∷ pieces_of (is_end at) s.1) in
     let Q : List (List ℕ) → Type 0 = λ ps. AllByRecursion IsUtf8 ps in
     subst Q (sym (cut_split (is_end at) bytes)) (subst P (sym e) (utf8, tt))
-cut_parts at bytes behind utf8 (here front rest b is whole e) =
+cut_parts at bytes after utf8 (here front rest b is whole e) =
     let P : List ℕ × Option (List ℕ) → Type 0 = λ s. AllByRecursion IsUtf8 (s.0 ∷ pieces_of (is_end at) s.1) in
     let Q : List (List ℕ) → Type 0 = λ ps. AllByRecursion IsUtf8 ps in
     let around = utf8_around front rest b (ends_ascii at b is) (subst IsUtf8 whole utf8) in
     let shorter : length rest < length bytes = omega (arith, ap length whole, length-append front (b ∷ rest)) in
-    subst Q (sym (cut_split (is_end at) bytes)) (subst P (sym e) (around.0, behind rest shorter around.1))
+    subst Q (sym (cut_split (is_end at) bytes)) (subst P (sym e) (around.0, after rest shorter around.1))
 
-cut_within : (at : Delimiter) (most : ℕ) (bytes : List ℕ) → length bytes < most → IsUtf8 bytes → AllByRecursion IsUtf8 (split_all (is_end at) bytes)
+cut_within : (at : Delimiter) (most : ℕ) (bytes : List ℕ) → length bytes < most → IsUtf8 bytes →
+    AllByRecursion IsUtf8 (split_all (is_end at) bytes)
 cut_within at zero bytes few utf8 = absurd (omega arith)
 cut_within at (suc most) bytes few utf8 = cut_parts at bytes (λ rest shorter u. cut_within at most rest (omega arith) u) utf8
     (is_split (is_end at) bytes)

@@ -37,7 +37,8 @@ use Rattle.opl_line.specs.Field.{no_fields}
 use Rattle.opl_line.specs.Reading.{meta_of, reading_body, reading_line}
 use Rattle.opl_line.specs.Part as part
 use Rattle.opl_line.specs.Part.{LinePart, SpellsPart}
-use Rattle.opl_line.specs.Content.{SpellsNumber32, some_count, SpellsDeleted, visible_mark, deleted_mark, SpellsOptionalCoordinate, no_place, some_place}
+use Rattle.opl_line.specs.Content.{SpellsNumber32, some_count, SpellsDeleted, visible_mark, deleted_mark, SpellsOptionalCoordinate}
+use Rattle.opl_line.specs.Content.{no_place, some_place}
 use Rattle.opl_line.specs.Content.{SpellsObject}
 use Rattle.opl_line.specs.Spells.{is_full, fields_of_parts, Spells}
 use Rattle.opl_line.specs.Canonical.{LineSpellsItsVersion, LineIsReadBack, LineIsInOneFile}
@@ -310,15 +311,15 @@ parts_spelled v is =
       ),
     )
 
-told_by : (number : ℕ) (deleted : Bool) (changeset : ℕ) (time : Option ℕ) (uid : ℕ) (user : List ℕ) (tags : List Tag) → List LinePart →
+read_by : (number : ℕ) (deleted : Bool) (changeset : ℕ) (time : Option ℕ) (uid : ℕ) (user : List ℕ) (tags : List Tag) → List LinePart →
     List LinePart
-told_by number deleted changeset time uid user tags more =
+read_by number deleted changeset time uid user tags more =
     part.Number number ∷ part.Deleted deleted ∷ part.Changeset changeset ∷ part.Time time ∷ part.UserId uid ∷ part.User user
     ∷ part.Tags tags ∷ more
 
 all_different : (number : ℕ) (deleted : Bool) (changeset : ℕ) (time : Option ℕ) (uid : ℕ) (user : List ℕ) (tags : List Tag) (b : Body) →
-    Different no_fields (told_by number deleted changeset time uid user tags (body_parts b))
-unfolding told_by
+    Different no_fields (read_by number deleted changeset time uid user tags (body_parts b))
+unfolding read_by
 all_different number deleted changeset time uid user tags (Deleted kind.Node) =
     (refl, (refl, (refl, (refl, (refl, (refl, (refl, (refl, (refl, tt)))))))))
 all_different number deleted changeset time uid user tags (Deleted kind.Way) =
@@ -336,8 +337,8 @@ record Said (v : VersionData) (b : Body) (parts : List LinePart) : Type 0 where
   has_body : reading_body (kind_of b) (fields_of_parts parts) ≡ Ok b
   has_meta : meta_of (fields_of_parts parts) ≡ meta_of_version v
 
-said : (v : VersionData) (b : Body) → Said v b (told_by v.number (is_deleted b) v.changeset v.time v.uid v.user (tags_of b) (body_parts b))
-unfolding told_by
+said : (v : VersionData) (b : Body) → Said v b (read_by v.number (is_deleted b) v.changeset v.time v.uid v.user (tags_of b) (body_parts b))
+unfolding read_by
 said v (Deleted kind.Node) = record { has_body = refl; has_meta = refl }
 said v (Deleted kind.Way) = record { has_body = refl; has_meta = refl }
 said v (Deleted kind.Relation) = record { has_body = refl; has_meta = refl }
@@ -356,7 +357,7 @@ object_spelled v is = record {
 
 -- the line of data within its ranges spells the version that the data makes
 data_spelled : (v w : VersionData) → AreFieldsWithin v → version_or_fault v.id (meta_of_version v) v.body ≡ Ok w → Spells (line v) w
-unfolding told_by
+unfolding read_by
 data_spelled v w is makes =
     let s = said v v.body in
     record {
@@ -387,7 +388,7 @@ line_spelled v is = data_spelled v v (version_within v is) (version_made v is)
 
 -- The canonical line of a version spells it and no other.
 pub line_spells_its_version : LineSpellsItsVersion
-line_spells_its_version v is = let s = line_spelled v is in record { spelled = s; alone = λ w t. one_reading (line v) w v t s }
+line_spells_its_version v is = let s = line_spelled v is in record { spelled = s; only = λ w t. one_reading (line v) w v t s }
 
 -- The canonical line of a version is read as the version.
 pub line_is_read_back : LineIsReadBack

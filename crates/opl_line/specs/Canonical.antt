@@ -52,12 +52,12 @@ ListsAreSpelled =
     list_all is_text (roles_of members) ≡ true → SpellsList SpellsMember (list_text member_text members) members)
 
 -- The text spells the version and no other.
-pub record SpellsAlone (text : List ℕ) (v : VersionData) : Type 0 where
+pub record SpellsOnly (text : List ℕ) (v : VersionData) : Type 0 where
   pub spelled : Spells text v
-  pub alone : (w : VersionData) → Spells text w → w ≡ v
+  pub only : (w : VersionData) → Spells text w → w ≡ v
 
 abbrev pub LineSpellsItsVersion : Type 0
-LineSpellsItsVersion = (v : VersionData) → IsVersion v → SpellsAlone (line v) v
+LineSpellsItsVersion = (v : VersionData) → IsVersion v → SpellsOnly (line v) v
 
 -- The canonical line of a version is read as the version.
 abbrev pub LineIsReadBack : Type 0

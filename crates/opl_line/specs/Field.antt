@@ -7,7 +7,7 @@ use Rattle.osm_model.specs.declared.kind.Kind.TheVariants.{Node, Way, Relation}
 use Rattle.opl_line.specs.declared.general.field.Fields.{Fields}
 use Rattle.opl_line.specs.declared.reason.OplReason.{OplReason}
 use Rattle.opl_line.specs.declared.reason.OplReason.TheVariants.{UnknownField, RepeatedField, BadText}
-use Rattle.opl_line.specs.Answer.{and_then, as_value}
+use Rattle.opl_line.specs.Results.{and_then, as_value}
 use Rattle.opl_line.specs.Number.{reading_number, reading_coordinate}
 use Rattle.opl_line.specs.Time.{reading_time}
 use Rattle.opl_line.specs.Text.{reading_text}

@@ -8,7 +8,7 @@ use Rattle.osm_model.specs.declared.members.Member.{Member}
 use Rattle.opl_line.specs.declared.bytes.cut.Delimiter.TheVariants.{Commas, Equals, Ats}
 use Rattle.opl_line.specs.declared.reason.OplReason.{OplReason}
 use Rattle.opl_line.specs.declared.reason.OplReason.TheVariants.{OutOfRange, BadList}
-use Rattle.opl_line.specs.Answer.{and_then, as_value, with_reason}
+use Rattle.opl_line.specs.Results.{and_then, as_value, with_reason}
 use Rattle.opl_line.specs.Delimiter.{is_end, split_first, split_all}
 use Rattle.opl_line.specs.Number.{reading_id}
 use Rattle.opl_line.specs.Text.{reading_text}

@@ -1,5 +1,5 @@
 pub mod Reason
-pub mod Answer
+pub mod Results
 pub mod Delimiter
 pub mod Scan
 pub mod Number

@@ -163,9 +163,11 @@ pub data LineReason : List ℕ → OplReason → Type 0 where
       IsUtf8 line → split_all (is_end Blanks) line ≡ object ∷ others → ObjectReason UnknownKind (λ r. r) object reason →
       LineReason line reason
   faulty_field : (line object : List ℕ) (others : List (List ℕ)) (k : Kind) (id : ℤ) (reason : OplReason) →
-      is_skipped line ≡ false → IsUtf8 line → split_all (is_end Blanks) line ≡ object ∷ others → SpellsObject object k id →
+      is_skipped line ≡ false → IsUtf8 line → split_all (is_end Blanks) line ≡ object ∷ others →
+      SpellsObject object k id →
       FieldsReason k others reason → LineReason line reason
-  no_whole : (line : List ℕ) (k : Kind) (id : ℤ) (parts : List LinePart) (reason : OplReason) → SpellsParts line k id parts →
+  no_whole : (line : List ℕ) (k : Kind) (id : ℤ) (parts : List LinePart) (reason : OplReason) →
+      SpellsParts line k id parts →
       WholeReason k (fields_of_parts parts) reason → LineReason line reason
 
 -- ---- laws
@@ -181,7 +183,7 @@ ReportedIsReason = (line : List ℕ) (reason : OplReason) → reading_line line 
 pub record HasOneReason (line : List ℕ) : Type 0 where
   pub reason : OplReason
   pub has : LineReason line reason
-  pub alone : (other : OplReason) → LineReason line other → other ≡ reason
+  pub only : (other : OplReason) → LineReason line other → other ≡ reason
 
 -- A line that is neither skipped nor spells a version has exactly one reason.
 abbrev pub NeitherHasOneReason : Type 0

@@ -6,7 +6,7 @@ use Rattle.std.specs.List.{list_all}
 use Rattle.std.specs.Char.{is_ascii_digit}
 use Rattle.opl_line.specs.declared.reason.OplReason.{OplReason}
 use Rattle.opl_line.specs.declared.reason.OplReason.TheVariants.{BadNumber, OutOfRange, BadCoordinate}
-use Rattle.opl_line.specs.Answer.{and_then, as_value}
+use Rattle.opl_line.specs.Results.{and_then, as_value}
 use Rattle.opl_line.specs.Delimiter.{split_first}
 
 -- one decimal digit or more, and nothing else
@@ -68,7 +68,8 @@ reading_degrees whole (Some decimals) =
 
 -- the units with their sign, if their number has 32 bits
 abbrev pub reading_units : Bool → ℕ → Result ℤ OplReason
-reading_units negative n = if nat_le n (if negative then 2_147_483_648 else 2_147_483_647) then Ok (with_sign negative n)
+reading_units negative n = if nat_le n (if negative then 2_147_483_648 else 2_147_483_647)
+    then Ok (with_sign negative n)
     else Err OutOfRange
 
 -- the whole degrees and the decimals of a coordinate without a sign

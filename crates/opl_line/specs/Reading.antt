@@ -17,7 +17,7 @@ use Rattle.opl_line.specs.declared.general.field.Fields.{Fields}
 use Rattle.opl_line.specs.declared.reason.OplReason.{OplReason}
 use Rattle.opl_line.specs.declared.reason.OplReason.TheVariants.{NotUtf8, UnknownKind, OutOfRange, BadText, NoVersion}
 use Rattle.opl_line.specs.declared.reason.OplReason.TheVariants.{NoTime, NoLocation, Memory}
-use Rattle.opl_line.specs.Answer.{and_then, as_value}
+use Rattle.opl_line.specs.Results.{and_then, as_value}
 use Rattle.opl_line.specs.Delimiter.{is_end, split_first, pieces_of}
 use Rattle.opl_line.specs.Number.{reading_id}
 use Rattle.opl_line.specs.Item.{first_kind}

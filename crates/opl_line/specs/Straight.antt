@@ -38,15 +38,15 @@ abbrev pub tail_text : Body → List ℕ
 tail_text b = codes " T" ++ (list_text tag_text (tags_of b) ++ 32 ∷ join_with 32 (kind_fields b))
 
 -- `text` begins with the fields from the changeset to the user name, which are within their ranges, and ends with
--- `behind`
-pub record IsAuthored (text : List ℕ) (version : ℕ) (meta : Meta) (behind : List ℕ) : Type 0 where
-  pub spelled : text ≡ author_text meta ++ behind
+-- `rest`
+pub record IsAuthored (text : List ℕ) (version : ℕ) (meta : Meta) (rest : List ℕ) : Type 0 where
+  pub spelled : text ≡ author_text meta ++ rest
   pub number : meta.version ≡ version
   pub range : IsAuthorInRange meta
 
--- `text` begins with the fields before the tags, which are within their ranges, and ends with `behind`
-pub record IsHead (text : List ℕ) (kind : Kind) (id : ℤ) (deleted : Bool) (meta : Meta) (behind : List ℕ) : Type 0 where
-  pub spelled : text ≡ head_text kind id deleted meta ++ behind
+-- `text` begins with the fields before the tags, which are within their ranges, and ends with `rest`
+pub record IsHead (text : List ℕ) (kind : Kind) (id : ℤ) (deleted : Bool) (meta : Meta) (rest : List ℕ) : Type 0 where
+  pub spelled : text ≡ head_text kind id deleted meta ++ rest
   pub object : is_id id ≡ true
   pub number : is_number meta.version ≡ true
   pub shared_author : IsAuthorInRange meta

@@ -7,7 +7,7 @@ use Rattle.std.specs.Char.{is_ascii_digit}
 use Rattle.osm_model.specs.Calendar.{is_date, day_number}
 use Rattle.opl_line.specs.declared.reason.OplReason.{OplReason}
 use Rattle.opl_line.specs.declared.reason.OplReason.TheVariants.{BadTime, OutOfRange}
-use Rattle.opl_line.specs.Answer.{and_then}
+use Rattle.opl_line.specs.Results.{and_then}
 use Rattle.opl_line.specs.Number.{value_of}
 
 -- the value of a digit

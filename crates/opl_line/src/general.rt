@@ -1,7 +1,7 @@
 //! The general reader, which reads any line field by field. Only this reader refuses lines.
 ghost use Rattle.std.specs.Prelude.{◌≡◌, true};
 ghost use Rattle.osm_model.specs.Id.{is_id};
-ghost use Rattle.opl_line.specs.Answer.{OplReads};
+ghost use Rattle.opl_line.specs.Results.{OplReads};
 ghost use Rattle.opl_line.specs.Reading as spec;
 ghost use Rattle.opl_line.specs.Within.{AreWithin};
 

@@ -2,7 +2,8 @@
 ghost use Rattle.opl_line.specs.Canonical.{NumberIsReadBack, IdIsReadBack, TextIsReadBack, TimeIsReadBack};
 ghost use Rattle.opl_line.specs.Canonical.{CoordinateIsReadBack};
 ghost use Rattle.opl_line.specs.Canonical.{ListsAreSpelled, LineSpellsItsVersion, LineIsReadBack, LineIsInOneFile};
-ghost use Rattle.opl_line.specs.LineReason.{ReasonIsReported, ReportedIsReason, NeitherHasOneReason, ReasonSpellsNothing};
+ghost use Rattle.opl_line.specs.LineReason.{ReasonIsReported, ReportedIsReason, NeitherHasOneReason};
+ghost use Rattle.opl_line.specs.LineReason.{ReasonSpellsNothing};
 ghost use Rattle.opl_line.specs.LineReason.{MemoryIsNoReason};
 ghost use Rattle.opl_line.specs.Spells.{ReadIsSpelled, SpelledIsRead, OneReading, RefusedSpellsNothing};
 ghost use Rattle.opl_line.specs.Spells.{SkippedSpellsNothing};

@@ -2,7 +2,7 @@
 ghost use Rattle.std.specs.Prelude.{◌≡◌, ◌⊎◌, ◌++◌, true, IfOk, IfErr, OnOk, MatchOption};
 ghost use Rattle.osm_model.specs.Cursor.{remaining_bytes};
 ghost use Rattle.osm_model.specs.Line.{line};
-ghost use Rattle.opl_line.specs.Answer.{OplReads};
+ghost use Rattle.opl_line.specs.Results.{OplReads};
 ghost use Rattle.opl_line.specs.Reading as spec;
 ghost use Rattle.opl_line.specs.Spells.{Spells, SpellsNothing};
 ghost use Rattle.opl_line.specs.LineReason.{LineReason};

@@ -86,7 +86,7 @@ pub(crate) fn read_id(text: &[u8]) -> Result<i64, OplReason>
 /// Whether a text begins with a minus sign, and the text without it.
 pub(crate) fn split_sign(text: &[u8]) -> (bool, &[u8])
     ensures sign { result.0 ≡ spec.is_negative text.now }
-    ensures behind { result.1.now ≡ spec.without_sign text.now }
+    ensures rest { result.1.now ≡ spec.without_sign text.now }
 {
     match text.split_first() {
         Some((b'-', digits)) => (true, digits),
@@ -181,10 +181,10 @@ fn digits_before(text: &[u8], end: usize) -> (u64, usize)
     ensures bound { result.0 < 10 ^ result.1 }
 {
     let mut number: u64 = 0;
-    for place in 0..end {
-        let byte = text[place];
+    for index in 0..end {
+        let byte = text[index];
         if !byte.is_ascii_digit() {
-            return (number, place);
+            return (number, index);
         }
         number = 10 * number + u64::from(byte) - u64::from(b'0');
     }

@@ -46,8 +46,8 @@ pub(crate) fn read_straight(
 ) -> Option<Version>
     ensures { IfSome result (λ version. reading_line line.now ≡ Ok (Some version)) }
 {
-    let (head, behind) = read_head(alloc, shared_author, line)?;
-    let body = read_tail(alloc, spare, head.kind, head.is_deleted, behind)?;
+    let (head, rest) = read_head(alloc, shared_author, line)?;
+    let body = read_tail(alloc, spare, head.kind, head.is_deleted, rest)?;
     if head.meta.version == 0 || !head.meta.is_dated() {
         return None;
     }
@@ -63,17 +63,17 @@ fn read_head<'a>(
 ) -> Option<(LineHead, &'a [u8])>
     ensures { IfSome result (λ read. IsHead line.now read.0.kind read.0.id read.0.is_deleted read.0.meta read.1.now) }
 {
-    let ((kind, id), behind) = parse_object(line)?;
-    let (version, behind) = parse_number(strip_mark(behind, b'v')?)?;
-    let (is_deleted, behind) = parse_deleted(strip_mark(behind, b'd')?)?;
-    let (meta, behind) = read_meta(alloc, shared_author, version, behind)?;
+    let ((kind, id), rest) = parse_object(line)?;
+    let (version, rest) = parse_number(strip_mark(rest, b'v')?)?;
+    let (is_deleted, rest) = parse_deleted(strip_mark(rest, b'd')?)?;
+    let (meta, rest) = read_meta(alloc, shared_author, version, rest)?;
     let head = LineHead {
         kind,
         id,
         is_deleted,
         meta,
     };
-    Some((head, behind))
+    Some((head, rest))
 }
 
 /// The metadata of a version with the number `version`, and the text after the user name.
@@ -89,10 +89,10 @@ fn read_meta<'a>(
     if let Some(read) = shared_author.read(version, text) {
         return Some(read);
     }
-    let (changeset, behind) = parse_number(strip_mark(text, b'c')?)?;
-    let (time, behind) = parse_time(strip_mark(behind, b't')?);
-    let (uid, behind) = parse_number(strip_mark(behind, b'i')?)?;
-    let (user, behind) = parse_text(alloc, strip_mark(behind, b'u')?)?;
+    let (changeset, rest) = parse_number(strip_mark(text, b'c')?)?;
+    let (time, rest) = parse_time(strip_mark(rest, b't')?);
+    let (uid, rest) = parse_number(strip_mark(rest, b'i')?)?;
+    let (user, rest) = parse_text(alloc, strip_mark(rest, b'u')?)?;
     let meta = Meta {
         version,
         time,
@@ -100,8 +100,8 @@ fn read_meta<'a>(
         uid,
         user,
     };
-    shared_author.note(&meta, text, behind);
-    Some((meta, behind))
+    shared_author.note(&meta, text, rest);
+    Some((meta, rest))
 }
 
 /// Whether an object was deleted, and the text after the mark.
@@ -109,11 +109,11 @@ fn read_meta<'a>(
 fn parse_deleted(text: &[u8]) -> Option<(bool, &[u8])>
     ensures { IfSome result (λ read. text.now ≡ deleted_text read.0 ++ read.1.now) }
 {
-    if let Some(behind) = strip_byte(text, b'V') {
-        return Some((false, behind));
+    if let Some(rest) = strip_byte(text, b'V') {
+        return Some((false, rest));
     }
-    let behind = strip_byte(text, b'D')?;
-    Some((true, behind))
+    let rest = strip_byte(text, b'D')?;
+    Some((true, rest))
 }
 
 /// The body, from the text of a line from the tags on.
@@ -131,27 +131,19 @@ fn read_tail(
     if is_deleted {
         return read_deleted(kind, text);
     }
-    let (tags, behind) = parse_list(alloc, spare, text)?;
+    let (tags, rest) = parse_list(alloc, spare, text)?;
     let tags = Tags::from_vec(tags);
     match kind {
         Kind::Node => {
-            let (lon, lat) = read_location(behind)?;
+            let (lon, lat) = read_location(rest)?;
             Some(Body::Node { lon, lat, tags })
         }
         Kind::Way => {
-            let refs = References::from_vec(read_last_list(
-                alloc,
-                spare,
-                strip_mark(behind, b'N')?,
-            )?);
+            let refs = References::from_vec(read_last_list(alloc, spare, strip_mark(rest, b'N')?)?);
             Some(Body::Way { refs, tags })
         }
         Kind::Relation => {
-            let members = Members::from_vec(read_last_list(
-                alloc,
-                spare,
-                strip_mark(behind, b'M')?,
-            )?);
+            let members = Members::from_vec(read_last_list(alloc, spare, strip_mark(rest, b'M')?)?);
             Some(Body::Relation { members, tags })
         }
     }
@@ -173,9 +165,9 @@ fn read_deleted(kind: Kind, text: &[u8]) -> Option<Body>
 fn read_location(text: &[u8]) -> Option<(i32, i32)>
     ensures { IfSome result (λ read. text.now ≡ location_text read.0 read.1) }
 {
-    let (lon, behind) = parse_coordinate(strip_mark(text, b'x')?)?;
-    let (lat, behind) = parse_coordinate(strip_mark(behind, b'y')?)?;
-    if behind.is_empty() {
+    let (lon, rest) = parse_coordinate(strip_mark(text, b'x')?)?;
+    let (lat, rest) = parse_coordinate(strip_mark(rest, b'y')?)?;
+    if rest.is_empty() {
         Some((lon, lat))
     } else {
         None
@@ -188,14 +180,14 @@ fn read_last_list<T: StraightItem>(alloc: Global, spare: &mut Spare, text: &[u8]
     ensures text { IfSome result (λ items. text.now ≡ list_text T.form items.items) }
     ensures valid { IfSome result (λ items. list_all T.is_valid items.items ≡ true) }
 {
-    let (items, behind) = parse_list(alloc, spare, text)?;
-    if behind.is_empty() { Some(items) } else { None }
+    let (items, rest) = parse_list(alloc, spare, text)?;
+    if rest.is_empty() { Some(items) } else { None }
 }
 
 /// The text after the blank and the letter of a field.
 #[inline(always)]
 fn strip_mark(text: &[u8], letter: u8) -> Option<&[u8]>
-    ensures { IfSome result (λ behind. text.now ≡ 32 ∷ letter ∷ behind.now) }
+    ensures { IfSome result (λ rest. text.now ≡ 32 ∷ letter ∷ rest.now) }
 {
     if text.len() < 2 || text[0] != b' ' || text[1] != letter {
         return None;

@@ -17,11 +17,11 @@ fn check_line(rt: &impl Abort, alloc: Global, version: &Version, line: &str) -> 
 }
 
 /// Checks the result of reading a line: its canonical line, the name of the reason, or `skipped`.
-fn check(rt: &impl Abort, alloc: Global, line: &[u8], answer: &str) -> Result<(), Fail> {
+fn check(rt: &impl Abort, alloc: Global, line: &[u8], expected: &str) -> Result<(), Fail> {
     match read_line(alloc, line) {
-        Ok(Some(version)) => check_line(rt, alloc, &version, answer)?,
-        Ok(None) => assert_eq!(rt; "skipped", answer),
-        Err(reason) => assert_eq!(rt; reason.name(), answer),
+        Ok(Some(version)) => check_line(rt, alloc, &version, expected)?,
+        Ok(None) => assert_eq!(rt; "skipped", expected),
+        Err(reason) => assert_eq!(rt; reason.name(), expected),
     }
     Ok(())
 }
@@ -29,8 +29,8 @@ fn check(rt: &impl Abort, alloc: Global, line: &[u8], answer: &str) -> Result<()
 /// Checks rows of a line and its result.
 fn check_rows(rt: &impl Abort, alloc: Global, rows: &str) -> Result<(), Fail> {
     for row in rows.lines() {
-        let (line, answer) = row.split_once(" => ").ok_or("no answer")?;
-        check(rt, alloc, line.as_bytes(), answer)?;
+        let (line, expected) = row.split_once(" => ").ok_or("no result")?;
+        check(rt, alloc, line.as_bytes(), expected)?;
     }
     Ok(())
 }
@@ -38,10 +38,12 @@ fn check_rows(rt: &impl Abort, alloc: Global, rows: &str) -> Result<(), Fail> {
 #[test]
 fn lines_of_each_kind(rt: HostRuntime) -> Result<(), Fail> {
     let rows = "\
-n1 v3 dV c12 t2014-05-06T07:08:09Z i5 uanna Tnatural=tree x8.6868047 y49.0000001 => n1 v3 dV c12 t2014-05-06T07:08:09Z i5 uanna Tnatural=tree x8.6868047 y49.0000001
+n1 v3 dV c12 t2014-05-06T07:08:09Z i5 uanna Tnatural=tree x8.6868047 y49.0000001 \
+    => n1 v3 dV c12 t2014-05-06T07:08:09Z i5 uanna Tnatural=tree x8.6868047 y49.0000001
 n-0 v01 x-0.0 y00 => n0 v1 dV c0 t i0 u T x0 y0
 r1 v1 Mn1@a@b => r1 v1 dV c0 t i0 u T Mn1@a%40%b
-r7 v1 dV c1 t1970-01-01T00:00:01Z i1 ua%20%b T%1F600%=%3d%,%e9%=1 Mn1@\u{20ac} => r7 v1 dV c1 t1970-01-01T00:00:01Z i1 ua%20%b T\u{e9}=1,%1f600%=%3d% Mn1@%20ac%
+r7 v1 dV c1 t1970-01-01T00:00:01Z i1 ua%20%b T%1F600%=%3d%,%e9%=1 Mn1@\u{20ac} \
+    => r7 v1 dV c1 t1970-01-01T00:00:01Z i1 ua%20%b T\u{e9}=1,%1f600%=%3d% Mn1@%20ac%
 n1 v2 dD Ta=b x1 y1 => n1 v2 dD c0 t i0 u T x y
 w5 v1 dV => w5 v1 dV c0 t i0 u T N
 w5 v2 dD Nn1 => w5 v2 dD c0 t i0 u T N
@@ -52,8 +54,10 @@ n1 y2 x-1.0500000 v1 T => n1 v1 dV c0 t i0 u T x-1.05 y2
 n1 v1 c i t u T dV x214.7483647 y-214.7483648 => n1 v1 dV c0 t i0 u T x214.7483647 y-214.7483648
 n4611686018427387903 v4294967295 x0 y000 => n4611686018427387903 v4294967295 dV c0 t i0 u T x0 y0
 w1 v1 Tb=1,a=2,b=1,b=0,= => w1 v1 dV c0 t i0 u T=,a=2,b=0,b=1 N
-n1 v1 c4294967295 i0004294967295 t2106-02-07T06:28:15Z dD => n1 v1 dD c4294967295 t2106-02-07T06:28:15Z i4294967295 u T x y
-w1 v1 t1972-02-29T23:59:59Z ua@\u{a0}%7%%10FFFF%%00000041% => w1 v1 dV c0 t1972-02-29T23:59:59Z i0 ua%40%%a0%%07%%10ffff%A T N";
+n1 v1 c4294967295 i0004294967295 t2106-02-07T06:28:15Z dD \
+    => n1 v1 dD c4294967295 t2106-02-07T06:28:15Z i4294967295 u T x y
+w1 v1 t1972-02-29T23:59:59Z ua@\u{a0}%7%%10FFFF%%00000041% \
+    => w1 v1 dV c0 t1972-02-29T23:59:59Z i0 ua%40%%a0%%07%%10ffff%A T N";
     check_rows(&rt, rt.alloc(), rows)
 }
 

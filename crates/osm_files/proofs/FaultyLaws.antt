@@ -21,24 +21,24 @@ abbrev Units : Type 0
 Units = SourceRest Placed Verdict
 
 -- these versions, and then others
-abbrev behind : List Placed → Units → Units
-behind us still = record { list = us ++ still.list; refusal = still.refusal }
+abbrev after : List Placed → Units → Units
+after us still = record { list = us ++ still.list; refusal = still.refusal }
 
 -- none of the whole units in these bytes is faulty
 record Closes (stage : FileStateData) (place : ℕ) (bytes : List ℕ) : Type 0 where
   list : List Placed
   closes : (close : Verdict) → units (Some close) stage place bytes ≡ record { list = list; refusal = Some close }
-  longer : (more : List ℕ) (close : Option Verdict) → (still : Units) × (units close stage place (bytes ++ more) ≡ behind list still)
+  longer : (more : List ℕ) (close : Option Verdict) → (still : Units) × (units close stage place (bytes ++ more) ≡ after list still)
 
 -- one of the whole units in these bytes is faulty
-record Refuses (stage : FileStateData) (place : ℕ) (bytes : List ℕ) : Type 0 where
+record RefusesUnit (stage : FileStateData) (place : ℕ) (bytes : List ℕ) : Type 0 where
   list : List Placed
   fault : Verdict
   faulty : (close : Verdict) → units (Some close) stage place bytes ≡ record { list = list; refusal = Some fault }
   stays : (more : List ℕ) (close : Option Verdict) → units close stage place (bytes ++ more) ≡ record { list = list; refusal = Some fault }
 
 abbrev Splits : FileStateData → ℕ → List ℕ → Type 0
-Splits stage place bytes = Closes stage place bytes ⊎ Refuses stage place bytes
+Splits stage place bytes = Closes stage place bytes ⊎ RefusesUnit stage place bytes
 
 none_whole : (stage : FileStateData) (place : ℕ) (bytes : List ℕ) → unit_at stage bytes ≡ None → Splits stage place bytes
 none_whole stage place bytes none = inl (record {
@@ -63,7 +63,8 @@ module _ (stage : FileStateData) (place : ℕ) (bytes : List ℕ) (u : FileUnit)
       units_step close stage place (bytes ++ more) u (unit_stays stage bytes more u there)
       ∙ ap (λ bs. found_then place u.found (λ next. units close next (place + u.size) bs)) (drop-append-le u.size bytes more sized.within)
 
-  by_found : (found : UnitResult) → u.found ≡ found → ((next : FileStateData) → Splits next (place + u.size) rest) → Splits stage place bytes
+  by_found : (found : UnitResult) → u.found ≡ found → ((next : FileStateData) → Splits next (place + u.size) rest) →
+      Splits stage place bytes
   by_found (Err reason) e on = inr (record {
     list = [];
     fault = verdict_at place reason;
@@ -170,7 +171,7 @@ says_closed bytes h (inl k) = inl (
 )
 says_closed bytes h (inr k) = inr (λ close. ap of_units (h.closes close) ∙ k (Some close))
 
-says_refused : (bytes : List ℕ) (h : Refuses (start_of bytes) 0 bytes) → Orders None h.list → Says bytes
+says_refused : (bytes : List ℕ) (h : RefusesUnit (start_of bytes) 0 bytes) → Orders None h.list → Says bytes
 unfolding of_units
 says_refused bytes h (inl k) =
     let same : sorted_verdict (Some h.fault) None h.list ≡ Some k.0 =

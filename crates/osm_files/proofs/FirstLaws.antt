@@ -1,12 +1,15 @@
 -- The first version of lines from an offset on.
-use Rattle.std.proofs.Common.{◌≡◌, ⊎_elim, inl, inr, ℕ, ◌+◌, ◌<◌, ◌^◌, false, List, [], ◌∷◌, length, drop, refl, sym, ap, ◌∙◌, subst}
+use Rattle.std.proofs.Common.{◌≡◌, ⊎_elim, inl, inr, ℕ, ◌+◌, ◌<◌, ◌^◌, false, List, [], ◌∷◌, length, drop, refl, sym, ap, ◌∙◌}
+use Rattle.std.proofs.Common.{subst}
 use Rattle.std.proofs.Common.{arith, Option, Some, None, Result, Ok, Err, option_map, length-drop}
 use Rattle.std.proofs.lemmas.Bool.{lt-ltb}
 use Rattle.osm_model.specs.Data.{VersionData}
 use Rattle.osm_files.specs.declared.fault.Fault.{Fault}
+use Rattle.osm_files.specs.Fault.{IsOfFile}
 use Rattle.osm_files.specs.Input.{InputRest, whole_input}
 use Rattle.osm_files.specs.Lines.{ReadsFrom, IsLineStart, IsFirstOf, IsFirstIn, IsFirstFrom, IsDeviceFault}
 use Rattle.osm_files.specs.Opl.{OplFile}
+use Rattle.osm_files.specs.Position.{fault_of}
 use Rattle.osm_files.specs.Position.{Position, with_coming, with_input, units_from, units_or_failed, closing_verdict, window}
 use Rattle.osm_files.specs.Source.{SourceStep, StepsOn}
 use Rattle.osm_files.specs.Stream.{Verdict, Placed, SourceRest}
@@ -75,6 +78,11 @@ first_in input place bytes (Err fault) after (why, next) =
     (λ refused. inr (λ versions file. not_refused (λ (v : Verdict). record { input = input; place = v.place; reason = v.reason })
     (units None InOpl place bytes).refusal fault (ap (λ s. s.refusal) refused) ((reads_lines place bytes).read versions file).0)) why
 
+refusal_input : (input : ℕ) (refusal : Option Verdict) (fault : Fault) → option_map (fault_of input) refusal ≡ Some fault →
+    fault.input ≡ input
+refusal_input input None fault is = absurd (let e : None ≡ Some fault = is in cc)
+refusal_input input (Some v) fault is = let e : fault_of input v ≡ fault = cc in ap (λ f. f.input) (sym e)
+
 module _ {R : Type 0} (can : R → InputRest → Type 0) (one : R → InputRest) (possible : (r : R) → can r (one r)) (input : ℕ) where
   pub first_is : (bytes : Option (List ℕ)) (offset start : ℕ) (reader : R) → IsLineStart bytes offset start → start < 2 ^ 62 →
       ReadsFrom can bytes start reader → (result : Result (Option Placed) Fault) (q : Position R) →
@@ -84,11 +92,21 @@ module _ {R : Type 0} (can : R → InputRest → Type 0) (one : R → InputRest)
       let y = steps (one q.coming) (possible q.coming) in
       let given : y.0 ≡ whole_input (drop start all) = reads y.0 y.1 in
       let fits : start + length (drop start all) < 2 ^ 62 = omega (arith, bound, short, length-drop start all) in
-      let known : units_or_failed (with_coming (of_lines input start reader) y.0) ≡ Some (with_input input (units None InOpl start (drop start all))) =
-      ap (λ c. Some (with_input input (units_from (Some InOpl) start c))) given ∙ ap (λ s. Some (with_input input s)) (units_of_lines start (drop start all) fits) in
+      let known : units_or_failed (with_coming (of_lines input start reader) y.0) ≡ Some
+      (with_input input (units None InOpl start (drop start all))) =
+      ap (λ c. Some (with_input input (units_from (Some InOpl) start c))) given
+      ∙ ap (λ s. Some (with_input input s)) (units_of_lines start (drop start all) fits) in
       subst (λ (lines : List ℕ). IsFirstIn lines (version_read result)) begins
       (first_in input start (drop start all) result (units_or_failed (with_coming q (one q.coming)))
       (subst (λ before. SourceStep before result (units_or_failed (with_coming q (one q.coming)))) known y.2))
+
+  -- a fault of the first call on the lines has the number of the file
+  pub first_number : (start : ℕ) (reader : R) (fault : Fault) (q : Position R) →
+      StepsOn can (of_lines input start reader) (Err fault) q → IsOfFile input fault
+  first_number start reader fault q steps =
+      let y = steps (one q.coming) (possible q.coming) in
+      ⊎_elim (λ memory. inl memory)
+      (λ refused. inr (refusal_input input (units_from (Some InOpl) start y.0).refusal fault (ap (λ s. s.refusal) refused))) y.2.0
 
 -- a device fault is a result for the first version
 pub device_fault : (bytes : Option (List ℕ)) (offset : ℕ) (fault : Fault) → IsDeviceFault fault → IsFirstFrom bytes offset (Err fault)

@@ -18,7 +18,8 @@ use Rattle.osm_model.proofs.VersionLaws.{version_cmp-IsAntisymmetric}
 use Rattle.osm_files.specs.declared.fault.Fault.{Fault}
 use Rattle.osm_files.specs.declared.reason.Reason.TheVariants.{Unsorted}
 use Rattle.osm_files.specs.Fault.{memory_fault, failed_fault}
-use Rattle.osm_files.specs.Groups.{to_ascending, is_in_group, is_after_group, versions_then, groups, still_with_ready, IsGroup, Gathers, RefusesGroup}
+use Rattle.osm_files.specs.Groups.{to_ascending, is_in_group, is_after_group, versions_then, groups, still_with_ready, IsGroup, Gathers}
+use Rattle.osm_files.specs.Groups.{RefusesGroup}
 use Rattle.osm_files.specs.Position.{Keeps, fault_of}
 use Rattle.osm_files.specs.Source.{SourceStep}
 use Rattle.osm_files.specs.Stream.{verdict_at, Placed, SourceRest, end_whole, end_refused, front}
@@ -91,28 +92,36 @@ neither_joins Greater h k = absurd (false≢true (sym k))
 
 -- ---- a unit, and its effect on the current group
 module _ (input : ℕ) where
-  joined : (before after : Option (SourceRest Placed Fault)) (group : List VersionData) (u : Placed) → SourceStep before (Ok (Some u)) after →
-      is_in_group group u.version ≡ true → Keeps (still_with_ready input before group []) (still_with_ready input after (group ++ u.version ∷ []) [])
+  joined : (before after : Option (SourceRest Placed Fault)) (group : List VersionData) (u : Placed) →
+      SourceStep before (Ok (Some u)) after →
+      is_in_group group u.version ≡ true → Keeps (still_with_ready input before group [])
+      (still_with_ready input after (group ++ u.version ∷ []) [])
   joined None after group u h j = tt
   joined (Some s) after group u h j =
-      let same : still_with_ready input (Some (front u h.0)) group [] ≡ still_with_ready input (Some h.0) (group ++ u.version ∷ []) [] = rw j refl in
-      ap (λ o. still_with_ready input o (group ++ u.version ∷ []) []) h.2 ∙ sym same ∙ ap (λ x. still_with_ready input (Some x) group []) (sym h.1)
+      let same : still_with_ready input (Some (front u h.0)) group [] ≡ still_with_ready input (Some h.0) (group ++ u.version ∷ []) [] =
+      rw j refl in
+      ap (λ o. still_with_ready input o (group ++ u.version ∷ []) []) h.2 ∙ sym same
+      ∙ ap (λ x. still_with_ready input (Some x) group []) (sym h.1)
 
-  followed : (before after : Option (SourceRest Placed Fault)) (group : List VersionData) (u : Placed) → SourceStep before (Ok (Some u)) after →
+  followed : (before after : Option (SourceRest Placed Fault)) (group : List VersionData) (u : Placed) →
+      SourceStep before (Ok (Some u)) after →
       is_in_group group u.version ≡ false → is_after_group group u.version ≡ true
       → Keeps (still_with_ready input before group []) (still_with_ready input after (u.version ∷ []) (to_ascending group))
   followed None after group u h j f = tt
   followed (Some s) after group u h j f =
-      let same : still_with_ready input (Some (front u h.0)) group [] ≡ still_with_ready input (Some h.0) (u.version ∷ []) (to_ascending group) =
+      let same : still_with_ready input (Some (front u h.0)) group [] ≡ still_with_ready input (Some h.0) (u.version ∷ [])
+      (to_ascending group) =
       rw (j, f) refl in
-      ap (λ o. still_with_ready input o (u.version ∷ []) (to_ascending group)) h.2 ∙ sym same ∙ ap (λ x. still_with_ready input (Some x) group []) (sym h.1)
+      ap (λ o. still_with_ready input o (u.version ∷ []) (to_ascending group)) h.2 ∙ sym same
+      ∙ ap (λ x. still_with_ready input (Some x) group []) (sym h.1)
 
   fell : (before after : Option (SourceRest Placed Fault)) (group : List VersionData) (u : Placed) → SourceStep before (Ok (Some u)) after →
       is_in_group group u.version ≡ false → is_after_group group u.version ≡ false
       → IfSome (still_with_ready input before group []) (λ s. s ≡ end_refused (fault_of input (verdict_at u.place Unsorted)))
   fell None after group u h j f = tt
   fell (Some s) after group u h j f =
-      let same : versions_then [] (groups input h.0.refusal (u ∷ h.0.list) group) ≡ end_refused (fault_of input (verdict_at u.place Unsorted)) =
+      let same : versions_then [] (groups input h.0.refusal (u ∷ h.0.list) group) ≡ end_refused
+      (fault_of input (verdict_at u.place Unsorted)) =
       rw (j, f) refl in
       ap (λ x. versions_then [] (groups input x.refusal x.list group)) h.1 ∙ same
 
@@ -122,7 +131,8 @@ module _ (input : ℕ) where
   finished (Some s) after group h =
       let same : still_with_ready input (Some end_whole) group [] ≡ still_with_ready input (Some end_whole) [] (to_ascending group) =
       rw (ascending_nil, append-nil (to_ascending group)) refl in
-      ap (λ o. still_with_ready input o [] (to_ascending group)) h.1 ∙ sym same ∙ ap (λ x. still_with_ready input (Some x) group []) (sym h.0)
+      ap (λ o. still_with_ready input o [] (to_ascending group)) h.1 ∙ sym same
+      ∙ ap (λ x. still_with_ready input (Some x) group []) (sym h.0)
 
   broken_by : (before : Option (SourceRest Placed Fault)) (group : List VersionData) (fault : Fault) →
       (fault ≡ memory_fault) ⊎ IfSome before (λ s. s ≡ end_refused fault) →
@@ -167,26 +177,32 @@ module _ (input : ℕ) where
       end = λ e. absurd (let f : Some u.version ≡ None = e in cc);
     }
 
-    told : (P : SourceRest VersionData Fault → Type 0) → IfSome (still_with_ready input before (first ∷ others) []) P →
+    known : (P : SourceRest VersionData Fault → Type 0) → IfSome (still_with_ready input before (first ∷ others) []) P →
         IfSome (still_with_ready input start (first ∷ has_begun) []) P
-    told P h = from_kept (still_with_ready input start (first ∷ has_begun) []) (still_with_ready input before (first ∷ others) []) P keeps h
+    known P h = from_kept (still_with_ready input start (first ∷ has_begun) []) (still_with_ready input before (first ∷ others) []) P keeps
+        h
 
-    told_or : (fault : Fault) → (fault ≡ memory_fault) ⊎ IfSome (still_with_ready input before (first ∷ others) []) (λ s. s ≡ end_refused fault) →
+    known_or : (fault : Fault) → (fault ≡ memory_fault)
+        ⊎ IfSome (still_with_ready input before (first ∷ others) []) (λ s. s ≡ end_refused fault) →
         (fault ≡ memory_fault) ⊎ IfSome (still_with_ready input start (first ∷ has_begun) []) (λ s. s ≡ end_refused fault)
-    told_or fault (inl e) = inl e
-    told_or fault (inr h) = inr (told (λ s. s ≡ end_refused fault) h)
+    known_or fault (inl e) = inl e
+    known_or fault (inr h) = inr (known (λ s. s ≡ end_refused fault) h)
 
     -- A unit that can't be read refuses the group.
-    pub refuses_read : (fault : Fault) → SourceStep before (Err fault) after → RefusesGroup (still_with_ready input start (first ∷ has_begun) []) fault after
-    refuses_read fault h = (told_or fault (broken_by before (first ∷ others) fault h.0), h.1)
+    pub refuses_read : (fault : Fault) → SourceStep before (Err fault) after →
+        RefusesGroup (still_with_ready input start (first ∷ has_begun) []) fault after
+    refuses_read fault h = (known_or fault (broken_by before (first ∷ others) fault h.0), h.1)
 
     -- A version of a lesser key refuses the group as Unsorted.
     pub refuses_unsorted : (u : Placed) (fault : Fault) (failed : Option (SourceRest Placed Fault)) (number : ℕ) →
-        SourceStep before (Ok (Some u)) after → is_gt (key_cmp first u.version) ≡ true → fault ≡ fault_of input (verdict_at u.place Unsorted)
-        → failed ≡ Some (end_refused (failed_fault number)) → RefusesGroup (still_with_ready input start (first ∷ has_begun) []) fault failed
+        SourceStep before (Ok (Some u)) after → is_gt (key_cmp first u.version) ≡ true →
+        fault ≡ fault_of input (verdict_at u.place Unsorted)
+        → failed ≡ Some (end_refused (failed_fault number)) →
+        RefusesGroup (still_with_ready input start (first ∷ has_begun) []) fault failed
     refuses_unsorted u fault failed number h greater is e =
         let falls = greater_falls (key_cmp first u.version) greater in (
-          inr (told (λ s. s ≡ end_refused fault) (weaker (still_with_ready input before (first ∷ others) []) _ _ (λ s k. k ∙ ap end_refused (sym is))
+          inr (known (λ s. s ≡ end_refused fault) (weaker (still_with_ready input before (first ∷ others) []) _ _
+              (λ s k. k ∙ ap end_refused (sym is))
               (fell before after (first ∷ others) u h falls.0 falls.1))),
           (number, e),
         )
@@ -221,7 +237,8 @@ none_begins input (Some s) after h = (
 )
 
 -- No group begins at a unit that can't be read.
-pub refused_begins : (input : ℕ) (before after : Option (SourceRest Placed Fault)) (fault : Fault) → SourceStep {A = Placed} before (Err fault) after →
+pub refused_begins : (input : ℕ) (before after : Option (SourceRest Placed Fault)) (fault : Fault) →
+    SourceStep {A = Placed} before (Err fault) after →
     RefusesGroup (still_with_ready input before [] []) fault after
 refused_begins input before after fault h = (broken_by input before [] fault h.0, h.1)
 
@@ -241,13 +258,16 @@ gives_ready input None group ready v = tt
 gives_ready input (Some w) group ready v = (versions_then ready (groups input w.refusal w.list group), refl, refl)
 
 -- The first version of a complete group is given, and the others are ready.
-pub gives_first : (input : ℕ) (before : Option (SourceRest Placed Fault)) (has_begun : List VersionData) (after : Option (SourceRest Placed Fault))
+pub gives_first : (input : ℕ) (before : Option (SourceRest Placed Fault)) (has_begun : List VersionData)
+    (after : Option (SourceRest Placed Fault))
     (first : VersionData) (others : List VersionData) (next : Option VersionData) (v : VersionData) (ready : List VersionData)
     → Gathers input before has_begun after first others next → to_ascending (first ∷ others) ≡ v ∷ ready →
-    SourceStep (still_with_ready input before (first ∷ has_begun) []) (Ok (Some v)) (still_with_ready input after (option_to_list next) ready)
+    SourceStep (still_with_ready input before (first ∷ has_begun) []) (Ok (Some v))
+    (still_with_ready input after (option_to_list next) ready)
 gives_first input before has_begun after first others next v ready h e =
     weaker (still_with_ready input before (first ∷ has_begun) []) _ _
-    (λ s k. first_of input after (option_to_list next) ready v s (ap (still_with_ready input after (option_to_list next)) (sym e) ∙ k)) h.keeps
+    (λ s k. first_of input after (option_to_list next) ready v s (ap (still_with_ready input after (option_to_list next)) (sym e) ∙ k))
+    h.keeps
 
 -- ---- the result of a call, from an unchanged rest
 pub step_on : {A : Type 0} (start before after : Option (SourceRest A Fault)) (r : Result (Option A) Fault) → Keeps start before →
@@ -258,7 +278,8 @@ step_on start before after (Err fault) k (inl e, a) = (inl e, a)
 step_on start before after (Err fault) k (inr h, a) = (inr (from_kept start before _ k h), a)
 
 -- A refused group is a refused step of the source.
-pub refused_step : (input : ℕ) (before : Option (SourceRest VersionData Fault)) (after : Option (SourceRest Placed Fault)) (group : List VersionData)
+pub refused_step : (input : ℕ) (before : Option (SourceRest VersionData Fault)) (after : Option (SourceRest Placed Fault))
+    (group : List VersionData)
     (fault : Fault) → RefusesGroup before fault after → SourceStep before (Err fault) (still_with_ready input after group [])
 refused_step input before after group fault (h, (number, a)) = (h, (number, ap (λ o. still_with_ready input o group []) a))
 

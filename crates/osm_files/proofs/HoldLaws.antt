@@ -131,7 +131,8 @@ source_listed : (input : ℕ) (bytes : List ℕ) → verdict_sorted bytes ≡ No
 source_listed input bytes none =
     let us = file_units bytes in
     let accepted = sorted_without_verdict bytes none in
-    let end_whole : (groups input (option_map (fault_of input) us.refusal) us.list []).refusal ≡ None = groups_refusal input us.refusal us.list
+    let end_whole : (groups input (option_map (fault_of input) us.refusal) us.list []).refusal ≡ None =
+    groups_refusal input us.refusal us.list
     ∙ ap (option_map (fault_of input)) none in
     ap (λ s. s.list) (source_whole input bytes) ∙ groups_listed input (option_map (fault_of input) us.refusal) us.list
     (ap (option_map (fault_of input)) accepted.0) end_whole
@@ -192,7 +193,8 @@ broken_source_ends input bytes short =
     option_map (fault_of input) (sorted_verdict s.refusal None s.list)) (broken_units bytes short)
 
 long_units : (bytes : List ℕ) (broken : Bool) → 2 ^ 62 ≤ length bytes →
-    units_from None 0 (record { bytes = bytes; broken = broken }) ≡ units (Some too_long_verdict) (start_of bytes) 0 (take (2 ^ 62 - 1 - 0) bytes)
+    units_from None 0 (record { bytes = bytes; broken = broken }) ≡ units (Some too_long_verdict) (start_of bytes) 0
+    (take (2 ^ 62 - 1 - 0) bytes)
 unfolding units_from length_limit
 long_units bytes broken many =
     let above : nat_lt (0 + length bytes) (2 ^ 62) ≡ false = grind (arith, nat_tests) in

@@ -7,12 +7,12 @@ use Rattle.std.proofs.lemmas.List.{drop-append-le}
 use Rattle.osm_model.specs.declared.kind.Kind.{Kind}
 use Rattle.osm_model.specs.declared.kind.Kind.TheVariants as kind
 use Rattle.osm_model.specs.Data.{VersionData}
-use Rattle.o5_codec.specs.Answer.{and_then}
+use Rattle.o5_codec.specs.Results.{and_then}
 use Rattle.o5_codec.specs.Body.{set_at}
 use Rattle.o5_codec.specs.Number.{number_at, signed_at}
 use Rattle.o5_codec.specs.Reason.{is_step_reason}
 use Rattle.o5_codec.specs.Segment.{id_at}
-use Rattle.o5_codec.proofs.AnswerLaws.{only_reason}
+use Rattle.o5_codec.proofs.ResultLaws.{only_reason}
 use Rattle.o5_codec.proofs.RefusalLaws.{set_refused}
 use Rattle.opl_line.proofs.LineReasonLaws.{reported_is_reason}
 use Rattle.opl_line.proofs.MemoryLaws.{memory_is_no_reason}
@@ -28,7 +28,8 @@ use Rattle.osm_files.specs.declared.reason.Reason.TheVariants.{BadHeader, Unsort
 use Rattle.osm_files.specs.Reason.{of_line, of_data_set}
 use Rattle.osm_files.specs.O5.{end_byte, reset_byte, is_lone, kind_of_type}
 use Rattle.osm_files.specs.Stream.{Verdict, verdict_at, Placed, SourceRest, end_whole}
-use Rattle.osm_files.specs.Units.{FileStateData, InOpl, BeforeHeader, InSegment, PastEnd, UnitResult, FileUnit, unit, no_version, line_found, line_unit}
+use Rattle.osm_files.specs.Units.{FileStateData, InOpl, BeforeHeader, InSegment, PastEnd, UnitResult, FileUnit, unit, no_version}
+use Rattle.osm_files.specs.Units.{line_found, line_unit}
 use Rattle.osm_files.specs.Units.{is_header, set_found, content_found, sized_unit, is_ended, length_at, unit_at, last_at, found_then}
 use Rattle.osm_files.specs.Units.{final_units, unit_then, units_within, units, start_of}
 use Rattle.osm_files.specs.Verdict.{length_limit, too_long_verdict, file_units, verdict, is_below, sorted_verdict, verdict_sorted}
@@ -56,38 +57,40 @@ abbrev Fine : ℕ → FileStateData → ℕ → List ℕ → Type 0
 Fine n stage place bytes = (close : Verdict) → (units_within n (Some close) stage place bytes).refusal ≡ Some close
 
 -- a whole unit is faulty, whatever closes the bytes, or none is
-abbrev Tells : ℕ → FileStateData → ℕ → List ℕ → Type 0
-Tells n stage place bytes = ((v : Verdict) × Faulty n stage place bytes v × ((units_within n None stage place bytes).refusal ≡ Some v))
+abbrev UnitDecides : ℕ → FileStateData → ℕ → List ℕ → Type 0
+UnitDecides n stage place bytes = ((v : Verdict) × Faulty n stage place bytes v ×
+    ((units_within n None stage place bytes).refusal ≡ Some v))
     ⊎ Fine n stage place bytes
 
-found_tells : (n place at : ℕ) (rest : List ℕ) (found : UnitResult) → ((next : FileStateData) → Tells n next at rest)
+found_decides : (n place at : ℕ) (rest : List ℕ) (found : UnitResult) → ((next : FileStateData) → UnitDecides n next at rest)
     → ((v : Verdict) × ((close : Verdict) → (found_then place found (λ next. units_within n (Some close) next at rest)).refusal ≡ Some v)
     × ((found_then place found (λ next. units_within n None next at rest)).refusal ≡ Some v))
     ⊎ ((close : Verdict) → (found_then place found (λ next. units_within n (Some close) next at rest)).refusal ≡ Some close)
-found_tells n place at rest (Err reason) on = inl (verdict_at place reason, λ close. refl, refl)
-found_tells n place at rest (Ok (None, next)) on = on next
-found_tells n place at rest (Ok (Some v, next)) on = on next
+found_decides n place at rest (Err reason) on = inl (verdict_at place reason, λ close. refl, refl)
+found_decides n place at rest (Ok (None, next)) on = on next
+found_decides n place at rest (Ok (Some v, next)) on = on next
 
-abbrev ThenTells : ℕ → FileStateData → ℕ → List ℕ → Option FileUnit → Type 0
-ThenTells n stage place bytes u =
+abbrev ThenDecides : ℕ → FileStateData → ℕ → List ℕ → Option FileUnit → Type 0
+ThenDecides n stage place bytes u =
     ((v : Verdict) × ((close : Verdict) → (unit_then (Some close) stage place bytes (units_within n (Some close)) u).refusal ≡ Some v)
     × ((unit_then None stage place bytes (units_within n None) u).refusal ≡ Some v))
     ⊎ ((close : Verdict) → (unit_then (Some close) stage place bytes (units_within n (Some close)) u).refusal ≡ Some close)
 
-unit_tells : (n : ℕ) (stage : FileStateData) (place : ℕ) (bytes : List ℕ) → ((next : FileStateData) (at : ℕ) (rest : List ℕ) → Tells n next at rest) →
-    (u : Option FileUnit) → ThenTells n stage place bytes u
-unit_tells n stage place bytes on None = inr (λ close. refl)
-unit_tells n stage place bytes on (Some u) = found_tells n place (place + u.size) (drop u.size bytes) u.found
+unit_decides : (n : ℕ) (stage : FileStateData) (place : ℕ) (bytes : List ℕ) →
+    ((next : FileStateData) (at : ℕ) (rest : List ℕ) → UnitDecides n next at rest) →
+    (u : Option FileUnit) → ThenDecides n stage place bytes u
+unit_decides n stage place bytes on None = inr (λ close. refl)
+unit_decides n stage place bytes on (Some u) = found_decides n place (place + u.size) (drop u.size bytes) u.found
     (λ next. on next (place + u.size) (drop u.size bytes))
 
-shown : (n : ℕ) (stage : FileStateData) (place : ℕ) (bytes : List ℕ) → Tells n stage place bytes
+shown : (n : ℕ) (stage : FileStateData) (place : ℕ) (bytes : List ℕ) → UnitDecides n stage place bytes
 shown zero stage place bytes = inr (λ close. refl)
-shown (suc n) stage place bytes = unit_tells n stage place bytes (shown n) (unit_at stage bytes)
+shown (suc n) stage place bytes = unit_decides n stage place bytes (shown n) (unit_at stage bytes)
 
-whole_tells : (bytes : List ℕ) → ((v : Verdict) × IsFaultyWhole bytes v × ((units None (start_of bytes) 0 bytes).refusal ≡ Some v))
+whole_decides : (bytes : List ℕ) → ((v : Verdict) × IsFaultyWhole bytes v × ((units None (start_of bytes) 0 bytes).refusal ≡ Some v))
     ⊎ NoneFaultyWhole bytes
 unfolding units
-whole_tells bytes = shown (length bytes) (start_of bytes) 0 bytes
+whole_decides bytes = shown (length bytes) (start_of bytes) 0 bytes
 
 -- ---- an error after the bytes
 broken_units : (bytes : List ℕ) → length bytes < 2 ^ 62 →
@@ -109,7 +112,8 @@ long_units bytes long =
     from_is None 0 (broken_after bytes)
     ∙ (λ i. units (cond (above i) (Some (verdict_at (0 + length bytes) ReadFault)) (Some too_long_verdict)) (start_of bytes) 0
     (cond (above i) bytes (take (room i) bytes)))
-    ∙ ap (λ t. cond t (units None (start_of bytes) 0 bytes) (units (Some too_long_verdict) (start_of bytes) 0 (take (length_limit - 1) bytes)))
+    ∙ ap (λ t. cond t (units None (start_of bytes) 0 bytes)
+    (units (Some too_long_verdict) (start_of bytes) 0 (take (length_limit - 1) bytes)))
     (sym long)
 
 abbrev refusal_of : SourceRest Placed Verdict → Option Verdict
@@ -125,7 +129,7 @@ short_refused bytes short =
     let same : (units_from None 0 (broken_after bytes)).refusal ≡ (units (Some close) (start_of bytes) 0 bytes).refusal =
     ap refusal_of (broken_units bytes short) in
     ⊎_elim (λ h. inl (h.0, short, h.1, ap refusal_of (short_units bytes short) ∙ h.2, same ∙ h.1 close))
-    (λ h. inr (short, h, same ∙ h close)) (whole_tells bytes)
+    (λ h. inr (short, h, same ∙ h close)) (whole_decides bytes)
 
 limit_is : length_limit ≡ 2 ^ 62
 unfolding length_limit
@@ -169,7 +173,8 @@ found_stays n m close v on place at rest more fits (Err reason) h = h v
 found_stays n m close v on place at rest more fits (Ok (None, next)) h = on next at rest more fits h
 found_stays n m close v on place at rest more fits (Ok (Some w, next)) h = on next at rest more fits h
 
-unit_then_stays : (n m : ℕ) (close : Option Verdict) (v : Verdict) → Stays n m close v → (stage : FileStateData) (place : ℕ) (bytes more : List ℕ) →
+unit_then_stays : (n m : ℕ) (close : Option Verdict) (v : Verdict) → Stays n m close v →
+    (stage : FileStateData) (place : ℕ) (bytes more : List ℕ) →
     length (bytes ++ more) ≤ suc m → (u : Option FileUnit) → unit_at stage bytes ≡ u
     → ((c : Verdict) → (unit_then (Some c) stage place bytes (units_within n (Some c)) u).refusal ≡ Some v) →
     (unit_then close stage place (bytes ++ more) (units_within m close) (unit_at stage (bytes ++ more))).refusal ≡ Some v
@@ -260,7 +265,7 @@ line_found_fine line = line_read_fine line (reading_line line) refl
 
 line_unit_fine : (s : List ℕ × Option (List ℕ)) → FineUnit (line_unit s)
 line_unit_fine (line, None) = tt
-line_unit_fine (line, Some behind) = line_found_fine line
+line_unit_fine (line, Some after) = line_found_fine line
 
 set_step : (k : Kind) (s : Segment) (content : List ℕ) (read : Result (VersionData × Segment) O5Reason) → set_at k s content ≡ read →
     StepReason read
@@ -303,10 +308,10 @@ sized_fine : (s : Segment) (b : ℕ) (bytes : List ℕ) (x : Option (Result (ℕ
     FineUnit (sized_unit s b bytes x)
 sized_fine s b bytes None h = tt
 sized_fine s b bytes (Some (Err reason)) h = of_data_set_fine reason h
-sized_fine s b bytes (Some (Ok (size, behind))) h =
-    elim (nat_le size (length behind)) as (λ t. FineUnit
-    (cond t (Some (unit (1 + (length bytes - length behind) + size) (content_found s (kind_of_type b) (take size behind)))) None)) [
-      | true ↦ content_fine s (kind_of_type b) (take size behind)
+sized_fine s b bytes (Some (Ok (size, after))) h =
+    elim (nat_le size (length after)) as (λ t. FineUnit
+    (cond t (Some (unit (1 + (length bytes - length after) + size) (content_found s (kind_of_type b) (take size after)))) None)) [
+      | true ↦ content_fine s (kind_of_type b) (take size after)
       | false ↦ tt
     ]
 

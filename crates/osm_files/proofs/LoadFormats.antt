@@ -19,19 +19,19 @@ letter_is_no_mark kind.Node = refl
 letter_is_no_mark kind.Way = refl
 letter_is_no_mark kind.Relation = refl
 
-line_tells : (v : VersionData) (rest : List ℕ) → format_of (line v ++ rest) ≡ Opl
+line_decides : (v : VersionData) (rest : List ℕ) → format_of (line v ++ rest) ≡ Opl
 unfolding line
-line_tells v rest = ap (λ t. cond t (cond (is_o5m (line v ++ rest)) O5m O5c) Opl) (letter_is_no_mark (kind_of v.body))
+line_decides v rest = ap (λ t. cond t (cond (is_o5m (line v ++ rest)) O5m O5c) Opl) (letter_is_no_mark (kind_of v.body))
 
-list_tells : (format : Format) (versions : List VersionData) → format_of (spell_list format versions) ≡ format
-list_tells Opl [] = refl
-list_tells Opl (v ∷ versions) =
+list_determines : (format : Format) (versions : List VersionData) → format_of (spell_list format versions) ≡ format
+list_determines Opl [] = refl
+list_determines Opl (v ∷ versions) =
     let rest : List ℕ = versions_bytes Opl (writer_with Opl initial_writer v) versions in
     ap format_of (append_assoc (line_with_end v) rest [] ∙ append_assoc (line v) (10 ∷ []) (rest ++ []))
-    ∙ line_tells v ((10 ∷ []) ++ (rest ++ []))
-list_tells O5m versions = refl
-list_tells O5c versions = refl
+    ∙ line_decides v ((10 ∷ []) ++ (rest ++ []))
+list_determines O5m versions = refl
+list_determines O5c versions = refl
 
 -- A file that was written determines its format.
-pub formats_told : WrittenFilesDetermineTheirFormat
-formats_told format set = list_tells format (to_list set)
+pub formats_determined : WrittenFilesDetermineTheirFormat
+formats_determined format set = list_determines format (to_list set)

@@ -25,7 +25,8 @@ use Rattle.osm_files.specs.O5.{reset_byte}
 use Rattle.osm_files.specs.Units.{InOpl, unit_at, units, start_of}
 use Rattle.osm_files.specs.Verdict.{length_limit, too_long_verdict, file_units, versions_of, verdict, is_below, is_below_last}
 use Rattle.osm_files.specs.Held.{IsFile, Holds, HoldsSorted}
-use Rattle.osm_files.specs.Position.{KnownPosition, at_start, rest_of_bytes, units_from, with_input, rest_of_units, units_or_failed, ReadsOn, KeepsRest, state_at, state_or_start}
+use Rattle.osm_files.specs.Position.{KnownPosition, at_start, rest_of_bytes, units_from, with_input, rest_of_units, units_or_failed}
+use Rattle.osm_files.specs.Position.{ReadsOn, KeepsRest, state_at, state_or_start}
 use Rattle.osm_files.specs.Position.{fault_of, StopsFilling}
 use Rattle.osm_files.specs.Load.{format_of, determines_format, IsRead, Loads, StopsLoading}
 use Rattle.osm_files.proofs.UnitLaws.{some_is_not_none}
@@ -54,7 +55,8 @@ untold (b ∷ held) shown =
     ] refl shown
 
 -- the refusal of a file of which no more can be read, and whose format isn't determined
-pub format_refused : (p m q : KnownPosition) → ReadsOn p m → p.place ≡ 0 → p.stage ≡ None → p.failed ≡ false → determines_format m.held ≡ false →
+pub format_refused : (p m q : KnownPosition) → ReadsOn p m → p.place ≡ 0 → p.stage ≡ None → p.failed ≡ false →
+    determines_format m.held ≡ false →
     (fault : Fault) → StopsFilling m fault → q.failed ≡ true → SourceStep {A = Placed} (units_or_failed p) (Err fault) (units_or_failed q)
 format_refused p m q on first unseen fine shown fault stops failed =
     let k = untold m.held shown in
@@ -135,8 +137,8 @@ module _ (versions : List VersionData) (v : VersionData) where
         | true ↦ λ is. (
             let some : 0 < length versions = grind (arith, nat_tests) in
             let n : ℕ = length versions - 1 in
-            let behind_it : n + 1 ≡ length versions = omega (arith, some) in
-            let last : get_or (versions ++ v ∷ []) (n + 1) v ≡ v = ap (λ m. get_or (versions ++ v ∷ []) m v) behind_it
+            let after_it : n + 1 ≡ length versions = omega (arith, some) in
+            let last : get_or (versions ++ v ∷ []) (n + 1) v ≡ v = ap (λ m. get_or (versions ++ v ∷ []) m v) after_it
             ∙ get_or-append_seam versions v [] v in
             below_last v some ∙ (λ i. is_lt (key_cmp (sym last i) (sym (front_at n v (omega (arith, some))) i)))
             ∙ sorted n v (omega arith) (omega (arith, some, length-append versions (v ∷ []))))
@@ -187,7 +189,8 @@ unbroken c none =
       | true ↦ units_closed at_all (start_of c.bytes) 0 bytes
       | false ↦ units_closed too_long_verdict (start_of c.bytes) 0 bytes
     ] in
-    elim c.broken as (λ t. (units (cond below (cond t (Some at_all) None) (Some too_long_verdict)) (start_of c.bytes) 0 bytes).refusal ≡ None →
+    elim c.broken as (λ t. (units (cond below (cond t (Some at_all) None) (Some too_long_verdict)) (start_of c.bytes) 0 bytes).refusal
+    ≡ None →
     t ≡ false) [
       | true ↦ λ e. absurd (closes below e)
       | false ↦ λ e. refl

@@ -21,7 +21,8 @@ use Rattle.osm_files.specs.O5.{part_bytes, PartsSpell}
 use Rattle.o5_codec.specs.declared.reason.O5Reason.TheVariants as o5
 use Rattle.osm_files.specs.declared.reason.Reason.TheVariants.{NoEnd, O5}
 use Rattle.osm_files.specs.Units.{InSegment, PastEnd, FileUnit, unit, no_version, final_units, unit_then, unit_at, last_at, units_within}
-use Rattle.osm_files.specs.Units.{segment_unit, unit_after_end, sized_unit, content_found, set_found as found_of, is_last, is_ended, length_at}
+use Rattle.osm_files.specs.Units.{segment_unit, unit_after_end, sized_unit, content_found, set_found as found_of, is_last, is_ended}
+use Rattle.osm_files.specs.Units.{length_at}
 use Rattle.osm_files.specs.Verdict.{versions_of}
 use Rattle.std.proofs.lemmas.Bool.Decides.{nat_tests}
 use Rattle.osm_files.proofs.UnitLaws.{ReadsAs, some_is_not_none}
@@ -49,13 +50,13 @@ LoneFirst s b bytes versions = ((b == end_byte) ≡ false) × ((b == reset_byte)
 abbrev pub SkippedFirst : Segment → ℕ → List ℕ → List VersionData → Type 0
 SkippedFirst s b bytes versions = IsOtherType b × ((content rest : List ℕ) × Sized bytes content rest × PartsFile s rest versions)
 
-abbrev pub Behind : Kind → Segment → List ℕ → List ℕ → List VersionData → Type 0
-Behind k s content rest versions = (v : VersionData) × (next : Segment) × (others : List VersionData) × (versions ≡ v ∷ others)
+abbrev pub RestAfter : Kind → Segment → List ℕ → List ℕ → List VersionData → Type 0
+RestAfter k s content rest versions = (v : VersionData) × (next : Segment) × (others : List VersionData) × (versions ≡ v ∷ others)
     × SpellsSet k s content (v, next) × PartsFile next rest others
 
 abbrev pub ObjectFirst : Segment → ℕ → List ℕ → List VersionData → Type 0
 ObjectFirst s b bytes versions = (k : Kind) × (b ≡ type_byte k)
-    × ((content rest : List ℕ) × Sized bytes content rest × Behind k s content rest versions)
+    × ((content rest : List ℕ) × Sized bytes content rest × RestAfter k s content rest versions)
 
 abbrev pub FirstPart : Segment → ℕ → List ℕ → List VersionData → Type 0
 FirstPart s b bytes versions = EndFirst b bytes versions ⊎ ResetFirst b bytes versions ⊎ LoneFirst s b bytes versions
@@ -120,12 +121,12 @@ groups_ended (b ∷ c ∷ size) rest n groups = ap (λ t. nat_lt b 128 || t) (gr
 -- the size of a data set is read if it is spelled
 pub length_read : (bytes content rest : List ℕ) → Sized bytes content rest → length_at bytes ≡ Some (Ok (length content, content ++ rest))
 length_read bytes content rest h =
-    let behind : List ℕ = content ++ rest in
-    let ended : is_ended (h.size ++ behind) ≡ true =
-    ap (λ t. nat_lt 10 (length (h.size ++ behind)) || t) (groups_ended h.size behind (length content) h.spelled.groups)
-    ∙ or_true (nat_lt 10 (length (h.size ++ behind))) in
-    let number : number_at (h.size ++ behind) ≡ Ok (length content, behind) =
-    number_only (h.size ++ behind) (length content, behind) (h.size, h.spelled, refl) in
+    let after : List ℕ = content ++ rest in
+    let ended : is_ended (h.size ++ after) ≡ true =
+    ap (λ t. nat_lt 10 (length (h.size ++ after)) || t) (groups_ended h.size after (length content) h.spelled.groups)
+    ∙ or_true (nat_lt 10 (length (h.size ++ after))) in
+    let number : number_at (h.size ++ after) ≡ Ok (length content, after) =
+    number_only (h.size ++ after) (length content, after) (h.size, h.spelled, refl) in
     ap length_at h.split ∙ rw (ended, number) refl
 
 by_ended : (ended : Bool) (number x : Result (ℕ × List ℕ) O5Reason) → cond ended (Some number) None ≡ Some x → number ≡ x
@@ -137,42 +138,42 @@ drop_front [] rest n = let e : 0 + n ≡ n = omega arith in rw e refl
 drop_front (a ∷ first) rest n = let e : length (a ∷ first) + n ≡ suc (length first + n) = omega arith in rw e (drop_front first rest n)
 
 -- a length that was read is spelled at the front
-pub record LengthFound (b : ℕ) (bytes : List ℕ) (n : ℕ) (behind : List ℕ) : Type 0 where
+pub record LengthFound (b : ℕ) (bytes : List ℕ) (n : ℕ) (after : List ℕ) : Type 0 where
   pub size : List ℕ
   pub spelled : SpellsNumber size n
-  pub split : bytes ≡ size ++ behind
-  pub rest : drop (1 + (length bytes - length behind) + n) (b ∷ bytes) ≡ drop n behind
+  pub split : bytes ≡ size ++ after
+  pub rest : drop (1 + (length bytes - length after) + n) (b ∷ bytes) ≡ drop n after
 
 -- A length that is found is spelled at the front.
-pub length_found : (b : ℕ) (bytes : List ℕ) (n : ℕ) (behind : List ℕ) → length_at bytes ≡ Some (Ok (n, behind)) →
-    LengthFound b bytes n behind
-length_found b bytes n behind e =
-    let found = number_found bytes (n, behind) (by_ended (is_ended bytes) (number_at bytes) (Ok (n, behind)) e) in
-    let far : 1 + (length bytes - length behind) + n ≡ suc (length found.0 + n) =
-    omega (arith, ap length found.2, length-append found.0 behind) in
+pub length_found : (b : ℕ) (bytes : List ℕ) (n : ℕ) (after : List ℕ) → length_at bytes ≡ Some (Ok (n, after)) →
+    LengthFound b bytes n after
+length_found b bytes n after e =
+    let found = number_found bytes (n, after) (by_ended (is_ended bytes) (number_at bytes) (Ok (n, after)) e) in
+    let far : 1 + (length bytes - length after) + n ≡ suc (length found.0 + n) =
+    omega (arith, ap length found.2, length-append found.0 after) in
     record {
       size = found.0;
       spelled = found.1;
       split = found.2;
-      rest = rw far (ap (drop (length found.0 + n)) found.2 ∙ drop_front found.0 behind n);
+      rest = rw far (ap (drop (length found.0 + n)) found.2 ∙ drop_front found.0 after n);
     }
 
 -- the content has the length that is spelled
-pub content_sized : (bytes : List ℕ) (n : ℕ) (behind : List ℕ) (b : ℕ) → n ≤ length behind → LengthFound b bytes n behind →
-    Sized bytes (take n behind) (drop n behind)
-content_sized bytes n behind b fits found =
-    let long : length (take n behind) ≡ n = omega (arith, length-take n behind, fits) in
+pub content_sized : (bytes : List ℕ) (n : ℕ) (after : List ℕ) (b : ℕ) → n ≤ length after → LengthFound b bytes n after →
+    Sized bytes (take n after) (drop n after)
+content_sized bytes n after b fits found =
+    let long : length (take n after) ≡ n = omega (arith, length-take n after, fits) in
     record {
       size = found.size;
       spelled = subst (SpellsNumber found.size) (sym long) found.spelled;
-      split = found.split ∙ ap (λ x. found.size ++ x) (sym (take-append-drop n behind));
+      split = found.split ∙ ap (λ x. found.size ++ x) (sym (take-append-drop n after));
     }
 
--- `content` is the first `n` bytes of `behind`, and `rest` is the bytes after them
-pub record SameSize (n : ℕ) (behind content rest : List ℕ) : Type 0 where
-  pub within : n ≤ length behind
-  pub content_is : take n behind ≡ content
-  pub rest_is : drop n behind ≡ rest
+-- `content` is the first `n` bytes of `after`, and `rest` is the bytes after them
+pub record SameSize (n : ℕ) (after content rest : List ℕ) : Type 0 where
+  pub within : n ≤ length after
+  pub content_is : take n after ≡ content
+  pub rest_is : drop n after ≡ rest
 
 take_all_of : (content rest : List ℕ) → take (length content) (content ++ rest) ≡ content
 take_all_of [] rest = refl
@@ -186,21 +187,21 @@ abbrev Length : Type 0
 Length = Option (Result (ℕ × List ℕ) O5Reason)
 
 abbrev some_length : ℕ → List ℕ → Length
-some_length n behind = Some (Ok (n, behind))
+some_length n after = Some (Ok (n, after))
 
-same_length : (n m : ℕ) (behind other : List ℕ) → some_length n behind ≡ some_length m other → (n ≡ m) × (behind ≡ other)
-same_length n m behind other e =
-    let here : ℕ × List ℕ = (n, behind) in
+same_length : (n m : ℕ) (after other : List ℕ) → some_length n after ≡ some_length m other → (n ≡ m) × (after ≡ other)
+same_length n m after other e =
+    let here : ℕ × List ℕ = (n, after) in
     let there : ℕ × List ℕ = (m, other) in
     let f : here ≡ there = cc in
     (ap (λ x. x.0) f, ap (λ x. x.1) f)
 
-pub same_size : (bytes : List ℕ) (n : ℕ) (behind content rest : List ℕ) → length_at bytes ≡ Some (Ok (n, behind)) →
-    Sized bytes content rest → SameSize n behind content rest
-same_size bytes n behind content rest e sized =
-    let both = same_length n (length content) behind (content ++ rest) (sym e ∙ length_read bytes content rest sized) in
+pub same_size : (bytes : List ℕ) (n : ℕ) (after content rest : List ℕ) → length_at bytes ≡ Some (Ok (n, after)) →
+    Sized bytes content rest → SameSize n after content rest
+same_size bytes n after content rest e sized =
+    let both = same_length n (length content) after (content ++ rest) (sym e ∙ length_read bytes content rest sized) in
     let m : n ≡ length content = both.0 in
-    let g : behind ≡ content ++ rest = both.1 in
+    let g : after ≡ content ++ rest = both.1 in
     record {
       within = omega (arith, m, ap length g, length-append content rest);
       content_is = (λ i. take (m i) (g i)) ∙ take_all_of content rest;
@@ -224,7 +225,7 @@ skipped_in_front s b bytes content rest versions other sized h = (
 )
 
 object_in_front : (s : Segment) (k : Kind) (b : ℕ) (bytes content rest : List ℕ) (versions : List VersionData) → b ≡ type_byte k →
-    Sized bytes content rest → Behind k s content rest versions → PartsFile s (b ∷ bytes) versions
+    Sized bytes content rest → RestAfter k s content rest versions → PartsFile s (b ∷ bytes) versions
 object_in_front s k b bytes content rest versions is sized h =
     let parts = h.5.0 in
     let split : b ∷ bytes ≡ type_byte k ∷ (sized.size ++ content) ++ rest =
@@ -235,7 +236,8 @@ object_in_front s k b bytes content rest versions is sized h =
     )
 
 -- a reading as one property is a reading as an equivalent one
-pub through : (still : SourceRest Placed Verdict) (S T : List VersionData → Type 0) → ((versions : List VersionData) → T versions → S versions) →
+pub through : (still : SourceRest Placed Verdict) (S T : List VersionData → Type 0) →
+    ((versions : List VersionData) → T versions → S versions) →
     ((versions : List VersionData) → S versions → T versions) → ReadsAs still S → ReadsAs still T
 through still S T f g h = record { read = λ versions t. h.read versions (f versions t); back = λ none. g _ (h.back none) }
 
@@ -306,12 +308,12 @@ module _ (s : Segment) (b : ℕ) (bytes : List ℕ) (versions : List VersionData
   skipped_only (inr h) e = absurd (some_is_not_none h.0 (sym (type_at h.0 b h.1).3 ∙ e))
 
   object_only : (k : Kind) → SkippedFirst s b bytes versions ⊎ ObjectFirst s b bytes versions → kind_of_type b ≡ Some k →
-      (content rest : List ℕ) × Sized bytes content rest × Behind k s content rest versions
+      (content rest : List ℕ) × Sized bytes content rest × RestAfter k s content rest versions
   object_only k (inl h) e = absurd (some_is_not_none k (sym e ∙ h.0.3))
   object_only k (inr h) e =
       let both : Some h.0 ≡ Some k = sym (type_at h.0 b h.1).3 ∙ e in
       let same : h.0 ≡ k = cc in
-      (h.2.0, h.2.1, h.2.2, subst (λ (j : Kind). Behind j s h.2.0 h.2.1 versions) same h.2.3)
+      (h.2.0, h.2.1, h.2.2, subst (λ (j : Kind). RestAfter j s h.2.0 h.2.1 versions) same h.2.3)
 
 same_read : (v w : VersionData) (s t : Segment) → (let x : Result (VersionData × Segment) O5Reason = Ok (v, s) in x)
     ≡ (let y : Result (VersionData × Segment) O5Reason = Ok (w, t) in y) → (v ≡ w) × (s ≡ t)
@@ -348,30 +350,30 @@ last_in_segment : (s : Segment) → last_at (InSegment s) [] ≡ Err NoEnd
 unfolding last_at
 last_in_segment s = refl
 
-last_behind : (bytes : List ℕ) → last_at PastEnd bytes ≡ Ok (None, PastEnd)
+last_after : (bytes : List ℕ) → last_at PastEnd bytes ≡ Ok (None, PastEnd)
 unfolding last_at
-last_behind bytes = refl
+last_after bytes = refl
 
 unit_in_segment : (s : Segment) (bytes : List ℕ) → unit_at (InSegment s) bytes ≡ segment_unit s bytes
 unfolding unit_at
 unit_in_segment s bytes = refl
 
-unit_behind : (bytes : List ℕ) → unit_at PastEnd bytes ≡ unit_after_end bytes
+unit_after : (bytes : List ℕ) → unit_at PastEnd bytes ≡ unit_after_end bytes
 unfolding unit_at
-unit_behind bytes = refl
+unit_after bytes = refl
 
 -- nothing comes after the end byte
 abbrev Nothing : List ℕ → List VersionData → Type 0
 Nothing bytes versions = (bytes ≡ []) × ([] ≡ versions)
 
-none_behind : (n place : ℕ) → ReadsAs (units_within n None PastEnd place []) (Nothing [])
-none_behind zero place = rw (last_behind []) (record { read = λ versions h. (refl, h.1); back = λ none. (refl, refl) })
-none_behind (suc n) place = rw (unit_behind [], last_behind []) (record { read = λ versions h. (refl, h.1); back = λ none. (refl, refl) })
+none_after : (n place : ℕ) → ReadsAs (units_within n None PastEnd place []) (Nothing [])
+none_after zero place = rw (last_after []) (record { read = λ versions h. (refl, h.1); back = λ none. (refl, refl) })
+none_after (suc n) place = rw (unit_after [], last_after []) (record { read = λ versions h. (refl, h.1); back = λ none. (refl, refl) })
 
 end_reads : (n place : ℕ) (bytes : List ℕ) → length bytes ≤ n → ReadsAs (units_within n None PastEnd place bytes) (Nothing bytes)
-end_reads n place [] fits = none_behind n place
+end_reads n place [] fits = none_after n place
 end_reads zero place (b ∷ bytes) fits = absurd (omega (arith, fits))
-end_reads (suc n) place (b ∷ bytes) fits = rw (unit_behind (b ∷ bytes))
+end_reads (suc n) place (b ∷ bytes) fits = rw (unit_after (b ∷ bytes))
     (nothing_reads _ (Nothing (b ∷ bytes)) (λ versions h. let e : b ∷ bytes ≡ [] = h.0 in cc))
 
 no_parts : (s : Segment) (versions : List VersionData) → PartsFile s [] versions → ⊥
@@ -383,13 +385,13 @@ module _ (n : ℕ) (on : ReadsParts n) (s : Segment) (b : ℕ) (bytes : List ℕ
   abbrev T : List VersionData → Type 0
   T = PartsFile s (b ∷ bytes)
 
-  abbrev Step : Option FileUnit → Type 0
-  Step u = ReadsAs (unit_then None (InSegment s) place (b ∷ bytes) (units_within n None) u) T
+  abbrev UnitStep : Option FileUnit → Type 0
+  UnitStep u = ReadsAs (unit_then None (InSegment s) place (b ∷ bytes) (units_within n None) u) T
 
   first_of : (versions : List VersionData) → T versions → FirstPart s b bytes versions
   first_of versions h = first_part s b bytes h.0 versions h.1 h.2
 
-  end_step : (b == end_byte) ≡ true → Step (Some (unit 1 (no_version PastEnd)))
+  end_step : (b == end_byte) ≡ true → UnitStep (Some (unit 1 (no_version PastEnd)))
   end_step is =
       let same : b ≡ end_byte = eqb-true b end_byte is in
       through (units_within n None PastEnd (place + 1) bytes) (Nothing bytes) T
@@ -397,7 +399,7 @@ module _ (n : ℕ) (on : ReadsParts n) (s : Segment) (b : ℕ) (bytes : List ℕ
       (λ versions h. ([], (λ i. same i ∷ h.0 i), sym h.1))
       (end_reads n (place + 1) bytes fits)
 
-  reset_step : (b == end_byte) ≡ false → (b == reset_byte) ≡ true → Step (Some (unit 1 (no_version (InSegment new_segment))))
+  reset_step : (b == end_byte) ≡ false → (b == reset_byte) ≡ true → UnitStep (Some (unit 1 (no_version (InSegment new_segment))))
   reset_step not_end is =
       let same : b ≡ reset_byte = eqb-true b reset_byte is in
       through (units_within n None (InSegment new_segment) (place + 1) bytes) (PartsFile new_segment bytes) T
@@ -405,7 +407,7 @@ module _ (n : ℕ) (on : ReadsParts n) (s : Segment) (b : ℕ) (bytes : List ℕ
       (λ versions h. (Reset ∷ h.0, with_part s (b ∷ bytes) Reset bytes versions h.0 h.1 (ap (λ x. x ∷ bytes) same), h.2))
       (on new_segment bytes (place + 1) fits)
 
-  lone_step : (b == end_byte) ≡ false → (b == reset_byte) ≡ false → is_lone b ≡ true → Step (Some (unit 1 (no_version (InSegment s))))
+  lone_step : (b == end_byte) ≡ false → (b == reset_byte) ≡ false → is_lone b ≡ true → UnitStep (Some (unit 1 (no_version (InSegment s))))
   lone_step not_end not_reset is =
       through (units_within n None (InSegment s) (place + 1) bytes) (PartsFile s bytes) T
       (λ versions h. lone_only s b bytes versions (first_of versions h) not_end not_reset is)
@@ -418,27 +420,27 @@ module _ (n : ℕ) (on : ReadsParts n) (s : Segment) (b : ℕ) (bytes : List ℕ
 
   -- a size that can't be read yet, or at all
   no_size : (b == end_byte) ≡ false → (b == reset_byte) ≡ false → is_lone b ≡ false → (x : Length) → length_at bytes ≡ x →
-      ((n : ℕ) (behind : List ℕ) → x ≡ some_length n behind → ⊥) → (versions : List VersionData) → T versions → ⊥
+      ((n : ℕ) (after : List ℕ) → x ≡ some_length n after → ⊥) → (versions : List VersionData) → T versions → ⊥
   no_size not_end not_reset not_lone x e never versions h =
       let k = sized_by s b bytes versions (sized_of not_end not_reset not_lone versions h) in
       never (length k.0) (k.0 ++ k.1) (sym e ∙ length_read bytes k.0 k.1 k.2)
 
-  module _ (m : ℕ) (behind : List ℕ) (is_size : length_at bytes ≡ some_length m behind) (not_end : (b == end_byte) ≡ false)
+  module _ (m : ℕ) (after : List ℕ) (is_size : length_at bytes ≡ some_length m after) (not_end : (b == end_byte) ≡ false)
       (not_reset : (b == reset_byte) ≡ false) (not_lone : is_lone b ≡ false) where
     abbrev size : ℕ
-    size = 1 + (length bytes - length behind) + m
+    size = 1 + (length bytes - length after) + m
 
     abbrev content : List ℕ
-    content = take m behind
+    content = take m after
 
     abbrev rest : List ℕ
-    rest = drop m behind
+    rest = drop m after
 
-    found : LengthFound b bytes m behind
-    found = length_found b bytes m behind is_size
+    found : LengthFound b bytes m after
+    found = length_found b bytes m after is_size
 
     few : length rest ≤ n
-    few = omega (arith, fits, length-drop m behind, ap length found.split, length-append found.size behind)
+    few = omega (arith, fits, length-drop m after, ap length found.split, length-append found.size after)
 
     rest_reads : (next : Segment) → ReadsAs (units_within n None (InSegment next) (place + size) (drop size (b ∷ bytes)))
         (PartsFile next rest)
@@ -446,33 +448,33 @@ module _ (n : ℕ) (on : ReadsParts n) (s : Segment) (b : ℕ) (bytes : List ℕ
         let P : List ℕ → Type 0 = λ x. ReadsAs (units_within n None (InSegment next) (place + size) x) (PartsFile next rest) in
         subst P (sym found.rest) (on next rest (place + size) few)
 
-    too_short : (length behind < m) → (versions : List VersionData) → T versions → ⊥
+    too_short : (length after < m) → (versions : List VersionData) → T versions → ⊥
     too_short short versions h =
         let k = sized_by s b bytes versions (sized_of not_end not_reset not_lone versions h) in
-        let same = same_size bytes m behind k.0 k.1 is_size k.2 in
+        let same = same_size bytes m after k.0 k.1 is_size k.2 in
         omega (arith, short, same.within)
 
-    skipped_step : m ≤ length behind → kind_of_type b ≡ None → Step (Some (unit size (no_version (InSegment s))))
+    skipped_step : m ≤ length after → kind_of_type b ≡ None → UnitStep (Some (unit size (no_version (InSegment s))))
     skipped_step within is =
         let other : IsOtherType b = (not_end, not_reset, not_lone, is) in
         through (units_within n None (InSegment s) (place + size) (drop size (b ∷ bytes))) (PartsFile s rest) T
         (λ versions h. (
         let k = skipped_only s b bytes versions (sized_of not_end not_reset not_lone versions h) is in
-        let same = same_size bytes m behind k.1.0 k.1.1 is_size k.1.2 in
+        let same = same_size bytes m after k.1.0 k.1.1 is_size k.1.2 in
         subst (λ (x : List ℕ). PartsFile s x versions) (sym same.rest_is) k.1.3))
-        (λ versions h. skipped_in_front s b bytes content rest versions other (content_sized bytes m behind b within found) h)
+        (λ versions h. skipped_in_front s b bytes content rest versions other (content_sized bytes m after b within found) h)
         (rest_reads s)
 
-    object_of : (k : Kind) → kind_of_type b ≡ Some k → (versions : List VersionData) → T versions → Behind k s content rest versions
+    object_of : (k : Kind) → kind_of_type b ≡ Some k → (versions : List VersionData) → T versions → RestAfter k s content rest versions
     object_of k is versions h =
         let o = object_only s b bytes versions k (sized_of not_end not_reset not_lone versions h) is in
-        let same = same_size bytes m behind o.0 o.1 is_size o.2 in
-        let P : List ℕ → Type 0 = λ x. Behind k s x rest versions in
-        let Q : List ℕ → Type 0 = λ x. Behind k s o.0 x versions in
+        let same = same_size bytes m after o.0 o.1 is_size o.2 in
+        let P : List ℕ → Type 0 = λ x. RestAfter k s x rest versions in
+        let Q : List ℕ → Type 0 = λ x. RestAfter k s o.0 x versions in
         subst P (sym same.content_is) (subst Q (sym same.rest_is) o.3)
 
-    object_step : m ≤ length behind → (k : Kind) → kind_of_type b ≡ Some k → b ≡ type_byte k →
-        (answer : Result (VersionData × Segment) O5Reason) → set_at k s content ≡ answer → Step (Some (unit size (found_of answer)))
+    object_step : m ≤ length after → (k : Kind) → kind_of_type b ≡ Some k → b ≡ type_byte k →
+        (result : Result (VersionData × Segment) O5Reason) → set_at k s content ≡ result → UnitStep (Some (unit size (found_of result)))
     object_step within k is is_byte (Err reason) e =
         nothing_reads _ T (λ versions h. (
         let o = object_of k is versions h in
@@ -487,43 +489,43 @@ module _ (n : ℕ) (on : ReadsParts n) (s : Segment) (b : ℕ) (bytes : List ℕ
         let f : here ≡ there = sym (set_only k s content (o.0, o.1) o.4) ∙ e in
         let g = same_read o.0 v o.1 next f in
         (o.2, o.3 ∙ ap (λ x. x ∷ o.2) g.0, subst (λ (t : Segment). PartsFile t rest o.2) g.1 o.5)))
-        (λ versions h. object_in_front s k b bytes content rest versions is_byte (content_sized bytes m behind b within found)
+        (λ versions h. object_in_front s k b bytes content rest versions is_byte (content_sized bytes m after b within found)
         (v, next, h.0, h.1, set_found k s content (v, next) e, h.2))
         (version_reads place v _ (PartsFile next rest) (rest_reads next))
 
-    content_step : m ≤ length behind → (x : Option Kind) → kind_of_type b ≡ x → Step (Some (unit size (content_found s x content)))
+    content_step : m ≤ length after → (x : Option Kind) → kind_of_type b ≡ x → UnitStep (Some (unit size (content_found s x content)))
     content_step within None is = skipped_step within is
     content_step within (Some k) is = object_step within k is (byte_of k b is) (set_at k s content) refl
 
-    fitting_step : Step (cond (nat_le m (length behind)) (Some (unit size (content_found s (kind_of_type b) content))) None)
+    fitting_step : UnitStep (cond (nat_le m (length after)) (Some (unit size (content_found s (kind_of_type b) content))) None)
     fitting_step =
-        elim (nat_le m (length behind)) as (λ t. nat_le m (length behind) ≡ t →
-        Step (cond t (Some (unit size (content_found s (kind_of_type b) content))) None)) [
-          | true ↦ λ is. content_step (leb-true m (length behind) is) (kind_of_type b) refl
-          | false ↦ λ is. rw (last_in_set s b bytes) (nothing_reads _ T (too_short (leb-false m (length behind) is)))
+        elim (nat_le m (length after)) as (λ t. nat_le m (length after) ≡ t →
+        UnitStep (cond t (Some (unit size (content_found s (kind_of_type b) content))) None)) [
+          | true ↦ λ is. content_step (leb-true m (length after) is) (kind_of_type b) refl
+          | false ↦ λ is. rw (last_in_set s b bytes) (nothing_reads _ T (too_short (leb-false m (length after) is)))
         ] refl
 
   length_step : (b == end_byte) ≡ false → (b == reset_byte) ≡ false → is_lone b ≡ false → (x : Length) → length_at bytes ≡ x →
-      Step (sized_unit s b bytes x)
+      UnitStep (sized_unit s b bytes x)
   length_step not_end not_reset not_lone None e =
-      rw (last_in_set s b bytes) (nothing_reads _ T (no_size not_end not_reset not_lone None e (λ m behind f. cc)))
+      rw (last_in_set s b bytes) (nothing_reads _ T (no_size not_end not_reset not_lone None e (λ m after f. cc)))
   length_step not_end not_reset not_lone (Some (Err reason)) e =
-      nothing_reads _ T (no_size not_end not_reset not_lone (Some (Err reason)) e (λ m behind f. cc))
-  length_step not_end not_reset not_lone (Some (Ok (m, behind))) e = fitting_step m behind e not_end not_reset not_lone
+      nothing_reads _ T (no_size not_end not_reset not_lone (Some (Err reason)) e (λ m after f. cc))
+  length_step not_end not_reset not_lone (Some (Ok (m, after))) e = fitting_step m after e not_end not_reset not_lone
 
-  pub first_step : Step (segment_unit s (b ∷ bytes))
+  pub first_step : UnitStep (segment_unit s (b ∷ bytes))
   first_step =
       elim (b == end_byte) as (λ t. (b == end_byte) ≡ t →
-      Step (cond t (Some (unit 1 (no_version PastEnd)))
+      UnitStep (cond t (Some (unit 1 (no_version PastEnd)))
       (cond (b == reset_byte) (Some (unit 1 (no_version (InSegment new_segment))))
       (cond (is_lone b) (Some (unit 1 (no_version (InSegment s)))) (sized_unit s b bytes (length_at bytes)))))) [
         | true ↦ λ is. end_step is
         | false ↦ λ not_end. elim (b == reset_byte) as (λ t. (b == reset_byte) ≡ t →
-            Step (cond t (Some (unit 1 (no_version (InSegment new_segment))))
+            UnitStep (cond t (Some (unit 1 (no_version (InSegment new_segment))))
             (cond (is_lone b) (Some (unit 1 (no_version (InSegment s)))) (sized_unit s b bytes (length_at bytes))))) [
               | true ↦ λ is. reset_step not_end is
               | false ↦ λ not_reset. elim (is_lone b) as (λ t. is_lone b ≡ t →
-                  Step (cond t (Some (unit 1 (no_version (InSegment s)))) (sized_unit s b bytes (length_at bytes)))) [
+                  UnitStep (cond t (Some (unit 1 (no_version (InSegment s)))) (sized_unit s b bytes (length_at bytes)))) [
                     | true ↦ λ is. lone_step not_end not_reset is
                     | false ↦ λ not_lone. length_step not_end not_reset not_lone (length_at bytes) refl
                   ] refl

@@ -5,7 +5,8 @@ use Rattle.osm_files.specs.declared.reason.Reason.TheVariants.{ReadFault}
 use Rattle.osm_files.specs.Input.{InputRest}
 use Rattle.osm_files.specs.Position.{closing_verdict, state_or_start, units_from, window}
 use Rattle.osm_files.specs.Stream.{Placed, SourceRest, Verdict, verdict_at}
-use Rattle.osm_files.specs.Units.{FileUnit, UnitResult, FileStateData, final_units, found_then, last_at, unit_at, unit_then, units, units_within}
+use Rattle.osm_files.specs.Units.{FileUnit, UnitResult, FileStateData, final_units, found_then, last_at, unit_at, unit_then, units}
+use Rattle.osm_files.specs.Units.{units_within}
 use Rattle.osm_files.specs.Verdict.{length_limit, too_long_verdict}
 use Rattle.osm_files.proofs.FillLaws.{weaker}
 use Rattle.osm_files.proofs.PositionLaws.{from_is}
@@ -32,7 +33,8 @@ ClosesFrom from close = IfSome close (λ v. from ≤ v.place)
 closes_earlier : (from to : ℕ) (close : Option Verdict) → from ≤ to → ClosesFrom to close → ClosesFrom from close
 closes_earlier from to close le h = weaker close _ _ (λ v k. omega (arith, le, k)) h
 
-closed_follows : (close : Option Verdict) (place : ℕ) (last : UnitResult) → ClosesFrom place close → Follows place (final_units close place last)
+closed_follows : (close : Option Verdict) (place : ℕ) (last : UnitResult) → ClosesFrom place close →
+    Follows place (final_units close place last)
 closed_follows None place (Err reason) h = omega arith
 closed_follows None place (Ok (None, next)) h = tt
 closed_follows None place (Ok (Some v, next)) h = (omega arith, tt)

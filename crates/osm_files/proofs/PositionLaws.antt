@@ -15,7 +15,8 @@ use Rattle.osm_files.specs.Input.{InputRest, whole_input as all_of, with_front}
 use Rattle.osm_files.specs.Stream.{verdict_at, Placed, new_placed, SourceRest, end_whole, end_refused, front}
 use Rattle.osm_files.specs.Units.{FileStateData, FileUnit, unit_at, last_at, found_then, units}
 use Rattle.osm_files.specs.Verdict.{length_limit, too_long_verdict}
-use Rattle.osm_files.specs.Position.{KnownPosition, rest_of_bytes, state_or_start, closing_verdict, window, units_from, fault_of, with_input, rest_of_units, Keeps, ReadsOn, KeepsRest}
+use Rattle.osm_files.specs.Position.{KnownPosition, rest_of_bytes, state_or_start, closing_verdict, window, units_from, fault_of}
+use Rattle.osm_files.specs.Position.{with_input, rest_of_units, Keeps, ReadsOn, KeepsRest}
 use Rattle.osm_files.specs.Position.{state_at, Halts, StopsFilling}
 use Rattle.osm_files.proofs.FillLaws.{weaker, mapped, kept, keeps_on}
 use Rattle.osm_files.proofs.StepLaws.{IsSized, unit_sized, found_same, units_step, units_stop}
@@ -60,15 +61,16 @@ reads_go_on p q on = record {
 }
 
 -- the bytes after those held
-pub record Behind (p : KnownPosition) (c : InputRest) : Type 0 where
+pub record RestAfter (p : KnownPosition) (c : InputRest) : Type 0 where
   pub more : List ℕ
   pub broken : Bool
   pub here : c ≡ record { bytes = p.held ++ more; broken = broken }
   pub there : (h : List ℕ) → rest_of_bytes (record p { held = h }) ≡ Some (record { bytes = h ++ more; broken = broken })
 
-behind_by : (p : KnownPosition) (ended : Bool) (coming : Option InputRest) (c : InputRest) → p.ended ≡ ended → p.coming ≡ coming → rest_of_bytes p ≡ Some c →
-    Behind p c
-behind_by p true coming c e f at =
+rest_by : (p : KnownPosition) (ended : Bool) (coming : Option InputRest) (c : InputRest) → p.ended ≡ ended → p.coming ≡ coming →
+    rest_of_bytes p ≡ Some c →
+    RestAfter p c
+rest_by p true coming c e f at =
     let ends : (h : List ℕ) → rest_of_bytes (record p { held = h }) ≡ Some (all_of h) =
     λ h. ap (λ b. cond b (Some (all_of h)) (option_map (with_front h) p.coming)) e in
     let same : c ≡ all_of p.held = (let g : Some c ≡ Some (all_of p.held) = sym at ∙ ends p.held in cc) in
@@ -78,10 +80,10 @@ behind_by p true coming c e f at =
       here = same ∙ ap (λ (x : List ℕ). all_of x) (sym (append-nil p.held));
       there = λ h. ends h ∙ ap (λ (x : List ℕ). Some (all_of x)) (sym (append-nil h));
     }
-behind_by p false None c e f at =
+rest_by p false None c e f at =
     absurd (let g : None ≡ Some c = sym (ap (λ b. cond b (Some (all_of p.held)) (option_map (with_front p.held) p.coming)) e
     ∙ ap (option_map (with_front p.held)) f) ∙ at in cc)
-behind_by p false (Some d) c e f at =
+rest_by p false (Some d) c e f at =
     let goes : (h : List ℕ) → rest_of_bytes (record p { held = h }) ≡ Some (with_front h d) =
     λ h. ap (λ b. cond b (Some (all_of h)) (option_map (with_front h) p.coming)) e ∙ ap (option_map (with_front h)) f in
     record {
@@ -92,14 +94,15 @@ behind_by p false (Some d) c e f at =
     }
 
 -- The bytes ahead begin with the bytes held.
-pub behind : (p : KnownPosition) (c : InputRest) → rest_of_bytes p ≡ Some c → Behind p c
-behind p c = behind_by p p.ended p.coming c refl refl
+pub rest_after : (p : KnownPosition) (c : InputRest) → rest_of_bytes p ≡ Some c → RestAfter p c
+rest_after p c = rest_by p p.ended p.coming c refl refl
 
 -- the first byte determines the stage, whatever follows
-pub same_stand : (stage : Option FileStateData) (held more : List ℕ) → 0 < length held → state_or_start stage (held ++ more) ≡ state_or_start stage held
-same_stand (Some s) held more some = refl
-same_stand None [] more some = absurd (omega (arith, some))
-same_stand None (b ∷ held) more some = refl
+pub same_state : (stage : Option FileStateData) (held more : List ℕ) → 0 < length held →
+    state_or_start stage (held ++ more) ≡ state_or_start stage held
+same_state (Some s) held more some = refl
+same_state None [] more some = absurd (omega (arith, some))
+same_state None (b ∷ held) more some = refl
 
 -- the bytes held count, and so do those after them that are below the limit
 abbrev pub Counts : ℕ → List ℕ → InputRest → Type 0
@@ -141,7 +144,8 @@ module _ (place n : ℕ) (held rest : List ℕ) (broken : Bool) (fits : n ≤ le
   same_length = omega (arith, length-append held rest, length-append (drop n held) rest, length-drop n held, fits)
 
   same_closing : closing_verdict (place + n) there ≡ closing_verdict place here
-  same_closing = ap (λ m. cond (nat_lt m length_limit) (cond broken (Some (verdict_at m ReadFault)) None) (Some too_long_verdict)) same_length
+  same_closing = ap (λ m. cond (nat_lt m length_limit) (cond broken (Some (verdict_at m ReadFault)) None) (Some too_long_verdict))
+      same_length
 
   drop_in : drop n (held ++ rest) ≡ drop n held ++ rest
   drop_in = drop-append-le n held rest fits
@@ -170,36 +174,37 @@ with_each (Some x) P f = f x refl
 abbrev pub gone_over : KnownPosition → ℕ → FileStateData → KnownPosition
 gone_over m size next = record m { stage = Some next; place = m.place + size; held = drop size m.held }
 
-module _ (m : KnownPosition) (u : FileUnit) (is_found : unit_at (state_at m) m.held ≡ Some u) (bound : m.place + length m.held < 2 ^ 62) where
+module _ (m : KnownPosition) (u : FileUnit) (is_found : unit_at (state_at m) m.held ≡ Some u)
+    (bound : m.place + length m.held < 2 ^ 62) where
   sized : IsSized u m.held
   sized = unit_sized (state_at m) m.held u is_found
 
-  abbrev behind_it : List ℕ → Bool → InputRest
-  behind_it rest broken = record { bytes = drop u.size m.held ++ rest; broken = broken }
+  abbrev after_it : List ℕ → Bool → InputRest
+  after_it rest broken = record { bytes = drop u.size m.held ++ rest; broken = broken }
 
   -- the unit, and those after it
   unit_first : (rest : List ℕ) (broken : Bool) → units_from m.stage m.place (record { bytes = m.held ++ rest; broken = broken })
-      ≡ found_then m.place u.found (λ next. units_from (Some next) (m.place + u.size) (behind_it rest broken))
+      ≡ found_then m.place u.found (λ next. units_from (Some next) (m.place + u.size) (after_it rest broken))
   unit_first rest broken =
       let c : InputRest = record { bytes = m.held ++ rest; broken = broken } in
       let counts = counted m.place m.held rest broken bound in
-      let stands : unit_at (state_at m) (window m.place c) ≡ Some u = ap (unit_at (state_at m)) counts.1
+      let spelled : unit_at (state_at m) (window m.place c) ≡ Some u = ap (unit_at (state_at m)) counts.1
       ∙ unit_stays (state_at m) m.held counts.0 u is_found in
       from_is m.stage m.place c
       ∙ ap (λ s. units (closing_verdict m.place c) s m.place (window m.place c))
-      (same_stand m.stage m.held rest (omega (arith, sized.some, sized.within)))
-      ∙ units_step (closing_verdict m.place c) (state_at m) m.place (window m.place c) u stands
+      (same_state m.stage m.held rest (omega (arith, sized.some, sized.within)))
+      ∙ units_step (closing_verdict m.place c) (state_at m) m.place (window m.place c) u spelled
       ∙ found_same m.place u.found _ _ (λ next. (λ i.
       units (sym (same_closing m.place u.size m.held rest broken sized.within bound) i) next (m.place + u.size)
       (same_window m.place u.size m.held rest broken sized.within bound i))
-      ∙ sym (from_is (Some next) (m.place + u.size) (behind_it rest broken)))
+      ∙ sym (from_is (Some next) (m.place + u.size) (after_it rest broken)))
 
   unit_known : (c : InputRest) → rest_of_bytes m ≡ Some c → (d : InputRest)
       × (units_from m.stage m.place c ≡ found_then m.place u.found (λ next. units_from (Some next) (m.place + u.size) d))
       × ((next : FileStateData) → rest_of_bytes (gone_over m u.size next) ≡ Some d)
   unit_known c e =
-      let b = behind m c e in
-      (behind_it b.more b.broken, ap (units_from m.stage m.place) b.here ∙ unit_first b.more b.broken, λ next. b.there (drop u.size m.held))
+      let b = rest_after m c e in
+      (after_it b.more b.broken, ap (units_from m.stage m.place) b.here ∙ unit_first b.more b.broken, λ next. b.there (drop u.size m.held))
 
   -- A unit without a version leaves the units ahead as they are.
   pub gone_passed : (next : FileStateData) → u.found ≡ Ok (None, next) → Keeps (rest_of_units m) (rest_of_units (gone_over m u.size next))
@@ -213,7 +218,8 @@ module _ (m : KnownPosition) (u : FileUnit) (is_found : unit_at (state_at m) m.h
 
   -- A unit with a version is the first of the units ahead.
   pub gone_gave : (v : VersionData) (next : FileStateData) → u.found ≡ Ok (Some v, next) →
-      IfSome (rest_of_units m) (λ s. (t : SourceRest Placed Fault) × (s ≡ front (new_placed m.place v) t) × (rest_of_units (gone_over m u.size next) ≡ Some t))
+      IfSome (rest_of_units m) (λ s. (t : SourceRest Placed Fault) × (s ≡ front (new_placed m.place v) t) ×
+      (rest_of_units (gone_over m u.size next) ≡ Some t))
   gone_gave v next is =
       mapped (rest_of_bytes m) _ _ (with_each (rest_of_bytes m) _ (λ c e. (
       let k = unit_known c e in
@@ -249,11 +255,12 @@ pub ended_ahead : (m : KnownPosition) → m.ended ≡ true → rest_of_bytes m �
 ended_ahead m ended = ap (λ b. cond b (Some (all_of m.held)) (option_map (with_front m.held) m.coming)) ended
 
 -- a stage that more bytes than those held determine
-nothing_by : (stage : Option FileStateData) (held bytes : List ℕ) (b : ℕ) (more : List ℕ) → unit_at (state_or_start stage held) held ≡ None →
+nothing_by : (stage : Option FileStateData) (held bytes : List ℕ) (b : ℕ) (more : List ℕ) →
+    unit_at (state_or_start stage held) held ≡ None →
     bytes ≡ held ++ b ∷ more → unit_at (state_or_start stage bytes) held ≡ None
 nothing_by stage [] bytes b more none e = none_in_nothing (state_or_start stage bytes)
 nothing_by stage (a ∷ held) bytes b more none e = ap (λ x. unit_at (state_or_start stage x) (a ∷ held)) e
-    ∙ ap (λ s. unit_at s (a ∷ held)) (same_stand stage (a ∷ held) (b ∷ more) (omega arith)) ∙ none
+    ∙ ap (λ s. unit_at s (a ∷ held)) (same_state stage (a ∷ held) (b ∷ more) (omega arith)) ∙ none
 
 -- if no unit is whole in the bytes held, and no more can be read
 module _ (m : KnownPosition) (nothing : unit_at (state_at m) m.held ≡ None) (bound : m.place + length m.held < 2 ^ 62) where
@@ -281,20 +288,25 @@ module _ (m : KnownPosition) (nothing : unit_at (state_at m) m.held ≡ None) (b
       ∙ ap (λ t. units (cond t (cond c.broken (Some (verdict_at (m.place + length c.bytes) ReadFault)) None) (Some too_long_verdict))
       (state_or_start m.stage c.bytes) m.place (cond t c.bytes (take (length_limit - 1 - m.place) c.bytes))) above
       ∙ ap (units (Some too_long_verdict) (state_or_start m.stage c.bytes) m.place) front
-      ∙ units_stop (Some too_long_verdict) (state_or_start m.stage c.bytes) m.place m.held (nothing_by m.stage m.held c.bytes b more nothing h.1.2) in
+      ∙ units_stop (Some too_long_verdict) (state_or_start m.stage c.bytes) m.place m.held
+      (nothing_by m.stage m.held c.bytes b more nothing h.1.2) in
       ap (with_input m.input) same ∙ ap end_refused (sym h.2)
 
   -- Where no more bytes can be read, the units ahead are refused, or memory ran out.
   pub stopped : (fault : Fault) → StopsFilling m fault → (fault ≡ memory_fault) ⊎ IfSome (rest_of_units m) (λ s. s ≡ end_refused fault)
   stopped fault (inl h) = inl h
-  stopped fault (inr h) = inr (mapped (rest_of_bytes m) _ (λ s. s ≡ end_refused fault) (weaker (rest_of_bytes m) _ _ (λ c k. halted c fault k) h))
+  stopped fault (inr h) = inr (mapped (rest_of_bytes m) _ (λ s. s ≡ end_refused fault)
+      (weaker (rest_of_bytes m) _ _ (λ c k. halted c fault k) h))
 
   -- at the end of the input
-  pub at_the_end : m.ended ≡ true → rest_of_units m ≡ Some (with_input m.input (found_then m.place (last_at (state_at m) m.held) (λ next. end_whole)))
+  pub at_the_end : m.ended ≡ true → rest_of_units m ≡ Some
+      (with_input m.input (found_then m.place (last_at (state_at m) m.held) (λ next. end_whole)))
   at_the_end ended =
       let below : nat_lt (m.place + length m.held) length_limit ≡ true = lt-ltb _ _ (rw limit_is bound) in
       let same : units_from m.stage m.place (all_of m.held) ≡ found_then m.place (last_at (state_at m) m.held) (λ next. end_whole) =
       from_is m.stage m.place (all_of m.held)
-      ∙ ap (λ t. units (cond t None (Some too_long_verdict)) (state_at m) m.place (cond t m.held (take (length_limit - 1 - m.place) m.held))) below
+      ∙ ap (λ t. units (cond t None (Some too_long_verdict)) (state_at m) m.place
+      (cond t m.held (take (length_limit - 1 - m.place) m.held))) below
       ∙ units_stop None (state_at m) m.place m.held nothing in
-      ap (option_map (λ c. with_input m.input (units_from m.stage m.place c))) (ended_ahead m ended) ∙ ap (λ s. Some (with_input m.input s)) same
+      ap (option_map (λ c. with_input m.input (units_from m.stage m.place c))) (ended_ahead m ended)
+      ∙ ap (λ s. Some (with_input m.input s)) same

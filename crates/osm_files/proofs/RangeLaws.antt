@@ -64,7 +64,8 @@ part_fits k field (part.Longitude x) s = optional_fits s.content x s.spelled
 part_fits k field (part.Latitude y) s = optional_fits s.content y s.spelled
 part_fits k field _ s = tt
 
-parts_fit : (k : Kind) (fields : List (List ℕ)) (parts : List LinePart) → Pairwise (SpellsPart k) fields parts → AllByRecursion PartFits parts
+parts_fit : (k : Kind) (fields : List (List ℕ)) (parts : List LinePart) → Pairwise (SpellsPart k) fields parts →
+    AllByRecursion PartFits parts
 parts_fit k [] [] s = tt
 parts_fit k [] (p ∷ parts) s = absurd s
 parts_fit k (field ∷ fields) [] s = tt
@@ -124,7 +125,8 @@ made_is_version id meta b v (Some f) some fits e = cc
 pub line_is_version : (line : List ℕ) (v : VersionData) → Spells line v → IsVersion v
 line_is_version line v s =
     let meta : Meta = meta_of (fold with_part no_fields s.parts) in
-    let fit : AreFit s.parts = said_fits [] s.parts (tt, tt) (parts_fit s.kind (filter is_full s.line_parts.others) s.parts s.line_parts.spelled) in
+    let fit : AreFit s.parts = said_fits [] s.parts (tt, tt)
+    (parts_fit s.kind (filter is_full s.line_parts.others) s.parts s.line_parts.spelled) in
     let body : Body = s.version.body in
     made_is_version s.id meta body v (first_fault s.id meta body) refl (body_fits s.kind s.parts body fit s.version.has_body) s.version.made
 
@@ -148,7 +150,8 @@ parts_are_versions (Object k size content ∷ parts) s versions sound (spelled, 
     (All-cons IsVersion v others one.0 (parts_are_versions parts next others one.1 more))
 
 -- ---- files
-file_of_versions : (stage : FileStateData) (bytes : List ℕ) (versions : List VersionData) → IsFileOf stage bytes versions → All IsVersion versions
+file_of_versions : (stage : FileStateData) (bytes : List ℕ) (versions : List VersionData) → IsFileOf stage bytes versions →
+    All IsVersion versions
 file_of_versions InOpl bytes versions h = lines_are_versions _ versions h
 file_of_versions BeforeHeader bytes versions h = parts_are_versions h.parts new_segment versions refl h.spelled
 file_of_versions (InSegment s) bytes versions h = absurd h

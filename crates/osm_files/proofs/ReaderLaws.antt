@@ -12,7 +12,8 @@ use Rattle.osm_files.specs.Stream.{Placed, new_placed, end_refused}
 use Rattle.osm_files.specs.Units.{unit_at}
 use Rattle.osm_files.specs.declared.unit.ReadUnit.{ReadUnit}
 use Rattle.osm_files.specs.Source.{SourceStep, StepsOn}
-use Rattle.osm_files.specs.Position.{Position, KnownPosition, with_coming, Between, rest_of_bytes, rest_of_units, units_or_failed, units_left, KeepsRest, ReadsOn, HasRead}
+use Rattle.osm_files.specs.Position.{Position, KnownPosition, with_coming, Between, rest_of_bytes, rest_of_units, units_or_failed}
+use Rattle.osm_files.specs.Position.{units_left, KeepsRest, ReadsOn, HasRead}
 use Rattle.osm_files.specs.Position.{Halts, StopsAt, state_at, FindsUnit}
 use Rattle.osm_files.specs.Load.{determines_format}
 use Rattle.osm_files.proofs.FillLaws.{ahead_open, fill_full, kept, keeps_on}
@@ -47,7 +48,8 @@ reads_further p m q a b = record {
 
 module _ {R : Type 0} (can : R → InputRest → Type 0) where
   -- ---- steps in sequence
-  pub then_on : (p m q : Position R) (P Q S : KnownPosition → KnownPosition → Type 0) → ((a b c : KnownPosition) → P a b → Q b c → S a c) → Between can p m P
+  pub then_on : (p m q : Position R) (P Q S : KnownPosition → KnownPosition → Type 0) → ((a b c : KnownPosition) → P a b → Q b c → S a c) →
+      Between can p m P
       → Between can m q Q → Between can p q S
   then_on p m q P Q S law first second later g =
       let y = second later g in
@@ -55,19 +57,27 @@ module _ {R : Type 0} (can : R → InputRest → Type 0) where
       (x.0, x.1, law (with_coming p x.0) (with_coming m y.0) (with_coming q later) x.2 y.2)
 
   -- a consequence of a step for both of its ends
-  pub weaker_step : (p q : Position R) (P Q : KnownPosition → KnownPosition → Type 0) → ((a b : KnownPosition) → P a b → Q a b) → Between can p q P → Between can p q Q
+  pub weaker_step : (p q : Position R) (P Q : KnownPosition → KnownPosition → Type 0) → ((a b : KnownPosition) → P a b → Q a b) →
+      Between can p q P → Between can p q Q
   weaker_step p q P Q law step later g =
       let x = step later g in
       (x.0, x.1, law (with_coming p x.0) (with_coming q later) x.2)
 
   -- nothing was read
-  pub unread : (p q : Position R) (P : KnownPosition → KnownPosition → Type 0) → q.coming ≡ p.coming → ((c : InputRest) → P (with_coming p c) (with_coming q c))
+  pub unread : (p q : Position R) (P : KnownPosition → KnownPosition → Type 0) → q.coming ≡ p.coming →
+      ((c : InputRest) → P (with_coming p c) (with_coming q c))
       → Between can p q P
   unread p q P same steps later g = (later, subst (λ r. can r later) same g, steps later)
 
   -- A position without a change has gone over units.
   pub has_gone : (p : Position R) → HasPassed can p p
-  has_gone p = record { input = refl; place = omega arith; failed = refl; goes = unread p p KeepsRest refl (λ c. goes_on (with_coming p c)) }
+  has_gone p = record {
+    input = refl;
+    place = omega arith;
+    failed = refl;
+    goes =
+        unread p p KeepsRest refl (λ c. goes_on (with_coming p c));
+  }
 
   -- nothing was read since
   pub gone_then : (p m q : Position R) (P : KnownPosition → KnownPosition → Type 0) → HasPassed can p m → q.coming ≡ m.coming
@@ -95,7 +105,8 @@ module _ {R : Type 0} (can : R → InputRest → Type 0) where
     input = input ∙ on.input;
     place = omega (arith, on.place, read.place);
     failed = read.failed ∙ on.failed;
-    goes = then_on p m q KeepsRest ReadsOn KeepsRest (λ a b c goes reads. goes_further a b c goes (reads_go_on b c reads)) on.goes read.reads;
+    goes = then_on p m q KeepsRest ReadsOn KeepsRest (λ a b c goes reads. goes_further a b c goes (reads_go_on b c reads)) on.goes
+        read.reads;
   }
 
   -- ---- reading more bytes
@@ -119,7 +130,8 @@ module _ {R : Type 0} (can : R → InputRest → Type 0) where
             failed = failed;
             ahead =
                 subst (λ (o : Option InputRest). IfSome o (λ x. rest_of_bytes (with_coming q later) ≡ Some x))
-                (sym (ahead_open (with_coming p (whole_input [])) unended)) (ended_ahead (with_coming q later) ended ∙ ap (λ xs. Some (whole_input xs)) same);
+                (sym (ahead_open (with_coming p (whole_input [])) unended))
+                (ended_ahead (with_coming q later) ended ∙ ap (λ xs. Some (whole_input xs)) same);
           },
         );
       }
@@ -160,11 +172,16 @@ module _ {R : Type 0} (can : R → InputRest → Type 0) where
 
   -- ---- the format
   -- no more can be read
-  pub format_stops : (p m q : Position R) → HasRead can p m → p.place ≡ 0 → p.stage ≡ None → p.failed ≡ false → determines_format m.held ≡ false
+  pub format_stops : (p m q : Position R) → HasRead can p m → p.place ≡ 0 → p.stage ≡ None → p.failed ≡ false →
+      determines_format m.held ≡ false
       → (fault : Fault) → StopsAt can m fault → q.failed ≡ true → StepsOn can p (Err fault) q
   format_stops p m q on first unseen fine shown fault stops failed later g =
-      let x = on.reads stops.0 stops.1 in
-      (x.0, x.1, format_refused (with_coming p x.0) (with_coming m stops.0) (with_coming q later) x.2 first unseen fine shown fault stops.2 failed)
+      let x = on.reads stops.0 stops.1 in (
+        x.0,
+        x.1,
+        format_refused (with_coming p x.0) (with_coming m stops.0) (with_coming q later) x.2 first unseen fine shown fault stops.2
+            failed,
+      )
 
   -- ---- the next version
   -- the effect of a step after steps that gave nothing
@@ -221,7 +238,8 @@ module _ {R : Type 0} (can : R → InputRest → Type 0) where
           | false ↦ omega (arith, size.0, place, held, within, bound)
         ])
 
-    over : (c : InputRest) (given : Option Placed) → given ≡ option_map (new_placed q.place) u.version → GoesOver (with_coming m c) given (with_coming r c)
+    over : (c : InputRest) (given : Option Placed) → given ≡ option_map (new_placed q.place) u.version →
+        GoesOver (with_coming m c) given (with_coming r c)
     over c given is =
         held_goes_over (with_coming m c) (with_coming q c) (with_coming r c) u given bound (telling_found m q (Ok (Some u)) c found) is
         (ap (λ v. with_coming v c) gone)

@@ -16,14 +16,16 @@ use Rattle.osm_files.specs.Input.{InputRest}
 use Rattle.osm_files.specs.Stream.{verdict_at, Placed, new_placed, SourceRest, end_whole, end_refused, front}
 use Rattle.osm_files.specs.Source.{SourceStep}
 use Rattle.opl_line.specs.Delimiter.{is_line_end, split_first}
-use Rattle.osm_files.specs.Units.{FileStateData, InOpl, BeforeHeader, InSegment, PastEnd, UnitResult, unit, unit_at, line_unit, last_at, found_then}
+use Rattle.osm_files.specs.Units.{FileStateData, InOpl, BeforeHeader, InSegment, PastEnd, UnitResult, unit, unit_at, line_unit, last_at}
+use Rattle.osm_files.specs.Units.{found_then}
 use Rattle.osm_files.specs.Units.{units}
 use Rattle.osm_files.specs.Reading.{Finds, FindsLast, state_data_of, version_of_unit}
-use Rattle.osm_files.specs.Position.{Position, KnownPosition, with_coming, rest_of_bytes, state_or_start, closing_verdict, window, units_from, fault_of, with_input, rest_of_units}
+use Rattle.osm_files.specs.Position.{Position, KnownPosition, with_coming, rest_of_bytes, state_or_start, closing_verdict, window}
+use Rattle.osm_files.specs.Position.{units_from, fault_of, with_input, rest_of_units}
 use Rattle.osm_files.specs.Position.{units_or_failed, Keeps, KeepsRest, state_at, with_state, FindsUnit}
 use Rattle.osm_files.proofs.FillLaws.{weaker, mapped}
 use Rattle.osm_files.proofs.StepLaws.{unit_sized}
-use Rattle.osm_files.proofs.PositionLaws.{from_is, behind, same_stand, with_each, gone_over, gone_passed, gone_gave, gone_refused}
+use Rattle.osm_files.proofs.PositionLaws.{from_is, rest_after, same_state, with_each, gone_over, gone_passed, gone_gave, gone_refused}
 use Rattle.osm_files.proofs.PositionLaws.{none_in_nothing, at_the_end, goes_on}
 
 -- the fault of a reason at an offset
@@ -60,32 +62,33 @@ some_held (b ∷ held) e = omega arith
 pub seen_held : {C : Type 0} (p : Position C) → (with_state p).held ≡ p.held
 seen_held p = seen_by p (λ q. q.held ≡ p.held) (λ e. refl) (λ e. refl)
 
-stand_is : (stage : Option FileStateData) (held : List ℕ) (s : FileStateData) → stage ≡ Some s → state_or_start stage held ≡ s
-stand_is None held s e = absurd (let f : None ≡ Some s = e in cc)
-stand_is (Some t) held s e = cc
+state_is : (stage : Option FileStateData) (held : List ℕ) (s : FileStateData) → stage ≡ Some s → state_or_start stage held ≡ s
+state_is None held s e = absurd (let f : None ≡ Some s = e in cc)
+state_is (Some t) held s e = cc
 
-seen_stand : {C : Type 0} (p : Position C) (s : FileStateData) → (with_state p).stage ≡ Some s → state_at p ≡ s
-seen_stand p s =
+seen_state : {C : Type 0} (p : Position C) (s : FileStateData) → (with_state p).stage ≡ Some s → state_at p ≡ s
+seen_state p s =
     seen_by p (λ q. q.stage ≡ Some s → state_at p ≡ s) (λ e f. (let g : Some (state_at p) ≡ Some s = f in cc))
-    (λ e f. stand_is p.stage p.held s f)
+    (λ e f. state_is p.stage p.held s f)
 
 pub seen_none : {C : Type 0} (p : Position C) → (with_state p).stage ≡ None → p.held ≡ []
 seen_none p =
     seen_by p (λ q. q.stage ≡ None → p.held ≡ []) (λ e f. absurd (let g : Some (state_at p) ≡ None = f in cc)) (λ e f. none_held p.held e)
 
-seen_stands : {C : Type 0} (p : Position C) (s : FileStateData) → record (with_state p) { stage = Some s } ≡ record p { stage = Some s }
-seen_stands p s = seen_by p (λ q. record q { stage = Some s } ≡ record p { stage = Some s }) (λ e. refl) (λ e. refl)
+seen_states : {C : Type 0} (p : Position C) (s : FileStateData) → record (with_state p) { stage = Some s } ≡ record p { stage = Some s }
+seen_states p s = seen_by p (λ q. record q { stage = Some s } ≡ record p { stage = Some s }) (λ e. refl) (λ e. refl)
 
-stands_there : (p : KnownPosition) (s : FileStateData) → is_some (slice_get p.held 0) ≡ true → state_at p ≡ s → KeepsRest p (record p { stage = Some s })
-stands_there p s e is = record {
+state_there : (p : KnownPosition) (s : FileStateData) → is_some (slice_get p.held 0) ≡ true → state_at p ≡ s →
+    KeepsRest p (record p { stage = Some s })
+state_there p s e is = record {
   input = refl;
   place = omega arith;
   failed = refl;
   keeps =
       mapped (rest_of_bytes p) _ (λ x. rest_of_units (record p { stage = Some s }) ≡ Some x) (with_each (rest_of_bytes p) _ (λ c at. (
-      let b = behind p c at in
+      let b = rest_after p c at in
       let in_there : state_or_start p.stage c.bytes ≡ s =
-      ap (λ (d : InputRest). state_or_start p.stage d.bytes) b.here ∙ same_stand p.stage p.held b.more (some_held p.held e) ∙ is in
+      ap (λ (d : InputRest). state_or_start p.stage d.bytes) b.here ∙ same_state p.stage p.held b.more (some_held p.held e) ∙ is in
       let same : units_from (Some s) p.place c ≡ units_from p.stage p.place c =
       from_is (Some s) p.place c ∙ ap (λ x. units (closing_verdict p.place c) x p.place (window p.place c)) (sym in_there)
       ∙ sym (from_is p.stage p.place c) in
@@ -93,10 +96,11 @@ stands_there p s e is = record {
 }
 
 pub seen_goes_on : (p : KnownPosition) → KeepsRest p (with_state p)
-seen_goes_on p = seen_by p (KeepsRest p) (λ e. stands_there p (state_at p) e refl) (λ e. goes_on p)
+seen_goes_on p = seen_by p (KeepsRest p) (λ e. state_there p (state_at p) e refl) (λ e. goes_on p)
 
 seen_same : {C : Type 0} (p : Position C)
-    → ((with_state p).coming ≡ p.coming) × ((with_state p).input ≡ p.input) × ((with_state p).place ≡ p.place) × ((with_state p).failed ≡ p.failed)
+    → ((with_state p).coming ≡ p.coming) × ((with_state p).input ≡ p.input) × ((with_state p).place ≡ p.place) ×
+    ((with_state p).failed ≡ p.failed)
 seen_same p =
     seen_by p (λ q. (q.coming ≡ p.coming) × (q.input ≡ p.input) × (q.place ≡ p.place) × (q.failed ≡ p.failed))
     (λ e. (refl, refl, refl, refl)) (λ e. (refl, refl, refl, refl))
@@ -107,23 +111,24 @@ nothing_held p m is none =
     let empty : p.held ≡ [] = seen_none p (ap (λ q. q.stage) (sym is) ∙ none) in
     (ap (unit_at (state_at p)) empty ∙ none_in_nothing (state_at p), is)
 
-abbrev pub answers : Option ReadUnit → Result (Option ReadUnit) Reason
-answers unit = Ok unit
+abbrev pub replied : Option ReadUnit → Result (Option ReadUnit) Reason
+replied unit = Ok unit
 
-module _ {C : Type 0} (p m : Position C) (at : FileState) (bytes : List ℕ) (is : m ≡ with_state p) (stands : m.stage ≡ Some (state_data_of at))
+module _ {C : Type 0} (p m : Position C) (at : FileState) (bytes : List ℕ) (is : m ≡ with_state p)
+    (spelled : m.stage ≡ Some (state_data_of at))
     (held : bytes ≡ m.held) where
   there : state_at p ≡ state_data_of at
-  there = seen_stand p (state_data_of at) (ap (λ q. q.stage) (sym is) ∙ stands)
+  there = seen_state p (state_data_of at) (ap (λ q. q.stage) (sym is) ∙ spelled)
 
   same_unit : unit_at (state_data_of at) bytes ≡ unit_at (state_at p) p.held
   same_unit = (λ i. unit_at (sym there i) ((held ∙ ap (λ q. q.held) is ∙ seen_held p) i))
 
   -- A unit that is found at the front is the unit held.
-  pub found_held : (answer : Option ReadUnit) (next : FileStateData) → Finds (unit_at (state_data_of at) bytes) (Ok answer) next
-      → (answers answer ≡ answers None → next ≡ state_data_of at) → FindsUnit p (Ok answer) (record m { stage = Some next })
+  pub found_held : (result : Option ReadUnit) (next : FileStateData) → Finds (unit_at (state_data_of at) bytes) (Ok result) next
+      → (replied result ≡ replied None → next ≡ state_data_of at) → FindsUnit p (Ok result) (record m { stage = Some next })
   found_held None next h unmoved =
-      (sym same_unit ∙ h, (λ i. record m { stage = Some (unmoved refl i) }) ∙ (λ i. record m { stage = sym stands i }) ∙ is)
-  found_held (Some u) next h unmoved = (next, sym same_unit ∙ h, (λ i. record (is i) { stage = Some next }) ∙ seen_stands p next)
+      (sym same_unit ∙ h, (λ i. record m { stage = Some (unmoved refl i) }) ∙ (λ i. record m { stage = sym spelled i }) ∙ is)
+  found_held (Some u) next h unmoved = (next, sym same_unit ∙ h, (λ i. record (is i) { stage = Some next }) ∙ seen_states p next)
 
   -- A unit that can't be read is refused at the front.
   pub refused_held : (reason : Reason) (next : FileStateData) (q : Position C) → Finds (unit_at (state_data_of at) bytes) (Err reason) next
@@ -132,17 +137,17 @@ module _ {C : Type 0} (p m : Position C) (at : FileState) (bytes : List ℕ) (is
   refused_held reason next q (inr h) = inr (h.0, sym same_unit ∙ h.1)
 
 -- A unit that is returned was found.
-pub some_found : {C : Type 0} (m q : Position C) (u : ReadUnit) (answer : Option ReadUnit) → answer ≡ Some u → FindsUnit m (Ok answer) q
+pub some_found : {C : Type 0} (m q : Position C) (u : ReadUnit) (result : Option ReadUnit) → result ≡ Some u → FindsUnit m (Ok result) q
     → FindsUnit m (Ok (Some u)) q
-some_found m q u answer is h = subst (λ (o : Option ReadUnit). FindsUnit m (Ok o) q) is h
+some_found m q u result is h = subst (λ (o : Option ReadUnit). FindsUnit m (Ok o) q) is h
 
 -- Where no unit is returned, none was found.
-pub none_found : {C : Type 0} (m q : Position C) (answer : Option ReadUnit) → answer ≡ None → FindsUnit m (Ok answer) q
+pub none_found : {C : Type 0} (m q : Position C) (result : Option ReadUnit) → result ≡ None → FindsUnit m (Ok result) q
     → FindsUnit m (Ok None) q
-none_found m q answer is h = subst (λ (o : Option ReadUnit). FindsUnit m (Ok o) q) is h
+none_found m q result is h = subst (λ (o : Option ReadUnit). FindsUnit m (Ok o) q) is h
 
-seen_stand_at : {C : Type 0} (p : Position C) → state_at (with_state p) ≡ state_at p
-seen_stand_at p = seen_by p (λ q. state_at q ≡ state_at p) (λ e. refl) (λ e. refl)
+seen_state_at : {C : Type 0} (p : Position C) → state_at (with_state p) ≡ state_at p
+seen_state_at p = seen_by p (λ q. state_at q ≡ state_at p) (λ e. refl) (λ e. refl)
 
 -- Where no unit was found, the units ahead stay as they are.
 pub none_goes_on : (m q : KnownPosition) → FindsUnit m (Ok None) q → KeepsRest m q
@@ -151,7 +156,7 @@ none_goes_on m q h = subst (λ (x : KnownPosition). KeepsRest m x) (sym h.1) (se
 module _ {C : Type 0} (m q : Position C) (h : FindsUnit m (Ok None) q) where
   -- Where no unit was found, none is whole in the bytes held.
   pub none_there : unit_at (state_at q) q.held ≡ None
-  none_there = (λ i. unit_at (state_at (h.1 i)) ((h.1 i).held)) ∙ (λ i. unit_at (seen_stand_at m i) (seen_held m i)) ∙ h.0
+  none_there = (λ i. unit_at (state_at (h.1 i)) ((h.1 i).held)) ∙ (λ i. unit_at (seen_state_at m i) (seen_held m i)) ∙ h.0
 
   -- Where no unit was found, the position stays as it is.
   pub none_same : (q.coming ≡ m.coming) × (q.input ≡ m.input) × (q.place ≡ m.place) × (q.failed ≡ m.failed)
@@ -163,7 +168,8 @@ module _ {C : Type 0} (m q : Position C) (h : FindsUnit m (Ok None) q) where
   none_known e = ap (λ x. x.held) h.1 ∙ seen_held m ∙ seen_none m (ap (λ x. x.stage) (sym h.1) ∙ e)
 
 -- if no unit was whole in the bytes held, none is whole in these bytes once more bytes are held
-none_among : (stage : Option FileStateData) (held more : List ℕ) → (stage ≡ None → held ≡ []) → unit_at (state_or_start stage held) held ≡ None
+none_among : (stage : Option FileStateData) (held more : List ℕ) → (stage ≡ None → held ≡ []) →
+    unit_at (state_or_start stage held) held ≡ None
     → unit_at (state_or_start stage more) held ≡ None
 none_among None held more empty none = ap (unit_at (state_or_start None more)) (empty refl) ∙ none_in_nothing (state_or_start None more)
 none_among (Some s) held more empty none = none
@@ -178,12 +184,13 @@ none_still m q r h stage kept =
 telling_seen : {R : Type 0} (p : Position R) (c : InputRest) → with_coming (with_state p) c ≡ with_state (with_coming p c)
 telling_seen p c =
     elim (is_some (slice_get p.held 0)) as
-    (λ t. with_coming (cond t (record p { stage = Some (state_at p) }) p) c ≡ cond t (record (with_coming p c) { stage = Some (state_at p) })
+    (λ t. with_coming (cond t (record p { stage = Some (state_at p) }) p) c ≡ cond t
+    (record (with_coming p c) { stage = Some (state_at p) })
     (with_coming p c)) [ true ↦ refl | false ↦ refl ]
 
 -- A unit is found whatever the reader gives.
-pub telling_found : {R : Type 0} (p q : Position R) (answer : Result (Option ReadUnit) Reason) (c : InputRest) → FindsUnit p answer q
-    → FindsUnit (with_coming p c) answer (with_coming q c)
+pub telling_found : {R : Type 0} (p q : Position R) (result : Result (Option ReadUnit) Reason) (c : InputRest) → FindsUnit p result q
+    → FindsUnit (with_coming p c) result (with_coming q c)
 telling_found p q (Ok None) c h = (h.0, ap (λ x. with_coming x c) h.1 ∙ telling_seen p c)
 telling_found p q (Ok (Some u)) c h = (h.0, h.1, ap (λ x. with_coming x c) h.2)
 telling_found p q (Err reason) c h = h
@@ -217,7 +224,8 @@ goes_over m size None next e bound = gone_passed m (unit size (Ok (None, next)))
 goes_over m size (Some v) next e bound = gone_gave m (unit size (Ok (Some v, next))) e bound v next refl
 
 -- A unit that is found at the front is gone over.
-pub held_goes_over : (m q r : KnownPosition) (u : ReadUnit) (given : Option Placed) → m.place + length m.held < 2 ^ 62 → FindsUnit m (Ok (Some u)) q
+pub held_goes_over : (m q r : KnownPosition) (u : ReadUnit) (given : Option Placed) → m.place + length m.held < 2 ^ 62 →
+    FindsUnit m (Ok (Some u)) q
     → given ≡ option_map (new_placed q.place) u.version
     → r ≡ record q { place = q.place + u.size; held = drop u.size q.held } → GoesOver m given r
 held_goes_over m q r u given bound h is gone =
@@ -253,7 +261,8 @@ come_still p fine = ap (λ b. cond b (Some (end_refused (failed_fault p.input)))
 come_failed : (p : KnownPosition) → p.failed ≡ true → units_or_failed p ≡ Some (end_refused (failed_fault p.input))
 come_failed p bad = ap (λ b. cond b (Some (end_refused (failed_fault p.input))) (rest_of_units p)) bad
 
-pub still_step : (p q : KnownPosition) (r : Result (Option Placed) Fault) → p.failed ≡ false → q.failed ≡ false → SourceStep (rest_of_units p) r (rest_of_units q)
+pub still_step : (p q : KnownPosition) (r : Result (Option Placed) Fault) → p.failed ≡ false → q.failed ≡ false →
+    SourceStep (rest_of_units p) r (rest_of_units q)
     → SourceStep (units_or_failed p) r (units_or_failed q)
 still_step p q r fine good h =
     subst (λ (o : Option (SourceRest Placed Fault)). SourceStep o r (units_or_failed q)) (sym (come_still p fine))
@@ -295,16 +304,18 @@ opl_nothing : version_of_unit (last_at InOpl []) ≡ Ok None
 unfolding last_at
 opl_nothing = refl
 
-stand_nothing : (stage : Option FileStateData) (held : List ℕ) (version : Option VersionData)
-    → version_of_unit (last_at (state_or_start stage held) held) ≡ Ok version → version_of_unit (last_at (state_or_start stage []) []) ≡ Ok None
-stand_nothing None held version e = opl_nothing
-stand_nothing (Some s) held version e = last_nothing s held version e
+state_nothing : (stage : Option FileStateData) (held : List ℕ) (version : Option VersionData)
+    → version_of_unit (last_at (state_or_start stage held) held) ≡ Ok version →
+    version_of_unit (last_at (state_or_start stage []) []) ≡ Ok None
+state_nothing None held version e = opl_nothing
+state_nothing (Some s) held version e = last_nothing s held version e
 
 -- the finding by its version only
 found_by : (place : ℕ) (found : UnitResult) (version : Option VersionData) → version_of_unit found ≡ Ok version
     → found_then place found (λ next. end_whole) ≡ found_then place (Ok (version, InOpl)) (λ next. end_whole)
 found_by place (Ok (None, next)) version e = let f : None ≡ version = cc in ap (λ v. found_then place (Ok (v, InOpl)) (λ next. end_whole)) f
-found_by place (Ok (Some v, next)) version e = let f : Some v ≡ version = cc in ap (λ w. found_then place (Ok (w, InOpl)) (λ next. end_whole)) f
+found_by place (Ok (Some v, next)) version e = let f : Some v ≡ version = cc in
+    ap (λ w. found_then place (Ok (w, InOpl)) (λ next. end_whole)) f
 found_by place (Err reason) version e = absurd (let f : Err reason ≡ Ok version = e in cc)
 
 refused_by : (place : ℕ) (found : UnitResult) (reason : Reason) → version_of_unit found ≡ Err reason
@@ -320,7 +331,8 @@ drop_all : (xs : List ℕ) → drop (length xs) xs ≡ []
 drop_all [] = refl
 drop_all (x ∷ xs) = drop_all xs
 
-module _ (m : KnownPosition) (nothing : unit_at (state_at m) m.held ≡ None) (bound : m.place + length m.held < 2 ^ 62) (ended : m.ended ≡ true) where
+module _ (m : KnownPosition) (nothing : unit_at (state_at m) m.held ≡ None) (bound : m.place + length m.held < 2 ^ 62)
+    (ended : m.ended ≡ true) where
   abbrev last_found : UnitResult
   last_found = last_at (state_at m) m.held
 
@@ -337,28 +349,33 @@ module _ (m : KnownPosition) (nothing : unit_at (state_at m) m.held ≡ None) (b
             let empty : length m.held ≡ 0 = grind (arith, nat_tests) in
             let is_nil : m.held ≡ [] = nil_of m.held empty in
             let none : Ok (Some v) ≡ Ok None =
-            sym e ∙ (λ i. version_of_unit (last_at (state_or_start m.stage (is_nil i)) (is_nil i))) ∙ stand_nothing m.stage m.held (Some v) e in
+            sym e ∙ (λ i. version_of_unit (last_at (state_or_start m.stage (is_nil i)) (is_nil i)))
+            ∙ state_nothing m.stage m.held (Some v) e in
             absurd cc)
       ] refl
 
   -- nothing comes after them
-  abbrev behind_last : KnownPosition
-  behind_last = record m { place = m.place + length m.held; held = drop (length m.held) m.held }
+  abbrev after_last : KnownPosition
+  after_last = record m { place = m.place + length m.held; held = drop (length m.held) m.held }
 
-  no_more : (version : Option VersionData) → version_of_unit last_found ≡ Ok version → rest_of_units behind_last ≡ Some end_whole
+  no_more : (version : Option VersionData) → version_of_unit last_found ≡ Ok version → rest_of_units after_last ≡ Some end_whole
   no_more version e =
       let q : KnownPosition = record m { place = m.place + length m.held; held = [] } in
-      let same : behind_last ≡ q = (λ i. record m { place = m.place + length m.held; held = drop_all m.held i }) in
-      let found : version_of_unit (last_at (state_at q) []) ≡ Ok None = stand_nothing m.stage m.held version e in
+      let same : after_last ≡ q = (λ i. record m { place = m.place + length m.held; held = drop_all m.held i }) in
+      let found : version_of_unit (last_at (state_at q) []) ≡ Ok None = state_nothing m.stage m.held version e in
       ap rest_of_units same ∙ at_the_end q (none_in_nothing (state_at q)) (omega (arith, bound)) ended
       ∙ ap (λ s. Some (with_input m.input s)) (found_by q.place (last_at (state_at q) []) None found)
 
   given_last : (version : Option VersionData) → version_of_unit last_found ≡ Ok version
-      → SourceStep (rest_of_units m) (Ok (option_map (new_placed m.place) version)) (rest_of_units behind_last)
-  given_last None e = (subst (λ (o : Option (SourceRest Placed Fault)). IfSome o (λ s. s ≡ end_whole)) (sym (comes None e)) refl, no_more None e)
+      → SourceStep (rest_of_units m) (Ok (option_map (new_placed m.place) version)) (rest_of_units after_last)
+  given_last None e = (
+    subst (λ (o : Option (SourceRest Placed Fault)). IfSome o (λ s. s ≡ end_whole)) (sym (comes None e)) refl,
+    no_more None e,
+  )
   given_last (Some v) e =
       subst (λ (o : Option (SourceRest Placed Fault)). IfSome o
-      (λ s. (t : SourceRest Placed Fault) × (s ≡ front (new_placed m.place v) t) × (rest_of_units behind_last ≡ Some t))) (sym (comes (Some v) e)) (
+      (λ s. (t : SourceRest Placed Fault) × (s ≡ front (new_placed m.place v) t) × (rest_of_units after_last ≡ Some t)))
+      (sym (comes (Some v) e)) (
         end_whole,
         refl,
         no_more (Some v) e,
@@ -369,10 +386,10 @@ module _ (m : KnownPosition) (nothing : unit_at (state_at m) m.held ≡ None) (b
       → FindsLast last_found (Ok version) → size ≡ length m.held → given ≡ option_map (new_placed m.place) version
       → q ≡ record m { place = m.place + size; held = drop size m.held } → SourceStep (units_or_failed m) (Ok given) (units_or_failed q)
   last_gives fine version size given q e long is gone =
-      let same : q ≡ behind_last = gone ∙ (λ i. record m { place = m.place + long i; held = drop (long i) m.held }) in
+      let same : q ≡ after_last = gone ∙ (λ i. record m { place = m.place + long i; held = drop (long i) m.held }) in
       subst (λ (x : KnownPosition). SourceStep (units_or_failed m) (Ok given) (units_or_failed x)) (sym same)
-      (subst (λ (g : Option Placed). SourceStep (units_or_failed m) (Ok g) (units_or_failed behind_last)) (sym is)
-      (still_step m behind_last (Ok (option_map (new_placed m.place) version)) fine fine (given_last version e)))
+      (subst (λ (g : Option Placed). SourceStep (units_or_failed m) (Ok g) (units_or_failed after_last)) (sym is)
+      (still_step m after_last (Ok (option_map (new_placed m.place) version)) fine fine (given_last version e)))
 
   -- The last bytes that hold a version are one at least.
   pub last_further : (version : Option VersionData) (size : ℕ) (given : Option Placed) → FindsLast last_found (Ok version)
@@ -388,14 +405,16 @@ module _ (m : KnownPosition) (nothing : unit_at (state_at m) m.held ≡ None) (b
       let at : rest_of_units m ≡ Some (end_refused (fault_of m.input (verdict_at m.place reason))) =
       at_the_end m nothing bound ended ∙ ap (λ s. Some (with_input m.input s)) (refused_by m.place last_found reason e) in
       refuses m reason fault is
-      (inr (subst (λ (o : Option (SourceRest Placed Fault)). IfSome o (λ s. s ≡ end_refused (fault_of m.input (verdict_at m.place reason)))) (sym at)
+      (inr (subst (λ (o : Option (SourceRest Placed Fault)). IfSome o (λ s. s ≡ end_refused (fault_of m.input (verdict_at m.place reason))))
+      (sym at)
       refl))
 
 -- A reading that was refused is refused again as Failed.
 pub failed_already : (p : KnownPosition) (fault : Fault) → p.failed ≡ true → fault ≡ failed_fault p.input
     → SourceStep {A = Placed} (units_or_failed p) (Err fault) (units_or_failed p)
 failed_already p fault bad is = (
-  inr (subst (λ (o : Option (SourceRest Placed Fault)). IfSome o (λ s. s ≡ end_refused fault)) (sym (come_failed p bad)) (ap end_refused (sym is))),
+  inr (subst (λ (o : Option (SourceRest Placed Fault)). IfSome o (λ s. s ≡ end_refused fault)) (sym (come_failed p bad))
+      (ap end_refused (sym is))),
   (p.input, come_failed p bad),
 )
 

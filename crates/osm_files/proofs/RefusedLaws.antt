@@ -25,7 +25,7 @@ use Rattle.osm_files.specs.Verdict.{is_below, is_below_last, sorted_verdict, ver
 use Rattle.osm_files.proofs.GroupLaws.{ascending_is, group_joined, has, has_ascending}
 use Rattle.osm_files.proofs.HoldLaws.{below_first, members_are, source_refusal}
 use Rattle.osm_files.proofs.PlaceLaws.{Follow, input_follows}
-use Rattle.osm_files.proofs.RiseLaws.{groups_rise, less_from, member, source_begins_told, source_is}
+use Rattle.osm_files.proofs.RiseLaws.{groups_rise, less_from, member, source_begins_known, source_is}
 
 -- ---- keys
 turned : (o : Ordering) → is_gt (ordering_reverse o) ≡ is_lt o
@@ -56,9 +56,9 @@ at_last v (w ∷ ws) n e = ap (slice_get (v ∷ w ∷ ws)) e ∙ at_last w ws (l
 below_last : (v w : VersionData) (ws : List VersionData) → is_below_last v (w ∷ ws) ≡ is_lt (key_cmp v (last_of w ws))
 below_last v w ws = ap (is_below v) (at_last w ws (length (w ∷ ws) - 1) (omega arith))
 
-last_behind : (v : VersionData) (vs : List VersionData) (w : VersionData) (ws : List VersionData) → last_of v (vs ++ w ∷ ws) ≡ last_of w ws
-last_behind v [] w ws = refl
-last_behind v (u ∷ vs) w ws = last_behind u vs w ws
+last_after : (v : VersionData) (vs : List VersionData) (w : VersionData) (ws : List VersionData) → last_of v (vs ++ w ∷ ws) ≡ last_of w ws
+last_after v [] w ws = refl
+last_after v (u ∷ vs) w ws = last_after u vs w ws
 
 last_holds : (P : VersionData → Type 0) (v : VersionData) (vs : List VersionData) → P v → AllByRecursion P vs → P (last_of v vs)
 last_holds P v [] h k = h
@@ -101,7 +101,7 @@ module _ (v first : VersionData) (others : List VersionData) (group : IsGroup fi
   group_given next later less up =
       let last : VersionData = last_of next later in
       let whole : is_below_last v ((first ∷ others) ++ next ∷ later) ≡ is_lt (key_cmp v last) =
-      below_last v first (others ++ next ∷ later) ∙ ap (λ w. is_lt (key_cmp v w)) (last_behind first others next later) in
+      below_last v first (others ++ next ∷ later) ∙ ap (λ w. is_lt (key_cmp v w)) (last_after first others next later) in
       let below : has v (first ∷ others) ≡ true → is_lt (key_cmp v last) ≡ true =
       λ e. ap is_lt (less_upto v next last (less_from first v next less (of_group e)) up) in
       ap (λ t. has v (first ∷ others) || (t && has v (next ∷ later))) (below_last v next later)
@@ -192,8 +192,8 @@ module _ (fault : Verdict) where
           (end_refused (fault_of input (verdict_at u.place Unsorted))))
 
       module _ (v : VersionData) where
-        abbrev Gives : List Placed → VersionData → List VersionData → Type 0
-        Gives us first others = has v (still us (first ∷ others)).list ≡ is_given v ((first ∷ others) ++ early us)
+        abbrev GivesEarly : List Placed → VersionData → List VersionData → Type 0
+        GivesEarly us first others = has v (still us (first ∷ others)).list ≡ is_given v ((first ∷ others) ++ early us)
 
         module _ (first : VersionData) (others : List VersionData) (group : IsGroup first others) where
           nothing_given : (us : List Placed) → early us ≡ [] → false ≡ is_given v ((first ∷ others) ++ early us)
@@ -208,7 +208,7 @@ module _ (fault : Verdict) where
           closed_given (Some w) is = nothing_given [] refl
 
           next_given : (u : Placed) (us : List Placed) → (early (u ∷ us) ≡ u.version ∷ early us) × Meets (Some u.version) (u.place + 1) us
-              → key_cmp first u.version ≡ Less → Gives us u.version []
+              → key_cmp first u.version ≡ Less → GivesEarly us u.version []
               → has v (to_ascending (first ∷ others) ++ (still us (u.version ∷ [])).list) ≡ is_given v ((first ∷ others) ++ early (u ∷ us))
           next_given u us on less rest =
               list_any-append (eq_by_cmp version_cmp v) (to_ascending (first ∷ others)) (still us (u.version ∷ [])).list
@@ -217,7 +217,7 @@ module _ (fault : Verdict) where
               ∙ ap (λ vs. is_given v ((first ∷ others) ++ vs)) (sym on.0)
 
         group_gives : (us : List Placed) (first : VersionData) (others : List VersionData) (before : VersionData) (from : ℕ)
-            → IsGroup first others → key_cmp first before ≡ Equal → Meets (Some before) from us → Gives us first others
+            → IsGroup first others → key_cmp first before ≡ Equal → Meets (Some before) from us → GivesEarly us first others
         group_gives [] first others before from group same m = closed_given first others group close m.1
         group_gives (u ∷ us) first others before from group same m =
             let below = λ (o : Ordering) (e : key_cmp first u.version ≡ o).
@@ -274,7 +274,7 @@ refused_by input c fault (Some v) e is =
 
 -- ---- an opened source
 opened_gives : {R : Type 0} (input : ℕ) (reader : R) (c : InputRest) → given_at (new_source input reader) c ≡ Some (sorted_source input c)
-opened_gives input reader c = source_begins_told (with_coming (new_source input reader).units c) [] input (Some c) refl refl
+opened_gives input reader c = source_begins_known (with_coming (new_source input reader).units c) [] input (Some c) refl refl
 
 -- A refused source gives the key groups before the last one that began before the fault.
 pub refused_source_gives : {R : Type 0} (can : R → InputRest → Type 0) → RefusedSourceGivesTheGroupsBefore can

@@ -16,7 +16,8 @@ use Rattle.osm_model.proofs.SetLaws.{strict-listed, to_list-from_list}
 use Rattle.osm_model.proofs.VersionLaws.{version_cmp-IsAntisymmetric, less_by_key}
 use Rattle.osm_files.specs.declared.fault.Fault.{Fault}
 use Rattle.osm_files.specs.Fault.{memory_fault, failed_fault}
-use Rattle.osm_files.specs.Groups.{to_ascending, last_group, groups, sorted_source, still_with_ready, IsGroup, Gathers, StillSet, as_set, still_given}
+use Rattle.osm_files.specs.Groups.{to_ascending, last_group, groups, sorted_source, still_with_ready, IsGroup, Gathers, StillSet, as_set}
+use Rattle.osm_files.specs.Groups.{still_given}
 use Rattle.osm_files.specs.Groups.{FileSourceData, FileCanGive, FileSteps, FileAscends, still_at, given_at, IsKnown, known_or_whole}
 use Rattle.osm_files.specs.Groups.{one_given}
 use Rattle.osm_files.specs.Input.{InputRest}
@@ -79,7 +80,8 @@ member P (v ∷ versions) h w e =
     ] refl e
 
 -- a property of each version of a list is one of each version of its ascending list
-all_ascending : (P : VersionData → Type 0) (versions : List VersionData) → AllByRecursion P versions → AllByRecursion P (to_ascending versions)
+all_ascending : (P : VersionData → Type 0) (versions : List VersionData) → AllByRecursion P versions →
+    AllByRecursion P (to_ascending versions)
 all_ascending P versions h = all_members P (to_ascending versions) (λ v e. member P versions h v (sym (has_ascending v versions) ∙ e))
 
 ascending_rises : (versions : List VersionData) → IsStrictlySortedBy version_cmp (to_ascending versions)
@@ -146,8 +148,8 @@ group_on : (first : VersionData) (others : List VersionData) (v : VersionData) �
 group_on first others v group same = all_append (λ w. key_cmp first w ≡ Equal) others (v ∷ []) group (same, tt)
 
 module _ (input : ℕ) (close : Option Fault) where
-  abbrev Gives : List Placed → VersionData → List VersionData → Ordering → Type 0
-  Gives us first others o = (u : Placed) → key_cmp first u.version ≡ o → Rises first (groups input close (u ∷ us) (first ∷ others)).list
+  abbrev RisesWith : List Placed → VersionData → List VersionData → Ordering → Type 0
+  RisesWith us first others o = (u : Placed) → key_cmp first u.version ≡ o → Rises first (groups input close (u ∷ us) (first ∷ others)).list
 
   rises : (us : List Placed) (first : VersionData) (others : List VersionData) → IsGroup first others →
       Rises first (groups input close us (first ∷ others)).list
@@ -187,7 +189,8 @@ less_is Equal h = absurd (false≢true h)
 less_is Greater h = absurd (false≢true h)
 
 -- groups rise after a group of one key, even if nothing was known before
-pub gathers_rise : (input : ℕ) (before : Option (SourceRest Placed Fault)) (has_begun : List VersionData) (after : Option (SourceRest Placed Fault))
+pub gathers_rise : (input : ℕ) (before : Option (SourceRest Placed Fault)) (has_begun : List VersionData)
+    (after : Option (SourceRest Placed Fault))
     (first : VersionData) (others : List VersionData) (next : Option VersionData) → Gathers input before has_begun after first others next
     → IfSome (still_with_ready input after (option_to_list next) (to_ascending (first ∷ others))) Ascends
 gathers_rise input before has_begun after first others None h =
@@ -220,9 +223,9 @@ rest_rises input units group None ready h = h
 rest_rises input units group (Some v) ready h = ready_rises input units group ready v h
 
 -- a list that ascends is that of its set
-pub told_as_set : (known : Option (SourceRest VersionData Fault)) → IfSome known Ascends → still_given (option_map as_set known) ≡ known
-told_as_set None h = refl
-told_as_set (Some s) h =
+pub set_is_known : (known : Option (SourceRest VersionData Fault)) → IfSome known Ascends → still_given (option_map as_set known) ≡ known
+set_is_known None h = refl
+set_is_known (Some s) h =
     ap (λ vs. let t : SourceRest VersionData Fault = record { list = vs; refusal = s.refusal } in Some t)
     (to_list-from_list version_cmp_total version_cmp-IsAntisymmetric s.list h)
 
@@ -235,7 +238,8 @@ source_is input c = refl
 -- The versions that a sorted file's source gives ascend strictly.
 pub source_rises : (input : ℕ) (c : InputRest) → Ascends (sorted_source input c)
 source_rises input c =
-    subst Ascends (sym (source_is input c)) (let units = with_input input (units_from None 0 c) in groups_rise input units.refusal units.list)
+    subst Ascends (sym (source_is input c)) (let units = with_input input (units_from None 0 c) in
+    groups_rise input units.refusal units.list)
 
 -- a reading at its beginning
 abbrev pub beginning : ℕ → Option InputRest → KnownPosition
@@ -256,30 +260,33 @@ module _ (p : KnownPosition) (ready : List VersionData) (input : ℕ) (coming : 
   source_begins = (λ i. still_with_ready (begins i).input (units_or_failed (begins i)) [] (nothing i)) ∙ begins_so input coming
 
   pub source_begins_rising : IfSome (still_with_ready p.input (units_or_failed p) [] ready) Ascends
-  source_begins_rising = subst (λ (o : Option (SourceRest VersionData Fault)). IfSome o Ascends) (sym source_begins) (begins_rising input coming)
+  source_begins_rising = subst (λ (o : Option (SourceRest VersionData Fault)). IfSome o Ascends) (sym source_begins)
+      (begins_rising input coming)
 
   -- A source of which nothing was read gives the same as the sorted file's source.
-  pub source_begins_told : still_given (option_map as_set (still_with_ready p.input (units_or_failed p) [] ready))
+  pub source_begins_known : still_given (option_map as_set (still_with_ready p.input (units_or_failed p) [] ready))
       ≡ option_map (sorted_source input) coming
-  source_begins_told = told_as_set (still_with_ready p.input (units_or_failed p) [] ready) source_begins_rising ∙ source_begins
+  source_begins_known = set_is_known (still_with_ready p.input (units_or_failed p) [] ready) source_begins_rising ∙ source_begins
 
 -- a reading that read bytes before it gave anything
 opens_so : (input : ℕ) (coming : Option InputRest) (q : KnownPosition) → KeepsRest (beginning input coming) q →
     IfSome coming (λ c. still_with_ready q.input (units_or_failed q) [] [] ≡ Some (sorted_source input c))
 opens_so input None q on = tt
 opens_so input (Some c) q on =
-    let fine : units_or_failed q ≡ rest_of_units q = ap (λ b. cond b (Some (end_refused (failed_fault q.input))) (rest_of_units q)) on.failed in
+    let fine : units_or_failed q ≡ rest_of_units q =
+    ap (λ b. cond b (Some (end_refused (failed_fault q.input))) (rest_of_units q)) on.failed in
     (λ i. still_with_ready (on.input i) ((fine ∙ on.keeps) i) [] []) ∙ ap Some (sym (source_is input c))
 
 -- A source that was opened gives the same as the sorted file's source.
-pub source_opens_told : (p q : KnownPosition) (ready : List VersionData) (input : ℕ) (coming : Option InputRest) → p ≡ beginning input coming →
+pub source_opens_known : (p q : KnownPosition) (ready : List VersionData) (input : ℕ) (coming : Option InputRest) →
+    p ≡ beginning input coming →
     KeepsRest p q → ready ≡ [] → IfSome coming (λ c. still_given (option_map as_set (still_with_ready q.input (units_or_failed q) [] ready))
     ≡ Some (sorted_source input c))
-source_opens_told p q ready input coming begins on nothing =
+source_opens_known p q ready input coming begins on nothing =
     let rises : IfSome (still_with_ready q.input (units_or_failed q) [] ready) Ascends =
     subst (λ (xs : List VersionData). IfSome (still_with_ready q.input (units_or_failed q) [] xs) Ascends) (sym nothing)
     (pending_rises q.input (units_or_failed q) None) in
-    weaker coming _ _ (λ c e. told_as_set (still_with_ready q.input (units_or_failed q) [] ready) rises
+    weaker coming _ _ (λ c e. set_is_known (still_with_ready q.input (units_or_failed q) [] ready) rises
     ∙ (λ i. still_with_ready q.input (units_or_failed q) [] (nothing i)) ∙ e)
     (opens_so input coming q (subst (λ (x : KnownPosition). KeepsRest x q) begins on))
 
@@ -293,16 +300,18 @@ opens_refused input (Some c) fault after step =
     ∙ ap (λ (s : SourceRest Placed Fault). (groups input s.refusal s.list []).refusal) k)) step.0
 
 -- a call, in terms of sets
-pub step_told : (value : Option StillSet) (before after : Option (SourceRest VersionData Fault)) (r : Result (Option VersionData) Fault) →
+pub step_as_sets : (value : Option StillSet) (before after : Option (SourceRest VersionData Fault))
+    (r : Result (Option VersionData) Fault) →
     option_map as_set before ≡ value → IfSome before Ascends → IfSome after Ascends → SourceStep before r after
     → SourceStep (still_given value) r (still_given (option_map as_set after))
-step_told value before after r is up on h =
-    let first : before ≡ still_given value = sym (told_as_set before up) ∙ ap still_given is in
+step_as_sets value before after r is up on h =
+    let first : before ≡ still_given value = sym (set_is_known before up) ∙ ap still_given is in
     subst (λ (o : Option (SourceRest VersionData Fault)). SourceStep o r (still_given (option_map as_set after))) first
-    (subst (λ (o : Option (SourceRest VersionData Fault)). SourceStep before r o) (sym (told_as_set after on)) h)
+    (subst (λ (o : Option (SourceRest VersionData Fault)). SourceStep before r o) (sym (set_is_known after on)) h)
 
 -- a rest that was known is known
-known_by : (o : Option (SourceRest VersionData Fault)) (still : SourceRest VersionData Fault) → still_given (option_map as_set o) ≡ Some still →
+known_by : (o : Option (SourceRest VersionData Fault)) (still : SourceRest VersionData Fault) →
+    still_given (option_map as_set o) ≡ Some still →
     IsKnown o
 known_by None still e = absurd (let f : None ≡ Some still = e in cc)
 known_by (Some s) still e = tt
@@ -320,7 +329,8 @@ step_rises (Some s) after (Err fault) known up h = let P : Option (SourceRest Ve
     subst P (sym h.1.1) nothing_rises
 
 -- a call of a source, over all that its reader can give
-pub file_step : {R : Type 0} (can : R → InputRest → Type 0) (s t : FileSourceData R) (r : Result (Option VersionData) Fault) → FileAscends can s →
+pub file_step : {R : Type 0} (can : R → InputRest → Type 0) (s t : FileSourceData R) (r : Result (Option VersionData) Fault) →
+    FileAscends can s →
     t.units.input ≡ s.units.input → FileSteps can s r t
     → SourceSteps (FileCanGive can) s r t
 file_step can s t r up same steps later h =
@@ -330,10 +340,10 @@ file_step can s t r up same steps later h =
     let from = still_at s.units.input s x.0 in
     let rises = step_rises from (still_at s.units.input t h.0) r (known_by from (known_or_whole (given_at s x.0)) (one_given s x.0))
     (up x.0 x.1) x.2 in
-    let told = step_told (option_map as_set (still_at s.units.input s x.0)) (still_at s.units.input s x.0)
+    let shown = step_as_sets (option_map as_set (still_at s.units.input s x.0)) (still_at s.units.input s x.0)
     (still_at s.units.input t h.0) r refl (up x.0 x.1) rises x.2 in (
       known_or_whole (given_at s x.0),
       (x.0, x.1, one_given s x.0),
       subst (λ (o : Option (SourceRest VersionData Fault)). SourceStep o r (Some later)) (one_given s x.0)
-          (subst (λ (o : Option (SourceRest VersionData Fault)). SourceStep (given_at s x.0) r o) after told),
+          (subst (λ (o : Option (SourceRest VersionData Fault)). SourceStep (given_at s x.0) r o) after shown),
     )

@@ -5,8 +5,8 @@ use Rattle.std.proofs.Math.Seq.{take-append-add}
 
 module _ (from end : ℕ) (room : List ℕ) (ordered : from ≤ end) where
   -- the bytes held come after those before the first offset
-  pub held_behind : take (end - from) (drop from room) ≡ drop from (take end room)
-  held_behind = sym (ap (λ n. drop from (take n room)) (let sum : end ≡ from + (end - from) = omega (arith, ordered) in sum)
+  pub held_after : take (end - from) (drop from room) ≡ drop from (take end room)
+  held_after = sym (ap (λ n. drop from (take n room)) (let sum : end ≡ from + (end - from) = omega (arith, ordered) in sum)
       ∙ drop-take from (end - from) room)
 
   -- the bytes held after `count` of them were skipped
@@ -23,24 +23,24 @@ module _ (from end : ℕ) (room : List ℕ) (ordered : from ≤ end) where
   held_kept other same =
       sym (ap (λ n. drop from (take n other)) (let sum : end ≡ from + (end - from) = omega (arith, ordered) in sum)
       ∙ drop-take from (end - from) other)
-      ∙ ap (drop from) same ∙ sym held_behind
+      ∙ ap (drop from) same ∙ sym held_after
 
 -- `count` more bytes came
 pub held_grown : (from end : ℕ) (room : List ℕ) → from ≤ end → (count : ℕ) (other front : List ℕ) → end ≤ length room →
     take (end + count) other ≡ take end room ++ front →
     take (end + count - from) (drop from other) ≡ take (end - from) (drop from room) ++ front
 held_grown from end room ordered count other front within came =
-    held_behind from (end + count) other (omega (arith, ordered)) ∙ ap (drop from) came
+    held_after from (end + count) other (omega (arith, ordered)) ∙ ap (drop from) came
     ∙ drop-append-le from (take end room) front (omega (arith, ordered, length-take-le end room within))
-    ∙ ap (λ xs. xs ++ front) (sym (held_behind from end room ordered))
+    ∙ ap (λ xs. xs ++ front) (sym (held_after from end room ordered))
 
 -- `count` bytes were read after others
-pub came_behind : (end count : ℕ) (room came behind : List ℕ) → end ≤ length room → count ≤ length came →
-    take (end + count) (take end room ++ (came ++ behind)) ≡ take end room ++ take count came
-came_behind end count room came behind within some =
-    ap (λ n. take (n + count) (take end room ++ (came ++ behind))) (sym (length-take-le end room within))
-    ∙ take-append-add (take end room) (came ++ behind) count
-    ∙ ap (λ xs. take end room ++ xs) (take-append-le count came behind some)
+pub came_after : (end count : ℕ) (room came after : List ℕ) → end ≤ length room → count ≤ length came →
+    take (end + count) (take end room ++ (came ++ after)) ≡ take end room ++ take count came
+came_after end count room came after within some =
+    ap (λ n. take (n + count) (take end room ++ (came ++ after))) (sym (length-take-le end room within))
+    ∙ take-append-add (take end room) (came ++ after) count
+    ∙ ap (λ xs. take end room ++ xs) (take-append-le count came after some)
 
 -- the front of a vector whose first bytes were written
 pub written_front : (n size : ℕ) (written rest : List ℕ) → n ≤ size → n ≤ length written →

@@ -38,8 +38,8 @@ module _ (p : ℕ → Bool) where
       ] none
 
   module _ (xs : List ℕ) (n : ℕ) (within : n ≤ length xs) (none : position p (take n xs) ≡ None) where
-    behind : position_or_len p xs ≡ n + position_or_len p (drop n xs)
-    behind = counted xs n within (omega (arith, nowhere (take n xs) none, length-take n xs, within))
+    after : position_or_len p xs ≡ n + position_or_len p (drop n xs)
+    after = counted xs n within (omega (arith, nowhere (take n xs) none, length-take n xs, within))
 
     -- the rest, as a slice of the bytes
     abbrev rest : List ℕ
@@ -49,17 +49,17 @@ module _ (p : ℕ → Bool) where
     rest_is = ap (position p) (sym (take_rest xs n))
 
     -- A search that finds nothing in the rest finds nothing.
-    pub none_behind : position p rest ≡ None → None ≡ position p xs
-    none_behind e =
+    pub none_after : position p rest ≡ None → None ≡ position p xs
+    none_after e =
         let far : length xs ≤ n + position_or_len p (drop n xs) = omega (arith, nowhere (drop n xs) (rest_is ∙ e), length-drop n xs) in
-        rw (behind, le-ltb _ _ far) refl
+        rw (after, le-ltb _ _ far) refl
 
     -- A search that finds something in the rest finds it that much later.
-    pub some_behind : (k : ℕ) → position p rest ≡ Some k → Some (n + k) ≡ position p xs
-    some_behind k e =
+    pub some_after : (k : ℕ) → position p rest ≡ Some k → Some (n + k) ≡ position p xs
+    some_after k e =
         let found = somewhere (drop n xs) k (rest_is ∙ e) in
         let near : n + k < length xs = omega (arith, found.1, length-drop n xs) in
-        rw (behind, found.0, lt-ltb _ _ near) refl
+        rw (after, found.0, lt-ltb _ _ near) refl
 
 -- if no line is whole, none ends
 pub no_end : (bytes : List ℕ) → line_unit (split_first is_line_end bytes) ≡ None → position is_line_end bytes ≡ None

@@ -18,7 +18,7 @@ use Rattle.osm_files.specs.Sink.{SinkState, MayFollow, new_sink, Sent, NotSent, 
 use Rattle.osm_files.specs.Sink.{after_begin, after_put, after_end, same_sink, HasPut}
 use Rattle.osm_files.specs.SpellLaws.{Puts, CallsAreSpelled}
 use Rattle.osm_files.proofs.Appending.{appended_on}
-use Rattle.osm_files.proofs.SpellSteps.{open_more, behind_append, list_split, may_follow}
+use Rattle.osm_files.proofs.SpellSteps.{open_more, after_append, list_split, may_follow}
 
 -- ---- two calls, in sequence
 module _ {O : Type 0} (w : Ghosts O) (before mid after : O) (xs ys : List ℕ) (first : Sent (change_of w before mid) 0 xs) where
@@ -46,8 +46,8 @@ module _ {O : Type 0} (w : Ghosts O) (before mid after : O) (xs ys : List ℕ) (
   -- bytes cut short in their second part are cut short
   cut_on : (output : ℕ) (fault : Fault) → NotSent output (change_of w mid after) (length xs) ys fault
       → CutShort output (change_of w before after) (xs ++ ys) fault
-  cut_on output fault (inl wanting) =
-      cut_at output fault 0 (omega arith) wanting.1 (inl wanting.0)
+  cut_on output fault (inl memory) =
+      cut_at output fault 0 (omega arith) memory.1 (inl memory.0)
   cut_on output fault (inr stopped) =
       cut_at output fault stopped.count stopped.within stopped.appended
       (elim stopped.why [
@@ -58,7 +58,7 @@ module _ {O : Type 0} (w : Ghosts O) (before mid after : O) (xs ys : List ℕ) (
 -- ---- one change
 module _ (output : ℕ) (change : Change) where
   cut_first : (ys : List ℕ) (fault : Fault) → NotSent output change 0 ys fault → CutShort output change ys fault
-  cut_first ys fault (inl wanting) = record { count = 0; within = omega arith; appended = wanting.1; why = inl wanting.0 }
+  cut_first ys fault (inl memory) = record { count = 0; within = omega arith; appended = memory.1; why = inl memory.0 }
   cut_first ys fault (inr stopped) = record {
     count = stopped.count;
     within = stopped.within;
@@ -78,7 +78,7 @@ module _ (output : ℕ) (change : Change) where
         let some : h.count ≤ length xs = h.within in
         subst (Appends change) (sym (take-append-le h.count xs ys some)) h.appended;
     why = elim h.why [
-      | inl wanting ↦ inl wanting
+      | inl memory ↦ inl memory
       | inr (inl broken) ↦ inr (inl broken)
       | inr (inr long) ↦ inr (inr (long.0, omega (arith, long.1, length-append xs ys)))
     ];
@@ -146,11 +146,11 @@ module _ (format : Format) (number : ℕ) where
     put_ok v t now h =
         let k = subst (PutCall v t now (Ok tt)) has.state h in
         let more = open_more format versions v in
-        let behind = behind_append format initial_writer versions (v ∷ []) in
+        let later = after_append format initial_writer versions (v ∷ []) in
         let long : length (open_file_bytes format versions) + length (one_more v) ≡ length (open_file_bytes format (versions ++ v ∷ [])) =
         sym (length-append (open_file_bytes format versions) (one_more v)) ∙ ap length (sym more) in
         record {
-          state = k.1 ∙ (λ i. at_front format number (sym behind i) (long i));
+          state = k.1 ∙ (λ i. at_front format number (sym later i) (long i));
           sent =
               subst (Sent (change_of w before now) 0) (sym more)
               (sent_on w before mid now (open_file_bytes format versions) (one_more v) has.sent k.0);

@@ -10,7 +10,8 @@ use Rattle.osm_files.specs.declared.fault.Fault.{Fault}
 use Rattle.osm_files.specs.declared.group.Group.{Group}
 use Rattle.osm_files.specs.declared.reason.Reason.TheVariants.{Unsorted}
 use Rattle.osm_files.specs.Fault.{memory_fault, fault_at}
-use Rattle.osm_files.specs.Groups.{to_ascending, list_of, still_with_ready, still_at, FileSourceData, source_data, FileSteps, IsOpenSource, Gathers}
+use Rattle.osm_files.specs.Groups.{to_ascending, list_of, still_with_ready, still_at, FileSourceData, source_data, FileSteps, IsOpenSource}
+use Rattle.osm_files.specs.Groups.{Gathers}
 use Rattle.osm_files.specs.Groups.{RefusesGroup, BeginsOn, GathersOn, RefusesOn}
 use Rattle.osm_files.specs.Input.{InputRest}
 use Rattle.osm_files.specs.Position.{Position, KnownPosition, with_coming, Between, units_or_failed, Keeps}
@@ -23,8 +24,10 @@ use Rattle.osm_files.proofs.ReaderLaws.{unread}
 use Rattle.osm_files.proofs.RiseLaws.{pending_rises, rest_rises, gathers_rise}
 
 -- a call that is refused, after which nothing is ready
-refused_at : (input : ℕ) (before : Option (SourceRest VersionData Fault)) (p : KnownPosition) (group ready : List VersionData) (fault : Fault) →
-    ready ≡ [] → RefusesGroup before fault (units_or_failed p) → SourceStep before (Err fault) (still_with_ready input (units_or_failed p) group ready)
+refused_at : (input : ℕ) (before : Option (SourceRest VersionData Fault)) (p : KnownPosition) (group ready : List VersionData)
+    (fault : Fault) →
+    ready ≡ [] → RefusesGroup before fault (units_or_failed p) →
+    SourceStep before (Err fault) (still_with_ready input (units_or_failed p) group ready)
 refused_at input before p group ready fault none refuses =
     subst (λ (xs : List VersionData). SourceStep before (Err fault) (still_with_ready input (units_or_failed p) group xs)) (sym none)
     (refused_step input before (units_or_failed p) group fault refuses)
@@ -34,7 +37,8 @@ module _ {R : Type 0} (can : R → InputRest → Type 0) where
   pub open_source : (units : Position R) (pending : Option VersionData) (ready : List VersionData) → ready ≡ [] →
       IsOpenSource can (source_data units (option_to_list pending) ready)
   open_source units pending ready none = (
-    λ c k. subst (λ (xs : List VersionData). IfSome (still_with_ready units.input (units_or_failed (with_coming units c)) (option_to_list pending) xs)
+    λ c k. subst (λ (xs : List VersionData). IfSome
+        (still_with_ready units.input (units_or_failed (with_coming units c)) (option_to_list pending) xs)
         Ascends) (sym none) (pending_rises units.input (units_or_failed (with_coming units c)) pending),
     λ failed. none,
   )
@@ -49,7 +53,8 @@ module _ {R : Type 0} (can : R → InputRest → Type 0) where
       (λ c. kept (still_with_ready p.input (units_or_failed (with_coming p c)) (first ∷ []) [])))
 
   -- memory ran out
-  pub memory_step : (s t : FileSourceData R) (fault : Fault) → fault ≡ memory_fault → t.units ≡ record s.units { failed = true } → t.ready ≡ [] →
+  pub memory_step : (s t : FileSourceData R) (fault : Fault) → fault ≡ memory_fault → t.units ≡ record s.units { failed = true } →
+      t.ready ≡ [] →
       FileSteps can s (Err fault) t
   memory_step s t fault is failed none later k = (
     later,
@@ -81,8 +86,10 @@ module _ {R : Type 0} (can : R → InputRest → Type 0) where
       FileSteps can s (Ok None) t
   begin_ended s t nothing ends none begins =
       subst (λ (xs : List VersionData). FileSteps can (source_data s.units s.group xs) (Ok None) t) (sym nothing)
-      (subst (λ (xs : List VersionData). FileSteps can (source_data s.units s.group []) (Ok None) (source_data t.units xs t.ready)) (sym ends)
-      (subst (λ (xs : List VersionData). FileSteps can (source_data s.units s.group []) (Ok None) (source_data t.units [] xs)) (sym none) begins))
+      (subst (λ (xs : List VersionData). FileSteps can (source_data s.units s.group []) (Ok None) (source_data t.units xs t.ready))
+      (sym ends)
+      (subst (λ (xs : List VersionData). FileSteps can (source_data s.units s.group []) (Ok None) (source_data t.units [] xs))
+      (sym none) begins))
 
   -- a group was read, and the version after it
   module _ (p : Position R) (has_begun : Group) (q : Position R) (group : Group) (next : Option VersionData)
@@ -103,9 +110,11 @@ module _ {R : Type 0} (can : R → InputRest → Type 0) where
     gives : (before after : Option (SourceRest Placed Fault)) (o : Option VersionData) (ready : List VersionData) →
         to_ascending (has_begun.first ∷ group.others.items) ≡ option_to_list o ++ ready → is_some o ≡ true →
         Gathers p.input before has_begun.others.items after has_begun.first group.others.items next
-        → SourceStep (still_with_ready p.input before (list_of has_begun) []) (Ok o) (still_with_ready p.input after (option_to_list next) ready)
+        → SourceStep (still_with_ready p.input before (list_of has_begun) []) (Ok o)
+        (still_with_ready p.input after (option_to_list next) ready)
     gives before after None ready e some h = absurd (false≢true some)
-    gives before after (Some v) ready e some h = gives_first p.input before has_begun.others.items after has_begun.first group.others.items next v
+    gives before after (Some v) ready e some h = gives_first p.input before has_begun.others.items after has_begun.first group.others.items
+        next v
         ready h e
 
     module _ (given : Option VersionData) (ready : List VersionData)
@@ -127,7 +136,8 @@ module _ {R : Type 0} (can : R → InputRest → Type 0) where
             let at_q = subst (λ (i : ℕ). IfSome (still_with_ready i (units_or_failed (with_coming q later)) (option_to_list next)
             (to_ascending (has_begun.first ∷ group.others.items))) Ascends) (sym number) up in
             rest_rises q.input (units_or_failed (with_coming q later)) (option_to_list next) given ready
-            (subst (λ (xs : List VersionData). IfSome (still_with_ready q.input (units_or_failed (with_coming q later)) (option_to_list next) xs)
+            (subst (λ (xs : List VersionData). IfSome (still_with_ready q.input (units_or_failed (with_coming q later))
+            (option_to_list next) xs)
             Ascends) all at_q),
         λ failed. absurd (false≢true (sym fine ∙ failed)),
       )
@@ -142,32 +152,38 @@ module _ {R : Type 0} (can : R → InputRest → Type 0) where
     given_from p group = still_with_ready s.units.input (units_or_failed p) group []
 
     -- a call from the state after the first version was read is a call from the state before
-    behind_first : (t : FileSourceData R) (r : Result (Option VersionData) Fault) (P : KnownPosition → KnownPosition → Type 0) → Between can b t.units P
-        → ((p q : KnownPosition) → P p q → SourceStep (given_from p (first ∷ [])) r (still_with_ready s.units.input (units_or_failed q) t.group t.ready)) →
+    after_first : (t : FileSourceData R) (r : Result (Option VersionData) Fault) (P : KnownPosition → KnownPosition → Type 0) →
+        Between can b t.units P
+        → ((p q : KnownPosition) → P p q → SourceStep (given_from p (first ∷ [])) r
+        (still_with_ready s.units.input (units_or_failed q) t.group t.ready)) →
         FileSteps can s r t
-    behind_first t r P step law later k =
+    after_first t r P step law later k =
         let y = step later k in
         let x = begins y.0 y.1 in
         let before = given_from (with_coming b y.0) (first ∷ []) in
         let keeps = subst (λ (xs : List VersionData). Keeps
-        (still_with_ready s.units.input (units_or_failed (with_coming s.units x.0)) s.group xs) before) (sym nothing) x.2 in
-        (x.0, x.1, step_on (start x.0) before (still_at s.units.input t later) r keeps (law (with_coming b y.0) (with_coming t.units later) y.2))
+        (still_with_ready s.units.input (units_or_failed (with_coming s.units x.0)) s.group xs) before) (sym nothing) x.2 in (
+          x.0,
+          x.1,
+          step_on (start x.0) before (still_at s.units.input t later) r keeps
+              (law (with_coming b y.0) (with_coming t.units later) y.2),
+        )
 
     -- A unit after the first version of a group that can't be read refuses the source.
     pub second_refused : (fault : Fault) (t : FileSourceData R) → t.ready ≡ [] → StepsOn can b (Err fault) t.units →
         FileSteps can s (Err fault) t
     second_refused fault t none step =
-        behind_first t (Err fault) (λ p q. SourceStep {A = Placed} (units_or_failed p) (Err fault) (units_or_failed q)) step
+        after_first t (Err fault) (λ p q. SourceStep {A = Placed} (units_or_failed p) (Err fault) (units_or_failed q)) step
         (λ p q h.
         refused_at s.units.input (given_from p (first ∷ [])) q t.group t.ready fault none
         (refuses_read s.units.input (units_or_failed p) [] (units_or_failed p) (units_or_failed q) first []
         (kept (given_from p (first ∷ []))) fault h))
 
     -- the first is the only one in its group
-    alone : (p q : KnownPosition) (next : Option VersionData) (group ready : List VersionData) → group ≡ option_to_list next → ready ≡ [] →
+    only : (p q : KnownPosition) (next : Option VersionData) (group ready : List VersionData) → group ≡ option_to_list next → ready ≡ [] →
         Gathers s.units.input (units_or_failed p) [] (units_or_failed q) first [] next
         → SourceStep (given_from p (first ∷ [])) (Ok (Some first)) (still_with_ready s.units.input (units_or_failed q) group ready)
-    alone p q next group ready is none h =
+    only p q next group ready is none h =
         subst (λ (xs : List VersionData). SourceStep (given_from p (first ∷ [])) (Ok (Some first))
         (still_with_ready s.units.input (units_or_failed q) group xs)) (sym none)
         (subst (λ (xs : List VersionData). SourceStep (given_from p (first ∷ [])) (Ok (Some first))
@@ -178,8 +194,8 @@ module _ {R : Type 0} (can : R → InputRest → Type 0) where
     pub second_ends : (t : FileSourceData R) → t.group ≡ [] → t.ready ≡ [] → StepsOn can b (Ok None) t.units →
         FileSteps can s (Ok (Some first)) t
     second_ends t ends none step =
-        behind_first t (Ok (Some first)) (λ p q. SourceStep {A = Placed} (units_or_failed p) (Ok None) (units_or_failed q)) step
-        (λ p q h. alone p q None t.group t.ready ends none
+        after_first t (Ok (Some first)) (λ p q. SourceStep {A = Placed} (units_or_failed p) (Ok None) (units_or_failed q)) step
+        (λ p q h. only p q None t.group t.ready ends none
         (ends_group s.units.input (units_or_failed p) [] (units_or_failed p) (units_or_failed q) first []
         (kept (given_from p (first ∷ []))) tt h))
 
@@ -189,15 +205,16 @@ module _ {R : Type 0} (can : R → InputRest → Type 0) where
       pub second_follows : (t : FileSourceData R) → t.units ≡ n → t.group ≡ u.version ∷ [] → t.ready ≡ [] →
           is_lt (key_cmp first u.version) ≡ true → FileSteps can s (Ok (Some first)) t
       second_follows t same group none less =
-          behind_first t (Ok (Some first)) (λ p q. SourceStep {A = Placed} (units_or_failed p) (Ok (Some u)) (units_or_failed q))
+          after_first t (Ok (Some first)) (λ p q. SourceStep {A = Placed} (units_or_failed p) (Ok (Some u)) (units_or_failed q))
           (subst (λ (v : Position R). StepsOn can b (Ok (Some u)) v) (sym same) step)
-          (λ p q h. alone p q (Some u.version) t.group t.ready group none
+          (λ p q h. only p q (Some u.version) t.group t.ready group none
           (begins_next s.units.input (units_or_failed p) [] (units_or_failed p) (units_or_failed q) first []
           (kept (given_from p (first ∷ []))) tt u h less))
 
       -- the step to the state in which every call is refused
       abbrev Fails : KnownPosition → KnownPosition → Type 0
-      Fails p q = (m : KnownPosition) × SourceStep {A = Placed} (units_or_failed p) (Ok (Some u)) (units_or_failed m) × (q ≡ record m { failed = true })
+      Fails p q = (m : KnownPosition) × SourceStep {A = Placed} (units_or_failed p) (Ok (Some u)) (units_or_failed m) ×
+          (q ≡ record m { failed = true })
 
       fails : (r : Position R) → r ≡ record n { failed = true } → Between can b r Fails
       fails r failed later k =
@@ -208,7 +225,7 @@ module _ {R : Type 0} (can : R → InputRest → Type 0) where
       pub second_falls : (fault : Fault) (t : FileSourceData R) → t.units ≡ record n { failed = true } → t.ready ≡ [] →
           is_gt (key_cmp first u.version) ≡ true → fault ≡ fault_at s.units.input u.place Unsorted → FileSteps can s (Err fault) t
       second_falls fault t failed none greater is =
-          behind_first t (Err fault) Fails (fails t.units failed) (λ p q (m, h, e).
+          after_first t (Err fault) Fails (fails t.units failed) (λ p q (m, h, e).
           refused_at s.units.input (given_from p (first ∷ [])) q t.group t.ready fault none
           (refuses_unsorted s.units.input (units_or_failed p) [] (units_or_failed p) (units_or_failed m) first []
           (kept (given_from p (first ∷ []))) u fault (units_or_failed q) m.input h greater is (ap units_or_failed e)))

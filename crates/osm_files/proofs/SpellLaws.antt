@@ -35,7 +35,8 @@ use Rattle.o5_codec.proofs.WrittenLists.{lists_read}
 use Rattle.osm_files.specs.declared.format.Format.{Format}
 use Rattle.osm_files.specs.declared.format.Format.TheVariants.{Opl, O5m, O5c}
 use Rattle.osm_files.specs.Opl.{is_read, OplFile}
-use Rattle.osm_files.specs.O5.{o5m_header, o5c_header, end_byte, reset_byte, type_byte, FilePart, Reset, Object, part_bytes, PartsSpell, O5File}
+use Rattle.osm_files.specs.O5.{o5m_header, o5c_header, end_byte, reset_byte, type_byte, FilePart, Reset, Object, part_bytes, PartsSpell}
+use Rattle.osm_files.specs.O5.{O5File}
 use Rattle.osm_files.specs.Units.{FileStateData, InOpl, BeforeHeader, start_of}
 use Rattle.osm_files.specs.Held.{IsFile, IsFileOf, Holds}
 use Rattle.osm_files.specs.Spell.{writer_with, writer_with_all, file_end, versions_bytes, spell_list, spell}
@@ -59,10 +60,11 @@ lines_file : (w : WriterState) (versions : List VersionData) → All IsVersion v
 lines_file w [] valid = tt
 lines_file w (v ∷ versions) valid =
     let rest : List ℕ = versions_bytes Opl (writer_with Opl w v) versions in
-    let alone = line_is_in_one_file v in
+    let only = line_is_in_one_file v in
     let pieces : split_all is_line_end ((line v ++ 10 ∷ []) ++ rest) ≡ line v ∷ split_all is_line_end rest =
-    ap (split_all is_line_end) (append_assoc (line v) (10 ∷ []) rest) ∙ cut_line (line v) rest alone.0 in
-    let kept : filter is_read (line v ∷ split_all is_line_end rest) ≡ line v ∷ filter is_read (split_all is_line_end rest) = rw alone.1 refl in
+    ap (split_all is_line_end) (append_assoc (line v) (10 ∷ []) rest) ∙ cut_line (line v) rest only.0 in
+    let kept : filter is_read (line v ∷ split_all is_line_end rest) ≡ line v ∷ filter is_read (split_all is_line_end rest) =
+    rw only.1 refl in
     let P : List (List ℕ) → Type 0 = λ ls. Pairwise Spells ls (v ∷ versions) in
     subst P (sym (ap (filter is_read) pieces ∙ kept)) (
       (line_spells_its_version v (valid 0 v (omega arith))).spelled,
@@ -135,7 +137,8 @@ spelled_file : (f : Format) (versions : List VersionData) → All IsVersion vers
     IsFile (spell_list f versions) versions
 spelled_file Opl versions valid short =
     let lines : List ℕ = versions_bytes Opl initial_writer versions in
-    let file : IsFile lines versions = subst (λ (stage : FileStateData). IsFileOf stage lines versions) (sym (lines_start initial_writer versions))
+    let file : IsFile lines versions = subst (λ (stage : FileStateData). IsFileOf stage lines versions)
+    (sym (lines_start initial_writer versions))
     (lines_file initial_writer versions valid) in
     subst (λ (bytes : List ℕ). IsFile bytes versions) (sym (append-nil lines)) file
 spelled_file O5m versions valid short =

@@ -12,11 +12,13 @@ use Rattle.std.specs.List.Sorted.{IsStrictlySortedBy}
 use Rattle.osm_model.specs.Kind.{kind_order}
 use Rattle.osm_model.specs.Data.{VersionData, kind_of}
 use Rattle.osm_model.specs.Order.{version_cmp}
-use Rattle.o5_codec.specs.Encoder.{WriterState, initial_writer, begins_segment, reset_before, data_set, segment_before, spelled_set, writer_after}
+use Rattle.o5_codec.specs.Encoder.{WriterState, initial_writer, begins_segment, reset_before, data_set, segment_before, spelled_set}
+use Rattle.o5_codec.specs.Encoder.{writer_after}
 use Rattle.o5_codec.specs.Writing.{content_spelling}
 use Rattle.osm_files.specs.declared.format.Format.{Format}
 use Rattle.osm_files.specs.declared.format.Format.TheVariants.{Opl, O5m, O5c}
-use Rattle.osm_files.specs.Spell.{file_start, file_end, version_bytes, writer_with, writer_with_all, versions_bytes, open_file_bytes, spell_list}
+use Rattle.osm_files.specs.Spell.{file_start, file_end, version_bytes, writer_with, writer_with_all, versions_bytes, open_file_bytes}
+use Rattle.osm_files.specs.Spell.{spell_list}
 use Rattle.osm_files.specs.Sink.{MayFollow}
 
 -- The data set of a version has a byte at least.
@@ -36,10 +38,10 @@ spelled_append f w (v ∷ vs) others =
     (versions_bytes f (writer_with_all f (writer_with f w v) vs) others))
 
 -- The state after two lists in sequence is the state after the second one, which follows the first.
-pub behind_append : (f : Format) (w : WriterState) (vs others : List VersionData)
+pub after_append : (f : Format) (w : WriterState) (vs others : List VersionData)
     → writer_with_all f w (vs ++ others) ≡ writer_with_all f (writer_with_all f w vs) others
-behind_append f w [] others = refl
-behind_append f w (v ∷ vs) others = behind_append f (writer_with f w v) vs others
+after_append f w [] others = refl
+after_append f w (v ∷ vs) others = after_append f (writer_with f w v) vs others
 
 -- one more version
 pub open_more : (f : Format) (vs : List VersionData) (v : VersionData)
@@ -61,11 +63,11 @@ list_split f vs others =
     ∙ ap (λ x. x ++ file_end f) (sym (append_assoc (file_start f) front back))
     ∙ append_assoc (file_start f ++ front) back (file_end f)
 
-last_behind : (f : Format) (w : WriterState) (v : VersionData) → (writer_with f w v).last ≡ kind_of v.body
+last_after : (f : Format) (w : WriterState) (v : VersionData) → (writer_with f w v).last ≡ kind_of v.body
 unfolding writer_after
-last_behind Opl w v = refl
-last_behind O5m w v = refl
-last_behind O5c w v = refl
+last_after Opl w v = refl
+last_after O5m w v = refl
+last_after O5c w v = refl
 
 -- If the first of two orders is Greater, the order by both isn't Less.
 pub first_so : (a b : Ordering) → ordering_then a b ≡ Less → a ≡ Greater → ⊥
@@ -99,9 +101,9 @@ follows_at f w xs i d sorted within =
     let less : version_cmp v (get_or xs (i + 1) d) ≡ Less =
     Less-from_sorted version_cmp xs i (i + 1) d sorted (omega arith) (omega (arith, within)) in
     let state : writer_with_all f w (take (i + 1) xs) ≡ writer_with f (writer_with_all f w (take i xs)) v =
-    ap (writer_with_all f w) (take_more xs i d (omega (arith, within))) ∙ behind_append f w (take i xs) (v ∷ []) in
+    ap (writer_with_all f w) (take_more xs i d (omega (arith, within))) ∙ after_append f w (take i xs) (v ∷ []) in
     let last : (writer_with_all f w (take (i + 1) xs)).last ≡ kind_of v.body =
-    ap (λ s. s.last) state ∙ last_behind f (writer_with_all f w (take i xs)) v in
+    ap (λ s. s.last) state ∙ last_after f (writer_with_all f w (take i xs)) v in
     subst (λ k. kind_order k ≤ kind_order (kind_of (get_or xs (i + 1) d).body)) (sym last) (kinds_ascend v (get_or xs (i + 1) d) less)
 
 -- in an ascending list each version may follow those before it

@@ -10,12 +10,13 @@ use Rattle.opl_line.specs.Delimiter.{is_line_end, with_byte, split_first}
 use Rattle.o5_codec.specs.declared.reason.O5Reason.{O5Reason}
 use Rattle.o5_codec.specs.declared.reason.O5Reason.TheVariants.{BadNumber}
 use Rattle.o5_codec.specs.declared.segment.Segment.{Segment}
-use Rattle.o5_codec.specs.Answer.{and_then}
+use Rattle.o5_codec.specs.Results.{and_then}
 use Rattle.o5_codec.specs.Number.{groups_at, number_at, with_low, within_word}
 use Rattle.o5_codec.specs.Decoder.{new_segment}
 use Rattle.osm_files.specs.declared.reason.Reason.TheVariants.{BadHeader}
 use Rattle.osm_files.specs.O5.{end_byte, reset_byte, is_lone, kind_of_type}
-use Rattle.osm_files.specs.Units.{FileStateData, InOpl, BeforeHeader, InSegment, PastEnd, FileUnit, unit, no_version, line_unit, header_unit}
+use Rattle.osm_files.specs.Units.{FileStateData, InOpl, BeforeHeader, InSegment, PastEnd, FileUnit, unit, no_version, line_unit}
+use Rattle.osm_files.specs.Units.{header_unit}
 use Rattle.osm_files.specs.Units.{is_header, content_found, is_last, is_ended, length_at, sized_unit, segment_unit, unit_after_end, unit_at}
 use Rattle.osm_files.proofs.UnitLaws.{some_is_not_none}
 use Rattle.osm_files.proofs.PartLaws.{length_found}
@@ -25,28 +26,28 @@ Split = List ℕ × Option (List ℕ)
 
 module _ (p : ℕ → Bool) where
   -- the second part of a split decides
-  longer_split : (b : ℕ) (s t : Split) (more behind : List ℕ) → ((behind : List ℕ) → s.1 ≡ Some behind → t ≡ (s.0, Some (behind ++ more))) →
-      (with_byte b s).1 ≡ Some behind → with_byte b t ≡ ((with_byte b s).0, Some (behind ++ more))
-  longer_split b s t more behind on e = ap (with_byte b) (on behind e)
+  longer_split : (b : ℕ) (s t : Split) (more rest : List ℕ) → ((rest : List ℕ) → s.1 ≡ Some rest → t ≡ (s.0, Some (rest ++ more))) →
+      (with_byte b s).1 ≡ Some rest → with_byte b t ≡ ((with_byte b s).0, Some (rest ++ more))
+  longer_split b s t more rest on e = ap (with_byte b) (on rest e)
 
-  split_more : (bytes more behind : List ℕ) → (split_first p bytes).1 ≡ Some behind →
-      split_first p (bytes ++ more) ≡ ((split_first p bytes).0, Some (behind ++ more))
-  split_more [] more behind e = absurd (some_is_not_none behind (sym e))
-  split_more (b ∷ bytes) more behind f =
-      elim (p b) as (λ t. (cond t ([], Some bytes) (with_byte b (split_first p bytes))).1 ≡ Some behind →
+  split_more : (bytes more rest : List ℕ) → (split_first p bytes).1 ≡ Some rest →
+      split_first p (bytes ++ more) ≡ ((split_first p bytes).0, Some (rest ++ more))
+  split_more [] more rest e = absurd (some_is_not_none rest (sym e))
+  split_more (b ∷ bytes) more rest f =
+      elim (p b) as (λ t. (cond t ([], Some bytes) (with_byte b (split_first p bytes))).1 ≡ Some rest →
       cond t ([], Some (bytes ++ more)) (with_byte b (split_first p (bytes ++ more)))
-      ≡ ((cond t ([], Some bytes) (with_byte b (split_first p bytes))).0, Some (behind ++ more))) [
-        | true ↦ λ e. let same : bytes ≡ behind = cc in ap (λ x. ([], Some (x ++ more))) same
-        | false ↦ λ e. longer_split b (split_first p bytes) (split_first p (bytes ++ more)) more behind (split_more bytes more) e
+      ≡ ((cond t ([], Some bytes) (with_byte b (split_first p bytes))).0, Some (rest ++ more))) [
+        | true ↦ λ e. let same : bytes ≡ rest = cc in ap (λ x. ([], Some (x ++ more))) same
+        | false ↦ λ e. longer_split b (split_first p bytes) (split_first p (bytes ++ more)) more rest (split_more bytes more) e
       ] f
 
 abbrev Stays : (List ℕ → Option FileUnit) → List ℕ → List ℕ → Type 0
 Stays unit_of bytes more = (u : FileUnit) → unit_of bytes ≡ Some u → unit_of (bytes ++ more) ≡ Some u
 
-by_split : (s t : Split) (more : List ℕ) (u : FileUnit) → ((behind : List ℕ) → s.1 ≡ Some behind → t ≡ (s.0, Some (behind ++ more))) →
+by_split : (s t : Split) (more : List ℕ) (u : FileUnit) → ((rest : List ℕ) → s.1 ≡ Some rest → t ≡ (s.0, Some (rest ++ more))) →
     line_unit s ≡ Some u → line_unit t ≡ Some u
 by_split (line, None) t more u on e = absurd (some_is_not_none u (sym e))
-by_split (line, Some behind) t more u on e = ap line_unit (on behind refl) ∙ e
+by_split (line, Some rest) t more u on e = ap line_unit (on rest refl) ∙ e
 
 line_stays : (bytes more : List ℕ) → Stays (λ x. line_unit (split_first is_line_end x)) bytes more
 line_stays bytes more u = by_split (split_first is_line_end bytes) (split_first is_line_end (bytes ++ more)) more u
@@ -87,10 +88,10 @@ word_more more (Ok x) =
     ]
 
 -- a number that is ended, or has too many bytes, is read in the same way whatever follows
-behind_first : (b : ℕ) (bytes : List ℕ) (room : ℕ) → nat_lt b 128 ≡ false →
+after_first : (b : ℕ) (bytes : List ℕ) (room : ℕ) → nat_lt b 128 ≡ false →
     (suc room < length (b ∷ bytes)) ⊎ (list_any is_last (b ∷ bytes) ≡ true) → (room < length bytes) ⊎ (list_any is_last bytes ≡ true)
-behind_first b bytes room is (inl h) = inl (omega (arith, h))
-behind_first b bytes room is (inr h) = inr (ap (λ t. t || list_any is_last bytes) (sym is) ∙ h)
+after_first b bytes room is (inl h) = inl (omega (arith, h))
+after_first b bytes room is (inr h) = inr (ap (λ t. t || list_any is_last bytes) (sym is) ∙ h)
 
 groups_stay : (room : ℕ) (bytes more : List ℕ) → (room < length bytes) ⊎ (list_any is_last bytes ≡ true) →
     groups_at room (bytes ++ more) ≡ and_more more (groups_at room bytes)
@@ -102,7 +103,7 @@ groups_stay (suc room) (b ∷ bytes) more h =
     elim (nat_lt b 128) as (λ t. nat_lt b 128 ≡ t → cond t (Ok (b, bytes ++ more)) (with_low (b - 128) (groups_at room (bytes ++ more)))
     ≡ and_more more (cond t (Ok (b, bytes)) (with_low (b - 128) (groups_at room bytes)))) [
       | true ↦ λ is. refl
-      | false ↦ λ is. ap (with_low (b - 128)) (groups_stay room bytes more (behind_first b bytes room is h))
+      | false ↦ λ is. ap (with_low (b - 128)) (groups_stay room bytes more (after_first b bytes room is h))
           ∙ low_more (b - 128) more (groups_at room bytes)
     ] refl
 
@@ -148,18 +149,18 @@ length_stays bytes more ended = rw (ends_more bytes more ended, number_stays byt
 sized_more : (s : Segment) (b : ℕ) (bytes more : List ℕ) (u : FileUnit) (x : Number) → length_at bytes ≡ Some x →
     sized_unit s b bytes (Some x) ≡ Some u → sized_unit s b (bytes ++ more) (Some (and_more more x)) ≡ Some u
 sized_more s b bytes more u (Err reason) at e = e
-sized_more s b bytes more u (Ok (size, behind)) at f =
-    let found = length_found b bytes size behind at in
-    elim (nat_le size (length behind)) as (λ t. nat_le size (length behind) ≡ t →
-    cond t (Some (unit (1 + (length bytes - length behind) + size) (content_found s (kind_of_type b) (take size behind)))) None
-    ≡ Some u → sized_unit s b (bytes ++ more) (Some (Ok (size, behind ++ more))) ≡ Some u) [
+sized_more s b bytes more u (Ok (size, rest)) at f =
+    let found = length_found b bytes size rest at in
+    elim (nat_le size (length rest)) as (λ t. nat_le size (length rest) ≡ t →
+    cond t (Some (unit (1 + (length bytes - length rest) + size) (content_found s (kind_of_type b) (take size rest)))) None
+    ≡ Some u → sized_unit s b (bytes ++ more) (Some (Ok (size, rest ++ more))) ≡ Some u) [
       | true ↦ λ is e. (
-          let within : size ≤ length behind = leb-true size (length behind) is in
-          let fits : nat_le size (length (behind ++ more)) ≡ true =
-          (let n : size ≤ length (behind ++ more) = omega (arith, within, length-append behind more) in grind (arith, nat_tests)) in
-          let same : take size (behind ++ more) ≡ take size behind = take-append-le size behind more within in
-          let far : length (bytes ++ more) - length (behind ++ more) ≡ length bytes - length behind =
-          omega (arith, length-append bytes more, length-append behind more) in
+          let within : size ≤ length rest = leb-true size (length rest) is in
+          let fits : nat_le size (length (rest ++ more)) ≡ true =
+          (let n : size ≤ length (rest ++ more) = omega (arith, within, length-append rest more) in grind (arith, nat_tests)) in
+          let same : take size (rest ++ more) ≡ take size rest = take-append-le size rest more within in
+          let far : length (bytes ++ more) - length (rest ++ more) ≡ length bytes - length rest =
+          omega (arith, length-append bytes more, length-append rest more) in
           rw (fits, same, far) e)
       | false ↦ λ is e. absurd (some_is_not_none u (sym e))
     ] refl f
@@ -195,9 +196,9 @@ segment_stays s (b ∷ bytes) more u e =
           ]
     ] e
 
-behind_stays : (bytes more : List ℕ) → Stays unit_after_end bytes more
-behind_stays [] more u e = absurd (some_is_not_none u (sym e))
-behind_stays (b ∷ bytes) more u e = e
+rest_stays : (bytes more : List ℕ) → Stays unit_after_end bytes more
+rest_stays [] more u e = absurd (some_is_not_none u (sym e))
+rest_stays (b ∷ bytes) more u e = e
 
 -- A whole unit stays the same, whatever bytes follow it.
 pub unit_stays : (stage : FileStateData) (bytes more : List ℕ) → Stays (unit_at stage) bytes more
@@ -205,4 +206,4 @@ unfolding unit_at
 unit_stays InOpl bytes more = line_stays bytes more
 unit_stays BeforeHeader bytes more = header_stays bytes more
 unit_stays (InSegment s) bytes more = segment_stays s bytes more
-unit_stays PastEnd bytes more = behind_stays bytes more
+unit_stays PastEnd bytes more = rest_stays bytes more

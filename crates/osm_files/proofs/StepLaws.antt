@@ -10,8 +10,10 @@ use Rattle.o5_codec.specs.Decoder.{new_segment}
 use Rattle.osm_files.specs.declared.reason.Reason.TheVariants.{BadHeader}
 use Rattle.osm_files.specs.Stream.{Verdict, Placed, SourceRest}
 use Rattle.osm_files.specs.O5.{end_byte, reset_byte, is_lone, kind_of_type}
-use Rattle.osm_files.specs.Units.{FileStateData, InOpl, BeforeHeader, InSegment, PastEnd, UnitResult, FileUnit, unit, no_version, line_unit, line_found}
-use Rattle.osm_files.specs.Units.{header_unit, is_header, content_found, length_at, sized_unit, segment_unit, unit_after_end, unit_at, last_at}
+use Rattle.osm_files.specs.Units.{FileStateData, InOpl, BeforeHeader, InSegment, PastEnd, UnitResult, FileUnit, unit, no_version, line_unit}
+use Rattle.osm_files.specs.Units.{line_found}
+use Rattle.osm_files.specs.Units.{header_unit, is_header, content_found, length_at, sized_unit, segment_unit, unit_after_end, unit_at}
+use Rattle.osm_files.specs.Units.{last_at}
 use Rattle.osm_files.specs.Units.{found_then, final_units, unit_then, units_within, units}
 use Rattle.osm_files.proofs.UnitLaws.{splits, SplitsAs, some_is_not_none}
 use Rattle.osm_files.proofs.PartLaws.{length_found}
@@ -34,9 +36,9 @@ some_sized bytes size found some within = λ u e.
 
 line_sized : (bytes : List ℕ) (s : List ℕ × Option (List ℕ)) → SplitsAs bytes s → Sizes bytes (line_unit s)
 line_sized bytes (line, None) h = none_sized bytes
-line_sized bytes (line, Some behind) h =
+line_sized bytes (line, Some rest) h =
     some_sized bytes (length line + 1) (line_found (reading_line line)) (omega arith)
-    (omega (arith, ap length h.1, length-append line (h.0 ∷ behind)))
+    (omega (arith, ap length h.1, length-append line (h.0 ∷ rest)))
 
 header_sized : (bytes : List ℕ) → Sizes bytes (header_unit bytes)
 header_sized bytes =
@@ -50,13 +52,13 @@ set_sized : (s : Segment) (b : ℕ) (bytes : List ℕ) (x : Option (Result (ℕ 
     Sizes (b ∷ bytes) (sized_unit s b bytes x)
 set_sized s b bytes None e = none_sized (b ∷ bytes)
 set_sized s b bytes (Some (Err reason)) e = some_sized (b ∷ bytes) 1 _ (omega arith) (omega arith)
-set_sized s b bytes (Some (Ok (size, behind))) e =
-    let found = length_found b bytes size behind e in
-    elim (nat_le size (length behind)) as (λ t. nat_le size (length behind) ≡ t →
-    Sizes (b ∷ bytes) (cond t (Some (unit (1 + (length bytes - length behind) + size)
-    (content_found s (kind_of_type b) (take size behind)))) None)) [
-      | true ↦ λ is. some_sized (b ∷ bytes) (1 + (length bytes - length behind) + size) _ (omega arith)
-          (let fits = leb-true size (length behind) is in omega (arith, fits, ap length found.split, length-append found.size behind))
+set_sized s b bytes (Some (Ok (size, rest))) e =
+    let found = length_found b bytes size rest e in
+    elim (nat_le size (length rest)) as (λ t. nat_le size (length rest) ≡ t →
+    Sizes (b ∷ bytes) (cond t (Some (unit (1 + (length bytes - length rest) + size)
+    (content_found s (kind_of_type b) (take size rest)))) None)) [
+      | true ↦ λ is. some_sized (b ∷ bytes) (1 + (length bytes - length rest) + size) _ (omega arith)
+          (let fits = leb-true size (length rest) is in omega (arith, fits, ap length found.split, length-append found.size rest))
       | false ↦ λ is. none_sized (b ∷ bytes)
     ] refl
 
@@ -79,9 +81,9 @@ segment_sized s (b ∷ bytes) =
           ]
     ]
 
-behind_sized : (bytes : List ℕ) → Sizes bytes (unit_after_end bytes)
-behind_sized [] = none_sized []
-behind_sized (b ∷ bytes) = some_sized (b ∷ bytes) 1 _ (omega arith) (omega arith)
+after_sized : (bytes : List ℕ) → Sizes bytes (unit_after_end bytes)
+after_sized [] = none_sized []
+after_sized (b ∷ bytes) = some_sized (b ∷ bytes) 1 _ (omega arith) (omega arith)
 
 -- A whole unit has a byte at least, and no more than there are.
 pub unit_sized : (stage : FileStateData) (bytes : List ℕ) → Sizes bytes (unit_at stage bytes)
@@ -89,10 +91,11 @@ unfolding unit_at
 unit_sized InOpl bytes = line_sized bytes (split_first is_line_end bytes) (splits is_line_end bytes)
 unit_sized BeforeHeader bytes = header_sized bytes
 unit_sized (InSegment s) bytes = segment_sized s bytes
-unit_sized PastEnd bytes = behind_sized bytes
+unit_sized PastEnd bytes = after_sized bytes
 
 -- The units after a unit may be replaced by equal ones.
-pub found_same : (place : ℕ) (found : UnitResult) (more others : FileStateData → SourceRest Placed Verdict) → ((next : FileStateData) → more next ≡ others next) →
+pub found_same : (place : ℕ) (found : UnitResult) (more others : FileStateData → SourceRest Placed Verdict) →
+    ((next : FileStateData) → more next ≡ others next) →
     found_then place found more ≡ found_then place found others
 found_same place (Err reason) more others same = refl
 found_same place (Ok (None, next)) more others same = same next

@@ -8,10 +8,11 @@ use Rattle.opl_line.specs.Reading.{is_skipped, reading_line}
 use Rattle.opl_line.specs.Spells.{Spells}
 use Rattle.opl_line.specs.declared.reason.OplReason.{OplReason}
 use Rattle.opl_line.proofs.CutLaws.{cut_split}
-use Rattle.opl_line.proofs.SpellsLaws.{read_is_spelled, one_reading, refused_spells_nothing, answer_spelled}
+use Rattle.opl_line.proofs.SpellsLaws.{read_is_spelled, one_reading, refused_spells_nothing, result_spelled}
 use Rattle.osm_files.specs.Stream.{Verdict, Placed, SourceRest, end_whole}
 use Rattle.osm_files.specs.Opl.{is_read, OplFile}
-use Rattle.osm_files.specs.Units.{FileStateData, InOpl, line_found, line_unit, found_then, final_units, unit_then, unit_at, last_at, units_within}
+use Rattle.osm_files.specs.Units.{FileStateData, InOpl, line_found, line_unit, found_then, final_units, unit_then, unit_at, last_at}
+use Rattle.osm_files.specs.Units.{units_within}
 use Rattle.osm_files.specs.Verdict.{versions_of}
 
 -- units have no verdict exactly if their bytes spell versions, and then the units have these versions
@@ -55,10 +56,10 @@ refused_line line pieces reason versions e all =
     refused_spells_nothing line reason k.0 e k.3
 
 pub line_then : (line : List ℕ) (pieces : List (List ℕ)) (place : ℕ) (more : FileStateData → SourceRest Placed Verdict) →
-    ReadsAs (more InOpl) (LineFile pieces) → (answer : Result (Option VersionData) OplReason) → reading_line line ≡ answer
-    → ReadsAs (found_then place (line_found answer) more) (LineFile (line ∷ pieces))
+    ReadsAs (more InOpl) (LineFile pieces) → (result : Result (Option VersionData) OplReason) → reading_line line ≡ result
+    → ReadsAs (found_then place (line_found result) more) (LineFile (line ∷ pieces))
 line_then line pieces place more h (Ok None) e =
-    let skipped : is_skipped line ≡ true = answer_spelled line (Ok None) e in
+    let skipped : is_skipped line ≡ true = result_spelled line (Ok None) e in
     let same : filter is_read (line ∷ pieces) ≡ filter is_read pieces = rw skipped refl in
     let P : List (List ℕ) → Type 0 = λ ls. ReadsAs (more InOpl) (Pairwise Spells ls) in
     subst P (sym same) h
@@ -83,11 +84,11 @@ line_then line pieces place more h (Err reason) e = record {
 -- a text up to the first byte that it is cut at
 abbrev pub SplitsAs : List ℕ → List ℕ × Option (List ℕ) → Type 0
 SplitsAs bytes (line, None) = line ≡ bytes
-SplitsAs bytes (line, Some behind) = (b : ℕ) × (bytes ≡ line ++ b ∷ behind)
+SplitsAs bytes (line, Some after) = (b : ℕ) × (bytes ≡ line ++ b ∷ after)
 
 longer : (b : ℕ) (bytes : List ℕ) (s : List ℕ × Option (List ℕ)) → SplitsAs bytes s → SplitsAs (b ∷ bytes) (with_byte b s)
 longer b bytes (line, None) h = ap (λ l. b ∷ l) h
-longer b bytes (line, Some behind) h = (h.0, ap (λ l. b ∷ l) h.1)
+longer b bytes (line, Some after) h = (h.0, ap (λ l. b ∷ l) h.1)
 
 -- The first piece of a text is the text up to the first byte at which it is cut.
 pub splits : (p : ℕ → Bool) (bytes : List ℕ) → SplitsAs bytes (split_first p bytes)
@@ -99,10 +100,10 @@ splits p (b ∷ bytes) =
     ]
 
 -- after a piece and its end
-pub drop_behind : (front : List ℕ) (b : ℕ) (behind : List ℕ) → drop (length front + 1) (front ++ b ∷ behind) ≡ behind
-drop_behind [] b behind = refl
-drop_behind (a ∷ front) b behind = let e : length (a ∷ front) + 1 ≡ suc (length front + 1) = omega arith in
-    rw e (drop_behind front b behind)
+pub drop_after : (front : List ℕ) (b : ℕ) (after : List ℕ) → drop (length front + 1) (front ++ b ∷ after) ≡ after
+drop_after [] b after = refl
+drop_after (a ∷ front) b after = let e : length (a ∷ front) + 1 ≡ suc (length front + 1) = omega arith in
+    rw e (drop_after front b after)
 
 abbrev pub Reads : ℕ → Type 0
 Reads n = (bytes : List ℕ) (place : ℕ) → length bytes ≤ n → ReadsAs (units_within n None InOpl place bytes) (OplFile bytes)
@@ -132,16 +133,17 @@ first_line : (n : ℕ) → Reads n → (bytes : List ℕ) (place : ℕ) → leng
     → ReadsAs (unit_then None InOpl place bytes (units_within n None) (line_unit s)) (OplFile bytes)
 first_line n on bytes place fits (line, None) split pieces =
     let P : List (List ℕ) → Type 0 = λ ls. ReadsAs (final_units None place (last_at InOpl bytes)) (LineFile ls) in
-    subst P (sym pieces ∙ refl) (subst (λ (l : List ℕ). ReadsAs (final_units None place (last_at InOpl bytes)) (LineFile (l ∷ []))) (sym split)
+    subst P (sym pieces ∙ refl) (subst (λ (l : List ℕ). ReadsAs (final_units None place (last_at InOpl bytes)) (LineFile (l ∷ [])))
+    (sym split)
     (last_line place bytes))
-first_line n on bytes place fits (line, Some behind) split pieces =
+first_line n on bytes place fits (line, Some after) split pieces =
     let size : ℕ = length line + 1 in
-    let rest : drop size bytes ≡ behind = ap (drop size) split.1 ∙ drop_behind line split.0 behind in
-    let few : length behind ≤ n = omega (arith, fits, ap length split.1, length-append line (split.0 ∷ behind)) in
+    let rest : drop size bytes ≡ after = ap (drop size) split.1 ∙ drop_after line split.0 after in
+    let few : length after ≤ n = omega (arith, fits, ap length split.1, length-append line (split.0 ∷ after)) in
     let more : FileStateData → SourceRest Placed Verdict = λ next. units_within n None next (place + size) (drop size bytes) in
-    let reads : ReadsAs (more InOpl) (LineFile (split_all is_line_end behind)) = rw rest (on behind (place + size) few) in
+    let reads : ReadsAs (more InOpl) (LineFile (split_all is_line_end after)) = rw rest (on after (place + size) few) in
     let P : List (List ℕ) → Type 0 = λ ls. ReadsAs (found_then place (line_found (reading_line line)) more) (LineFile ls) in
-    subst P (sym pieces) (line_then line (split_all is_line_end behind) place more reads (reading_line line) refl)
+    subst P (sym pieces) (line_then line (split_all is_line_end after) place more reads (reading_line line) refl)
 
 -- The units of an OPL file read as its lines.
 pub opl_reads : (n : ℕ) → Reads n

@@ -17,7 +17,8 @@ use Rattle.o5_codec.specs.Number.{number_at}
 use Rattle.osm_files.specs.Reason.{of_line, of_data_set}
 use Rattle.osm_files.specs.O5.{kind_of_type}
 use Rattle.osm_files.specs.Reading.{Finds, ends_at}
-use Rattle.osm_files.specs.Units.{FileStateData, PastEnd, unit_after_end, segment_unit, InOpl, is_ended, length_at, sized_unit, content_found, unit}
+use Rattle.osm_files.specs.Units.{FileStateData, PastEnd, unit_after_end, segment_unit, InOpl, is_ended, length_at, sized_unit}
+use Rattle.osm_files.specs.Units.{content_found, unit}
 use Rattle.osm_files.specs.Units.{line_unit, line_found, header_unit, is_header, no_version}
 
 -- Where no line end is there, no line is whole.
@@ -62,18 +63,19 @@ module _ (s : Segment) (b : ℕ) (bytes : List ℕ) (next : FileStateData) (ende
   size_refused inner reason e is = inr (1, rw (ended, e, is) refl)
 
   -- A content that can't be read is the faulty unit at the front.
-  pub content_refused : (size : ℕ) (behind : List ℕ) (reason : Reason) → number_at bytes ≡ Ok (size, behind) → size ≤ length behind →
-      (reason ≡ Memory) ⊎ (content_found s (kind_of_type b) (take size behind) ≡ Err reason)
+  pub content_refused : (size : ℕ) (rest : List ℕ) (reason : Reason) → number_at bytes ≡ Ok (size, rest) → size ≤ length rest →
+      (reason ≡ Memory) ⊎ (content_found s (kind_of_type b) (take size rest) ≡ Err reason)
       → Finds (sized_unit s b bytes (length_at bytes)) (Err reason) next
-  content_refused size behind reason e within (inl is) = inl is
-  content_refused size behind reason e within (inr is) =
-      let fits : nat_le size (length behind) ≡ true = grind (arith, nat_tests) in
-      inr (1 + (length bytes - length behind) + size, rw (ended, e, fits, is) refl)
+  content_refused size rest reason e within (inl is) = inl is
+  content_refused size rest reason e within (inr is) =
+      let fits : nat_le size (length rest) ≡ true = grind (arith, nat_tests) in
+      inr (1 + (length bytes - length rest) + size, rw (ended, e, fits, is) refl)
 
 -- A byte after the end of a file is AfterEnd.
-pub behind_first : (bytes : List ℕ) (b : ℕ) (next : FileStateData) → Some b ≡ slice_get bytes 0 → Finds (unit_after_end bytes) (Err AfterEnd) next
-behind_first [] b next e = absurd (let f : Some b ≡ None = e in cc)
-behind_first (c ∷ bytes) b next e = inr (1, refl)
+pub after_first : (bytes : List ℕ) (b : ℕ) (next : FileStateData) → Some b ≡ slice_get bytes 0 →
+    Finds (unit_after_end bytes) (Err AfterEnd) next
+after_first [] b next e = absurd (let f : Some b ≡ None = e in cc)
+after_first (c ∷ bytes) b next e = inr (1, refl)
 
 -- The end byte is the unit at the front.
 pub end_first : (s : Segment) (bytes : List ℕ) → ends_at bytes ≡ true → segment_unit s bytes ≡ Some (unit 1 (no_version PastEnd))

@@ -20,9 +20,9 @@ last_is b bs =
     let one_less : length (b ∷ bs) - 1 ≡ length bs = omega arith in
     ap (slice_get (b ∷ bs)) one_less ∙ last_at b bs
 
-last_behind : (b : ℕ) (bs : List ℕ) (c : ℕ) (cs : List ℕ) → last_byte b (bs ++ c ∷ cs) ≡ last_byte c cs
-last_behind b [] c cs = refl
-last_behind b (d ∷ bs) c cs = last_behind d bs c cs
+last_after : (b : ℕ) (bs : List ℕ) (c : ℕ) (cs : List ℕ) → last_byte b (bs ++ c ∷ cs) ≡ last_byte c cs
+last_after b [] c cs = refl
+last_after b (d ∷ bs) c cs = last_after d bs c cs
 
 -- ---- what comes next
 next_in_opl : (ends : Bool) (first last : ℕ) → ending_of last ≡ ending_by (cond ends LineEnd InLine) first last
@@ -44,23 +44,23 @@ next InLine start between first last = next_in_opl (between == 10) first last
 ending_is : (ending : Ending) (b : ℕ) (bs : List ℕ) → ending_after ending (b ∷ bs) ≡ ending_by ending b (last_byte b bs)
 ending_is ending b bs = ap (ending_by_ends ending (Some b)) (last_is b bs)
 
-ending_behind : (ending : Ending) (xs ys : List ℕ) → ending_after ending (xs ++ ys) ≡ ending_after (ending_after ending xs) ys
-ending_behind ending [] ys = refl
-ending_behind ending (x ∷ xs) [] = ap (ending_after ending) (append-nil (x ∷ xs))
-ending_behind ending (x ∷ xs) (y ∷ ys) =
+ending_in_rest : (ending : Ending) (xs ys : List ℕ) → ending_after ending (xs ++ ys) ≡ ending_after (ending_after ending xs) ys
+ending_in_rest ending [] ys = refl
+ending_in_rest ending (x ∷ xs) [] = ap (ending_after ending) (append-nil (x ∷ xs))
+ending_in_rest ending (x ∷ xs) (y ∷ ys) =
     ending_is ending x (xs ++ y ∷ ys)
-    ∙ ap (ending_by ending x) (last_behind x xs y ys)
+    ∙ ap (ending_by ending x) (last_after x xs y ys)
     ∙ next ending x (last_byte x xs) y (last_byte y ys)
     ∙ ap (λ e. ending_by e y (last_byte y ys)) (sym (ending_is ending x xs))
     ∙ sym (ending_is (ending_after ending (x ∷ xs)) y ys)
 
 -- ---- what is given
-line_end_behind : (ending : Ending) (front : List ℕ) (given : InputRest)
+line_end_after : (ending : Ending) (front : List ℕ) (given : InputRest)
     → with_line_end ending (with_front front given) ≡ with_front front (with_line_end (ending_after ending front) given)
-line_end_behind ending front given = ap (λ (e : Ending). record {
+line_end_after ending front given = ap (λ (e : Ending). record {
   bytes = front ++ given.bytes;
   broken = given.broken || is_in_line e;
-}) (ending_behind ending front given.bytes)
+}) (ending_in_rest ending front given.bytes)
 
 pub gave_lines : {R : Type 0} (can : R → InputRest → Type 0) (before after : R) (ending : Ending) (front : List ℕ)
     → Gave can before after front → (later : InputRest)
@@ -71,7 +71,7 @@ gave_lines can before after ending front gave later (given, can_give, is) =
     let (first, could, joined) = gave given can_give in (
       with_line_end ending first,
       (first, could, refl),
-      ap (with_line_end ending) joined ∙ line_end_behind ending front given ∙ ap (with_front front) (sym is),
+      ap (with_line_end ending) joined ∙ line_end_after ending front given ∙ ap (with_front front) (sym is),
     )
 
 -- an input whose last line has its end, or that may end after any byte, ends where the other input ends

@@ -15,7 +15,8 @@ use Rattle.osm_files.specs.declared.group.Group.{Group}
 use Rattle.osm_files.specs.declared.reason.Reason.TheVariants.{Unsorted}
 use Rattle.osm_files.specs.Fault.{memory_fault, failed_fault}
 use Rattle.osm_files.specs.Input.{InputRest, whole_input as all_of, with_front, Explained}
-use Rattle.osm_files.specs.Position.{Position, with_coming, Between, rest_of_units, units_or_failed, units_from, units_left, with_input}
+use Rattle.osm_files.specs.Position.{Position, with_coming, Between, rest_of_units, units_or_failed, units_from}
+use Rattle.osm_files.specs.Position.{units_left, with_input}
 use Rattle.osm_files.specs.Position.{fault_of, Keeps}
 use Rattle.osm_files.specs.Source.{Ascends, SourceStep}
 use Rattle.osm_files.specs.Stream.{verdict_at, Placed, SourceRest, end_whole, end_refused}
@@ -50,7 +51,8 @@ groups input close [] group = last_group close group
 groups input close (unit ∷ units) group =
     if is_in_group group unit.version then groups input close units (group ++ unit.version ∷ [])
     else
-    (if is_after_group group unit.version then versions_then (to_ascending group) (groups input close units (unit.version ∷ []))
+    (if is_after_group group unit.version then versions_then (to_ascending group)
+    (groups input close units (unit.version ∷ []))
     else end_refused (fault_of input (verdict_at unit.place Unsorted)))
 
 -- the versions that a source of these bytes gives, as the input `input`
@@ -61,7 +63,8 @@ sorted_source input c = let units = with_input input (units_from None 0 c) in gr
 -- the current group
 abbrev pub still_with_ready : ℕ → Option (SourceRest Placed Fault) → List VersionData → List VersionData →
     Option (SourceRest VersionData Fault)
-still_with_ready input units group ready = option_map (λ s. versions_then ready (groups input s.refusal s.list group)) units
+still_with_ready input units group ready =
+    option_map (λ s. versions_then ready (groups input s.refusal s.list group)) units
 
 -- a reading before its first byte
 abbrev pub fresh_reading : {R : Type 0} → ℕ → R → Position R
@@ -141,7 +144,8 @@ abbrev pub given_at : {R : Type 0} → FileSourceData R → InputRest → Option
 given_at s c = still_given (option_map as_set (still_at s.units.input s c))
 
 -- a source can give the versions that its reader makes possible
-abbrev pub FileCanGive : {R : Type 0} → (R → InputRest → Type 0) → FileSourceData R → SourceRest VersionData Fault → Type 0
+abbrev pub FileCanGive : {R : Type 0} → (R → InputRest → Type 0) → FileSourceData R → SourceRest VersionData Fault →
+    Type 0
 FileCanGive can s still = (c : InputRest) × can s.units.coming c × (given_at s c ≡ Some still)
 
 known_ascends : (known : Option StillSet) (still : SourceRest VersionData Fault) → still_given known ≡ Some still →
@@ -149,7 +153,8 @@ known_ascends : (known : Option StillSet) (still : SourceRest VersionData Fault)
 known_ascends known still e = let P : Option (SourceRest VersionData Fault) → Type 0 = λ o. IfSome o Ascends in
     subst P e (given_ascends known)
 
-pub file_ascends : {R : Type 0} (can : R → InputRest → Type 0) (s : FileSourceData R) (still : SourceRest VersionData Fault) →
+pub file_ascends : {R : Type 0} (can : R → InputRest → Type 0) (s : FileSourceData R)
+    (still : SourceRest VersionData Fault) →
     FileCanGive can s still → Ascends still
 file_ascends can s still h = known_ascends (option_map as_set (still_at s.units.input s h.0)) still h.2
 
@@ -160,7 +165,8 @@ IsKnown (Some x) = Unit {0}
 
 still_known : {R : Type 0} (p : Position R) (c : InputRest) → IsKnown (units_or_failed (with_coming p c))
 still_known p c =
-    elim p.failed as (λ t. IsKnown (if t then Some (end_refused (failed_fault p.input)) else rest_of_units (with_coming p c))) [
+    elim p.failed as (λ t. IsKnown (if t then Some (end_refused (failed_fault p.input))
+    else rest_of_units (with_coming p c))) [
       | true ↦ tt
       | false ↦ (elim p.ended as (λ t. IsKnown
           (option_map (λ x. with_input p.input (units_from p.stage p.place x))
@@ -184,8 +190,10 @@ known_is : (o : Option (SourceRest VersionData Fault)) → IsKnown o → o ≡ S
 known_is None h = absurd h
 known_is (Some still) h = refl
 
-pub one_given : {R : Type 0} (s : FileSourceData R) (c : InputRest) → given_at s c ≡ Some (known_or_whole (given_at s c))
-one_given s c = known_is (given_at s c) (given_known s.units.input (units_or_failed (with_coming s.units c)) s.group s.ready
+pub one_given : {R : Type 0} (s : FileSourceData R) (c : InputRest) →
+    given_at s c ≡ Some (known_or_whole (given_at s c))
+one_given s c = known_is (given_at s c) (given_known s.units.input
+    (units_or_failed (with_coming s.units c)) s.group s.ready
     (still_known s.units c))
 
 -- a set is given whole, its members one by one, ascending
@@ -237,7 +245,8 @@ BeginsGroup input before pending (Err fault) after = RefusesGroup (still_with_re
 -- the three relations above, over all that the reader can give
 module _ {R : Type 0} (can : R → InputRest → Type 0) (p : Position R) where
   abbrev pub BeginsOn : List VersionData → Result (Option VersionData) Fault → Position R → Type 0
-  BeginsOn pending result q = Between can p q (λ a b. BeginsGroup p.input (units_or_failed a) pending result (units_or_failed b))
+  BeginsOn pending result q = Between can p q
+      (λ a b. BeginsGroup p.input (units_or_failed a) pending result (units_or_failed b))
 
   abbrev pub GathersOn : Group → Position R → Group → Option VersionData → Type 0
   GathersOn has_begun q group next = Between can p q

@@ -38,7 +38,7 @@ GaveMore can before after held more count = (front : List ℕ) × Gave can befor
 -- left aren't known, it can give anything.
 abbrev pub CanGive : Option (List ℕ) → InputRest → Type 0
 CanGive None c = Unit {0}
-CanGive (Some left) c = (behind : List ℕ) × (left ≡ c.bytes ++ behind) × (c.broken ≡ false → behind ≡ [])
+CanGive (Some left) c = (rest : List ℕ) × (left ≡ c.bytes ++ rest) × (c.broken ≡ false → rest ≡ [])
 
 -- all bytes left, and then the end of input; no bytes, if those left aren't known
 abbrev pub whole_left : Option (List ℕ) → InputRest

@@ -11,7 +11,8 @@ use Rattle.osm_files.specs.Opl.{OplFile}
 
 -- a reader that can give only the bytes of a file from an offset on, if the file's bytes are known
 abbrev pub ReadsFrom : {R : Type 0} → (R → InputRest → Type 0) → Option (List ℕ) → ℕ → R → Type 0
-ReadsFrom can bytes offset reader = IfSome bytes (λ all. (c : InputRest) → can reader c → c ≡ whole_input (drop offset all))
+ReadsFrom can bytes offset reader = IfSome bytes
+    (λ all. (c : InputRest) → can reader c → c ≡ whole_input (drop offset all))
 
 -- the bytes after the first end of a line; none if there is no end
 abbrev pub after_line : List ℕ → List ℕ
@@ -35,7 +36,8 @@ IsFirstOf first (v ∷ versions) = first ≡ Some v
 -- `start` is the offset after the first end of a line at `offset` or after it, in a file that a reader gives from
 -- `offset` on
 abbrev pub LeadsTo : {R : Type 0} → (R → InputRest → Type 0) → R → ℕ → ℕ → Type 0
-LeadsTo can reader offset start = (all : List ℕ) → ((c : InputRest) → can reader c → c ≡ whole_input (drop offset all)) →
+LeadsTo can reader offset start = (all : List ℕ) →
+    ((c : InputRest) → can reader c → c ≡ whole_input (drop offset all)) →
     drop start all ≡ after_line (drop offset all)
 
 -- the fault is out of memory, a fault of the device, or that the file is too long

@@ -33,7 +33,8 @@ determines_format (b ∷ bytes) = not (b == reset_byte) || nat_le 7 (length (b �
 
 -- the remaining bytes are a file of this format, and no version was given
 abbrev pub DeterminesFormat : Format → KnownPosition → KnownPosition → Type 0
-DeterminesFormat format before after = KeepsRest before after × IfSome (rest_of_bytes before) (λ c. format ≡ format_of c.bytes)
+DeterminesFormat format before after = KeepsRest before after ×
+    IfSome (rest_of_bytes before) (λ c. format ≡ format_of c.bytes)
 
 -- the bytes are a file and no error follows them; the result has the file's versions, its format and whether it is
 -- sorted

@@ -55,7 +55,8 @@ with_coming p c = record {
 
 -- each possible rest after the later position comes from a possible rest after the earlier one, and the step leads from
 -- the one to the other
-abbrev pub Between : {R : Type 0} → (R → InputRest → Type 0) → Position R → Position R → (KnownPosition → KnownPosition → Type 0) → Type 0
+abbrev pub Between : {R : Type 0} → (R → InputRest → Type 0) → Position R → Position R →
+    (KnownPosition → KnownPosition → Type 0) → Type 0
 Between can p q step = Explained (can p.coming) (can q.coming)
     (λ earlier later. step (with_coming p earlier) (with_coming q later))
 
@@ -142,7 +143,8 @@ with_state p = if is_some (slice_get p.held 0) then record p { stage = Some (sta
 -- the result of reading the whole unit at the front of the bytes held
 abbrev pub FindsUnit : {C : Type 0} → Position C → Result (Option ReadUnit) Reason → Position C → Type 0
 FindsUnit p (Ok None) q = (unit_at (state_at p) p.held ≡ None) × (q ≡ with_state p)
-FindsUnit p (Ok (Some u)) q = (next : FileStateData) × (unit_at (state_at p) p.held ≡ Some (unit u.size (Ok (u.version, next))))
+FindsUnit p (Ok (Some u)) q = (next : FileStateData) ×
+    (unit_at (state_at p) p.held ≡ Some (unit u.size (Ok (u.version, next))))
     × (q ≡ record p { stage = Some next })
 FindsUnit p (Err reason) q = (reason ≡ Memory)
     ⊎ ((size : ℕ) × (unit_at (state_at p) p.held ≡ Some (unit size (Err reason))))

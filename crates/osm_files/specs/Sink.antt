@@ -7,30 +7,30 @@ use Rattle.o5_codec.specs.Encoder.{WriterState, initial_writer, new_encoder_segm
 use Rattle.osm_files.specs.declared.fault.Fault.{Fault}
 use Rattle.osm_files.specs.declared.format.Format.{Format}
 use Rattle.osm_files.specs.declared.format.Format.TheVariants.{Opl, O5m, O5c}
-use Rattle.osm_files.specs.declared.sink.Units.{Units}
-use Rattle.osm_files.specs.declared.sink.Units.TheVariants.{Lines, DataSets}
+use Rattle.osm_files.specs.declared.sink.UnitWriter.{UnitWriter}
+use Rattle.osm_files.specs.declared.sink.UnitWriter.TheVariants.{Lines, DataSets}
 use Rattle.osm_files.specs.Fault.{memory_fault, failed_fault, too_long_fault, write_fault}
 use Rattle.osm_files.specs.Output.{Change, Appends, StoppedWriting}
 use Rattle.osm_files.specs.Spell.{writer_with, writer_with_all, open_file_bytes}
 
 -- the state on which the bytes of the next version depend
-abbrev pub writer_after_units : Units → WriterState
-writer_after_units (Lines last) = record { last = last; segment = new_encoder_segment }
-writer_after_units (DataSets encoder) = encoder.written
+abbrev pub state_of_unit_writer : UnitWriter → WriterState
+state_of_unit_writer (Lines last) = record { last = last; segment = new_encoder_segment }
+state_of_unit_writer (DataSets encoder) = encoder.written
 
 -- the units are those of the format, and have not failed
-abbrev pub AreUnitsOf : Format → Units → Type 0
-AreUnitsOf Opl (Lines last) = Unit {0}
-AreUnitsOf O5m (DataSets encoder) = encoder.failed ≡ false
-AreUnitsOf O5c (DataSets encoder) = encoder.failed ≡ false
-AreUnitsOf Opl (DataSets encoder) = ⊥
-AreUnitsOf O5m (Lines last) = ⊥
-AreUnitsOf O5c (Lines last) = ⊥
+abbrev pub IsUnitWriterOf : Format → UnitWriter → Type 0
+IsUnitWriterOf Opl (Lines last) = Unit {0}
+IsUnitWriterOf O5m (DataSets encoder) = encoder.failed ≡ false
+IsUnitWriterOf O5c (DataSets encoder) = encoder.failed ≡ false
+IsUnitWriterOf Opl (DataSets encoder) = ⊥
+IsUnitWriterOf O5m (Lines last) = ⊥
+IsUnitWriterOf O5c (Lines last) = ⊥
 
 -- no version was refused before
-abbrev pub IsGoodUnits : Units → Type 0
-IsGoodUnits (Lines last) = Unit {0}
-IsGoodUnits (DataSets encoder) = encoder.failed ≡ false
+abbrev pub IsGoodUnitWriter : UnitWriter → Type 0
+IsGoodUnitWriter (Lines last) = Unit {0}
+IsGoodUnitWriter (DataSets encoder) = encoder.failed ≡ false
 
 -- a sink between two calls: its format and number, the kind written last and the state of its encoder, the number of
 -- bytes it has written, and whether it has begun, ended or failed

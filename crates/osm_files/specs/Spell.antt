@@ -41,7 +41,8 @@ writer_with O5c w v = writer_after w v
 -- the bytes of versions in sequence
 abbrev pub versions_bytes : Format → WriterState → List VersionData → List ℕ
 versions_bytes format w [] = []
-versions_bytes format w (v ∷ versions) = version_bytes format w v ++ versions_bytes format (writer_with format w v) versions
+versions_bytes format w (v ∷ versions) = version_bytes format w v
+    ++ versions_bytes format (writer_with format w v) versions
 
 -- the state after versions in sequence
 abbrev pub writer_with_all : Format → WriterState → List VersionData → WriterState

@@ -15,8 +15,10 @@ use Rattle.osm_files.specs.Output.{Change}
 use Rattle.osm_files.specs.Change.{change_of}
 use Rattle.osm_files.specs.declared.output.Output.{Ghosts}
 use Rattle.osm_files.specs.Verdict.{verdict, held_by}
-use Rattle.osm_files.specs.Spell.{file_start, file_end, version_bytes, writer_with_all, open_file_bytes, spell_list, spell}
-use Rattle.osm_files.specs.Sink.{SinkState, new_sink, MayFollow, Calls, CutShort, WritesFile, after_begin, after_put, after_end, same_sink}
+use Rattle.osm_files.specs.Spell.{file_start, file_end, version_bytes, writer_with_all, open_file_bytes, spell_list}
+use Rattle.osm_files.specs.Spell.{spell}
+use Rattle.osm_files.specs.Sink.{SinkState, new_sink, MayFollow, Calls, CutShort, WritesFile, after_begin, after_put}
+use Rattle.osm_files.specs.Sink.{after_end, same_sink}
 use Rattle.osm_files.specs.Sink.{HasPut}
 
 -- each member is within the ranges of versions
@@ -61,7 +63,8 @@ JoinInAnyGrouping =
 abbrev pub EachMayFollow : Type 0
 EachMayFollow =
     (format : Format) (versions others : List VersionData) (v : VersionData)
-    → IsStrictlySortedBy version_cmp (versions ++ v ∷ others) → MayFollow v (writer_with_all format initial_writer versions)
+    → IsStrictlySortedBy version_cmp (versions ++ v ∷ others) →
+    MayFollow v (writer_with_all format initial_writer versions)
 
 -- the file of a strictly ascending list is the file of its set
 abbrev pub ListIsSpelledAsItsSet : Type 0
@@ -85,7 +88,8 @@ Puts format number versions change s (Err fault) = CutShort number change (open_
 -- After a failure of the output their number is the fault's `place`.
 pub record CallsAreSpelled {O : Type 0} (output : Ghosts O) : Type 0 where
   pub begin : (format : Format) (number : ℕ) (s : SinkState) (before now : O) (result : Result (Unit {0}) Fault) →
-      Calls (after_begin (new_sink format number)) s same_sink (change_of output before now) (file_start format) result →
+      Calls (after_begin (new_sink format number)) s same_sink (change_of output before now)
+      (file_start format) result →
       Puts format number [] (change_of output before now) s result
   pub put : (format : Format) (number : ℕ) (versions : List VersionData) (v : VersionData) (s t : SinkState)
       (before mid now : O) (result : Result (Unit {0}) Fault) →

@@ -50,7 +50,7 @@ line_found (Err reason) = Err (of_line reason)
 -- the unit of a line, if the line has its end
 abbrev pub line_unit : List ℕ × Option (List ℕ) → Option FileUnit
 line_unit (line, None) = None
-line_unit (line, Some behind) = Some (unit (length line + 1) (line_found (reading_line line)))
+line_unit (line, Some rest) = Some (unit (length line + 1) (line_found (reading_line line)))
 
 -- are these seven bytes the header of o5m or of o5c?
 abbrev pub is_header : List ℕ → Bool
@@ -89,9 +89,9 @@ length_at bytes = if is_ended bytes then Some (number_at bytes) else None
 abbrev pub sized_unit : Segment → ℕ → List ℕ → Option (Result (ℕ × List ℕ) O5Reason) → Option FileUnit
 sized_unit s b bytes None = None
 sized_unit s b bytes (Some (Err reason)) = Some (unit 1 (Err (of_data_set reason)))
-sized_unit s b bytes (Some (Ok (size, behind))) =
-    if nat_le size (length behind) then Some (unit (1 + (length bytes - length behind) + size)
-    (content_found s (kind_of_type b) (take size behind)))
+sized_unit s b bytes (Some (Ok (size, rest))) =
+    if nat_le size (length rest) then Some (unit (1 + (length bytes - length rest) + size)
+    (content_found s (kind_of_type b) (take size rest)))
     else None
 
 -- the unit in a segment: the end byte, a reset, a lone byte or a data set
@@ -138,7 +138,8 @@ final_units None place last = found_then place last (λ next. end_whole)
 final_units (Some verdict) place last = end_refused verdict
 
 -- the rest from a whole unit on, or from the last bytes on if no unit is whole
-abbrev pub unit_then : Option Verdict → FileStateData → ℕ → List ℕ → (FileStateData → ℕ → List ℕ → SourceRest Placed Verdict) →
+abbrev pub unit_then : Option Verdict → FileStateData → ℕ → List ℕ →
+    (FileStateData → ℕ → List ℕ → SourceRest Placed Verdict) →
     Option FileUnit → SourceRest Placed Verdict
 unit_then close stage place bytes more None = final_units close place (last_at stage bytes)
 unit_then close stage place bytes more (Some u) =

@@ -49,10 +49,10 @@ impl Input for Dripping<'_> {
         let Some((first, rest)) = self.rest.split_first() else {
             return if self.fails { Err(Broken) } else { Ok(0) };
         };
-        let Some(place) = buffer.first_mut() else {
+        let Some(byte) = buffer.first_mut() else {
             return Ok(0);
         };
-        *place = *first;
+        *byte = *first;
         self.rest = rest;
         Ok(1)
     }

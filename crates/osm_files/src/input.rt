@@ -69,7 +69,8 @@ impl<'a> Input for SliceIn<'a> {
 
     fn read(&mut self, buffer: &mut [u8]) -> Result<usize, Broken>
         ensures within { IfOk result (λ count. count ≤ length buffer.old) }
-        ensures bytes { IfOk result (λ count. Gave (λ rest c. c ≡ whole_input rest) self.old self.new (take count buffer.new)) }
+        ensures bytes { IfOk result (λ count. Gave (λ rest c. c ≡ whole_input rest) self.old self.new
+            (take count buffer.new)) }
         ensures end { result ≡ Ok 0 → 0 < length buffer.old → whole_input [] ≡ whole_input self.old }
         ensures broken { OnErr result (broken_input [] ≡ whole_input self.old) }
         ensures fills { result ≡ Ok (min (length self.old) (length buffer.old)) }

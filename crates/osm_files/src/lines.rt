@@ -1,5 +1,6 @@
 //! The lines of an OPL file from an offset on.
 ghost use Rattle.std.specs.Prelude.{◌≡◌, ◌<◌, ◌^◌, Option, List, ℕ, length, IfSome, IfOk, IfErr};
+ghost use Rattle.osm_files.specs.Fault.{IsOfFile};
 ghost use Rattle.osm_files.specs.Lines.{ReadsFrom, IsLineStart, LeadsTo, IsDeviceFault, IsFirstFrom};
 
 use crate::fault::{Fault, LENGTH_LIMIT};
@@ -11,7 +12,7 @@ use osm_model::Version;
 use std::alloc::Global;
 
 /// The number of bytes that one read asks for in the search for the end of a line.
-const CHUNK: usize = 1024;
+const LINE_CHUNK: usize = 1024;
 
 /// A file that can be opened at any offset, by readers of one type.
 pub trait OpenAt<R: Input> {
@@ -64,6 +65,7 @@ pub fn line_start<R: Input + Drop, F: OpenAt<R>>(
     ensures start { IfOk result (IsLineStart (F.bytes file.now) offset) }
     ensures bound { IfOk result (λ start. start < 2 ^ 62) }
     ensures refused { IfErr result (λ fault. IsDeviceFault fault) }
+    ensures number { IfErr result (IsOfFile input) }
 {
     if offset == 0 {
         return Ok(0);
@@ -78,6 +80,7 @@ pub fn line_start<R: Input + Drop, F: OpenAt<R>>(
 fn open<R: Input, F: OpenAt<R>>(file: &F, input: usize, offset: u64) -> Result<R, Fault>
     ensures opened { IfOk result (ReadsFrom R.can_give (F.bytes file.now) offset) }
     ensures refused { IfErr result (λ fault. IsDeviceFault fault) }
+    ensures number { IfErr result (IsOfFile input) }
 {
     match file.open_at(offset) {
         Ok(reader) => Ok(reader),
@@ -91,8 +94,9 @@ fn next_line_start<R: Input>(reader: &mut R, input: usize, offset: u64) -> Resul
     ensures start { IfOk result (LeadsTo R.can_give reader.old offset) }
     ensures bound { IfOk result (λ start. start < 2 ^ 62) }
     ensures refused { IfErr result (λ fault. IsDeviceFault fault) }
+    ensures number { IfErr result (IsOfFile input) }
 {
-    let mut buffer = [0u8; CHUNK];
+    let mut buffer = [0u8; LINE_CHUNK];
     let mut place = offset;
     'reads: loop {
         if place >= LENGTH_LIMIT {
@@ -115,6 +119,7 @@ fn start_below_limit(input: usize, start: u64) -> Result<u64, Fault>
     ensures same { IfOk result (λ same. same ≡ start) }
     ensures bound { IfOk result (λ same. same < 2 ^ 62) }
     ensures refused { IfErr result (λ fault. IsDeviceFault fault) }
+    ensures number { IfErr result (IsOfFile input) }
 {
     if start < LENGTH_LIMIT {
         Ok(start)
@@ -135,12 +140,13 @@ pub fn first_version<R: Input + Drop, F: OpenAt<R>>(
     input: usize,
     offset: u64,
 ) -> Result<Option<Version>, Fault>
-    ensures { IsFirstFrom (F.bytes file.now) offset result }
+    ensures first { IsFirstFrom (F.bytes file.now) offset result }
+    ensures number { IfErr result (IsOfFile input) }
 {
     let start = line_start(file, input, offset)?;
     let reader = open(file, input, start)?;
     let mut lines = Reading::of_lines(alloc, input, start, reader);
-    lines.set_chunk_size(CHUNK);
+    lines.set_chunk_size(LINE_CHUNK);
     let first = lines.next();
     drop(lines);
     match first {

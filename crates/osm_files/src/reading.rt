@@ -62,7 +62,8 @@ impl<R: Input> Model for Reading<R> {
       failed = r.failed;
     } };
 
-    ghost invariant = { λ r. (r.place + length r.read_buffer < 2 ^ 62) × (r.failed ≡ false → IfSome r.stage IsGoodState) };
+    ghost invariant = { λ r. (r.place + length r.read_buffer < 2 ^ 62) ×
+        (r.failed ≡ false → IfSome r.stage IsGoodState) };
 }
 
 impl<R: Input> Reading<R> {

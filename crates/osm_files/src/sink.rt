@@ -22,22 +22,22 @@ use std::marker::Model;
 
 /// The form in which versions are written, with the state of the writing.
 #[derive(Drop)]
-enum Units {
+enum UnitWriter {
     /// Lines, with the kind of the version written last; before the first version it is `Node`.
     Lines(Kind),
     /// Data sets, with the state of their encoder.
     DataSets(Encoder),
 }
 
-impl Units {
+impl UnitWriter {
     /// The state of writing in `format` before the first version.
-    fn new(alloc: Global, format: Format) -> Result<Units, Memory>
-        ensures units { IfOk result (λ u. spec.AreUnitsOf format u) }
-        ensures nothing { IfOk result (λ u. spec.writer_after_units u ≡ initial_writer) }
+    fn new(alloc: Global, format: Format) -> Result<UnitWriter, Memory>
+        ensures units { IfOk result (λ u. spec.IsUnitWriterOf format u) }
+        ensures nothing { IfOk result (λ u. spec.state_of_unit_writer u ≡ initial_writer) }
     {
         match format {
-            Format::Opl => Ok(Units::Lines(Kind::Node)),
-            Format::O5m | Format::O5c => Ok(Units::DataSets(Encoder::new(alloc)?)),
+            Format::Opl => Ok(UnitWriter::Lines(Kind::Node)),
+            Format::O5m | Format::O5c => Ok(UnitWriter::DataSets(Encoder::new(alloc)?)),
         }
     }
 
@@ -47,23 +47,24 @@ impl Units {
     ///
     /// Only out of memory. A part of the version may be appended then.
     fn append(&mut self, bytes: &mut Vec<u8>, v: &Version) -> Result<(), Memory>
-        requires follows { spec.MayFollow v.now (spec.writer_after_units self.old) }
-        requires good { spec.IsGoodUnits self.old }
-        ensures bytes { OnOk result ((f : Format) → spec.AreUnitsOf f self.old
-            → bytes.new.items ≡ bytes.old.items ++ spelling.version_bytes f (spec.writer_after_units self.old) v.now) }
+        requires follows { spec.MayFollow v.now (spec.state_of_unit_writer self.old) }
+        requires good { spec.IsGoodUnitWriter self.old }
+        ensures bytes { OnOk result ((f : Format) → spec.IsUnitWriterOf f self.old
+            → bytes.new.items ≡ bytes.old.items ++ spelling.version_bytes f
+            (spec.state_of_unit_writer self.old) v.now) }
         ensures some { OnOk result (0 < length bytes.new.items) }
-        ensures units { OnOk result ((f : Format) → spec.AreUnitsOf f self.old → spec.AreUnitsOf f self.new) }
-        ensures behind { OnOk result ((f : Format) → spec.AreUnitsOf f self.old
-            → spec.writer_after_units self.new ≡ spelling.writer_with f (spec.writer_after_units self.old) v.now) }
+        ensures units { OnOk result ((f : Format) → spec.IsUnitWriterOf f self.old → spec.IsUnitWriterOf f self.new) }
+        ensures writer { OnOk result ((f : Format) → spec.IsUnitWriterOf f self.old
+            → spec.state_of_unit_writer self.new ≡ spelling.writer_with f (spec.state_of_unit_writer self.old) v.now) }
     {
         match self {
-            Units::Lines(last) => {
+            UnitWriter::Lines(last) => {
                 *last = v.kind();
                 v.append_line(bytes)?;
                 bytes.push(b'\n')?;
                 Ok(())
             }
-            Units::DataSets(encoder) => match encoder.append_set(bytes, v) {
+            UnitWriter::DataSets(encoder) => match encoder.append_set(bytes, v) {
                 Ok(()) => Ok(()),
                 Err(_) => Err(Memory),
             },
@@ -79,7 +80,7 @@ pub struct Sink {
     format: Format,
     /// The number of the output, which the sink's faults have.
     number: usize,
-    units: Units,
+    units: UnitWriter,
     /// The number of bytes written so far.
     written: u64,
     has_begun: bool,
@@ -110,7 +111,7 @@ impl Sink {
         ensures ok { IfOk result (λ sink. sink ≡ spec.new_sink format number) }
         ensures err { IfErr result (λ fault. fault ≡ memory_fault) }
     {
-        let Ok(units) = Units::new(alloc, format) else {
+        let Ok(units) = UnitWriter::new(alloc, format) else {
             return Err(Fault::memory());
         };
         Ok(Sink {
@@ -172,7 +173,8 @@ impl Sink {
         requires open { spec.IsOpen self.old }
         requires follows { spec.Takes v.now self.old }
         ensures calls { spec.Calls self.old self.new (spec.after_put v.now)
-            (change_of W.Output out.old out.new) (spelling.version_bytes self.old.format self.old.encoder v.now) result }
+            (change_of W.Output out.old out.new) (spelling.version_bytes self.old.format self.old.encoder v.now)
+            result }
         ensures good { OnOk result (IsGoodThroughout (change_of W.Output out.old out.new)) }
         ensures lasts { FailingLasts (change_of W.Output out.old out.new) }
         ensures untouched { spec.IsBeforeWriting self.old.number result → out.new ≡ out.old }
@@ -248,7 +250,8 @@ fn finish<W: Output>(
     format: Format,
 ) -> Result<(), Fault>
     requires { written.old < 2 ^ 62 }
-    ensures sent { spec.Sends number (change_of W.Output out.old out.new) written.old (spelling.file_end format) result }
+    ensures sent { spec.Sends number (change_of W.Output out.old out.new) written.old
+        (spelling.file_end format) result }
     ensures counted { OnOk result (written.new ≡ written.old + length (spelling.file_end format)) }
     ensures below { written.new < 2 ^ 62 }
     ensures good { OnOk result (IsGoodThroughout (change_of W.Output out.old out.new)) }
@@ -307,8 +310,8 @@ fn put_all<W: Output>(sink: &mut Sink, history: &History, out: &mut W) -> Result
     ensures good { OnOk result (IsGoodThroughout (change_of W.Output out.old out.new)) }
 {
     sink.begin(out)?;
-    'puts: for place in 0..history.len() {
-        sink.put(out, history.get(place))?;
+    'puts: for index in 0..history.len() {
+        sink.put(out, history.get(index))?;
     }
     sink.end(out)
 }

@@ -5,7 +5,7 @@ ghost use Rattle.osm_files.specs.SortedRun as spec;
 use crate::unit::{FILE_END, O5M_HEADER, SEGMENT_RESET};
 
 /// The header that is read before a part without one.
-const HEADER: &[u8] = &O5M_HEADER;
+const HEADER_BYTES: &[u8] = &O5M_HEADER;
 
 /// The end byte that is read after a part without one.
 const END_BYTES: &[u8] = &[FILE_END];
@@ -57,7 +57,11 @@ impl SortedRun {
     pub fn bytes_before(self) -> &'static [u8]
         ensures { result.now ≡ spec.bytes_before self }
     {
-        if self.lacks_header { HEADER } else { NOTHING }
+        if self.lacks_header {
+            HEADER_BYTES
+        } else {
+            NOTHING
+        }
     }
 
     /// The bytes read after the part of the file: the end byte or nothing.

@@ -24,8 +24,8 @@ pub(crate) fn push_version(alloc: Global, text: &mut String, version: &Version) 
 
 /// Appends the lines of the versions of a history.
 fn push_history(alloc: Global, text: &mut String, history: &History) {
-    for place in 0..history.len() {
-        push_version(alloc, text, history.get(place));
+    for index in 0..history.len() {
+        push_version(alloc, text, history.get(index));
     }
 }
 

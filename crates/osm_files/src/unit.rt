@@ -189,17 +189,17 @@ fn read_sized(
     if !is_ended(bytes) {
         return Ok(None);
     }
-    let (size, behind) = match read_number(bytes) {
+    let (size, rest) = match read_number(bytes) {
         Ok(read) => read,
         Err(reason) => return Err(Reason::from(reason)),
     };
-    if size > behind.len() as u64 {
+    if size > rest.len() as u64 {
         return Ok(None);
     }
     let size = size as usize;
-    match read_content(decoder, type_byte, &behind[..size]) {
+    match read_content(decoder, type_byte, &rest[..size]) {
         Ok(version) => Ok(Some(ReadUnit {
-            size: 1 + (bytes.len() - behind.len()) + size,
+            size: 1 + (bytes.len() - rest.len()) + size,
             version,
         })),
         Err(reason) => Err(reason),
@@ -216,7 +216,7 @@ fn read_data_set(decoder: &mut Decoder, bytes: &[u8]) -> Result<Option<ReadUnit>
     ensures good { OnOk result (decoder.new.failed ≡ false) }
     ensures unmoved { result ≡ Ok None → decoder.new ≡ decoder.old }
 {
-    let Some((type_byte, behind)) = bytes.split_first() else {
+    let Some((type_byte, rest)) = bytes.split_first() else {
         return Ok(None);
     };
     if *type_byte == SEGMENT_RESET {
@@ -226,7 +226,7 @@ fn read_data_set(decoder: &mut Decoder, bytes: &[u8]) -> Result<Option<ReadUnit>
     if is_lone(*type_byte) {
         return no_version(1);
     }
-    read_sized(decoder, *type_byte, behind)
+    read_sized(decoder, *type_byte, rest)
 }
 
 /// Nothing may come after the end of a file.
@@ -242,7 +242,7 @@ fn read_after_end(bytes: &[u8]) -> Result<Option<ReadUnit>, Reason>
 impl FileState {
     /// The first stage of the reading of a file that begins with `bytes`.
     pub(crate) fn of(alloc: Global, bytes: &[u8]) -> FileState
-        ensures place { state_data_of result ≡ spec.start_of bytes.now }
+        ensures state { state_data_of result ≡ spec.start_of bytes.now }
         ensures good { IsGoodState result }
     {
         match bytes.first() {
@@ -309,7 +309,7 @@ impl FileState {
     /// data set.
     #[inline(never)]
     fn end(&mut self)
-        ensures place { state_data_of self.new ≡ spec.PastEnd }
+        ensures state { state_data_of self.new ≡ spec.PastEnd }
         ensures good { IsGoodState self.new }
     {
         *self = FileState::End;

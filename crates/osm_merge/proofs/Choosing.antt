@@ -132,7 +132,8 @@ module _ (selection : Selection) (s : VersionSet) (place : ℕ) (whole : length 
   choose_none held chosen chosen2 i none same =
       let j : IsChoosing selection (to_list s) place None chosen =
       subst (λ (h : Option ℕ). IsChoosing selection (to_list s) place h chosen) none i in
-      done chosen2 (same ∙ j.chosen_is ∙ ap (settled_versions (keeps selection)) j.held_is ∙ sym (ap (versions_that_stay (keeps selection)) j.held_is))
+      done chosen2 (same ∙ j.chosen_is ∙ ap (settled_versions (keeps selection)) j.held_is
+      ∙ sym (ap (versions_that_stay (keeps selection)) j.held_is))
 
   -- the last version that passed is decided
   pub choose_last : (held : Option ℕ) (last : ℕ) (v : VersionData) (chosen chosen2 : List VersionData)

@@ -24,13 +24,13 @@ newest_of = versions_that_stay (keeps Newest)
 -- The first `place` versions of a list were decided, and those of them that stay were moved to its front.
 pub record IsSettling (list items : List VersionData) (place count : ℕ) : Type 0 where
   pub same_length : length items ≡ length list
-  pub behind : count ≤ place
+  pub within : count ≤ place
   pub rest : drop place items ≡ drop place list
   pub chosen : take count items ++ newest_of (drop place list) ≡ newest_of list
 
 -- At first no version was decided.
 pub settling_begins : (list items : List VersionData) → items ≡ list → IsSettling list items 0 0
-settling_begins list items is = record { same_length = ap length is; behind = omega arith; rest = is; chosen = refl }
+settling_begins list items is = record { same_length = ap length is; within = omega arith; rest = is; chosen = refl }
 
 -- the item of a list at an index
 pub some_item : (xs : List VersionData) (n : ℕ) → n < length xs → VersionData
@@ -67,7 +67,7 @@ module _ (list items : List VersionData) (place count : ℕ) (h : IsSettling lis
       IsSettling list items2 (place + 1) count2
   settling_skips items2 count2 out same fixed = rw (same, fixed) (record {
     same_length = h.same_length;
-    behind = omega (arith, h.behind);
+    within = omega (arith, h.within);
     rest = rest_next;
     chosen = ap (λ (t : List VersionData). take count items ++ t)
         (sym (newest_here ∙ ap (λ (b : Bool). singleton_if b v ++ newest_of (drop (place + 1) list)) out)) ∙ h.chosen;
@@ -79,15 +79,15 @@ module _ (list items : List VersionData) (place count : ℕ) (h : IsSettling lis
   settling_moves items2 items3 count2 stayed swapped same more =
       let sets = swapped.3 d in
       let long : length items2 ≡ length items = ap length sets ∙ length-set _ place _ ∙ length-set items count _ in
-      let front : take count items2 ≡ take count items = ap (take count) sets ∙ take-set-le count _ place _ h.behind
+      let front : take count items2 ≡ take count items = ap (take count) sets ∙ take-set-le count _ place _ h.within
       ∙ take-set-le count items count _ (omega arith) in
       let back : drop (place + 1) items2 ≡ drop (place + 1) items = ap (drop (place + 1)) sets
-      ∙ drop-set-lt (place + 1) _ place _ (omega arith) ∙ drop-set-lt (place + 1) items count _ (omega (arith, h.behind)) in
+      ∙ drop-set-lt (place + 1) _ place _ (omega arith) ∙ drop-set-lt (place + 1) items count _ (omega (arith, h.within)) in
       let taken : take (count + 1) items2 ≡ take count items ++ v ∷ [] =
-      take_more items2 count d (omega (arith, long, inside, h.behind)) ∙ (λ i. front i ++ swapped.0 d i ∷ []) in
+      take_more items2 count d (omega (arith, long, inside, h.within)) ∙ (λ i. front i ++ swapped.0 d i ∷ []) in
       rw (same, more) (record {
         same_length = long ∙ h.same_length;
-        behind = omega (arith, h.behind);
+        within = omega (arith, h.within);
         rest = back ∙ rest_next;
         chosen =
             ap (λ (t : List VersionData). t ++ newest_of (drop (place + 1) list)) taken

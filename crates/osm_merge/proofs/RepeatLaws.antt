@@ -11,7 +11,8 @@ use Rattle.osm_merge.specs.declared.selection.Selection.{Selection}
 use Rattle.osm_merge.specs.declared.repeats.Tie.{Tie}
 use Rattle.osm_merge.specs.declared.repeats.Repeats.{Repeats}
 use Rattle.osm_merge.specs.Pass.{passes, is_met, pending_next}
-use Rattle.osm_merge.specs.Repeats.{other_index, repeats_after, repeats_after_taking, IsTied, IsPast, IsPastAt, AreTrueRepeats, one_if, comparison_count}
+use Rattle.osm_merge.specs.Repeats.{other_index, repeats_after, repeats_after_taking, IsTied, IsPast, IsPastAt, AreTrueRepeats, one_if}
+use Rattle.osm_merge.specs.Repeats.{comparison_count}
 
 -- a version is not met after itself
 pub past_itself : (selection : Selection) (held : Option VersionData) (v : VersionData) →
@@ -34,14 +35,14 @@ pub known_past : {selection : Selection} {held : Option VersionData} {heads : Li
 known_past {selection} {held} {heads} place v known is at =
     subst (IsPast selection held) at (subst (IsPastAt selection held heads) is known.past)
 
-told_with : (tie : Tie) (o : Option ℕ) → comparison_count (repeats_after o tie) ≡ 1
-told_with tie None = refl
-told_with tie (Some other) = refl
+known_with : (tie : Tie) (o : Option ℕ) → comparison_count (repeats_after o tie) ≡ 1
+known_with tie None = refl
+known_with tie (Some other) = refl
 
 -- after a head was taken, the known equal heads count as many comparisons as the tie before
-pub told_after : (tie : Option Tie) (place : ℕ) → comparison_count (repeats_after_taking tie place) ≡ one_if tie
-told_after None place = refl
-told_after (Some tie) place = told_with tie (other_index tie place)
+pub known_then : (tie : Option Tie) (place : ℕ) → comparison_count (repeats_after_taking tie place) ≡ one_if tie
+known_then None place = refl
+known_then (Some tie) place = known_with tie (other_index tie place)
 
 -- the head of the source `w` is taken
 module _ (selection : Selection) (held : Option VersionData) (heads : List (Option VersionData)) (w : ℕ) (v : VersionData)

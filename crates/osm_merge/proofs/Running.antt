@@ -30,33 +30,35 @@ use Rattle.osm_merge.specs.Union.{versions_of, union_given, capped_count}
 use Rattle.osm_merge.specs.declared.selection.Selection.{Selection}
 use Rattle.osm_merge.specs.declared.selection.Selection.TheVariants as selections
 use Rattle.osm_merge.specs.Selected.{selection_of}
-use Rattle.osm_merge.specs.Pass.{passes, passing_versions, passes_all, put_of, put_at, put_at_end, versions_put, puts_at_once, keeps, is_met, pending_next}
+use Rattle.osm_merge.specs.Pass.{passes, passing_versions, passes_all, put_of, put_at, put_at_end, versions_put, puts_at_once, keeps}
+use Rattle.osm_merge.specs.Pass.{is_met, pending_next}
 use Rattle.osm_merge.specs.Pass.{met_next}
 use Rattle.std.specs.Bool.{OnTrue}
 use Rattle.osm_merge.specs.declared.repeats.Tie.{Tie}
 use Rattle.osm_merge.specs.declared.repeats.Repeats.{Repeats}
 use Rattle.osm_merge.specs.Repeats.{repeats_after_taking, IsTied, IsPastAt, AreTrueRepeats, SavesComparison, one_if, comparison_count}
-use Rattle.osm_merge.proofs.RepeatLaws.{nothing_known, told_after, known_after}
+use Rattle.osm_merge.proofs.RepeatLaws.{nothing_known, known_then, known_after}
 use Rattle.osm_merge.specs.Put.{TakesEach, PutsMore, EndsFile}
 use Rattle.osm_merge.specs.Tree.{IsHeadUpTo, IsTree}
-use Rattle.osm_merge.specs.Merged.{IsBoundedFrom, few_of, IsMergedAs, Grows, last_version, versions_up_to, written_so_far, written_before, IsRefusedAs}
+use Rattle.osm_merge.specs.Merged.{IsBoundedFrom, few_of, IsMergedAs, Grows, last_version, versions_up_to, written_so_far, written_before}
+use Rattle.osm_merge.specs.Merged.{IsRefusedAs}
 use Rattle.osm_merge.proofs.OrderLaws.{none_up_to}
 use Rattle.osm_merge.proofs.AscendingLaws.{nothing_ascends}
 use Rattle.osm_merge.proofs.TreeLaws.{winner_is_least}
-use Rattle.osm_merge.proofs.Asking.{told_gives, told_refuses, told_at, map_set_some}
+use Rattle.osm_merge.proofs.Asking.{known_gives, known_refuses, known_at, map_set_some}
 use Rattle.osm_merge.proofs.GiveLaws.{set_again, give_size, give_one, give_back}
 use Rattle.osm_merge.proofs.State.{Ends, IsMerging}
 use Rattle.osm_merge.proofs.MergeLaws.{without_head, merge_more, split_first, ascends_next, ascends_with, ends_next, met_is_new}
-use Rattle.osm_merge.proofs.Settling.{AscendBehind, may_put, may_end, put_next, put_all, put_nothing, kept_ascends}
+use Rattle.osm_merge.proofs.Settling.{AscendAfter, may_put, may_end, put_next, put_all, put_nothing, kept_ascends}
 use Rattle.osm_merge.proofs.UnionLaws.{union_list, chosen, InFront, passing_nothing, put_in_front, met_up_to, all_put, all_taken}
 use Rattle.osm_merge.proofs.UnionLaws.{last_of_end, cut_in_file, memory_refused}
 
--- the merge between two turns, if the sources give the rests `told` after their heads; `states` are the rests with the
+-- the merge between two turns, if the sources give the rests `shown` after their heads; `states` are the rests with the
 -- heads
 pub record IsStanding (selection : Selection) (all : List VersionsToCome) (heads : List (Option VersionData))
-    (told : List (Option VersionsToCome)) (met : List VersionData) (last top : Option VersionData) (taken : ℕ) : Type 0 where
+    (shown : List (Option VersionsToCome)) (met : List VersionData) (last top : Option VersionData) (taken : ℕ) : Type 0 where
   pub states : List VersionsToCome
-  pub stand : AreHeadsOf states heads told
+  pub are_heads : AreHeadsOf states heads shown
   pub merging : IsMerging selection all states met last top taken
 
 -- The invariant between two turns. The sources began with the heads `heads0`. `taken` versions were taken, and those that
@@ -126,7 +128,7 @@ run_start selection can heads sources format number output before nodes sink now
       least = λ p. omega arith;
       known = nothing_known selection heads;
       fresh = λ p e. refl;
-      run = λ later g. (later, g, λ all up stand. record { states = all; stand = stand; merging = none_met selection all up });
+      run = λ later g. (later, g, λ all up are_heads. record { states = all; are_heads = are_heads; merging = none_met selection all up });
     }
 
 -- ---- heads and the rests of sources
@@ -155,22 +157,22 @@ least_head states heads nodes w x e t is at_w i =
           (sym (get_or_past states i end_whole (subst (λ n. n ≤ i) (length_heads states heads e) more))) tt
     ]
 
-behind_at : (states : List VersionsToCome) (w : ℕ) → rest_at (map after_head states) w ≡ after_head (rest_at states w)
-behind_at [] w = refl
-behind_at (c ∷ cs) zero = refl
-behind_at (c ∷ cs) (suc w) = behind_at cs w
+after_at : (states : List VersionsToCome) (w : ℕ) → rest_at (map after_head states) w ≡ after_head (rest_at states w)
+after_at [] w = refl
+after_at (c ∷ cs) zero = refl
+after_at (c ∷ cs) (suc w) = after_at cs w
 
 -- after a head was taken, the next version of its source is the new head
-stand_more : (states : List VersionsToCome) (heads : List (Option VersionData)) (told : List (Option VersionsToCome)) (w : ℕ)
+heads_more : (states : List VersionsToCome) (heads : List (Option VersionData)) (shown : List (Option VersionsToCome)) (w : ℕ)
     (given : Option VersionData) (after : Option VersionsToCome)
-    → AreHeadsOf states heads told → w < length heads → w < length told → SourceStep (get_or told w None) (Ok given) after
-    → AreHeadsOf (without_head states w) (set heads w given) (set told w after)
-stand_more states heads told w given after s inside low step =
+    → AreHeadsOf states heads shown → w < length heads → w < length shown → SourceStep (get_or shown w None) (Ok given) after
+    → AreHeadsOf (without_head states w) (set heads w given) (set shown w after)
+heads_more states heads shown w given after s inside low step =
     let here : VersionsToCome = rest_at states w in
     let less : w < length states = subst (λ n. w < n) (length_heads states heads s.heads_are) inside in
-    let tells : get_or told w None ≡ Some (after_head here) =
-    told_at told (map after_head states) w s.rests_known low ∙ ap Some (behind_at states w) in
-    let t = told_gives (after_head here) given after (subst (λ o. SourceStep o (Ok given) after) tells step) in
+    let determines : get_or shown w None ≡ Some (after_head here) =
+    known_at shown (map after_head states) w s.rests_known low ∙ ap Some (after_at states w) in
+    let t = known_gives (after_head here) given after (subst (λ o. SourceStep o (Ok given) after) determines step) in
     let same_place : rest_at (without_head states w) w ≡ after_head here = get_or-set_same states w (after_head here) end_whole less in
     record {
       heads_are = (λ i. set (s.heads_are i) w (t.0 i)) ∙ sym (map-set head states w (after_head here));
@@ -198,42 +200,44 @@ least_first M t o c0 c1 h a d = omega arith
 least_known : (M t o c0 c1 : ℕ) → min ((t - 1) + (o + 1)) M ≤ c0 → c0 ≤ c1 → min (((t + 1) - 1) + o) M ≤ c1
 least_known M t o c0 c1 a d = omega arith
 
-least_alone : (M t o c : ℕ) → min ((t - 1) + o) M ≤ c → min (t - 1) M ≤ c
-least_alone M t o c a = omega arith
+least_single : (M t o c : ℕ) → min ((t - 1) + o) M ≤ c → min (t - 1) M ≤ c
+least_single M t o c a = omega arith
 
 least_fewer : (M t o p c : ℕ) → min ((t - 1) + (o + p)) M ≤ c → min ((t - 1) + o) M ≤ c
 least_fewer M t o p c a = omega arith
 
-least_behind : (last : Option VersionData) (t o p c0 c1 : ℕ) → capped_count ((t - 1) + (o + p)) ≤ c0 → (last ≡ None → t ≡ 0)
+least_after : (last : Option VersionData) (t o p c0 c1 : ℕ) → capped_count ((t - 1) + (o + p)) ≤ c0 → (last ≡ None → t ≡ 0)
     → IfSome last (λ _. capped_count (c0 + 1) ≤ c1) → c0 ≤ c1 → capped_count (((t + 1) - 1) + o) ≤ c1
-least_behind None t o p c0 c1 a f b d = least_first (2 ^ 64 - 1) t o c0 c1 (f refl) (least_fewer (2 ^ 64 - 1) t o p c0 a) d
-least_behind (Some l) t o p c0 c1 a f b d = least_more (2 ^ 64 - 1) t o c0 c1 (least_fewer (2 ^ 64 - 1) t o p c0 a) b
+least_after None t o p c0 c1 a f b d = least_first (2 ^ 64 - 1) t o c0 c1 (f refl) (least_fewer (2 ^ 64 - 1) t o p c0 a) d
+least_after (Some l) t o p c0 c1 a f b d = least_more (2 ^ 64 - 1) t o c0 c1 (least_fewer (2 ^ 64 - 1) t o p c0 a) b
 
 least_turn : (repeats : Repeats) (w : ℕ) (last : Option VersionData) (is_repeated : Bool) (t c0 c1 : ℕ)
     → capped_count ((t - 1) + comparison_count repeats) ≤ c0 → (last ≡ None → t ≡ 0) → OnTrue is_repeated (repeats.taken ≡ Some w)
-    → (is_repeated ≡ false → IfSome last (λ _. capped_count (c0 + 1) ≤ c1)) → c0 ≤ c1 → capped_count (((t + 1) - 1) + one_if repeats.tie) ≤ c1
+    → (is_repeated ≡ false → IfSome last (λ _. capped_count (c0 + 1) ≤ c1)) → c0 ≤ c1 →
+    capped_count (((t + 1) - 1) + one_if repeats.tie) ≤ c1
 least_turn repeats w last is_repeated t c0 c1 a f on b d =
     elim is_repeated as (λ r. OnTrue r (repeats.taken ≡ Some w) → (r ≡ false → IfSome last (λ _. capped_count (c0 + 1) ≤ c1)) → capped_count
     (((t + 1) - 1) + one_if repeats.tie) ≤ c1) [
       | true ↦ λ on b. least_known (2 ^ 64 - 1) t (one_if repeats.tie) c0 c1
           (subst (λ (o : Option ℕ). capped_count ((t - 1) + (one_if repeats.tie + one_if o)) ≤ c0) on a) d
-      | false ↦ λ on b. least_behind last t (one_if repeats.tie) (one_if repeats.taken) c0 c1 a f (b refl) d
+      | false ↦ λ on b. least_after last t (one_if repeats.tie) (one_if repeats.taken) c0 c1 a f (b refl) d
     ] on b
 
 least_ties : (M t q o p c : ℕ) → q + p ≡ o → min (t + o) M ≤ c → min ((t + p) + q) M ≤ c
 least_ties M t q o p c e a = omega (arith, e)
 
-least_told : (M t q p c : ℕ) → min ((t + p) + q) M ≤ c → min (t + (q + p)) M ≤ c
-least_told M t q p c a = omega arith
+least_sum : (M t q p c : ℕ) → min ((t + p) + q) M ≤ c → min (t + (q + p)) M ≤ c
+least_sum M t q p c a = omega arith
 
 -- the least number of comparisons after the games were played again
 least_next : (tie : Option Tie) (w : ℕ) (t c1 : ℕ) (tie2 : Option Tie) (c2 : ℕ) → capped_count (t + one_if tie) ≤ c1
-    → SavesComparison (repeats_after_taking tie w).tie c1 tie2 c2 → capped_count (t + comparison_count (record { tie = tie2; taken = (repeats_after_taking tie w).taken })) ≤ c2
-least_next tie w t c1 tie2 c2 a told =
+    → SavesComparison (repeats_after_taking tie w).tie c1 tie2 c2 →
+    capped_count (t + comparison_count (record { tie = tie2; taken = (repeats_after_taking tie w).taken })) ≤ c2
+least_next tie w t c1 tie2 c2 a shown =
     let after = repeats_after_taking tie w in
     let taken : ℕ = one_if after.taken in
-    least_told (2 ^ 64 - 1) t (one_if tie2) taken c2
-    (told (t + taken) (least_ties (2 ^ 64 - 1) t (one_if after.tie) (one_if tie) taken c1 (told_after tie w) a))
+    least_sum (2 ^ 64 - 1) t (one_if tie2) taken c2
+    (shown (t + taken) (least_ties (2 ^ 64 - 1) t (one_if after.tie) (one_if tie) taken c1 (known_then tie w) a))
 
 capped_more : (M n r : ℕ) → r ≡ min n M → min (r + 1) M ≡ min (n + 1) M
 capped_more M n r h = omega arith
@@ -269,7 +273,8 @@ some_held selection (Some l) v pass e =
       | false ↦ λ e. cc
     ] e
 
-few_least : (selection : Selection) (t c : ℕ) → (passes_all selection ≡ true → capped_count (t - 1) ≤ c) → capped_count (few_of selection t) ≤ c
+few_least : (selection : Selection) (t c : ℕ) → (passes_all selection ≡ true → capped_count (t - 1) ≤ c) →
+    capped_count (few_of selection t) ≤ c
 few_least selection t c f =
     elim (passes_all selection) as (λ b. (b ≡ true → capped_count (t - 1) ≤ c) → capped_count (cond b (t - 1) 0) ≤ c) [
       | true ↦ λ f. f refl
@@ -277,7 +282,7 @@ few_least selection t c f =
     ] f
 
 takes_each : (format : Format) (number : ℕ) (put : List VersionData) (change : Change) (sink : SinkState)
-    → HasPut format number put change sink → (versions : List VersionData) → AscendBehind put versions → TakesEach versions sink
+    → HasPut format number put change sink → (versions : List VersionData) → AscendAfter put versions → TakesEach versions sink
 takes_each format number put change sink has [] h = tt
 takes_each format number put change sink has (v ∷ vs) h = (
   (λ going. subst (λ (s : SinkState). MayFollow v s.encoder) (sym has.state) (each_may_follow format put [] v h.0)),
@@ -293,7 +298,8 @@ is_full : (versions : List VersionData) → (versions ≡ [] → ⊥) → IsFull
 is_full [] h = h refl
 is_full (v ∷ vs) h = tt
 
-so_far : (format : Format) (versions : List VersionData) → IsFull versions → written_so_far format versions ≡ open_file_bytes format versions
+so_far : (format : Format) (versions : List VersionData) → IsFull versions →
+    written_so_far format versions ≡ open_file_bytes format versions
 so_far format [] h = absurd h
 so_far format (v ∷ vs) h = refl
 
@@ -346,21 +352,21 @@ module _ {selection : Selection} {S : Type 0} {can : S → VersionsToCome → Ty
     next_is : put_of selection r.met ++ versions_put selection last v ≡ put2
     next_is = put_next selection last v r.met r.ends
 
-    taken_head : (all : List VersionsToCome) (told : List (Option VersionsToCome))
-        (s : IsStanding selection all heads told r.met last r.top r.taken) →
+    taken_head : (all : List VersionsToCome) (shown : List (Option VersionsToCome))
+        (s : IsStanding selection all heads shown r.met last r.top r.taken) →
         IsMerging selection all (without_head s.states w) met2 (pending_next selection last v) (Some v) (r.taken + 1)
-    taken_head all told s =
+    taken_head all shown s =
         merge_more selection all s.states r.met last r.top r.taken w v s.merging
-        (subst (λ n. w < n) (length_heads s.states heads s.stand.heads_are) inside)
-        (sym (head_at s.states heads w s.stand.heads_are) ∙ at_w)
-        (least_head s.states heads nodes w (Some v) s.stand.heads_are r.tree top at_w)
+        (subst (λ n. w < n) (length_heads s.states heads s.are_heads.heads_are) inside)
+        (sym (head_at s.states heads w s.are_heads.heads_are) ∙ at_w)
+        (least_head s.states heads nodes w (Some v) s.are_heads.heads_are r.tree top at_w)
 
-    in_front : (all : List VersionsToCome) (told : List (Option VersionsToCome))
-        (s : IsStanding selection all heads told r.met last r.top r.taken)
+    in_front : (all : List VersionsToCome) (shown : List (Option VersionsToCome))
+        (s : IsStanding selection all heads shown r.met last r.top r.taken)
         → InFront put2 (selection_of selection (union_given all))
-    in_front all told s =
+    in_front all shown s =
         put_in_front selection all (without_head s.states w) met2 (pending_next selection last v) (Some v) (r.taken + 1)
-        (taken_head all told s)
+        (taken_head all shown s)
 
     has2 : (sink2 : SinkState) (now2 : O) → PutsMore output (versions_put selection last v) sink sink2 now now2 (Ok tt)
         → HasPut format number put2 (change_of output before now2) sink2
@@ -388,7 +394,8 @@ module _ {selection : Selection} {S : Type 0} {can : S → VersionsToCome → Ty
         )
 
     -- After a refused put the output still has the earlier bytes.
-    pub put_kept : (sink2 : SinkState) (now2 : O) (fault : Fault) → PutsMore output (versions_put selection last v) sink sink2 now now2 (Err fault)
+    pub put_kept : (sink2 : SinkState) (now2 : O) (fault : Fault) →
+        PutsMore output (versions_put selection last v) sink sink2 now now2 (Err fault)
         → Grows (change_of output before now2)
     put_kept sink2 now2 fault p = let cut = cut2 sink2 now2 fault p in (take cut.count (open_file_bytes format put2), cut.appended)
 
@@ -405,7 +412,8 @@ module _ {selection : Selection} {S : Type 0} {can : S → VersionsToCome → Ty
     Before step later =
         (one : VersionsToCome) × (w < length (map Some (set later w one))) × (get_or (map Some (set later w one)) w None ≡ Some one)
         × step one (get_or later w end_whole)
-        × SomeInputsGive can sources0 (λ first. (all : List VersionsToCome) → AllAscend all → AreHeadsOf all heads0 (map Some first) → IsStanding
+        × SomeInputsGive can sources0 (λ first. (all : List VersionsToCome) → AllAscend all → AreHeadsOf all heads0 (map Some first) →
+        IsStanding
         selection all heads (map Some (set later w one)) r.met last r.top r.taken)
 
     stepped : (step : VersionsToCome → VersionsToCome → Type 0) (d new : S) → Explained (can (get_or sources w d)) (can new) step
@@ -424,27 +432,29 @@ module _ {selection : Selection} {S : Type 0} {can : S → VersionsToCome → Ty
         )
 
     -- the source of the version is refused after the version was put
-    refused_at : (sink2 : SinkState) (now2 : O) (fault : Fault) (told : List (Option VersionsToCome)) (after : Option VersionsToCome)
-        → w < length told → PutsMore output (versions_put selection last v) sink sink2 now now2 (Ok tt)
-        → SourceStep {A = VersionData} (get_or told w None) (Err fault) after
-        → (all : List VersionsToCome) → IsStanding selection all heads told r.met last r.top r.taken
+    refused_at : (sink2 : SinkState) (now2 : O) (fault : Fault) (shown : List (Option VersionsToCome)) (after : Option VersionsToCome)
+        → w < length shown → PutsMore output (versions_put selection last v) sink sink2 now now2 (Ok tt)
+        → SourceStep {A = VersionData} (get_or shown w None) (Err fault) after
+        → (all : List VersionsToCome) → IsStanding selection all heads shown r.met last r.top r.taken
         → IsRefusedAs selection all format number (change_of output before now2) fault
-    refused_at sink2 now2 fault told after low p step all s =
+    refused_at sink2 now2 fault shown after low p step all s =
         let here : VersionsToCome = rest_at s.states w in
         let states2 : List VersionsToCome = without_head s.states w in
-        let m = taken_head all told s in
+        let m = taken_head all shown s in
         let sent : Appends (change_of output before now2) (open_file_bytes format put2) = (has2 sink2 now2 p).sent.appended in
-        let less : w < length s.states = subst (λ n. w < n) (length_heads s.states heads s.stand.heads_are) inside in
-        let tells : get_or told w None ≡ Some (after_head here) =
-        told_at told (map after_head s.states) w s.stand.rests_known low ∙ ap Some (behind_at s.states w) in
-        elim (told_refuses (after_head here) fault after (subst (λ o. SourceStep {A = VersionData} o (Err fault) after) tells step)) [
-          | inl wanting ↦ inl (subst (λ (f : Fault). CutShort number (change_of output before now2)
-              (spell format (selection_of selection (union_given all))) f) (sym wanting) (memory_refused (selection_of selection (union_given all))
-              format number (change_of output before now2) put2 (in_front all told s) sent))
+        let less : w < length s.states = subst (λ n. w < n) (length_heads s.states heads s.are_heads.heads_are) inside in
+        let determines : get_or shown w None ≡ Some (after_head here) =
+        known_at shown (map after_head s.states) w s.are_heads.rests_known low ∙ ap Some (after_at s.states w) in
+        elim (known_refuses (after_head here) fault after (subst (λ o. SourceStep {A = VersionData} o (Err fault) after) determines step)) [
+          | inl memory ↦ inl (subst (λ (f : Fault). CutShort number (change_of output before now2)
+              (spell format (selection_of selection (union_given all))) f) (sym memory)
+              (memory_refused (selection_of selection (union_given all))
+              format number (change_of output before now2) put2 (in_front all shown s) sent))
           | inr end ↦ (
               let list_is : (rest_at all w).list ≡ (s.merging.came w).0 ++ v ∷ [] =
               (s.merging.came w).1
-              ∙ ap (λ t. (s.merging.came w).0 ++ t) (only_one here.list (sym (head_at s.states heads w s.stand.heads_are) ∙ at_w) end.0) in
+              ∙ ap (λ t. (s.merging.came w).0 ++ t) (only_one here.list (sym (head_at s.states heads w s.are_heads.heads_are) ∙ at_w)
+              end.0) in
               let last_v : last_version (rest_at all w).list ≡ Some v = ap last_version list_is ∙ last_of_end ((s.merging.came w).0) v in
               let met_is : met2 ≡ passing_versions selection (versions_up_to (Some v) (union_list all)) = met_up_to m v refl in
               let full : puts_at_once selection ≡ true → IsFull (versions_up_to (Some v) (union_list all)) = λ once.
@@ -452,7 +462,8 @@ module _ {selection : Selection} {S : Type 0} {can : S → VersionsToCome → Ty
               let e : Ends (Some v) met2 =
               subst (λ (h : Option VersionData). Ends h met2) (m.reached (at_once_pass selection once v)) m.ends in
               not_nothing (e.0) v (sym e.1 ∙ met_is ∙ ap (passing_versions selection) none ∙ passing_nothing selection)) in
-              let bytes : written_before selection format (last_version (rest_at all w).list) (union_list all) ≡ open_file_bytes format put2 =
+              let bytes : written_before selection format (last_version (rest_at all w).list) (union_list all)
+              ≡ open_file_bytes format put2 =
               ap (λ (l : Option VersionData). written_before selection format l (union_list all)) last_v
               ∙ before_is selection format v (union_list all) full
               ∙ ap (λ (vs : List VersionData). open_file_bytes format (put_of selection vs)) (sym met_is) in
@@ -475,11 +486,11 @@ module _ {selection : Selection} {S : Type 0} {can : S → VersionsToCome → Ty
         stepped (λ e l. SourceStep {A = VersionData} (Some e) (Err fault) (Some l)) d new step later
         (give_one can one possible (set sources w new)) in
         let q = b.4 in
-        let told : List (Option VersionsToCome) = map Some (set later w b.0) in
+        let shown : List (Option VersionsToCome) = map Some (set later w b.0) in
         let after : Option VersionsToCome = Some (get_or later w end_whole) in (
           q.0,
           q.1,
-          λ all up st. refused_at sink2 now2 fault told after b.1 p
+          λ all up st. refused_at sink2 now2 fault shown after b.1 p
               (subst (λ o. SourceStep {A = VersionData} o (Err fault) after) (sym b.2) b.3) all (q.2 all up st),
         )
 
@@ -490,7 +501,8 @@ module _ {selection : Selection} {S : Type 0} {can : S → VersionsToCome → Ty
         → Explained (can (get_or sources w d)) (can new) (λ e l. SourceStep (Some e) (Ok given) (Some l))
         → IsTree (set heads w given) nodes2 1 0
         → read2 ≡ capped_count (read + 1)
-        → ((put : List VersionData) → written ≡ capped_count (length put) → written2 ≡ capped_count (length (put ++ versions_put selection last v)))
+        → ((put : List VersionData) → written ≡ capped_count (length put) →
+        written2 ≡ capped_count (length (put ++ versions_put selection last v)))
         → (is_repeated : Bool) → OnTrue is_repeated (repeats.taken ≡ Some w) → compared ≤ compared1 → compared1 ≤ compared + 1
         → (is_repeated ≡ false → IfSome last (λ _. capped_count (compared + 1) ≤ compared1))
         → ((depth : ℕ) → length (set heads w given) ≤ 2 ^ depth → compared2 ≤ compared1 + depth)
@@ -499,7 +511,7 @@ module _ {selection : Selection} {S : Type 0} {can : S → VersionsToCome → Ty
         → IsRunning selection can heads0 sources0 format number output before (set heads w given) nodes2 (set sources w new) sink2 now2
         last2 read2 written2 compared2 (record { tie = tie2; taken = repeats1.taken })
     run_more nodes2 sink2 now2 last2 given d new read2 written2 compared1 compared2 p last_is step tree read_is writes is_repeated on grows
-        most least replayed repeats1 is1 tie2 tied2 told =
+        most least replayed repeats1 is1 tie2 tied2 shown =
         let size : length (set heads w given) ≡ length heads = length-set heads w given in
         let sizes : length (set sources w new) ≡ length sources = length-set sources w new in
         record {
@@ -521,9 +533,10 @@ module _ {selection : Selection} {S : Type 0} {can : S → VersionsToCome → Ty
               omega (arith, old, later, times, size);
           least = λ p.
               let turn = least_turn repeats w last is_repeated r.taken compared compared1 (r.least p) (r.fresh p) on least grows in
-              subst (λ (s : Repeats). capped_count (((r.taken + 1) - 1) + comparison_count (record { tie = tie2; taken = s.taken })) ≤ compared2) (sym is1)
+              subst (λ (s : Repeats). capped_count (((r.taken + 1) - 1) + comparison_count (record { tie = tie2; taken = s.taken })) ≤
+              compared2) (sym is1)
               (least_next repeats.tie w ((r.taken + 1) - 1) compared1 tie2 compared2 turn
-              (subst (λ (s : Repeats). SavesComparison s.tie compared1 tie2 compared2) is1 told));
+              (subst (λ (s : Repeats). SavesComparison s.tie compared1 tie2 compared2) is1 shown));
           known = record {
             tied = tied2;
             past = subst (λ (l : Option VersionData). IsPastAt selection l (set heads w given) repeats1.taken) (sym last_is)
@@ -534,30 +547,31 @@ module _ {selection : Selection} {S : Type 0} {can : S → VersionsToCome → Ty
           run = λ later g. (
               let b = stepped (λ e l. SourceStep (Some e) (Ok given) (Some l)) d new step later g in
               let q = b.4 in
-              let told : List (Option VersionsToCome) = map Some (set later w b.0) in
+              let shown : List (Option VersionsToCome) = map Some (set later w b.0) in
               let here : VersionsToCome = get_or later w end_whole in
-              let next : set told w (Some here) ≡ map Some later =
+              let next : set shown w (Some here) ≡ map Some later =
               map_set_some (set later w b.0) w here ∙ ap (map Some) (set_again later w b.0 end_whole) in
-              let gave : SourceStep (get_or told w None) (Ok given) (Some here) = subst (λ o. SourceStep o (Ok given) (Some here)) (sym b.2) b.3 in (
+              let gave : SourceStep (get_or shown w None) (Ok given) (Some here) =
+              subst (λ o. SourceStep o (Ok given) (Some here)) (sym b.2) b.3 in (
                 q.0,
                 q.1,
                 λ all up st.
                     let s = q.2 all up st in
                     record {
                       states = without_head s.states w;
-                      stand =
+                      are_heads =
                           subst (λ (t : List (Option VersionsToCome)). AreHeadsOf (without_head s.states w) (set heads w given) t) next
-                          (stand_more s.states heads told w given (Some here) s.stand inside b.1 gave);
+                          (heads_more s.states heads shown w given (Some here) s.are_heads inside b.1 gave);
                       merging =
                           subst (λ (l : Option VersionData). IsMerging selection all (without_head s.states w) met2 l (Some v)
-                          (r.taken + 1)) (sym last_is) (taken_head all told s);
+                          (r.taken + 1)) (sym last_is) (taken_head all shown s);
                     },
               ));
         }
 
 -- ---- the end
 -- all versions were taken, and the selection of the union was put
-pub record IsToldDone (selection : Selection) (all : List VersionsToCome) (put : List VersionData) (read compared : ℕ) : Type 0 where
+pub record IsKnownDone (selection : Selection) (all : List VersionsToCome) (put : List VersionData) (read compared : ℕ) : Type 0 where
   pub union_is : chosen selection all ≡ put
   pub ends_whole : All (λ c. c.refusal ≡ None) all
   pub read_is : read ≡ capped_count (length (versions_of all))
@@ -573,10 +587,10 @@ pub record IsDone (selection : Selection) (last : Option VersionData) {S : Type 
   pub has : HasPut format number so_far (change_of output before now) sink
   pub ascends : IsStrictlySortedBy version_cmp put
   pub written_is : counts.written ≡ capped_count (length so_far)
-  pub told :
+  pub shown :
       SomeInputsGive can sources0
       (λ first. (all : List VersionsToCome) → AllAscend all → AreHeadsOf all heads0 (map Some first)
-      → IsToldDone selection all put counts.read counts.compared)
+      → IsKnownDone selection all put counts.read counts.compared)
 
 none_left : (heads : List (Option VersionData)) (nodes : List ℕ) (w : ℕ) → IsTree heads nodes 1 0 → w ≡ get_or nodes 1 0
     → get_or heads w None ≡ None → (i : ℕ) → get_or heads i None ≡ None
@@ -611,21 +625,21 @@ run_done {selection = selection} {can = can} {heads = heads} {nodes = nodes} {so
           subst (IsStrictlySortedBy version_cmp) (sym (put_all selection last r.met r.ends))
           (kept_ascends (keeps selection) r.met r.ascends);
       written_is = r.written_is;
-      told = (
+      shown = (
         q.0,
         q.1,
         λ all up st.
             let s = q.2 all up st in
             let no_head : (i : ℕ) → i < length s.states → head (rest_at s.states i) ≡ None =
-            λ i low. sym (head_at s.states heads i s.stand.heads_are) ∙ none i in
+            λ i low. sym (head_at s.states heads i s.are_heads.heads_are) ∙ none i in
             let taken_is : r.taken ≡ length (versions_of all) = all_taken s.merging no_head in
-            let many : length heads ≡ length all = length_heads s.states heads s.stand.heads_are ∙ s.merging.size in
+            let many : length heads ≡ length all = length_heads s.states heads s.are_heads.heads_are ∙ s.merging.size in
             record {
               union_is = all_put s.merging no_head;
               ends_whole = λ i d low.
                   let within : i < length s.states = subst (λ n. i < n) (sym s.merging.size) low in
                   subst (λ c. c.refusal ≡ None) (get_or_default all i end_whole d low)
-                  (s.merging.refusals i ∙ s.stand.settled i within (no_head i within));
+                  (s.merging.refusals i ∙ s.are_heads.settled i within (no_head i within));
               read_is = r.read_is ∙ ap capped_count taken_is;
               bounded = record {
                 most = λ depth high.
@@ -635,7 +649,7 @@ run_done {selection = selection} {can = can} {heads = heads} {nodes = nodes} {so
                 least =
                     few_least selection (length (versions_of all)) counts.compared
                     (λ p. subst (λ t. capped_count (t - 1) ≤ counts.compared) taken_is
-                    (least_alone (2 ^ 64 - 1) r.taken (comparison_count repeats) counts.compared (r.least p)));
+                    (least_single (2 ^ 64 - 1) r.taken (comparison_count repeats) counts.compared (r.least p)));
               };
             },
       );
@@ -657,7 +671,7 @@ none_done selection can one possible heads sources format number output before s
       has = has;
       ascends = subst (IsStrictlySortedBy version_cmp) (sym (put_all selection None [] refl)) (nothing_ascends version_cmp);
       written_is = none_written;
-      told = (
+      shown = (
         map one sources,
         give_one can one possible sources,
         λ all up st.
@@ -689,7 +703,8 @@ module _ {selection : Selection} {last : Option VersionData} {S : Type 0} {can :
   abbrev pub Counted : Result Counts Fault → Type 0
   Counted result =
       IfOk result (λ done. done.read ≡ counts.read)
-      × IfOk result (λ done. (put : List VersionData) → counts.written ≡ capped_count (length put) → done.written ≡ capped_count (length (put ++ more)))
+      × IfOk result (λ done. (put : List VersionData) → counts.written ≡ capped_count (length put) →
+      done.written ≡ capped_count (length (put ++ more)))
       × IfOk result (λ done. done.compared ≡ counts.compared)
 
   -- If the end of the file is written, the merge is done.
@@ -698,10 +713,10 @@ module _ {selection : Selection} {last : Option VersionData} {S : Type 0} {can :
       (λ first. (all : List VersionsToCome) → AllAscend all → AreHeadsOf all heads0 (map Some first) → IsMergedAs selection all format
       (change_of output before after) done))
   end_merged (Ok done) ends is = (
-    d.told.0,
-    d.told.1,
+    d.shown.0,
+    d.shown.1,
     λ all up st.
-        let t = d.told.2 all up st in
+        let t = d.shown.2 all up st in
         let sent = ends format number d.so_far before d.has in
         let all_is : d.so_far ++ more ≡ chosen selection all = d.put_is ∙ sym t.union_is in
         record {
@@ -719,15 +734,16 @@ module _ {selection : Selection} {last : Option VersionData} {S : Type 0} {can :
   -- If the end of the file isn't written, the merge is refused.
   pub end_refused : (result : Result Counts Fault) → EndsFile output more sink now after result
       → IfErr result (λ fault. SomeInputsGive can sources0
-      (λ first. (all : List VersionsToCome) → AllAscend all → AreHeadsOf all heads0 (map Some first) → IsRefusedAs selection all format number
+      (λ first. (all : List VersionsToCome) → AllAscend all → AreHeadsOf all heads0 (map Some first) →
+      IsRefusedAs selection all format number
       (change_of output before after) fault))
   end_refused (Ok done) ends = tt
   end_refused (Err fault) ends = (
-    d.told.0,
-    d.told.1,
+    d.shown.0,
+    d.shown.1,
     λ all up st.
         inl (subst (λ (vs : List VersionData). CutShort number (change_of output before after) (spell_list format vs) fault)
-        (d.put_is ∙ sym (d.told.2 all up st).union_is) (ends format number d.so_far before d.has)),
+        (d.put_is ∙ sym (d.shown.2 all up st).union_is) (ends format number d.so_far before d.has)),
   )
 
   -- After the end of the file the output still has the earlier bytes.
@@ -780,10 +796,11 @@ give_ascend can h (s ∷ sources) (c ∷ cs) g (suc i) = give_ascend can h sourc
 pub from_first : {S : Type 0} (can : S → VersionsToCome → Type 0) → ((s : S) (c : VersionsToCome) → can s c → Ascends c)
     → (sources first asked : List S) (heads0 heads : List (Option VersionData)) (P : List VersionsToCome → Type 0) → first ≡ sources
     → heads ≡ heads0
-    → Explained (AllGive can first) (AllGive can asked) (λ all later. AreHeadsOf all heads0 (map Some later)) → SomePendingGive can asked heads P
+    → Explained (AllGive can first) (AllGive can asked) (λ all later. AreHeadsOf all heads0 (map Some later)) →
+    SomePendingGive can asked heads P
     → SomeInputsGive can sources P
-from_first can ascends sources first asked heads0 heads P same is stands h =
-    let x = stands h.0 h.1 in
+from_first can ascends sources first asked heads0 heads P same is spelled h =
+    let x = spelled h.0 h.1 in
     let g = subst (λ (ss : List _). AllGive can ss x.0) same x.1 in (
       x.0,
       g,

@@ -11,7 +11,8 @@ use Rattle.osm_merge.specs.declared.selection.Selection.{Selection}
 use Rattle.osm_merge.specs.declared.selection.Selection.TheVariants.{All, Visible, Newest, NewestVisible, State, StateVisible, Between}
 use Rattle.osm_model.specs.Order.{version_cmp}
 use Rattle.osm_merge.specs.Members.{first}
-use Rattle.osm_merge.specs.Pass.{keeps, singleton_if, versions_that_stay, decided_versions, settled_versions, puts_at_once, put_of, pending_if_kept, put_at, put_at_end, versions_put, is_met}
+use Rattle.osm_merge.specs.Pass.{keeps, singleton_if, versions_that_stay, decided_versions, settled_versions, puts_at_once, put_of}
+use Rattle.osm_merge.specs.Pass.{pending_if_kept, put_at, put_at_end, versions_put, is_met}
 use Rattle.osm_merge.specs.Pass.{met_next}
 use Rattle.osm_merge.proofs.State.{Ends}
 use Rattle.osm_merge.proofs.AscendingLaws.{one_ascends, first_below, rest_ascends}
@@ -26,15 +27,16 @@ all_only : {K : Type 0} (P : K → Type 0) (b : Bool) (x : K) → P x → AllByR
 all_only P true x h = (h, tt)
 all_only P false x h = tt
 
-all_decided : {K : Type 0} (keeps : K → Option K → Bool) (P : K → Type 0) (x : K) (behind : Option K) → P x →
-    AllByRecursion P (decided_versions keeps x behind)
+all_decided : {K : Type 0} (keeps : K → Option K → Bool) (P : K → Type 0) (x : K) (rest : Option K) → P x →
+    AllByRecursion P (decided_versions keeps x rest)
 all_decided keeps P x None h = tt
 all_decided keeps P x (Some w) h = all_only P (keeps x (Some w)) x h
 
 all_settled : {K : Type 0} (keeps : K → Option K → Bool) (P : K → Type 0) (xs : List K) → AllByRecursion P xs →
     AllByRecursion P (settled_versions keeps xs)
 all_settled keeps P [] h = tt
-all_settled keeps P (x ∷ xs) h = all_append P (decided_versions keeps x (first xs)) (settled_versions keeps xs) (all_decided keeps P x (first xs) h.0)
+all_settled keeps P (x ∷ xs) h = all_append P (decided_versions keeps x (first xs)) (settled_versions keeps xs)
+    (all_decided keeps P x (first xs) h.0)
     (all_settled keeps P xs h.1)
 
 all_front : {K : Type 0} (P : K → Type 0) (front : List K) (l : K) → AllByRecursion P (front ++ l ∷ []) → P l
@@ -43,17 +45,17 @@ all_front P (x ∷ front) l h = all_front P front l h.1
 
 -- an ascending list after a version that is below all of its items
 module _ {K : Type 0} (R : K → K → Ordering) where
-  ascends_behind : (xs ys : List K) (x : K) → AllByRecursion (λ y. R x y ≡ Less) ys → IsStrictlySortedBy R ys →
+  ascends_after : (xs ys : List K) (x : K) → AllByRecursion (λ y. R x y ≡ Less) ys → IsStrictlySortedBy R ys →
       IsStrictlySortedBy R (x ∷ ys)
   unfolding IsStrictlySortedBy
-  ascends_behind xs ys x h k = (h, k)
+  ascends_after xs ys x h k = (h, k)
 
-  decided_ascends : (keeps : K → Option K → Bool) (x : K) (behind : Option K) (ys : List K) → AllByRecursion (λ y. R x y ≡ Less) ys →
-      IsStrictlySortedBy R ys → IsStrictlySortedBy R (decided_versions keeps x behind ++ ys)
+  decided_ascends : (keeps : K → Option K → Bool) (x : K) (rest : Option K) (ys : List K) → AllByRecursion (λ y. R x y ≡ Less) ys →
+      IsStrictlySortedBy R ys → IsStrictlySortedBy R (decided_versions keeps x rest ++ ys)
   decided_ascends keeps x None ys h k = k
   decided_ascends keeps x (Some w) ys h k =
       elim (keeps x (Some w)) as (λ b. IsStrictlySortedBy R (singleton_if b x ++ ys)) [
-        | true ↦ ascends_behind ys ys x h k
+        | true ↦ ascends_after ys ys x h k
         | false ↦ k
       ]
 
@@ -63,7 +65,8 @@ module _ {K : Type 0} (R : K → K → Ordering) where
   settled_ascends keeps [] l h = one_ascends R l
   settled_ascends keeps (x ∷ front) l h =
       let below = first_below R x (front ++ l ∷ []) h in
-      subst (IsStrictlySortedBy R) (sym (append_assoc (decided_versions keeps x (first (front ++ l ∷ []))) (settled_versions keeps (front ++ l ∷ []))
+      subst (IsStrictlySortedBy R) (sym (append_assoc (decided_versions keeps x (first (front ++ l ∷ [])))
+      (settled_versions keeps (front ++ l ∷ []))
       (l ∷ [])))
       (decided_ascends keeps x (first (front ++ l ∷ [])) (settled_versions keeps (front ++ l ∷ []) ++ l ∷ [])
       (all_append (λ y. R x y ≡ Less) (settled_versions keeps (front ++ l ∷ [])) (l ∷ [])
@@ -72,23 +75,23 @@ module _ {K : Type 0} (R : K → K → Ordering) where
 
 -- ---- a turn
 -- each of some versions ascends after the versions that were put
-abbrev pub AscendBehind : List VersionData → List VersionData → Type 0
-AscendBehind put versions = AllByRecursion (λ v. IsStrictlySortedBy version_cmp (put ++ v ∷ [])) versions
+abbrev pub AscendAfter : List VersionData → List VersionData → Type 0
+AscendAfter put versions = AllByRecursion (λ v. IsStrictlySortedBy version_cmp (put ++ v ∷ [])) versions
 
-held_may_follow : (selection : Selection) (held behind : Option VersionData) (met : List VersionData) → Ends held met →
-    IsStrictlySortedBy version_cmp met → AscendBehind (settled_versions (keeps selection) met) (pending_if_kept selection held behind)
-held_may_follow selection None behind met e h = tt
-held_may_follow selection (Some l) behind met e h =
-    all_only (λ v. IsStrictlySortedBy version_cmp (settled_versions (keeps selection) met ++ v ∷ [])) (keeps selection l behind) l
+held_may_follow : (selection : Selection) (held rest : Option VersionData) (met : List VersionData) → Ends held met →
+    IsStrictlySortedBy version_cmp met → AscendAfter (settled_versions (keeps selection) met) (pending_if_kept selection held rest)
+held_may_follow selection None rest met e h = tt
+held_may_follow selection (Some l) rest met e h =
+    all_only (λ v. IsStrictlySortedBy version_cmp (settled_versions (keeps selection) met ++ v ∷ [])) (keeps selection l rest) l
     (subst (λ t. IsStrictlySortedBy version_cmp (settled_versions (keeps selection) t ++ l ∷ [])) (sym e.1)
     (settled_ascends version_cmp (keeps selection) (e.0) l (subst (IsStrictlySortedBy version_cmp) e.1 h)))
 
 -- The versions put when a version is met ascend after those put before.
 pub may_put : (selection : Selection) (held : Option VersionData) (v : VersionData) (met : List VersionData) → Ends held met →
     IsStrictlySortedBy version_cmp met → IsStrictlySortedBy version_cmp (met ++ v ∷ []) →
-    AscendBehind (put_of selection met) (put_at selection held v)
+    AscendAfter (put_of selection met) (put_at selection held v)
 may_put selection held v met e h up =
-    elim (puts_at_once selection) as (λ b. AscendBehind (cond b met (settled_versions (keeps selection) met))
+    elim (puts_at_once selection) as (λ b. AscendAfter (cond b met (settled_versions (keeps selection) met))
     (cond b (v ∷ []) (pending_if_kept selection held (Some v)))) [
       | true ↦ (up, tt)
       | false ↦ held_may_follow selection held (Some v) met e h
@@ -96,9 +99,9 @@ may_put selection held v met e h up =
 
 -- The versions put at the end ascend after those put before.
 pub may_end : (selection : Selection) (held : Option VersionData) (met : List VersionData) → Ends held met →
-    IsStrictlySortedBy version_cmp met → AscendBehind (put_of selection met) (put_at_end selection held)
+    IsStrictlySortedBy version_cmp met → AscendAfter (put_of selection met) (put_at_end selection held)
 may_end selection held met e h =
-    elim (puts_at_once selection) as (λ b. AscendBehind (cond b met (settled_versions (keeps selection) met))
+    elim (puts_at_once selection) as (λ b. AscendAfter (cond b met (settled_versions (keeps selection) met))
     (cond b [] (pending_if_kept selection held None))) [
       | true ↦ tt
       | false ↦ held_may_follow selection held None met e h
@@ -106,7 +109,8 @@ may_end selection held met e h =
 
 settled_more : (selection : Selection) (held : Option VersionData) (v : VersionData) (met : List VersionData) → Ends held met →
     settled_versions (keeps selection) met ++ pending_if_kept selection held (Some v) ≡ settled_versions (keeps selection) (met ++ v ∷ [])
-settled_more selection None v met e = subst (λ t. settled_versions (keeps selection) t ++ [] ≡ settled_versions (keeps selection) (t ++ v ∷ [])) (sym e) refl
+settled_more selection None v met e = subst (λ t. settled_versions (keeps selection) t
+    ++ [] ≡ settled_versions (keeps selection) (t ++ v ∷ [])) (sym e) refl
 settled_more selection (Some l) v met e = subst (λ t. settled_versions (keeps selection) t ++ singleton_if (keeps selection l (Some v)) l
     ≡ settled_versions (keeps selection) (t ++ v ∷ [])) (sym e.1) (sym (settled_next (keeps selection) (e.0) l v))
 
@@ -114,7 +118,8 @@ settled_more selection (Some l) v met e = subst (λ t. settled_versions (keeps s
 pub put_more : (selection : Selection) (held : Option VersionData) (v : VersionData) (met : List VersionData) → Ends held met →
     put_of selection met ++ put_at selection held v ≡ put_of selection (met ++ v ∷ [])
 put_more selection held v met e =
-    elim (puts_at_once selection) as (λ b. cond b met (settled_versions (keeps selection) met) ++ cond b (v ∷ []) (pending_if_kept selection held (Some v))
+    elim (puts_at_once selection) as (λ b. cond b met (settled_versions (keeps selection) met)
+    ++ cond b (v ∷ []) (pending_if_kept selection held (Some v))
     ≡ cond b (met ++ v ∷ []) (settled_versions (keeps selection) (met ++ v ∷ []))) [
       | true ↦ refl
       | false ↦ settled_more selection held v met e
@@ -122,7 +127,8 @@ put_more selection held v met e =
 
 settled_all : (selection : Selection) (held : Option VersionData) (met : List VersionData) → Ends held met →
     settled_versions (keeps selection) met ++ pending_if_kept selection held None ≡ versions_that_stay (keeps selection) met
-settled_all selection None met e = subst (λ t. settled_versions (keeps selection) t ++ [] ≡ versions_that_stay (keeps selection) t) (sym e) refl
+settled_all selection None met e = subst (λ t. settled_versions (keeps selection) t ++ [] ≡ versions_that_stay (keeps selection) t)
+    (sym e) refl
 settled_all selection (Some l) met e = subst (λ t. settled_versions (keeps selection) t ++ singleton_if (keeps selection l None) l
     ≡ versions_that_stay (keeps selection) t) (sym e.1) (sym (kept_end (keeps selection) (e.0) l))
 
@@ -155,7 +161,7 @@ put_next selection held v met e =
     ]
 
 settled_front : {K : Type 0} (keeps : K → Option K → Bool) (xs more : List K) →
-    (behind : List K) × (versions_that_stay keeps (xs ++ more) ≡ settled_versions keeps xs ++ behind)
+    (rest : List K) × (versions_that_stay keeps (xs ++ more) ≡ settled_versions keeps xs ++ rest)
 settled_front keeps [] more = (versions_that_stay keeps more, refl)
 settled_front keeps (x ∷ []) more = (versions_that_stay keeps (x ∷ more), refl)
 settled_front keeps (x ∷ y ∷ ys) more =
@@ -167,7 +173,7 @@ settled_front keeps (x ∷ y ∷ ys) more =
 
 -- the versions put for the front of a list are a front of those that the pass keeps
 pub put_front : (selection : Selection) (xs more : List VersionData) →
-    (behind : List VersionData) × (versions_that_stay (keeps selection) (xs ++ more) ≡ put_of selection xs ++ behind)
+    (rest : List VersionData) × (versions_that_stay (keeps selection) (xs ++ more) ≡ put_of selection xs ++ rest)
 put_front All xs more = (more, keep_all (xs ++ more))
 put_front Visible xs more = settled_front (keeps Visible) xs more
 put_front Newest xs more = settled_front (keeps Newest) xs more
@@ -196,12 +202,13 @@ put_ascends selection met h =
 all_kept : {K : Type 0} (keeps : K → Option K → Bool) (P : K → Type 0) (xs : List K) → AllByRecursion P xs →
     AllByRecursion P (versions_that_stay keeps xs)
 all_kept keeps P [] h = tt
-all_kept keeps P (x ∷ xs) h = all_append P (singleton_if (keeps x (first xs)) x) (versions_that_stay keeps xs) (all_only P (keeps x (first xs)) x h.0)
+all_kept keeps P (x ∷ xs) h = all_append P (singleton_if (keeps x (first xs)) x) (versions_that_stay keeps xs)
+    (all_only P (keeps x (first xs)) x h.0)
     (all_kept keeps P xs h.1)
 
 only_ascends : (b : Bool) (x : VersionData) (ys : List VersionData) → AllByRecursion (λ y. version_cmp x y ≡ Less) ys →
     IsStrictlySortedBy version_cmp ys → IsStrictlySortedBy version_cmp (singleton_if b x ++ ys)
-only_ascends true x ys h k = ascends_behind version_cmp ys ys x h k
+only_ascends true x ys h k = ascends_after version_cmp ys ys x h k
 only_ascends false x ys h k = k
 
 -- The versions that are kept of a strictly ascending list ascend strictly.
@@ -209,5 +216,6 @@ pub kept_ascends : (keeps : VersionData → Option VersionData → Bool) (xs : L
     IsStrictlySortedBy version_cmp (versions_that_stay keeps xs)
 kept_ascends keeps [] h = h
 kept_ascends keeps (x ∷ xs) h =
-    only_ascends (keeps x (first xs)) x (versions_that_stay keeps xs) (all_kept keeps (λ y. version_cmp x y ≡ Less) xs (first_below version_cmp x xs h))
+    only_ascends (keeps x (first xs)) x (versions_that_stay keeps xs)
+    (all_kept keeps (λ y. version_cmp x y ≡ Less) xs (first_below version_cmp x xs h))
     (kept_ascends keeps xs (rest_ascends version_cmp x xs h))

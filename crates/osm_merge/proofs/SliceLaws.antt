@@ -71,26 +71,26 @@ under_down bound v w less h =
 
 -- ---- an ascending list is cut at the end of a test
 module _ {K : Type 0} (R : K → K → Ordering) (p : K → Bool) (down : (x y : K) → R x y ≡ Less → p y ≡ true → p x ≡ true) where
-  pub none_behind : (x : K) (ys : List K) → p x ≡ false → AllByRecursion (λ y. R x y ≡ Less) ys → AllByRecursion (λ y. p y ≡ false) ys
-  none_behind x [] e h = tt
-  none_behind x (y ∷ ys) e h = (
+  pub none_after : (x : K) (ys : List K) → p x ≡ false → AllByRecursion (λ y. R x y ≡ Less) ys → AllByRecursion (λ y. p y ≡ false) ys
+  none_after x [] e h = tt
+  none_after x (y ∷ ys) e h = (
     elim (p y) as (λ b. p y ≡ b → b ≡ false) [
       | true ↦ λ t. absurd (false≢true (sym e ∙ down x y h.0 t))
       | false ↦ λ t. refl
     ] refl,
-    none_behind x ys e h.1,
+    none_after x ys e h.1,
   )
 
   pub cut_at : (xs : List K) → IsStrictlySortedBy R xs → xs ≡ filter p xs ++ filter (λ x. not (p x)) xs
   unfolding IsStrictlySortedBy
   cut_at [] h = refl
   cut_at (x ∷ xs) h =
-      let behind : List K = filter (λ x. not (p x)) xs in
-      elim (p x) as (λ b. p x ≡ b → x ∷ xs ≡ cond b (x ∷ filter p xs) (filter p xs) ++ cond (not b) (x ∷ behind) behind) [
+      let rest : List K = filter (λ x. not (p x)) xs in
+      elim (p x) as (λ b. p x ≡ b → x ∷ xs ≡ cond b (x ∷ filter p xs) (filter p xs) ++ cond (not b) (x ∷ rest) rest) [
         | true ↦ λ e. ap (λ t. x ∷ t) (cut_at xs h.1)
         | false ↦ λ e.
-            let none : filter p xs ≡ [] = filter_none p xs (none_behind x xs e h.0) in
-            ap (λ t. x ∷ t) (cut_at xs h.1 ∙ ap (λ t. t ++ behind) none) ∙ ap (λ t. t ++ x ∷ behind) (sym none)
+            let none : filter p xs ≡ [] = filter_none p xs (none_after x xs e h.0) in
+            ap (λ t. x ∷ t) (cut_at xs h.1 ∙ ap (λ t. t ++ rest) none) ∙ ap (λ t. t ++ x ∷ rest) (sym none)
       ] refl
 
 -- ---- the slices' lists
@@ -103,10 +103,10 @@ and_true : (a : Bool) → (a && true) ≡ a
 and_true true = refl
 and_true false = refl
 
-behind_bound : (r n : Bool) → (n ≡ true → r ≡ true) → ((r && true) && n) ≡ (n && true)
-behind_bound true n h = sym (and_true n)
-behind_bound false true h = absurd (false≢true (h refl))
-behind_bound false false h = refl
+after_bound : (r n : Bool) → (n ≡ true → r ≡ true) → ((r && true) && n) ≡ (n && true)
+after_bound true n h = sym (and_true n)
+after_bound false true h = absurd (false≢true (h refl))
+after_bound false false h = refl
 
 -- A version that reaches a bound reaches each lower one.
 pub reaches_lower : (from : Option Object) (bound : Object) → IsAtMost from bound → (v : VersionData) →
@@ -128,7 +128,7 @@ cut_slice from bound s low =
     let back : filter over whole ≡ to_list (slice_of (Some bound) None s) =
     ap (filter over) (listed_with s (is_within from None)) ∙ filter_filter (is_within from None) over (to_list s)
     ∙ filter_agree (λ v. is_within from None v && over v) (is_within (Some bound) None)
-    (λ v. behind_bound (reaches from v) (over v) (reaches_lower from bound low v)) (to_list s)
+    (λ v. after_bound (reaches from v) (over v) (reaches_lower from bound low v)) (to_list s)
     ∙ sym (listed_with s (is_within (Some bound) None)) in
     cut_at version_cmp under (under_down bound) whole (strict-listed (slice_of from None s)) ∙ (λ i. front i ++ back i)
 
@@ -174,7 +174,8 @@ spans_rise : (from : Option Object) (bounds : List Object) → list.All (λ span
 spans_rise from [] h = tt
 spans_rise None (bound ∷ bounds) h = (
   tt,
-  spans_rise (Some bound) bounds (All-tail (λ span. is_ascending span ≡ true) (span_of None (Some bound)) (spans_from (Some bound) bounds) h),
+  spans_rise (Some bound) bounds (All-tail (λ span. is_ascending span ≡ true) (span_of None (Some bound))
+      (spans_from (Some bound) bounds) h),
 )
 spans_rise (Some from) (bound ∷ bounds) h = (
   not_true _ (All-head (λ span. is_ascending span ≡ true) (span_of (Some from) (Some bound)) (spans_from (Some bound) bounds) h),

@@ -23,7 +23,7 @@ use Rattle.osm_merge.specs.ToCome.{VersionsToCome, rest}
 use Rattle.osm_merge.specs.Within.{up_to, from_bound, dropped_outside, refused_outside, stray_fault}
 use Rattle.osm_merge.proofs.AscendingLaws.{first_below, rest_ascends}
 use Rattle.osm_merge.proofs.PassLaws.{filter_filter, filter_none}
-use Rattle.osm_merge.proofs.SliceLaws.{none_behind, under_down, kept_in, equal}
+use Rattle.osm_merge.proofs.SliceLaws.{none_after, under_down, kept_in, equal}
 use Rattle.osm_merge.proofs.UnionLaws.{among_filter}
 
 under_falls : (to : Option Object) (v w : VersionData) → version_cmp v w ≡ Less → is_under to w ≡ true → is_under to v ≡ true
@@ -39,7 +39,7 @@ up_to_list to r (v ∷ vs) h =
     ≡ (if b then v ∷ filter (is_under to) vs else filter (is_under to) vs)) [
       | true ↦ λ e. ap (λ t. v ∷ t) (up_to_list to r vs (rest_ascends version_cmp v vs h))
       | false ↦ λ e. sym (filter_none (is_under to) vs
-          (none_behind version_cmp (is_under to) (under_falls to) v vs e (first_below version_cmp v vs h)))
+          (none_after version_cmp (is_under to) (under_falls to) v vs e (first_below version_cmp v vs h)))
     ] refl
 
 -- the set of a filtered list has the members of the set of the list that pass

@@ -177,10 +177,10 @@ up_to_less x y z less up =
       | Greater ↦ λ e f. absurd (false≢true (sym f))
     ] refl up
 
-behind_less : (x y : VersionData) (zs : List VersionData) → object_cmp x y ≡ Less → AllByRecursion (λ z. version_cmp y z ≡ Less) zs →
+after_less : (x y : VersionData) (zs : List VersionData) → object_cmp x y ≡ Less → AllByRecursion (λ z. version_cmp y z ≡ Less) zs →
     Apart x zs
-behind_less x y [] less h = tt
-behind_less x y (z ∷ zs) less h = (up_to_less x y z less (object_rises y z h.0), behind_less x y zs less h.1)
+after_less x y [] less h = tt
+after_less x y (z ∷ zs) less h = (up_to_less x y z less (object_rises y z h.0), after_less x y zs less h.1)
 
 -- a version that stays is of another object than the next one
 other_object : (r : Ordering) (w : VersionData) → is_gt r ≡ false → is_none (option_map moment (cond (is_eq r) (Some w) None)) ≡ true →
@@ -195,13 +195,14 @@ unfolding IsStrictlySortedBy
 kept_apart x [] h k = tt
 kept_apart x (y ∷ ys) h k =
     let less : object_cmp x y ≡ Less = other_object (object_cmp x y) y (object_rises x y h.0.0) k in
-    (less, behind_less x y ys less h.1.0)
+    (less, after_less x y ys less h.1.0)
 
 newest_ascends : (xs : List VersionData) → IsStrictlySortedBy version_cmp xs → IsStrictlySortedBy object_cmp (newest_of xs)
 unfolding IsStrictlySortedBy
 newest_ascends [] h = tt
 newest_ascends (x ∷ xs) h =
-    elim (keeps Newest x (first xs)) as (λ b. keeps Newest x (first xs) ≡ b → IsStrictlySortedBy object_cmp (singleton_if b x ++ newest_of xs)) [
+    elim (keeps Newest x (first xs)) as (λ b. keeps Newest x (first xs) ≡ b →
+    IsStrictlySortedBy object_cmp (singleton_if b x ++ newest_of xs)) [
       | true ↦ λ e. (all_kept _ xs (kept_apart x xs h e), newest_ascends xs h.1)
       | false ↦ λ _. newest_ascends xs h.1
     ] refl
@@ -232,7 +233,8 @@ joined_listed Objects s t h g = joined_objects (to_list s) (to_list t) h g ∙ a
 pub joined_ascends : (order : OrderBy) (s t : VersionSet) → IsStrictlySortedBy (order_of order) (to_list s) →
     IsStrictlySortedBy (order_of order) (to_list t) →
     IsStrictlySortedBy version_cmp (merge_by (order_of order) (to_list s) (to_list t))
-joined_ascends order s t h g = subst (IsStrictlySortedBy version_cmp) (sym (joined_listed order s t h g)) (strict-listed (union_by order s t))
+joined_ascends order s t h g = subst (IsStrictlySortedBy version_cmp) (sym (joined_listed order s t h g))
+    (strict-listed (union_by order s t))
 
 -- The set of the merge of two lists is the union by the order.
 pub joined_set : (order : OrderBy) (s t : VersionSet) → IsStrictlySortedBy (order_of order) (to_list s) →

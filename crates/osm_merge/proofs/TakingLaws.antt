@@ -156,7 +156,7 @@ module _ {R : VersionData → VersionData → Ordering} (o : IsTotalOrder R) (v 
     halving_down none same moved = rw (same, moved) (record {
       inside = (from, omega (arith, h.inside.1, to));
       below = h.below;
-      others = λ k d2 behind inside. from_not_below k middle d2 behind inside (ap (λ (x : VersionData). is_lt (R x v)) (at d2) ∙ none);
+      others = λ k d2 after inside. from_not_below k middle d2 after inside (ap (λ (x : VersionData). is_lt (R x v)) (at d2) ∙ none);
     })
 
 -- ---- moving
@@ -192,13 +192,14 @@ module _ (R : VersionData → VersionData → Ordering) (whole moved held more :
   -- one version was taken
   pub taking_step : (v : VersionData) (more2 moved2 moved3 held2 held3 : List VersionData) (n space2 : ℕ) →
       IsTaking R whole moved held more space → more ≡ v ∷ more2 → IsCountBelow R v held n →
-      moved2 ≡ moved ++ take n held → held2 ≡ drop n held → held3 ≡ rest_after_tie R v held2 → moved3 ≡ moved2 ++ greater_tied R v held2 ∷ [] →
+      moved2 ≡ moved ++ take n held → held2 ≡ drop n held → held3 ≡ rest_after_tie R v held2 → moved3 ≡ moved2 ++ greater_tied R v held2
+      ∷ [] →
       space2 ≡ space →
       IsTaking R whole moved3 held3 more2 space2
-  taking_step v more2 moved2 moved3 held2 held3 n space2 h next place front behind rest put same =
+  taking_step v more2 moved2 moved3 held2 held3 n space2 h next place front after rest put same =
       let w = greater_tied R v (drop n held) in
-      let left : held3 ≡ rest_after_tie R v (drop n held) = rest ∙ ap (rest_after_tie R v) behind in
-      let all : moved3 ≡ (moved ++ take n held) ++ w ∷ [] = put ∙ (λ i. front i ++ greater_tied R v (behind i) ∷ []) in
+      let left : held3 ≡ rest_after_tie R v (drop n held) = rest ∙ ap (rest_after_tie R v) after in
+      let all : moved3 ≡ (moved ++ take n held) ++ w ∷ [] = put ∙ (λ i. front i ++ greater_tied R v (after i) ∷ []) in
       record {
         ascends = rw left (left_ascends R v n held h.ascends);
         makes =

@@ -19,4 +19,4 @@ SomeInputsGive {C = C} can sources P = (all : List C) × AllGive can sources all
 abbrev pub SomePendingGive : {S : Type 0} → (S → VersionsToCome → Type 0) → List S → List (Option VersionData) →
     (List VersionsToCome → Type 0) → Type 0
 SomePendingGive can sources heads P = SomeInputsGive can sources
-    (λ behind. (all : List VersionsToCome) → AllAscend all → AreHeadsOf all heads (map Some behind) → P all)
+    (λ rest. (all : List VersionsToCome) → AllAscend all → AreHeadsOf all heads (map Some rest) → P all)

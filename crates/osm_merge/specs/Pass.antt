@@ -113,7 +113,8 @@ put_at_end selection pending = if puts_at_once selection then [] else pending_if
 
 -- the versions put once `next` is known to come after the pending version; `None` is the end of all versions
 abbrev pub put_with : Selection → Option VersionData → Option VersionData → List VersionData
-put_with selection pending next = if puts_at_once selection then option_to_list next else pending_if_kept selection pending next
+put_with selection pending next = if puts_at_once selection then option_to_list next
+    else pending_if_kept selection pending next
 
 -- a version is new if it is greater than the pending one
 abbrev pub is_new : Option VersionData → VersionData → Bool

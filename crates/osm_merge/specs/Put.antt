@@ -25,7 +25,8 @@ PutsMore {O} output more old new mid now result =
 
 -- a count of the versions that were put also counts the versions `more`
 abbrev pub CountsMore : List VersionData → ℕ → ℕ → Type 0
-CountsMore more old new = (put : List VersionData) → old ≡ capped_count (length put) → new ≡ capped_count (length (put ++ more))
+CountsMore more old new = (put : List VersionData) → old ≡ capped_count (length put) →
+    new ≡ capped_count (length (put ++ more))
 
 -- a sink that has put some versions also puts the versions `more`, and ends the file
 abbrev pub EndsFile : {A O : Type 0} → Ghosts O → List VersionData → SinkState → O → O → Result A Fault → Type 0

@@ -56,4 +56,5 @@ comparison_count repeats = one_if repeats.tie + one_if repeats.taken
 
 -- if there were enough comparisons for the tie before and `n` more, there are enough for the tie after and `n` more
 abbrev pub SavesComparison : Option Tie → ℕ → Option Tie → ℕ → Type 0
-SavesComparison before compared after now = (n : ℕ) → capped_count (n + one_if before) ≤ compared → capped_count (n + one_if after) ≤ now
+SavesComparison before compared after now = (n : ℕ) → capped_count (n + one_if before) ≤ compared →
+    capped_count (n + one_if after) ≤ now

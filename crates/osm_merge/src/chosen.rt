@@ -42,14 +42,14 @@ fn choose(alloc: Global, selection: Selection, history: &History) -> Result<Hist
 {
     let mut chosen = Vec::new(alloc);
     let mut held: Option<usize> = None;
-    for place in 0..history.len() {
-        let version = history.get(place);
+    for index in 0..history.len() {
+        let version = history.get(index);
         if passes(selection, version) {
             if let Some(before) = held {
                 let before = history.get(before);
                 copy_if(keeps(selection, before, version), before, &mut chosen)?;
             }
-            held = Some(place);
+            held = Some(index);
         }
     }
     if let Some(last) = held {

@@ -122,15 +122,15 @@ fn write_union<S: Source, W: Output, P: Progress>(
         return pending.end(tournament.compared, sink, out);
     }
     'versions: loop {
-        let place = tournament.leader();
-        let is_repeated = tournament.is_repeated(place);
-        let Some(version) = tournament.take(place) else {
+        let winner = tournament.leader();
+        let is_repeated = tournament.is_repeated(winner);
+        let Some(version) = tournament.take(winner) else {
             return pending.end(tournament.compared, sink, out);
         };
         pending.meet(version, is_repeated, &mut tournament.compared, sink, out)?;
         progress.observe(pending.counts.read, pending.counts.written);
-        let next = next_of(&mut sources[place], pending.spare.take())?;
-        tournament.put(place, next);
+        let next = next_of(&mut sources[winner], pending.spare.take())?;
+        tournament.put(winner, next);
     }
 }
 

@@ -15,9 +15,9 @@ pub fn into_snapshot(history: History) -> History
 {
     let mut versions = history.into_versions();
     let mut kept = 0;
-    'versions: for place in 0..versions.len() {
-        if is_newest(&versions, place) {
-            versions.swap(kept, place);
+    'versions: for index in 0..versions.len() {
+        if is_newest(&versions, index) {
+            versions.swap(kept, index);
             kept += 1;
         }
     }
@@ -25,15 +25,15 @@ pub fn into_snapshot(history: History) -> History
     History::from_ascending(versions)
 }
 
-/// Whether the version at `place` of an ascending list is the newest one of its object: the next version, if there is
+/// Whether the version at `index` of an ascending list is the newest one of its object: the next version, if there is
 /// one, is of another object.
-fn is_newest(versions: &[Version], place: usize) -> bool
-    requires { place < length versions.now }
+fn is_newest(versions: &[Version], index: usize) -> bool
+    requires { index < length versions.now }
     ensures { (d : VersionData) → result
-        ≡ keeps selection.Newest (slice_index_or versions.now place d) (slice_get versions.now (place + 1)) }
+        ≡ keeps selection.Newest (slice_index_or versions.now index d) (slice_get versions.now (index + 1)) }
 {
-    match versions.get(place + 1) {
+    match versions.get(index + 1) {
         None => true,
-        Some(behind) => keeps(Selection::Newest, &versions[place], behind),
+        Some(next) => keeps(Selection::Newest, &versions[index], next),
     }
 }

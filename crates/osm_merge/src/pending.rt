@@ -4,7 +4,8 @@ ghost use Rattle.osm_files.specs.Output.{FailingLasts, IsGoodThroughout};
 ghost use Rattle.osm_files.specs.Change.{change_of};
 ghost use Rattle.osm_files.specs.Sink.{IsOpen};
 ghost use Rattle.osm_merge.specs.Union.{capped_count};
-ghost use Rattle.osm_merge.specs.Pass.{is_new, is_met, pending_next, versions_put, put_at, put_at_end, put_with, singleton_if};
+ghost use Rattle.osm_merge.specs.Pass.{is_new, is_met, pending_next, versions_put, put_at, put_at_end, put_with};
+ghost use Rattle.osm_merge.specs.Pass.{singleton_if};
 ghost use Rattle.osm_merge.specs.Put.{TakesEach, PutsMore, EndsFile, CountsMore};
 
 use crate::compare::compare;
@@ -74,7 +75,8 @@ impl Pending {
             self.old.counts.written self.new.counts.written) }
         ensures grows { compared.old ≤ compared.new }
         ensures most { compared.new ≤ compared.old + 1 }
-        ensures least { is_repeated ≡ false → IfSome self.old.held (λ _. capped_count (compared.old + 1) ≤ compared.new) }
+        ensures least { is_repeated ≡ false → IfSome self.old.held
+            (λ _. capped_count (compared.old + 1) ≤ compared.new) }
     {
         self.counts.read = self.counts.read.saturating_add(1);
         if is_repeated || !self.is_met(&version, compared) {

@@ -19,12 +19,12 @@ pub(crate) struct Tie {
 }
 
 impl Tie {
-    /// The other index of the tie, if exactly one of the two is `place`.
+    /// The other index of the tie, if exactly one of the two is `index`.
     #[inline(always)]
-    fn opposite(self, place: usize) -> Option<usize>
-        ensures { result ≡ spec.other_index self place }
+    fn opposite(self, index: usize) -> Option<usize>
+        ensures { result ≡ spec.other_index self index }
     {
-        match (self.one == place, self.other == place) {
+        match (self.one == index, self.other == index) {
             (true, false) => Some(self.other),
             (false, true) => Some(self.one),
             (true, true) | (false, false) => None,
@@ -52,27 +52,27 @@ impl Repeats {
         }
     }
 
-    /// Whether the head of the source `place` is known to be equal to the version taken last.
+    /// Whether the head of the source `index` is known to be equal to the version taken last.
     #[inline(always)]
-    pub(crate) fn is_taken(&self, place: usize) -> bool
-        ensures { OnTrue result (self.now.taken ≡ Some place) }
+    pub(crate) fn is_taken(&self, index: usize) -> bool
+        ensures { OnTrue result (self.now.taken ≡ Some index) }
     {
         match self.taken {
-            Some(taken) => taken == place,
+            Some(taken) => taken == index,
             None => false,
         }
     }
 
-    /// Notes that the head of the source `place` was taken. The source's next version replaces it.
+    /// Notes that the head of the source `index` was taken. The source's next version replaces it.
     #[inline(always)]
-    pub(crate) fn note_taken(&mut self, place: usize)
-        ensures { self.new ≡ spec.repeats_after_taking self.old.tie place }
+    pub(crate) fn note_taken(&mut self, index: usize)
+        ensures { self.new ≡ spec.repeats_after_taking self.old.tie index }
     {
         self.taken = None;
         let Some(tie) = self.tie else {
             return;
         };
-        if let Some(other) = tie.opposite(place) {
+        if let Some(other) = tie.opposite(index) {
             self.taken = Some(other);
             self.tie = None;
         }

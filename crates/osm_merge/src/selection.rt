@@ -62,12 +62,12 @@ pub(crate) fn passes(selection: Selection, version: &Version) -> bool
     }
 }
 
-/// Whether a version stays, if `behind` comes after it in the order.
-pub(crate) fn keeps(selection: Selection, version: &Version, behind: &Version) -> bool
-    ensures { result ≡ keeps selection version.now (Some behind.now) }
+/// Whether a version stays, if `next` comes after it in the order.
+pub(crate) fn keeps(selection: Selection, version: &Version, next: &Version) -> bool
+    ensures { result ≡ keeps selection version.now (Some next.now) }
 {
-    if is_same_object(version, behind) {
-        stays(selection, version, Some(moment(behind)))
+    if is_same_object(version, next) {
+        stays(selection, version, Some(moment(next)))
     } else {
         stays(selection, version, None)
     }

@@ -10,7 +10,8 @@ ghost use Rattle.std.specs.List.Sorted.{IsStrictlySortedBy};
 ghost use Rattle.std.specs.VecDeque.{deque_len};
 ghost use Rattle.osm_model.specs.Sets as set;
 ghost use Rattle.osm_merge.specs.Selected.{snapshot};
-ghost use Rattle.osm_merge.specs.Taking.{order_of, union_by, greater_of, is_tied, rest_after_tie, greater_tied, merge_by, IsCountBelow};
+ghost use Rattle.osm_merge.specs.Taking.{order_of, union_by, greater_of, is_tied, rest_after_tie, greater_tied};
+ghost use Rattle.osm_merge.specs.Taking.{merge_by, IsCountBelow};
 
 use crate::into_snapshot;
 use osm_model::{History, Memory, Version};

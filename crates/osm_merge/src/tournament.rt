@@ -68,51 +68,51 @@ impl Tournament {
         self.nodes[1]
     }
 
-    /// Whether the head of the source `place` is known to be equal to the version taken last.
+    /// Whether the head of the source `index` is known to be equal to the version taken last.
     #[inline(always)]
-    pub(crate) fn is_repeated(&self, place: usize) -> bool
-        ensures { OnTrue result (self.now.repeats.taken ≡ Some place) }
+    pub(crate) fn is_repeated(&self, index: usize) -> bool
+        ensures { OnTrue result (self.now.repeats.taken ≡ Some index) }
     {
-        self.repeats.is_taken(place)
+        self.repeats.is_taken(index)
     }
 
-    /// Takes the head of the source `place`, if it has one. The source's next version has to be put before the next
+    /// Takes the head of the source `index`, if it has one. The source's next version has to be put before the next
     /// call of `leader`.
     #[inline(always)]
-    pub(crate) fn take(&mut self, place: usize) -> Option<Ranked>
-        requires { place < length self.old.heads.items }
-        ensures version { result ≡ slice_index_or self.old.heads.items place None }
-        ensures heads { self.new.heads.items ≡ slice_set self.old.heads.items place None }
+    pub(crate) fn take(&mut self, index: usize) -> Option<Ranked>
+        requires { index < length self.old.heads.items }
+        ensures version { result ≡ slice_index_or self.old.heads.items index None }
+        ensures heads { self.new.heads.items ≡ slice_set self.old.heads.items index None }
         ensures nodes { self.new.nodes ≡ self.old.nodes }
         ensures repeats { self.new.repeats ≡ self.old.repeats }
         ensures compared { self.new.compared ≡ self.old.compared }
     {
-        self.heads[place].take()
+        self.heads[index].take()
     }
 
-    /// Puts the next version of the source `place`, if it has one, and plays the games of the source again.
+    /// Puts the next version of the source `index`, if it has one, and plays the games of the source again.
     #[inline(always)]
-    pub(crate) fn put(&mut self, place: usize, next: Option<Version>)
-        requires place { place < length self.old.heads.items }
-        requires tree { IsTree (slice_set self.old.heads.items place next) self.old.nodes.items 1
-            ((length self.old.heads.items + place) / 2) }
-        requires tied { IsTied (slice_set self.old.heads.items place next)
-            (repeats_after_taking self.old.repeats.tie place).tie }
-        ensures heads { self.new.heads.items ≡ slice_set self.old.heads.items place next }
+    pub(crate) fn put(&mut self, index: usize, next: Option<Version>)
+        requires index { index < length self.old.heads.items }
+        requires tree { IsTree (slice_set self.old.heads.items index next) self.old.nodes.items 1
+            ((length self.old.heads.items + index) / 2) }
+        requires tied { IsTied (slice_set self.old.heads.items index next)
+            (repeats_after_taking self.old.repeats.tie index).tie }
+        ensures heads { self.new.heads.items ≡ slice_set self.old.heads.items index next }
         ensures tree { IsTree self.new.heads.items self.new.nodes.items 1 0 }
         ensures tied { IsTied self.new.heads.items self.new.repeats.tie }
-        ensures taken { self.new.repeats.taken ≡ (repeats_after_taking self.old.repeats.tie place).taken }
-        ensures told { SavesComparison (repeats_after_taking self.old.repeats.tie place).tie self.old.compared
+        ensures taken { self.new.repeats.taken ≡ (repeats_after_taking self.old.repeats.tie index).taken }
+        ensures saved { SavesComparison (repeats_after_taking self.old.repeats.tie index).tie self.old.compared
             self.new.repeats.tie self.new.compared }
         ensures most { (depth : ℕ) → length self.new.heads.items ≤ 2 ^ depth →
             self.new.compared ≤ self.old.compared + depth }
     {
-        self.heads[place] = head_of(next);
-        self.repeats.note_taken(place);
+        self.heads[index] = head_of(next);
+        self.repeats.note_taken(index);
         replay(
             &mut self.nodes,
             &self.heads,
-            place,
+            index,
             &mut self.repeats.tie,
             &mut self.compared,
         );

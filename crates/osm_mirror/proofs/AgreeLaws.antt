@@ -13,7 +13,8 @@ use Rattle.osm_mirror.specs.Fleet.{Source, Opening, File, mirror_at, set_of, uni
 use Rattle.osm_mirror.specs.FleetLaws.{SameFilesAmong, AreEmpty, LatestMirrorsAgree, FullMirrorsAgree}
 use Rattle.osm_mirror.proofs.FleetLaws.{equal_sets, in_union, in_none}
 
-in_united : (o : List MirrorData) (r : List Source) (v : VersionData) → contains (union_of_sources o r) v ≡ list_any (λ s. contains (set_of o s) v) r
+in_united : (o : List MirrorData) (r : List Source) (v : VersionData) →
+    contains (union_of_sources o r) v ≡ list_any (λ s. contains (set_of o s) v) r
 in_united o [] v = in_none v
 in_united o (s ∷ r) v = in_union (set_of o s) (union_of_sources o r) v ∙ ap (λ (b : Bool). contains (set_of o s) v || b) (in_united o r v)
 

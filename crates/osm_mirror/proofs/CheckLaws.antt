@@ -130,7 +130,8 @@ report_is c loaded set sizes report h is n e =
     })
 
 -- The counts of a sorted file's source make its report.
-pub sorted_report_is : (c : InputRest) (format : Format) (sizes : Sizes) → format ≡ format_of c.bytes → IsCounted (sorted_source 0 c) sizes →
+pub sorted_report_is : (c : InputRest) (format : Format) (sizes : Sizes) → format ≡ format_of c.bytes →
+    IsCounted (sorted_source 0 c) sizes →
     Reports c (record { format = format; versions = sizes.versions; objects = sizes.objects; sorted = true })
 sorted_report_is c format sizes f n =
     let list : to_list (from_list {R = version_cmp} (sorted_source 0 c).list) ≡ (sorted_source 0 c).list =

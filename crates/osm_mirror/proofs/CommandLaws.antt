@@ -29,7 +29,8 @@ use Rattle.osm_mirror.proofs.RunLaws.{cut_is}
 -- ---- inputs of any order
 -- files of any order give the bytes that their readers give
 pub any_give : {R : Type 0} (can : R → InputRest → Type 0) (readers : List R) (all : List (Order × InputRest))
-    → AllGive (FileGives can) (map any_order_file readers) all → (given : List InputRest) × AllGive can readers given × (all ≡ map any_order given)
+    → AllGive (FileGives can) (map any_order_file readers) all → (given : List InputRest) × AllGive can readers given ×
+    (all ≡ map any_order given)
 any_give can [] [] g = ([], tt, refl)
 any_give can [] (c ∷ all) g = absurd g
 any_give can (r ∷ readers) [] g = absurd g
@@ -103,7 +104,8 @@ module _ {R : Type 0} (can : R → InputRest → Type 0) {O : Type 0} (output : 
       (q.0, q.1, written_is output selection format before after q.0 counts q.2)
 
   -- A run over files in any order that is refused refuses the command.
-  pub held_refused : (fault : Fault) → SomeInputsGive (FileGives can) files (λ all. RefusesRun output selection all format before after fault)
+  pub held_refused : (fault : Fault) → SomeInputsGive (FileGives can) files
+      (λ all. RefusesRun output selection all format before after fault)
       → SomeInputsGive can readers (λ all. IsNotWritten output (selection_of selection) all format before after fault)
   held_refused fault h =
       let q = of_readers (λ all. RefusesRun output selection all format before after fault) h in
@@ -118,7 +120,8 @@ not_begun can one possible output choice format before readers fault memory =
     (map one readers, give_one can one possible readers, inl (memory, refl))
 
 -- a property of a list of one input
-one_of : {R : Type 0} (can : R → InputRest → Type 0) (input : R) (P : List InputRest → Type 0) (all : List InputRest) → AllGive can (input ∷ []) all
+one_of : {R : Type 0} (can : R → InputRest → Type 0) (input : R) (P : List InputRest → Type 0) (all : List InputRest) →
+    AllGive can (input ∷ []) all
     → P all → GivesOne (can input) (λ c. P (c ∷ []))
 one_of can input P [] g h = absurd g
 one_of can input P (c ∷ []) g h = (c, g.0, h)
@@ -126,14 +129,16 @@ one_of can input P (c ∷ d ∷ all) g h = absurd g.1
 
 -- A property of a list of one input is one of the input.
 pub one_written : {R : Type 0} (can : R → InputRest → Type 0) (items : List R) (input : R) → items ≡ input ∷ []
-    → (P : List InputRest → Counts → Type 0) (result : Result Counts Fault) → IfOk result (λ counts. SomeInputsGive can items (λ all. P all counts))
+    → (P : List InputRest → Counts → Type 0) (result : Result Counts Fault) →
+    IfOk result (λ counts. SomeInputsGive can items (λ all. P all counts))
     → IfOk result (λ counts. GivesOne (can input) (λ c. P (c ∷ []) counts))
 one_written can items input is P (Ok counts) h = one_of can input (λ all. P all counts) h.0 (subst (λ xs. AllGive can xs h.0) is h.1) h.2
 one_written can items input is P (Err fault) h = tt
 
 -- A property of the refusal of a list of one input is one of the refusal of the input.
 pub one_refused : {R : Type 0} (can : R → InputRest → Type 0) (items : List R) (input : R) → items ≡ input ∷ []
-    → (P : List InputRest → Fault → Type 0) (result : Result Counts Fault) → IfErr result (λ fault. SomeInputsGive can items (λ all. P all fault))
+    → (P : List InputRest → Fault → Type 0) (result : Result Counts Fault) →
+    IfErr result (λ fault. SomeInputsGive can items (λ all. P all fault))
     → IfErr result (λ fault. GivesOne (can input) (λ c. P (c ∷ []) fault))
 one_refused can items input is P (Ok counts) h = tt
 one_refused can items input is P (Err fault) h = one_of can input (λ all. P all fault) h.0 (subst (λ xs. AllGive can xs h.0) is h.1) h.2

@@ -1,5 +1,6 @@
 -- Lines that are split at an offset, and the search for the offset at which a file is cut.
-use Rattle.std.proofs.Common.{◌≡◌, ◌⊎◌, inl, inr, ⊎_elim, ℕ, zero, suc, ◌+◌, ◌≤◌, ◌<◌, ◌^◌, Bool, true, false, not, cond, List, [], ◌∷◌, ◌==◌}
+use Rattle.std.proofs.Common.{◌≡◌, ◌⊎◌, inl, inr, ⊎_elim, ℕ, zero, suc, ◌+◌, ◌≤◌, ◌<◌, ◌^◌, Bool, true, false, not, cond, List, [], ◌∷◌}
+use Rattle.std.proofs.Common.{◌==◌}
 use Rattle.std.proofs.Common.{◌++◌, length, take, drop, refl, sym, ap, ◌∙◌, subst, arith, Option, Some, None, IfSome, Err, append-nil}
 use Rattle.std.proofs.Common.{append_assoc, take-append-drop, get_or}
 use Rattle.std.proofs.lemmas.Bool.{false≢true}
@@ -165,7 +166,8 @@ next_lines (suc offset) bytes =
     (λ (b, is). elim (is_line_end b) as (λ t. is_line_end b ≡ t →
     (after_line (drop (suc offset) bytes) ≡ after_line (drop offset bytes))
     ⊎ (after_line (drop (suc offset) bytes) ≡ after_line (after_line (drop offset bytes)))) [
-      | true ↦ λ e. inr (ap after_line (sym (ap after_line is ∙ ap (λ t. cond t (drop (suc offset) bytes) (after_line (drop (suc offset) bytes))) e)))
+      | true ↦ λ e. inr (ap after_line (sym (ap after_line is
+          ∙ ap (λ t. cond t (drop (suc offset) bytes) (after_line (drop (suc offset) bytes))) e)))
       | false ↦ λ e. inl (sym (ap after_line is ∙ ap (λ t. cond t (drop (suc offset) bytes) (after_line (drop (suc offset) bytes))) e))
     ] refl) (next_drop offset bytes)
 
@@ -180,7 +182,8 @@ rest_lengthened b (line, rest) = refl
 after_is : (bytes : List ℕ) → after_line bytes ≡ rest_of (split_first is_line_end bytes).1
 after_is [] = refl
 after_is (b ∷ bytes) =
-    elim (is_line_end b) as (λ t. cond t bytes (after_line bytes) ≡ rest_of (cond t ([], Some bytes) (with_byte b (split_first is_line_end bytes))).1) [
+    elim (is_line_end b) as (λ t. cond t bytes (after_line bytes) ≡ rest_of
+    (cond t ([], Some bytes) (with_byte b (split_first is_line_end bytes))).1) [
       | true ↦ refl
       | false ↦ after_is bytes ∙ rest_lengthened b (split_first is_line_end bytes)
     ]
@@ -197,7 +200,8 @@ taken : (line : List ℕ) (pieces : List (List ℕ)) (versions : List VersionDat
 taken line pieces [] h = absurd h
 taken line pieces (v ∷ versions) h = (versions, h.1, inr (v, refl))
 
-shorter_pairs : (line : List ℕ) (pieces : List (List ℕ)) (versions : List VersionData) → Pairwise Spells (filter is_read (line ∷ pieces)) versions →
+shorter_pairs : (line : List ℕ) (pieces : List (List ℕ)) (versions : List VersionData) →
+    Pairwise Spells (filter is_read (line ∷ pieces)) versions →
     (later : List VersionData) × Pairwise Spells (filter is_read pieces) later
     × ((versions ≡ later) ⊎ ((v : VersionData) × (versions ≡ v ∷ later)))
 shorter_pairs line pieces versions =
@@ -337,7 +341,8 @@ module _ (bound : Object) where
           below = below;
         })
         (λ next. let rest = shorter (lines_from offset bytes) (v ∷ later) lines in
-        let lines_rest : OplFile (lines_from (suc offset) bytes) rest.later = subst (λ (b : List ℕ). OplFile b rest.later) (sym next) rest.file in
+        let lines_rest : OplFile (lines_from (suc offset) bytes) rest.later =
+        subst (λ (b : List ℕ). OplFile b rest.later) (sym next) rest.file in
         ⊎_elim (λ all. record {
           earlier = earlier;
           later = rest.later;
@@ -353,7 +358,8 @@ module _ (bound : Object) where
           below = under_append earlier w below (let same : v ≡ w = cc in rw (sym same) (sym is));
         }) rest.are) (next_lines offset bytes)
 
-    pub low_step : (offset : ℕ) → ((later : List VersionData) → OplFile (lines_from offset bytes) later → true ≡ first_is_under bound later) →
+    pub low_step : (offset : ℕ) → ((later : List VersionData) → OplFile (lines_from offset bytes) later →
+        true ≡ first_is_under bound later) →
         Low bytes versions (suc offset)
     low_step offset first = let parts = parts_at offset in
         low_next offset parts.earlier parts.later parts.are parts.second (first parts.later parts.second)
@@ -372,7 +378,8 @@ module _ (bound : Object) where
           above = (over_it, all_over v later up.1.1 over_it);
         }
 
-    pub high_step : (offset : ℕ) → ((later : List VersionData) → OplFile (lines_from offset bytes) later → false ≡ first_is_under bound later) →
+    pub high_step : (offset : ℕ) → ((later : List VersionData) → OplFile (lines_from offset bytes) later →
+        false ≡ first_is_under bound later) →
         High bytes versions offset
     high_step offset first = let parts = parts_at offset in
         high_at offset parts.earlier parts.later parts.are parts.second (first parts.later parts.second)
@@ -453,7 +460,8 @@ module _ (bound : Object) where
       cut_is all versions file sorted low start both.0 (rw e at both.1) begins
 
 -- lines of OPL begin at an offset that is the start of a line and has no o5 file
-pub begins_of : (bytes : Option (List ℕ)) (from start : ℕ) → IsLineStart bytes from start → BeginsAs bytes start false → BeginsLinesOf bytes start
+pub begins_of : (bytes : Option (List ℕ)) (from start : ℕ) → IsLineStart bytes from start → BeginsAs bytes start false →
+    BeginsLinesOf bytes start
 begins_of None from start begins opl = tt
 begins_of (Some all) from start begins opl = record { from = from; lines = begins; start = opl }
 

@@ -26,7 +26,8 @@ use Rattle.osm_mirror.specs.declared.event.Reply.{Reply}
 use Rattle.osm_mirror.specs.declared.event.Reply.TheVariants.{Taken, Refused}
 use Rattle.osm_mirror.specs.declared.keep.Taken.{Taken as Taken_of}
 use Rattle.osm_mirror.specs.Mirror.{MirrorData, kept_part, new_mirror, after_taking, IsOwnSnapshot, TakesFile}
-use Rattle.osm_mirror.specs.Fleet.{mirror_at, AreOwnSnapshots, mirrors_after, IsReplyTo, mirrors_after_all, AreRepliesTo, Source, Track, is_full, first_track}
+use Rattle.osm_mirror.specs.Fleet.{mirror_at, AreOwnSnapshots, mirrors_after, IsReplyTo, mirrors_after_all, AreRepliesTo, Source, Track}
+use Rattle.osm_mirror.specs.Fleet.{is_full, first_track}
 use Rattle.osm_mirror.specs.Fleet.{with_track, tracks_after, tracks_after_all, set_of, union_of_sources, IsPart, HoldsOf, Converges}
 
 -- ---- sets
@@ -171,7 +172,8 @@ set_kept mirrors to x h within is = λ m below. elim (cases_Bool (nat_eq m to)) 
   | inl same ↦ subst (λ (k : ℕ). IsOwnSnapshot (mirror_at (set mirrors to x) k)) (sym (eqb-true m to same))
       (subst IsOwnSnapshot (sym (get_or-set_same mirrors to x (new_mirror Full) within)) is)
   | inr other ↦ (let apart : m ≢ to = eqb-false m to other in
-      subst IsOwnSnapshot (sym (get_or-set_other mirrors to m x (new_mirror Full) apart)) (h m (omega (arith, below, length-set mirrors to x))))
+      subst IsOwnSnapshot (sym (get_or-set_other mirrors to m x (new_mirror Full) apart))
+      (h m (omega (arith, below, length-set mirrors to x))))
 ]
 
 -- New mirrors hold what they keep.
@@ -181,12 +183,14 @@ all_fresh kinds m below =
     (fresh_kept (get_or kinds m Full))
 
 -- a mirror to which a file was passed took it, or is unchanged
-pub handed_kept : (mirrors : List MirrorData) (m : ℕ) (x y : MirrorData) (bytes : List ℕ) (r : Result Taken_of Fault) → AreOwnSnapshots mirrors
+pub handed_kept : (mirrors : List MirrorData) (m : ℕ) (x y : MirrorData) (bytes : List ℕ) (r : Result Taken_of Fault) →
+    AreOwnSnapshots mirrors
     → m < length mirrors → x ≡ get_or mirrors m x → IfOk r (TakesFile bytes x y) → OnErr r (y ≡ x) → AreOwnSnapshots (set mirrors m y)
 handed_kept mirrors m x y bytes (Ok taken) h within at_m ok err =
     set_kept mirrors m y h within (subst IsOwnSnapshot (sym ok.holds) (took_kept x (held_by bytes)))
 handed_kept mirrors m x y bytes (Err fault) h within at_m ok err =
-    set_kept mirrors m y h within (subst IsOwnSnapshot (sym (err ∙ at_m ∙ get_or_default mirrors m x (new_mirror Full) within)) (h m within))
+    set_kept mirrors m y h within (subst IsOwnSnapshot (sym (err ∙ at_m ∙ get_or_default mirrors m x (new_mirror Full) within))
+    (h m within))
 
 -- The mirror at an index of the list is the mirror of that number.
 pub here : (mirrors : List MirrorData) (m : ℕ) (x : MirrorData) → m < length mirrors → x ≡ get_or mirrors m x → x ≡ mirror_at mirrors m
@@ -196,7 +200,8 @@ here mirrors m x within at_m = at_m ∙ get_or_default mirrors m x (new_mirror F
 pub record Each (openings : List MirrorData) (t : ℕ → Track) (mirrors : List MirrorData) : Type 0 where
   pub each : (m : ℕ) → m < length mirrors → HoldsOf (union_of_sources openings (t m).reach) (t m).pure (mirror_at mirrors m)
 
-united_both : (openings : List MirrorData) (r s : List Source) → union_of_sources openings (r ++ s) ≡ union (union_of_sources openings r) (union_of_sources openings s)
+united_both : (openings : List MirrorData) (r s : List Source) →
+    union_of_sources openings (r ++ s) ≡ union (union_of_sources openings r) (union_of_sources openings s)
 united_both openings [] s = sym (none_and (union_of_sources openings s))
 united_both openings (x ∷ r) s =
     ap (union (set_of openings x)) (united_both openings r s)
@@ -208,7 +213,8 @@ changed_each : (openings mirrors : List MirrorData) (t t2 : ℕ → Track) (to :
     → Each openings t2 (set mirrors to x)
 changed_each openings mirrors t t2 to x h within new others = record {
   each = λ m below. elim (cases_Bool (nat_eq m to)) [
-    | inl is ↦ subst (λ (k : ℕ). HoldsOf (union_of_sources openings (t2 k).reach) (t2 k).pure (mirror_at (set mirrors to x) k)) (sym (eqb-true m to is))
+    | inl is ↦ subst (λ (k : ℕ). HoldsOf (union_of_sources openings (t2 k).reach) (t2 k).pure (mirror_at (set mirrors to x) k))
+        (sym (eqb-true m to is))
         (subst (λ (y : MirrorData). HoldsOf (union_of_sources openings (t2 to).reach) (t2 to).pure y)
         (sym (get_or-set_same mirrors to x (new_mirror Full) within)) new)
     | inr not ↦ (let apart : m ≢ to = eqb-false m to not in
@@ -223,32 +229,37 @@ retracked_here : (t : ℕ → Track) (m : ℕ) (x : Track) → with_track t m x 
 retracked_here t m x = cond-true (nat_eq m m) x (t m) (eq-eqb m m refl)
 
 retracked_each : (openings mirrors : List MirrorData) (t : ℕ → Track) (to : ℕ) (x : MirrorData) (track : Track) → Each openings t mirrors
-    → to < length mirrors → HoldsOf (union_of_sources openings track.reach) track.pure x → Each openings (with_track t to track) (set mirrors to x)
+    → to < length mirrors → HoldsOf (union_of_sources openings track.reach) track.pure x →
+    Each openings (with_track t to track) (set mirrors to x)
 retracked_each openings mirrors t to x track h within new =
     changed_each openings mirrors t (with_track t to track) to x h within
     (subst (λ (y : Track). HoldsOf (union_of_sources openings y.reach) y.pure x) (sym (retracked_here t to track)) new)
     (λ k other. cond-false (nat_eq k to) track (t k) other)
 
 -- ---- one event
-behind_each : (openings mirrors : List MirrorData) (t : ℕ → Track) (e : Event) (r : Reply) → IsWithin (length mirrors) e
+after_each : (openings mirrors : List MirrorData) (t : ℕ → Track) (e : Event) (r : Reply) → IsWithin (length mirrors) e
     → Each openings t mirrors → Each openings (tracks_after t e r) (mirrors_after mirrors e r)
-behind_each openings mirrors t (Take m file) Taken within h =
+after_each openings mirrors t (Take m file) Taken within h =
     retracked_each openings mirrors t m _ _ h within
-    (took_holds (union_of_sources openings (t m).reach) (held_by file.now) (mirror_at mirrors m).held (held_by file.now) (t m).pure true (λ v e. e) refl
+    (took_holds (union_of_sources openings (t m).reach) (held_by file.now) (mirror_at mirrors m).held (held_by file.now) (t m).pure true
+    (λ v e. e) refl
     (λ _. refl) (mirror_at mirrors m).keep (h.each m within))
-behind_each openings mirrors t (Pass from to format) Taken within h =
+after_each openings mirrors t (Pass from to format) Taken within h =
     let sent = h.each from within.0 in
     retracked_each openings mirrors t to _ _ h within.1
-    (subst (λ (u : VersionSet). HoldsOf u ((t from).pure && (t to).pure) (after_taking (mirror_at mirrors to) (mirror_at mirrors from).held))
+    (subst (λ (u : VersionSet). HoldsOf u ((t from).pure && (t to).pure)
+    (after_taking (mirror_at mirrors to) (mirror_at mirrors from).held))
     (sym (united_both openings (t from).reach (t to).reach))
-    (took_holds (union_of_sources openings (t to).reach) (union_of_sources openings (t from).reach) (mirror_at mirrors to).held (mirror_at mirrors from).held (t to).pure
+    (took_holds (union_of_sources openings (t to).reach) (union_of_sources openings (t from).reach) (mirror_at mirrors to).held
+    (mirror_at mirrors from).held (t to).pure
     (t from).pure sent.holds_no_more sent.same_snapshot (λ e. (sent.full_exact e).1) (mirror_at mirrors to).keep (h.each to within.1)))
-behind_each openings mirrors t (Restart m format) Taken within h =
+after_each openings mirrors t (Restart m format) Taken within h =
     changed_each openings mirrors t t m _ h within
-    (restarted_holds (mirror_at mirrors m).keep (mirror_at mirrors m).held (union_of_sources openings (t m).reach) (t m).pure (h.each m within)) (λ k _. refl)
-behind_each openings mirrors t (Take m file) (Refused fault) within h = h
-behind_each openings mirrors t (Pass from to format) (Refused fault) within h = h
-behind_each openings mirrors t (Restart m format) (Refused fault) within h = h
+    (restarted_holds (mirror_at mirrors m).keep (mirror_at mirrors m).held (union_of_sources openings (t m).reach) (t m).pure
+    (h.each m within)) (λ k _. refl)
+after_each openings mirrors t (Take m file) (Refused fault) within h = h
+after_each openings mirrors t (Pass from to format) (Refused fault) within h = h
+after_each openings mirrors t (Restart m format) (Refused fault) within h = h
 
 abbrev kinds_of : List MirrorData → List Keep
 kinds_of mirrors = map (λ m. m.keep) mirrors
@@ -257,22 +268,22 @@ pub set_kinds : (mirrors : List MirrorData) (m : ℕ) (x : MirrorData) → m < l
     → kinds_of (set mirrors m x) ≡ kinds_of mirrors
 set_kinds mirrors m x within same = map-set_same (λ y. y.keep) mirrors m x (new_mirror Full) same
 
-behind_kinds : (mirrors : List MirrorData) (e : Event) (r : Reply) → IsWithin (length mirrors) e
+after_kinds : (mirrors : List MirrorData) (e : Event) (r : Reply) → IsWithin (length mirrors) e
     → kinds_of (mirrors_after mirrors e r) ≡ kinds_of mirrors
-behind_kinds mirrors (Take m file) Taken within = set_kinds mirrors m _ within refl
-behind_kinds mirrors (Pass from to format) Taken within = set_kinds mirrors to _ within.1 refl
-behind_kinds mirrors (Restart m format) Taken within = set_kinds mirrors m _ within refl
-behind_kinds mirrors (Take m file) (Refused fault) within = refl
-behind_kinds mirrors (Pass from to format) (Refused fault) within = refl
-behind_kinds mirrors (Restart m format) (Refused fault) within = refl
+after_kinds mirrors (Take m file) Taken within = set_kinds mirrors m _ within refl
+after_kinds mirrors (Pass from to format) Taken within = set_kinds mirrors to _ within.1 refl
+after_kinds mirrors (Restart m format) Taken within = set_kinds mirrors m _ within refl
+after_kinds mirrors (Take m file) (Refused fault) within = refl
+after_kinds mirrors (Pass from to format) (Refused fault) within = refl
+after_kinds mirrors (Restart m format) (Refused fault) within = refl
 
-behind_number : (mirrors : List MirrorData) (e : Event) (r : Reply) → length (mirrors_after mirrors e r) ≡ length mirrors
-behind_number mirrors (Take m file) Taken = length-set mirrors m _
-behind_number mirrors (Pass from to format) Taken = length-set mirrors to _
-behind_number mirrors (Restart m format) Taken = length-set mirrors m _
-behind_number mirrors (Take m file) (Refused fault) = refl
-behind_number mirrors (Pass from to format) (Refused fault) = refl
-behind_number mirrors (Restart m format) (Refused fault) = refl
+after_number : (mirrors : List MirrorData) (e : Event) (r : Reply) → length (mirrors_after mirrors e r) ≡ length mirrors
+after_number mirrors (Take m file) Taken = length-set mirrors m _
+after_number mirrors (Pass from to format) Taken = length-set mirrors to _
+after_number mirrors (Restart m format) Taken = length-set mirrors m _
+after_number mirrors (Take m file) (Refused fault) = refl
+after_number mirrors (Pass from to format) (Refused fault) = refl
+after_number mirrors (Restart m format) (Refused fault) = refl
 
 -- ---- all events
 first_within : (count : ℕ) (e : Event) (es : List Event) → All (IsWithin count) (e ∷ es) → IsWithin count e
@@ -291,8 +302,9 @@ all_each openings mirrors t [] (r ∷ rs) within h = h
 all_each openings mirrors t (e ∷ es) [] within h = h
 all_each openings mirrors t (e ∷ es) (r ∷ rs) within h =
     all_each openings (mirrors_after mirrors e r) (tracks_after t e r) es rs
-    (same_within (length mirrors) (length (mirrors_after mirrors e r)) es (behind_number mirrors e r) (rest_within (length mirrors) e es within))
-    (behind_each openings mirrors t e r (first_within (length mirrors) e es within) h)
+    (same_within (length mirrors) (length (mirrors_after mirrors e r)) es (after_number mirrors e r)
+    (rest_within (length mirrors) e es within))
+    (after_each openings mirrors t e r (first_within (length mirrors) e es within) h)
 
 all_kinds : (mirrors : List MirrorData) (es : List Event) (rs : List Reply) → All (IsWithin (length mirrors)) es
     → kinds_of (mirrors_after_all mirrors es rs) ≡ kinds_of mirrors
@@ -301,8 +313,9 @@ all_kinds mirrors [] (r ∷ rs) within = refl
 all_kinds mirrors (e ∷ es) [] within = refl
 all_kinds mirrors (e ∷ es) (r ∷ rs) within =
     all_kinds (mirrors_after mirrors e r) es rs
-    (same_within (length mirrors) (length (mirrors_after mirrors e r)) es (behind_number mirrors e r) (rest_within (length mirrors) e es within))
-    ∙ behind_kinds mirrors e r (first_within (length mirrors) e es within)
+    (same_within (length mirrors) (length (mirrors_after mirrors e r)) es (after_number mirrors e r)
+    (rest_within (length mirrors) e es within))
+    ∙ after_kinds mirrors e r (first_within (length mirrors) e es within)
 
 begun_each : (mirrors : List MirrorData) → AreOwnSnapshots mirrors → Each mirrors (first_track mirrors) mirrors
 begun_each mirrors h = record { each = λ m below. begun_holds (mirror_at mirrors m).keep (mirror_at mirrors m).held (h m below) }
@@ -311,35 +324,35 @@ begun_each mirrors h = record { each = λ m below. begun_holds (mirror_at mirror
 pub converges : (old : List MirrorData) (events : List Event) (replies : List Reply) (new : List MirrorData) → AreOwnSnapshots old
     → All (IsWithin (length old)) events → AreRepliesTo old events replies → new ≡ mirrors_after_all old events replies
     → Converges old events replies new
-converges old events replies new h within answers is =
+converges old events replies new h within replied is =
     subst (Converges old events replies) (sym is)
     (record {
-      replied = answers;
+      replied = replied;
       mirrors = refl;
       kinds = all_kinds old events replies within;
       each = (all_each old old (first_track old) events replies within (begun_each old h)).each;
     })
 
 -- ---- one more event
-behind_more : (mirrors : List MirrorData) (es : List Event) (rs : List Reply) (e : Event) (r : Reply) → AreRepliesTo mirrors es rs
+mirrors_more : (mirrors : List MirrorData) (es : List Event) (rs : List Reply) (e : Event) (r : Reply) → AreRepliesTo mirrors es rs
     → mirrors_after_all mirrors (es ++ e ∷ []) (rs ++ r ∷ []) ≡ mirrors_after (mirrors_after_all mirrors es rs) e r
-behind_more mirrors [] [] e r h = refl
-behind_more mirrors [] (x ∷ rs) e r h = absurd h
-behind_more mirrors (x ∷ es) [] e r h = absurd h
-behind_more mirrors (x ∷ es) (y ∷ rs) e r h = behind_more (mirrors_after mirrors x y) es rs e r h.1
+mirrors_more mirrors [] [] e r h = refl
+mirrors_more mirrors [] (x ∷ rs) e r h = absurd h
+mirrors_more mirrors (x ∷ es) [] e r h = absurd h
+mirrors_more mirrors (x ∷ es) (y ∷ rs) e r h = mirrors_more (mirrors_after mirrors x y) es rs e r h.1
 
-answers_more : (mirrors : List MirrorData) (es : List Event) (rs : List Reply) (e : Event) (r : Reply) → AreRepliesTo mirrors es rs
+replies_more : (mirrors : List MirrorData) (es : List Event) (rs : List Reply) (e : Event) (r : Reply) → AreRepliesTo mirrors es rs
     → IsReplyTo (mirrors_after_all mirrors es rs) e r → AreRepliesTo mirrors (es ++ e ∷ []) (rs ++ r ∷ [])
-answers_more mirrors [] [] e r h a = (a, tt)
-answers_more mirrors [] (y ∷ rs) e r h a = absurd h
-answers_more mirrors (x ∷ es) [] e r h a = absurd h
-answers_more mirrors (x ∷ es) (y ∷ rs) e r h a = (h.0, answers_more (mirrors_after mirrors x y) es rs e r h.1 a)
+replies_more mirrors [] [] e r h a = (a, tt)
+replies_more mirrors [] (y ∷ rs) e r h a = absurd h
+replies_more mirrors (x ∷ es) [] e r h a = absurd h
+replies_more mirrors (x ∷ es) (y ∷ rs) e r h a = (h.0, replies_more (mirrors_after mirrors x y) es rs e r h.1 a)
 
 all_number : (mirrors : List MirrorData) (es : List Event) (rs : List Reply) → length (mirrors_after_all mirrors es rs) ≡ length mirrors
 all_number mirrors [] [] = refl
 all_number mirrors [] (r ∷ rs) = refl
 all_number mirrors (e ∷ es) [] = refl
-all_number mirrors (e ∷ es) (r ∷ rs) = all_number (mirrors_after mirrors e r) es rs ∙ behind_number mirrors e r
+all_number mirrors (e ∷ es) (r ∷ rs) = all_number (mirrors_after mirrors e r) es rs ∙ after_number mirrors e r
 
 -- ---- whether events may be run
 pub within_more : (count : ℕ) (es : List Event) (i : ℕ) (d : Event) → All (IsWithin count) (take i es) → i < length es
@@ -357,7 +370,7 @@ within_more count es i d all below here = λ k e inside.
 -- the first `i` events ran, each with its reply, and there is room for all replies
 pub record IsRunning (old : List MirrorData) (events : List Event) (i : ℕ) (replies : List Reply) (count space : ℕ)
     (mid : List MirrorData) : Type 0 where
-  pub answers : AreRepliesTo old (take i events) replies
+  pub replied : AreRepliesTo old (take i events) replies
   pub mirrors : mid ≡ mirrors_after_all old (take i events) replies
   pub filled : count ≡ i
   pub enough : length events ≤ space
@@ -373,23 +386,23 @@ module _ (old mid : List MirrorData) (events : List Event) (i : ℕ) (replies : 
   pub run_goes_on : (new : List MirrorData) (d : Event) (r : Reply) (replies2 : List Reply) (count2 space2 : ℕ) → i < length events
       → IsReplyTo mid (get_or events i d) r → new ≡ mirrors_after mid (get_or events i d) r →
       replies2 ≡ replies ++ r ∷ [] → count2 ≡ count + 1 → space2 ≡ space → IsRunning old events (i + 1) replies2 count2 space2 new
-  run_goes_on new d r replies2 count2 space2 below answer is more longer same =
+  run_goes_on new d r replies2 count2 space2 below result is more longer same =
       let now : IsReplyTo (mirrors_after_all old (take i events) replies) (get_or events i d) r =
-      subst (λ (ms : List MirrorData). IsReplyTo ms (get_or events i d) r) h.mirrors answer in
+      subst (λ (ms : List MirrorData). IsReplyTo ms (get_or events i d) r) h.mirrors result in
       let P : List Event → List Reply → Type 0 = λ es rs. AreRepliesTo old es rs × (new ≡ mirrors_after_all old es rs) in
       let next : P (take i events ++ get_or events i d ∷ []) (replies ++ r ∷ []) = (
-        answers_more old (take i events) replies (get_or events i d) r h.answers now,
+        replies_more old (take i events) replies (get_or events i d) r h.replied now,
         is ∙ ap (λ ms. mirrors_after ms (get_or events i d) r) h.mirrors
-            ∙ sym (behind_more old (take i events) replies (get_or events i d) r h.answers),
+            ∙ sym (mirrors_more old (take i events) replies (get_or events i d) r h.replied),
       ) in
       let both : P (take (i + 1) events) replies2 =
       subst (λ (es : List Event). P es replies2) (sym (take_more events i d below))
       (subst (λ (rs : List Reply). P (take i events ++ get_or events i d ∷ []) rs) (sym more) next) in
-      record { answers = both.0; mirrors = both.1; filled = omega (arith, h.filled, longer); enough = omega (arith, h.enough, same) }
+      record { replied = both.0; mirrors = both.1; filled = omega (arith, h.filled, longer); enough = omega (arith, h.enough, same) }
 
   -- Once each event got its reply, the run converges.
   pub run_ends : AreOwnSnapshots old → All (IsWithin (length old)) events → length events ≤ i → Converges old events replies mid
   run_ends kept_part within end =
       let all : take i events ≡ events = take_all i events end in
-      converges old events replies mid kept_part within (subst (λ (es : List Event). AreRepliesTo old es replies) all h.answers)
+      converges old events replies mid kept_part within (subst (λ (es : List Event). AreRepliesTo old es replies) all h.replied)
       (h.mirrors ∙ ap (λ es. mirrors_after_all old es replies) all)

@@ -1,7 +1,7 @@
 mod MergeLaws
 mod SourceLaws
 mod RunLaws
-mod ToldLaws
+mod KnownLaws
 mod CommandLaws
 mod ObjectLaws
 mod CheckLaws

@@ -27,7 +27,7 @@ use Rattle.osm_files.specs.Spell.{spell}
 use Rattle.osm_files.specs.Sink.{CutShort}
 use Rattle.osm_files.specs.Groups.{FileSourceData, FileCanGive, new_source, sorted_source}
 use Rattle.osm_files.specs.Position.{with_coming}
-use Rattle.osm_files.proofs.RiseLaws.{source_rises, source_begins_told}
+use Rattle.osm_files.proofs.RiseLaws.{source_rises, source_begins_known}
 use Rattle.osm_files.proofs.HoldLaws.{source_gives_held, whole_source_is_held}
 use Rattle.osm_files.proofs.FaultyLaws.{broken_is_refused}
 use Rattle.osm_files.proofs.SpellLaws.{listed_members}
@@ -187,11 +187,12 @@ module _ {R : Type 0} (can : R → InputRest → Type 0) where
   pub one_gives : (number : ℕ) (reader : R) (still : source.VersionsToCome) → FileCanGive can (new_source number reader) still
       → (c : InputRest) × can reader c × (still ≡ sorted_source number c)
   one_gives number reader still h =
-      let told : Some still ≡ Some (sorted_source number h.0) =
-      sym h.2 ∙ source_begins_told (with_coming (new_source number reader).units h.0) [] number (Some h.0) refl refl in
+      let known : Some still ≡ Some (sorted_source number h.0) =
+      sym h.2 ∙ source_begins_known (with_coming (new_source number reader).units h.0) [] number (Some h.0) refl refl in
       (h.0, h.1, cc)
 
-  inputs_give : (number : ℕ) (inputs : List R) (all : List source.VersionsToCome) → AllGive (FileCanGive can) (new_sources number inputs) all
+  inputs_give : (number : ℕ) (inputs : List R) (all : List source.VersionsToCome) →
+      AllGive (FileCanGive can) (new_sources number inputs) all
       → (given : List InputRest) × AllGive can inputs given × (all ≡ sources number given)
   inputs_give number [] [] g = ([], tt, refl)
   inputs_give number [] (s ∷ all) g = absurd g

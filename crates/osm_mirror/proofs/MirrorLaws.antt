@@ -63,7 +63,11 @@ kept_valid Latest set h = are_fewer set (snapshot set) h (snapshot_part set)
 
 pub took_sound : (m : MirrorData) (set : VersionSet) → IsMirror m → AreVersions set → IsMirror (after_taking m set)
 took_sound m set h valid =
-    record { own_snapshot = took_kept m set; versions = kept_valid m.keep (union m.held set) (unions_are_versions m.held set h.versions valid) }
+    record {
+      own_snapshot = took_kept m set;
+      versions =
+          kept_valid m.keep (union m.held set) (unions_are_versions m.held set h.versions valid);
+    }
 
 -- A new mirror is sound.
 pub fresh_sound : (keep : Keep) → IsMirror (new_mirror keep)
@@ -94,13 +98,19 @@ pub loaded_valid : (bytes : List ℕ) (loaded : Loaded) → Loads (whole_input b
 loaded_valid bytes loaded h = held_are_versions bytes loaded.history h.holds
 
 -- A mirror that took the history loaded of a file took the file.
-pub takes_file : (bytes given : List ℕ) (old new : MirrorData) (loaded : Loaded) (count : ℕ) → given ≡ bytes → Loads (whole_input given) loaded
+pub takes_file : (bytes given : List ℕ) (old new : MirrorData) (loaded : Loaded) (count : ℕ) → given ≡ bytes →
+    Loads (whole_input given) loaded
     → new ≡ after_taking old loaded.history → count ≡ size loaded.history → count < 2 ^ 64
     → TakesFile bytes old new (record { versions = count })
 takes_file bytes given old new loaded count same h is counted below =
     let held = loaded_holds bytes loaded (subst (λ (b : List ℕ). Loads (whole_input b) loaded) same h) in
     let whole_count : count ≡ size (held_by bytes) = counted ∙ ap size held.1 in
-    record { accepted = held.0; holds = is ∙ ap (after_taking old) held.1; count = within_limit count (size (held_by bytes)) whole_count below }
+    record {
+      accepted = held.0;
+      holds = is ∙ ap (after_taking old) held.1;
+      count =
+          within_limit count (size (held_by bytes)) whole_count below;
+    }
 
 -- a file that isn't accepted is refused with its verdict
 some_fault : (input : ℕ) (v : Option Verdict) (fault : Fault) → option_map (fault_of input) v ≡ Some fault
@@ -127,25 +137,25 @@ written_not_taken bytes format set fault h (inr refused) =
     absurd (none_some (sym none ∙ refused.1))
 
 -- a mirror that is given the file refuses it only for memory, or takes exactly the writer's history
-pub written_answer : {A : Type 0} (bytes given : List ℕ) (format : Format) (set : VersionSet) (r : Result A Fault) → given ≡ bytes
+pub written_reply : {A : Type 0} (bytes given : List ℕ) (format : Format) (set : VersionSet) (r : Result A Fault) → given ≡ bytes
     → HoldsSorted bytes set → bytes ≡ spell format set
     → MatchResult r (λ _. Holds given (held_by given)) (WhyNotTaken given)
     → MatchResult r (λ _. IsShort format set) (WhyNotSpelled format set)
-written_answer bytes given format set (Ok done) same h spelled answer = subst (λ (b : List ℕ). length b < 2 ^ 62) spelled h.short
-written_answer bytes given format set (Err fault) same h spelled answer =
-    written_not_taken bytes format set fault h (subst (λ (b : List ℕ). WhyNotTaken b fault) same answer)
+written_reply bytes given format set (Ok done) same h spelled outcome = subst (λ (b : List ℕ). length b < 2 ^ 62) spelled h.short
+written_reply bytes given format set (Err fault) same h spelled outcome =
+    written_not_taken bytes format set fault h (subst (λ (b : List ℕ). WhyNotTaken b fault) same outcome)
 
 pub given_set : (bytes given : List ℕ) (set : VersionSet) → given ≡ bytes → HoldsSorted bytes set → held_by given ≡ set
 given_set bytes given set same h = ap held_by same ∙ written_is_held bytes set h
 
 -- The file that a mirror writes holds the mirror's set, so another mirror takes this set.
-pub written_behind : {A : Type 0} (bytes given : List ℕ) (set : VersionSet) (r : Result A Fault) (old new : List MirrorData) (to : ℕ)
+pub written_after : {A : Type 0} (bytes given : List ℕ) (set : VersionSet) (r : Result A Fault) (old new : List MirrorData) (to : ℕ)
     → given ≡ bytes → HoldsSorted bytes set
     → MatchResult r (λ _. new ≡ slice_set old to (after_taking (mirror_at old to) (held_by given))) (λ _. new ≡ old)
     → MatchResult r (λ _. new ≡ slice_set old to (after_taking (mirror_at old to) set)) (λ _. new ≡ old)
-written_behind bytes given set (Ok done) old new to same h is =
+written_after bytes given set (Ok done) old new to same h is =
     is ∙ ap (λ (s : VersionSet). slice_set old to (after_taking (mirror_at old to) s)) (given_set bytes given set same h)
-written_behind bytes given set (Err fault) old new to same h is = is
+written_after bytes given set (Err fault) old new to same h is = is
 
 -- The file that a mirror writes is refused only for Memory or its length.
 pub given_not_taken : (bytes given : List ℕ) (format : Format) (set : VersionSet) (fault : Fault) → given ≡ bytes → HoldsSorted bytes set
@@ -164,19 +174,19 @@ pub spelling_holds : (format : Format) (set : VersionSet) (bytes : List ℕ) →
 spelling_holds format set bytes valid is short = subst (λ (b : List ℕ). HoldsSorted b set) (sym is) (spell_holds format set valid short)
 
 -- the bytes appended to an empty output
-pub appended_alone : (old new bytes file : List ℕ) → IsAppended (λ held. old ≡ held) (λ held. new ≡ held) bytes → old ≡ [] → file ≡ new
+pub appended_to_empty : (old new bytes file : List ℕ) → IsAppended (λ held. old ≡ held) (λ held. new ≡ held) bytes → old ≡ [] → file ≡ new
     → file ≡ bytes
-appended_alone old new bytes file h none is = is ∙ h [] none
+appended_to_empty old new bytes file h none is = is ∙ h [] none
 
 -- why the file of a set isn't written to memory, as a fault of the mirror
-unwritten_cases : (format : Format) (set : VersionSet) (count : ℕ) (failed : Bool) (fault told : Fault)
-    → (fault.reason ≡ TooLong → told ≡ fault) → ((fault.reason ≡ TooLong → ⊥) → told ≡ memory_fault)
+unwritten_cases : (format : Format) (set : VersionSet) (count : ℕ) (failed : Bool) (fault known : Fault)
+    → (fault.reason ≡ TooLong → known ≡ fault) → ((fault.reason ≡ TooLong → ⊥) → known ≡ memory_fault)
     → (fault ≡ memory_fault) ⊎ ((fault ≡ write_fault 1 count) × (failed ≡ true))
     ⊎ ((fault ≡ too_long_fault 1) × (2 ^ 62 ≤ length (spell format set)))
-    → WhyNotSpelled format set told
-unwritten_cases format set count failed fault told long other (inl memory) =
+    → WhyNotSpelled format set known
+unwritten_cases format set count failed fault known long other (inl memory) =
     inl (other (λ e. is_memory (sym (ap (λ (f : Fault). f.reason) memory) ∙ e)))
-unwritten_cases format set count failed fault told long other (inr (inl broken)) =
+unwritten_cases format set count failed fault known long other (inr (inl broken)) =
     inl (other (λ e. is_write (sym (ap (λ (f : Fault). f.reason) (broken.0)) ∙ e)))
-unwritten_cases format set count failed fault told long other (inr (inr big)) =
+unwritten_cases format set count failed fault known long other (inr (inr big)) =
     inr (long (ap (λ (f : Fault). f.reason) (big.0)) ∙ big.0, big.1)

@@ -65,12 +65,12 @@ false_unless true f = absurd (f refl)
 false_unless false f = refl
 
 -- after a version of another object, an ascending list has no version of this object
-none_behind : (v w : VersionData) → version_cmp v w ≡ Less → same_object v w ≡ false → (xs : List VersionData) →
+none_after : (v w : VersionData) → version_cmp v w ≡ Less → same_object v w ≡ false → (xs : List VersionData) →
     AllByRecursion (λ x. version_cmp w x ≡ Less) xs → list_any (beats v) xs ≡ false
-none_behind v w less other [] h = refl
-none_behind v w less other (x ∷ xs) h =
+none_after v w less other [] h = refl
+none_after v w less other (x ∷ xs) h =
     let apart : same_object v x ≡ false = false_unless (same_object v x) (λ t. false≢true (sym other ∙ together v w x less h.0 t)) in
-    ap (λ b. (b && is_lt (version_cmp v x)) || list_any (beats v) xs) apart ∙ none_behind v w less other xs h.1
+    ap (λ b. (b && is_lt (version_cmp v x)) || list_any (beats v) xs) apart ∙ none_after v w less other xs h.1
 
 -- the newest version of an object in a list
 abbrev newest : List VersionData → VersionData → Bool
@@ -84,15 +84,15 @@ first_newest v w xs less above =
     (λ i. not (not_itself v i || (second i || list_any (beats v) xs)))
     ∙ (elim (same_object v w) as (λ b. same_object v w ≡ b → not (b || list_any (beats v) xs) ≡ not b) [
       | true ↦ λ e. refl
-      | false ↦ λ e. ap not (none_behind v w less e xs above)
+      | false ↦ λ e. ap not (none_after v w less e xs above)
     ] refl)
 
 -- one more version at the front of a list changes nothing about which of the others are newest
-same_behind : (v : VersionData) (all xs : List VersionData) → AllByRecursion (λ x. version_cmp v x ≡ Less) xs →
+same_after : (v : VersionData) (all xs : List VersionData) → AllByRecursion (λ x. version_cmp v x ≡ Less) xs →
     filter (newest (v ∷ all)) xs ≡ filter (newest all) xs
-same_behind v all [] h = refl
-same_behind v all (x ∷ xs) h =
-    (λ i. cond (not (not_below x v h.0 i || list_any (beats x) all)) (x ∷ same_behind v all xs h.1 i) (same_behind v all xs h.1 i))
+same_after v all [] h = refl
+same_after v all (x ∷ xs) h =
+    (λ i. cond (not (not_below x v h.0 i || list_any (beats x) all)) (x ∷ same_after v all xs h.1 i) (same_after v all xs h.1 i))
 
 abbrev newest_of : List VersionData → List VersionData
 newest_of xs = filter (newest xs) xs
@@ -108,10 +108,10 @@ unfolding IsStrictlySortedBy
 newest_count v [] h = ap (λ b. length (cond (not (b || false)) (v ∷ []) [])) (not_itself v)
 newest_count v (w ∷ xs) h =
     let rest = newest_count w xs h.1 in
-    let behind : filter (newest (v ∷ w ∷ xs)) (w ∷ xs) ≡ newest_of (w ∷ xs) = same_behind v (w ∷ xs) (w ∷ xs) h.0 in
+    let after : filter (newest (v ∷ w ∷ xs)) (w ∷ xs) ≡ newest_of (w ∷ xs) = same_after v (w ∷ xs) (w ∷ xs) h.0 in
     let here : newest (v ∷ w ∷ xs) v ≡ not (same_object v w) = first_newest v w xs h.0.0 h.1.0 in
     let count : length (newest_of (v ∷ w ∷ xs)) ≡ new_objects (Some v) w + length (newest_of (w ∷ xs)) =
-    (λ i. length (cond (here i) (v ∷ behind i) (behind i))) ∙ counted_if (same_object v w) v (newest_of (w ∷ xs)) in
+    (λ i. length (cond (here i) (v ∷ after i) (after i))) ∙ counted_if (same_object v w) v (newest_of (w ∷ xs)) in
     omega (arith, count, rest)
 
 all_count : (xs : List VersionData) → IsStrictlySortedBy version_cmp xs → length (newest_of xs) ≡ objects_after None xs

@@ -27,7 +27,8 @@ use Rattle.osm_mirror.specs.PlanLaws.{OnePlan, FaultySpellsNothing}
 use Rattle.osm_mirror.proofs.PlanLineLaws.{line_one, says_full}
 
 -- the part of a line comes after all parts before it
-plan_lines-push : (before : Parts) (said : PlanLine) → IsInTurn before said → plan_lines (with_line before said) ≡ plan_lines before ++ said ∷ []
+plan_lines-push : (before : Parts) (said : PlanLine) → IsInTurn before said → plan_lines (with_line before said) ≡ plan_lines before
+    ++ said ∷ []
 plan_lines-push before (Mirror k) turn = rw (turn.0, turn.1) (simp (map-append, append-nil))
 plan_lines-push before (Step s) turn = rw turn (simp (map-append, append-nil, append_assoc))
 plan_lines-push before (Write w) turn = simp (map-append, append_assoc)
@@ -162,7 +163,7 @@ lines_none front rest faulty before after reason spelled fault all =
     (λ t. filter is_full front ++ cond t (faulty ∷ filter is_full rest) (filter is_full rest)) here in
     let p = pairwise_parted LineSays (filter is_full front) (filter is_full rest) faulty (plan_lines after) (rw full at all.said) in
     let same = pairwise_one LineSays line_one (filter is_full front) (plan_lines before) p.before spelled.said p.fronts in
-    let turn = built_in_turn (parts [] [] []) p.before p.behind p.here before after (rw p.parted at (in_order_builds after all.named))
+    let turn = built_in_turn (parts [] [] []) p.before p.after p.here before after (rw p.parted at (in_order_builds after all.named))
     (rw same at (in_order_builds before spelled.named)) in
     fault_not before faulty reason p.here fault p.this turn.0 turn.1
 
@@ -209,9 +210,9 @@ pub lines_few : (text : List ℕ) → length (lines_of text) ≤ length text + 1
 lines_few text = omega (arith, length-slice_split (λ b. b == 10) text, count_by-le-length (λ b. b == 10) text)
 
 -- a property of all items of a list is one of all items of its end
-all_behind : {X : Type 0} (P : X → Type 0) (xs ys : List X) → All P (xs ++ ys) → All P ys
-all_behind P [] ys all = all
-all_behind P (x ∷ xs) ys all = all_behind P xs ys (All-tail P x (xs ++ ys) all)
+all_after : {X : Type 0} (P : X → Type 0) (xs ys : List X) → All P (xs ++ ys) → All P ys
+all_after P [] ys all = all
+all_after P (x ∷ xs) ys all = all_after P xs ys (All-tail P x (xs ++ ys) all)
 
 all_before : {X Y : Type 0} (P : Y → Type 0) (f : X → Y) (xs : List X) (ys : List Y) → All P (map f xs ++ ys) → All (λ x. P (f x)) xs
 all_before P f [] ys all = λ k d less. absurd (omega (arith, less))
@@ -222,8 +223,8 @@ all_before P f (x ∷ xs) ys all = All-cons (λ z. P (f z)) x xs (All-head P (f 
 pub spelled_names : (lines : List (List ℕ)) (plan : Plan) → LinesSpell lines (parts_of plan) → NamesItsMirrors plan
 spelled_names lines plan spelled =
     let P = NamesMirrors (length plan.mirrors.items) in
-    let others = all_behind P (map Mirror plan.mirrors.items) (map Step plan.steps.items ++ map Write plan.writes.items) spelled.named in
-    let last = all_behind P (map Step plan.steps.items) (map Write plan.writes.items) others in
+    let others = all_after P (map Mirror plan.mirrors.items) (map Step plan.steps.items ++ map Write plan.writes.items) spelled.named in
+    let last = all_after P (map Step plan.steps.items) (map Write plan.writes.items) others in
     record {
       steps = all_before P Step plan.steps.items (map Write plan.writes.items) others;
       writes = all_before P Write plan.writes.items [] (rw append-nil last);

@@ -88,7 +88,8 @@ module _ {R : Type 0} (can : R → InputRest → Type 0) {O : Type 0} (output : 
     pub ran_written : (result : Result Counts Fault)
         → IfOk result (λ counts. SomeInputsGive (SourceCanGive can) opened
         (λ all. merged.IsMergedAs selection all given (change_of output before after) counts))
-        → IfOk result (λ counts. SomeInputsGive (FileGives can) files (λ all. IsRun selection all format (change_of output before after) counts))
+        → IfOk result (λ counts. SomeInputsGive (FileGives can) files
+        (λ all. IsRun selection all format (change_of output before after) counts))
     ran_written (Ok counts) h =
         let q = opened_give can 0 files opened h.0 are h.1 in
         let m =

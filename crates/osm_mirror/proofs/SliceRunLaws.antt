@@ -1,5 +1,6 @@
 -- The output of a run for a slice, and the reasons why it is refused, from the merge of the files' sources within a span.
-use Rattle.std.proofs.Common.{◌≡◌, inl, inr, ℕ, suc, ◌+◌, List, [], ◌∷◌, ◌++◌, length, map, refl, sym, ap, ◌∙◌, subst, arith, Some, None, sum_by}
+use Rattle.std.proofs.Common.{◌≡◌, inl, inr, ℕ, suc, ◌+◌, List, [], ◌∷◌, ◌++◌, length, map, refl, sym, ap, ◌∙◌, subst, arith, Some, None}
+use Rattle.std.proofs.Common.{sum_by}
 use Rattle.std.proofs.Common.{Result, Ok, Err, IfOk, IfErr}
 use Rattle.std.proofs.lemmas.List.Concat.{length-flat_map}
 use Rattle.std.proofs.lemmas.List.Elements.{All-cons, All-nil, All-head, All-tail}
@@ -88,7 +89,8 @@ each_size number span ((outside, c) ∷ inputs) =
 
 module _ (slice : Slice) (format : Format) (change : Change) where
   slice_run_is : (inputs : List (Outside × InputRest)) (counts : Counts) →
-      merged.IsMergedAs slice.selection (given_slices 0 slice.span inputs) format change counts → IsSliceRun slice inputs format change counts
+      merged.IsMergedAs slice.selection (given_slices 0 slice.span inputs) format change counts →
+      IsSliceRun slice inputs format change counts
   slice_run_is inputs counts m =
       let given = given_slices 0 slice.span inputs in
       let same : union.union_given given ≡ union_of (map set_given given) = union_given_is given in
@@ -108,7 +110,8 @@ gives_slice number span Refused c part (file, within) =
     let is = source_sorted number c part file.unbroken file.file in
     let whole : (sorted_source number c).refusal ≡ None = ap (λ (s : source.VersionsToCome). s.refusal) is in
     let members : set_given (sorted_source number c) ≡ part = ap set_given is ∙ sym (listed_members part) in
-    let same = inside_is_given number span (sorted_source number c) (source_rises number c) (subst (IsWithin span) (sym members) within) in (
+    let same = inside_is_given number span (sorted_source number c) (source_rises number c)
+    (subst (IsWithin span) (sym members) within) in (
       ap (λ (s : source.VersionsToCome). s.refusal) same ∙ whole,
       ap set_given same ∙ members,
     )

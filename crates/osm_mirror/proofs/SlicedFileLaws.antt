@@ -1,5 +1,6 @@
 -- A file that is cut at objects into sorted files is sorted.
-use Rattle.std.proofs.Common.{◌≡◌, ⊎_elim, ℕ, Bool, true, false, not, ◌||◌, List, [], ◌∷◌, ◌++◌, map, refl, sym, ap, ◌∙◌, Option, Some, ◌<◌, ◌^◌, length}
+use Rattle.std.proofs.Common.{◌≡◌, ⊎_elim, ℕ, Bool, true, false, not, ◌||◌, List, [], ◌∷◌, ◌++◌, map, refl, sym, ap, ◌∙◌, Option, Some, ◌<◌}
+use Rattle.std.proofs.Common.{◌^◌, length}
 use Rattle.std.proofs.Common.{None, append-nil}
 use Rattle.std.proofs.lemmas.Bool.{false≢true}
 use Rattle.std.specs.declared.cmp.Ordering.{Ordering}
@@ -20,7 +21,8 @@ use Rattle.osm_files.specs.Verdict.{is_below}
 use Rattle.osm_files.proofs.FileLaws.{Rises, rises_sorted, sorted_all}
 use Rattle.osm_merge.specs.declared.object.Object.{Object}
 use Rattle.osm_merge.specs.Members.{union_all}
-use Rattle.osm_merge.specs.Slice.{object_of, object_order, slice_of, span_of, spans, reaches, is_under, is_within, spans_from, slices, IsWithin}
+use Rattle.osm_merge.specs.Slice.{object_of, object_order, slice_of, span_of, spans, reaches, is_under, is_within, spans_from, slices}
+use Rattle.osm_merge.specs.Slice.{IsWithin}
 use Rattle.osm_merge.specs.ToCome.{VersionsToCome}
 use Rattle.osm_merge.specs.Union as merged
 use Rattle.osm_merge.proofs.PieceLaws.{has_within, sets_within_are_slices}

@@ -42,7 +42,8 @@ module _ (p : ℕ → Bool) (last : ℕ) (ends : p last ≡ true) (rest : List �
   cut_after [] = rw ends refl
   cut_after (b ∷ front) =
       let all : List (List ℕ) = split_all p (front ++ last ∷ rest) in
-      elim (p b) as (λ t. cond t ([] ∷ all) (with_first_byte b all) ≡ cond t ([] ∷ split_all p front) (with_first_byte b (split_all p front)) ++ split_all p rest) [
+      elim (p b) as (λ t. cond t ([] ∷ all) (with_first_byte b all) ≡ cond t ([] ∷ split_all p front)
+      (with_first_byte b (split_all p front)) ++ split_all p rest) [
         | true ↦ ap (λ pieces. [] ∷ pieces) (cut_after front)
         | false ↦ ap (with_first_byte b) (cut_after front) ∙ rw (cut_split p front) refl
       ]

@@ -164,21 +164,24 @@ not_unread number ((Sorted, c) ∷ inputs) (s ∷ held) fault h unread = not_unr
 not_unread number ((Any, c) ∷ inputs) (s ∷ held) fault h (inl e) = let f : None ≡ Some fault = sym (file_refusal number c s h.0) ∙ e in cc
 not_unread number ((Any, c) ∷ inputs) (s ∷ held) fault h (inr others) = not_unread (number + 1) inputs held fault h.1 others
 
-unread_first : (number : ℕ) (input : Order × InputRest) (rest : List (Order × InputRest)) (fault : Fault) → IsUnopened number (input ∷ []) fault
+unread_first : (number : ℕ) (input : Order × InputRest) (rest : List (Order × InputRest)) (fault : Fault) →
+    IsUnopened number (input ∷ []) fault
     → IsUnopened number (input ∷ rest) fault
 unread_first number input rest fault (inl e) = inl e
 unread_first number (Sorted, c) rest fault (inr h) = absurd h
 unread_first number (Any, c) rest fault (inr (inl h)) = inr (inl h)
 unread_first number (Any, c) rest fault (inr (inr h)) = absurd h
 
-unread_more : (number : ℕ) (input : Order × InputRest) (rest : List (Order × InputRest)) (fault : Fault) → IsUnopened (number + 1) rest fault
+unread_more : (number : ℕ) (input : Order × InputRest) (rest : List (Order × InputRest)) (fault : Fault) →
+    IsUnopened (number + 1) rest fault
     → IsUnopened number (input ∷ rest) fault
 unread_more number input rest fault (inl e) = inl e
 unread_more number (Sorted, c) rest fault (inr h) = inr h
 unread_more number (Any, c) rest fault (inr h) = inr (inr h)
 
 -- ---- sources that were opened
-pub stream_opens : {R : Type 0} (can : R → InputRest → Type 0) (number : ℕ) (reader : R) (s : FileSourceData R) → s ≡ new_source number reader
+pub stream_opens : {R : Type 0} (can : R → InputRest → Type 0) (number : ℕ) (reader : R) (s : FileSourceData R) →
+    s ≡ new_source number reader
     → IsOpened can number (file_in_order Sorted reader) (Streamed s)
 stream_opens can number reader s is still h =
     let q = one_gives can number reader still (subst (λ (x : FileSourceData _). FileCanGive can x still) is h) in
@@ -239,19 +242,19 @@ module _ {R : Type 0} (can : R → InputRest → Type 0) where
     give_files (f ∷ files) = ((refl, possible f.reader), give_files files)
 
     -- a file that can't be opened, after files that were opened
-    pub stops_behind : (number : ℕ) (files : List (InputFile R)) (opened : List (RunSource R)) (file : InputFile R)
+    pub stops_after : (number : ℕ) (files : List (InputFile R)) (opened : List (RunSource R)) (file : InputFile R)
         (rest : List (InputFile R)) (fault : Fault)
         → AreOpened can number files opened → FileGivesOne can file (λ input. IsUnopened (number + length files) (input ∷ []) fault)
         → SomeInputsGive (FileGives can) (files ++ file ∷ rest) (λ all. IsUnopened number all fault)
-    stops_behind number [] [] file rest fault all h =
+    stops_after number [] [] file rest fault all h =
         let why = subst (λ (n : ℕ). IsUnopened n (h.0 ∷ []) fault) (let e : number + 0 ≡ number = omega arith in e) h.2 in
         (h.0 ∷ map (one_of_file one) rest, (h.1, give_files rest), unread_first number h.0 (map (one_of_file one) rest) fault why)
-    stops_behind number [] (t ∷ opened) file rest fault all h = absurd all
-    stops_behind number (f ∷ files) [] file rest fault all h = absurd all
-    stops_behind number (f ∷ files) (t ∷ opened) file rest fault all h =
+    stops_after number [] (t ∷ opened) file rest fault all h = absurd all
+    stops_after number (f ∷ files) [] file rest fault all h = absurd all
+    stops_after number (f ∷ files) (t ∷ opened) file rest fault all h =
         let first = all.0 (source_one one t) (source_possible one can possible t) in
         let others =
-        stops_behind (number + 1) files opened file rest fault all.1 (
+        stops_after (number + 1) files opened file rest fault all.1 (
           h.0,
           h.1,
           subst (λ (n : ℕ). IsUnopened n (h.0 ∷ []) fault)
@@ -272,7 +275,7 @@ module _ {R : Type 0} (can : R → InputRest → Type 0) where
         ∙ take-append-drop k xs in
         let is : ys ++ y ∷ drop (k + 1) xs ≡ xs = ap (λ t. t ++ y ∷ drop (k + 1) xs) (sym (map_itself ys) ∙ so_far) ∙ front in
         subst (λ (fs : List (InputFile R)). SomeInputsGive (FileGives can) fs (λ all. IsUnopened 0 all fault)) is
-        (stops_behind 0 ys items y (drop (k + 1) xs) fault all (h.0, h.1, subst (λ (m : ℕ). IsUnopened m (h.0 ∷ []) fault) place h.2))
+        (stops_after 0 ys items y (drop (k + 1) xs) fault all (h.0, h.1, subst (λ (m : ℕ). IsUnopened m (h.0 ∷ []) fault) place h.2))
 
     -- memory ran out after files that were opened
     pub no_memory : (files : List (InputFile R)) (fault : Fault) → fault ≡ memory_fault

@@ -31,8 +31,10 @@ AreOwnSnapshots mirrors = (m : ℕ) → m < length mirrors → IsOwnSnapshot (mi
 -- took the file of the old one, and replaces the old one. A refused event changes no mirror.
 abbrev pub mirrors_after : List MirrorData → Event → Reply → List MirrorData
 mirrors_after mirrors (Take m file) Taken = slice_set mirrors m (after_taking (mirror_at mirrors m) (held_by file.now))
-mirrors_after mirrors (Pass from to format) Taken = slice_set mirrors to (after_taking (mirror_at mirrors to) (mirror_at mirrors from).held)
-mirrors_after mirrors (Restart m format) Taken = slice_set mirrors m (after_taking (new_mirror (mirror_at mirrors m).keep) (mirror_at mirrors m).held)
+mirrors_after mirrors (Pass from to format) Taken =
+    slice_set mirrors to (after_taking (mirror_at mirrors to) (mirror_at mirrors from).held)
+mirrors_after mirrors (Restart m format) Taken =
+    slice_set mirrors m (after_taking (new_mirror (mirror_at mirrors m).keep) (mirror_at mirrors m).held)
 mirrors_after mirrors (Take m file) (Refused fault) = mirrors
 mirrors_after mirrors (Pass from to format) (Refused fault) = mirrors
 mirrors_after mirrors (Restart m format) (Refused fault) = mirrors

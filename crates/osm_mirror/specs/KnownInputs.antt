@@ -17,5 +17,5 @@ IsFileIfKnown {C = C} can gives input = (c : C) → IsKnownToGive can input c �
 
 -- inputs that report their bytes can give nothing else
 abbrev pub KnownIsGiven : {R C : Type 0} → (R → C → Type 0) → List R → Type 0
-KnownIsGiven {C = C} can inputs = (told given : List C) → AllKnownToGive can inputs told → AllGive can inputs given →
-    given ≡ told
+KnownIsGiven {C = C} can inputs = (known given : List C) → AllKnownToGive can inputs known → AllGive can inputs given →
+    given ≡ known

@@ -38,7 +38,8 @@ pub record IsRun (selection : Selection) (inputs : List (Order × InputRest)) (f
 -- Why a run was refused. Memory ran out before anything was written; or an input of any order can't be read, and
 -- nothing was written; or all inputs of any order were read, and then the merge was refused. If nothing was written,
 -- the output is unchanged.
-abbrev pub IsRunRefused : {O : Type 0} → Ghosts O → Selection → List (Order × InputRest) → Format → O → O → Fault → Type 0
+abbrev pub IsRunRefused : {O : Type 0} → Ghosts O → Selection → List (Order × InputRest) → Format → O → O → Fault →
+    Type 0
 IsRunRefused output selection inputs format before after fault =
     ((fault ≡ memory_fault) × (after ≡ before))
     ⊎ (IsUnread 0 inputs fault × (after ≡ before))

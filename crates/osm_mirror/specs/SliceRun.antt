@@ -59,8 +59,8 @@ pub record IsSliceRun (slice : Slice) (inputs : List (Outside × InputRest)) (fo
   pub read_count : counts.read ≡ capped_count (sum_by size parts)
   pub written_count : counts.written ≡ capped_count (size (selection_of slice.selection (union_of parts)))
 
--- An input that has a slice: a part of a file is a sorted file, and all its objects are within the span; a whole file is
--- a sorted file, of which this is the slice.
+-- An input that has a slice: a part of a file is a sorted file, and all its objects are within the span; a whole file
+-- is a sorted file, of which this is the slice.
 abbrev pub GivesSlice : Span → Outside × InputRest → VersionSet → Type 0
 GivesSlice span (Refused, c) part = GivesSorted c part × IsWithin span part
 GivesSlice span (Dropped, c) part = (held : VersionSet) × GivesSorted c held × (part ≡ slice_of span.from span.to held)

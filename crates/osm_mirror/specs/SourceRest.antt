@@ -4,7 +4,8 @@ use Rattle.std.specs.Prelude.{◌≡◌, ℕ, Bool, false}
 use Rattle.osm_model.specs.Data.{VersionData}
 use Rattle.osm_model.specs.Sets.{size}
 use Rattle.osm_files.specs.declared.fault.Fault.{Fault}
-use Rattle.osm_files.specs.Groups.{FileCanGive, known_or_whole, given_at, one_given, versions_left, file_ascends, set_given}
+use Rattle.osm_files.specs.Groups.{FileCanGive, known_or_whole, given_at, one_given, versions_left, file_ascends}
+use Rattle.osm_files.specs.Groups.{set_given}
 use Rattle.osm_files.specs.Groups.{given_set_ascends}
 use Rattle.osm_files.specs.Input.{InputRest}
 use Rattle.osm_files.specs.Source.{Ascends}

@@ -1,5 +1,6 @@
 //! The offset at which an OPL file is cut at an object, so that each of several runs reads only its slice of the file.
 ghost use Rattle.std.specs.Prelude.{IfOk, IfErr};
+ghost use Rattle.osm_files.specs.Fault.{IsOfFile};
 ghost use Rattle.osm_files.specs.Lines.{IsDeviceFault};
 ghost use Rattle.osm_mirror.specs.CutOffset.{IsCutOf, BeginsLinesOf, IsCutRefusal, IsFirstUnder, BeginsAs, ReadsAs};
 
@@ -27,6 +28,7 @@ pub fn cut_offset<R: Input + Drop, F: OpenAt<R>>(
     ensures cut { IfOk result (IsCutOf (F.bytes file.now) bound) }
     ensures begins { IfOk result (BeginsLinesOf (F.bytes file.now)) }
     ensures refused { IfErr result (IsCutRefusal (F.bytes file.now)) }
+    ensures number { IfErr result (IsOfFile input) }
 {
     let mut low = 0_u64;
     let mut high = match file.size() {
@@ -60,6 +62,7 @@ fn is_first_below<R: Input + Drop, F: OpenAt<R>>(
 ) -> Result<bool, Fault>
     ensures below { IfOk result (IsFirstUnder (F.bytes file.now) bound offset) }
     ensures refused { IfErr result (IsCutRefusal (F.bytes file.now)) }
+    ensures number { IfErr result (IsOfFile input) }
 {
     match first_version(alloc, file, input, offset)? {
         Some(version) => Ok(Object::of(&version).order(&bound).is_lt()),
@@ -75,6 +78,7 @@ fn begins_as_o5<R: Input + Drop, F: OpenAt<R>>(
 ) -> Result<bool, Fault>
     ensures begins { IfOk result (BeginsAs (F.bytes file.now) offset) }
     ensures refused { IfErr result IsDeviceFault }
+    ensures number { IfErr result (IsOfFile input) }
 {
     let broken = Fault::at(input, offset, Reason::ReadFault);
     let Ok(mut reader) = file.open_at(offset) else {

@@ -22,7 +22,8 @@ pub fn fault_text(
     inputs: &[&str],
     out: &str,
 ) -> Result<String, Memory>
-    ensures { IfOk result (λ line. string_bytes line ≡ fault_line fault.now (map (λ name. name.now) inputs.now) out.now) }
+    ensures { IfOk result (λ line. string_bytes line ≡ fault_line fault.now
+        (map (λ name. name.now) inputs.now) out.now) }
 {
     match fault.reason {
         Reason::Memory | Reason::Opl(OplReason::Memory) | Reason::O5(O5Reason::Memory) => {
@@ -37,11 +38,11 @@ pub fn fault_text(
     }
 }
 
-/// The name at the index `place`, or `other` if the names end before it.
-fn name_at<'a>(names: &[&'a str], place: usize, other: &'a str) -> &'a str
-    ensures { result.now ≡ slice_index_or (map (λ name. name.now) names.now) place other.now }
+/// The name at `index`, or `other` if the names end before it.
+fn name_at<'a>(names: &[&'a str], index: usize, other: &'a str) -> &'a str
+    ensures { result.now ≡ slice_index_or (map (λ name. name.now) names.now) index other.now }
 {
-    match names.get(place) {
+    match names.get(index) {
         Some(name) => name,
         None => other,
     }

@@ -93,17 +93,17 @@ impl Fleet {
         let alloc = *self.mirrors.allocator();
         let mut replies = Vec::with_capacity(alloc, events.len())?;
         for event in events {
-            let reply = self.answer(event);
+            let reply = self.reply_to(event);
             replies.push_reserved(reply);
         }
         Ok(replies)
     }
 
     /// Runs one event.
-    fn answer(&mut self, event: &Event) -> Reply
+    fn reply_to(&mut self, event: &Event) -> Reply
         requires { IsWithin (length self.old) event.now }
-        ensures answer { IsReplyTo self.old event.now result }
-        ensures behind { self.new ≡ mirrors_after self.old event.now result }
+        ensures reply { IsReplyTo self.old event.now result }
+        ensures mirrors { self.new ≡ mirrors_after self.old event.now result }
     {
         match *event {
             Event::Take { mirror, file } => match self.take(mirror, file) {
@@ -124,8 +124,8 @@ impl Fleet {
     /// A mirror takes a file.
     fn take(&mut self, mirror: usize, file: &[u8]) -> Result<(), Fault>
         requires { mirror < length self.old }
-        ensures answer { MatchResult result (λ _. Holds file.now (held_by file.now)) (WhyNotTaken file.now) }
-        ensures behind { MatchResult result
+        ensures reply { MatchResult result (λ _. Holds file.now (held_by file.now)) (WhyNotTaken file.now) }
+        ensures mirrors { MatchResult result
             (λ _. self.new ≡ slice_set self.old mirror (after_taking (mirror_at self.old mirror) (held_by file.now)))
             (λ _. self.new ≡ self.old) }
     {
@@ -139,9 +139,11 @@ impl Fleet {
     /// A mirror takes the file that another one writes, or that it writes itself.
     fn pass(&mut self, from: usize, to: usize, format: Format) -> Result<(), Fault>
         requires { (from < length self.old) × (to < length self.old) }
-        ensures answer { MatchResult result (λ _. IsShort format (mirror_at self.old from).held) (WhyNotSpelled format (mirror_at self.old from).held) }
-        ensures behind { MatchResult result
-            (λ _. self.new ≡ slice_set self.old to (after_taking (mirror_at self.old to) (mirror_at self.old from).held))
+        ensures reply { MatchResult result (λ _. IsShort format (mirror_at self.old from).held)
+            (WhyNotSpelled format (mirror_at self.old from).held) }
+        ensures mirrors { MatchResult result
+            (λ _. self.new ≡ slice_set self.old to
+            (after_taking (mirror_at self.old to) (mirror_at self.old from).held))
             (λ _. self.new ≡ self.old) }
     {
         let file = self.mirrors[from].write(format)?;
@@ -151,11 +153,12 @@ impl Fleet {
     /// A new mirror takes the file that the old one writes, and replaces the old one.
     fn restart(&mut self, mirror: usize, format: Format) -> Result<(), Fault>
         requires { mirror < length self.old }
-        ensures answer { MatchResult result
+        ensures reply { MatchResult result
             (λ _. IsShort format (mirror_at self.old mirror).held)
             (WhyNotSpelled format (mirror_at self.old mirror).held) }
-        ensures behind { MatchResult result
-            (λ _. self.new ≡ slice_set self.old mirror (after_taking (new_mirror (mirror_at self.old mirror).keep) (mirror_at self.old mirror).held))
+        ensures mirrors { MatchResult result
+            (λ _. self.new ≡ slice_set self.old mirror
+            (after_taking (new_mirror (mirror_at self.old mirror).keep) (mirror_at self.old mirror).held))
             (λ _. self.new ≡ self.old) }
     {
         let old = &self.mirrors[mirror];

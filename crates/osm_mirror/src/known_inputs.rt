@@ -72,8 +72,10 @@ pub fn run_selected_known<R: Input + Drop, W: Output, P: Progress>(
     ensures refused { IfErr result (λ fault.
         (all : List (Order × InputRest)) → AllKnownToGive (FileGives R.can_give) inputs.items all
         → RefusesRun W.Output selection all format out.old out.new fault) }
-    ensures begun { OnErr result ((all : List (Order × InputRest)) → AllKnownToGive (FileGives R.can_give) inputs.items all
-        → HasBegunIn (selection_of selection (union_given (sources 0 all))) format (change_of W.Output out.old out.new)) }
+    ensures begun { OnErr result ((all : List (Order × InputRest)) →
+        AllKnownToGive (FileGives R.can_give) inputs.items all
+        → HasBegunIn (selection_of selection (union_given (sources 0 all))) format
+        (change_of W.Output out.old out.new)) }
     // A clause about each input that reports its bytes, and two about the output.
     ensures accepted { OnOk result (All (IsFileIfKnown (FileGives R.can_give) GivesAs) inputs.items) }
     ensures file { IfOk result (WritesSet format (change_of W.Output out.old out.new)) }

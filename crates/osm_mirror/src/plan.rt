@@ -76,7 +76,8 @@ impl Plan {
     /// The reason why the line is faulty, or `Memory`.
     fn add_line(&mut self, alloc: Global, line: &str) -> Result<(), PlanReason>
         ensures added { OnOk result (IsLineAdded line.now (parts_of self.old) (parts_of self.new)) }
-        ensures refused { IfErr result (λ reason. (reason ≡ why.Memory) ⊎ LineFault (parts_of self.old) line.now reason) }
+        ensures refused { IfErr result (λ reason. (reason ≡ why.Memory)
+            ⊎ LineFault (parts_of self.old) line.now reason) }
     {
         if line.is_empty() {
             return Ok(());
@@ -91,7 +92,8 @@ impl Plan {
     /// Adds a mirror.
     fn add_mirror(&mut self, keep: Keep) -> Result<(), PlanReason>
         ensures added { OnOk result (IsAdded (parts_of self.old) (line.Mirror keep) (parts_of self.new)) }
-        ensures refused { IfErr result (λ reason. (reason ≡ why.Memory) ⊎ IsLineRefused (parts_of self.old) (line.Mirror keep) reason) }
+        ensures refused { IfErr result (λ reason. (reason ≡ why.Memory)
+            ⊎ IsLineRefused (parts_of self.old) (line.Mirror keep) reason) }
     {
         if !self.steps.is_empty() || !self.writes.is_empty() {
             return Err(PlanReason::BadOrder);
@@ -102,7 +104,8 @@ impl Plan {
     /// Adds a step.
     fn add_step(&mut self, step: Step) -> Result<(), PlanReason>
         ensures added { OnOk result (IsAdded (parts_of self.old) (line.Step step) (parts_of self.new)) }
-        ensures refused { IfErr result (λ reason. (reason ≡ why.Memory) ⊎ IsLineRefused (parts_of self.old) (line.Step step) reason) }
+        ensures refused { IfErr result (λ reason. (reason ≡ why.Memory)
+            ⊎ IsLineRefused (parts_of self.old) (line.Step step) reason) }
     {
         if !self.writes.is_empty() {
             return Err(PlanReason::BadOrder);
@@ -116,7 +119,8 @@ impl Plan {
     /// Adds a file that a mirror writes at the end.
     fn add_write(&mut self, write: PlanWrite) -> Result<(), PlanReason>
         ensures added { OnOk result (IsAdded (parts_of self.old) (line.Write write) (parts_of self.new)) }
-        ensures refused { IfErr result (λ reason. (reason ≡ why.Memory) ⊎ IsLineRefused (parts_of self.old) (line.Write write) reason) }
+        ensures refused { IfErr result (λ reason. (reason ≡ why.Memory)
+            ⊎ IsLineRefused (parts_of self.old) (line.Write write) reason) }
     {
         if write.mirror >= self.mirrors.len() {
             return Err(PlanReason::NoMirror);

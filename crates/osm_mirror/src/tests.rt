@@ -58,12 +58,12 @@ enum Mix {
 }
 
 impl Mix {
-    fn order(self, place: usize) -> Order {
+    fn order(self, index: usize) -> Order {
         match self {
             Mix::AllSorted => Order::Sorted,
             Mix::NoneSorted => Order::Any,
-            Mix::EverySecond => any_if(place % 2 == 0),
-            Mix::OddAny => any_if(place % 2 == 1),
+            Mix::EverySecond => any_if(index % 2 == 0),
+            Mix::OddAny => any_if(index % 2 == 1),
         }
     }
 }
@@ -87,10 +87,10 @@ fn readers<'a>(alloc: Global, files: &'a [&'a [u8]]) -> Vec<SliceIn<'a>> {
 /// Readers of `files`. `mix` chooses those that are read as sorted ones.
 fn mixed<'a>(alloc: Global, files: &'a [&'a [u8]], mix: Mix) -> Vec<InputFile<SliceIn<'a>>> {
     let mut inputs = Vec::new(alloc);
-    for (place, file) in files.iter().enumerate() {
+    for (index, file) in files.iter().enumerate() {
         let _ = inputs.push(InputFile {
             reader: SliceIn::new(*file),
-            order: mix.order(place),
+            order: mix.order(index),
         });
     }
     inputs
@@ -343,7 +343,8 @@ fn byte_order_ties(rt: HostRuntime) {
 const IDS: &[Row] = &[(
     Command::Sort,
     &[b"n3 v1 x1 y1\nn-2 v1 x1 y1\nn0 v1 x1 y1\nn-1 v1 x1 y1\n"],
-    b"n0 v1 dV c0 t i0 u T x1 y1\nn-1 v1 dV c0 t i0 u T x1 y1\nn-2 v1 dV c0 t i0 u T x1 y1\nn3 v1 dV c0 t i0 u T x1 y1\n",
+    b"n0 v1 dV c0 t i0 u T x1 y1\nn-1 v1 dV c0 t i0 u T x1 y1\nn-2 v1 dV c0 t i0 u T x1 y1\n\
+      n3 v1 dV c0 t i0 u T x1 y1\n",
 )];
 
 #[test]
@@ -382,7 +383,8 @@ const PERIODS: &[Row] = &[
     (
         Command::PeriodFilter { from: 15, to: 31 },
         &[P],
-        b"n1 v1 dV c0 t1970-01-01T00:00:10Z i0 u T x1 y1\nn1 v2 dV c0 t1970-01-01T00:00:20Z i0 u T x2 y1\nn1 v3 dD c0 t1970-01-01T00:00:30Z i0 u T x y\n",
+        b"n1 v1 dV c0 t1970-01-01T00:00:10Z i0 u T x1 y1\nn1 v2 dV c0 t1970-01-01T00:00:20Z i0 u T x2 y1\n\
+          n1 v3 dD c0 t1970-01-01T00:00:30Z i0 u T x y\n",
     ),
     (
         Command::PeriodFilter { from: 31, to: 40 },
@@ -582,10 +584,10 @@ impl Input for Dripping<'_> {
         let Some((first, rest)) = self.rest.split_first() else {
             return if self.fails { Err(Broken) } else { Ok(0) };
         };
-        let Some(place) = buffer.first_mut() else {
+        let Some(byte) = buffer.first_mut() else {
             return Ok(0);
         };
-        *place = *first;
+        *byte = *first;
         self.rest = rest;
         Ok(1)
     }
@@ -638,7 +640,7 @@ fn an_input_that_fails_is_named(rt: HostRuntime) {
 }
 
 /// The merge of `files`, which report their bytes, or the run with the selection over them.
-fn told(alloc: Global, files: &[&[u8]], selection: Option<Selection>) -> Vec<u8> {
+fn merge_known(alloc: Global, files: &[&[u8]], selection: Option<Selection>) -> Vec<u8> {
     let mut out = VecOut::new(alloc);
     let outcome = match selection {
         None => run_merge_known(alloc, readers(alloc, files), Format::Opl, &mut out),
@@ -655,13 +657,13 @@ fn told(alloc: Global, files: &[&[u8]], selection: Option<Selection>) -> Vec<u8>
 }
 
 #[test]
-fn inputs_that_tell_what_they_give_are_merged(rt: HostRuntime) {
+fn inputs_that_report_what_they_give_are_merged(rt: HostRuntime) {
     assert_eq!(rt;
-        told(rt.alloc(), &[CREATED, DELETED], None).as_slice(),
+        merge_known(rt.alloc(), &[CREATED, DELETED], None).as_slice(),
         CREATED_THEN_DELETED
     );
     assert_eq!(rt;
-        told(rt.alloc(), &[CREATED_THEN_DELETED], Some(Selection::Newest)).as_slice(),
+        merge_known(rt.alloc(), &[CREATED_THEN_DELETED], Some(Selection::Newest)).as_slice(),
         DELETION
     );
 }

@@ -35,9 +35,9 @@ more_in_two text (x ∷ xs) ys = ap (λ t. 44 ∷ t) (ap (λ t. text x ++ t) (mo
     ∙ sym (append_assoc (text x) (more_text text xs) (more_text text ys)))
 
 -- after a front of the items was appended, the other items remain
-pub more_behind : {X : Type 0} (text : X → List ℕ) (all before now : List ℕ) (items few behind : List X) → items ≡ few ++ behind →
+pub more_after : {X : Type 0} (text : X → List ℕ) (all before now : List ℕ) (items few after : List X) → items ≡ few ++ after →
     all ≡ before ++ more_text text items → now ≡ before ++ more_text text few →
-    all ≡ now ++ more_text text behind
-more_behind text all before now items few behind i a n =
-    a ∙ ap (λ xs. before ++ more_text text xs) i ∙ ap (λ t. before ++ t) (more_in_two text few behind)
-    ∙ sym (append_assoc before (more_text text few) (more_text text behind)) ∙ ap (λ t. t ++ more_text text behind) (sym n)
+    all ≡ now ++ more_text text after
+more_after text all before now items few after i a n =
+    a ∙ ap (λ xs. before ++ more_text text xs) i ∙ ap (λ t. before ++ t) (more_in_two text few after)
+    ∙ sym (append_assoc before (more_text text few) (more_text text after)) ∙ ap (λ t. t ++ more_text text after) (sym n)

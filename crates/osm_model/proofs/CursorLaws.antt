@@ -10,7 +10,7 @@ use Rattle.osm_model.specs.declared.members.Member.{Member}
 use Rattle.osm_model.specs.declared.body.Body.{Body}
 use Rattle.osm_model.specs.declared.body.Body.TheVariants as body
 use Rattle.osm_model.specs.declared.line_bytes.Continuation.{Continuation}
-use Rattle.osm_model.specs.declared.line_bytes.Place.{Place}
+use Rattle.osm_model.specs.declared.line_bytes.LinePosition.{LinePosition}
 use Rattle.osm_model.specs.Kind.{kind_letter}
 use Rattle.osm_model.specs.Decimal.{integer_text}
 use Rattle.osm_model.specs.Escape.{escape, escape_char, is_raw, code_escape}
@@ -40,7 +40,7 @@ text_more bs rest given piece c u same e is =
     (ap escape (chars_past_char bs rest c v e) ∙ ap (λ xs. xs ++ escape (chars rest)) (sym is), rw is (escape_char-full c))
 
 -- the rest of a line, by the two parts of a `Continuation`
-pub coming_is : (v : VersionData) (next : Continuation) (cs : List ℕ) (p : Place) → chars next.text.now ≡ cs → next.place ≡ p →
+pub coming_is : (v : VersionData) (next : Continuation) (cs : List ℕ) (p : LinePosition) → chars next.text.now ≡ cs → next.position ≡ p →
     from_next v next ≡ escape cs ++ bytes_from v p
 coming_is v next cs p t e = λ i. escape (t i) ++ bytes_from v (e i)
 

@@ -77,10 +77,10 @@ padded_pair n small =
     ∙ (λ i. digit_char-decimal (n / 10) (omega arith) i ∷ digit_char-decimal (n % 10) (omega arith) i ∷ [])
 
 -- the last two digits, split off
-pub padded_behind : (width n : ℕ) → pad_zeros (suc (suc (suc width))) (number_text n) ≡ pad_zeros (suc width) (number_text (n / 100))
+pub padded_after : (width n : ℕ) → pad_zeros (suc (suc (suc width))) (number_text n) ≡ pad_zeros (suc width) (number_text (n / 100))
     ++ pad_zeros 2 (number_text (n % 100))
 unfolding number_text
-padded_behind width n =
+padded_after width n =
     let first : n / 10 / 10 ≡ n / 100 = omega arith in
     let third : n / 10 % 10 ≡ n % 100 / 10 = omega arith in
     let last : n % 10 ≡ n % 100 % 10 = omega arith in
@@ -97,7 +97,7 @@ padded_behind width n =
 
 -- a number in four digits: the quotient and the remainder by 100, in two digits each
 pub padded_pairs : (n : ℕ) → pad_zeros 4 (number_text n) ≡ pad_zeros 2 (number_text (n / 100)) ++ pad_zeros 2 (number_text (n % 100))
-padded_pairs n = padded_behind 1 n
+padded_pairs n = padded_after 1 n
 
 -- a number in seven digits: three pairs of digits and the last digit
 pub padded_seven : (n : ℕ) →
@@ -105,7 +105,7 @@ pub padded_seven : (n : ℕ) →
     ++ (pad_zeros 2 (number_text (n / 1000 % 100)) ++ (pad_zeros 2 (number_text (n / 10 % 100)) ++ (48 + n % 10) ∷ []))
 unfolding number_text
 padded_seven n =
-    let pairs = padded_behind 3 (n / 10) in
+    let pairs = padded_after 3 (n / 10) in
     let high : n / 10 / 100 ≡ n / 1000 = omega arith in
     let top : n / 1000 / 100 ≡ n / 100_000 = omega arith in
     let last : digit_char (n % 10) ≡ 48 + n % 10 = digit_char-decimal (n % 10) (omega arith) in
@@ -114,7 +114,8 @@ padded_seven n =
     ∙ ap (λ t. t ++ pad_zeros 2 (numeral 10 (n / 10 % 100))) first_four in
     pad_zeros-step 10 5 n (omega arith)
     ∙ (λ i. first_six i ++ last i ∷ [])
-    ∙ append_assoc (pad_zeros 2 (numeral 10 (n / 100_000)) ++ pad_zeros 2 (numeral 10 (n / 1000 % 100))) (pad_zeros 2 (numeral 10 (n / 10 % 100)))
+    ∙ append_assoc (pad_zeros 2 (numeral 10 (n / 100_000)) ++ pad_zeros 2 (numeral 10 (n / 1000 % 100)))
+    (pad_zeros 2 (numeral 10 (n / 10 % 100)))
     ((48 + n % 10) ∷ [])
     ∙ append_assoc (pad_zeros 2 (numeral 10 (n / 100_000))) (pad_zeros 2 (numeral 10 (n / 1000 % 100)))
     (pad_zeros 2 (numeral 10 (n / 10 % 100)) ++ (48 + n % 10) ∷ [])

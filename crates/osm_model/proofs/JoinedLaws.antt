@@ -48,7 +48,7 @@ map_lack c text h (x ∷ xs) = (h x, map_lack c text h xs)
 pub record IsItemText {X : Type 0} (c : ℕ) (text : X → List ℕ) : Type 0 where
   pub lacks : (x : X) → Lacks c (text x)
   pub full : (x : X) → IsFull (text x)
-  pub tells : (x y : X) → text x ≡ text y → x ≡ y
+  pub determines : (x y : X) → text x ≡ text y → x ≡ y
 
 -- Two lists of items are equal if their texts are joined to one text.
 pub items_injective : {X : Type 0} (c : ℕ) (text : X → List ℕ) → IsItemText c text → (xs ys : List X) →
@@ -57,7 +57,7 @@ items_injective c text is [] [] e = refl
 items_injective c text is [] (y ∷ ys) e = absurd (full_joined c (text y) (map text ys) (is.full y) (sym e))
 items_injective c text is (x ∷ xs) [] e = absurd (full_joined c (text x) (map text xs) (is.full x) e)
 items_injective c text is (x ∷ xs) (y ∷ ys) e =
-    map_injective text is.tells (x ∷ xs) (y ∷ ys)
+    map_injective text is.determines (x ∷ xs) (y ∷ ys)
     (joined_injective c (text x) (text y) (map text xs) (map text ys) (map_lack c text is.lacks (x ∷ xs))
     (map_lack c text is.lacks (y ∷ ys)) e)
 

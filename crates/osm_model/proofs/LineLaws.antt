@@ -51,8 +51,8 @@ kind_apart Relation s = letter_apart 114 s (omega arith)
 pub tag_lacks : {c : ℕ} → IsSeparator c → 61 ≢ c → (t : Tag) → Lacks c (tag_text t)
 tag_lacks s n t = lacks_append _ (escape t.key) (61 ∷ escape t.value) (escape_lacks t.key s) (n, escape_lacks t.value s)
 
-tag_tells : (t u : Tag) → tag_text t ≡ tag_text u → t ≡ u
-tag_tells t u e =
+tag_text_determines : (t u : Tag) → tag_text t ≡ tag_text u → t ≡ u
+tag_text_determines t u e =
     let both = split_same 61 (escape t.key) (escape u.key) _ _ (escape_lacks t.key equals) (escape_lacks u.key equals) e in
     let key = escape_injective t.key u.key both.0 in
     let value = escape_injective t.value u.value both.1 in
@@ -62,7 +62,7 @@ tag_text-IsItemText : IsItemText 44 tag_text
 tag_text-IsItemText = record {
   lacks = tag_lacks comma (differs 61 44 (omega arith));
   full = λ t. full_append (escape t.key) 61 (escape t.value);
-  tells = tag_tells;
+  determines = tag_text_determines;
 }
 
 comma_no_space : ◌≢◌ {A = ℕ} 44 32
@@ -75,11 +75,11 @@ tags_lack ts = items_lack 44 32 tag_text comma_no_space (tag_lacks space (differ
 pub reference_lacks : {c : ℕ} → IsSeparator c → (r : ℤ) → Lacks c (reference_text r)
 reference_lacks s r = (letter_apart 110 s (omega arith), integer_lacks r s)
 
-reference_tells : (x y : ℤ) → reference_text x ≡ reference_text y → x ≡ y
-reference_tells x y e = let same : integer_text x ≡ integer_text y = cc in integer_injective x y same
+reference_text_determines : (x y : ℤ) → reference_text x ≡ reference_text y → x ≡ y
+reference_text_determines x y e = let same : integer_text x ≡ integer_text y = cc in integer_injective x y same
 
 reference_text-IsItemText : IsItemText 44 reference_text
-reference_text-IsItemText = record { lacks = reference_lacks comma; full = λ r. tt; tells = reference_tells }
+reference_text-IsItemText = record { lacks = reference_lacks comma; full = λ r. tt; determines = reference_text_determines }
 
 pub references_lack : (rs : List ℤ) → Lacks 32 (list_text reference_text rs)
 references_lack rs = items_lack 44 32 reference_text comma_no_space (reference_lacks space) rs
@@ -93,8 +93,8 @@ pub member_lacks : {c : ℕ} → IsSeparator c → 64 ≢ c → (m : Member) →
 member_lacks s n m =
     lacks_append _ (kind_letter m.kind ∷ integer_text m.id) (64 ∷ escape m.role) (object_lacks s m.kind m.id) (n, escape_lacks m.role s)
 
-member_tells : (m n : Member) → member_text m ≡ member_text n → m ≡ n
-member_tells m n e =
+member_text_determines : (m n : Member) → member_text m ≡ member_text n → m ≡ n
+member_text_determines m n e =
     let both = split_same 64 (kind_letter m.kind ∷ integer_text m.id) (kind_letter n.kind ∷ integer_text n.id) (escape m.role)
     (escape n.role)
     (object_lacks at m.kind m.id) (object_lacks at n.kind n.id) e in
@@ -110,7 +110,7 @@ member_text-IsItemText : IsItemText 44 member_text
 member_text-IsItemText = record {
   lacks = member_lacks comma (differs 64 44 (omega arith));
   full = λ m. tt;
-  tells = member_tells;
+  determines = member_text_determines;
 }
 
 pub members_lack : (ms : List Member) → Lacks 32 (list_text member_text ms)

@@ -145,7 +145,8 @@ pad_zeros-small base width n low small =
     ∙ ap (λ t. t ++ digit_char n ∷ []) (sym (pad_zeros-zero width))
 
 -- a padded number ends with the digit of its remainder
-pub pad_zeros-step : (base width n : ℕ) → 2 ≤ base → pad_zeros (suc (suc width)) (numeral base n) ≡ pad_zeros (suc width) (numeral base (n / base))
+pub pad_zeros-step : (base width n : ℕ) → 2 ≤ base →
+    pad_zeros (suc (suc width)) (numeral base n) ≡ pad_zeros (suc width) (numeral base (n / base))
     ++ digit_char (n % base) ∷ []
 pad_zeros-step base width n low =
     ⊎_elim

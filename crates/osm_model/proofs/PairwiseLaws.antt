@@ -14,22 +14,22 @@ module _ {X Y : Type 0} (R : X → Y → Type 0) where
   pub record Parted (front : List X) (x : X) (ys : List Y) : Type 0 where
     pub before : List Y
     pub here : Y
-    pub behind : List Y
-    pub parted : ys ≡ before ++ here ∷ behind
+    pub after : List Y
+    pub parted : ys ≡ before ++ here ∷ after
     pub fronts : Pairwise R front before
     pub this : R x here
 
   -- A list that pairs with a list that has `x` inside splits where `x` does.
   pub pairwise_parted : (front rest : List X) (x : X) (ys : List Y) → Pairwise R (front ++ x ∷ rest) ys → Parted front x ys
   pairwise_parted [] rest x [] all = absurd all
-  pairwise_parted [] rest x (y ∷ ys) all = record { before = []; here = y; behind = ys; parted = refl; fronts = tt; this = all.0 }
+  pairwise_parted [] rest x (y ∷ ys) all = record { before = []; here = y; after = ys; parted = refl; fronts = tt; this = all.0 }
   pairwise_parted (w ∷ front) rest x [] all = absurd all
   pairwise_parted (w ∷ front) rest x (y ∷ ys) all =
       let p = pairwise_parted front rest x ys all.1 in
       record {
         before = y ∷ p.before;
         here = p.here;
-        behind = p.behind;
+        after = p.after;
         parted = ap (λ zs. y ∷ zs) p.parted;
         fronts = (all.0, p.fronts);
         this = p.this;

@@ -142,7 +142,7 @@ next_raw : (bs rest : List ℕ) (n c : ℕ) → IsPlainTo bs n → drop n bs ≡
     is_raw c ≡ true →
     IsPlainTo bs (n + len_utf8 c)
 next_raw bs rest n c so_far is chars_are utf8 raw =
-    let behind : drop (n + len_utf8 c) bs ≡ rest = drop_past_char bs rest n c is in
+    let after : drop (n + len_utf8 c) bs ≡ rest = drop_past_char bs rest n c is in
     let whole : bs ≡ take n bs ++ (encode c ++ rest) = sym (take-append-drop n bs) ∙ ap (λ t. take n bs ++ t) is in
     let len : length (take n bs ++ encode c) ≡ n + len_utf8 c = length-append (take n bs) (encode c)
     ∙ (λ i. length-take-le n bs so_far.within i + length-encode c i) in
@@ -154,14 +154,14 @@ next_raw bs rest n c so_far is chars_are utf8 raw =
     ∙ (λ i. length-take-le n bs so_far.within i + (length-append (encode c) rest ∙ ap (λ k. k + length rest) (length-encode c)) i) in
     record {
       within = omega arith;
-      utf8 = subst IsUtf8 (sym behind) utf8;
+      utf8 = subst IsUtf8 (sym after) utf8;
       sum = so_far.sum ∙ ap (λ t. n + raw_length t) chars_are ∙ ap (λ k. n + k) (raw_length-raw c (chars rest) raw)
           ∙ sym (add_assoc n (len_utf8 c) (raw_length (chars rest)))
-          ∙ ap (λ t. n + len_utf8 c + raw_length (chars t)) (sym behind);
+          ∙ ap (λ t. n + len_utf8 c + raw_length (chars t)) (sym after);
       raw = so_far.raw ∙ ap (λ t. take n bs ++ escape t) chars_are
           ∙ ap (λ t. take n bs ++ (t ++ escape (chars rest))) (escape_char-raw c raw)
           ∙ sym (append_assoc (take n bs) (encode c) (escape (chars rest)))
-          ∙ (λ i. sym front i ++ escape (chars (sym behind i)));
+          ∙ (λ i. sym front i ++ escape (chars (sym after i)));
     }
 
 -- A raw character after raw characters extends them.
@@ -204,17 +204,17 @@ width-other width lead next len is no_byte no_lead no_latin = sym (⊎_elim
     (λ high. is.other high (grind (arith, nat_tests)))
     (cases_lt lead 0x80))
 
-abbrev tells_raw_bytes : ℕ → Bool
-tells_raw_bytes zero = true
-tells_raw_bytes (suc byte) = eqb (get_or RAW_BYTES byte 0) (if is_raw byte && ltb byte 0x80 then 1 else 0) && tells_raw_bytes byte
+abbrev shows_raw_bytes : ℕ → Bool
+shows_raw_bytes zero = true
+shows_raw_bytes (suc byte) = eqb (get_or RAW_BYTES byte 0) (if is_raw byte && ltb byte 0x80 then 1 else 0) && shows_raw_bytes byte
 
-raw_bytes_below : (n byte : ℕ) → T (tells_raw_bytes n) → byte < n →
+raw_bytes_below : (n byte : ℕ) → T (shows_raw_bytes n) → byte < n →
     get_or RAW_BYTES byte 0 ≡ (if is_raw byte && ltb byte 0x80 then 1 else 0)
 raw_bytes_below zero byte t h = absurd (omega arith)
 raw_bytes_below (suc n) byte t h =
     elim (eq-zero-or-pos (n - byte)) [
-      | inl z ↦ let e : byte ≡ n = omega arith in rw e (eqb→eq _ _ (and_l _ (tells_raw_bytes n) t))
-      | inr g ↦ raw_bytes_below n byte (and_r _ (tells_raw_bytes n) t) (omega arith)
+      | inl z ↦ let e : byte ≡ n = omega arith in rw e (eqb→eq _ _ (and_l _ (shows_raw_bytes n) t))
+      | inr g ↦ raw_bytes_below n byte (and_r _ (shows_raw_bytes n) t) (omega arith)
     ]
 
 -- the table shows for each byte whether it is raw

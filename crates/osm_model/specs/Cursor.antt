@@ -3,8 +3,8 @@ use Rattle.std.specs.Prelude.{◌≡◌, ℕ, Bool, true, false, List, [], ◌�
 use Rattle.std.specs.Str.{chars}
 use Rattle.osm_model.specs.declared.line_bytes.Field.{Field}
 use Rattle.osm_model.specs.declared.line_bytes.Field.TheVariants as field
-use Rattle.osm_model.specs.declared.line_bytes.Place.{Place}
-use Rattle.osm_model.specs.declared.line_bytes.Place.TheVariants as place
+use Rattle.osm_model.specs.declared.line_bytes.LinePosition.{LinePosition}
+use Rattle.osm_model.specs.declared.line_bytes.LinePosition.TheVariants as position
 use Rattle.osm_model.specs.declared.line_bytes.Continuation.{Continuation}
 use Rattle.osm_model.specs.declared.line_bytes.Chunk.{Chunk}
 use Rattle.osm_model.specs.declared.line_bytes.Chunk.TheVariants as chunk
@@ -70,27 +70,29 @@ from_field v field.Tags = from_tags v
 from_field v field.Kind = from_kind v
 
 -- the line from a position on
-abbrev pub bytes_from : VersionData → Place → List ℕ
-bytes_from v (place.Field f) = from_field v f
-bytes_from v (place.Equals value tags) = codes "=" ++ (escape value.now ++ (more_text tag_text tags.now ++ from_kind v))
-bytes_from v (place.MoreTags tags) = more_text tag_text tags.now ++ from_kind v
-bytes_from v (place.Latitude lat) = codes " y" ++ coordinate_text lat
-bytes_from v (place.References is_first ids) = items_text is_first reference_text ids.now
-bytes_from v (place.Members is_first members) = items_text is_first member_text members.now
-bytes_from v (place.At role members) = codes "@" ++ (escape role.now ++ more_text member_text members.now)
-bytes_from v place.End = []
+abbrev pub bytes_from : VersionData → LinePosition → List ℕ
+bytes_from v (position.Field f) = from_field v f
+bytes_from v (position.Equals value tags) = codes "="
+    ++ (escape value.now ++ (more_text tag_text tags.now ++ from_kind v))
+bytes_from v (position.MoreTags tags) = more_text tag_text tags.now ++ from_kind v
+bytes_from v (position.Latitude lat) = codes " y" ++ coordinate_text lat
+bytes_from v (position.References is_first ids) = items_text is_first reference_text ids.now
+bytes_from v (position.Members is_first members) = items_text is_first member_text members.now
+bytes_from v (position.At role members) = codes "@" ++ (escape role.now ++ more_text member_text members.now)
+bytes_from v position.End = []
 
 -- a text, and then the line from a position on
 abbrev pub from_next : VersionData → Continuation → List ℕ
-from_next v next = escape (chars next.text.now) ++ bytes_from v next.place
+from_next v next = escape (chars next.text.now) ++ bytes_from v next.position
 
 -- `bytes` are those of the buffer, at least one, and then those of `next`
 abbrev pub Emits : VersionData → List ℕ → SmallBuffer → Continuation → Type 0
-Emits v bytes small_buffer next = (bytes ≡ bytes_left small_buffer ++ from_next v next) × (0 < length (bytes_left small_buffer))
+Emits v bytes small_buffer next = (bytes ≡ bytes_left small_buffer ++ from_next v next) ×
+    (0 < length (bytes_left small_buffer))
 
--- as `Emits`, with the continuation in `answer`; but without bytes `answer` is `None`
+-- as `Emits`, with the continuation in `result`; but without bytes `result` is `None`
 abbrev pub EmitsOrEnds : VersionData → List ℕ → SmallBuffer → Option Continuation → Type 0
-EmitsOrEnds v bytes small_buffer answer = MatchOption answer (bytes ≡ []) (λ next. Emits v bytes small_buffer next)
+EmitsOrEnds v bytes small_buffer result = MatchOption result (bytes ≡ []) (λ next. Emits v bytes small_buffer next)
 
 -- the bytes of a chunk
 abbrev pub chunk_text : Chunk → SmallBuffer → List ℕ

@@ -4,4 +4,4 @@ use Rattle.std.specs.Prelude.{◌≡◌, ℕ, List, ◌++◌}
 -- `now` is `before`, followed by other bytes
 pub record Extends (before now : List ℕ) : Type 0 where
   pub rest : List ℕ
-  pub behind : now ≡ before ++ rest
+  pub appended : now ≡ before ++ rest

@@ -269,9 +269,9 @@ fn append_references(ids: &[i64], out: &mut Vec<u8>) -> Result<(), Memory>
     first.append_after(b" N", out)?;
     let mut rest = more;
     while !rest.is_empty() {
-        let (few, behind) = rest.split_at(rest.len().min(REFERENCES_PER_STRETCH));
+        let (few, after) = rest.split_at(rest.len().min(REFERENCES_PER_STRETCH));
         append_few_references(few, out)?;
-        rest = behind;
+        rest = after;
     }
     Ok(())
 }

@@ -109,7 +109,7 @@ impl Body {
 
     /// Replaces the body. This is the assignment `*self = body`, but faster if the old body holds no memory.
     #[inline(always)]
-    pub fn replace(&mut self, body: Body)
+    pub fn overwrite(&mut self, body: Body)
         ensures { self.new ≡ body }
     {
         if self.has_memory() {

@@ -9,7 +9,7 @@ use crate::small_buffer::SmallBuffer;
 pub fn strip_escaped(bytes: &[u8], c: char) -> Option<&[u8]>
     ensures { MatchOption result
         ((rest : List ℕ) → bytes.now ≢ escape_char c ++ rest)
-        (λ behind. bytes.now ≡ escape_char c ++ behind.now) }
+        (λ after. bytes.now ≡ escape_char c ++ after.now) }
 {
     let mut small_buffer = SmallBuffer::new();
     small_buffer.set_escaped(c);

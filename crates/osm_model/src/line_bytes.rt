@@ -7,7 +7,8 @@ ghost use Rattle.osm_model.specs.Data.{VersionData, tags_of};
 ghost use Rattle.osm_model.specs.Escape.{escape};
 ghost use Rattle.osm_model.specs.SmallBuffer.{bytes_left};
 ghost use Rattle.osm_model.specs.Line.{list_text, tag_text, reference_text, member_text, line};
-ghost use Rattle.osm_model.specs.Cursor.{bytes_from, from_field, from_kind, from_next, more_text, items_text, chunk_text, chunk_of};
+ghost use Rattle.osm_model.specs.Cursor.{bytes_from, from_field, from_kind, from_next, more_text, items_text};
+ghost use Rattle.osm_model.specs.Cursor.{chunk_text, chunk_of};
 ghost use Rattle.osm_model.specs.Cursor.{after_chunk, remaining_bytes, Emits, EmitsOrEnds};
 
 use crate::escape::raw_length;
@@ -31,7 +32,7 @@ enum Field {
 
 /// A position in a line that isn't inside a text.
 #[derive(Clone, Copy)]
-enum Place<'a> {
+enum LinePosition<'a> {
     /// Before the space of a field, or at the very beginning.
     Field(Field),
     /// Between the key of a tag and its value.
@@ -70,24 +71,24 @@ enum Place<'a> {
 #[derive(Clone, Copy)]
 struct Continuation<'a> {
     text: &'a str,
-    place: Place<'a>,
+    position: LinePosition<'a>,
 }
 
 impl<'a> Continuation<'a> {
-    fn at(place: Place<'a>) -> Continuation<'a>
+    fn at(position: LinePosition<'a>) -> Continuation<'a>
         ensures text { chars result.text.now ≡ [] }
-        ensures place { result.place ≡ place.entry }
+        ensures position { result.position ≡ position.entry }
     {
-        Continuation { text: "", place }
+        Continuation { text: "", position }
     }
 
-    fn with_text(text: &'a Text, place: Place<'a>) -> Continuation<'a>
+    fn with_text(text: &'a Text, position: LinePosition<'a>) -> Continuation<'a>
         ensures text { chars result.text.now ≡ text.now }
-        ensures place { result.place ≡ place.entry }
+        ensures position { result.position ≡ position.entry }
     {
         Continuation {
             text: text.as_str(),
-            place,
+            position,
         }
     }
 }
@@ -103,32 +104,32 @@ fn emit_field<'a>(
     match field {
         Field::Object => {
             small_buffer.set_integer(&[version.kind().letter()], version.id());
-            Continuation::at(Place::Field(Field::Number))
+            Continuation::at(LinePosition::Field(Field::Number))
         }
         Field::Number => {
             small_buffer.set_number(b" v", version.number());
-            Continuation::at(Place::Field(Field::Visible))
+            Continuation::at(LinePosition::Field(Field::Visible))
         }
         Field::Visible => {
             let deleted = version.body().is_deleted();
             small_buffer.set_bytes(if deleted { b" dD" } else { b" dV" });
-            Continuation::at(Place::Field(Field::Changeset))
+            Continuation::at(LinePosition::Field(Field::Changeset))
         }
         Field::Changeset => {
             small_buffer.set_number(b" c", version.changeset());
-            Continuation::at(Place::Field(Field::Time))
+            Continuation::at(LinePosition::Field(Field::Time))
         }
         Field::Time => {
             small_buffer.set_time(b" t", version.time());
-            Continuation::at(Place::Field(Field::Uid))
+            Continuation::at(LinePosition::Field(Field::Uid))
         }
         Field::Uid => {
             small_buffer.set_number(b" i", version.uid());
-            Continuation::at(Place::Field(Field::User))
+            Continuation::at(LinePosition::Field(Field::User))
         }
         Field::User => {
             small_buffer.set_bytes(b" u");
-            Continuation::with_text(version.user(), Place::Field(Field::Tags))
+            Continuation::with_text(version.user(), LinePosition::Field(Field::Tags))
         }
         Field::Tags => {
             small_buffer.set_bytes(b" T");
@@ -145,12 +146,12 @@ fn first_tag(version: &Version) -> Continuation<'_>
     match version.body().tags().split_first() {
         Some((tag, more)) => Continuation::with_text(
             &tag.key,
-            Place::Equals {
+            LinePosition::Equals {
                 value: &tag.value,
                 more,
             },
         ),
-        None => Continuation::at(Place::Field(Field::Kind)),
+        None => Continuation::at(LinePosition::Field(Field::Kind)),
     }
 }
 
@@ -167,7 +168,7 @@ fn emit_next_tag<'a>(
             small_buffer.set_bytes(b",");
             Continuation::with_text(
                 &tag.key,
-                Place::Equals {
+                LinePosition::Equals {
                     value: &tag.value,
                     more,
                 },
@@ -184,22 +185,22 @@ fn emit_kind_field<'a>(version: &'a Version, small_buffer: &mut SmallBuffer) -> 
     match version.body() {
         Body::Deleted(kind) => {
             small_buffer.set_bytes(kind.empty_fields());
-            Continuation::at(Place::End)
+            Continuation::at(LinePosition::End)
         }
         Body::Node { lon, lat, .. } => {
             small_buffer.set_coordinate(b" x", *lon);
-            Continuation::at(Place::Latitude { lat: *lat })
+            Continuation::at(LinePosition::Latitude { lat: *lat })
         }
         Body::Way { refs, .. } => {
             small_buffer.set_bytes(b" N");
-            Continuation::at(Place::References {
+            Continuation::at(LinePosition::References {
                 is_first: true,
                 ids: refs.as_slice(),
             })
         }
         Body::Relation { members, .. } => {
             small_buffer.set_bytes(b" M");
-            Continuation::at(Place::Members {
+            Continuation::at(LinePosition::Members {
                 is_first: true,
                 members: members.as_slice(),
             })
@@ -224,7 +225,7 @@ fn emit_reference<'a>(
         },
         *id,
     );
-    Some(Continuation::at(Place::References {
+    Some(Continuation::at(LinePosition::References {
         is_first: false,
         ids: more,
     }))
@@ -241,45 +242,45 @@ fn emit_member<'a>(
     let (member, more) = members.split_first()?;
     let mark = [b',', member.kind.letter()];
     small_buffer.set_integer(if is_first { &mark[1..] } else { &mark[..] }, member.id);
-    Some(Continuation::at(Place::At {
+    Some(Continuation::at(LinePosition::At {
         role: &member.role,
         more,
     }))
 }
 
-/// Fills `small_buffer` with the bytes at `place`, and returns the rest of the line. Returns `None` at the end of the
-/// line.
+/// Fills `small_buffer` with the bytes at `position`, and returns the rest of the line. Returns `None` at the end of
+/// the line.
 fn emit<'a>(
     version: &'a Version,
-    place: Place<'a>,
+    position: LinePosition<'a>,
     small_buffer: &mut SmallBuffer,
 ) -> Option<Continuation<'a>>
-    ensures { EmitsOrEnds version.now (bytes_from version.now place.entry) small_buffer.new result }
+    ensures { EmitsOrEnds version.now (bytes_from version.now position.entry) small_buffer.new result }
 {
-    match place {
-        Place::Field(field) => Some(emit_field(version, field, small_buffer)),
-        Place::Equals { value, more } => {
+    match position {
+        LinePosition::Field(field) => Some(emit_field(version, field, small_buffer)),
+        LinePosition::Equals { value, more } => {
             small_buffer.set_bytes(b"=");
-            Some(Continuation::with_text(value, Place::MoreTags { tags: more }))
+            Some(Continuation::with_text(value, LinePosition::MoreTags { tags: more }))
         }
-        Place::MoreTags { tags } => Some(emit_next_tag(version, tags, small_buffer)),
-        Place::Latitude { lat } => {
+        LinePosition::MoreTags { tags } => Some(emit_next_tag(version, tags, small_buffer)),
+        LinePosition::Latitude { lat } => {
             small_buffer.set_coordinate(b" y", lat);
-            Some(Continuation::at(Place::End))
+            Some(Continuation::at(LinePosition::End))
         }
-        Place::References { is_first, ids } => emit_reference(is_first, ids, small_buffer),
-        Place::Members { is_first, members } => emit_member(is_first, members, small_buffer),
-        Place::At { role, more } => {
+        LinePosition::References { is_first, ids } => emit_reference(is_first, ids, small_buffer),
+        LinePosition::Members { is_first, members } => emit_member(is_first, members, small_buffer),
+        LinePosition::At { role, more } => {
             small_buffer.set_bytes(b"@");
             Some(Continuation::with_text(
                 role,
-                Place::Members {
+                LinePosition::Members {
                     is_first: false,
                     members: more,
                 },
             ))
         }
-        Place::End => None,
+        LinePosition::End => None,
     }
 }
 
@@ -330,7 +331,7 @@ impl Version {
             version: self,
             small_buffer: SmallBuffer::new(),
             chunk: Chunk::SmallBuffer,
-            next: Continuation::at(Place::Field(Field::Object)),
+            next: Continuation::at(LinePosition::Field(Field::Object)),
         }
     }
 }
@@ -347,7 +348,7 @@ impl<'a> LineBytes<'a> {
             self.next.text = text;
             return true;
         }
-        let Some(next) = emit(self.version, self.next.place, &mut self.small_buffer) else {
+        let Some(next) = emit(self.version, self.next.position, &mut self.small_buffer) else {
             self.chunk = Chunk::Plain(&[]);
             return false;
         };
@@ -371,7 +372,7 @@ impl<'a> LineBytes<'a> {
         ensures chunk { MatchOption result
             ((chunk_of self.old ≡ []) × (chunk_of self.new ≡ []))
             (λ byte. chunk_of self.old ≡ byte ∷ chunk_of self.new) }
-        ensures behind { after_chunk self.new ≡ after_chunk self.old }
+        ensures rest { after_chunk self.new ≡ after_chunk self.old }
     {
         match self.chunk {
             Chunk::SmallBuffer => self.small_buffer.take(),

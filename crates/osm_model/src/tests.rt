@@ -129,7 +129,7 @@ fn line(alloc: Global, version: &Version) -> Result<Vec<u8>, Fail> {
 }
 
 #[test]
-fn a_version_tells_its_data(rt: HostRuntime) -> Result<(), Fail> {
+fn a_version_shows_its_data(rt: HostRuntime) -> Result<(), Fail> {
     let v = texts(rt.alloc())?;
     assert_eq!(rt; (v.id(), v.number(), v.changeset(), v.uid()), (7, 1, 1, 1));
     assert_eq!(rt; (v.kind(), v.time()), (Kind::Relation, Some(1)));
@@ -138,7 +138,7 @@ fn a_version_tells_its_data(rt: HostRuntime) -> Result<(), Fail> {
 }
 
 #[test]
-fn a_version_tells_its_body(rt: HostRuntime) -> Result<(), Fail> {
+fn a_version_shows_its_body(rt: HostRuntime) -> Result<(), Fail> {
     let v = texts(rt.alloc())?;
     assert_eq!(rt;
         (v.body().kind(), v.body().is_deleted()),
@@ -258,14 +258,14 @@ fn parts_are_filled_in_place(rt: HostRuntime) -> Result<(), Fail> {
     name.copy_into(&mut parts.meta.user)?;
     let refs = References::from_vec(vec![in alloc; 3, -1]?);
     let tags = no_tags(alloc);
-    parts.body.replace(Body::Way { refs, tags });
-    parts.body.replace(Body::Deleted(Kind::Way));
+    parts.body.overwrite(Body::Way { refs, tags });
+    parts.body.overwrite(Body::Deleted(Kind::Way));
     assert!(rt; first_fault(parts.id, &parts.meta, &parts.body).is_none());
     let way = Version::from_checked_parts(parts);
     assert_eq!(rt; way.user().as_str(), name.as_str());
     let mut meta = number(alloc, 2);
     meta.time = Some(9);
-    meta.user.replace(name);
+    meta.user.overwrite(name);
     let same = Version::new(alloc, 7, meta, Body::Deleted(Kind::Way))?;
     assert_eq!(rt; way, same);
     Ok(())

@@ -229,7 +229,7 @@ impl Text {
 
     /// Replaces the text. This is the assignment `*self = text`, but faster if the old text holds no memory of its own.
     #[inline(always)]
-    pub fn replace(&mut self, text: Text)
+    pub fn overwrite(&mut self, text: Text)
         ensures { self.new ≡ text }
     {
         if self.has_memory() {
@@ -247,16 +247,16 @@ impl Text {
         *self = Text::new();
     }
 
-    /// Replaces the text `place` by a copy of this text, as [`Text::replace`] does.
+    /// Replaces the text `target` by a copy of this text, as [`Text::overwrite`] does.
     ///
     /// # Errors
     ///
     /// Only out of memory.
     #[inline(always)]
-    pub fn copy_into(&self, place: &mut Text) -> Result<(), Memory>
-        ensures { OnOk result (place.new ≡ self.now) }
+    pub fn copy_into(&self, target: &mut Text) -> Result<(), Memory>
+        ensures { OnOk result (target.new ≡ self.now) }
     {
-        match (&self.storage, &mut place.storage) {
+        match (&self.storage, &mut target.storage) {
             (Storage::InlineRaw(plain), Storage::InlineRaw(own)) => {
                 *own = *plain;
                 Ok(())
@@ -265,17 +265,17 @@ impl Text {
                 *own = *string;
                 Ok(())
             }
-            _ => self.overwrite_with_copy(place),
+            _ => self.overwrite_with_copy(target),
         }
     }
 
-    /// Replaces the text `place` by a new copy. [`Text::copy_into`] calls it unless the value itself holds the bytes of
-    /// both texts, in the same form.
+    /// Replaces the text `target` by a new copy. [`Text::copy_into`] calls it unless the value itself holds the bytes
+    /// of both texts, in the same form.
     #[inline(never)]
-    fn overwrite_with_copy(&self, place: &mut Text) -> Result<(), Memory>
-        ensures { OnOk result (place.new ≡ self.now) }
+    fn overwrite_with_copy(&self, target: &mut Text) -> Result<(), Memory>
+        ensures { OnOk result (target.new ≡ self.now) }
     {
-        place.replace(self.copy()?);
+        target.overwrite(self.copy()?);
         Ok(())
     }
 

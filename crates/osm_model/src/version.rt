@@ -166,7 +166,7 @@ impl Parts {
         self.id = id;
         // The replaced metadata holds no memory, so it is forgotten and not dropped.
         mem::forget(mem::replace(&mut self.meta, meta));
-        self.body.replace(body);
+        self.body.overwrite(body);
     }
 
     /// Completes the parts of a version: sets the kind, sorts the tags and drops repeats.

@@ -35,22 +35,22 @@ impl Given {
         Ok(Given { words, files })
     }
 
-    /// The word at the index `place`.
-    pub fn word(&self, place: usize) -> Result<&str> {
-        match self.words.get(place) {
+    /// The word at the index `index`.
+    pub fn word(&self, index: usize) -> Result<&str> {
+        match self.words.get(index) {
             Some(word) => Ok(word.as_str()),
             None => bail!("a word is missing"),
         }
     }
 
-    /// The number of seconds in the word at the index `place`.
-    pub fn time(&self, place: usize) -> Result<u32> {
-        Ok(self.word(place)?.parse::<u32>()?)
+    /// The number of seconds in the word at the index `index`.
+    pub fn time(&self, index: usize) -> Result<u32> {
+        Ok(self.word(index)?.parse::<u32>()?)
     }
 
-    /// The format that the word at the index `place` names.
-    pub fn format(&self, place: usize) -> Result<Format> {
-        format_of(self.word(place)?)
+    /// The format that the word at the index `index` names.
+    pub fn format(&self, index: usize) -> Result<Format> {
+        format_of(self.word(index)?)
     }
 
     /// The format and the pace of the output: the first word, such as `opl` or `o5m:1:20`.
@@ -65,25 +65,25 @@ impl Given {
         self.files.len()
     }
 
-    /// The bytes of the file at the index `place`.
-    pub fn file(&self, place: usize) -> Result<&[u8]> {
-        match self.files.get(place) {
+    /// The bytes of the file at the index `index`.
+    pub fn file(&self, index: usize) -> Result<&[u8]> {
+        match self.files.get(index) {
             Some(file) => Ok(file.bytes.as_slice()),
             None => bail!("a file is missing"),
         }
     }
 
-    /// A reader of the file at the index `place`, at the pace of the file.
-    pub fn reader(&self, place: usize) -> Result<FromRead<Pieces<'_>>> {
-        match self.files.get(place) {
+    /// A reader of the file at the index `index`, at the pace of the file.
+    pub fn reader(&self, index: usize) -> Result<FromRead<Pieces<'_>>> {
+        match self.files.get(index) {
             Some(file) => Ok(FromRead::new(Pieces::new(&file.bytes, file.pace))),
             None => bail!("a file is missing"),
         }
     }
 
     /// The file at this index, to be opened at offsets and read at its pace.
-    pub fn paced_file(&self, place: usize) -> Result<PacedFile<'_>> {
-        match self.files.get(place) {
+    pub fn paced_file(&self, index: usize) -> Result<PacedFile<'_>> {
+        match self.files.get(index) {
             Some(file) => Ok(PacedFile::new(&file.bytes, file.pace)),
             None => bail!("a file is missing"),
         }

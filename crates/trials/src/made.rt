@@ -17,7 +17,7 @@ pub const CALLS: &[&str] = &[
 ];
 
 /// The result of a call.
-pub fn answer(alloc: Global, call: &str, given: &Given) -> Result<Vec<u8>> {
+pub fn run_call(alloc: Global, call: &str, given: &Given) -> Result<Vec<u8>> {
     match call {
         "Decoder::new" => drop(Decoder::new(alloc)?),
         "Encoder::new" => drop(Encoder::new(alloc)?),

@@ -52,7 +52,7 @@ const GROUPS: [&[&str]; 8] = [
 
 fn main(rt: HostRuntime) -> Result<()> {
     let words: Vec<String> = env::args(&rt)?.skip(1).collect(rt.alloc())?;
-    let answer = match words.as_slice() {
+    let output = match words.as_slice() {
         [] => {
             measure::measure_a_little(&rt)?;
             names(rt.alloc())?
@@ -60,37 +60,37 @@ fn main(rt: HostRuntime) -> Result<()> {
         [call, measurement, amount] if call.as_str() == "measure" => {
             measure::measure(&rt, measurement.as_str(), amount.as_str())?.into_bytes()
         }
-        [call, words @ ..] => answer(rt.alloc(), call.as_str(), &Given::read(&rt, words)?)?,
+        [call, words @ ..] => run_call(rt.alloc(), call.as_str(), &Given::read(&rt, words)?)?,
     };
-    rt.stdout().write_all(&answer)?;
+    rt.stdout().write_all(&output)?;
     Ok(())
 }
 
 /// The result of a call.
-fn answer(alloc: Global, call: &str, given: &Given) -> Result<Vec<u8>> {
+fn run_call(alloc: Global, call: &str, given: &Given) -> Result<Vec<u8>> {
     if values::CALLS.contains(&call) {
-        return values::answer(alloc, call, given);
+        return values::run_call(alloc, call, given);
     }
     if made::CALLS.contains(&call) {
-        return made::answer(alloc, call, given);
+        return made::run_call(alloc, call, given);
     }
     if units::CALLS.contains(&call) {
-        return units::answer(alloc, call, given);
+        return units::run_call(alloc, call, given);
     }
     if streams::CALLS.contains(&call) {
-        return streams::answer(alloc, call, given);
+        return streams::run_call(alloc, call, given);
     }
     if selections::CALLS.contains(&call) {
-        return selections::answer(alloc, call, given);
+        return selections::run_call(alloc, call, given);
     }
     if mirrors::CALLS.contains(&call) {
-        return mirrors::answer(alloc, call, given);
+        return mirrors::run_call(alloc, call, given);
     }
     if runs::CALLS.contains(&call) {
-        return runs::answer(alloc, call, given);
+        return runs::run_call(alloc, call, given);
     }
     if slices::CALLS.contains(&call) {
-        return slices::answer(alloc, call, given);
+        return slices::run_call(alloc, call, given);
     }
     bail!("there is no such call")
 }

@@ -17,7 +17,7 @@ pub const CALLS: &[&str] = &[
 ];
 
 /// The result of a call.
-pub fn answer(alloc: Global, call: &str, given: &Given) -> Result<Vec<u8>> {
+pub fn run_call(alloc: Global, call: &str, given: &Given) -> Result<Vec<u8>> {
     match call {
         "Mirror::take" => take(alloc, given),
         "Mirror::copy" => copy(alloc, given),
@@ -39,8 +39,8 @@ fn mirror(alloc: Global, given: &Given) -> Result<Mirror> {
 /// A full mirror that took all files.
 fn full(alloc: Global, given: &Given) -> Result<Mirror> {
     let mut mirror = Mirror::new_full(alloc);
-    for place in 0..given.count() {
-        mirror.take(given.file(place)?)?;
+    for index in 0..given.count() {
+        mirror.take(given.file(index)?)?;
     }
     Ok(mirror)
 }
@@ -140,8 +140,8 @@ fn reply_line(alloc: Global, replies: &[Reply]) -> Result<String> {
 /// The history of each mirror.
 fn fleet_lines(alloc: Global, fleet: &Fleet) -> Result<Vec<u8>> {
     let mut lines = Vec::new(alloc);
-    for place in 0..fleet.len() {
-        lines.extend_from_slice(&fleet.mirror(place).write(Format::Opl)?)?;
+    for index in 0..fleet.len() {
+        lines.extend_from_slice(&fleet.mirror(index).write(Format::Opl)?)?;
     }
     Ok(lines)
 }

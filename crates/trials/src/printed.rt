@@ -15,8 +15,8 @@ pub fn line_of(alloc: Global, version: &Version) -> Result<Vec<u8>> {
 /// The canonical lines of the versions of a history.
 pub fn lines_of(alloc: Global, history: &History) -> Result<Vec<u8>> {
     let mut lines = Vec::new(alloc);
-    for place in 0..history.len() {
-        history.get(place).append_line(&mut lines)?;
+    for index in 0..history.len() {
+        history.get(index).append_line(&mut lines)?;
         lines.push(b'\n')?;
     }
     Ok(lines)

@@ -2,7 +2,7 @@
 use crate::device::{Buffer, OUTPUT_CAPACITY};
 use crate::given::Given;
 use crate::printed::printed;
-use crate::streams::told_run;
+use crate::streams::outcome_text;
 use anyhow::{Result, bail};
 use osm_files::{Fault, Format, Output, ToWrite};
 use osm_merge::Counts;
@@ -25,7 +25,7 @@ pub const CALLS: &[&str] = &[
 ];
 
 /// The result of a call.
-pub fn answer(alloc: Global, call: &str, given: &Given) -> Result<Vec<u8>> {
+pub fn run_call(alloc: Global, call: &str, given: &Given) -> Result<Vec<u8>> {
     match call {
         "run_check" => check(alloc, given),
         "fault_text" => text_of_fault(alloc, given),
@@ -67,7 +67,7 @@ fn write(alloc: Global, call: &str, given: &Given) -> Result<Vec<u8>> {
         "run_time_filter" | "run_period_filter" => filter(alloc, call, given, format, &mut out)?,
         _ => combine(alloc, call, given, format, &mut out)?,
     };
-    told_run(alloc, outcome, &taken)
+    outcome_text(alloc, outcome, &taken)
 }
 
 /// Runs a call that reads several files and writes one output.

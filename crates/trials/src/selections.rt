@@ -10,7 +10,7 @@ use std::alloc::Global;
 pub const CALLS: &[&str] = &["snapshot", "visible", "at", "between"];
 
 /// The result of a call.
-pub fn answer(alloc: Global, call: &str, given: &Given) -> Result<Vec<u8>> {
+pub fn run_call(alloc: Global, call: &str, given: &Given) -> Result<Vec<u8>> {
     let history = history_of(alloc, given.file(0)?)?;
     let chosen = match call {
         "snapshot" => snapshot(alloc, &history),

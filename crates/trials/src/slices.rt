@@ -2,7 +2,7 @@
 use crate::device::{Buffer, OUTPUT_CAPACITY, Pace, Pieces};
 use crate::given::Given;
 use crate::printed::{line_of, printed};
-use crate::streams::told_run;
+use crate::streams::outcome_text;
 use anyhow::{Result, bail};
 use osm_files::{
     Broken, Fault, Format, FromRead, OpenAt, Output, ToWrite, first_version, line_start,
@@ -52,7 +52,7 @@ impl<'a> OpenAt<FromRead<Pieces<'a>>> for PacedFile<'a> {
 }
 
 /// The result of a call.
-pub fn answer(alloc: Global, call: &str, given: &Given) -> Result<Vec<u8>> {
+pub fn run_call(alloc: Global, call: &str, given: &Given) -> Result<Vec<u8>> {
     match call {
         "line_start" => start(alloc, given),
         "first_version" => first(alloc, given),
@@ -101,7 +101,7 @@ fn write(alloc: Global, outside: Outside, given: &Given) -> Result<Vec<u8>> {
     let mut taken = Vec::with_capacity(alloc, OUTPUT_CAPACITY)?;
     let mut out = ToWrite::new(Buffer::new(&mut taken, pace));
     let outcome = write_slice(alloc, slice, outside, given, format, &mut out)?;
-    told_run(alloc, outcome, &taken)
+    outcome_text(alloc, outcome, &taken)
 }
 
 /// Runs `run_slice` over all files.
@@ -114,8 +114,8 @@ fn write_slice<W: Output>(
     out: &mut W,
 ) -> Result<Result<Counts, Fault>> {
     let mut inputs = Vec::new(alloc);
-    for place in 0..given.count() {
-        let reader = given.reader(place)?;
+    for index in 0..given.count() {
+        let reader = given.reader(index)?;
         inputs.push(SliceFile { reader, outside })?;
     }
     Ok(run_slice(alloc, slice, inputs, format, out, &mut NoProgress))

@@ -12,7 +12,7 @@ use std::alloc::Global;
 pub const CALLS: &[&str] = &["load_any", "FileSource", "Sink", "merge_into"];
 
 /// The result of a call.
-pub fn answer(alloc: Global, call: &str, given: &Given) -> Result<Vec<u8>> {
+pub fn run_call(alloc: Global, call: &str, given: &Given) -> Result<Vec<u8>> {
     match call {
         "load_any" => load(alloc, given),
         "FileSource" => read(alloc, given),
@@ -96,7 +96,7 @@ fn merge(alloc: Global, given: &Given) -> Result<Vec<u8>> {
         format,
         &mut ToWrite::new(Buffer::new(&mut taken, pace)),
     )?;
-    told_run(alloc, outcome, &taken)
+    outcome_text(alloc, outcome, &taken)
 }
 
 /// Merges sources of the files.
@@ -107,15 +107,19 @@ fn merge_files<W: Output>(
     out: &mut W,
 ) -> Result<Result<Counts, Fault>> {
     let mut sources = Vec::new(alloc);
-    for place in 0..given.count() {
-        sources.push(FileSource::new(alloc, place, given.reader(place)?)?)?;
+    for index in 0..given.count() {
+        sources.push(FileSource::new(alloc, index, given.reader(index)?)?)?;
     }
     let mut sink = Sink::new(alloc, format, given.count())?;
     Ok(merge_into(alloc, sources, &mut sink, out))
 }
 
 /// The counts of a run, or why the run was refused, and then its output.
-pub fn told_run(alloc: Global, outcome: Result<Counts, Fault>, taken: &[u8]) -> Result<Vec<u8>> {
+pub fn outcome_text(
+    alloc: Global,
+    outcome: Result<Counts, Fault>,
+    taken: &[u8],
+) -> Result<Vec<u8>> {
     match outcome {
         Ok(counts) => {
             let line = format!(in alloc; "read {}, written {}", counts.read, counts.written)?;

@@ -11,7 +11,7 @@ use std::alloc::Global;
 pub const CALLS: &[&str] = &["read_line", "write_line", "read_set", "write_set"];
 
 /// The result of a call.
-pub fn answer(alloc: Global, call: &str, given: &Given) -> Result<Vec<u8>> {
+pub fn run_call(alloc: Global, call: &str, given: &Given) -> Result<Vec<u8>> {
     match call {
         "read_line" => read(alloc, given.file(0)?),
         "write_line" => write(alloc, given.file(0)?),
@@ -47,7 +47,7 @@ fn read_node(alloc: Global, content: &[u8]) -> Result<Vec<u8>> {
 #[derive(Drop)]
 enum Outcome {
     /// The data sets.
-    WriterState(Vec<u8>),
+    Written(Vec<u8>),
     /// Why a version was refused, and why the encoder's next call was refused, if it was.
     Refused {
         refused: EncodeFault,
@@ -60,7 +60,7 @@ enum Outcome {
 fn write_anew(alloc: Global, file: &[u8]) -> Result<Vec<u8>> {
     let history = history_of(alloc, file)?;
     match write_sets(alloc, &history)? {
-        Outcome::WriterState(sets) => Ok(sets),
+        Outcome::Written(sets) => Ok(sets),
         Outcome::Refused { again: None, .. } => bail!("an encoder goes on that was refused"),
         Outcome::Refused {
             refused,
@@ -79,7 +79,7 @@ fn write_anew(alloc: Global, file: &[u8]) -> Result<Vec<u8>> {
 /// The data sets, if they were written.
 fn written(outcome: Outcome) -> Result<Vec<u8>> {
     match outcome {
-        Outcome::WriterState(sets) => Ok(sets),
+        Outcome::Written(sets) => Ok(sets),
         Outcome::Refused { refused, .. } => bail!("{refused}"),
     }
 }
@@ -89,8 +89,8 @@ fn write_sets(alloc: Global, history: &History) -> Result<Outcome> {
     let mut encoder = Encoder::new(alloc)?;
     let mut sets = Vec::new(alloc);
     let mut last = Kind::Node;
-    for place in 0..history.len() {
-        let version = history.get(place);
+    for index in 0..history.len() {
+        let version = history.get(index);
         if version.kind().index() < last.index() {
             bail!("the kinds fall");
         }
@@ -103,5 +103,5 @@ fn write_sets(alloc: Global, history: &History) -> Result<Outcome> {
         }
         last = version.kind();
     }
-    Ok(Outcome::WriterState(sets))
+    Ok(Outcome::Written(sets))
 }

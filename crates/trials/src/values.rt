@@ -16,7 +16,7 @@ pub const CALLS: &[&str] = &[
 ];
 
 /// The result of a call.
-pub fn answer(alloc: Global, call: &str, given: &Given) -> Result<Vec<u8>> {
+pub fn run_call(alloc: Global, call: &str, given: &Given) -> Result<Vec<u8>> {
     match call {
         "Version::new" => new_version(alloc, u64::from(given.time(0)?)),
         "Version::copy" => copy_version(alloc, given.file(0)?),
@@ -61,8 +61,8 @@ fn copy_version(alloc: Global, file: &[u8]) -> Result<Vec<u8>> {
 /// The history that is made from the versions of all files, file by file.
 fn from_versions(alloc: Global, given: &Given) -> Result<Vec<u8>> {
     let mut versions = Vec::new(alloc);
-    for place in 0..given.count() {
-        let history = history_of(alloc, given.file(place)?)?;
+    for index in 0..given.count() {
+        let history = history_of(alloc, given.file(index)?)?;
         for version in history.into_versions() {
             versions.push(version)?;
         }
@@ -111,9 +111,9 @@ fn compare_all(alloc: Global, rounds: u64, file: &[u8]) -> Result<Vec<u8>> {
 
 /// Whether each version is greater than those before it, equal to itself, and less than those after it.
 fn is_ascending(history: &History) -> bool {
-    for place in 0..history.len() {
+    for index in 0..history.len() {
         for other in 0..history.len() {
-            if history.get(place).cmp(history.get(other)) != place.cmp(&other) {
+            if history.get(index).cmp(history.get(other)) != index.cmp(&other) {
                 return false;
             }
         }

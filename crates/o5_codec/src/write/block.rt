@@ -61,7 +61,7 @@ impl Block {
 
     /// The number of bytes.
     pub(crate) fn len(&self) -> usize
-        ensures place { result ≡ self.now.end }
+        ensures end { result ≡ self.now.end }
         ensures length { result ≡ length (filled_bytes self.now) }
     {
         self.end
@@ -82,7 +82,8 @@ impl Block {
     #[inline(always)]
     pub(crate) fn make_room(&mut self, count: usize, front: &mut Vec<u8>) -> Result<(), Memory>
         requires { count ≤ 128 }
-        ensures bytes { OnOk result (front.new.items ++ filled_bytes self.new ≡ front.old.items ++ filled_bytes self.old) }
+        ensures bytes { OnOk result (front.new.items ++ filled_bytes self.new ≡ front.old.items
+            ++ filled_bytes self.old) }
         ensures room { OnOk result (self.new.end + count ≤ 128) }
     {
         if self.end <= BLOCK_BYTES - count {

@@ -80,7 +80,8 @@ impl EncoderSegment {
     ) -> Result<(), Memory>
         requires { list_all is_id ids.now ≡ true }
         ensures { OnOk result
-            (AppendsSpelling out.old out.new self.new (spec.section_spelling (spec.references_spelling ids.now) self.old)) }
+            (AppendsSpelling out.old out.new self.new
+            (spec.section_spelling (spec.references_spelling ids.now) self.old)) }
     {
         section.clear();
         self.append_each_reference(section, ids)?;
@@ -109,7 +110,8 @@ impl EncoderSegment {
     ) -> Result<(), Memory>
         requires { list_all is_id (ids_of_members members.now) ≡ true }
         ensures { OnOk result
-            (AppendsSpelling out.old out.new self.new (spec.section_spelling (spec.members_spelling members.now) self.old)) }
+            (AppendsSpelling out.old out.new self.new
+            (spec.section_spelling (spec.members_spelling members.now) self.old)) }
     {
         section.clear();
         self.append_each_member(section, members)?;

@@ -254,7 +254,7 @@ fn is_member_string(string: &[u8], kind: Kind, role: &[u8]) -> bool
     ensures { OnTrue result (string.now ≡ member_string kind role.now) }
 {
     match string.split_first() {
-        Some((digit, behind)) => *digit == b'0' + kind.index() && behind == role,
+        Some((digit, rest)) => *digit == b'0' + kind.index() && rest == role,
         None => false,
     }
 }

@@ -88,7 +88,8 @@ impl IndexedTable {
         entry: &Entry,
     ) -> Result<(), Memory>
         ensures bytes { OnOk result (out.new ≡ out.old ++ strings_bytes entry.now (reference_to entry.now self.old)) }
-        ensures table { OnOk result (self.new ≡ formed_table_after entry.now (reference_to entry.now self.old) self.old) }
+        ensures table { OnOk result (self.new ≡ formed_table_after entry.now
+            (reference_to entry.now self.old) self.old) }
     {
         match self.reference_to(entry) {
             Some(reference) => {

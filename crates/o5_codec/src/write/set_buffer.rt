@@ -97,7 +97,7 @@ impl SetBuffer {
     /// # Errors
     ///
     /// `Memory` when out of memory; `out` may then have a part of them.
-    pub(crate) fn append_behind_front(&self, out: &mut Vec<u8>) -> Result<(), Memory>
+    pub(crate) fn append_after_front(&self, out: &mut Vec<u8>) -> Result<(), Memory>
         requires { 2 ≤ length self.now }
         ensures appended { OnOk result (out.new.items ≡ out.old.items ++ drop 2 self.now) }
         ensures kept { Extends out.old.items out.new.items }

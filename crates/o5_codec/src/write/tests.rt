@@ -60,14 +60,14 @@ fn kind_of(type_byte: u8) -> Result<Kind, Fail> {
 /// The version of a data set, after a reset if there is one.
 fn read_back(reader: &mut Decoder, set: &[u8]) -> Result<Version, Fail> {
     let set = match set {
-        [0xff, behind @ ..] => {
+        [0xff, rest @ ..] => {
             reader.reset();
-            behind
+            rest
         }
         _ => set,
     };
-    let (type_byte, behind) = set.split_first().ok_or("an empty set")?;
-    let (length, content) = read_number(behind)?;
+    let (type_byte, rest) = set.split_first().ok_or("an empty set")?;
+    let (length, content) = read_number(rest)?;
     if length != content.len() as u64 {
         return Err(Fail::from("another length"));
     }
@@ -98,9 +98,9 @@ fn check_row(
     reader: &mut Decoder,
     row: &str,
 ) -> Result<(), Fail> {
-    let (alone, rest) = row.split_once(" = ").ok_or("no line")?;
+    let (only, rest) = row.split_once(" = ").ok_or("no line")?;
     let (line, written) = rest.split_once(" = ").ok_or("no data set")?;
-    let version = read_back(&mut Decoder::new(alloc)?, &bytes_of(alloc, alone)?)?;
+    let version = read_back(&mut Decoder::new(alloc)?, &bytes_of(alloc, only)?)?;
     let mut text = Vec::new(alloc);
     version.append_line(&mut text)?;
     assert_eq!(rt; text.as_slice(), line.as_bytes());
@@ -128,7 +128,8 @@ fn check_file(rt: &impl Abort, alloc: Global, rows: &str) -> Result<(), Fail> {
 #[test]
 fn writes_nodes_and_deletions(rt: HostRuntime) -> Result<(), Fail> {
     let rows = "\
-10 0b 02 01 02 02 00 01 00 61 00 00 00 = n1 v1 dV c1 t1970-01-01T00:00:01Z i1 ua T x0 y0 = 10 0b 02 01 02 02 00 01 00 61 00 00 00
+10 0b 02 01 02 02 00 01 00 61 00 00 00 = n1 v1 dV c1 t1970-01-01T00:00:01Z i1 ua T x0 y0 \
+    = 10 0b 02 01 02 02 00 01 00 61 00 00 00
 10 09 02 02 04 02 00 01 00 61 00 = n1 v2 dD c1 t1970-01-01T00:00:02Z i1 ua T x y = 10 05 00 02 02 00 01
 
 10 07 02 01 02 02 00 00 00 = n1 v1 dD c1 t1970-01-01T00:00:01Z i0 u T x y = 10 07 02 01 02 02 00 00 00
@@ -145,16 +146,22 @@ fn writes_nodes_and_deletions(rt: HostRuntime) -> Result<(), Fail> {
 #[test]
 fn writes_numbers_at_their_limits(rt: HostRuntime) -> Result<(), Fail> {
     let rows = "\
-10 0d fd ff ff ff ff ff ff ff 7f 01 00 00 00 = n-4611686018427387903 v1 dV c0 t i0 u T x0 y0 = 10 0d fd ff ff ff ff ff ff ff 7f 01 00 00 00
-10 0d fe ff ff ff ff ff ff ff 7f 01 00 00 00 = n4611686018427387903 v1 dV c0 t i0 u T x0 y0 = 10 0e fc ff ff ff ff ff ff ff ff 01 01 00 00 00
+10 0d fd ff ff ff ff ff ff ff 7f 01 00 00 00 = n-4611686018427387903 v1 dV c0 t i0 u T x0 y0 \
+    = 10 0d fd ff ff ff ff ff ff ff 7f 01 00 00 00
+10 0d fe ff ff ff ff ff ff ff 7f 01 00 00 00 = n4611686018427387903 v1 dV c0 t i0 u T x0 y0 \
+    = 10 0e fc ff ff ff ff ff ff ff ff 01 01 00 00 00
 
 10 09 02 01 00 ff c7 ce b4 0d 00 = n1 v1 dV c0 t i0 u T x-180 y0 = 10 09 02 01 00 ff c7 ce b4 0d 00
 10 09 04 01 00 80 c8 ce b4 0d 00 = n2 v1 dV c0 t i0 u T x180 y0 = 10 09 02 01 00 80 90 9d e9 1a 00
 
-10 0d 02 01 00 ff ff ff ff 0f fe ff ff ff 0f = n1 v1 dV c0 t i0 u T x-214.7483648 y214.7483647 = 10 0d 02 01 00 ff ff ff ff 0f fe ff ff ff 0f
-10 0d 02 01 00 fe ff ff ff 0f ff ff ff ff 0f = n1 v1 dV c0 t i0 u T x214.7483647 y-214.7483648 = 10 0d 00 01 00 fe ff ff ff 1f fd ff ff ff 1f
+10 0d 02 01 00 ff ff ff ff 0f fe ff ff ff 0f = n1 v1 dV c0 t i0 u T x-214.7483648 y214.7483647 \
+    = 10 0d 02 01 00 ff ff ff ff 0f fe ff ff ff 0f
+10 0d 02 01 00 fe ff ff ff 0f ff ff ff ff 0f = n1 v1 dV c0 t i0 u T x214.7483647 y-214.7483648 \
+    = 10 0d 00 01 00 fe ff ff ff 1f fd ff ff ff 1f
 
-10 18 02 ff ff ff ff 0f fe ff ff ff 1f fe ff ff ff 1f 00 ff ff ff ff 0f 00 00 = n1 v4294967295 dD c4294967295 t2106-02-07T06:28:15Z i4294967295 u T x y = 10 18 02 ff ff ff ff 0f fe ff ff ff 1f fe ff ff ff 1f 00 ff ff ff ff 0f 00 00";
+10 18 02 ff ff ff ff 0f fe ff ff ff 1f fe ff ff ff 1f 00 ff ff ff ff 0f 00 00 \
+    = n1 v4294967295 dD c4294967295 t2106-02-07T06:28:15Z i4294967295 u T x y \
+    = 10 18 02 ff ff ff ff 0f fe ff ff ff 1f fe ff ff ff 1f 00 ff ff ff ff 0f 00 00";
     check_rows(&rt, rt.alloc(), rows)
 }
 
@@ -166,7 +173,8 @@ fn writes_ways_and_relations(rt: HostRuntime) -> Result<(), Fail> {
 
 12 0c 02 01 00 04 02 00 30 00 00 30 00 00 = r1 v1 dV c0 t i0 u T0= Mn1@ = ff 12 0c 02 01 00 04 02 00 30 00 00 30 00 00
 
-12 12 02 01 00 0e 02 00 30 61 00 04 00 31 61 00 02 02 02 01 = r1 v1 dV c0 t i0 u T Mn1@a,w2@a,n2@a,w3@a = ff 12 12 02 01 00 0e 02 00 30 61 00 04 00 31 61 00 02 02 02 01
+12 12 02 01 00 0e 02 00 30 61 00 04 00 31 61 00 02 02 02 01 = r1 v1 dV c0 t i0 u T Mn1@a,w2@a,n2@a,w3@a \
+    = ff 12 12 02 01 00 0e 02 00 30 61 00 04 00 31 61 00 02 02 02 01
 
 10 0a 02 01 00 00 00 00 6b 00 76 00 = n1 v1 dV c0 t i0 u Tk=v x0 y0 = 10 0a 02 01 00 00 00 00 6b 00 76 00
 11 0b 02 01 00 02 02 04 00 6b 00 76 00 = w1 v1 dV c0 t i0 u Tk=v Nn1,n3 = ff 11 0b 02 01 00 02 02 04 00 6b 00 76 00
@@ -218,7 +226,7 @@ fn pass_on(writer: &mut Writer, reader: &mut Decoder, version: &Version) -> Resu
 }
 
 /// An encoder and a decoder after a node with `count` tags.
-fn behind_many_tags(alloc: Global, count: u32) -> Result<(Writer, Decoder), Fail> {
+fn after_many_tags(alloc: Global, count: u32) -> Result<(Writer, Decoder), Fail> {
     let mut writer = Writer::new(alloc)?;
     let mut reader = Decoder::new(alloc)?;
     pass_on(&mut writer, &mut reader, &with_many_tags(alloc, count)?)?;
@@ -246,7 +254,7 @@ fn check_second(
     key: &str,
     expected: &str,
 ) -> Result<(), Fail> {
-    let (mut writer, mut reader) = behind_many_tags(alloc, count)?;
+    let (mut writer, mut reader) = after_many_tags(alloc, count)?;
     let version = node(alloc, 2, vec![in alloc; tag(alloc, key, "")?]?)?;
     check_digits(rt, alloc, &mut writer, &mut reader, &version, expected)
 }
@@ -275,9 +283,9 @@ struct Plain {
 
 impl Plain {
     fn append(&mut self, out: &mut SetBuffer, number: u32, key: StringKey<'_>) -> Result<(), Fail> {
-        for (place, other) in self.stored.iter().enumerate() {
+        for (index, other) in self.stored.iter().enumerate() {
             if *other == number {
-                return Ok(out.append_number((self.stored.len() - place) as u64)?);
+                return Ok(out.append_number((self.stored.len() - index) as u64)?);
             }
         }
         self.entry.fill(key)?;

@@ -31,9 +31,10 @@ impl Delimiter {
     #[inline(always)]
     pub(crate) fn split(self, text: &str) -> (&str, Option<&str>)
         ensures first { result.0.now ≡ (split_first (is_end self) text.now).0 }
-        ensures behind { option_copied result.1 ≡ (split_first (is_end self) text.now).1 }
-        ensures pieces { split_all (is_end self) text.now ≡ result.0.now ∷ pieces_of (is_end self) (option_copied result.1) }
-        ensures shorter { IfSome result.1 (λ behind. length behind.now < length text.now) }
+        ensures rest { option_copied result.1 ≡ (split_first (is_end self) text.now).1 }
+        ensures pieces { split_all (is_end self) text.now ≡ result.0.now
+            ∷ pieces_of (is_end self) (option_copied result.1) }
+        ensures shorter { IfSome result.1 (λ after. length after.now < length text.now) }
     {
         match find(self, text.as_bytes()) {
             Some(end) => (&text[..end], Some(&text[end + 1..])),
@@ -46,7 +47,7 @@ impl Delimiter {
     #[inline(always)]
     pub(crate) fn split_bytes(self, bytes: &[u8]) -> (&[u8], Option<&[u8]>)
         ensures first { result.0.now ≡ (split_first (is_end self) bytes.now).0 }
-        ensures behind { option_copied result.1 ≡ (split_first (is_end self) bytes.now).1 }
+        ensures rest { option_copied result.1 ≡ (split_first (is_end self) bytes.now).1 }
     {
         match find(self, bytes) {
             Some(end) => (&bytes[..end], Some(&bytes[end + 1..])),

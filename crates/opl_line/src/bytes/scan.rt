@@ -41,9 +41,9 @@ pub(crate) fn find<const LANES: usize, C: ByteClass<LANES>>(class: C, bytes: &[u
         }
         seen += LANES;
     }
-    'rest: for place in seen..bytes.len() {
-        if class.contains(bytes[place]) {
-            return Some(place);
+    'rest: for index in seen..bytes.len() {
+        if class.contains(bytes[index]) {
+            return Some(index);
         }
     }
     None

@@ -48,7 +48,7 @@ fn is_long_ascii(line: &[u8]) -> bool
 #[inline(always)]
 fn are_ascii(bytes: &[u8], from: usize) -> bool
     requires { from + 64 ≤ length bytes.now }
-    ensures { OnTrue result ((place : ℕ) → from ≤ place → place < from + 64 → slice_index bytes.now place < 128) }
+    ensures { OnTrue result ((index : ℕ) → from ≤ index → index < from + 64 → slice_index bytes.now index < 128) }
 {
     let lanes = u8x64::from_slice(&bytes[from..]);
     lanes.simd_ge(u8x64::splat(128)).to_bitmask() == 0

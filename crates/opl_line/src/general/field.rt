@@ -84,9 +84,9 @@ impl Fields {
     {
         let mut rest = text;
         'fields: while let Some(text) = rest {
-            let (field, behind) = Delimiter::Blanks.split(text);
+            let (field, after) = Delimiter::Blanks.split(text);
             self.add(alloc, kind, field)?;
-            rest = behind;
+            rest = after;
         }
         Ok(())
     }

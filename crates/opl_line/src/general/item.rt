@@ -1,7 +1,7 @@
 //! The items of lists in OPL lines.
 ghost use Rattle.std.specs.Prelude.{◌≡◌, ◌⊎◌, Ok, Err, None, Some, drop, MatchOption, MatchResult};
 ghost use Rattle.opl_line.specs.declared.reason.OplReason.TheVariants.{Memory};
-ghost use Rattle.opl_line.specs.Answer.{OplReads};
+ghost use Rattle.opl_line.specs.Results.{OplReads};
 ghost use Rattle.opl_line.specs.Item as spec;
 
 use super::text::read_text;
@@ -48,9 +48,9 @@ pub(crate) fn read_list<T: Item>(alloc: Global, content: &str) -> Result<Vec<T>,
     let mut items: Vec<T> = Vec::with_capacity(alloc, content.len() / USUAL_ITEM + 1)?;
     let mut rest = Some(content);
     'items: while let Some(text) = rest {
-        let (item, behind) = Delimiter::Commas.split(text);
+        let (item, after) = Delimiter::Commas.split(text);
         items.push(T::read(alloc, item)?)?;
-        rest = behind;
+        rest = after;
     }
     Ok(items)
 }
@@ -60,10 +60,10 @@ impl Item for Tag {
     ghost reading = { spec.reading_tag };
 
     fn read(alloc: Global, text: &str) -> Result<Tag, OplReason> {
-        let (key, Some(behind)) = Delimiter::Equals.split(text) else {
+        let (key, Some(rest)) = Delimiter::Equals.split(text) else {
             return Err(OplReason::BadList);
         };
-        let (value, more) = Delimiter::Equals.split(behind);
+        let (value, more) = Delimiter::Equals.split(rest);
         if more.is_some() {
             return Err(OplReason::BadList);
         }

@@ -4,7 +4,7 @@ ghost use Rattle.std.specs.Prelude.{length, string_bytes, option_copied, MatchOp
 ghost use Rattle.std.specs.List.{list_all};
 ghost use Rattle.opl_line.specs.declared.bytes.cut.Delimiter.TheVariants.{Percents};
 ghost use Rattle.opl_line.specs.declared.reason.OplReason.TheVariants.{Memory, BadText};
-ghost use Rattle.opl_line.specs.Answer.{OplReads};
+ghost use Rattle.opl_line.specs.Results.{OplReads};
 ghost use Rattle.opl_line.specs.Delimiter.{is_end, split_first, split_all, pieces_of};
 ghost use Rattle.opl_line.specs.Text as spec;
 
@@ -32,8 +32,8 @@ pub(crate) fn read_text(alloc: Global, text: &str) -> Result<Text, OplReason>
     };
     let mut escapes = Some(escape);
     let mut out = String::from_str(alloc, raw)?;
-    'escapes: while let Some(behind) = escapes {
-        escapes = append_escape(&mut out, behind)?;
+    'escapes: while let Some(rest) = escapes {
+        escapes = append_escape(&mut out, rest)?;
     }
     Ok(Text::from_string(out))
 }
@@ -46,15 +46,15 @@ fn append_escape<'a>(out: &mut String, escape: &'a str) -> Result<Option<&'a str
         ≡ spec.text_from (string_bytes out.new) (pieces_of (is_end Percents) (option_copied more)))
         (λ reason. (reason ≡ Memory) ⊎ ((reason ≡ BadText)
         × (spec.text_from (string_bytes out.old) (split_all (is_end Percents) escape.now) ≡ None))) }
-    ensures shorter { IfOk result (λ more. IfSome more (λ behind. length behind.now < length escape.now)) }
+    ensures shorter { IfOk result (λ more. IfSome more (λ rest. length rest.now < length escape.now)) }
 {
-    let (digits, Some(behind)) = Delimiter::Percents.split(escape) else {
+    let (digits, Some(rest)) = Delimiter::Percents.split(escape) else {
         return Err(OplReason::BadText);
     };
     let Some(character) = scalar_of(digits.as_bytes()) else {
         return Err(OplReason::BadText);
     };
-    let Some((raw, more)) = split_accepted(behind) else {
+    let Some((raw, more)) = split_accepted(rest) else {
         return Err(OplReason::BadText);
     };
     out.push(character)?;
@@ -69,7 +69,7 @@ fn split_accepted(text: &str) -> Option<(&str, Option<&str>)>
         (list_all spec.is_literal (split_first (is_end Percents) text.now).0 ≡ false)
         (λ parts. (list_all spec.is_literal parts.0.now ≡ true)
         × (split_first (is_end Percents) text.now ≡ (parts.0.now, option_copied parts.1))) }
-    ensures shorter { IfSome result (λ parts. IfSome parts.1 (λ behind. length behind.now < length text.now)) }
+    ensures shorter { IfSome result (λ parts. IfSome parts.1 (λ rest. length rest.now < length text.now)) }
 {
     let bytes = text.as_bytes();
     let Some(end) = find_escape(bytes) else {

@@ -42,9 +42,9 @@ impl StraightItem for Tag {
 
     #[inline(always)]
     fn parse(alloc: Global, text: &[u8]) -> Option<(Tag, &[u8])> {
-        let (key, behind) = parse_text(alloc, text)?;
-        let (value, behind) = parse_text(alloc, strip_byte(behind, b'=')?)?;
-        Some((Tag { key, value }, behind))
+        let (key, rest) = parse_text(alloc, text)?;
+        let (value, rest) = parse_text(alloc, strip_byte(rest, b'=')?)?;
+        Some((Tag { key, value }, rest))
     }
 }
 
@@ -77,9 +77,9 @@ impl StraightItem for Member {
     }
 
     fn parse(alloc: Global, text: &[u8]) -> Option<(Member, &[u8])> {
-        let ((kind, id), behind) = parse_object(text)?;
-        let (role, behind) = parse_text(alloc, strip_byte(behind, b'@')?)?;
-        Some((Member { kind, id, role }, behind))
+        let ((kind, id), rest) = parse_object(text)?;
+        let (role, rest) = parse_text(alloc, strip_byte(rest, b'@')?)?;
+        Some((Member { kind, id, role }, rest))
     }
 }
 
@@ -93,14 +93,14 @@ pub(crate) fn parse_object(text: &[u8]) -> Option<((Kind, i64), &[u8])>
         return None;
     }
     let kind = kind_of_letter(text[0])?;
-    let (id, behind) = parse_id(&text[1..])?;
-    Some(((kind, id), behind))
+    let (id, rest) = parse_id(&text[1..])?;
+    Some(((kind, id), rest))
 }
 
 /// The text after `byte`, if the text begins with it.
 #[inline(always)]
 pub(crate) fn strip_byte(text: &[u8], byte: u8) -> Option<&[u8]>
-    ensures { IfSome result (λ behind. text.now ≡ byte ∷ behind.now) }
+    ensures { IfSome result (λ rest. text.now ≡ byte ∷ rest.now) }
 {
     if text.is_empty() || text[0] != byte {
         return None;
@@ -149,13 +149,13 @@ fn parse_items<'a, T: StraightItem>(
     let mut items = list_for(spare, text)?;
     let mut rest = text;
     'items: loop {
-        let (item, behind) = T::parse(alloc, rest)?;
+        let (item, after) = T::parse(alloc, rest)?;
         if items.push(item).is_err() {
             return None;
         }
-        if behind.is_empty() || behind[0] != b',' {
-            return Some((items, behind));
+        if after.is_empty() || after[0] != b',' {
+            return Some((items, after));
         }
-        rest = &behind[1..];
+        rest = &after[1..];
     }
 }

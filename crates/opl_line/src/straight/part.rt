@@ -24,11 +24,11 @@ pub(crate) fn parse_number(text: &[u8]) -> Option<(u64, &[u8])>
     ensures text { IfSome result (λ read. text.now ≡ number_text read.0 ++ read.1.now) }
     ensures bound { IfSome result (λ read. is_number read.0 ≡ true) }
 {
-    let (number, behind) = numeral(text, MOST_DIGITS)?;
+    let (number, rest) = numeral(text, MOST_DIGITS)?;
     if number > GREATEST_NUMBER {
         return None;
     }
-    Some((number, behind))
+    Some((number, rest))
 }
 
 /// An id, and the text after it.
@@ -38,12 +38,12 @@ pub(crate) fn parse_id(text: &[u8]) -> Option<(i64, &[u8])>
     ensures id { IfSome result (λ read. is_id read.0 ≡ true) }
 {
     let (is_negative, digits) = split_sign(text);
-    let (magnitude, behind) = numeral(digits, MOST_ID_DIGITS)?;
+    let (magnitude, after) = numeral(digits, MOST_ID_DIGITS)?;
     if is_negative && magnitude == 0 {
         return None;
     }
     let id = magnitude as i64;
-    Some((if is_negative { -id } else { id }, behind))
+    Some((if is_negative { -id } else { id }, after))
 }
 
 /// A time, if there is one, and the text after it.
@@ -67,14 +67,14 @@ pub(crate) fn parse_coordinate(text: &[u8]) -> Option<(i32, &[u8])>
     ensures { IfSome result (λ read. text.now ≡ coordinate_text read.0 ++ read.1.now) }
 {
     let (is_negative, magnitude) = split_sign(text);
-    let (units, behind) = degrees(magnitude)?;
+    let (units, after) = degrees(magnitude)?;
     if is_negative && units == 0 {
         return None;
     }
-    let Ok(place) = to_units(is_negative, units) else {
+    let Ok(coordinate) = to_units(is_negative, units) else {
         return None;
     };
-    Some((place, behind))
+    Some((coordinate, after))
 }
 
 /// The units of a coordinate without its sign, and the text after it.
@@ -83,9 +83,9 @@ fn degrees(text: &[u8]) -> Option<(u64, &[u8])>
     ensures text { IfSome result (λ read. text.now ≡ degrees_text read.0 ++ read.1.now) }
     ensures bound { IfSome result (λ read. read.0 < 2 ^ 48) }
 {
-    let (whole, behind) = numeral(text, 3)?;
-    let (units, behind) = fraction(behind)?;
-    Some((whole * DEGREE + units, behind))
+    let (whole, rest) = numeral(text, 3)?;
+    let (units, rest) = fraction(rest)?;
+    Some((whole * DEGREE + units, rest))
 }
 
 /// The units of a part of a degree, and the text after it.

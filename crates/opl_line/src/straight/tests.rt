@@ -81,7 +81,7 @@ n1 v1 dV c0 t i0 u Ta=1,a=1 x1 y2 => n1 v1 dV c0 t i0 u Ta=1 x1 y2
 w1 v1 dV c0 t i0 u Tc=1,b=2,a=3,b=1,b=2 Nn2,n1 => w1 v1 dV c0 t i0 u Ta=3,b=1,b=2,c=1 Nn2,n1";
     let mut reader = LineReader::new(alloc);
     for row in rows.lines() {
-        let (line, canonical) = row.split_once(" => ").ok_or("no answer")?;
+        let (line, canonical) = row.split_once(" => ").ok_or("no result")?;
         assert!(&rt; is_straight(alloc, line));
         check_written(&rt, alloc, &mut reader, line, canonical)?;
     }
@@ -118,7 +118,7 @@ w1 v1 dV c0 t i0 u Ta=ß@ N => w1 v1 dV c0 t i0 u Ta=ß%40% N
 w1 v1 dV c0 t i0 u Ta=b%20% Nn01 => w1 v1 dV c0 t i0 u Ta=b%20% Nn1";
     let mut reader = LineReader::new(alloc);
     for row in rows.lines() {
-        let (line, canonical) = row.split_once(" => ").ok_or("no answer")?;
+        let (line, canonical) = row.split_once(" => ").ok_or("no result")?;
         assert!(&rt; !is_straight(alloc, line));
         check_written(&rt, alloc, &mut reader, line, canonical)?;
     }
@@ -167,7 +167,7 @@ w3 v1 dV c5 t2014-05-06T07:08:09Z i5 uanna%20%B. T Nn3,n4
 r1 v1 dV c5 t2014-05-06T07:08:09Z i5 uanna%20%B. T Mw1@";
 
 #[test]
-fn neighbours_are_read_as_alone(rt: HostRuntime) -> Result<(), Fail> {
+fn neighbours_are_read_as_single_lines(rt: HostRuntime) -> Result<(), Fail> {
     let alloc = rt.alloc();
     let mut shared_author = SharedAuthor::new(alloc);
     let mut reader = LineReader::new(alloc);

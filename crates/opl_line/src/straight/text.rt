@@ -97,14 +97,14 @@ fn decode_text(alloc: Global, bytes: &[u8]) -> Option<(Text, &[u8])>
     let mut text = Text::new();
     let mut rest = bytes;
     'escapes: loop {
-        let (raw, behind) = split_raw(rest);
+        let (raw, after) = split_raw(rest);
         if text.push_str(alloc, raw).is_err() {
             return None;
         }
-        if behind.is_empty() || behind[0] != b'%' {
-            return Some((text, behind));
+        if after.is_empty() || after[0] != b'%' {
+            return Some((text, after));
         }
-        let (character, next) = parse_escape(behind)?;
+        let (character, next) = parse_escape(after)?;
         let mut buffer = [0; 4];
         if text
             .push_str(alloc, character.encode_utf8(&mut buffer))
@@ -169,8 +169,8 @@ fn parse_escape(text: &[u8]) -> Option<(char, &[u8])>
     ensures text { IfSome result (λ read. text.now ≡ escape_char read.0 ++ read.1.now) }
     ensures valid { IfSome result (λ read. is_text (read.0 ∷ []) ≡ true) }
 {
-    let (_, behind) = text.split_first()?;
-    let (digits, _) = Delimiter::Percents.split_bytes(behind);
+    let (_, rest) = text.split_first()?;
+    let (digits, _) = Delimiter::Percents.split_bytes(rest);
     let character = scalar_of(digits)?;
     let next = strip_escaped(text, character)?;
     Some((character, next))

@@ -47,7 +47,8 @@ const GIVEN: [(&[u8], &str); 7] = [
     ),
     (
         b"\xff\xe0\x04o5m2\x10\x05\x02\x01\x00\x02\x04\x10\x05\x02\x01\x00\x02\x04\x10\x05\x02\x01\x00\x02\x04\xfe",
-        "n1 v1 dV c0 t i0 u T x0.0000001 y0.0000002\nn2 v1 dV c0 t i0 u T x0.0000002 y0.0000004\nn3 v1 dV c0 t i0 u T x0.0000003 y0.0000006\nend\nend\nend\n",
+        "n1 v1 dV c0 t i0 u T x0.0000001 y0.0000002\nn2 v1 dV c0 t i0 u T x0.0000002 y0.0000004\n\
+         n3 v1 dV c0 t i0 u T x0.0000003 y0.0000006\nend\nend\nend\n",
     ),
     (
         b"n1 v1 Ta=b x1 y2\nn2 v1 x3 y4\n# a comment\nw1 v1 Nn1\n",
@@ -66,10 +67,11 @@ fn source_gives_its_versions(rt: HostRuntime) {
 }
 
 #[test]
-fn opened_source_tells_its_format(rt: HostRuntime) {
+fn opened_source_determines_its_format(rt: HostRuntime) {
     let alloc = rt.alloc();
     assert_eq!(rt;
         opened_text(alloc, NODE_THEN_DELETION).as_str(),
-        "o5m\nn1 v1 dV c1 t1970-01-01T00:00:01Z i1 ua T x0 y0\nn1 v2 dD c1 t1970-01-01T00:00:02Z i1 ua T x y\nend\nend\nend\n"
+        "o5m\nn1 v1 dV c1 t1970-01-01T00:00:01Z i1 ua T x0 y0\nn1 v2 dD c1 t1970-01-01T00:00:02Z i1 ua T x y\nend\n\
+         end\nend\n"
     );
 }

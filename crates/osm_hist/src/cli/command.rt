@@ -26,7 +26,7 @@ const MERGE: &str = "Memory: each file is read one version at a time.\n\n\
 macro_rules! any_order_help {
     ($example:literal) => {
         concat!(
-            "Memory: a file that is sorted, or a few sorted ones behind each other, is read one version at a time. Any ",
+            "Memory: a file that is sorted, or a few sorted ones after each other, is read one version at a time. Any ",
             "other file is held in memory, and so is a pipe, which can't be read twice.\n\nExample: osm_hist ",
             $example
         )
@@ -35,15 +35,18 @@ macro_rules! any_order_help {
 
 /// The end of the help of `check`: several files, memory and an example.
 const CHECK: &str =
-    "Of several files each gets a line that begins with its name; where one is refused, the others are still checked.\n\n\
-    Memory: a sorted file is read one version at a time. A file that isn't sorted is held in memory, and so is a pipe, which \
-    can't be read twice. With --sorted none is held.\n\nExample: osm_hist check download.o5m";
+    "Of several files each gets a line that begins with its name; where one is refused, the others are still \
+    checked.\n\n\
+    Memory: a sorted file is read one version at a time. A file that isn't sorted is held in memory, and so is a \
+    pipe, which can't be read twice. With --sorted none is held.\n\n\
+    Example: osm_hist check download.o5m";
 
 /// The end of the help of `plan`: the lines of a plan, memory and an example.
 const PLAN: &str =
-    "PLAN is a text of lines. The lines `full` and `latest` stand first, one for each mirror, numbered from 0; \
-    then `take M FILE`, `pass M N FORMAT` and `restart M FORMAT`; then `write M FORMAT FILE`. For example, two mirrors of which \
-    one takes a file and passes it on:\n\nlatest\nfull\ntake 0 a.opl\npass 0 1 o5c\nwrite 1 opl x.opl\n\n\
+    "PLAN is a text of lines. The lines `full` and `latest` come first, one for each mirror, numbered from 0; \
+    then `take M FILE`, `pass M N FORMAT` and `restart M FORMAT`; then `write M FORMAT FILE`. For example, two \
+    mirrors of which one takes a file and passes it on:\n\nlatest\nfull\ntake 0 a.opl\npass 0 1 o5c\n\
+    write 1 opl x.opl\n\n\
     Memory: all files that are taken and all that the mirrors hold are in memory.\n\n\
     Example: osm_hist plan mirrors.plan";
 
@@ -175,12 +178,12 @@ fn writing<'a>(alloc: Global, command: Command<'a>) -> Made<'a> {
     let progress = flag_arg(
         alloc,
         "progress",
-        "Tells on standard error, while it runs, how much was read and written",
+        "Reports on standard error, while it runs, how much was read and written",
     );
     let summary = flag_arg(
         alloc,
         "summary",
-        "Tells on standard error, in one line after success, what was read and written",
+        "Reports on standard error, in one line after success, what was read and written",
     );
     let command = with_arg(command.arg(output_arg(alloc)), format_arg(alloc));
     let command = with_arg(command, shard_arg(alloc));

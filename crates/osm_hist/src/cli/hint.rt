@@ -12,7 +12,7 @@ use std::{fs, io, str};
 pub(super) const HINTS: &str = "--hints";
 
 /// The most bytes of a file that are read at a time.
-const CHUNK: usize = 4096;
+const HINT_CHUNK: usize = 4096;
 
 /// The most bytes of an object that a hint names: a letter and an id.
 const OBJECT: usize = 24;
@@ -217,14 +217,14 @@ impl Kind {
 /// Reads the file once more, and writes the number of its faulty line and the object that the line begins with.
 fn write_line<R: Files, E: Write>(rt: &R, fault: &NamedFault<'_>, err: &mut E) -> io::Result<()> {
     let mut file = File::open(rt, fault.name)?;
-    let mut buffer = [0u8; CHUNK];
+    let mut buffer = [0u8; HINT_CHUNK];
     let mut line = 1_u64;
     let mut left = fault.place;
     for _ in 0..u64::MAX {
         if left == 0 {
             break;
         }
-        let most = left.min(CHUNK as u64) as usize;
+        let most = left.min(HINT_CHUNK as u64) as usize;
         let count = read_retried(&mut file, &mut buffer[..most])?;
         if count == 0 {
             return Ok(());

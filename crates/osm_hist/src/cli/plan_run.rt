@@ -115,8 +115,8 @@ fn event_of<'f>(step: &Step, file: &'f [u8]) -> Event<'f>
 /// The lines of the replies to the events, numbered from 1.
 fn lines_of(alloc: Global, replies: &[Reply]) -> Result<String, AllocError> {
     let mut lines = String::new(alloc);
-    for (place, reply) in replies.iter().enumerate() {
-        let number = place + 1;
+    for (index, reply) in replies.iter().enumerate() {
+        let number = index + 1;
         match reply {
             Reply::Taken => writeln!(lines, "{number} Taken")?,
             Reply::Refused(fault) => match fault.reason {

@@ -1,7 +1,7 @@
 //! The line that `--summary` prints.
 use super::escape::Escaped;
 use super::request::FileCommand;
-use super::tally::WriterState;
+use super::tally::WrittenCounts;
 use osm_mirror::Counts;
 use std::fmt;
 use std::fmt::{Display, Formatter};
@@ -16,7 +16,7 @@ pub(super) struct Summary<'a> {
     /// The counts of the run.
     pub(super) counts: Counts,
     /// The counts of the output.
-    pub(super) written: WriterState,
+    pub(super) written: WrittenCounts,
     /// The time of the run, in milliseconds.
     pub(super) time: u128,
     /// The name of the output.
@@ -26,7 +26,7 @@ pub(super) struct Summary<'a> {
 impl Display for Summary<'_> {
     fn fmt<W: fmt::Write>(&self, f: &mut Formatter<W>) -> fmt::Result {
         let Counts { read, written, .. } = self.counts;
-        let WriterState {
+        let WrittenCounts {
             nodes,
             ways,
             relations,

@@ -6,7 +6,7 @@ use std::io::Write;
 
 /// The counts of a file that was written.
 #[derive(Clone, Copy, Debug, PartialEq, Eq)]
-pub(super) struct WriterState {
+pub(super) struct WrittenCounts {
     pub(super) nodes: u64,
     pub(super) ways: u64,
     pub(super) relations: u64,
@@ -15,7 +15,7 @@ pub(super) struct WriterState {
 }
 
 /// The counts of an empty file.
-const NOTHING: WriterState = WriterState {
+const NOTHING: WrittenCounts = WrittenCounts {
     nodes: 0,
     ways: 0,
     relations: 0,
@@ -59,14 +59,14 @@ enum KeyPosition {
 #[derive(Clone, Copy, Debug)]
 struct TallyState {
     /// The counts so far.
-    written: WriterState,
+    written: WrittenCounts,
     /// The key that is being read.
     key: Key,
     /// The key of the version before.
     last: Key,
     /// Whether `last` was counted as a key with several versions.
     is_shared: bool,
-    place: KeyPosition,
+    position: KeyPosition,
     /// The bits that were read of a number of an o5 file.
     number: u64,
     /// The number of bits that were read.
@@ -84,7 +84,7 @@ impl TallyState {
             key: NO_KEY,
             last: NO_KEY,
             is_shared: false,
-            place: KeyPosition::Start,
+            position: KeyPosition::Start,
             number: 0,
             bits: 0,
             left: 0,
@@ -107,21 +107,21 @@ impl TallyState {
             written.shared_keys = written.shared_keys.saturating_add(1);
         }
         self.last = self.key;
-        self.place = KeyPosition::Rest;
+        self.position = KeyPosition::Rest;
     }
 
     /// Reads a byte of OPL.
     fn read_opl(&mut self, byte: u8) {
-        match self.place {
+        match self.position {
             KeyPosition::Start => {
                 self.key = Key {
                     kind: byte,
                     ..NO_KEY
                 };
-                self.place = KeyPosition::Id;
+                self.position = KeyPosition::Id;
             }
             KeyPosition::Id => match byte {
-                b' ' => self.place = KeyPosition::Version,
+                b' ' => self.position = KeyPosition::Version,
                 b'-' => self.key.is_negative = true,
                 digit => self.key.id = with_digit(self.key.id, digit),
             },
@@ -132,7 +132,7 @@ impl TallyState {
             },
             KeyPosition::Rest | KeyPosition::Length => {
                 if byte == b'\n' {
-                    self.place = KeyPosition::Start;
+                    self.position = KeyPosition::Start;
                 }
             }
         }
@@ -140,12 +140,12 @@ impl TallyState {
 
     /// Reads a byte of o5.
     fn read_o5(&mut self, byte: u8) {
-        match self.place {
+        match self.position {
             KeyPosition::Start => self.read_type(byte),
             KeyPosition::Length => {
                 if let Some(length) = self.read_number(byte) {
                     self.left = length;
-                    self.place = match self.key.kind {
+                    self.position = match self.key.kind {
                         0 => KeyPosition::Rest,
                         _ => KeyPosition::Id,
                     };
@@ -155,7 +155,7 @@ impl TallyState {
                 if let Some(number) = self.read_number(byte) {
                     self.base = self.base.wrapping_add(difference(number));
                     self.key.id = self.base;
-                    self.place = KeyPosition::Version;
+                    self.position = KeyPosition::Version;
                 }
                 self.left = self.left.saturating_sub(1);
             }
@@ -168,8 +168,8 @@ impl TallyState {
             }
             KeyPosition::Rest => self.left = self.left.saturating_sub(1),
         }
-        if self.left == 0 && self.place == KeyPosition::Rest {
-            self.place = KeyPosition::Start;
+        if self.left == 0 && self.position == KeyPosition::Rest {
+            self.position = KeyPosition::Start;
         }
     }
 
@@ -186,7 +186,7 @@ impl TallyState {
             self.base = 0;
         }
         if byte < 0xf0 {
-            self.place = KeyPosition::Length;
+            self.position = KeyPosition::Length;
         }
     }
 
@@ -252,7 +252,7 @@ impl Tally {
     }
 
     /// The counts of the bytes written until now.
-    pub(super) fn written(&self) -> WriterState {
+    pub(super) fn written(&self) -> WrittenCounts {
         match self.state.try_borrow() {
             Ok(state) => state.written,
             Err(_) => NOTHING,

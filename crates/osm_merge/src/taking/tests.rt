@@ -8,8 +8,8 @@ use std::alloc::Global;
 /// Versions of the number `number` of `count` nodes, whose ids are `apart` from each other.
 fn nodes(alloc: Global, count: u32, apart: u32, number: u32) -> History {
     let mut text = String::new(alloc);
-    for place in 0..count {
-        let id = place.saturating_mul(apart);
+    for index in 0..count {
+        let id = index.saturating_mul(apart);
         let _ = writeln!(text, "n{id} v{number} dV c0 t i0 u T x1 y1");
     }
     history_of(alloc, text.as_bytes())

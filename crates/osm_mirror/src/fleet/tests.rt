@@ -42,20 +42,20 @@ fn run(alloc: Global, fleet: &mut Fleet, events: &[Event]) -> Vec<Reply> {
     Vec::new(alloc)
 }
 
-/// The file of the mirror with the number `place`, as OPL.
-fn written(alloc: Global, fleet: &Fleet, place: usize) -> Vec<u8> {
-    if place < fleet.len()
-        && let Ok(file) = fleet.mirror(place).write(Format::Opl)
+/// The file of the mirror with the number `index`, as OPL.
+fn written(alloc: Global, fleet: &Fleet, index: usize) -> Vec<u8> {
+    if index < fleet.len()
+        && let Ok(file) = fleet.mirror(index).write(Format::Opl)
     {
         return file;
     }
     Vec::new(alloc)
 }
 
-/// The snapshot of the mirror with the number `place`, as OPL.
-fn newest(alloc: Global, fleet: &Fleet, place: usize) -> Vec<u8> {
+/// The snapshot of the mirror with the number `index`, as OPL.
+fn newest(alloc: Global, fleet: &Fleet, index: usize) -> Vec<u8> {
     let mut latest = Mirror::new_latest(alloc);
-    let file = written(alloc, fleet, place);
+    let file = written(alloc, fleet, index);
     if latest.take(&file).is_ok()
         && let Ok(snapshot) = latest.write(Format::Opl)
     {
@@ -66,8 +66,8 @@ fn newest(alloc: Global, fleet: &Fleet, place: usize) -> Vec<u8> {
 
 /// Whether each mirror of a fleet has the snapshot of all versions of the files.
 fn has_one_map(alloc: Global, fleet: &Fleet) -> bool {
-    for place in 0..fleet.len() {
-        if newest(alloc, fleet, place).as_slice() != NEWEST {
+    for index in 0..fleet.len() {
+        if newest(alloc, fleet, index).as_slice() != NEWEST {
             return false;
         }
     }
@@ -183,9 +183,9 @@ fn mirrors_by_chance(rt: HostRuntime) {
 /// Appends the events in which a full and a latest mirror take the files by turns, and pass to each other twice in each
 /// format.
 fn two_mirrors_events<'a>(events: &mut Vec<Event<'a>>) {
-    for (place, file) in FILES.iter().enumerate() {
+    for (index, file) in FILES.iter().enumerate() {
         let _ = events.push(Event::Take {
-            mirror: place % 2,
+            mirror: index % 2,
             file: *file,
         });
     }

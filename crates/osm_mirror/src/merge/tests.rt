@@ -125,7 +125,8 @@ const WRITTEN_ELSEWHERE: &[Row] = &[
         &[
             b"# a comment\r\nn-0\tv01  x-0.0 y00 \r\rn1 y0.0000001 x-180 T u i0 t c0 dV v2\nn2 v1 dD x1 y",
         ],
-        "n0 v1 dV c0 t i0 u T x0 y0\nn1 v2 dV c0 t i0 u T x-180 y0.0000001\nn2 v1 dD c0 t i0 u T x y\nread 3, written 3\n",
+        "n0 v1 dV c0 t i0 u T x0 y0\nn1 v2 dV c0 t i0 u T x-180 y0.0000001\nn2 v1 dD c0 t i0 u T x y\n\
+         read 3, written 3\n",
     ),
     (
         &[b"\r\n\nn1 v1 dD\r\r\n\n#\rn2 v1 dD"],
@@ -144,7 +145,8 @@ const WRITTEN_ELSEWHERE: &[Row] = &[
             b"w5 v1 Nn1,n-2\nr6 v1 dV Mw5@outer,n1@\n",
             b"w5 v2 dD Nn1\r\nr6 v1 Tb=1,a=2 Mw5@outer,n1@",
         ],
-        "w5 v1 dV c0 t i0 u T Nn1,n-2\nw5 v2 dD c0 t i0 u T N\nr6 v1 dV c0 t i0 u T Mw5@outer,n1@\nr6 v1 dV c0 t i0 u Ta=2,b=1 Mw5@outer,n1@\nread 4, written 4\n",
+        "w5 v1 dV c0 t i0 u T Nn1,n-2\nw5 v2 dD c0 t i0 u T N\nr6 v1 dV c0 t i0 u T Mw5@outer,n1@\n\
+         r6 v1 dV c0 t i0 u Ta=2,b=1 Mw5@outer,n1@\nread 4, written 4\n",
     ),
 ];
 
@@ -327,16 +329,16 @@ fn written(alloc: Global, files: &[&[u8]], format: Format) -> Vec<u8> {
 }
 
 /// Files, a format, and the bytes that are written.
-type WriterState = (&'static [&'static [u8]], Format, &'static [u8]);
+type WrittenRow = (&'static [&'static [u8]], Format, &'static [u8]);
 
 /// Asserts that the merge of each row writes its bytes.
-fn assert_written<R: AllocGlobal + Abort>(rt: &R, rows: &[WriterState]) {
+fn assert_written<R: AllocGlobal + Abort>(rt: &R, rows: &[WrittenRow]) {
     for (files, format, bytes) in rows {
         assert_eq!(rt; written(rt.alloc(), files, *format).as_slice(), *bytes);
     }
 }
 
-const EMPTY: &[WriterState] = &[
+const EMPTY: &[WrittenRow] = &[
     (&[], Format::O5m, b"\xff\xe0\x04o5m2\xfe"),
     (
         &[b"\xff\xe0\x04o5m2\xfe", b""],
@@ -354,7 +356,7 @@ const LINES: &[u8] =
 const O5C: &[u8] =
     b"\xff\xe0\x04o5c2\x10\x0b\x02\x01\x02\x02\x00\x01\x00a\x00\x00\x00\x10\x05\x00\x02\x02\x00\x01\xfe";
 
-const THREE_FORMATS: &[WriterState] = &[
+const THREE_FORMATS: &[WrittenRow] = &[
     (&[LINES], Format::Opl, LINES),
     (&[NODE_THEN_DELETION], Format::Opl, LINES),
     (&[O5C], Format::Opl, LINES),
@@ -379,7 +381,7 @@ fn node_then_deletion_o5m(rt: HostRuntime) {
     assert_written(&rt, THREE_FORMATS);
 }
 
-const WAYS: &[WriterState] = &[
+const WAYS: &[WrittenRow] = &[
     (
         &[b"w5 v1 dV\n", b"w5 v2 dD\n"],
         Format::O5m,
@@ -405,7 +407,7 @@ const PLAIN: &[u8] =
 const WRAPPED: &[u8] =
     b"\xff\xe0\x04o5m2\x10\x09\x02\x01\x00\xff\xc7\xce\xb4\x0d\x00\x10\x09\x02\x01\x00\xff\xef\xe2\x96\x05\x00\xfe";
 
-const LONGITUDES: &[WriterState] = &[
+const LONGITUDES: &[WrittenRow] = &[
     (&[PLAIN], Format::O5m, PLAIN),
     (&[WRAPPED], Format::O5m, PLAIN),
 ];
@@ -418,7 +420,7 @@ fn longitude_wrap(rt: HostRuntime) {
 const DELETION_LAST: &[u8] =
     b"\xff\xe0\x04o5m2\x10\x0b\x02\x01\x00\x80\xda\xc4\x09\x80\xda\xc4\x09\x10\x03\x00\x01\x00\xfe";
 
-const OLD_ORDER: &[WriterState] = &[
+const OLD_ORDER: &[WrittenRow] = &[
     (
         &[
             b"\xff\xe0\x04o5m2\x10\x03\x02\x01\x00\x10\x0b\x00\x01\x00\x80\xda\xc4\x09\x80\xda\xc4\x09\xfe",
@@ -631,7 +633,8 @@ fn is_same_in_turns(alloc: Global, files: [&[u8]; 3], count: usize) -> bool {
 
 /// A node, a way and a relation.
 const ALL_KINDS: &[u8] =
-    b"n1 v1 dV c1 t1970-01-01T00:00:01Z i1 ua T x0 y0\nw5 v1 dV c0 t i0 u Ta=b Nn1,n-2\nr6 v2 dV c0 t i0 u T Mw5@outer,n1@\n";
+    b"n1 v1 dV c1 t1970-01-01T00:00:01Z i1 ua T x0 y0\nw5 v1 dV c0 t i0 u Ta=b Nn1,n-2\n\
+      r6 v2 dV c0 t i0 u T Mw5@outer,n1@\n";
 
 /// Whether `count` inputs that hold `ALL_KINDS`, in the three formats by turns, make one file in each format.
 fn is_one_mixture(alloc: Global, count: usize) -> bool {

@@ -109,8 +109,10 @@ fn cut_file(rt: HostRuntime) {
         DELETED,
     ];
     let text =
-        "1 taken\nfile 0, byte 0: BadHeader\nfile 0, byte 0: BadHeader\nfile 0, byte 7: NoEnd\nfile 0, byte 7: Truncated\n\
-        file 0, byte 20: NoEnd\nfile 0, byte 27: NoEnd\n1 taken\nn1 v1 dV c0 t i0 u T x1 y1\nn1 v2 dD c0 t i0 u T x y\n";
+        "1 taken\nfile 0, byte 0: BadHeader\nfile 0, byte 0: BadHeader\nfile 0, byte 7: NoEnd\n\
+         file 0, byte 7: Truncated\n\
+        file 0, byte 20: NoEnd\nfile 0, byte 27: NoEnd\n1 taken\nn1 v1 dV c0 t i0 u T x1 y1\n\
+        n1 v2 dD c0 t i0 u T x y\n";
     assert_eq!(rt; mirror_text(rt.alloc(), Keep::Full, &files).as_str(), text);
 }
 

@@ -96,7 +96,7 @@ const FAULTY: [(&[u8], &str); 20] = [
 ];
 
 #[test]
-fn the_first_faulty_line_is_told(rt: HostRuntime) {
+fn the_first_faulty_line_is_reported(rt: HostRuntime) {
     for (bytes, text) in FAULTY {
         assert_eq!(rt; plan_text(rt.alloc(), bytes).as_str(), text);
     }

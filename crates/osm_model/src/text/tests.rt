@@ -97,16 +97,16 @@ fn copies_of_plain_texts_are_plain(rt: HostRuntime) -> Result<(), Fail> {
     let alloc = rt.alloc();
     let (plain, other) = (looked_at(alloc, "ä")?, looked_at(alloc, "a b")?);
     assert!(rt; plain.copy()?.plain().is_some());
-    let mut place = Text::new();
+    let mut target = Text::new();
     for (text, is_plain) in [
         (&plain, true),
         (&plain, true),
         (&other, false),
         (&plain, true),
     ] {
-        text.copy_into(&mut place)?;
+        text.copy_into(&mut target)?;
         assert_eq!(rt;
-            (place.as_str(), place.plain().is_some()),
+            (target.as_str(), target.plain().is_some()),
             (text.as_str(), is_plain)
         );
     }
@@ -114,7 +114,7 @@ fn copies_of_plain_texts_are_plain(rt: HostRuntime) -> Result<(), Fail> {
 }
 
 #[test]
-fn what_is_behind_a_plain_text_may_not_be(rt: HostRuntime) -> Result<(), Fail> {
+fn what_is_after_a_plain_text_may_not_be(rt: HostRuntime) -> Result<(), Fail> {
     let alloc = rt.alloc();
     for (more, whole) in [
         (" b", "a b"),

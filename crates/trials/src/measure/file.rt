@@ -10,7 +10,7 @@ use std::rt::Clock;
 use std::time::Instant;
 
 /// The number of bytes of the header of an o5 file.
-const HEADER: usize = 7;
+const HEADER_LENGTH: usize = 7;
 
 /// Reads each line by itself, and returns the number of versions.
 fn read_lines(alloc: Global, bytes: &[u8]) -> Result<u64> {
@@ -22,7 +22,7 @@ fn read_lines(alloc: Global, bytes: &[u8]) -> Result<u64> {
             versions = versions.saturating_add(1);
         }
         match rest[end..].split_first() {
-            Some((_, behind)) => rest = behind,
+            Some((_, after)) => rest = after,
             None => break,
         }
     }
@@ -45,17 +45,17 @@ fn read_data_sets(alloc: Global, bytes: &[u8]) -> Result<u64> {
     let mut versions: u64 = 0;
     let mut rest = bytes;
     for _ in 0..bytes.len() {
-        let Some((byte, behind)) = rest.split_first() else {
+        let Some((byte, after)) = rest.split_first() else {
             break;
         };
         if *byte == 0xff {
             decoder.reset();
         }
         if *byte >= 0xf0 {
-            rest = behind;
+            rest = after;
             continue;
         }
-        let (size, content) = read_number(behind)?;
+        let (size, content) = read_number(after)?;
         if size > content.len() as u64 {
             bail!("a data set is cut");
         }
@@ -73,7 +73,10 @@ fn read_data_sets(alloc: Global, bytes: &[u8]) -> Result<u64> {
 fn read_units(alloc: Global, bytes: &[u8], format: Format) -> Result<u64> {
     match format {
         Format::Opl => read_lines(alloc, bytes),
-        Format::O5m | Format::O5c => read_data_sets(alloc, &bytes[HEADER.min(bytes.len())..]),
+        Format::O5m | Format::O5c => read_data_sets(
+            alloc,
+            &bytes[HEADER_LENGTH.min(bytes.len())..],
+        ),
     }
 }
 
@@ -101,15 +104,16 @@ pub fn measure<R: Clock + AllocGlobal>(rt: &R, bytes: &[u8]) -> Result<String> {
 
     let start = Instant::now(rt)?;
     let units = read_units(alloc, bytes, loaded.format)?;
-    let alone = start.elapsed(rt)?;
+    let units_time = start.elapsed(rt)?;
 
     let start = Instant::now(rt)?;
     let distinct = read_source(alloc, bytes)?;
     let through = start.elapsed(rt)?;
 
     Ok(format!(in alloc;
-        "{size} bytes, {units} versions, {distinct} of them distinct\nunits alone: {} MB/s\nthrough a source: {} MB/s\nby load_any: {} MB/s\n",
-        megabytes(size, alone),
+        "{size} bytes, {units} versions, {distinct} of them distinct\nunits alone: {} MB/s\nthrough a source: {} MB/s\n\
+         by load_any: {} MB/s\n",
+        megabytes(size, units_time),
         megabytes(size, through),
         megabytes(size, loading)
     )?)

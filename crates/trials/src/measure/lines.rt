@@ -62,8 +62,8 @@ fn append_sample(text: &mut String, number: u32) -> Result<()> {
     append_front(text, 'w', number)?;
     append_tags(text, number)?;
     write!(text, " Nn{}", u64::from(number) * 3 + 300_000_000)?;
-    for place in 1..10u64 {
-        write!(text, ",n{}", u64::from(number) * 3 + 300_000_000 + place)?;
+    for index in 1..10u64 {
+        write!(text, ",n{}", u64::from(number) * 3 + 300_000_000 + index)?;
     }
     write!(text, "\n")?;
     Ok(())

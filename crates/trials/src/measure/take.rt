@@ -31,8 +31,8 @@ fn version(alloc: Global, id: u32, number: u64) -> Result<Version> {
 /// The file of version `number` of `count` nodes, whose ids are `apart` from each other.
 fn file(alloc: Global, count: u32, apart: u32, number: u64) -> Result<Vec<u8>> {
     let mut bytes = Vec::new(alloc);
-    for place in 0..count {
-        let node = version(alloc, place.saturating_mul(apart), number)?;
+    for index in 0..count {
+        let node = version(alloc, index.saturating_mul(apart), number)?;
         node.append_line(&mut bytes)?;
         bytes.push(b'\n')?;
     }
@@ -43,8 +43,8 @@ fn file(alloc: Global, count: u32, apart: u32, number: u64) -> Result<Vec<u8>> {
 fn pass(mirror: &Mirror) -> u64 {
     let history = mirror.held();
     let mut sum: u64 = 0;
-    for place in 0..history.len() {
-        sum = sum.saturating_add(history.get(place).number());
+    for index in 0..history.len() {
+        sum = sum.saturating_add(history.get(index).number());
     }
     sum
 }

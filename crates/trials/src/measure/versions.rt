@@ -36,8 +36,8 @@ fn body(alloc: Global, number: u32) -> Result<Body> {
         });
     }
     let mut references = Vec::new(alloc);
-    for place in 0..10u32 {
-        references.push(i64::from(number) * 3 + i64::from(place))?;
+    for index in 0..10u32 {
+        references.push(i64::from(number) * 3 + i64::from(index))?;
     }
     Ok(Body::Way {
         refs: References::from_vec(references),
@@ -144,7 +144,8 @@ pub fn measure<R: Clock + AllocGlobal>(rt: &R, count: u32) -> Result<String> {
     let copying = start.elapsed(rt)?;
 
     Ok(format!(in alloc;
-        "{} versions compared a second\n{} bytes of lines appended a second\n{} bytes of the same lines copied a second\n",
+        "{} versions compared a second\n{} bytes of lines appended a second\n\
+         {} bytes of the same lines copied a second\n",
         rate(compared, comparing),
         rate(appended, appending),
         rate(copied, copying)

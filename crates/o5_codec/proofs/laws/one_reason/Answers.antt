@@ -1,4 +1,4 @@
-use Rattle.o5_codec.proofs.AnswerLaws.{only_reason}
+use Rattle.o5_codec.proofs.ResultLaws.{only_reason}
 use Rattle.o5_codec.proofs.laws.one_reason.Goals as goal
 
 pub returns : goal.returns

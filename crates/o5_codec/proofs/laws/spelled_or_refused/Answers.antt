@@ -1,5 +1,5 @@
-use Rattle.o5_codec.proofs.AnswerLaws.{some_answer}
+use Rattle.o5_codec.proofs.ResultLaws.{either_result}
 use Rattle.o5_codec.proofs.laws.spelled_or_refused.Goals as goal
 
 pub returns : goal.returns
-returns c = some_answer
+returns c = either_result

@@ -3,7 +3,7 @@ use Rattle.opl_line.proofs.NumberLaws.{small_number}
 use Rattle.opl_line.proofs.number.digits_before.Goals as goal
 
 pub overflow_mul-number : goal.overflow_mul-number
-overflow_mul-number c = omega (arith, small_number c.loop-place.place c.loop-place.number (omega arith) c.loop-place.invariant.bound)
+overflow_mul-number c = omega (arith, small_number c.loop-index.index c.loop-index.number (omega arith) c.loop-index.invariant.bound)
 
 pub overflow_add-number : goal.overflow_add-number
-overflow_add-number c = omega (arith, small_number c.loop-place.place c.loop-place.number (omega arith) c.loop-place.invariant.bound)
+overflow_add-number c = omega (arith, small_number c.loop-index.index c.loop-index.number (omega arith) c.loop-index.invariant.bound)

@@ -1,5 +1,5 @@
 use Rattle.opl_line.proofs.NumberLaws.{IsFewTo}
 use Rattle.opl_line.proofs.number.digits_before.Given as goal
 
-abbrev pub invariant-loop-place : goal.invariant-loop-place
-invariant-loop-place l = IsFewTo l.text l.place l.number
+abbrev pub invariant-loop-index : goal.invariant-loop-index
+invariant-loop-index l = IsFewTo l.text l.index l.number

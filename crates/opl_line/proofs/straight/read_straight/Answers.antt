@@ -16,7 +16,7 @@ from_checked_data-requires c =
     let some : eqb head.meta.version 0 ≡ false = search rules in
     let dated : is_dated head.meta ≡ true = search rules in
     let same : to_z w64 (of_z w64 head.id) ≡ head.id = search rules in
-    rw same (no_fault c.args.line.now c.in_ok-head.behind.now head.kind head.id head.is_deleted head.meta c.in_ok-body.body
+    rw same (no_fault c.args.line.now c.in_ok-head.rest.now head.kind head.id head.is_deleted head.meta c.in_ok-body.body
     c.in_ok-head.ensures c.in_ok-body.ensures some dated)
 
 -- a property of the version that is made holds for the one that is returned
@@ -36,10 +36,11 @@ returns c =
     let some : eqb head.meta.version 0 ≡ false = search rules in
     let dated : is_dated head.meta ≡ true = search rules in
     let same : to_z w64 (of_z w64 head.id) ≡ head.id = search rules in
-    let value : IfOk c.from_checked_data.result (λ v. v ≡ version_of head.id head.meta body) = rw same at c.from_checked_data.ensures.value in
+    let value : IfOk c.from_checked_data.result (λ v. v ≡ version_of head.id head.meta body) =
+    rw same at c.from_checked_data.ensures.value in
     let R : VersionData → Type 0 = λ v. reading_line c.args.line.now ≡ Ok (Some v) in
     let made = both IsVersion (λ v. v ≡ version_of head.id head.meta body) R
-    (is_read c.args.line.now c.in_ok-head.behind.now head.kind head.id head.is_deleted head.meta body c.in_ok-head.ensures
+    (is_read c.args.line.now c.in_ok-head.rest.now head.kind head.id head.is_deleted head.meta body c.in_ok-head.ensures
     c.in_ok-body.ensures some dated)
     c.from_checked_data.result c.from_checked_data.ensures.valid value in
     subst (λ o. IfSome o R) (sym c.ok.ensures.value) (of_made R c.from_checked_data.result made)

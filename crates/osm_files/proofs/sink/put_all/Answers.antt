@@ -34,10 +34,10 @@ put-requires-clause-open g c = (ap (λ s. s.has_begun) c.puts.invariant.0.state,
 pub put-requires-clause-follows : goal.put-requires-clause-follows
 put-requires-clause-follows g c = λ going.
     let xs = to_list c.args.history.now in
-    let i = c.puts.place in
+    let i = c.puts.index in
     let v = c.get.result.now in
     let change = change_of g.W.Output c.args.out.now c.puts.out in
-    let within : i < length xs = omega (arith, c.puts-test.true, c.len-place-end.ensures) in
+    let within : i < length xs = omega (arith, c.puts-test.true, c.len-index-end.ensures) in
     may_put c.args.sink.now.format c.args.sink.now.number xs i v change c.puts.sink
     (strict-listed c.args.history.now) within c.get.ensures c.puts.invariant.0
 
@@ -46,13 +46,13 @@ returns-in_err-put-clause-written g c =
     let f = c.args.sink.now.format in
     let n = c.args.sink.now.number in
     let xs = to_list c.args.history.now in
-    let i = c.puts.place in
+    let i = c.puts.index in
     let v = c.get.result.now in
     let before = c.args.out.now in
     let now = c.put.new.out in
     let change = change_of g.W.Output before now in
     let fault = c.in_err-put.field-0.0 in
-    let within : i < length xs = omega (arith, c.puts-test.true, c.len-place-end.ensures) in
+    let within : i < length xs = omega (arith, c.puts-test.true, c.len-index-end.ensures) in
     let cut = put_err f n g.W.Output (take i xs) before c.puts.out c.puts.sink c.puts.invariant.0 v
     c.put.new.self now fault c.in_err-put.ensures.calls in
     let p = err_from_is_err_and c.from_residual-in_err-put.result c.from_residual-in_err-put.ensures.1 in
@@ -64,11 +64,11 @@ puts-preserved g c =
     let f = c.args.sink.now.format in
     let n = c.args.sink.now.number in
     let xs = to_list c.args.history.now in
-    let i = c.puts.place in
+    let i = c.puts.index in
     let v = c.get.result.now in
     let before = c.args.out.now in
     let now = c.put.new.out in
-    let within : i < length xs = omega (arith, c.puts-test.true, c.len-place-end.ensures) in (
+    let within : i < length xs = omega (arith, c.puts-test.true, c.len-index-end.ensures) in (
       subst (λ (x : List VersionData). HasPut f n x (change_of g.W.Output before now) c.put.new.self) (front_at xs i v within c.get.ensures)
           (put_ok f n g.W.Output (take i xs) before c.puts.out c.puts.sink c.puts.invariant.0 v
           c.put.new.self now c.in_ok-put.ensures.calls),
@@ -83,10 +83,10 @@ returns-clause-written g c =
     let f = c.args.sink.now.format in
     let n = c.args.sink.now.number in
     let xs = to_list c.args.history.now in
-    let i = c.puts.place in
+    let i = c.puts.index in
     let before = c.args.out.now in
     let now = c.end.new.out in
-    let all : take i xs ≡ xs = take_all i xs (omega (arith, c.puts-test.false, c.len-place-end.ensures)) in
+    let all : take i xs ≡ xs = take_all i xs (omega (arith, c.puts-test.false, c.len-index-end.ensures)) in
     let written = λ (x : List VersionData). WritesFile n (change_of g.W.Output before now) (spell_list f x) c.end.result in
     subst written all
     (end_written f n g.W.Output (take i xs) before c.puts.out c.puts.sink c.puts.invariant.0 c.end.new.self now

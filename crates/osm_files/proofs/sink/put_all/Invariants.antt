@@ -8,4 +8,4 @@ use Rattle.osm_files.proofs.sink.put_all.Given as goal
 abbrev pub invariant-puts : goal.invariant-puts
 invariant-puts g l =
     let change = change_of g.W.Output l.fn.out l.out in
-    HasPut l.fn.sink.format l.fn.sink.number (take l.place (to_list l.history)) change l.sink × FailingLasts change
+    HasPut l.fn.sink.format l.fn.sink.number (take l.index (to_list l.history)) change l.sink × FailingLasts change

@@ -18,7 +18,8 @@ returns-in-Err-clause-begins g c =
 pub returns-in-Ok-None-clause-begins : goal.returns-in-Ok-None-clause-begins
 returns-in-Ok-None-clause-begins g c =
     let input = c.args.units.now.input in
-    weaker_step g.R.Input.can_give c.args.units.now c.next.new.self (λ p q. SourceStep {A = Placed} (units_or_failed p) (Ok None) (units_or_failed q))
+    weaker_step g.R.Input.can_give c.args.units.now c.next.new.self
+    (λ p q. SourceStep {A = Placed} (units_or_failed p) (Ok None) (units_or_failed q))
     (λ p q. BeginsGroup input (units_or_failed p) [] (Ok None) (units_or_failed q))
     (λ a b h. none_begins input (units_or_failed a) (units_or_failed b) h) (rw c.in-Ok-None.field-0-is at c.in-Ok-None.ensures.step)
 

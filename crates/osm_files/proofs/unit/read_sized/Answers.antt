@@ -13,4 +13,4 @@ returns-in-Err-read_content-clause-found c =
     content_refused c.args.decoder.now.segment c.args.type_byte c.args.bytes.now (InSegment c.args.decoder.now.segment)
     (sym c.is_ended.ensures ∙ c.if-not-is_ended.false) c.in-Ok.read.0 c.in-Ok.read.1.now c.in-Err-read_content.reason
     c.in-Ok.ensures.value
-    (omega (arith, c.if-size-behind.false)) c.in-Err-read_content.ensures
+    (omega (arith, c.if-size-rest.false)) c.in-Err-read_content.ensures

@@ -10,11 +10,11 @@ use std::{io, str};
 
 /// A clock that a test sets.
 #[derive(Drop)]
-struct SourceRest {
+struct TestClock {
     milliseconds: Cell<u64>,
 }
 
-impl Clock for SourceRest {
+impl Clock for TestClock {
     fn monotonic(&self) -> io::Result<Duration> {
         Ok(Duration::from_millis(self.milliseconds.get()))
     }
@@ -70,7 +70,7 @@ impl OpenFile for Thousand {
 }
 
 /// Reads 100 bytes at each of `times`.
-fn read_at(clock: &SourceRest, screen: &mut Screen, times: &[u64]) {
+fn read_at(clock: &TestClock, screen: &mut Screen, times: &[u64]) {
     let files: [Option<Stream<Thousand, Empty>>; 1] = [Some(Stream::File(Thousand))];
     let meter = Meter::new(clock, screen, true);
     meter.read_files(&files);
@@ -84,7 +84,7 @@ fn read_at(clock: &SourceRest, screen: &mut Screen, times: &[u64]) {
 
 /// The reports of a run that reads 100 bytes at each of `times`.
 fn reports(alloc: Global, is_terminal: bool, times: &[u64]) -> String {
-    let clock = SourceRest {
+    let clock = TestClock {
         milliseconds: Cell::new(0),
     };
     let mut screen = Screen {

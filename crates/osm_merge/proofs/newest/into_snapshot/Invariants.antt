@@ -3,4 +3,4 @@ use Rattle.osm_merge.proofs.NewestLaws.{IsSettling}
 use Rattle.osm_merge.proofs.newest.into_snapshot.Given as goal
 
 abbrev pub invariant-versions : goal.invariant-versions
-invariant-versions l = IsSettling (to_list l.fn.history) l.versions.items l.place l.kept
+invariant-versions l = IsSettling (to_list l.fn.history) l.versions.items l.index l.kept

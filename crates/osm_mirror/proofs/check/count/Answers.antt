@@ -9,8 +9,8 @@ versions-init g c = λ later k. (later, k, count_none (Some later))
 
 pub versions-preserved : goal.versions-preserved
 versions-preserved g c = λ later k.
-    let told = subst (λ s. g.S.Source.can_give s later) c.give_back.ensures k in
-    let y = (rw c.in-Some.is at c.in_ok-version.ensures.step) later told in
+    let known = subst (λ s. g.S.Source.can_give s later) c.give_back.ensures k in
+    let y = (rw c.in-Some.is at c.in_ok-version.ensures.step) later known in
     let x = c.versions.invariant y.0 y.1 in
     let held : c.replace.new.self ≡ Some c.in-Some.version = search rules in (
       x.0,

@@ -11,14 +11,16 @@ halves-preserved-then-branch g c =
     let middle = c.halves.low + (c.halves.high - c.halves.low) / 2 in
     halving_low c.args.bound (g.F.OpenAt.bytes c.args.file.now) c.halves.low middle c.halves.high (middle + 1) c.halves.invariant
     (omega arith) refl
-    (subst (λ b. IsFirstUnder (g.F.OpenAt.bytes c.args.file.now) c.args.bound middle b) c.if-branch.true c.in_ok-is_first_below.ensures.below)
+    (subst (λ b. IsFirstUnder (g.F.OpenAt.bytes c.args.file.now) c.args.bound middle b) c.if-branch.true
+    c.in_ok-is_first_below.ensures.below)
 
 pub halves-preserved : goal.halves-preserved
 halves-preserved g c =
     let middle = c.halves.low + (c.halves.high - c.halves.low) / 2 in
     halving_high c.args.bound (g.F.OpenAt.bytes c.args.file.now) c.halves.low middle c.halves.high c.halves.invariant
     (omega arith)
-    (subst (λ b. IsFirstUnder (g.F.OpenAt.bytes c.args.file.now) c.args.bound middle b) c.if-branch.false c.in_ok-is_first_below.ensures.below)
+    (subst (λ b. IsFirstUnder (g.F.OpenAt.bytes c.args.file.now) c.args.bound middle b) c.if-branch.false
+    c.in_ok-is_first_below.ensures.below)
 
 pub returns-clause-cut : goal.returns-clause-cut
 returns-clause-cut g c =

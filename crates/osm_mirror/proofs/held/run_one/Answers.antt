@@ -10,7 +10,8 @@ pub returns-clause-written : goal.returns-clause-written
 returns-clause-written g c =
     let one : c.push.new.self.items ≡ c.args.input ∷ [] = search rules in
     one_written g.R.Input.can_give c.push.new.self.items c.args.input one
-    (λ all counts. IsWritten (selection_of c.args.selection) all c.args.format (change_of g.W.Output c.args.out.now c.run_held.new.out) counts)
+    (λ all counts. IsWritten (selection_of c.args.selection) all c.args.format (change_of g.W.Output c.args.out.now c.run_held.new.out)
+    counts)
     c.run_held.result c.run_held.ensures.written
 
 pub returns-clause-refused : goal.returns-clause-refused

@@ -1,6 +1,6 @@
 use Rattle.std.proofs.Common.{rules, ◌∷◌, ◌++◌, []}
 use Rattle.osm_model.specs.Line.{list_text, reference_text}
-use Rattle.osm_model.proofs.AppendLaws.{list_begins, more_behind}
+use Rattle.osm_model.proofs.AppendLaws.{list_begins, more_after}
 use Rattle.osm_model.proofs.ExtendsLaws.{extends_trans}
 use Rattle.osm_model.proofs.append.append_references.Goals as goal
 
@@ -13,7 +13,7 @@ loop-rest-init c = (
 
 pub loop-rest-preserved : goal.loop-rest-preserved
 loop-rest-preserved c = (
-  more_behind reference_text (c.args.out.now.items ++ (32 ∷ 78 ∷ list_text reference_text c.args.ids.now)) c.loop-rest.out.items
+  more_after reference_text (c.args.out.now.items ++ (32 ∷ 78 ∷ list_text reference_text c.args.ids.now)) c.loop-rest.out.items
       c.append_few_references.new.out.items
       c.loop-rest.rest.now c.split_at.result.0.now c.split_at.result.1.now
       (search rules) c.loop-rest.invariant.0 c.in_ok-append_few_references.ensures.appended,

@@ -8,5 +8,5 @@ pub returns : goal.returns
 returns c =
     let same : c.as_slice.result.now ≡ escape_char c.args.c = search rules in
     subst (λ form. MatchOption c.strip_prefix.result ((rest : List ℕ) → c.args.bytes.now ≢ form ++ rest)
-    (λ behind. c.args.bytes.now ≡ form ++ behind.now)) same
+    (λ after. c.args.bytes.now ≡ form ++ after.now)) same
     (strip_prefix_is Decides-eqb c.args.bytes.now c.as_slice.result.now c.strip_prefix.result c.strip_prefix.ensures.cases)

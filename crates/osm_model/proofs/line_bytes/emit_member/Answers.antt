@@ -10,4 +10,4 @@ returns c = λ v.
     let mark : c.if-is_first.set_integer.now ≡ (if c.args.is_first then letter ∷ [] else 44 ∷ letter ∷ []) =
     elim c.if-is_first.branch [ then-is_first w ↦ search rules | else-is_first w ↦ search rules ] in
     member_step c.in_ok-member.member.now c.args.members.now c.in_ok-member.more.now c.args.is_first c.if-is_first.set_integer.now _ _
-    (search rules) mark (search rules) (coming_is v c.at.result [] _ c.at.ensures.text c.at.ensures.place)
+    (search rules) mark (search rules) (coming_is v c.at.result [] _ c.at.ensures.text c.at.ensures.position)

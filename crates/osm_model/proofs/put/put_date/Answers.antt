@@ -8,8 +8,8 @@ unfolding date_text
 returns-clause-written c =
     let date = c.from_day-date.result in
     let year = c.from_day-date.ensures.year in
-    let behind = drop c.args.end c.args.room.now in
-    let written : drop c.put.result c.put.new.room ≡ date_text date ++ behind =
+    let rest = drop c.args.end c.args.room.now in
+    let written : drop c.put.result c.put.new.room ≡ date_text date ++ rest =
     rw (
       padded_pairs date.year,
       padded_pair (date.year / 100) (omega arith),
@@ -17,4 +17,4 @@ returns-clause-written c =
       padded_pair date.month (omega arith),
       padded_pair date.day (omega arith),
     ) (search rules) in
-    written ∙ ap (λ date. date_text date ++ behind) c.from_day-date.ensures.value
+    written ∙ ap (λ date. date_text date ++ rest) c.from_day-date.ensures.value

@@ -8,4 +8,4 @@ use Rattle.osm_model.proofs.tags.are_ascending.Goals as goal
 pub returns : goal.returns
 returns c =
     normal_test _ _ c.args.tags.now (search rules)
-    (c.is_sorted_by.ensures.cases (λ x y. is_lt (tag_cmp x y)) (answers_always _ _ _ (λ f pair answer after called. search rules)))
+    (c.is_sorted_by.ensures.cases (λ x y. is_lt (tag_cmp x y)) (answers_always _ _ _ (λ f pair result after called. search rules)))

@@ -1,5 +1,5 @@
 use Rattle.std.proofs.Common.{◌≡◌, ap}
-use Rattle.o5_codec.proofs.AnswerLaws.{spelled_in, refused_in}
+use Rattle.o5_codec.proofs.ResultLaws.{spelled_in, refused_in}
 use Rattle.o5_codec.proofs.decoder.Decoder.read_set.Goals as goal
 
 pub returns-in-Ok-clause-spelled : goal.returns-in-Ok-clause-spelled

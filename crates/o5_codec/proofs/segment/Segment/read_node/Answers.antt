@@ -11,6 +11,6 @@ returns-then-is_empty c =
       c.in_ok-lat.ensures,
       items_none tag_at c.read_latitude.new.self c.in_ok-lat.rest.now
           (empty_by_test _ c.if-is_empty.ensures),
-      c.replace.ensures,
+      c.overwrite.ensures,
       c.no_tags-tags.ensures,
     ) (search rules)

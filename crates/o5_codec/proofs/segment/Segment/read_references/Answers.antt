@@ -19,7 +19,7 @@ returns-in_err-id c =
 pub loop-rest-preserved : goal.loop-rest-preserved
 loop-rest-preserved c =
     let fits : SFits w64 c.in_ok-id.id = search rules in
-    let read : reference_at c.loop-rest.self c.loop-rest.rest.now ≡ Ok (c.in_ok-id.id, c.read_reference.new.self, c.in_ok-id.behind.now) =
+    let read : reference_at c.loop-rest.self c.loop-rest.rest.now ≡ Ok (c.in_ok-id.id, c.read_reference.new.self, c.in_ok-id.after.now) =
     search rules in
     rw (c.in_ok-push.ensures.items, to_z-of_z) (items_more reference_at _ _ _ _ _ _ _ _ c.loop-rest.invariant read
     c.in_ok-id.ensures.shorter)

@@ -1,6 +1,6 @@
 use Rattle.std.proofs.Common.{◌≡◌, ◌∙◌, ap, sym, Ok}
 use Rattle.osm_model.specs.declared.tags.Tag.{Tag}
-use Rattle.o5_codec.specs.Answer.{and_added}
+use Rattle.o5_codec.specs.Results.{and_added}
 use Rattle.o5_codec.specs.Text.{text_of, tag_of}
 use Rattle.o5_codec.proofs.TextSteps.{tag_read}
 use Rattle.o5_codec.proofs.MeaningSteps.{text_meant}

@@ -10,4 +10,5 @@ returns-in_ok-copy_into-in-Uid-Text c =
     rw (← c.self.view_is) (uid_meant _ _ _ c.in-Uid-Text.is-0 c.self.invariant.first) in
     let name : text_of c.args.self.now.second ≡ Ok c.in-Uid-Text.name =
     rw (← c.self.view_is) (text_meant _ _ c.in-Uid-Text.is-1 c.self.invariant.second) in
-    rw c.from-meta.ensures (ap (and_user c.args.meta.now) (user_read c.args.self.now _ _ id (rw c.in_ok-copy_into-in-Uid-Text.ensures name)))
+    rw c.from-meta.ensures (ap (and_user c.args.meta.now)
+    (user_read c.args.self.now _ _ id (rw c.in_ok-copy_into-in-Uid-Text.ensures name)))

@@ -29,11 +29,11 @@ lanes-preserved g c =
 pub returns-then-contains : goal.returns-then-contains
 returns-then-contains g c =
     let p = g.C.ByteClass.has c.args.class in
-    let here : p (get_or c.args.bytes.now c.rest.place 0) ≡ true = search rules in
-    first_at p c.args.bytes.now c.rest.place (omega arith) c.rest.invariant here
+    let here : p (get_or c.args.bytes.now c.rest.index 0) ≡ true = search rules in
+    first_at p c.args.bytes.now c.rest.index (omega arith) c.rest.invariant here
 
 pub returns : goal.returns
 returns g c =
     let p = g.C.ByteClass.has c.args.class in
-    let whole : c.rest.place ≡ length c.args.bytes.now = omega arith in
+    let whole : c.rest.index ≡ length c.args.bytes.now = omega arith in
     first_nowhere p c.args.bytes.now (subst (NoneBelow p c.args.bytes.now) whole c.rest.invariant)

@@ -9,4 +9,4 @@ abbrev pub decreases-lanes : goal.decreases-lanes
 decreases-lanes g l = length l.bytes - l.seen
 
 abbrev pub invariant-rest : goal.invariant-rest
-invariant-rest g l = NoneBelow (g.C.ByteClass.has l.class) l.bytes l.place
+invariant-rest g l = NoneBelow (g.C.ByteClass.has l.class) l.bytes l.index

@@ -8,8 +8,8 @@ pub returns-in_err-read : goal.returns-in_err-read
 returns-in_err-read g c =
     let rest : option_copied c.items.rest ≡ Some c.in-Some.text.now = search rules in
     let e = ap (pieces_of (is_end Commas)) rest ∙ c.split.ensures.pieces in
-    let answer : c.from_residual-in_err-read.result ≡ Err c.in_err-read.field-0.0 = search rules in
-    rw answer (⊎_elim (λ memory. inl memory) (λ refused.
+    let outcome : c.from_residual-in_err-read.result ≡ Err c.in_err-read.field-0.0 = search rules in
+    rw outcome (⊎_elim (λ memory. inl memory) (λ refused.
     inr (c.items.invariant ∙ refused_item g.T.Item.reading c.items.items.items _ _ _ _ e refused)) c.in_err-read.ensures)
 
 pub items-preserved : goal.items-preserved

@@ -16,36 +16,36 @@ returns-in_default-clause-text c =
 
 pub returns-in_default-scalar_of-clause-text : goal.returns-in_default-scalar_of-clause-text
 returns-in_default-scalar_of-clause-text c =
-    let e : split_all (is_end Percents) c.args.escape.now ≡ c.split.result.0.now ∷ split_all (is_end Percents) c.in_default-Some.behind.now =
+    let e : split_all (is_end Percents) c.args.escape.now ≡ c.split.result.0.now ∷ split_all (is_end Percents) c.in_default-Some.rest.now =
     search rules in
     let none : scalar_of c.split.result.0.now ≡ None = search rules in
     inr (
       refl,
       bad_scalar (string_bytes c.args.out.now) c.split.result.0.now _ _ _ _ e
-          (cut_split (is_end Percents) c.in_default-Some.behind.now) none,
+          (cut_split (is_end Percents) c.in_default-Some.rest.now) none,
     )
 
 pub returns-in_default-split_accepted-clause-text : goal.returns-in_default-split_accepted-clause-text
 returns-in_default-split_accepted-clause-text c =
-    let e : split_all (is_end Percents) c.args.escape.now ≡ c.split.result.0.now ∷ split_all (is_end Percents) c.in_default-Some.behind.now =
+    let e : split_all (is_end Percents) c.args.escape.now ≡ c.split.result.0.now ∷ split_all (is_end Percents) c.in_default-Some.rest.now =
     search rules in
-    let other : list_all is_literal (split_first (is_end Percents) c.in_default-Some.behind.now).0 ≡ false = search rules in
+    let other : list_all is_literal (split_first (is_end Percents) c.in_default-Some.rest.now).0 ≡ false = search rules in
     inr (
       refl,
       bad_raw (string_bytes c.args.out.now) c.split.result.0.now _ _ _ _ e
-          (cut_split (is_end Percents) c.in_default-Some.behind.now) other,
+          (cut_split (is_end Percents) c.in_default-Some.rest.now) other,
     )
 
 pub returns-clause-text : goal.returns-clause-text
 returns-clause-text c =
-    let e : split_all (is_end Percents) c.args.escape.now ≡ c.split.result.0.now ∷ split_all (is_end Percents) c.in_default-Some.behind.now =
+    let e : split_all (is_end Percents) c.args.escape.now ≡ c.split.result.0.now ∷ split_all (is_end Percents) c.in_default-Some.rest.now =
     search rules in
     let raw : list_all is_literal c.in-Some-split_accepted.raw.now ≡ true = search rules in
-    let parts : split_first (is_end Percents) c.in_default-Some.behind.now
+    let parts : split_first (is_end Percents) c.in_default-Some.rest.now
     ≡ (c.in-Some-split_accepted.raw.now, option_copied c.in-Some-split_accepted.more) = search rules in
-    let f : split_all (is_end Percents) c.in_default-Some.behind.now ≡ c.in-Some-split_accepted.raw.now
+    let f : split_all (is_end Percents) c.in_default-Some.rest.now ≡ c.in-Some-split_accepted.raw.now
     ∷ pieces_of (is_end Percents) (option_copied c.in-Some-split_accepted.more) =
-    cut_split (is_end Percents) c.in_default-Some.behind.now ∙ ap (λ s. s.0 ∷ pieces_of (is_end Percents) s.1) parts in
+    cut_split (is_end Percents) c.in_default-Some.rest.now ∙ ap (λ s. s.0 ∷ pieces_of (is_end Percents) s.1) parts in
     let some : scalar_of c.split.result.0.now ≡ Some c.in-Some.character = search rules in
     let bytes : string_bytes c.push_str.new.self ≡ string_bytes c.args.out.now ++ encode_utf8 c.in-Some.character
     ++ c.in-Some-split_accepted.raw.now = search rules in

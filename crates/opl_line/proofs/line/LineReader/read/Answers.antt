@@ -3,11 +3,11 @@ use Rattle.std.specs.Str.{IsUtf8}
 use Rattle.osm_model.specs.Data.{VersionData}
 use Rattle.opl_line.specs.declared.reason.OplReason.{OplReason}
 use Rattle.opl_line.specs.declared.reason.OplReason.TheVariants.{NotUtf8}
-use Rattle.opl_line.specs.Answer.{OplReads, as_value}
+use Rattle.opl_line.specs.Results.{OplReads, as_value}
 use Rattle.opl_line.specs.Reading.{is_skipped, reading_version, reading_line}
-use Rattle.opl_line.proofs.ReadingLaws.{not_utf8, utf8_line, as_answer}
-use Rattle.opl_line.proofs.SpellsLaws.{answer_spelled, answer_refused}
-use Rattle.opl_line.proofs.LineReasonLaws.{answer_reason}
+use Rattle.opl_line.proofs.ReadingLaws.{not_utf8, utf8_line, as_result}
+use Rattle.opl_line.proofs.SpellsLaws.{result_spelled, result_refused}
+use Rattle.opl_line.proofs.LineReasonLaws.{result_reason}
 use Rattle.opl_line.proofs.line.LineReader.read.Goals as goal
 
 pub returns-then-is_skipped : goal.returns-then-is_skipped
@@ -18,21 +18,21 @@ returns-then-is_skipped c =
 
 pub returns-in-Some : goal.returns-in-Some
 returns-in-Some c =
-    let answer : Result (Option VersionData) OplReason = Ok (Some c.in-Some.version) in
-    let reading : OplReads (reading_line c.args.line.now) answer = c.in-Some.ensures in
-    record { reading = reading; spelled = answer_spelled c.args.line.now answer reading; refused = tt; reason = tt }
+    let outcome : Result (Option VersionData) OplReason = Ok (Some c.in-Some.version) in
+    let reading : OplReads (reading_line c.args.line.now) outcome = c.in-Some.ensures in
+    record { reading = reading; spelled = result_spelled c.args.line.now outcome reading; refused = tt; reason = tt }
 
 pub returns-in_default-to_str : goal.returns-in_default-to_str
 returns-in_default-to_str c =
     let kept : is_skipped c.args.line.now ≡ false = search rules in
-    let answer : Result (Option VersionData) OplReason = Err NotUtf8 in
-    let reading : OplReads (reading_line c.args.line.now) answer = inr (not_utf8 c.args.line.now kept c.in_default-to_str.ensures) in
+    let outcome : Result (Option VersionData) OplReason = Err NotUtf8 in
+    let reading : OplReads (reading_line c.args.line.now) outcome = inr (not_utf8 c.args.line.now kept c.in_default-to_str.ensures) in
     record {
       reading = reading;
       spelled = tt;
-      refused = answer_refused c.args.line.now answer reading;
+      refused = result_refused c.args.line.now outcome reading;
       reason =
-          answer_reason c.args.line.now answer reading;
+          result_reason c.args.line.now outcome reading;
     }
 
 pub returns : goal.returns
@@ -46,11 +46,11 @@ returns c =
     let Q : Result (Option VersionData) OplReason → Type 0 = OplReads (as_value some (reading_version c.in-Some-to_str.text.now)) in
     let reading : OplReads (reading_line c.args.line.now) c.map.result =
     subst P (ap (λ t. as_value some (reading_version t)) text ∙ sym (utf8_line c.args.line.now kept utf8))
-    (subst Q (sym mapped) (as_answer some _ _ c.read_version.ensures)) in
+    (subst Q (sym mapped) (as_result some _ _ c.read_version.ensures)) in
     record {
       reading = reading;
-      spelled = answer_spelled c.args.line.now c.map.result reading;
+      spelled = result_spelled c.args.line.now c.map.result reading;
       refused =
-          answer_refused c.args.line.now c.map.result reading;
-      reason = answer_reason c.args.line.now c.map.result reading;
+          result_refused c.args.line.now c.map.result reading;
+      reason = result_reason c.args.line.now c.map.result reading;
     }

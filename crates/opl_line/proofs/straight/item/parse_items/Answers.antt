@@ -8,9 +8,9 @@ returns-then-is_empty-clause-text g c =
     let form = g.T.StraightItem.form in
     let before = c.items.items.items in
     let item = c.in_ok-item.item in
-    let behind = c.in_ok-item.behind.now in
+    let after = c.in_ok-item.after.now in
     let pushed : c.push.new.self.items ≡ before ++ item ∷ [] = search rules in
     c.items.invariant.text
     ∙ ap (λ t. with_commas form before ++ t) c.in_ok-item.ensures.text
-    ∙ sym (append_assoc (with_commas form before) (form item) behind)
-    ∙ ap (λ t. t ++ behind) (sym (ap (list_text form) pushed ∙ list_ends form before item))
+    ∙ sym (append_assoc (with_commas form before) (form item) after)
+    ∙ ap (λ t. t ++ after) (sym (ap (list_text form) pushed ∙ list_ends form before item))

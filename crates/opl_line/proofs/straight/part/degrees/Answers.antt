@@ -8,8 +8,8 @@ pub returns-clause-text : goal.returns-clause-text
 returns-clause-text c =
     let whole = c.in_ok-whole.whole in
     let units = c.in_ok-units.units in
-    let behind = c.in_ok-units.behind.now in
+    let rest = c.in_ok-units.rest.now in
     c.in_ok-whole.ensures.text
     ∙ ap (λ t. number_text whole ++ t) c.in_ok-units.ensures.text
-    ∙ sym (append_assoc (number_text whole) (fraction_text units) behind)
-    ∙ ap (λ t. t ++ behind) (sym (degrees_read whole units c.in_ok-units.ensures.bound))
+    ∙ sym (append_assoc (number_text whole) (fraction_text units) rest)
+    ∙ ap (λ t. t ++ rest) (sym (degrees_read whole units c.in_ok-units.ensures.bound))

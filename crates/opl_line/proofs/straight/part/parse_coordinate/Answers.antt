@@ -10,12 +10,12 @@ pub returns : goal.returns
 returns c =
     let text = c.args.text.now in
     let n = c.in_ok-units.units in
-    let behind = c.in_ok-units.behind.now in
-    let digits : without_sign text ≡ degrees_text n ++ behind = sym c.split_sign-is_negative.ensures.behind ∙ c.in_ok-units.ensures.text in
+    let after = c.in_ok-units.after.now in
+    let digits : without_sign text ≡ degrees_text n ++ after = sym c.split_sign-is_negative.ensures.rest ∙ c.in_ok-units.ensures.text in
     let some : is_negative text ≡ true → 0 < n = some_signed c.split_sign-is_negative.result.0
     (is_negative text) n c.split_sign-is_negative.ensures.sign c.else-is_negative.either in
     let sign : c.split_sign-is_negative.result.0 ≡ is_negative text = c.split_sign-is_negative.ensures.sign in
-    let read : reading_units (is_negative text) n ≡ Ok c.in-Ok.place = search rules in
-    let same : to_z w32 (of_z w32 c.in-Ok.place) ≡ c.in-Ok.place = search rules in
-    place_read text behind n some digits ∙ ap (λ z. coordinate_text z ++ behind)
-    (place_is (is_negative text) n c.in-Ok.place read ∙ sym same)
+    let read : reading_units (is_negative text) n ≡ Ok c.in-Ok.coordinate = search rules in
+    let same : to_z w32 (of_z w32 c.in-Ok.coordinate) ≡ c.in-Ok.coordinate = search rules in
+    place_read text after n some digits ∙ ap (λ z. coordinate_text z ++ after)
+    (place_is (is_negative text) n c.in-Ok.coordinate read ∙ sym same)

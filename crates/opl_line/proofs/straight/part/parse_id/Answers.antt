@@ -9,8 +9,8 @@ pub returns-clause-text : goal.returns-clause-text
 returns-clause-text c =
     let text = c.args.text.now in
     let n = c.in_ok-magnitude.magnitude in
-    let behind = c.in_ok-magnitude.behind.now in
-    let digits : without_sign text ≡ number_text n ++ behind = sym c.split_sign-is_negative.ensures.behind
+    let after = c.in_ok-magnitude.after.now in
+    let digits : without_sign text ≡ number_text n ++ after = sym c.split_sign-is_negative.ensures.rest
     ∙ c.in_ok-magnitude.ensures.text in
     let some : is_negative text ≡ true → 0 < n = some_signed c.split_sign-is_negative.result.0
     (is_negative text) n c.split_sign-is_negative.ensures.sign c.else-is_negative.either in
@@ -19,4 +19,4 @@ returns-clause-text c =
       | then-is_negative-2 w ↦ search rules
       | else-is_negative-2 w ↦ search rules
     ] in
-    integer_read text behind n some digits ∙ ap (λ z. integer_text z ++ behind) (same ∙ sym c.if-is_negative-2.result-is)
+    integer_read text after n some digits ∙ ap (λ z. integer_text z ++ after) (same ∙ sym c.if-is_negative-2.result-is)

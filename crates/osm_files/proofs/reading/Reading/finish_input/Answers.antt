@@ -11,7 +11,8 @@ returns-in-Ok-clause-step g c =
     let p = c.args.self.now in
     unread g.R.Input.can_give p c.pass.new.self (λ a b. SourceStep (units_or_failed a) (Ok c.pass.result) (units_or_failed b))
     (ap (λ v. v.coming) c.pass.ensures.gone)
-    (λ d. last_gives (with_coming p d) c.requires.nothing c.requires.bound c.requires.ended c.requires.good c.in-Ok.version c.len-size.result
+    (λ d. last_gives (with_coming p d) c.requires.nothing c.requires.bound c.requires.ended c.requires.good c.in-Ok.version
+    c.len-size.result
     c.pass.result (with_coming c.pass.new.self d) c.in-Ok.ensures
     (c.len-size.ensures ∙ ap (λ v. length v.held) c.self.view_is) c.pass.ensures.gave
     (ap (λ v. with_coming v d) c.pass.ensures.gone))

@@ -13,5 +13,6 @@ invariant_of-self-in-None g c = open_source g.R.Input.can_give c.begin_next.new.
 
 pub returns-in-Some-clause-begins : goal.returns-in-Some-clause-begins
 returns-in-Some-clause-begins g c =
-    subst (λ (s : FileSourceData _). BeginsOn g.R.Input.can_give s.units s.group (Ok (Some c.in-Some.first)) c.self.inside.units) c.self.view_is
+    subst (λ (s : FileSourceData _). BeginsOn g.R.Input.can_give s.units s.group (Ok (Some c.in-Some.first)) c.self.inside.units)
+    c.self.view_is
     (begins_held g.R.Input.can_give c.self.inside.units c.self.inside.pending c.in-Some.first (sym c.in-Some.ensures.value))

@@ -55,7 +55,8 @@ returns-in-Err-into_ascending-clause-step g c =
     let i = c.self.inside in
     let refused = c.refuse-in-Err-into_ascending in
     let new = source_data refused.new.self (option_to_list c.in_ok-self-inside.field-0) (into_iter_items i.ready) in
-    subst (λ (x : FileSourceData _). FileSteps g.R.Input.can_give (with_group x (c.args.first ∷ c.args.second ∷ [])) (Err refused.result) new)
+    subst (λ (x : FileSourceData _). FileSteps g.R.Input.can_give (with_group x (c.args.first ∷ c.args.second ∷ []))
+    (Err refused.result) new)
     c.self.view_is
     (subst (λ (xs : List VersionData). FileSteps g.R.Input.can_give (source_data i.units xs []) (Err refused.result) new) c.in-Ok.ensures
     (gathered_memory g.R.Input.can_give i.units c.in-Ok.group c.gather.new.units c.gather.new.self c.in_ok-self-inside.field-0

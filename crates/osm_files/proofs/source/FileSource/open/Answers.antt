@@ -5,7 +5,7 @@ use Rattle.osm_files.specs.Load.{format_of}
 use Rattle.osm_files.specs.Position.{Position, KnownPosition, with_coming, rest_of_bytes, units_or_failed}
 use Rattle.osm_files.specs.Source.{SourceStep}
 use Rattle.osm_files.specs.Stream.{Placed}
-use Rattle.osm_files.proofs.RiseLaws.{source_opens_told, opens_refused}
+use Rattle.osm_files.proofs.RiseLaws.{source_opens_known, opens_refused}
 use Rattle.osm_files.proofs.SourceSteps.{open_source}
 use Rattle.osm_files.proofs.source.FileSource.open.Goals as goal
 
@@ -15,13 +15,17 @@ invariant_of-result g c = open_source g.R.Input.can_give c.format.new.self None 
 pub returns-in-Ok-clause-opened : goal.returns-in-Ok-clause-opened
 returns-in-Ok-clause-opened g c = λ later h.
     let y = c.in-Ok.ensures.shown h.0 h.1 in
-    let told = source_opens_told (with_coming c.new-units.result y.0) (with_coming c.format.new.self h.0)
+    let known = source_opens_known (with_coming c.new-units.result y.0) (with_coming c.format.new.self h.0)
     (into_iter_items c.into_iter-ready.result) c.args.input (Some y.0) (ap (λ v. with_coming v y.0) c.new-units.ensures) y.2.0
     (c.into_iter-ready.ensures.rest ∙ c.new.ensures.items) in
-    let same : Some later ≡ Some (sorted_source c.args.input y.0) = sym h.2 ∙ told in (
+    let same : Some later ≡ Some (sorted_source c.args.input y.0) = sym h.2 ∙ known in (
       y.0,
       subst (λ (v : Position _). g.R.Input.can_give v.coming y.0) c.new-units.ensures y.1,
-      (subst (λ (v : Position _). IfSome (rest_of_bytes (with_coming v y.0)) (λ x. c.in-Ok.format ≡ format_of x.bytes)) c.new-units.ensures y.2.1, cc),
+      (
+        subst (λ (v : Position _). IfSome (rest_of_bytes (with_coming v y.0)) (λ x. c.in-Ok.format ≡ format_of x.bytes)) c.new-units.ensures
+            y.2.1,
+        cc,
+      ),
     )
 
 pub returns-in-Err-clause-refused : goal.returns-in-Err-clause-refused
@@ -31,6 +35,7 @@ returns-in-Err-clause-refused g c =
       y.0,
       subst (λ (v : Position _). g.R.Input.can_give v.coming y.0) c.new-units.ensures y.1,
       opens_refused c.args.input (Some y.0) c.in-Err.fault (units_or_failed (with_coming c.format.new.self later))
-          (subst (λ (p : KnownPosition). SourceStep {A = Placed} (units_or_failed p) (Err c.in-Err.fault) (units_or_failed (with_coming c.format.new.self later)))
+          (subst (λ (p : KnownPosition). SourceStep {A = Placed} (units_or_failed p) (Err c.in-Err.fault)
+          (units_or_failed (with_coming c.format.new.self later)))
           (ap (λ v. with_coming v y.0) c.new-units.ensures) y.2),
     )

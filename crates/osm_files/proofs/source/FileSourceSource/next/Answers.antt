@@ -14,7 +14,8 @@ invariant_of-self g c = (
       let s = c.self.inside in
       ready_rises s.units.input (units_or_failed (with_coming s.units d)) (option_to_list s.pending)
       (into_iter_items c.next.new.self) c.in-Some.version
-      (subst (λ (xs : List VersionData). IfSome (still_with_ready s.units.input (units_or_failed (with_coming s.units d)) (option_to_list s.pending) xs)
+      (subst (λ (xs : List VersionData). IfSome (still_with_ready s.units.input (units_or_failed (with_coming s.units d))
+      (option_to_list s.pending) xs)
       Ascends) c.in-Some.ensures.items (c.self.invariant.0 d k)),
   λ failed. let none = sym c.in-Some.ensures.items ∙ c.self.invariant.1 failed in absurd cc,
 )
@@ -29,7 +30,8 @@ returns-in-Some-clause-step g c =
     (λ d k. (
       d,
       k,
-      subst (λ (xs : List VersionData). SourceStep (still_with_ready s.units.input (units_or_failed (with_coming s.units d)) (option_to_list s.pending) xs)
+      subst (λ (xs : List VersionData). SourceStep (still_with_ready s.units.input (units_or_failed (with_coming s.units d))
+          (option_to_list s.pending) xs)
           (Ok (Some c.in-Some.version)) (still_with_ready s.units.input (units_or_failed (with_coming s.units d)) (option_to_list s.pending)
           (into_iter_items c.next.new.self))) (sym c.in-Some.ensures.items)
           (gives_ready s.units.input (units_or_failed (with_coming s.units d)) (option_to_list s.pending)

@@ -10,7 +10,8 @@ returns-in-Some-clause-puts g c =
     subst (λ (more : List VersionData). PutsMore g.W.Output more c.args.sink.now c.put_if.new.sink c.args.out.now c.put_if.new.out
     c.put_if.result)
     (ap option_to_list (sym (ap option_copied c.in-Some.is))
-    ∙ ap (λ b. cond b (option_to_list next) (pending_if_kept c.args.self.now.selection c.args.self.now.held next)) c.if-puts_at_once.ensures)
+    ∙ ap (λ b. cond b (option_to_list next) (pending_if_kept c.args.self.now.selection c.args.self.now.held next))
+    c.if-puts_at_once.ensures)
     c.put_if.ensures.puts
 
 pub returns-in-Some-held-clause-puts : goal.returns-in-Some-held-clause-puts

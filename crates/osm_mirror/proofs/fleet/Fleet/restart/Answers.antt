@@ -7,8 +7,8 @@ use Rattle.osm_mirror.proofs.FleetLaws.{here}
 use Rattle.osm_mirror.proofs.MirrorLaws.{given_not_taken, restarted}
 use Rattle.osm_mirror.proofs.fleet.Fleet.restart.Goals as goal
 
-pub returns-in_err-take-clause-answer : goal.returns-in_err-take-clause-answer
-returns-in_err-take-clause-answer c =
+pub returns-in_err-take-clause-reply : goal.returns-in_err-take-clause-reply
+returns-in_err-take-clause-reply c =
     let p = err_from_is_err_and c.from_residual-in_err-take.result c.from_residual-in_err-take.ensures.1 in
     let old : c.index-old.result.now ≡ mirror_at c.args.self.now c.args.mirror =
     subst (λ (ms : List MirrorData). c.index-old.result.now ≡ mirror_at ms c.args.mirror) c.self.view_is
@@ -17,8 +17,8 @@ returns-in_err-take-clause-answer c =
     (given_not_taken c.in_ok-file.file.items c.deref.result.now c.args.format c.index-old.result.now.held c.in_err-take.field-0.0
     c.deref.ensures.value c.in_ok-file.ensures.accepted c.in_err-take.ensures.refused))
 
-pub returns-clause-behind : goal.returns-clause-behind
-returns-clause-behind c =
+pub returns-clause-mirrors : goal.returns-clause-mirrors
+returns-clause-mirrors c =
     let old : c.index-old.result.now ≡ mirror_at c.args.self.now c.args.mirror =
     subst (λ (ms : List MirrorData). c.index-old.result.now ≡ mirror_at ms c.args.mirror) c.self.view_is
     (here c.self.inside.mirrors.items c.args.mirror c.index-old.result.now (rw c.self.view_is c.requires) c.index-old.ensures) in

@@ -9,7 +9,8 @@ use Rattle.osm_mirror.proofs.mirror.Mirror.take.Goals as goal
 pub returns-in_err-loaded-clause-refused : goal.returns-in_err-loaded-clause-refused
 returns-in_err-loaded-clause-refused c =
     let p = err_from_is_err_and c.from_residual.result c.from_residual.ensures.1 in
-    let stops = of_slice c.new.result (λ (input : InputRest). StopsLoading 0 input c.in_err-loaded.field-0.0) c.in_err-loaded.ensures.refused
+    let stops = of_slice c.new.result (λ (input : InputRest). StopsLoading 0 input c.in_err-loaded.field-0.0)
+    c.in_err-loaded.ensures.refused
     in
     rw (p.1, p.2) (subst (λ (bytes : List ℕ). WhyNotTaken bytes c.in_err-loaded.field-0.0) c.new.ensures
     (not_loaded c.new.result c.in_err-loaded.field-0.0 stops))

@@ -11,6 +11,6 @@ returns c =
     let zeros : c.saturating_sub-zeros.result ≡ escape_width code - length (numeral 16 code) =
     rw (c.saturating_sub-zeros.ensures, c.escape_width.ensures.value) (ap (λ n. escape_width code - n) (omega arith)) in
     let mark = c.put_byte-end.ensures.written ∙ ap (λ t. 37 ∷ t) (drop_all 32 c.args.self.now.bytes (search rules)) in
-    let behind = c.put_hex-digits.ensures.written ∙ ap (λ t. numeral 16 code ++ t) mark in
-    let all = c.put_zeros-padded.ensures.written ∙ (λ i. replicate (zeros i) 48 ++ behind i) in
+    let rest = c.put_hex-digits.ensures.written ∙ ap (λ t. numeral 16 code ++ t) mark in
+    let all = c.put_zeros-padded.ensures.written ∙ (λ i. replicate (zeros i) 48 ++ rest i) in
     c.put_byte-self.ensures.written ∙ ap (λ t. 37 ∷ t) (all ∙ sym (append_assoc _ (numeral 16 code) (37 ∷ [])))

@@ -4,7 +4,7 @@ use Rattle.osm_model.proofs.CursorLaws.{coming_is, line-from_object}
 use Rattle.osm_model.proofs.version.Version.line_bytes.Goals as goal
 
 pub returns-clause-runs : goal.returns-clause-runs
-returns-clause-runs c = coming_is c.args.self.now c.at.result [] _ c.at.ensures.text c.at.ensures.place
+returns-clause-runs c = coming_is c.args.self.now c.at.result [] _ c.at.ensures.text c.at.ensures.position
     ∙ sym (line-from_object c.args.self.now)
 
 pub returns-clause-bytes : goal.returns-clause-bytes

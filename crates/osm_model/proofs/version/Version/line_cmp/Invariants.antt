@@ -6,4 +6,5 @@ use Rattle.osm_model.specs.Cursor.{remaining_bytes}
 use Rattle.osm_model.proofs.version.Version.line_cmp.Given as goal
 
 abbrev pub invariant-loop-byte : goal.invariant-loop-byte
-invariant-loop-byte l = slice_cmp nat_cmp (line l.self) (line l.other) ≡ slice_cmp nat_cmp (remaining_bytes l.byte-iterator) (remaining_bytes l.others)
+invariant-loop-byte l = slice_cmp nat_cmp (line l.self) (line l.other) ≡ slice_cmp nat_cmp (remaining_bytes l.byte-iterator)
+    (remaining_bytes l.others)

@@ -7,7 +7,7 @@ use Rattle.o5_codec.proofs.write.block.Block.append_long_number.Goals as goal
 pub loop-rest-init : goal.loop-rest-init
 unfolding shortest_number
 loop-rest-init c = record {
-  behind = omega arith;
+  after = omega arith;
   near = omega arith;
   written = record {
     below = (let none : c.args.self.now.end - c.args.self.now.end ≡ 0 = omega arith in rw none (omega arith));
@@ -21,10 +21,10 @@ loop-rest-preserved c =
     let inside : c.loop-rest.end < length c.loop-rest.self.bytes = search rules in
     let few : c.loop-rest.end - start ≤ 9 = omega (arith, c.loop-rest.invariant.near) in
     let early = write_early _ _ _ _ _ c.loop-rest.invariant.written few c.ranges.number.fits c.loop-rest-test.true in
-    let next : c.loop-rest.end - start + 1 ≡ c.loop-rest.end + 1 - start = omega (arith, c.loop-rest.invariant.behind) in
+    let next : c.loop-rest.end - start + 1 ≡ c.loop-rest.end + 1 - start = omega (arith, c.loop-rest.invariant.after) in
     record {
-      behind = omega (arith, c.loop-rest.invariant.behind);
-      near = omega (arith, c.loop-rest.invariant.behind, early);
+      after = omega (arith, c.loop-rest.invariant.after);
+      near = omega (arith, c.loop-rest.invariant.after, early);
       written = rw (take_more_set c.loop-rest.self.bytes c.loop-rest.end _ inside)
           (rw next at (write_more _ _ _ _ _ c.loop-rest.invariant.written early c.loop-rest-test.true));
     }

@@ -6,9 +6,10 @@ use Rattle.o5_codec.proofs.write.block.Block.append_long_number.Given as goal
 
 abbrev pub invariant-loop-rest : goal.invariant-loop-rest
 invariant-loop-rest l = record {
-  behind : l.fn.self.end ≤ l.end;
+  after : l.fn.self.end ≤ l.end;
   near : l.end ≤ l.fn.self.end + 9;
-  written : WriterState (filled_bytes l.fn.self ++ shortest_number l.number) (take l.end l.self.bytes) l.number (l.end - l.fn.self.end) l.rest;
+  written : WriterState (filled_bytes l.fn.self ++ shortest_number l.number) (take l.end l.self.bytes) l.number
+      (l.end - l.fn.self.end) l.rest;
 }
 
 abbrev pub decreases-loop-rest : goal.decreases-loop-rest

@@ -2,13 +2,13 @@ use Rattle.std.proofs.Common.{◌∙◌, sym}
 use Rattle.std.proofs.lemmas.Bool.Decides.{Decides-eqb}
 use Rattle.o5_codec.specs.Formed.{same_entry}
 use Rattle.o5_codec.specs.EntryHash.{entry_hash}
-use Rattle.o5_codec.proofs.EntryBytes.{same_bytes, told_apart}
+use Rattle.o5_codec.proofs.EntryBytes.{same_bytes, differ_by}
 use Rattle.o5_codec.proofs.write.entry.EntryPartialEq.eq.Goals as goal
 use Rattle.o5_codec.proofs.write.entry.EntryPartialEq.eq.Goals.{then-self-other-2, else-self-other-2}
 
 pub returns-then-self-other : goal.returns-then-self-other
 returns-then-self-other c =
-    told_apart entry_hash c.self.inside.form c.other.inside.form c.self.inside.split c.other.inside.split c.self.inside.bytes.items
+    differ_by entry_hash c.self.inside.form c.other.inside.form c.self.inside.split c.other.inside.split c.self.inside.bytes.items
     c.other.inside.bytes.items
     (λ same. c.if-self-other.true (c.self.invariant.hashed ∙ same ∙ sym c.other.invariant.hashed))
     ∙ (λ k. same_entry (c.self.view_is k) (c.other.view_is k))

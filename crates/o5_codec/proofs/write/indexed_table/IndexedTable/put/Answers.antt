@@ -13,7 +13,8 @@ invariant_of-self-in-Some c =
     let removed = changed_by c.in-Some.evicted None c.insert.new.self c.remove.new.numbers c.remove.ensures in
     record {
       capacity = ap (λ b. b.capacity) c.push_back.ensures.items ∙ c.self.invariant.capacity;
-      indexed = rw (pushed table_limit c.self.inside.ring c.push_back.new.self c.args.stored c.push_back.ensures.items c.self.invariant.capacity)
+      indexed = rw (pushed table_limit c.self.inside.ring c.push_back.new.self c.args.stored c.push_back.ensures.items
+          c.self.invariant.capacity)
           (put_full (2 ^ 64) table_limit c.self.inside.next c.number_after-after.result c.self.inside.ring.capacity c.self.inside.ring.items
           c.args.stored c.in-Some.evicted _ _ _
           limit_is_small c.self.invariant.capacity c.self.invariant.indexed absent c.number_after-after.ensures
@@ -27,7 +28,8 @@ invariant_of-self-in_default c =
     let changed = changed_by c.args.key (Some c.self.inside.next) c.self.inside.numbers c.insert.new.self c.in_ok-insert.ensures.updates in
     record {
       capacity = ap (λ b. b.capacity) c.push_back.ensures.items ∙ c.self.invariant.capacity;
-      indexed = rw (pushed table_limit c.self.inside.ring c.push_back.new.self c.args.stored c.push_back.ensures.items c.self.invariant.capacity)
+      indexed = rw (pushed table_limit c.self.inside.ring c.push_back.new.self c.args.stored c.push_back.ensures.items
+          c.self.invariant.capacity)
           (put_free (2 ^ 64) table_limit c.self.inside.next c.number_after-after.result c.self.inside.ring.capacity c.self.inside.ring.items
           c.args.stored _ _
           limit_is_small c.self.invariant.capacity c.self.invariant.indexed absent c.number_after-after.ensures

@@ -13,7 +13,8 @@ pub overflow_add-result-2 : goal.overflow_add-result-2
 unfolding table_limit
 overflow_add-result-2 c =
     let at = found_in _ _ _ _ _ _ _ c.self.invariant.indexed c.in_ok-number.ensures.value in
-    let room : c.self.inside.next + 2 ^ 64 ≤ c.in_ok-number.field-0.now + table_limit = room_above _ _ _ _ _ at.0 at.1 c.if-number-self.false in
+    let room : c.self.inside.next + 2 ^ 64 ≤ c.in_ok-number.field-0.now + table_limit =
+    room_above _ _ _ _ _ at.0 at.1 c.if-number-self.false in
     let below : c.in_ok-number.field-0.now < 2 ^ 64 = number_below _ _ _ _ at.0 in
     omega arith
 

@@ -10,8 +10,8 @@ returns-in-Some-clause-first c =
     let split = (split_at (is_end c.args.self) c.args.bytes.now c.in-Some.end found).split in
     rw split (search rules)
 
-pub returns-in-Some-clause-behind : goal.returns-in-Some-clause-behind
-returns-in-Some-clause-behind c =
+pub returns-in-Some-clause-rest : goal.returns-in-Some-clause-rest
+returns-in-Some-clause-rest c =
     let found : position (is_end c.args.self) c.args.bytes.now ≡ Some c.in-Some.end = search rules in
     let split = (split_at (is_end c.args.self) c.args.bytes.now c.in-Some.end found).split in
     rw split (ap (λ rest. Some rest) (take_rest c.args.bytes.now (c.in-Some.end + 1)))
@@ -21,7 +21,7 @@ returns-in-None-clause-first c =
     let found : position (is_end c.args.self) c.args.bytes.now ≡ None = search rules in
     rw (split_nowhere (is_end c.args.self) c.args.bytes.now found) (search rules)
 
-pub returns-in-None-clause-behind : goal.returns-in-None-clause-behind
-returns-in-None-clause-behind c =
+pub returns-in-None-clause-rest : goal.returns-in-None-clause-rest
+returns-in-None-clause-rest c =
     let found : position (is_end c.args.self) c.args.bytes.now ≡ None = search rules in
     rw (split_nowhere (is_end c.args.self) c.args.bytes.now found) (search rules)

@@ -8,8 +8,8 @@ pub returns-in_err-add : goal.returns-in_err-add
 returns-in_err-add c =
     let rest : option_copied c.fields.rest ≡ Some c.in-Some.text.now = search rules in
     let e = ap (pieces_of (is_end Blanks)) rest ∙ c.split.ensures.pieces in
-    let answer : c.from_residual.result ≡ Err c.in_err-add.field-0.0 = search rules in
-    rw answer (⊎_elim (λ memory. inl memory) (λ refused.
+    let outcome : c.from_residual.result ≡ Err c.in_err-add.field-0.0 = search rules in
+    rw outcome (⊎_elim (λ memory. inl memory) (λ refused.
     inr (c.fields.invariant ∙ refused_field c.args.kind _ _ _ _ _ e refused)) c.in_err-add.ensures)
 
 pub fields-preserved : goal.fields-preserved

@@ -6,8 +6,9 @@ use Rattle.opl_line.proofs.general.item.TagItem.read.Goals as goal
 
 pub returns-then-is_some : goal.returns-then-is_some
 returns-then-is_some c =
-    let e : split_all (is_end Equals) c.args.text.now ≡ c.split.result.0.now ∷ split_all (is_end Equals) c.in_default-Some.behind.now = search rules in
-    let f : split_all (is_end Equals) c.in_default-Some.behind.now ≡ c.split-2.result.0.now
+    let e : split_all (is_end Equals) c.args.text.now ≡ c.split.result.0.now ∷ split_all (is_end Equals) c.in_default-Some.rest.now =
+    search rules in
+    let f : split_all (is_end Equals) c.in_default-Some.rest.now ≡ c.split-2.result.0.now
     ∷ pieces_of (is_end Equals) (option_copied c.split-2.result.1) = search rules in
     let some : is_some (option_copied c.split-2.result.1) ≡ true = search rules in
     inr (second_equals _ _ _ _ _ e f some)

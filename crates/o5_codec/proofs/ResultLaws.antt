@@ -10,7 +10,7 @@ use Rattle.o5_codec.specs.Body.{set_at}
 use Rattle.o5_codec.specs.Spelling.{SpellsSet}
 use Rattle.o5_codec.specs.Refusal.{SetReason}
 use Rattle.o5_codec.specs.Laws.{IsTheOnlyReason}
-use Rattle.o5_codec.proofs.AnswerSteps.{not_refused}
+use Rattle.o5_codec.proofs.ResultSteps.{not_refused}
 use Rattle.o5_codec.proofs.StepLaws.{set_found, set_only}
 use Rattle.o5_codec.proofs.RefusalLaws.{same_reason, set_refused}
 use Rattle.o5_codec.proofs.RefusalNames.{Named, set_named}
@@ -21,9 +21,9 @@ by_reading k s content (Ok x) h = inl (x, set_found k s content x h)
 by_reading k s content (Err reason) h = inr (reason, (set_refused k s content reason).0 h)
 
 -- Each content spells a version or has a reason why it spells none.
-pub some_answer : (k : Kind) (s : Segment) (content : List ℕ) →
+pub either_result : (k : Kind) (s : Segment) (content : List ℕ) →
     ((x : VersionData × Segment) × SpellsSet k s content x) ⊎ ((reason : O5Reason) × SetReason k s content reason)
-some_answer k s content = by_reading k s content (set_at k s content) refl
+either_result k s content = by_reading k s content (set_at k s content) refl
 
 not_both : (k : Kind) (s : Segment) (content : List ℕ) (reason : O5Reason) → SetReason k s content reason → (x : VersionData × Segment) →
     SpellsSet k s content x → ⊥

@@ -1,7 +1,7 @@
 -- Readings in sequence.
 use Rattle.std.proofs.Common.{◌≡◌, ◌∙◌, ap, sym, Result, Ok, Err}
 use Rattle.o5_codec.specs.declared.reason.O5Reason.{O5Reason}
-use Rattle.o5_codec.specs.Answer.{and_then}
+use Rattle.o5_codec.specs.Results.{and_then}
 
 module _ {X Y : Type 0} (reading : Result X O5Reason) (next : X → Result Y O5Reason) where
   pub refused_first : (reason : O5Reason) → reading ≡ Err reason → and_then reading next ≡ Err reason

@@ -1,7 +1,7 @@
 use Rattle.std.proofs.Common.{arith, length-append}
 use Rattle.o5_codec.specs.Encoder.{spelled_set}
 use Rattle.osm_files.proofs.SpellSteps.{set_has_bytes}
-use Rattle.osm_files.proofs.sink.Units.append.Goals as goal
+use Rattle.osm_files.proofs.sink.UnitWriter.append.Goals as goal
 
 pub returns-in-Ok-clause-some : goal.returns-in-Ok-clause-some
 returns-in-Ok-clause-some c =

@@ -28,52 +28,52 @@ use Rattle.osm_mirror.specs.KnownInputs.{AllKnownToGive, IsFileIfKnown, KnownIsG
 
 module _ {R C : Type 0} (can : R → C → Type 0) where
   -- Inputs that report their bytes give these bytes.
-  pub told_given : (inputs : List R) → KnownIsGiven can inputs
-  told_given [] [] [] t g = refl
-  told_given [] [] (d ∷ given) t g = absurd g
-  told_given [] (c ∷ told) given t g = absurd t
-  told_given (r ∷ inputs) [] given t g = absurd t
-  told_given (r ∷ inputs) (c ∷ told) [] t g = absurd g
-  told_given (r ∷ inputs) (c ∷ told) (d ∷ given) t g = λ i. t.0 d g.0 i ∷ told_given inputs told given t.1 g.1 i
+  pub known_given : (inputs : List R) → KnownIsGiven can inputs
+  known_given [] [] [] t g = refl
+  known_given [] [] (d ∷ given) t g = absurd g
+  known_given [] (c ∷ known) given t g = absurd t
+  known_given (r ∷ inputs) [] given t g = absurd t
+  known_given (r ∷ inputs) (c ∷ known) [] t g = absurd g
+  known_given (r ∷ inputs) (c ∷ known) (d ∷ given) t g = λ i. t.0 d g.0 i ∷ known_given inputs known given t.1 g.1 i
 
   -- a property of some bytes that the inputs can give is a property of the bytes that they report
-  pub told_done : (inputs : List R) (P : List C → Counts → Type 0) (result : Result Counts Fault)
+  pub known_done : (inputs : List R) (P : List C → Counts → Type 0) (result : Result Counts Fault)
       → IfOk result (λ counts. SomeInputsGive can inputs (λ all. P all counts))
       → IfOk result (λ counts. (all : List C) → AllKnownToGive can inputs all → P all counts)
-  told_done inputs P (Ok counts) h = λ all t. subst (λ (xs : List C). P xs counts) (told_given inputs all h.0 t h.1) h.2
-  told_done inputs P (Err fault) h = tt
+  known_done inputs P (Ok counts) h = λ all t. subst (λ (xs : List C). P xs counts) (known_given inputs all h.0 t h.1) h.2
+  known_done inputs P (Err fault) h = tt
 
   -- A property of the refusal for some bytes that the inputs can give is one for the bytes that they report.
-  pub told_refused : (inputs : List R) (P : List C → Fault → Type 0) (result : Result Counts Fault)
+  pub known_refused : (inputs : List R) (P : List C → Fault → Type 0) (result : Result Counts Fault)
       → IfErr result (λ fault. SomeInputsGive can inputs (λ all. P all fault))
       → IfErr result (λ fault. (all : List C) → AllKnownToGive can inputs all → P all fault)
-  told_refused inputs P (Ok counts) h = tt
-  told_refused inputs P (Err fault) h = λ all t. subst (λ (xs : List C). P xs fault) (told_given inputs all h.0 t h.1) h.2
+  known_refused inputs P (Ok counts) h = tt
+  known_refused inputs P (Err fault) h = λ all t. subst (λ (xs : List C). P xs fault) (known_given inputs all h.0 t h.1) h.2
 
   -- each input that reports its bytes gave a file
-  each_told : (gives : C → VersionSet → Type 0) (inputs : List R) (all : List C) (held : List VersionSet) → AllGive can inputs all
+  each_known : (gives : C → VersionSet → Type 0) (inputs : List R) (all : List C) (held : List VersionSet) → AllGive can inputs all
       → Pairwise gives all held → All (IsFileIfKnown can gives) inputs
-  each_told gives [] all held g files = All-nil (IsFileIfKnown can gives)
-  each_told gives (r ∷ inputs) [] held g files = absurd g
-  each_told gives (r ∷ inputs) (c ∷ all) [] g files = absurd files
-  each_told gives (r ∷ inputs) (c ∷ all) (s ∷ held) g files =
-      All-cons (IsFileIfKnown can gives) r inputs (λ d told. (s, subst (λ (x : C). gives x s) (told c g.0) files.0))
-      (each_told gives inputs all held g.1 files.1)
+  each_known gives [] all held g files = All-nil (IsFileIfKnown can gives)
+  each_known gives (r ∷ inputs) [] held g files = absurd g
+  each_known gives (r ∷ inputs) (c ∷ all) [] g files = absurd files
+  each_known gives (r ∷ inputs) (c ∷ all) (s ∷ held) g files =
+      All-cons (IsFileIfKnown can gives) r inputs (λ d known. (s, subst (λ (x : C). gives x s) (known c g.0) files.0))
+      (each_known gives inputs all held g.1 files.1)
 
   -- Each input that reports its bytes gives a file.
-  pub told_files : (gives : C → VersionSet → Type 0) (inputs : List R) (P : List C → Counts → Type 0)
+  pub known_files : (gives : C → VersionSet → Type 0) (inputs : List R) (P : List C → Counts → Type 0)
       → ((all : List C) (counts : Counts) → P all counts → (held : List VersionSet) × Pairwise gives all held)
       → (result : Result Counts Fault)
       → IfOk result (λ counts. SomeInputsGive can inputs (λ all. P all counts)) → OnOk result (All (IsFileIfKnown can gives) inputs)
-  told_files gives inputs P files (Ok counts) h = let q = files h.0 counts h.2 in each_told gives inputs h.0 q.0 h.1 q.1
-  told_files gives inputs P files (Err fault) h = tt
+  known_files gives inputs P files (Ok counts) h = let q = files h.0 counts h.2 in each_known gives inputs h.0 q.0 h.1 q.1
+  known_files gives inputs P files (Err fault) h = tt
 
   -- the file of a set was written
-  pub told_writes : (format : Format) (change : Change) (inputs : List R) (P : List C → Counts → Type 0)
+  pub known_writes : (format : Format) (change : Change) (inputs : List R) (P : List C → Counts → Type 0)
       → ((all : List C) (counts : Counts) → P all counts → WritesSet format change counts) → (result : Result Counts Fault)
       → IfOk result (λ counts. SomeInputsGive can inputs (λ all. P all counts)) → IfOk result (WritesSet format change)
-  told_writes format change inputs P writes (Ok counts) h = writes h.0 counts h.2
-  told_writes format change inputs P writes (Err fault) h = tt
+  known_writes format change inputs P writes (Ok counts) h = writes h.0 counts h.2
+  known_writes format change inputs P writes (Err fault) h = tt
 
 module _ (format : Format) (change : Change) where
   -- A merge that is done wrote the file of a set.
@@ -87,12 +87,12 @@ module _ (format : Format) (change : Change) where
       record { set = selection_of selection (merge.union_of m.held); appended = m.written; written = m.written_count }
 
   -- the output of a merge that was refused is a front of the file of the union
-  pub told_begun : {R : Type 0} (can : R → InputRest → Type 0) (inputs : List R) (result : Result Counts Fault)
+  pub known_begun : {R : Type 0} (can : R → InputRest → Type 0) (inputs : List R) (result : Result Counts Fault)
       → IfErr result (λ fault. SomeInputsGive can inputs (λ all. merge.Refuses all format change fault))
       → OnErr result ((all : List InputRest) → AllKnownToGive can inputs all → HasBegun (merge.sources 0 all) format change)
-  told_begun can inputs (Ok counts) h = tt
-  told_begun can inputs (Err fault) h = λ all t.
-      let given = subst (λ (xs : List InputRest). merge.Refuses xs format change fault) (told_given can inputs all h.0 t h.1) h.2 in
+  known_begun can inputs (Ok counts) h = tt
+  known_begun can inputs (Err fault) h = λ all t.
+      let given = subst (λ (xs : List InputRest). merge.Refuses xs format change fault) (known_given can inputs all h.0 t h.1) h.2 in
       begun_refused selection.All (merge.sources 0 all) format (length all) change fault given.why
 
 -- an unchanged output has a front of the file, which is empty
@@ -113,13 +113,13 @@ module _ {O : Type 0} (output : Ghosts O) (selection : Selection) (format : Form
       begun_refused selection (sources 0 all) format (length all) (change_of output before after) fault refused
 
   -- A run that is refused wrote a front of the file of the union.
-  pub told_run_begun : {R : Type 0} (can : R → InputRest → Type 0) (inputs : List (InputFile R)) (result : Result Counts Fault)
+  pub known_run_begun : {R : Type 0} (can : R → InputRest → Type 0) (inputs : List (InputFile R)) (result : Result Counts Fault)
       → IfErr result (λ fault. SomeInputsGive (FileGives can) inputs (λ all. RefusesRun output selection all format before after fault))
       → OnErr result ((all : List (Order × InputRest)) → AllKnownToGive (FileGives can) inputs all → HasBegunIn
       (selection_of selection (union.union_given (sources 0 all))) format (change_of output before after))
-  told_run_begun can inputs (Ok counts) h = tt
-  told_run_begun can inputs (Err fault) h = λ all t.
+  known_run_begun can inputs (Ok counts) h = tt
+  known_run_begun can inputs (Err fault) h = λ all t.
       let given =
       subst (λ (xs : List (Order × InputRest)). RefusesRun output selection xs format before after fault)
-      (told_given (FileGives can) inputs all h.0 t h.1) h.2 in
+      (known_given (FileGives can) inputs all h.0 t h.1) h.2 in
       run_begun all fault given.why

@@ -1,7 +1,7 @@
 use Rattle.std.proofs.Common.{◌∙◌, ◌-◌, ◌++◌, drop, length, min, ap, append_assoc}
 use Rattle.o5_codec.specs.Block.{filled_bytes}
 use Rattle.o5_codec.proofs.FrontLaws.{drop_both}
-use Rattle.o5_codec.proofs.write.set_buffer.SetBuffer.append_behind_front.Goals as goal
+use Rattle.o5_codec.proofs.write.set_buffer.SetBuffer.append_after_front.Goals as goal
 
 pub returns-clause-appended : goal.returns-clause-appended
 returns-clause-appended c =

@@ -20,4 +20,5 @@ with_reason f (Err reason) = Err (f reason)
 
 -- the result is the reading, or out of memory
 abbrev pub OplReads : {X : Type 0} → Result X OplReason → Result X OplReason → Type 0
-OplReads reading result = MatchResult result (λ x. reading ≡ Ok x) (λ reason. (reason ≡ Memory) ⊎ (reading ≡ Err reason))
+OplReads reading result = MatchResult result (λ x. reading ≡ Ok x)
+    (λ reason. (reason ≡ Memory) ⊎ (reading ≡ Err reason))

@@ -1,7 +1,7 @@
 -- Consequences of readings that succeed.
 use Rattle.std.proofs.Common.{◌≡◌, Result, Ok, Err, refl}
 use Rattle.opl_line.specs.declared.reason.OplReason.{OplReason}
-use Rattle.opl_line.specs.Answer.{and_then, as_value, with_reason}
+use Rattle.opl_line.specs.Results.{and_then, as_value, with_reason}
 
 -- both readings succeeded
 pub record Both {X Y : Type 0} (first : Result X OplReason) (next : X → Result Y OplReason) (y : Y) : Type 0 where
