@@ -106,6 +106,11 @@ signed_only bytes x s =
     ap (λ r. and_then r (λ y. Ok (signed_of y.0, y.1))) (number_only bytes (unsigned_of x.0, x.1) s)
     ∙ ap (λ m. Ok (m, x.1)) (signed_unsigned x.0)
 
+-- A byte 0 at the front is the signed number 0.
+pub zero_read : (bytes : List ℕ) → signed_at (0 ∷ bytes) ≡ Ok (pos 0, bytes)
+unfolding signed_at number_at groups_at
+zero_read bytes = refl
+
 -- A signed number takes at least one byte.
 pub signed_shorter : (bytes : List ℕ) (x : ℤ × List ℕ) → SignedAtFront bytes x → length x.1 < length bytes
 signed_shorter bytes x s = number_shorter bytes (unsigned_of x.0, x.1) s

@@ -96,7 +96,6 @@ impl Encoder {
     }
 
     /// Appends the data set of a version, if the encoder hasn't failed.
-    #[tactic(auto, using(crate::proofs::FrontLaws::after_two), unfolding(crate::specs::Encoder::segment_before, crate::specs::Encoder::spelled_set, crate::specs::Encoder::writer_after))]
     fn append_version(&mut self, out: &mut Vec<u8>, v: &Version) -> Result<(), Memory>
         ensures bytes { OnOk result (out.new.items ≡ out.old.items ++ spec.spelled_set self.old.written v.now) }
         ensures written { OnOk result

@@ -149,7 +149,7 @@ pub(crate) fn read_signed(bytes: &[u8]) -> Result<(i64, &[u8]), O5Reason>
 
 /// The bytes after the first one, if that is the signed number 0 in its shortest form.
 #[inline(always)]
-#[tactic(auto, unfolding(crate::specs::Number::signed_at, crate::specs::Number::number_at, crate::specs::Number::groups_at))]
+#[tactic(auto, using(crate::proofs::NumberLaws::zero_read))]
 pub(crate) fn strip_zero(bytes: &[u8]) -> Option<&[u8]>
     ensures value { IfSome result (λ rest. signed_at bytes.now ≡ Ok (pos 0, rest.now)) }
     ensures shorter { IfSome result (λ rest. length rest.now < length bytes.now) }

@@ -28,7 +28,7 @@ keeps_on None b c h k = tt
 keeps_on {A} (Some x) b c h k = let P : Option A → Type 0 = λ o. IfSome o (λ y. c ≡ Some y) in subst P h k
 
 -- Before the end of input the bytes ahead are those held and those to come.
-pub ahead_open : (p : KnownPosition) → p.ended ≡ false → rest_of_bytes p ≡ option_map (with_front p.held) p.coming
+pub ahead_open : (p : KnownPosition) → p.ended ≡ false → rest_of_bytes p ≡ option_map (with_front p.held) p.rest
 ahead_open p unended = rw unended refl
 
 too_long_is : (input : ℕ) → too_long_fault input ≡ fault_of input too_long_verdict
@@ -41,17 +41,17 @@ more_there : (held front : List ℕ) (t : InputRest) → 0 < length front →
 more_there held [] t some = absurd (omega (arith, some))
 more_there held (b ∷ front) t some = (b, front ++ t.bytes, refl)
 
-from_mapped : (p : KnownPosition) (fault : Fault) (front : List ℕ) (coming : Option InputRest) → 0 < length front →
+from_mapped : (p : KnownPosition) (fault : Fault) (front : List ℕ) (rest : Option InputRest) → 0 < length front →
     p.place + length p.held + 1 ≡ 2 ^ 62 → fault ≡ too_long_fault p.input
-    → IfSome (option_map (with_front p.held) (option_map (with_front front) coming)) (λ c. Halts p c fault)
+    → IfSome (option_map (with_front p.held) (option_map (with_front front) rest)) (λ c. Halts p c fault)
 from_mapped p fault front None some full is = tt
 from_mapped p fault front (Some t) some full is = inr (full, more_there p.held front t some, is ∙ too_long_is p.input)
 
 -- A file with one byte more than the limit allows is TooLong.
-pub fill_full : (p : KnownPosition) (coming : Option InputRest) (front : List ℕ) (fault : Fault) → p.ended ≡ false →
-    p.coming ≡ option_map (with_front front) coming → 0 < length front → p.place + length p.held + 1 ≡ 2 ^ 62 →
+pub fill_full : (p : KnownPosition) (rest : Option InputRest) (front : List ℕ) (fault : Fault) → p.ended ≡ false →
+    p.rest ≡ option_map (with_front front) rest → 0 < length front → p.place + length p.held + 1 ≡ 2 ^ 62 →
     fault ≡ too_long_fault p.input → StopsFilling p fault
-fill_full p coming front fault unended gave some full is =
+fill_full p rest front fault unended gave some full is =
     inr (subst (λ (o : Option InputRest). IfSome o (λ c. Halts p c fault))
     (sym (ahead_open p unended ∙ ap (option_map (with_front p.held)) gave))
-    (from_mapped p fault front coming some full is))
+    (from_mapped p fault front rest some full is))

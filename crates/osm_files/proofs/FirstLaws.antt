@@ -10,7 +10,7 @@ use Rattle.osm_files.specs.Input.{InputRest, whole_input}
 use Rattle.osm_files.specs.Lines.{ReadsFrom, IsLineStart, IsFirstOf, IsFirstIn, IsFirstFrom, IsDeviceFault}
 use Rattle.osm_files.specs.Opl.{OplFile}
 use Rattle.osm_files.specs.Position.{fault_of}
-use Rattle.osm_files.specs.Position.{Position, with_coming, with_input, units_from, units_or_failed, closing_verdict, window}
+use Rattle.osm_files.specs.Position.{Position, with_rest, with_input, units_from, units_or_failed, closing_verdict, window}
 use Rattle.osm_files.specs.Source.{SourceStep, StepsOn}
 use Rattle.osm_files.specs.Stream.{Verdict, Placed, SourceRest}
 use Rattle.osm_files.specs.Units.{InOpl, units}
@@ -24,7 +24,7 @@ of_lines input place reader = record {
   input = input;
   place = place;
   held = [];
-  coming = reader;
+  rest = reader;
   stage = Some InOpl;
   ended = false;
   failed = false;
@@ -84,27 +84,28 @@ refusal_input input None fault is = absurd (let e : None ≡ Some fault = is in 
 refusal_input input (Some v) fault is = let e : fault_of input v ≡ fault = cc in ap (λ f. f.input) (sym e)
 
 module _ {R : Type 0} (can : R → InputRest → Type 0) (one : R → InputRest) (possible : (r : R) → can r (one r)) (input : ℕ) where
+  -- The result of the first call on the lines from `start` on is a result for the first version of the lines from `offset` on.
   pub first_is : (bytes : Option (List ℕ)) (offset start : ℕ) (reader : R) → IsLineStart bytes offset start → start < 2 ^ 62 →
       ReadsFrom can bytes start reader → (result : Result (Option Placed) Fault) (q : Position R) →
       StepsOn can (of_lines input start reader) result q → IsFirstFrom bytes offset (version_read result)
   first_is None offset start reader begins bound reads result q steps = tt
   first_is (Some all) offset start reader begins bound reads result q steps = λ short.
-      let y = steps (one q.coming) (possible q.coming) in
+      let y = steps (one q.rest) (possible q.rest) in
       let given : y.0 ≡ whole_input (drop start all) = reads y.0 y.1 in
       let fits : start + length (drop start all) < 2 ^ 62 = omega (arith, bound, short, length-drop start all) in
-      let known : units_or_failed (with_coming (of_lines input start reader) y.0) ≡ Some
+      let known : units_or_failed (with_rest (of_lines input start reader) y.0) ≡ Some
       (with_input input (units None InOpl start (drop start all))) =
       ap (λ c. Some (with_input input (units_from (Some InOpl) start c))) given
       ∙ ap (λ s. Some (with_input input s)) (units_of_lines start (drop start all) fits) in
       subst (λ (lines : List ℕ). IsFirstIn lines (version_read result)) begins
-      (first_in input start (drop start all) result (units_or_failed (with_coming q (one q.coming)))
-      (subst (λ before. SourceStep before result (units_or_failed (with_coming q (one q.coming)))) known y.2))
+      (first_in input start (drop start all) result (units_or_failed (with_rest q (one q.rest)))
+      (subst (λ before. SourceStep before result (units_or_failed (with_rest q (one q.rest)))) known y.2))
 
   -- a fault of the first call on the lines has the number of the file
   pub first_number : (start : ℕ) (reader : R) (fault : Fault) (q : Position R) →
       StepsOn can (of_lines input start reader) (Err fault) q → IsOfFile input fault
   first_number start reader fault q steps =
-      let y = steps (one q.coming) (possible q.coming) in
+      let y = steps (one q.rest) (possible q.rest) in
       ⊎_elim (λ memory. inl memory)
       (λ refused. inr (refusal_input input (units_from (Some InOpl) start y.0).refusal fault (ap (λ s. s.refusal) refused))) y.2.0
 

@@ -6,7 +6,7 @@ mod UnitSteps
 mod SearchLaws
 mod StepLaws
 mod StayLaws
-mod RoomLaws
+mod BufferLaws
 mod FillLaws
 mod PositionLaws
 mod ReadingLaws

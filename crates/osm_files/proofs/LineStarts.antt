@@ -90,6 +90,7 @@ module _ {R : Type 0} (can : R → InputRest → Type 0) where
         ∙ ap after_line (sym (came c can_give)) ∙ sym (so_far.none all only)
 
   module _ (one : R → InputRest) (possible : (r : R) → can r (one r)) where
+    -- A search that reads bytes without an end of a line continues after these bytes.
     pub scans_on : (first reader next : R) (offset place : ℕ) → Scanning first reader offset place → (read : List ℕ) →
         Gave can reader next read → position is_line_end read ≡ None → (later : ℕ) → later ≡ place + length read →
         Scanning first next offset later
@@ -98,6 +99,7 @@ module _ {R : Type 0} (can : R → InputRest → Type 0) where
       none = λ all only. rw is (no_end first reader next offset place so_far read gave all only (one next) (possible next) none);
     }
 
+    -- A search that reads an end of a line finds the line that begins after it.
     pub scan_finds : (first reader next : R) (offset place : ℕ) → Scanning first reader offset place → (read : List ℕ) →
         Gave can reader next read → (end : ℕ) → position is_line_end read ≡ Some end → (start : ℕ) → start ≡ place + (end + 1) →
         LeadsTo can first offset start

@@ -67,12 +67,12 @@ pub record RestAfter (p : KnownPosition) (c : InputRest) : Type 0 where
   pub here : c ≡ record { bytes = p.held ++ more; broken = broken }
   pub there : (h : List ℕ) → rest_of_bytes (record p { held = h }) ≡ Some (record { bytes = h ++ more; broken = broken })
 
-rest_by : (p : KnownPosition) (ended : Bool) (coming : Option InputRest) (c : InputRest) → p.ended ≡ ended → p.coming ≡ coming →
+rest_by : (p : KnownPosition) (ended : Bool) (rest : Option InputRest) (c : InputRest) → p.ended ≡ ended → p.rest ≡ rest →
     rest_of_bytes p ≡ Some c →
     RestAfter p c
-rest_by p true coming c e f at =
+rest_by p true rest c e f at =
     let ends : (h : List ℕ) → rest_of_bytes (record p { held = h }) ≡ Some (all_of h) =
-    λ h. ap (λ b. cond b (Some (all_of h)) (option_map (with_front h) p.coming)) e in
+    λ h. ap (λ b. cond b (Some (all_of h)) (option_map (with_front h) p.rest)) e in
     let same : c ≡ all_of p.held = (let g : Some c ≡ Some (all_of p.held) = sym at ∙ ends p.held in cc) in
     record {
       more = [];
@@ -81,11 +81,11 @@ rest_by p true coming c e f at =
       there = λ h. ends h ∙ ap (λ (x : List ℕ). Some (all_of x)) (sym (append-nil h));
     }
 rest_by p false None c e f at =
-    absurd (let g : None ≡ Some c = sym (ap (λ b. cond b (Some (all_of p.held)) (option_map (with_front p.held) p.coming)) e
+    absurd (let g : None ≡ Some c = sym (ap (λ b. cond b (Some (all_of p.held)) (option_map (with_front p.held) p.rest)) e
     ∙ ap (option_map (with_front p.held)) f) ∙ at in cc)
 rest_by p false (Some d) c e f at =
     let goes : (h : List ℕ) → rest_of_bytes (record p { held = h }) ≡ Some (with_front h d) =
-    λ h. ap (λ b. cond b (Some (all_of h)) (option_map (with_front h) p.coming)) e ∙ ap (option_map (with_front h)) f in
+    λ h. ap (λ b. cond b (Some (all_of h)) (option_map (with_front h) p.rest)) e ∙ ap (option_map (with_front h)) f in
     record {
       more = d.bytes;
       broken = d.broken;
@@ -95,7 +95,7 @@ rest_by p false (Some d) c e f at =
 
 -- The bytes ahead begin with the bytes held.
 pub rest_after : (p : KnownPosition) (c : InputRest) → rest_of_bytes p ≡ Some c → RestAfter p c
-rest_after p c = rest_by p p.ended p.coming c refl refl
+rest_after p c = rest_by p p.ended p.rest c refl refl
 
 -- the first byte determines the stage, whatever follows
 pub same_state : (stage : Option FileStateData) (held more : List ℕ) → 0 < length held →
@@ -252,7 +252,7 @@ not_below m n h = grind (arith, nat_tests)
 
 -- At the end of input the bytes ahead are those held.
 pub ended_ahead : (m : KnownPosition) → m.ended ≡ true → rest_of_bytes m ≡ Some (all_of m.held)
-ended_ahead m ended = ap (λ b. cond b (Some (all_of m.held)) (option_map (with_front m.held) m.coming)) ended
+ended_ahead m ended = ap (λ b. cond b (Some (all_of m.held)) (option_map (with_front m.held) m.rest)) ended
 
 -- a stage that more bytes than those held determine
 nothing_by : (stage : Option FileStateData) (held bytes : List ℕ) (b : ℕ) (more : List ℕ) →

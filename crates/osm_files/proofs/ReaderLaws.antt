@@ -12,7 +12,7 @@ use Rattle.osm_files.specs.Stream.{Placed, new_placed, end_refused}
 use Rattle.osm_files.specs.Units.{unit_at}
 use Rattle.osm_files.specs.declared.unit.ReadUnit.{ReadUnit}
 use Rattle.osm_files.specs.Source.{SourceStep, StepsOn}
-use Rattle.osm_files.specs.Position.{Position, KnownPosition, with_coming, Between, rest_of_bytes, rest_of_units, units_or_failed}
+use Rattle.osm_files.specs.Position.{Position, KnownPosition, with_rest, Between, rest_of_bytes, rest_of_units, units_or_failed}
 use Rattle.osm_files.specs.Position.{units_left, KeepsRest, ReadsOn, HasRead}
 use Rattle.osm_files.specs.Position.{Halts, StopsAt, state_at, FindsUnit}
 use Rattle.osm_files.specs.Load.{determines_format}
@@ -54,18 +54,18 @@ module _ {R : Type 0} (can : R → InputRest → Type 0) where
   then_on p m q P Q S law first second later g =
       let y = second later g in
       let x = first y.0 y.1 in
-      (x.0, x.1, law (with_coming p x.0) (with_coming m y.0) (with_coming q later) x.2 y.2)
+      (x.0, x.1, law (with_rest p x.0) (with_rest m y.0) (with_rest q later) x.2 y.2)
 
   -- a consequence of a step for both of its ends
   pub weaker_step : (p q : Position R) (P Q : KnownPosition → KnownPosition → Type 0) → ((a b : KnownPosition) → P a b → Q a b) →
       Between can p q P → Between can p q Q
   weaker_step p q P Q law step later g =
       let x = step later g in
-      (x.0, x.1, law (with_coming p x.0) (with_coming q later) x.2)
+      (x.0, x.1, law (with_rest p x.0) (with_rest q later) x.2)
 
   -- nothing was read
-  pub unread : (p q : Position R) (P : KnownPosition → KnownPosition → Type 0) → q.coming ≡ p.coming →
-      ((c : InputRest) → P (with_coming p c) (with_coming q c))
+  pub unread : (p q : Position R) (P : KnownPosition → KnownPosition → Type 0) → q.rest ≡ p.rest →
+      ((c : InputRest) → P (with_rest p c) (with_rest q c))
       → Between can p q P
   unread p q P same steps later g = (later, subst (λ r. can r later) same g, steps later)
 
@@ -76,18 +76,18 @@ module _ {R : Type 0} (can : R → InputRest → Type 0) where
     place = omega arith;
     failed = refl;
     goes =
-        unread p p KeepsRest refl (λ c. goes_on (with_coming p c));
+        unread p p KeepsRest refl (λ c. goes_on (with_rest p c));
   }
 
   -- nothing was read since
-  pub gone_then : (p m q : Position R) (P : KnownPosition → KnownPosition → Type 0) → HasPassed can p m → q.coming ≡ m.coming
-      → ((a : KnownPosition) (c : InputRest) → KeepsRest a (with_coming m c) → P a (with_coming q c)) → Between can p q P
+  pub gone_then : (p m q : Position R) (P : KnownPosition → KnownPosition → Type 0) → HasPassed can p m → q.rest ≡ m.rest
+      → ((a : KnownPosition) (c : InputRest) → KeepsRest a (with_rest m c) → P a (with_rest q c)) → Between can p q P
   gone_then p m q P on same law later g =
       let x = on.goes later (subst (λ r. can r later) same g) in
-      (x.0, x.1, law (with_coming p x.0) later x.2)
+      (x.0, x.1, law (with_rest p x.0) later x.2)
 
   -- If no unit is whole in the bytes held, nothing more was gone over.
-  pub gone_none : (p m q : Position R) → HasPassed can p m → FindsUnit m (Ok None) q → q.coming ≡ m.coming → q.input ≡ m.input
+  pub gone_none : (p m q : Position R) → HasPassed can p m → FindsUnit m (Ok None) q → q.rest ≡ m.rest → q.input ≡ m.input
       → q.place ≡ m.place → q.failed ≡ m.failed → HasPassed can p q
   gone_none p m q on found same input place failed = record {
     input = input ∙ on.input;
@@ -95,8 +95,8 @@ module _ {R : Type 0} (can : R → InputRest → Type 0) where
     failed = failed ∙ on.failed;
     goes =
         gone_then p m q KeepsRest on same
-        (λ a c goes. goes_further a (with_coming m c) (with_coming q c) goes
-        (none_goes_on (with_coming m c) (with_coming q c) (telling_found m q (Ok None) c found)));
+        (λ a c goes. goes_further a (with_rest m c) (with_rest q c) goes
+        (none_goes_on (with_rest m c) (with_rest q c) (telling_found m q (Ok None) c found)));
   }
 
   -- A position that has gone over units and then has read more bytes has gone over units.
@@ -113,7 +113,7 @@ module _ {R : Type 0} (can : R → InputRest → Type 0) where
   -- the end of the input was found
   pub fill_ended : (p q : Position R) (front : List ℕ) → p.ended ≡ false → q.ended ≡ true → q.input ≡ p.input → q.place ≡ p.place
       → q.stage ≡ p.stage → q.failed ≡ p.failed → q.held ≡ p.held ++ front → length front ≡ 0
-      → can p.coming (whole_input []) → HasRead can p q
+      → can p.rest (whole_input []) → HasRead can p q
   fill_ended p q front unended ended input place stage failed held none ends =
       let same : q.held ≡ p.held ++ [] = held ∙ ap (λ xs. p.held ++ xs) (nil_from_length front none) in
       record {
@@ -129,37 +129,37 @@ module _ {R : Type 0} (can : R → InputRest → Type 0) where
             stage = stage;
             failed = failed;
             ahead =
-                subst (λ (o : Option InputRest). IfSome o (λ x. rest_of_bytes (with_coming q later) ≡ Some x))
-                (sym (ahead_open (with_coming p (whole_input [])) unended))
-                (ended_ahead (with_coming q later) ended ∙ ap (λ xs. Some (whole_input xs)) same);
+                subst (λ (o : Option InputRest). IfSome o (λ x. rest_of_bytes (with_rest q later) ≡ Some x))
+                (sym (ahead_open (with_rest p (whole_input [])) unended))
+                (ended_ahead (with_rest q later) ended ∙ ap (λ xs. Some (whole_input xs)) same);
           },
         );
       }
 
   -- memory ran out, or the input failed
-  pub fill_stopped : (p : Position R) (one : InputRest) (reason : Reason) (fault : Fault) → can p.coming one
-      → (reason ≡ Memory) ⊎ (reason ≡ ReadFault) → (reason ≡ ReadFault → can p.coming (broken_input [])) → p.ended ≡ false
+  pub fill_stopped : (p : Position R) (one : InputRest) (reason : Reason) (fault : Fault) → can p.rest one
+      → (reason ≡ Memory) ⊎ (reason ≡ ReadFault) → (reason ≡ ReadFault → can p.rest (broken_input [])) → p.ended ≡ false
       → fault ≡ fault_at p.input (p.place + length p.held) reason → StopsAt can p fault
   fill_stopped p one reason fault possible (inl e) broken unended is =
       (one, possible, inl (is ∙ ap (fault_at p.input (p.place + length p.held)) e))
   fill_stopped p one reason fault possible (inr e) broken unended is = (
     broken_input [],
     broken e,
-    inr (subst (λ (o : Option InputRest). IfSome o (λ c. Halts (with_coming p (broken_input [])) c fault))
-        (sym (ahead_open (with_coming p (broken_input [])) unended))
+    inr (subst (λ (o : Option InputRest). IfSome o (λ c. Halts (with_rest p (broken_input [])) c fault))
+        (sym (ahead_open (with_rest p (broken_input [])) unended))
         (inl (ap (λ xs. broken_input xs) (append-nil p.held), is ∙ ap (fault_at p.input (p.place + length p.held)) e))),
   )
 
   -- one byte came after as many as a file may have
-  pub fill_limit : (p : Position R) (later earlier : InputRest) (front : List ℕ) (fault : Fault) → can p.coming earlier
+  pub fill_limit : (p : Position R) (later earlier : InputRest) (front : List ℕ) (fault : Fault) → can p.rest earlier
       → earlier ≡ with_front front later → 0 < length front → p.ended ≡ false → p.place + length p.held + 1 ≡ 2 ^ 62
       → fault ≡ too_long_fault p.input → StopsAt can p fault
   fill_limit p later earlier front fault possible is some unended full fault_is =
-      (earlier, possible, fill_full (with_coming p earlier) (Some later) front fault unended (ap Some is) some full fault_is)
+      (earlier, possible, fill_full (with_rest p earlier) (Some later) front fault unended (ap Some is) some full fault_is)
 
   -- A position without a change has read.
   pub has_read : (p : Position R) → HasRead can p p
-  has_read p = record { place = refl; stage = refl; failed = refl; reads = unread p p ReadsOn refl (λ c. reads_on (with_coming p c)) }
+  has_read p = record { place = refl; stage = refl; failed = refl; reads = unread p p ReadsOn refl (λ c. reads_on (with_rest p c)) }
 
   -- Reading on twice is reading on.
   pub read_further : (p m q : Position R) → HasRead can p m → HasRead can m q → HasRead can p q
@@ -179,7 +179,7 @@ module _ {R : Type 0} (can : R → InputRest → Type 0) where
       let x = on.reads stops.0 stops.1 in (
         x.0,
         x.1,
-        format_refused (with_coming p x.0) (with_coming m stops.0) (with_coming q later) x.2 first unseen fine shown fault stops.2
+        format_refused (with_rest p x.0) (with_rest m stops.0) (with_rest q later) x.2 first unseen fine shown fault stops.2
             failed,
       )
 
@@ -190,11 +190,11 @@ module _ {R : Type 0} (can : R → InputRest → Type 0) where
   steps_from p m q r on fine step later g =
       let y = step later g in
       let x = on.goes y.0 y.1 in
-      let before = units_or_failed (with_coming p x.0) in (
+      let before = units_or_failed (with_rest p x.0) in (
         x.0,
         x.1,
-        step_on before (units_or_failed (with_coming m y.0)) (units_or_failed (with_coming q later)) r
-            (keeps_still (with_coming p x.0) (with_coming m y.0) x.2 fine) y.2,
+        step_on before (units_or_failed (with_rest m y.0)) (units_or_failed (with_rest q later)) r
+            (keeps_still (with_rest p x.0) (with_rest m y.0) x.2 fine) y.2,
       )
 
   -- Going over units twice is going over units.
@@ -212,8 +212,8 @@ module _ {R : Type 0} (can : R → InputRest → Type 0) where
     same_input : r.input ≡ m.input
     same_input = ap (λ v. v.input) gone ∙ (held_size m q u found).3
 
-    same_coming : r.coming ≡ m.coming
-    same_coming = ap (λ v. v.coming) gone ∙ ap (λ v. v.coming) found.2
+    same_rest : r.rest ≡ m.rest
+    same_rest = ap (λ v. v.rest) gone ∙ ap (λ v. v.rest) found.2
 
     same_failed : r.failed ≡ m.failed
     same_failed = ap (λ v. v.failed) gone ∙ (held_size m q u found).4
@@ -239,17 +239,17 @@ module _ {R : Type 0} (can : R → InputRest → Type 0) where
         ])
 
     over : (c : InputRest) (given : Option Placed) → given ≡ option_map (new_placed q.place) u.version →
-        GoesOver (with_coming m c) given (with_coming r c)
+        GoesOver (with_rest m c) given (with_rest r c)
     over c given is =
-        held_goes_over (with_coming m c) (with_coming q c) (with_coming r c) u given bound (telling_found m q (Ok (Some u)) c found) is
-        (ap (λ v. with_coming v c) gone)
+        held_goes_over (with_rest m c) (with_rest q c) (with_rest r c) u given bound (telling_found m q (Ok (Some u)) c found) is
+        (ap (λ v. with_rest v c) gone)
 
     -- A unit with a version is a step that gives it.
     pub unit_gives : m.failed ≡ false → (given : Placed) → Some given ≡ option_map (new_placed q.place) u.version
         → StepsOn can m (Ok (Some given)) r
     unit_gives fine given is =
-        unread m r (λ a b. SourceStep (units_or_failed a) (Ok (Some given)) (units_or_failed b)) same_coming
-        (λ c. over_gives (with_coming m c) (with_coming r c) given fine same_failed (over c (Some given) is))
+        unread m r (λ a b. SourceStep (units_or_failed a) (Ok (Some given)) (units_or_failed b)) same_rest
+        (λ c. over_gives (with_rest m c) (with_rest r c) given fine same_failed (over c (Some given) is))
 
     -- A unit without a version is gone over.
     pub unit_passes : None ≡ option_map (new_placed q.place) u.version → HasPassed can m r
@@ -258,27 +258,27 @@ module _ {R : Type 0} (can : R → InputRest → Type 0) where
       place = omega (arith, unit_further);
       failed = same_failed;
       goes =
-          unread m r KeepsRest same_coming
-          (λ c. over_passes (with_coming m c) (with_coming r c) same_input (omega (arith, unit_further)) same_failed (over c None is));
+          unread m r KeepsRest same_rest
+          (λ c. over_passes (with_rest m c) (with_rest r c) same_input (omega (arith, unit_further)) same_failed (over c None is));
     }
 
   -- ---- refusals
   -- the reading is refused, now and ever after
-  pub refused_ever : (m r : Position R) (fault : Fault) (one : InputRest) → can m.coming one → m.failed ≡ false → r.failed ≡ true
-      → (fault ≡ memory_fault) ⊎ IfSome (rest_of_units (with_coming m one)) (λ s. s ≡ end_refused fault) → StepsOn can m (Err fault) r
+  pub refused_ever : (m r : Position R) (fault : Fault) (one : InputRest) → can m.rest one → m.failed ≡ false → r.failed ≡ true
+      → (fault ≡ memory_fault) ⊎ IfSome (rest_of_units (with_rest m one)) (λ s. s ≡ end_refused fault) → StepsOn can m (Err fault) r
   refused_ever m r fault one possible fine failed refuses later g =
-      (one, possible, refusal_step (with_coming m one) (with_coming r later) fault fine failed refuses)
+      (one, possible, refusal_step (with_rest m one) (with_rest r later) fault fine failed refuses)
 
   -- for a unit that is held
-  pub unit_refused : (m q r : Position R) (reason : Reason) (fault : Fault) (one : InputRest) → can m.coming one → m.failed ≡ false
+  pub unit_refused : (m q r : Position R) (reason : Reason) (fault : Fault) (one : InputRest) → can m.rest one → m.failed ≡ false
       → r.failed ≡ true → m.place + length m.held < 2 ^ 62 → FindsUnit m (Err reason) q → fault ≡ fault_at m.input m.place reason
       → StepsOn can m (Err fault) r
   unit_refused m q r reason fault one possible fine failed bound found is =
       refused_ever m r fault one possible fine failed
-      (held_refuses (with_coming m one) (with_coming q one) reason fault bound (telling_found m q (Err reason) one found) is)
+      (held_refuses (with_rest m one) (with_rest q one) reason fault bound (telling_found m q (Err reason) one found) is)
 
   -- because no more can be read
   pub fill_refused : (m r : Position R) (fault : Fault) → m.failed ≡ false → r.failed ≡ true → unit_at (state_at m) m.held ≡ None
       → m.place + length m.held < 2 ^ 62 → StopsAt can m fault → StepsOn can m (Err fault) r
   fill_refused m r fault fine failed nothing bound stops =
-      refused_ever m r fault stops.0 stops.1 fine failed (stopped (with_coming m stops.0) nothing bound fault stops.2)
+      refused_ever m r fault stops.0 stops.1 fine failed (stopped (with_rest m stops.0) nothing bound fault stops.2)

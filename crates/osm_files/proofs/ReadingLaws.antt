@@ -20,7 +20,7 @@ use Rattle.osm_files.specs.Units.{FileStateData, InOpl, BeforeHeader, InSegment,
 use Rattle.osm_files.specs.Units.{found_then}
 use Rattle.osm_files.specs.Units.{units}
 use Rattle.osm_files.specs.Reading.{Finds, FindsLast, state_data_of, version_of_unit}
-use Rattle.osm_files.specs.Position.{Position, KnownPosition, with_coming, rest_of_bytes, state_or_start, closing_verdict, window}
+use Rattle.osm_files.specs.Position.{Position, KnownPosition, with_rest, rest_of_bytes, state_or_start, closing_verdict, window}
 use Rattle.osm_files.specs.Position.{units_from, fault_of, with_input, rest_of_units}
 use Rattle.osm_files.specs.Position.{units_or_failed, Keeps, KeepsRest, state_at, with_state, FindsUnit}
 use Rattle.osm_files.proofs.FillLaws.{weaker, mapped}
@@ -99,10 +99,10 @@ pub seen_goes_on : (p : KnownPosition) → KeepsRest p (with_state p)
 seen_goes_on p = seen_by p (KeepsRest p) (λ e. state_there p (state_at p) e refl) (λ e. goes_on p)
 
 seen_same : {C : Type 0} (p : Position C)
-    → ((with_state p).coming ≡ p.coming) × ((with_state p).input ≡ p.input) × ((with_state p).place ≡ p.place) ×
+    → ((with_state p).rest ≡ p.rest) × ((with_state p).input ≡ p.input) × ((with_state p).place ≡ p.place) ×
     ((with_state p).failed ≡ p.failed)
 seen_same p =
-    seen_by p (λ q. (q.coming ≡ p.coming) × (q.input ≡ p.input) × (q.place ≡ p.place) × (q.failed ≡ p.failed))
+    seen_by p (λ q. (q.rest ≡ p.rest) × (q.input ≡ p.input) × (q.place ≡ p.place) × (q.failed ≡ p.failed))
     (λ e. (refl, refl, refl, refl)) (λ e. (refl, refl, refl, refl))
 
 -- ---- the unit at the front of the bytes held
@@ -159,10 +159,10 @@ module _ {C : Type 0} (m q : Position C) (h : FindsUnit m (Ok None) q) where
   none_there = (λ i. unit_at (state_at (h.1 i)) ((h.1 i).held)) ∙ (λ i. unit_at (seen_state_at m i) (seen_held m i)) ∙ h.0
 
   -- Where no unit was found, the position stays as it is.
-  pub none_same : (q.coming ≡ m.coming) × (q.input ≡ m.input) × (q.place ≡ m.place) × (q.failed ≡ m.failed)
+  pub none_same : (q.rest ≡ m.rest) × (q.input ≡ m.input) × (q.place ≡ m.place) × (q.failed ≡ m.failed)
   none_same =
       let same = seen_same m in
-      (ap (λ x. x.coming) h.1 ∙ same.0, ap (λ x. x.input) h.1 ∙ same.1, ap (λ x. x.place) h.1 ∙ same.2, ap (λ x. x.failed) h.1 ∙ same.3)
+      (ap (λ x. x.rest) h.1 ∙ same.0, ap (λ x. x.input) h.1 ∙ same.1, ap (λ x. x.place) h.1 ∙ same.2, ap (λ x. x.failed) h.1 ∙ same.3)
 
   pub none_known : q.stage ≡ None → q.held ≡ []
   none_known e = ap (λ x. x.held) h.1 ∙ seen_held m ∙ seen_none m (ap (λ x. x.stage) (sym h.1) ∙ e)
@@ -181,18 +181,18 @@ none_still m q r h stage kept =
     (λ i. unit_at (state_or_start (stage i) r.held) (kept i)) ∙ none_among q.stage q.held r.held (none_known m q h) (none_there m q h)
 
 -- the finding doesn't depend on the rest
-telling_seen : {R : Type 0} (p : Position R) (c : InputRest) → with_coming (with_state p) c ≡ with_state (with_coming p c)
+telling_seen : {R : Type 0} (p : Position R) (c : InputRest) → with_rest (with_state p) c ≡ with_state (with_rest p c)
 telling_seen p c =
     elim (is_some (slice_get p.held 0)) as
-    (λ t. with_coming (cond t (record p { stage = Some (state_at p) }) p) c ≡ cond t
-    (record (with_coming p c) { stage = Some (state_at p) })
-    (with_coming p c)) [ true ↦ refl | false ↦ refl ]
+    (λ t. with_rest (cond t (record p { stage = Some (state_at p) }) p) c ≡ cond t
+    (record (with_rest p c) { stage = Some (state_at p) })
+    (with_rest p c)) [ true ↦ refl | false ↦ refl ]
 
 -- A unit is found whatever the reader gives.
 pub telling_found : {R : Type 0} (p q : Position R) (result : Result (Option ReadUnit) Reason) (c : InputRest) → FindsUnit p result q
-    → FindsUnit (with_coming p c) result (with_coming q c)
-telling_found p q (Ok None) c h = (h.0, ap (λ x. with_coming x c) h.1 ∙ telling_seen p c)
-telling_found p q (Ok (Some u)) c h = (h.0, h.1, ap (λ x. with_coming x c) h.2)
+    → FindsUnit (with_rest p c) result (with_rest q c)
+telling_found p q (Ok None) c h = (h.0, ap (λ x. with_rest x c) h.1 ∙ telling_seen p c)
+telling_found p q (Ok (Some u)) c h = (h.0, h.1, ap (λ x. with_rest x c) h.2)
 telling_found p q (Err reason) c h = h
 
 -- ---- one unit further

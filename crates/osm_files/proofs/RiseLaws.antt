@@ -243,34 +243,34 @@ source_rises input c =
 
 -- a reading at its beginning
 abbrev pub beginning : ℕ → Option InputRest → KnownPosition
-beginning input coming = record { input = input; place = 0; held = []; coming = coming; stage = None; ended = false; failed = false }
+beginning input rest = record { input = input; place = 0; held = []; rest = rest; stage = None; ended = false; failed = false }
 
-begins_so : (input : ℕ) (coming : Option InputRest) →
-    still_with_ready input (units_or_failed (beginning input coming)) [] [] ≡ option_map (sorted_source input) coming
+begins_so : (input : ℕ) (rest : Option InputRest) →
+    still_with_ready input (units_or_failed (beginning input rest)) [] [] ≡ option_map (sorted_source input) rest
 begins_so input None = refl
 begins_so input (Some c) = ap Some (sym (source_is input c))
 
-begins_rising : (input : ℕ) (coming : Option InputRest) → IfSome (option_map (sorted_source input) coming) Ascends
+begins_rising : (input : ℕ) (rest : Option InputRest) → IfSome (option_map (sorted_source input) rest) Ascends
 begins_rising input None = tt
 begins_rising input (Some c) = source_rises input c
 
-module _ (p : KnownPosition) (ready : List VersionData) (input : ℕ) (coming : Option InputRest) (begins : p ≡ beginning input coming)
+module _ (p : KnownPosition) (ready : List VersionData) (input : ℕ) (rest : Option InputRest) (begins : p ≡ beginning input rest)
     (nothing : ready ≡ []) where
-  pub source_begins : still_with_ready p.input (units_or_failed p) [] ready ≡ option_map (sorted_source input) coming
-  source_begins = (λ i. still_with_ready (begins i).input (units_or_failed (begins i)) [] (nothing i)) ∙ begins_so input coming
+  pub source_begins : still_with_ready p.input (units_or_failed p) [] ready ≡ option_map (sorted_source input) rest
+  source_begins = (λ i. still_with_ready (begins i).input (units_or_failed (begins i)) [] (nothing i)) ∙ begins_so input rest
 
   pub source_begins_rising : IfSome (still_with_ready p.input (units_or_failed p) [] ready) Ascends
   source_begins_rising = subst (λ (o : Option (SourceRest VersionData Fault)). IfSome o Ascends) (sym source_begins)
-      (begins_rising input coming)
+      (begins_rising input rest)
 
   -- A source of which nothing was read gives the same as the sorted file's source.
   pub source_begins_known : still_given (option_map as_set (still_with_ready p.input (units_or_failed p) [] ready))
-      ≡ option_map (sorted_source input) coming
+      ≡ option_map (sorted_source input) rest
   source_begins_known = set_is_known (still_with_ready p.input (units_or_failed p) [] ready) source_begins_rising ∙ source_begins
 
 -- a reading that read bytes before it gave anything
-opens_so : (input : ℕ) (coming : Option InputRest) (q : KnownPosition) → KeepsRest (beginning input coming) q →
-    IfSome coming (λ c. still_with_ready q.input (units_or_failed q) [] [] ≡ Some (sorted_source input c))
+opens_so : (input : ℕ) (rest : Option InputRest) (q : KnownPosition) → KeepsRest (beginning input rest) q →
+    IfSome rest (λ c. still_with_ready q.input (units_or_failed q) [] [] ≡ Some (sorted_source input c))
 opens_so input None q on = tt
 opens_so input (Some c) q on =
     let fine : units_or_failed q ≡ rest_of_units q =
@@ -278,22 +278,22 @@ opens_so input (Some c) q on =
     (λ i. still_with_ready (on.input i) ((fine ∙ on.keeps) i) [] []) ∙ ap Some (sym (source_is input c))
 
 -- A source that was opened gives the same as the sorted file's source.
-pub source_opens_known : (p q : KnownPosition) (ready : List VersionData) (input : ℕ) (coming : Option InputRest) →
-    p ≡ beginning input coming →
-    KeepsRest p q → ready ≡ [] → IfSome coming (λ c. still_given (option_map as_set (still_with_ready q.input (units_or_failed q) [] ready))
+pub source_opens_known : (p q : KnownPosition) (ready : List VersionData) (input : ℕ) (rest : Option InputRest) →
+    p ≡ beginning input rest →
+    KeepsRest p q → ready ≡ [] → IfSome rest (λ c. still_given (option_map as_set (still_with_ready q.input (units_or_failed q) [] ready))
     ≡ Some (sorted_source input c))
-source_opens_known p q ready input coming begins on nothing =
+source_opens_known p q ready input rest begins on nothing =
     let rises : IfSome (still_with_ready q.input (units_or_failed q) [] ready) Ascends =
     subst (λ (xs : List VersionData). IfSome (still_with_ready q.input (units_or_failed q) [] xs) Ascends) (sym nothing)
     (pending_rises q.input (units_or_failed q) None) in
-    weaker coming _ _ (λ c e. set_is_known (still_with_ready q.input (units_or_failed q) [] ready) rises
+    weaker rest _ _ (λ c e. set_is_known (still_with_ready q.input (units_or_failed q) [] ready) rises
     ∙ (λ i. still_with_ready q.input (units_or_failed q) [] (nothing i)) ∙ e)
-    (opens_so input coming q (subst (λ (x : KnownPosition). KeepsRest x q) begins on))
+    (opens_so input rest q (subst (λ (x : KnownPosition). KeepsRest x q) begins on))
 
 -- A source that can't be opened is refused as the sorted file's source is, or for Memory.
-pub opens_refused : (input : ℕ) (coming : Option InputRest) (fault : Fault) (after : Option (SourceRest Placed Fault)) →
-    SourceStep {A = Placed} (units_or_failed (beginning input coming)) (Err fault) after
-    → (fault ≡ memory_fault) ⊎ IfSome coming (λ c. (sorted_source input c).refusal ≡ Some fault)
+pub opens_refused : (input : ℕ) (rest : Option InputRest) (fault : Fault) (after : Option (SourceRest Placed Fault)) →
+    SourceStep {A = Placed} (units_or_failed (beginning input rest)) (Err fault) after
+    → (fault ≡ memory_fault) ⊎ IfSome rest (λ c. (sorted_source input c).refusal ≡ Some fault)
 opens_refused input None fault after step = ⊎_elim (λ e. inl e) (λ k. inr tt) step.0
 opens_refused input (Some c) fault after step =
     ⊎_elim (λ e. inl e) (λ k. inr (ap (λ (s : SourceRest VersionData Fault). s.refusal) (source_is input c)

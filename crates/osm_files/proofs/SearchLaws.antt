@@ -9,6 +9,7 @@ use Rattle.opl_line.proofs.CutLaws.{split_at}
 use Rattle.osm_files.specs.Units.{line_unit}
 
 module _ (p : ℕ → Bool) where
+  -- If no byte fits, the position or length is at least the length.
   pub nowhere : (xs : List ℕ) → position p xs ≡ None → length xs ≤ position_or_len p xs
   nowhere xs none =
       let at = position_or_len p xs in
@@ -17,6 +18,7 @@ module _ (p : ℕ → Bool) where
         | false ↦ λ e f. ltb-false _ _ e
       ] refl none
 
+  -- If a byte fits, its position is the position or length, and below the length.
   pub somewhere : (xs : List ℕ) (k : ℕ) → position p xs ≡ Some k → (position_or_len p xs ≡ k) × (k < length xs)
   somewhere xs k found =
       let at = position_or_len p xs in

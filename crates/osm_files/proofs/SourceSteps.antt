@@ -14,7 +14,7 @@ use Rattle.osm_files.specs.Groups.{to_ascending, list_of, still_with_ready, stil
 use Rattle.osm_files.specs.Groups.{Gathers}
 use Rattle.osm_files.specs.Groups.{RefusesGroup, BeginsOn, GathersOn, RefusesOn}
 use Rattle.osm_files.specs.Input.{InputRest}
-use Rattle.osm_files.specs.Position.{Position, KnownPosition, with_coming, Between, units_or_failed, Keeps}
+use Rattle.osm_files.specs.Position.{Position, KnownPosition, with_rest, Between, units_or_failed, Keeps}
 use Rattle.osm_files.specs.Source.{Ascends, SourceStep, StepsOn}
 use Rattle.osm_files.specs.Stream.{Placed, SourceRest}
 use Rattle.osm_files.proofs.FillLaws.{kept, keeps_on}
@@ -38,8 +38,8 @@ module _ {R : Type 0} (can : R → InputRest → Type 0) where
       IsOpenSource can (source_data units (option_to_list pending) ready)
   open_source units pending ready none = (
     λ c k. subst (λ (xs : List VersionData). IfSome
-        (still_with_ready units.input (units_or_failed (with_coming units c)) (option_to_list pending) xs)
-        Ascends) (sym none) (pending_rises units.input (units_or_failed (with_coming units c)) pending),
+        (still_with_ready units.input (units_or_failed (with_rest units c)) (option_to_list pending) xs)
+        Ascends) (sym none) (pending_rises units.input (units_or_failed (with_rest units c)) pending),
     λ failed. none,
   )
 
@@ -50,7 +50,7 @@ module _ {R : Type 0} (can : R → InputRest → Type 0) where
       subst (λ (o : Option VersionData). BeginsOn can p (option_to_list o) (Ok (Some first)) p) (sym is)
       (unread can p p (λ a b. Keeps (still_with_ready p.input (units_or_failed a) (first ∷ []) [])
       (still_with_ready p.input (units_or_failed b) (first ∷ []) [])) refl
-      (λ c. kept (still_with_ready p.input (units_or_failed (with_coming p c)) (first ∷ []) [])))
+      (λ c. kept (still_with_ready p.input (units_or_failed (with_rest p c)) (first ∷ []) [])))
 
   -- memory ran out
   pub memory_step : (s t : FileSourceData R) (fault : Fault) → fault ≡ memory_fault → t.units ≡ record s.units { failed = true } →
@@ -58,9 +58,9 @@ module _ {R : Type 0} (can : R → InputRest → Type 0) where
       FileSteps can s (Err fault) t
   memory_step s t fault is failed none later k = (
     later,
-    subst (λ r. can r later) (ap (λ v. v.coming) failed) k,
-    refused_at s.units.input (still_at s.units.input s later) (with_coming t.units later) t.group t.ready fault none
-        (inl is, (s.units.input, ap (λ (v : Position R). units_or_failed (with_coming v later)) failed)),
+    subst (λ r. can r later) (ap (λ v. v.rest) failed) k,
+    refused_at s.units.input (still_at s.units.input s later) (with_rest t.units later) t.group t.ready fault none
+        (inl is, (s.units.input, ap (λ (v : Position R). units_or_failed (with_rest v later)) failed)),
   )
 
   -- the rest of a group can't be read
@@ -70,8 +70,8 @@ module _ {R : Type 0} (can : R → InputRest → Type 0) where
       let y = refuses later k in (
         y.0,
         y.1,
-        refused_at p.input (still_with_ready p.input (units_or_failed (with_coming p y.0)) group [])
-            (with_coming t.units later) t.group t.ready fault none y.2,
+        refused_at p.input (still_with_ready p.input (units_or_failed (with_rest p y.0)) group [])
+            (with_rest t.units later) t.group t.ready fault none y.2,
       )
 
   -- no group begins
@@ -99,12 +99,12 @@ module _ {R : Type 0} (can : R → InputRest → Type 0) where
         r ≡ record q { failed = true } → ready ≡ [] → FileSteps can (source_data p (list_of has_begun) []) (Err fault)
         (source_data r (option_to_list next) ready)
     gathered_memory fault r ready is failed none later k =
-        let y = gathers later (subst (λ c. can c later) (ap (λ v. v.coming) failed) k) in (
+        let y = gathers later (subst (λ c. can c later) (ap (λ v. v.rest) failed) k) in (
           y.0,
           y.1,
-          refused_at p.input (still_with_ready p.input (units_or_failed (with_coming p y.0)) (list_of has_begun) []) (with_coming r later)
+          refused_at p.input (still_with_ready p.input (units_or_failed (with_rest p y.0)) (list_of has_begun) []) (with_rest r later)
               (option_to_list next) ready fault none
-              (inl is, (q.input, ap (λ (v : Position R). units_or_failed (with_coming v later)) failed)),
+              (inl is, (q.input, ap (λ (v : Position R). units_or_failed (with_rest v later)) failed)),
         )
 
     gives : (before after : Option (SourceRest Placed Fault)) (o : Option VersionData) (ready : List VersionData) →
@@ -124,19 +124,19 @@ module _ {R : Type 0} (can : R → InputRest → Type 0) where
           (source_data q (option_to_list next) ready)
       gathered_given some later k =
           let y = gathers later k in
-          (y.0, y.1, gives (units_or_failed (with_coming p y.0)) (units_or_failed (with_coming q later)) given ready all some y.2)
+          (y.0, y.1, gives (units_or_failed (with_rest p y.0)) (units_or_failed (with_rest q later)) given ready all some y.2)
 
       -- A source stays open after a group was gathered.
       pub gathered_open : q.input ≡ p.input → q.failed ≡ false → IsOpenSource can (source_data q (option_to_list next) ready)
       gathered_open number fine = (
         λ later k.
             let y = gathers later k in
-            let up = gathers_rise p.input (units_or_failed (with_coming p y.0)) has_begun.others.items
-            (units_or_failed (with_coming q later)) has_begun.first group.others.items next y.2 in
-            let at_q = subst (λ (i : ℕ). IfSome (still_with_ready i (units_or_failed (with_coming q later)) (option_to_list next)
+            let up = gathers_rise p.input (units_or_failed (with_rest p y.0)) has_begun.others.items
+            (units_or_failed (with_rest q later)) has_begun.first group.others.items next y.2 in
+            let at_q = subst (λ (i : ℕ). IfSome (still_with_ready i (units_or_failed (with_rest q later)) (option_to_list next)
             (to_ascending (has_begun.first ∷ group.others.items))) Ascends) (sym number) up in
-            rest_rises q.input (units_or_failed (with_coming q later)) (option_to_list next) given ready
-            (subst (λ (xs : List VersionData). IfSome (still_with_ready q.input (units_or_failed (with_coming q later))
+            rest_rises q.input (units_or_failed (with_rest q later)) (option_to_list next) given ready
+            (subst (λ (xs : List VersionData). IfSome (still_with_ready q.input (units_or_failed (with_rest q later))
             (option_to_list next) xs)
             Ascends) all at_q),
         λ failed. absurd (false≢true (sym fine ∙ failed)),
@@ -160,13 +160,13 @@ module _ {R : Type 0} (can : R → InputRest → Type 0) where
     after_first t r P step law later k =
         let y = step later k in
         let x = begins y.0 y.1 in
-        let before = given_from (with_coming b y.0) (first ∷ []) in
+        let before = given_from (with_rest b y.0) (first ∷ []) in
         let keeps = subst (λ (xs : List VersionData). Keeps
-        (still_with_ready s.units.input (units_or_failed (with_coming s.units x.0)) s.group xs) before) (sym nothing) x.2 in (
+        (still_with_ready s.units.input (units_or_failed (with_rest s.units x.0)) s.group xs) before) (sym nothing) x.2 in (
           x.0,
           x.1,
           step_on (start x.0) before (still_at s.units.input t later) r keeps
-              (law (with_coming b y.0) (with_coming t.units later) y.2),
+              (law (with_rest b y.0) (with_rest t.units later) y.2),
         )
 
     -- A unit after the first version of a group that can't be read refuses the source.
@@ -218,8 +218,8 @@ module _ {R : Type 0} (can : R → InputRest → Type 0) where
 
       fails : (r : Position R) → r ≡ record n { failed = true } → Between can b r Fails
       fails r failed later k =
-          let y = step later (subst (λ c. can c later) (ap (λ v. v.coming) failed) k) in
-          (y.0, y.1, (with_coming n later, y.2, ap (λ (v : Position R). with_coming v later) failed))
+          let y = step later (subst (λ c. can c later) (ap (λ v. v.rest) failed) k) in
+          (y.0, y.1, (with_rest n later, y.2, ap (λ (v : Position R). with_rest v later) failed))
 
       -- A version before one of a lesser key is refused as Unsorted.
       pub second_falls : (fault : Fault) (t : FileSourceData R) → t.units ≡ record n { failed = true } → t.ready ≡ [] →
@@ -238,12 +238,12 @@ module _ {R : Type 0} (can : R → InputRest → Type 0) where
           let z = many later k in
           let y = step z.0 z.1 in
           let x = begins y.0 y.1 in
-          let before = given_from (with_coming b y.0) (first ∷ []) in
-          let after = given_from (with_coming n z.0) (first ∷ u.version ∷ []) in
-          let joins = joins_group s.units.input (units_or_failed (with_coming b y.0)) [] (units_or_failed (with_coming b y.0))
-          (units_or_failed (with_coming n z.0)) first [] (kept before) u y.2 less greater in
+          let before = given_from (with_rest b y.0) (first ∷ []) in
+          let after = given_from (with_rest n z.0) (first ∷ u.version ∷ []) in
+          let joins = joins_group s.units.input (units_or_failed (with_rest b y.0)) [] (units_or_failed (with_rest b y.0))
+          (units_or_failed (with_rest n z.0)) first [] (kept before) u y.2 less greater in
           let keeps = subst (λ (xs : List VersionData). Keeps
-          (still_with_ready s.units.input (units_or_failed (with_coming s.units x.0)) s.group xs) before) (sym nothing) x.2 in
-          let given = subst (λ (i : ℕ). SourceStep (still_with_ready i (units_or_failed (with_coming n z.0)) (first ∷ u.version ∷ []) []) r
+          (still_with_ready s.units.input (units_or_failed (with_rest s.units x.0)) s.group xs) before) (sym nothing) x.2 in
+          let given = subst (λ (i : ℕ). SourceStep (still_with_ready i (units_or_failed (with_rest n z.0)) (first ∷ u.version ∷ []) []) r
           (still_at i t later)) number z.2 in
           (x.0, x.1, step_on (start x.0) after (still_at s.units.input t later) r (keeps_on (start x.0) before after keeps joins) given)

@@ -20,6 +20,7 @@ use Rattle.osm_files.specs.Reading.{Finds, ends_at}
 use Rattle.osm_files.specs.Units.{FileStateData, PastEnd, unit_after_end, segment_unit, InOpl, is_ended, length_at, sized_unit}
 use Rattle.osm_files.specs.Units.{content_found, unit}
 use Rattle.osm_files.specs.Units.{line_unit, line_found, header_unit, is_header, no_version}
+use Rattle.osm_files.proofs.SearchLaws.{no_end}
 
 -- Where no line end is there, no line is whole.
 pub no_line : (bytes : List ℕ) → position is_line_end bytes ≡ None → line_unit (split_first is_line_end bytes) ≡ None
@@ -81,3 +82,6 @@ after_first (c ∷ bytes) b next e = inr (1, refl)
 pub end_first : (s : Segment) (bytes : List ℕ) → ends_at bytes ≡ true → segment_unit s bytes ≡ Some (unit 1 (no_version PastEnd))
 end_first s [] e = absurd (false≢true e)
 end_first s (b ∷ bytes) e = rw e refl
+
+-- what is known before a unit is read: a file that ends there, or bytes without an end of a line
+pub ruleset known_before = (end_first, no_end)

@@ -62,6 +62,7 @@ line_end_after ending front given = ap (λ (e : Ending). record {
   broken = given.broken || is_in_line e;
 }) (ending_in_rest ending front given.bytes)
 
+-- If a reader gave `front` and can give `later`, it could give both. This also holds where a line feed is added at the end.
 pub gave_lines : {R : Type 0} (can : R → InputRest → Type 0) (before after : R) (ending : Ending) (front : List ℕ)
     → Gave can before after front → (later : InputRest)
     → GivesOne (can after) (λ given. later ≡ with_line_end (ending_after ending front) given)

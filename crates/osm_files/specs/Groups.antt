@@ -15,7 +15,7 @@ use Rattle.osm_files.specs.declared.group.Group.{Group}
 use Rattle.osm_files.specs.declared.reason.Reason.TheVariants.{Unsorted}
 use Rattle.osm_files.specs.Fault.{memory_fault, failed_fault}
 use Rattle.osm_files.specs.Input.{InputRest, whole_input as all_of, with_front, Explained}
-use Rattle.osm_files.specs.Position.{Position, with_coming, Between, rest_of_units, units_or_failed, units_from}
+use Rattle.osm_files.specs.Position.{Position, with_rest, Between, rest_of_units, units_or_failed, units_from}
 use Rattle.osm_files.specs.Position.{units_left, with_input}
 use Rattle.osm_files.specs.Position.{fault_of, Keeps}
 use Rattle.osm_files.specs.Source.{Ascends, SourceStep}
@@ -72,7 +72,7 @@ fresh_reading input reader = record {
   input = input;
   place = 0;
   held = [];
-  coming = reader;
+  rest = reader;
   stage = None;
   ended = false;
   failed = false;
@@ -98,18 +98,18 @@ with_group s group = source_data s.units group []
 
 -- the versions that the source of this input still gives, if its reader gives these bytes
 abbrev pub still_at : {R : Type 0} → ℕ → FileSourceData R → InputRest → Option (SourceRest VersionData Fault)
-still_at input s c = still_with_ready input (units_or_failed (with_coming s.units c)) s.group s.ready
+still_at input s c = still_with_ready input (units_or_failed (with_rest s.units c)) s.group s.ready
 
 -- one call, over all that its reader can give: a step from the rest before to the rest after
 abbrev pub FileSteps : {R : Type 0} → (R → InputRest → Type 0) → FileSourceData R → Result (Option VersionData) Fault →
     FileSourceData R → Type 0
 FileSteps can s result t =
-    Explained (can s.units.coming) (can t.units.coming)
+    Explained (can s.units.rest) (can t.units.rest)
     (λ earlier later. SourceStep (still_at s.units.input s earlier) result (still_at s.units.input t later))
 
 -- for all that its reader can give, the versions that the source still gives ascend
 abbrev pub FileAscends : {R : Type 0} → (R → InputRest → Type 0) → FileSourceData R → Type 0
-FileAscends can s = (c : InputRest) → can s.units.coming c → IfSome (still_at s.units.input s c) Ascends
+FileAscends can s = (c : InputRest) → can s.units.rest c → IfSome (still_at s.units.input s c) Ascends
 
 -- the versions that the source still gives ascend, and after a refusal none is ready
 abbrev pub IsOpenSource : {R : Type 0} → (R → InputRest → Type 0) → FileSourceData R → Type 0
@@ -146,7 +146,7 @@ given_at s c = still_given (option_map as_set (still_at s.units.input s c))
 -- a source can give the versions that its reader makes possible
 abbrev pub FileCanGive : {R : Type 0} → (R → InputRest → Type 0) → FileSourceData R → SourceRest VersionData Fault →
     Type 0
-FileCanGive can s still = (c : InputRest) × can s.units.coming c × (given_at s c ≡ Some still)
+FileCanGive can s still = (c : InputRest) × can s.units.rest c × (given_at s c ≡ Some still)
 
 known_ascends : (known : Option StillSet) (still : SourceRest VersionData Fault) → still_given known ≡ Some still →
     Ascends still
@@ -163,10 +163,10 @@ abbrev pub IsKnown : {A : Type 0} → Option A → Type 0
 IsKnown None = ⊥
 IsKnown (Some x) = Unit {0}
 
-still_known : {R : Type 0} (p : Position R) (c : InputRest) → IsKnown (units_or_failed (with_coming p c))
+still_known : {R : Type 0} (p : Position R) (c : InputRest) → IsKnown (units_or_failed (with_rest p c))
 still_known p c =
     elim p.failed as (λ t. IsKnown (if t then Some (end_refused (failed_fault p.input))
-    else rest_of_units (with_coming p c))) [
+    else rest_of_units (with_rest p c))) [
       | true ↦ tt
       | false ↦ (elim p.ended as (λ t. IsKnown
           (option_map (λ x. with_input p.input (units_from p.stage p.place x))
@@ -193,7 +193,7 @@ known_is (Some still) h = refl
 pub one_given : {R : Type 0} (s : FileSourceData R) (c : InputRest) →
     given_at s c ≡ Some (known_or_whole (given_at s c))
 one_given s c = known_is (given_at s c) (given_known s.units.input
-    (units_or_failed (with_coming s.units c)) s.group s.ready
+    (units_or_failed (with_rest s.units c)) s.group s.ready
     (still_known s.units c))
 
 -- a set is given whole, its members one by one, ascending

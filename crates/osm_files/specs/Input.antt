@@ -18,7 +18,7 @@ broken_input bytes = record { bytes = bytes; broken = true }
 
 -- these bytes, and then what is still to come
 abbrev pub with_front : List ℕ → InputRest → InputRest
-with_front front coming = record { bytes = front ++ coming.bytes; broken = coming.broken }
+with_front front rest = record { bytes = front ++ rest.bytes; broken = rest.broken }
 
 -- Each possible state after a call comes from a possible state before it: the step leads from the one to the other.
 abbrev pub Explained : {A B : Type 0} → (A → Type 0) → (B → Type 0) → (A → B → Type 0) → Type 0

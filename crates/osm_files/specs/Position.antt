@@ -19,18 +19,18 @@ pub record Position (C : Type 0) : Type 0 where
   pub input : ℕ
   pub place : ℕ
   pub held : List ℕ
-  pub coming : C
+  pub rest : C
   pub stage : Option FileStateData
   pub ended : Bool
   pub failed : Bool
 
 -- the position in an input before its first byte
 abbrev pub at_start : {C : Type 0} → ℕ → C → Position C
-at_start input coming = record {
+at_start input rest = record {
   input = input;
   place = 0;
   held = [];
-  coming = coming;
+  rest = rest;
   stage = None;
   ended = false;
   failed = false;
@@ -41,12 +41,12 @@ abbrev pub KnownPosition : Type 0
 KnownPosition = Position (Option InputRest)
 
 -- the position, if its reader gives `c`
-abbrev pub with_coming : {R : Type 0} → Position R → InputRest → KnownPosition
-with_coming p c = record {
+abbrev pub with_rest : {R : Type 0} → Position R → InputRest → KnownPosition
+with_rest p c = record {
   input = p.input;
   place = p.place;
   held = p.held;
-  coming = Some c;
+  rest = Some c;
   stage = p.stage;
   ended =
       p.ended;
@@ -57,12 +57,12 @@ with_coming p c = record {
 -- the one to the other
 abbrev pub Between : {R : Type 0} → (R → InputRest → Type 0) → Position R → Position R →
     (KnownPosition → KnownPosition → Type 0) → Type 0
-Between can p q step = Explained (can p.coming) (can q.coming)
-    (λ earlier later. step (with_coming p earlier) (with_coming q later))
+Between can p q step = Explained (can p.rest) (can q.rest)
+    (λ earlier later. step (with_rest p earlier) (with_rest q later))
 
 -- the bytes from the position's offset on, if they are known
 abbrev pub rest_of_bytes : KnownPosition → Option InputRest
-rest_of_bytes p = if p.ended then Some (all_of p.held) else option_map (with_front p.held) p.coming
+rest_of_bytes p = if p.ended then Some (all_of p.held) else option_map (with_front p.held) p.rest
 
 -- the stage, or the one at which these bytes begin
 abbrev pub state_or_start : Option FileStateData → List ℕ → FileStateData
@@ -163,4 +163,4 @@ StopsFilling p fault = (fault ≡ memory_fault) ⊎ IfSome (rest_of_bytes p) (λ
 
 -- why no more bytes can be read, for something that the reader can give
 abbrev pub StopsAt : {R : Type 0} → (R → InputRest → Type 0) → Position R → Fault → Type 0
-StopsAt can p fault = GivesOne (can p.coming) (λ c. StopsFilling (with_coming p c) fault)
+StopsAt can p fault = GivesOne (can p.rest) (λ c. StopsFilling (with_rest p c) fault)

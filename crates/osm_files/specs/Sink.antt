@@ -18,7 +18,7 @@ abbrev pub state_of_unit_writer : UnitWriter → WriterState
 state_of_unit_writer (Lines last) = record { last = last; segment = new_encoder_segment }
 state_of_unit_writer (DataSets encoder) = encoder.written
 
--- the units are those of the format, and have not failed
+-- the unit writer is one of the format, and has not failed
 abbrev pub IsUnitWriterOf : Format → UnitWriter → Type 0
 IsUnitWriterOf Opl (Lines last) = Unit {0}
 IsUnitWriterOf O5m (DataSets encoder) = encoder.failed ≡ false

@@ -65,23 +65,23 @@ pub(crate) enum Full {
     TakesNothing,
 }
 
-/// A writer that takes one byte in each write until it has taken `room` bytes, and is then full as `full` specifies.
-/// Its flush fails unless `flushes` is set.
+/// A writer that takes one byte in each write until it has taken `capacity` bytes, and is then full as `full`
+/// specifies. Its flush fails unless `flushes` is set.
 #[derive(Drop)]
 pub(crate) struct Device<'a> {
     pub(crate) taken: &'a mut Vec<u8>,
-    pub(crate) room: usize,
+    pub(crate) capacity: usize,
     pub(crate) full: Full,
     pub(crate) flushes: bool,
 }
 
 impl Write for Device<'_> {
     fn write(&mut self, bytes: &[u8]) -> io::Result<usize> {
-        if self.taken.len() >= self.room && self.full == Full::Refuses {
+        if self.taken.len() >= self.capacity && self.full == Full::Refuses {
             return Err(io::Error::from(io::ErrorKind::Interrupted));
         }
         match bytes.first() {
-            Some(byte) if self.taken.len() < self.room => {
+            Some(byte) if self.taken.len() < self.capacity => {
                 self.taken.push(*byte)?;
                 Ok(1)
             }

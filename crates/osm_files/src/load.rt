@@ -51,11 +51,11 @@ fn read_versions<R: Input>(
     reading: &mut Reading<R>,
     versions: &mut Vec<Version>,
 ) -> Result<(Format, bool), Fault>
-    requires begins { reading.old ≡ at_start reading.old.input reading.old.coming }
+    requires begins { reading.old ≡ at_start reading.old.input reading.old.rest }
     requires empty { versions.old.items ≡ [] }
-    ensures read { IfOk result (λ read. GivesOne (R.can_give reading.old.coming) (λ c.
+    ensures read { IfOk result (λ read. GivesOne (R.can_give reading.old.rest) (λ c.
         IsRead reading.old.input c versions.new.items read.0 read.1)) }
-    ensures refused { IfErr result (λ fault. GivesOne (R.can_give reading.old.coming) (λ c.
+    ensures refused { IfErr result (λ fault. GivesOne (R.can_give reading.old.rest) (λ c.
         StopsLoading reading.old.input c fault)) }
 {
     let format = reading.format()?;

@@ -15,8 +15,8 @@ const MAX_CHUNK: usize = 65536;
 /// of these bytes.
 #[derive(Drop)]
 pub(crate) struct ReadBuffer {
-    /// The memory into which the input is read. The bytes held are `room[from..end]`.
-    room: Vec<u8>,
+    /// The memory into which the input is read. The bytes held are `buffer[from..end]`.
+    buffer: Vec<u8>,
     from: usize,
     end: usize,
     /// The number of bytes that one read asks for.
@@ -28,9 +28,9 @@ impl Model for ReadBuffer {
 
     ghost Value = { List ℕ };
 
-    ghost view = { λ h. take (h.end - h.from) (drop h.from h.room.items) };
+    ghost view = { λ h. take (h.end - h.from) (drop h.from h.buffer.items) };
 
-    ghost invariant = { λ h. (h.from ≤ h.end) × (h.end ≤ length h.room.items) × (0 < h.chunk) × (h.chunk ≤ 65536) };
+    ghost invariant = { λ h. (h.from ≤ h.end) × (h.end ≤ length h.buffer.items) × (0 < h.chunk) × (h.chunk ≤ 65536) };
 }
 
 impl ReadBuffer {
@@ -39,7 +39,7 @@ impl ReadBuffer {
         ensures { result ≡ [] }
     {
         ReadBuffer {
-            room: Vec::new(alloc),
+            buffer: Vec::new(alloc),
             from: 0,
             end: 0,
             chunk: MAX_CHUNK,
@@ -57,7 +57,7 @@ impl ReadBuffer {
     pub(crate) fn as_slice(&self) -> &[u8]
         ensures { result.now ≡ self.now }
     {
-        &self.room[self.from..self.end]
+        &self.buffer[self.from..self.end]
     }
 
     /// The number of bytes held.
@@ -75,14 +75,14 @@ impl ReadBuffer {
         self.from += count;
     }
 
-    /// Moves the bytes held to the front of `room`, unless they are already there.
+    /// Moves the bytes held to the front of `buffer`, unless they are already there.
     fn compact(&mut self)
         ensures { self.new ≡ self.old }
     {
         if self.from == 0 {
             return;
         }
-        self.room.copy_within(self.from..self.end, 0);
+        self.buffer.copy_within(self.from..self.end, 0);
         self.end -= self.from;
         self.from = 0;
     }
@@ -107,10 +107,10 @@ impl ReadBuffer {
         ensures unchanged { OnErr result (self.new ≡ self.old) }
     {
         self.compact();
-        if let Err(refused) = make_room(&mut self.room, self.end, self.chunk) {
+        if let Err(refused) = make_room(&mut self.buffer, self.end, self.chunk) {
             return Err(refused);
         }
-        match read_at(reader, &mut self.room, self.end, most.min(self.chunk)) {
+        match read_at(reader, &mut self.buffer, self.end, most.min(self.chunk)) {
             Ok(count) => {
                 self.end += count;
                 Ok(count)
@@ -120,42 +120,42 @@ impl ReadBuffer {
     }
 }
 
-/// Reads at most `most` bytes into `room[end..]` and returns the number of bytes read.
+/// Reads at most `most` bytes into `buffer[end..]` and returns the number of bytes read.
 fn read_at<R: Input>(
     reader: &mut R,
-    room: &mut Vec<u8>,
+    buffer: &mut Vec<u8>,
     end: usize,
     most: usize,
 ) -> Result<usize, Broken>
     requires some { 0 < most }
-    requires within { end + most ≤ length room.old.items }
-    ensures gave { IfOk result (λ count.
-        GaveMore R.can_give reader.old reader.new (take end room.old.items) (take (end + count) room.new.items) count) }
+    requires within { end + most ≤ length buffer.old.items }
+    ensures gave { IfOk result (λ count. GaveMore R.can_give reader.old reader.new
+        (take end buffer.old.items) (take (end + count) buffer.new.items) count) }
     ensures most { IfOk result (λ count. count ≤ most) }
     ensures end { result ≡ Ok 0 → R.can_give reader.old (whole_input []) }
     ensures broken { OnErr result (R.can_give reader.old (broken_input [])) }
-    ensures kept { take end room.new.items ≡ take end room.old.items }
-    ensures size { length room.new.items ≡ length room.old.items }
+    ensures kept { take end buffer.new.items ≡ take end buffer.old.items }
+    ensures size { length buffer.new.items ≡ length buffer.old.items }
 {
-    match reader.read(&mut room[end..end + most]) {
+    match reader.read(&mut buffer[end..end + most]) {
         Ok(count) => Ok(count),
         Err(broken) => Err(broken),
     }
 }
 
-/// Lengthens `room`, if it is too short for `chunk` bytes after its first `end` bytes.
-fn make_room(room: &mut Vec<u8>, end: usize, chunk: usize) -> Result<(), Reason>
-    requires within { end ≤ length room.old.items }
+/// Lengthens `buffer`, if it is too short for `chunk` bytes after its first `end` bytes.
+fn make_room(buffer: &mut Vec<u8>, end: usize, chunk: usize) -> Result<(), Reason>
+    requires within { end ≤ length buffer.old.items }
     requires few { chunk ≤ 65536 }
-    ensures room { OnOk result (end + chunk ≤ length room.new.items) }
-    ensures kept { take end room.new.items ≡ take end room.old.items }
-    ensures longer { length room.old.items ≤ length room.new.items }
+    ensures fits { OnOk result (end + chunk ≤ length buffer.new.items) }
+    ensures kept { take end buffer.new.items ≡ take end buffer.old.items }
+    ensures longer { length buffer.old.items ≤ length buffer.new.items }
     ensures memory { IfErr result (λ refused. refused ≡ reason.Memory) }
 {
-    if room.len() - end >= chunk {
+    if buffer.len() - end >= chunk {
         return Ok(());
     }
-    match room.resize(end + chunk, 0) {
+    match buffer.resize(end + chunk, 0) {
         Ok(()) => Ok(()),
         Err(_) => Err(Reason::Memory),
     }

@@ -56,7 +56,7 @@ impl<R: Input> Model for Reading<R> {
       input = r.input;
       place = r.place;
       held = r.read_buffer;
-      coming = r.reader;
+      rest = r.reader;
       stage = option_map state_data_of r.stage;
       ended = r.ended;
       failed = r.failed;
@@ -73,7 +73,7 @@ impl<R: Input> Reading<R> {
           input = input;
           place = 0;
           held = [];
-          coming = reader;
+          rest = reader;
           stage = None;
           ended = false;
           failed = false;
@@ -98,7 +98,7 @@ impl<R: Input> Reading<R> {
           input = input;
           place = place;
           held = [];
-          coming = reader;
+          rest = reader;
           stage = Some spec.InOpl;
           ended = false;
           failed = false;

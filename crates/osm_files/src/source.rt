@@ -252,7 +252,7 @@ impl<R: Input + Drop> FileSource<R> {
 impl<R: Input> Source for FileSource<R> {
     ghost can_give = { λ s still. FileCanGive R.can_give s still };
 
-    ghost one = { λ s. known_or_whole (given_at s (R.one s.units.coming)) };
+    ghost one = { λ s. known_or_whole (given_at s (R.one s.units.rest)) };
 
     ghost left = { λ s. versions_left s };
 
@@ -260,7 +260,7 @@ impl<R: Input> Source for FileSource<R> {
 
     ghost has_failed = { λ s. s.units.failed };
 
-    ghost possible = { λ s. (R.one s.units.coming, R.possible s.units.coming, one_given s (R.one s.units.coming)) };
+    ghost possible = { λ s. (R.one s.units.rest, R.possible s.units.rest, one_given s (R.one s.units.rest)) };
 
     ghost ascends = { λ s still h. file_ascends R.can_give s still h };
 

@@ -274,7 +274,7 @@ impl FileState {
     /// # Errors
     ///
     /// The reason why a whole unit can't be read, or `Memory`.
-    #[tactic(auto, using(crate::proofs::UnitSteps::end_first, crate::proofs::SearchLaws::no_end), unfolding(crate::specs::Units::unit_at))]
+    #[tactic(auto, using(crate::proofs::UnitSteps::known_before), unfolding(crate::specs::Units::unit_at))]
     #[inline(always)]
     pub(crate) fn read(
         &mut self,

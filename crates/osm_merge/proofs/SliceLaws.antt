@@ -71,6 +71,7 @@ under_down bound v w less h =
 
 -- ---- an ascending list is cut at the end of a test
 module _ {K : Type 0} (R : K → K → Ordering) (p : K → Bool) (down : (x y : K) → R x y ≡ Less → p y ≡ true → p x ≡ true) where
+  -- In an ascending list no member passes the test after one that fails it.
   pub none_after : (x : K) (ys : List K) → p x ≡ false → AllByRecursion (λ y. R x y ≡ Less) ys → AllByRecursion (λ y. p y ≡ false) ys
   none_after x [] e h = tt
   none_after x (y ∷ ys) e h = (
@@ -183,6 +184,7 @@ spans_rise (Some from) (bound ∷ bounds) h = (
       (All-tail (λ span. is_ascending span ≡ true) (span_of (Some from) (Some bound)) (spans_from (Some bound) bounds) h),
 )
 
+-- Bounds are sorted if each span between them ascends.
 pub ascending_spans_are_sorted : AscendingSpansAreSorted
 ascending_spans_are_sorted bounds h = λ k d from within. bound_at None bounds (spans_rise None bounds h) k d within
 

@@ -111,6 +111,7 @@ pub record IsInside (number : ℕ) (span : Span) (c : VersionsToCome) : Type 0 w
   pub list : (refused_outside number span c).list ≡ c.list
   pub within : IsWithin span (from_list {R = version_cmp} c.list)
 
+-- If no version is refused for being outside the span, all versions are inside.
 pub refused_is_inside : (number : ℕ) (span : Span) (c : VersionsToCome) → (refused_outside number span c).refusal ≡ None →
     IsInside number span c
 refused_is_inside number span c none =

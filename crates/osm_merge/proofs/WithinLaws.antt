@@ -141,6 +141,7 @@ module _ {S : Type 0} (can : S → VersionsToCome → Type 0) (w : Within S) (s 
         ),
       )
 
+  -- A source that refuses a call refuses it also within a span.
   pub piece_refused : (fault : Fault) → Explained (can w.source) (can s) (λ a b. SourceStep (Some a) (Err fault) (Some b)) →
       Explained (can w.source) (can s) (λ a b.
       SourceStep (Some (refused_outside w.number w.span a)) (Err fault) (Some (still_within (moved w s state.Failed) b)))

@@ -61,29 +61,29 @@ fn take_in(alloc: Global, order: OrderBy, held: &mut History, more: History) -> 
     ensures { MatchResult result (λ _. held.new ≡ union_by order held.old more) (λ _. held.new ≡ held.old) }
 {
     // The whole memory is allocated before a version is moved, so nothing fails from then on.
-    let mut room = Vec::with_capacity(alloc, held.len().saturating_add(more.len()))?;
+    let mut joined = Vec::with_capacity(alloc, held.len().saturating_add(more.len()))?;
     let all = mem::replace(held, History::new(alloc)).into_versions();
-    move_joined(order, &mut room, all, more.into_versions());
-    *held = History::from_ascending(room);
+    move_joined(order, &mut joined, all, more.into_versions());
+    *held = History::from_ascending(joined);
     Ok(())
 }
 
-/// Moves the versions of two lists that ascend by `order` to the end of `room`, which has capacity for all of them. Of
-/// two versions that tie, only the greater one is moved.
-fn move_joined(order: OrderBy, room: &mut Vec<Version>, held: Vec<Version>, more: Vec<Version>)
+/// Moves the versions of two lists that ascend by `order` to the end of `joined`, which has capacity for all of them.
+/// Of two versions that tie, only the greater one is moved.
+fn move_joined(order: OrderBy, joined: &mut Vec<Version>, held: Vec<Version>, more: Vec<Version>)
     requires ascends { IsStrictlySortedBy (order_of order) held.items }
-    requires room { vec_len room.old + (vec_len held + vec_len more) ≤ vec_capacity room.old }
-    ensures { room.new.items ≡ room.old.items ++ merge_by (order_of order) held.items more.items }
+    requires fits { vec_len joined.old + (vec_len held + vec_len more) ≤ vec_capacity joined.old }
+    ensures { joined.new.items ≡ joined.old.items ++ merge_by (order_of order) held.items more.items }
 {
     let stride = held.len() / more.len().max(1);
     let mut held = VecDeque::from_vec(held);
     'more: for version in more {
         let below = count_below(order, &held, stride, &version);
-        move_front(room, &mut held, below);
-        room.push_reserved(take_tied(order, &mut held, version));
+        move_front(joined, &mut held, below);
+        joined.push_reserved(take_tied(order, &mut held, version));
     }
     let rest = held.len();
-    move_front(room, &mut held, rest);
+    move_front(joined, &mut held, rest);
 }
 
 /// The number of versions of an ascending list that are below `version`. The search looks `stride` versions ahead at a
@@ -115,17 +115,17 @@ fn compare(order: OrderBy, version: &Version, other: &Version) -> Ordering
     }
 }
 
-/// Moves `count` versions from the front of `held` to the end of `room`, which has capacity for them.
-fn move_front(room: &mut Vec<Version>, held: &mut VecDeque<Version>, count: usize)
+/// Moves `count` versions from the front of `held` to the end of `joined`, which has capacity for them.
+fn move_front(joined: &mut Vec<Version>, held: &mut VecDeque<Version>, count: usize)
     requires enough { count ≤ deque_len held.old }
-    requires room { vec_len room.old + count ≤ vec_capacity room.old }
-    ensures moved { room.new.items ≡ room.old.items ++ take count held.old.items }
-    ensures capacity { vec_capacity room.new ≡ vec_capacity room.old }
+    requires fits { vec_len joined.old + count ≤ vec_capacity joined.old }
+    ensures moved { joined.new.items ≡ joined.old.items ++ take count held.old.items }
+    ensures capacity { vec_capacity joined.new ≡ vec_capacity joined.old }
     ensures left { held.new.items ≡ drop count held.old.items }
 {
     'moves: for _ in 0..count {
         if let Some(version) = held.pop_front() {
-            room.push_reserved(version);
+            joined.push_reserved(version);
         }
     }
 }

@@ -74,6 +74,7 @@ ended_after before front e = record {
   is = ap (λ f. before ++ f) e.is ∙ sym (append_assoc before e.text (e.last ∷ []));
 }
 
+-- The lines from an offset on are the last bytes. If there are such lines, they begin the file or follow an end of a line.
 pub split_lines : (offset : ℕ) (bytes : List ℕ) → SplitLines bytes (lines_from offset bytes)
 split_lines zero bytes = record { front = []; whole = refl; ends = inl refl }
 split_lines (suc offset) bytes = let more = split_after (drop offset bytes) in record {
@@ -409,9 +410,11 @@ module _ (bound : Object) where
   Between all low high = length all < 2 ^ 62 → (versions : List VersionData) → OplFile all versions → IsSorted key_cmp versions →
       Low all versions low × High all versions high
 
+  -- the cut is between `low` and `high`
   abbrev pub Halving : Option (List ℕ) → ℕ → ℕ → Type 0
   Halving bytes low high = (low ≤ high) × IfSome bytes (λ all. Between all low high)
 
+  -- At first the cut is between 0 and the size.
   pub halving_first : (bytes : Option (List ℕ)) (size : ℕ) → IfSome bytes (λ all. size ≡ length all) → Halving bytes 0 size
   halving_first None size is = (omega arith, tt)
   halving_first (Some all) size is = (
@@ -428,6 +431,7 @@ module _ (bound : Object) where
     ),
   )
 
+  -- If the first version from `middle` on is below the bound, the cut is after `middle`.
   pub halving_low : (bytes : Option (List ℕ)) (low middle high next : ℕ) → Halving bytes low high → middle < high → next ≡ middle + 1 →
       IsFirstUnder bytes bound middle true → Halving bytes next high
   halving_low None low middle high next h near is first = (omega (arith, near, is), tt)
@@ -440,6 +444,7 @@ module _ (bound : Object) where
         ),
   )
 
+  -- If the first version from `middle` on is not below the bound, the cut is at `middle` at the latest.
   pub halving_high : (bytes : Option (List ℕ)) (low middle high : ℕ) → Halving bytes low high → low ≤ middle →
       IsFirstUnder bytes bound middle false → Halving bytes low middle
   halving_high None low middle high h near first = (omega (arith, near), tt)
@@ -451,6 +456,7 @@ module _ (bound : Object) where
     ),
   )
 
+  -- When `low` reaches `high`, the first line from there on is the cut.
   pub halved : (bytes : Option (List ℕ)) (low high start : ℕ) → Halving bytes low high → high ≤ low → IsLineStart bytes low start →
       IsCutOf bytes bound start
   halved None low high start h end begins = tt

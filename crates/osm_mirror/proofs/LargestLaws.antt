@@ -75,6 +75,7 @@ module _ (sizes : List (Option ℕ)) (before : ℕ) where
         | false ↦ λ e. is_larger number most size h here (leb-false size most e)
       ] refl
 
+  -- The larger of the largest file so far and the next file is the largest so far.
   pub larger_next : (largest next : Option (ℕ × ℕ)) → IsLargestBefore sizes before largest →
       next ≡ larger largest before (size_at sizes before) → IsLargestBefore sizes (before + 1) next
   larger_next largest next h is = subst (IsLargestBefore sizes (before + 1)) (sym is) (larger_is largest h (size_at sizes before) refl)

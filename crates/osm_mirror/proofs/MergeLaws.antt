@@ -26,7 +26,7 @@ use Rattle.osm_files.specs.Held.{HoldsSorted}
 use Rattle.osm_files.specs.Spell.{spell}
 use Rattle.osm_files.specs.Sink.{CutShort}
 use Rattle.osm_files.specs.Groups.{FileSourceData, FileCanGive, new_source, sorted_source}
-use Rattle.osm_files.specs.Position.{with_coming}
+use Rattle.osm_files.specs.Position.{with_rest}
 use Rattle.osm_files.proofs.RiseLaws.{source_rises, source_begins_known}
 use Rattle.osm_files.proofs.HoldLaws.{source_gives_held, whole_source_is_held}
 use Rattle.osm_files.proofs.FaultyLaws.{broken_is_refused}
@@ -188,7 +188,7 @@ module _ {R : Type 0} (can : R → InputRest → Type 0) where
       → (c : InputRest) × can reader c × (still ≡ sorted_source number c)
   one_gives number reader still h =
       let known : Some still ≡ Some (sorted_source number h.0) =
-      sym h.2 ∙ source_begins_known (with_coming (new_source number reader).units h.0) [] number (Some h.0) refl refl in
+      sym h.2 ∙ source_begins_known (with_rest (new_source number reader).units h.0) [] number (Some h.0) refl refl in
       (h.0, h.1, cc)
 
   inputs_give : (number : ℕ) (inputs : List R) (all : List source.VersionsToCome) →

@@ -44,6 +44,7 @@ runs_are sets [] parts h = tt
 runs_are sets (span ∷ others) parts h = let first = first_slices sets span others parts h in
     (first.0, runs_are sets others (map other_sets parts) first.1)
 
+-- The parts of a run, one after another, are what the run writes.
 pub shards_write_the_run : ShardsWriteTheRun
 shards_write_the_run selection bounds sets parts up h =
     slices_write_the_run selection bounds sets (by_span (spans bounds) parts) up (runs_are sets (spans bounds) parts h)
@@ -150,6 +151,7 @@ parts_spell bytes from (bound ∷ bounds) start (offset ∷ offsets) (s ∷ held
     (joined (drop start bytes) (take (offset - start) (drop start bytes)) (drop offset bytes) h.versions (merged.versions_of more.given)
     (part_whole bytes start offset ascends) opl begins.start (part_ends bytes start offset ascends begins) h.file more.file)
 
+-- The parts of a file at its cut offsets hold the slices of its set.
 pub parts_hold_the_file : PartsHoldTheFile
 parts_hold_the_file bounds bytes offsets held short opl up cuts holds within =
     slices_of_all bounds bytes held short up within (parts_spell bytes None bounds 0 offsets held (rise bounds up) cuts opl holds within)

@@ -184,6 +184,7 @@ give_count can (file ∷ files) (c ∷ inputs) h = ap suc (give_count can files 
 
 module _ {R : Type 0} (can : R → InputRest → Type 0) (slice : Slice) (files : List (SliceFile R)) (items : List (Within (FileSourceData R)))
     (is : items ≡ opened_slices 0 slice.span files) (format given : Format) (same : given ≡ format) (change : Change) where
+  -- A merge of the opened slices that succeeds is a run over slices.
   pub slice_written : (result : Result Counts Fault) →
       IfOk result (λ counts. SomeInputsGive (WithinCanGive (FileCanGive can)) items (λ all.
       merged.IsMergedAs slice.selection all given change counts)) →
@@ -197,6 +198,7 @@ module _ {R : Type 0} (can : R → InputRest → Type 0) (slice : Slice) (files 
       )
   slice_written (Err fault) h = tt
 
+  -- A merge of the opened slices that is refused is a refusal of the run over slices.
   pub slice_refused : (number : ℕ) → number ≡ length files → (result : Result Counts Fault) →
       IfErr result (λ fault. SomeInputsGive (WithinCanGive (FileCanGive can)) items (λ all.
       merged.IsRefusedAs slice.selection all given number change fault)) →
@@ -219,6 +221,7 @@ module _ {R : Type 0} (can : R → InputRest → Type 0) (one : R → InputRest)
   ones_give [] = tt
   ones_give (file ∷ files) = ((refl, possible file.reader), ones_give files)
 
+  -- A run over slices that runs out of memory before it reads is refused, and wrote nothing.
   pub slice_at_once : (files : List (SliceFile R)) (fault : Fault) → fault ≡ memory_fault →
       SomeInputsGive (SliceGives can) files (λ inputs. RefusesSlice slice inputs format (change_of w out out) fault)
   slice_at_once files fault memory =
@@ -241,6 +244,7 @@ opened_slices_more number span (f ∷ files) file =
     ∙ ap (λ n. opened_slices (number + 1) span files ++ within_span file.outside span n (new_source n file.reader) ∷ [])
     (let e : number + 1 + length files ≡ number + length (f ∷ files) = omega arith in e))
 
+-- Each file is opened as one slice.
 pub length_slices : {R : Type 0} (number : ℕ) (span : Span) (files : List (SliceFile R)) →
     length (opened_slices number span files) ≡ length files
 length_slices number span [] = refl

@@ -116,6 +116,7 @@ pub record SpelledFrom (from : Option Object) (bytes : List ℕ) (held : List Ve
   pub rises : Rises None (merged.versions_of given)
   pub reach : AllByRecursion (λ v. reaches from v ≡ true) (merged.versions_of given)
 
+-- Each list of bounds has at least one span.
 pub no_spans : (from : Option Object) (bounds : List Object) → Pairwise IsWithin (spans_from from bounds) [] → ⊥
 no_spans from [] h = h
 no_spans from (bound ∷ bounds) h = h

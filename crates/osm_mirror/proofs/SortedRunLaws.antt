@@ -53,6 +53,7 @@ abbrev pub lines_of : List ℕ → List (List ℕ)
 lines_of bytes = filter is_read (split_all is_line_end bytes)
 
 module _ (last : ℕ) (ends : is_line_end last ≡ true) (front : List ℕ) where
+  -- The lines of bytes that are joined at an end of a line are the lines of both parts.
   pub lines_after : (rest : List ℕ) → lines_of (front ++ last ∷ rest) ≡ lines_of front ++ lines_of rest
   lines_after rest = ap (filter is_read) (cut_after is_line_end last ends rest front)
       ∙ filter-append is_read (split_all is_line_end front) (split_all is_line_end rest)

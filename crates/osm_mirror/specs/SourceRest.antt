@@ -26,13 +26,13 @@ module _ {R : Type 0} (can : R → InputRest → Type 0) where
 module _ {R : Type 0} (one : R → InputRest) where
   -- one list that the source can give
   abbrev pub source_one : RunSource R → SourceRest VersionData Fault
-  source_one (Streamed source) = known_or_whole (given_at source (one source.units.coming))
+  source_one (Streamed source) = known_or_whole (given_at source (one source.units.rest))
   source_one (Held rest) = set_given rest
 
   pub source_possible : (can : R → InputRest → Type 0) → ((r : R) → can r (one r)) → (s : RunSource R) →
       SourceCanGive can s (source_one s)
   source_possible can possible (Streamed source) =
-      (one source.units.coming, possible source.units.coming, one_given source (one source.units.coming))
+      (one source.units.rest, possible source.units.rest, one_given source (one source.units.rest))
   source_possible can possible (Held rest) = refl
 
 -- a bound on the number of versions still to come

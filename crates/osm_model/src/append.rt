@@ -59,12 +59,12 @@ fn append_bare_node(
     ensures appended { OnOk result (out.new.items ≡ out.old.items ++ line node.now) }
     ensures kept { Extends out.old.items out.new.items }
 {
-    let mut room = [0; BARE_NODE];
-    let start = put_location(&mut room, BARE_NODE, lon, lat);
-    let start = put(&mut room, start, b" T");
-    let start = put(&mut room, start, user);
-    let start = put_head(&mut room, start, node);
-    append_from(&room, start, out)
+    let mut buffer = [0; BARE_NODE];
+    let start = put_location(&mut buffer, BARE_NODE, lon, lat);
+    let start = put(&mut buffer, start, b" T");
+    let start = put(&mut buffer, start, user);
+    let start = put_head(&mut buffer, start, node);
+    append_from(&buffer, start, out)
 }
 
 /// Appends a line part by part.
@@ -78,14 +78,14 @@ fn append_parts(version: &Version, out: &mut Vec<u8>) -> Result<(), Memory>
     append_kind_fields(version.body(), out)
 }
 
-/// Appends the bytes of `room` from `start` on.
+/// Appends the bytes of `buffer` from `start` on.
 #[inline(always)]
-fn append_from(room: &[u8], start: usize, out: &mut Vec<u8>) -> Result<(), Memory>
-    requires { start ≤ length room.now }
-    ensures appended { OnOk result (out.new.items ≡ out.old.items ++ drop start room.now) }
+fn append_from(buffer: &[u8], start: usize, out: &mut Vec<u8>) -> Result<(), Memory>
+    requires { start ≤ length buffer.now }
+    ensures appended { OnOk result (out.new.items ≡ out.old.items ++ drop start buffer.now) }
     ensures kept { Extends out.old.items out.new.items }
 {
-    out.extend_from_slice(&room[start..])?;
+    out.extend_from_slice(&buffer[start..])?;
     Ok(())
 }
 
@@ -94,39 +94,39 @@ fn append_head(version: &Version, out: &mut Vec<u8>) -> Result<(), Memory>
     ensures appended { OnOk result (out.new.items ≡ out.old.items ++ head_text version.now) }
     ensures kept { Extends out.old.items out.new.items }
 {
-    let mut room = [0; STRETCH_BYTES];
-    let start = put_head(&mut room, STRETCH_BYTES, version);
-    append_from(&room, start, out)
+    let mut buffer = [0; STRETCH_BYTES];
+    let start = put_head(&mut buffer, STRETCH_BYTES, version);
+    append_from(&buffer, start, out)
 }
 
-/// Writes the fields before the user name, and the mark of the user name, into `room` before `end`. Returns the offset
-/// where they begin.
+/// Writes the fields before the user name, and the mark of the user name, into `buffer` before `end`. Returns the
+/// offset where they begin.
 #[inline(always)]
-fn put_head(room: &mut [u8], end: usize, version: &Version) -> usize
-    requires within { end ≤ length room.old }
+fn put_head(buffer: &mut [u8], end: usize, version: &Version) -> usize
+    requires within { end ≤ length buffer.old }
     requires fits { 128 ≤ end }
-    ensures written { drop result room.new ≡ head_text version.now ++ drop end room.old }
+    ensures written { drop result buffer.new ≡ head_text version.now ++ drop end buffer.old }
     ensures onward { result ≤ end }
-    ensures size { length room.new ≡ length room.old }
+    ensures size { length buffer.new ≡ length buffer.old }
 {
-    let start = put(room, end, b" u");
-    let start = put_number(room, start, version.uid());
-    let start = put(room, start, b" i");
-    let start = put_time(room, start, version.time());
-    let start = put(room, start, b" t");
-    let start = put_number(room, start, version.changeset());
-    let start = put(room, start, b" c");
+    let start = put(buffer, end, b" u");
+    let start = put_number(buffer, start, version.uid());
+    let start = put(buffer, start, b" i");
+    let start = put_time(buffer, start, version.time());
+    let start = put(buffer, start, b" t");
+    let start = put_number(buffer, start, version.changeset());
+    let start = put(buffer, start, b" c");
     let visible = if version.body().is_deleted() {
         b'D'
     } else {
         b'V'
     };
-    let start = put_byte(room, start, visible);
-    let start = put(room, start, b" d");
-    let start = put_number(room, start, version.number());
-    let start = put(room, start, b" v");
-    let start = put_integer(room, start, version.id());
-    put_byte(room, start, version.kind().letter())
+    let start = put_byte(buffer, start, visible);
+    let start = put(buffer, start, b" d");
+    let start = put_number(buffer, start, version.number());
+    let start = put(buffer, start, b" v");
+    let start = put_integer(buffer, start, version.id());
+    put_byte(buffer, start, version.kind().letter())
 }
 
 /// Appends the characters of a text, raw or as escapes.
@@ -198,11 +198,11 @@ impl ListItem for i64 {
     ghost text = { reference_text };
 
     fn append_after(&self, mark: &[u8], out: &mut Vec<u8>) -> Result<(), Memory> {
-        let mut room = [0; STRETCH_BYTES];
-        let start = put_integer(&mut room, STRETCH_BYTES, *self);
-        let start = put_byte(&mut room, start, b'n');
-        let start = put(&mut room, start, mark);
-        append_from(&room, start, out)
+        let mut buffer = [0; STRETCH_BYTES];
+        let start = put_integer(&mut buffer, STRETCH_BYTES, *self);
+        let start = put_byte(&mut buffer, start, b'n');
+        let start = put(&mut buffer, start, mark);
+        append_from(&buffer, start, out)
     }
 }
 
@@ -210,12 +210,12 @@ impl ListItem for Member {
     ghost text = { member_text };
 
     fn append_after(&self, mark: &[u8], out: &mut Vec<u8>) -> Result<(), Memory> {
-        let mut room = [0; STRETCH_BYTES];
-        let start = put_byte(&mut room, STRETCH_BYTES, b'@');
-        let start = put_integer(&mut room, start, self.id);
-        let start = put_byte(&mut room, start, self.kind.letter());
-        let start = put(&mut room, start, mark);
-        append_from(&room, start, out)?;
+        let mut buffer = [0; STRETCH_BYTES];
+        let start = put_byte(&mut buffer, STRETCH_BYTES, b'@');
+        let start = put_integer(&mut buffer, start, self.id);
+        let start = put_byte(&mut buffer, start, self.kind.letter());
+        let start = put(&mut buffer, start, mark);
+        append_from(&buffer, start, out)?;
         append_text(&self.role, out)
     }
 }
@@ -282,15 +282,15 @@ fn append_few_references(ids: &[i64], out: &mut Vec<u8>) -> Result<(), Memory>
     ensures appended { OnOk result (out.new.items ≡ out.old.items ++ more_text reference_text ids.now) }
     ensures kept { Extends out.old.items out.new.items }
 {
-    let mut room = [0; STRETCH_BYTES];
+    let mut buffer = [0; STRETCH_BYTES];
     let mut start = STRETCH_BYTES;
     let mut count = ids.len();
     while count > 0 {
         count -= 1;
-        start = put_integer(&mut room, start, ids[count]);
-        start = put(&mut room, start, b",n");
+        start = put_integer(&mut buffer, start, ids[count]);
+        start = put(&mut buffer, start, b",n");
     }
-    append_from(&room, start, out)
+    append_from(&buffer, start, out)
 }
 
 /// Appends the fields of a location.
@@ -298,23 +298,23 @@ fn append_location(lon: i32, lat: i32, out: &mut Vec<u8>) -> Result<(), Memory>
     ensures appended { OnOk result (out.new.items ≡ out.old.items ++ location_text lon lat) }
     ensures kept { Extends out.old.items out.new.items }
 {
-    let mut room = [0; STRETCH_BYTES];
-    let start = put_location(&mut room, STRETCH_BYTES, lon, lat);
-    append_from(&room, start, out)
+    let mut buffer = [0; STRETCH_BYTES];
+    let start = put_location(&mut buffer, STRETCH_BYTES, lon, lat);
+    append_from(&buffer, start, out)
 }
 
-/// Writes the fields of a location into `room` before `end`. Returns the offset where they begin.
+/// Writes the fields of a location into `buffer` before `end`. Returns the offset where they begin.
 #[inline(always)]
-fn put_location(room: &mut [u8], end: usize, lon: i32, lat: i32) -> usize
-    requires within { end ≤ length room.old }
+fn put_location(buffer: &mut [u8], end: usize, lon: i32, lat: i32) -> usize
+    requires within { end ≤ length buffer.old }
     requires fits { 62 ≤ end }
-    ensures written { drop result room.new ≡ location_text lon lat ++ drop end room.old }
+    ensures written { drop result buffer.new ≡ location_text lon lat ++ drop end buffer.old }
     ensures onward { result ≤ end }
     ensures short { end ≤ result + 62 }
-    ensures size { length room.new ≡ length room.old }
+    ensures size { length buffer.new ≡ length buffer.old }
 {
-    let start = put_coordinate(room, end, lat);
-    let start = put(room, start, b" y");
-    let start = put_coordinate(room, start, lon);
-    put(room, start, b" x")
+    let start = put_coordinate(buffer, end, lat);
+    let start = put(buffer, start, b" y");
+    let start = put_coordinate(buffer, start, lon);
+    put(buffer, start, b" x")
 }

@@ -1,9 +1,9 @@
-//! Writes parts of a line into `room`, so that they end at the offset `end`. Each function returns the offset where its
-//! part begins.
+//! Writes parts of a line into `buffer`, so that they end at the offset `end`. Each function returns the offset where
+//! its part begins.
 //!
 //! Why: a number is written from its last digit to its first. The offset where the bytes begin is a parameter and a
 //! result, so it stays in a register. As a field of a struct it was stored and loaded 25 times for a line.
-//! Assumes: `room` has enough bytes before `end` for the longest form of the part.
+//! Assumes: `buffer` has enough bytes before `end` for the longest form of the part.
 //! Otherwise: nothing; `append` appends the texts, which may be longer.
 //! Compared by: `both_writers_write_one_line` (opl_line).
 ghost use Rattle.std.specs.Prelude.{◌≡◌, ◌++◌, ◌+◌, ◌/◌, ◌%◌, ◌∷◌, ◌≤◌, ◌<◌, ◌^◌, length, drop, replicate};
@@ -23,120 +23,120 @@ const SECONDS_IN_DAY: u64 = 86_400;
 
 /// Writes one byte.
 #[inline(always)]
-pub(crate) fn put_byte(room: &mut [u8], end: usize, byte: u8) -> usize
-    requires within { end ≤ length room.old }
+pub(crate) fn put_byte(buffer: &mut [u8], end: usize, byte: u8) -> usize
+    requires within { end ≤ length buffer.old }
     requires fits { 0 < end }
-    ensures written { drop result room.new ≡ byte ∷ drop end room.old }
+    ensures written { drop result buffer.new ≡ byte ∷ drop end buffer.old }
     ensures start { result + 1 ≡ end }
-    ensures size { length room.new ≡ length room.old }
+    ensures size { length buffer.new ≡ length buffer.old }
 {
     let start = end - 1;
-    room[start] = byte;
+    buffer[start] = byte;
     start
 }
 
 /// Writes `bytes`.
 #[inline(always)]
-pub(crate) fn put(room: &mut [u8], end: usize, bytes: &[u8]) -> usize
-    requires within { end ≤ length room.old }
+pub(crate) fn put(buffer: &mut [u8], end: usize, bytes: &[u8]) -> usize
+    requires within { end ≤ length buffer.old }
     requires fits { length bytes.now ≤ end }
-    ensures written { drop result room.new ≡ bytes.now ++ drop end room.old }
+    ensures written { drop result buffer.new ≡ bytes.now ++ drop end buffer.old }
     ensures start { result + length bytes.now ≡ end }
-    ensures size { length room.new ≡ length room.old }
+    ensures size { length buffer.new ≡ length buffer.old }
 {
     let start = end - bytes.len();
-    room[start..end].copy_from_slice(bytes);
+    buffer[start..end].copy_from_slice(bytes);
     start
 }
 
 /// Writes a number in decimal.
 #[inline(always)]
-pub(crate) fn put_number(room: &mut [u8], end: usize, number: u64) -> usize
-    requires within { end ≤ length room.old }
+pub(crate) fn put_number(buffer: &mut [u8], end: usize, number: u64) -> usize
+    requires within { end ≤ length buffer.old }
     requires fits { 20 ≤ end }
-    ensures written { drop result room.new ≡ number_text number ++ drop end room.old }
+    ensures written { drop result buffer.new ≡ number_text number ++ drop end buffer.old }
     ensures start { result + length (number_text number) ≡ end }
     ensures short { end ≤ result + 20 }
-    ensures size { length room.new ≡ length room.old }
+    ensures size { length buffer.new ≡ length buffer.old }
 {
-    itoa::write_digits(number, room, end)
+    itoa::write_digits(number, buffer, end)
 }
 
 /// Writes a minus sign, if the integer is below 0.
 #[inline(always)]
-fn put_sign(room: &mut [u8], end: usize, integer: i64) -> usize
-    requires within { end ≤ length room.old }
+fn put_sign(buffer: &mut [u8], end: usize, integer: i64) -> usize
+    requires within { end ≤ length buffer.old }
     requires fits { 0 < end }
-    ensures written { drop result room.new ≡ sign_text integer ++ drop end room.old }
+    ensures written { drop result buffer.new ≡ sign_text integer ++ drop end buffer.old }
     ensures onward { result ≤ end }
     ensures short { end ≤ result + 1 }
-    ensures size { length room.new ≡ length room.old }
+    ensures size { length buffer.new ≡ length buffer.old }
 {
     if integer < 0 {
-        put_byte(room, end, b'-')
+        put_byte(buffer, end, b'-')
     } else {
         end
     }
 }
 
 /// Writes an integer in decimal.
-pub(crate) fn put_integer(room: &mut [u8], end: usize, integer: i64) -> usize
-    requires within { end ≤ length room.old }
+pub(crate) fn put_integer(buffer: &mut [u8], end: usize, integer: i64) -> usize
+    requires within { end ≤ length buffer.old }
     requires fits { 21 ≤ end }
-    ensures written { drop result room.new ≡ integer_text integer ++ drop end room.old }
+    ensures written { drop result buffer.new ≡ integer_text integer ++ drop end buffer.old }
     ensures onward { result ≤ end }
     ensures short { end ≤ result + 21 }
-    ensures size { length room.new ≡ length room.old }
+    ensures size { length buffer.new ≡ length buffer.old }
 {
-    let digits = put_number(room, end, integer.unsigned_abs());
-    put_sign(room, digits, integer)
+    let digits = put_number(buffer, end, integer.unsigned_abs());
+    put_sign(buffer, digits, integer)
 }
 
 /// Writes a coordinate in units of 10^-7 degree.
-pub(crate) fn put_coordinate(room: &mut [u8], end: usize, units: i32) -> usize
-    requires within { end ≤ length room.old }
+pub(crate) fn put_coordinate(buffer: &mut [u8], end: usize, units: i32) -> usize
+    requires within { end ≤ length buffer.old }
     requires fits { 29 ≤ end }
-    ensures written { drop result room.new ≡ coordinate_text units ++ drop end room.old }
+    ensures written { drop result buffer.new ≡ coordinate_text units ++ drop end buffer.old }
     ensures onward { result ≤ end }
     ensures short { end ≤ result + 29 }
-    ensures size { length room.new ≡ length room.old }
+    ensures size { length buffer.new ≡ length buffer.old }
 {
     let size = units.unsigned_abs();
-    let fraction = put_fraction(room, end, size % UNITS_IN_DEGREE);
-    let degrees = put_number(room, fraction, u64::from(size / UNITS_IN_DEGREE));
-    put_sign(room, degrees, i64::from(units))
+    let fraction = put_fraction(buffer, end, size % UNITS_IN_DEGREE);
+    let degrees = put_number(buffer, fraction, u64::from(size / UNITS_IN_DEGREE));
+    put_sign(buffer, degrees, i64::from(units))
 }
 
 /// Writes the point and the decimals of a part of a degree, or nothing if the part is 0. Most parts have seven
 /// decimals.
 #[inline(always)]
-fn put_fraction(room: &mut [u8], end: usize, units: u32) -> usize
-    requires within { end ≤ length room.old }
+fn put_fraction(buffer: &mut [u8], end: usize, units: u32) -> usize
+    requires within { end ≤ length buffer.old }
     requires fits { 20 ≤ end }
     requires part { units < 10_000_000 }
-    ensures written { drop result room.new ≡ fraction_text units ++ drop end room.old }
+    ensures written { drop result buffer.new ≡ fraction_text units ++ drop end buffer.old }
     ensures onward { result ≤ end }
     ensures short { end ≤ result + 8 }
-    ensures size { length room.new ≡ length room.old }
+    ensures size { length buffer.new ≡ length buffer.old }
 {
     if units % 10 != 0 {
-        return put_seven_decimals(room, end, units);
+        return put_seven_decimals(buffer, end, units);
     }
     if units == 0 {
         return end;
     }
-    put_fewer_decimals(room, end, units)
+    put_fewer_decimals(buffer, end, units)
 }
 
 /// Writes the point and seven decimals.
 #[inline(always)]
-fn put_seven_decimals(room: &mut [u8], end: usize, units: u32) -> usize
-    requires within { end ≤ length room.old }
+fn put_seven_decimals(buffer: &mut [u8], end: usize, units: u32) -> usize
+    requires within { end ≤ length buffer.old }
     requires fits { 8 ≤ end }
     requires part { units < 10_000_000 }
-    ensures written { drop result room.new ≡ 46 ∷ pad_zeros 7 (number_text units) ++ drop end room.old }
+    ensures written { drop result buffer.new ≡ 46 ∷ pad_zeros 7 (number_text units) ++ drop end buffer.old }
     ensures start { result + 8 ≡ end }
-    ensures size { length room.new ≡ length room.old }
+    ensures size { length buffer.new ≡ length buffer.old }
 {
     let first = (units / 100_000) as u8;
     let second = (units / 1000 % 100) as u8;
@@ -152,19 +152,19 @@ fn put_seven_decimals(room: &mut [u8], end: usize, units: u32) -> usize
         ones(third),
         b'0' + last,
     ];
-    put(room, end, &decimals)
+    put(buffer, end, &decimals)
 }
 
 /// Writes the point and the decimals of a part of a degree without the zeros at their end.
-fn put_fewer_decimals(room: &mut [u8], end: usize, units: u32) -> usize
-    requires within { end ≤ length room.old }
+fn put_fewer_decimals(buffer: &mut [u8], end: usize, units: u32) -> usize
+    requires within { end ≤ length buffer.old }
     requires fits { 20 ≤ end }
     requires some { 0 < units }
     requires part { units < 10_000_000 }
-    ensures written { drop result room.new ≡ fraction_text units ++ drop end room.old }
+    ensures written { drop result buffer.new ≡ fraction_text units ++ drop end buffer.old }
     ensures onward { result ≤ end }
     ensures short { end ≤ result + 8 }
-    ensures size { length room.new ≡ length room.old }
+    ensures size { length buffer.new ≡ length buffer.old }
 {
     let mut digits = units;
     let mut places = 7;
@@ -172,68 +172,68 @@ fn put_fewer_decimals(room: &mut [u8], end: usize, units: u32) -> usize
         digits /= 10;
         places -= 1;
     }
-    let decimals = put_padded(room, end, u64::from(digits), places);
-    put_byte(room, decimals, b'.')
+    let decimals = put_padded(buffer, end, u64::from(digits), places);
+    put_byte(buffer, decimals, b'.')
 }
 
 /// Writes a number in decimal, with zeros before it up to `width`.
-fn put_padded(room: &mut [u8], end: usize, number: u64, width: usize) -> usize
-    requires within { end ≤ length room.old }
-    requires room { 20 ≤ end }
+fn put_padded(buffer: &mut [u8], end: usize, number: u64, width: usize) -> usize
+    requires within { end ≤ length buffer.old }
+    requires buffer { 20 ≤ end }
     requires some { 0 < width }
     requires narrow { width ≤ 20 }
     requires fits { number < 10 ^ width }
-    ensures written { drop result room.new ≡ pad_zeros width (number_text number) ++ drop end room.old }
+    ensures written { drop result buffer.new ≡ pad_zeros width (number_text number) ++ drop end buffer.old }
     ensures start { result + width ≡ end }
-    ensures size { length room.new ≡ length room.old }
+    ensures size { length buffer.new ≡ length buffer.old }
 {
-    let digits = put_number(room, end, number);
-    put_zeros(room, digits, width - (end - digits))
+    let digits = put_number(buffer, end, number);
+    put_zeros(buffer, digits, width - (end - digits))
 }
 
 /// Writes `count` zeros.
-pub(crate) fn put_zeros(room: &mut [u8], end: usize, count: usize) -> usize
-    requires within { end ≤ length room.old }
+pub(crate) fn put_zeros(buffer: &mut [u8], end: usize, count: usize) -> usize
+    requires within { end ≤ length buffer.old }
     requires fits { count ≤ end }
-    ensures written { drop result room.new ≡ replicate count 48 ++ drop end room.old }
+    ensures written { drop result buffer.new ≡ replicate count 48 ++ drop end buffer.old }
     ensures start { result + count ≡ end }
-    ensures size { length room.new ≡ length room.old }
+    ensures size { length buffer.new ≡ length buffer.old }
 {
     let mut start = end;
     for _place in 0..count {
-        start = put_byte(room, start, b'0');
+        start = put_byte(buffer, start, b'0');
     }
     start
 }
 
 /// Writes `yyyy-mm-ddThh:mm:ssZ`, or nothing if there is no time.
 #[inline(always)]
-pub(crate) fn put_time(room: &mut [u8], end: usize, time: Option<u64>) -> usize
-    requires within { end ≤ length room.old }
+pub(crate) fn put_time(buffer: &mut [u8], end: usize, time: Option<u64>) -> usize
+    requires within { end ≤ length buffer.old }
     requires fits { 20 ≤ end }
     requires in_range { ForSome time (λ seconds. seconds < 2 ^ 32) }
-    ensures written { drop result room.new ≡ time_text time ++ drop end room.old }
+    ensures written { drop result buffer.new ≡ time_text time ++ drop end buffer.old }
     ensures onward { result ≤ end }
     ensures short { end ≤ result + 20 }
-    ensures size { length room.new ≡ length room.old }
+    ensures size { length buffer.new ≡ length buffer.old }
 {
     let Some(seconds) = time else {
         return end;
     };
-    let mark = put_byte(room, end, b'Z');
-    let clock = put_clock(room, mark, (seconds % SECONDS_IN_DAY) as u32);
-    let mark = put_byte(room, clock, b'T');
-    put_date(room, mark, (seconds / SECONDS_IN_DAY) as u16)
+    let mark = put_byte(buffer, end, b'Z');
+    let clock = put_clock(buffer, mark, (seconds % SECONDS_IN_DAY) as u32);
+    let mark = put_byte(buffer, clock, b'T');
+    put_date(buffer, mark, (seconds / SECONDS_IN_DAY) as u16)
 }
 
 /// Writes the date that comes `day` days after 1970-01-01.
 #[inline(always)]
-fn put_date(room: &mut [u8], end: usize, day: u16) -> usize
-    requires within { end ≤ length room.old }
+fn put_date(buffer: &mut [u8], end: usize, day: u16) -> usize
+    requires within { end ≤ length buffer.old }
     requires fits { 10 ≤ end }
-    ensures written { drop result room.new ≡ date_text (date_of day) ++ drop end room.old }
+    ensures written { drop result buffer.new ≡ date_text (date_of day) ++ drop end buffer.old }
     ensures start { result + 10 ≡ end }
-    ensures size { length room.new ≡ length room.old }
+    ensures size { length buffer.new ≡ length buffer.old }
 {
     let date = Date::from_day(day);
     let century = (date.year / 100) as u8;
@@ -250,18 +250,18 @@ fn put_date(room: &mut [u8], end: usize, day: u16) -> usize
         tens(date.day),
         ones(date.day),
     ];
-    put(room, end, &text)
+    put(buffer, end, &text)
 }
 
 /// Writes a second of the day as `hh:mm:ss`.
 #[inline(always)]
-fn put_clock(room: &mut [u8], end: usize, second: u32) -> usize
-    requires within { end ≤ length room.old }
+fn put_clock(buffer: &mut [u8], end: usize, second: u32) -> usize
+    requires within { end ≤ length buffer.old }
     requires fits { 8 ≤ end }
     requires in_day { second < 86_400 }
-    ensures written { drop result room.new ≡ clock_text second ++ drop end room.old }
+    ensures written { drop result buffer.new ≡ clock_text second ++ drop end buffer.old }
     ensures start { result + 8 ≡ end }
-    ensures size { length room.new ≡ length room.old }
+    ensures size { length buffer.new ≡ length buffer.old }
 {
     let hour = (second / 3600) as u8;
     let minute = (second / 60 % 60) as u8;
@@ -276,25 +276,25 @@ fn put_clock(room: &mut [u8], end: usize, second: u32) -> usize
         tens(second),
         ones(second),
     ];
-    put(room, end, &text)
+    put(buffer, end, &text)
 }
 
 /// Writes a number in hexadecimal.
-pub(crate) fn put_hex(room: &mut [u8], end: usize, number: u32) -> usize
-    requires within { end ≤ length room.old }
+pub(crate) fn put_hex(buffer: &mut [u8], end: usize, number: u32) -> usize
+    requires within { end ≤ length buffer.old }
     requires fits { 8 ≤ end }
-    ensures written { drop result room.new ≡ numeral 16 number ++ drop end room.old }
+    ensures written { drop result buffer.new ≡ numeral 16 number ++ drop end buffer.old }
     ensures start { result + length (numeral 16 number) ≡ end }
     ensures short { end ≤ result + 8 }
-    ensures size { length room.new ≡ length room.old }
+    ensures size { length buffer.new ≡ length buffer.old }
 {
     let mut start = end;
     let mut rest = number;
     while rest >= 16 {
-        start = put_byte(room, start, hex_digit(rest % 16));
+        start = put_byte(buffer, start, hex_digit(rest % 16));
         rest /= 16;
     }
-    put_byte(room, start, hex_digit(rest))
+    put_byte(buffer, start, hex_digit(rest))
 }
 
 /// The two digits of each number below 100, in sequence.

@@ -38,13 +38,13 @@ fn memory_text(alloc: Global) -> String {
     text
 }
 
-/// The results of `push_writes` to a device that takes `room` bytes, and the bytes that the device took.
-fn device_text(alloc: Global, room: usize, full: Full) -> String {
+/// The results of `push_writes` to a device that takes `capacity` bytes, and the bytes that the device took.
+fn device_text(alloc: Global, capacity: usize, full: Full) -> String {
     let mut text = String::new(alloc);
     let mut taken = Vec::new(alloc);
     let mut out = ToWrite::new(Device {
         taken: &mut taken,
-        room,
+        capacity,
         full,
         flushes: true,
     });
@@ -57,7 +57,7 @@ fn device_text(alloc: Global, room: usize, full: Full) -> String {
 fn outputs_take_what_they_have_room_for(rt: HostRuntime) {
     let alloc = rt.alloc();
     assert_eq!(rt; memory_text(alloc).as_str(), "ok\ntrue true\nn1 v1\n");
-    for (room, full, text) in [
+    for (capacity, full, text) in [
         (9, Full::Refuses, "ok\ntrue true\nn1 v1\n"),
         (
             4,
@@ -70,7 +70,7 @@ fn outputs_take_what_they_have_room_for(rt: HostRuntime) {
             "file 2, byte 14: WriteFault\nfalse false\nn1 v",
         ),
     ] {
-        assert_eq!(rt; device_text(alloc, room, full).as_str(), text);
+        assert_eq!(rt; device_text(alloc, capacity, full).as_str(), text);
     }
 }
 

@@ -78,23 +78,23 @@ fn way_without_references(rt: HostRuntime) {
     assert!(rt; is_written(rt.alloc(), WAYS, sets));
 }
 
-/// The result of writing a node and its deletion as o5m to a device that takes `room` bytes; and whether the device
-/// took the first `room` bytes of the file.
+/// The result of writing a node and its deletion as o5m to a device that takes `capacity` bytes; and whether the device
+/// took the first `capacity` bytes of the file.
 fn write_to_device(
     alloc: Global,
-    room: usize,
+    capacity: usize,
     full: Full,
     flushes: bool,
 ) -> (Result<(), Fault>, bool) {
     let mut taken = Vec::new(alloc);
     let mut out = ToWrite::new(Device {
         taken: &mut taken,
-        room,
+        capacity,
         full,
         flushes,
     });
     let outcome = write_text(alloc, Format::O5m, NODE_AND_DELETION, &mut out);
-    let is_front = NODE_THEN_DELETION.get(..room) == Some(taken.as_slice());
+    let is_front = NODE_THEN_DELETION.get(..capacity) == Some(taken.as_slice());
     (outcome, is_front)
 }
 
@@ -110,9 +110,9 @@ fn write_fault(place: usize) -> Fault {
 #[test]
 fn front_is_written_where_the_output_fails(rt: HostRuntime) {
     for full in [Full::Refuses, Full::TakesNothing] {
-        for room in 0..NODE_THEN_DELETION.len() {
-            let (outcome, is_front) = write_to_device(rt.alloc(), room, full, true);
-            assert!(rt; outcome == Err(write_fault(room)) && is_front);
+        for capacity in 0..NODE_THEN_DELETION.len() {
+            let (outcome, is_front) = write_to_device(rt.alloc(), capacity, full, true);
+            assert!(rt; outcome == Err(write_fault(capacity)) && is_front);
         }
     }
 }
@@ -171,7 +171,7 @@ fn refused_sink_fails_from_then_on(rt: HostRuntime) {
     let mut taken = Vec::new(rt.alloc());
     let mut out = ToWrite::new(Device {
         taken: &mut taken,
-        room: 9,
+        capacity: 9,
         full: Full::TakesNothing,
         flushes: true,
     });

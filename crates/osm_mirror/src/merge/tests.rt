@@ -470,19 +470,19 @@ fn comparison_bounds(rt: HostRuntime) {
     }
 }
 
-/// A writer that takes one byte in each write until it has taken `room` bytes, and then fails. Its flush fails unless
-/// `flushes` is set.
+/// A writer that takes one byte in each write until it has taken `capacity` bytes, and then fails. Its flush fails
+/// unless `flushes` is set.
 #[derive(Drop)]
 struct Narrow<'a> {
     taken: &'a mut Vec<u8>,
-    room: usize,
+    capacity: usize,
     flushes: bool,
 }
 
 impl Write for Narrow<'_> {
     fn write(&mut self, bytes: &[u8]) -> io::Result<usize> {
         match bytes.first() {
-            Some(byte) if self.taken.len() < self.room => {
+            Some(byte) if self.taken.len() < self.capacity => {
                 self.taken.push(*byte)?;
                 Ok(1)
             }
@@ -499,13 +499,13 @@ impl Write for Narrow<'_> {
     }
 }
 
-/// Whether a merge of A and B to a writer that takes `room` bytes fails there, and the writer took the front of the
+/// Whether a merge of A and B to a writer that takes `capacity` bytes fails there, and the writer took the front of the
 /// file.
-fn fails_after(alloc: Global, room: usize, flushes: bool) -> bool {
+fn fails_after(alloc: Global, capacity: usize, flushes: bool) -> bool {
     let mut taken = Vec::new(alloc);
     let device = Narrow {
         taken: &mut taken,
-        room,
+        capacity,
         flushes,
     };
     let outcome = run_merge(
@@ -516,16 +516,16 @@ fn fails_after(alloc: Global, room: usize, flushes: bool) -> bool {
     );
     let fault = Fault {
         input: 2,
-        place: room as u64,
+        place: capacity as u64,
         reason: Reason::WriteFault,
     };
-    outcome == Err(fault) && BOTH.get(..room) == Some(taken.as_slice())
+    outcome == Err(fault) && BOTH.get(..capacity) == Some(taken.as_slice())
 }
 
 #[test]
 fn failing_devices(rt: HostRuntime) {
-    for room in 0..58usize {
-        assert!(rt; fails_after(rt.alloc(), room, true));
+    for capacity in 0..58usize {
+        assert!(rt; fails_after(rt.alloc(), capacity, true));
     }
     assert!(rt; fails_after(rt.alloc(), 58, false));
 }

@@ -9,7 +9,7 @@ use Rattle.osm_files.proofs.load.load_any.Goals as goal
 pub returns-in-Ok-clause-loaded : goal.returns-in-Ok-clause-loaded
 returns-in-Ok-clause-loaded g c =
     let vs = c.read_versions-read.new.versions.items in
-    let x = subst (λ (p : Position _). GivesOne (g.R.Input.can_give p.coming) (λ d. IsRead p.input d vs c.in-Ok.format c.in-Ok.sorted))
+    let x = subst (λ (p : Position _). GivesOne (g.R.Input.can_give p.rest) (λ d. IsRead p.input d vs c.in-Ok.format c.in-Ok.sorted))
     c.new-reading.ensures c.in-Ok.ensures.read in
     IfOk-weaker c.gathered.result _ _ (λ loaded e. (x.0, x.1, loads c.args.input x.0 c.in-Ok.format vs c.in-Ok.sorted loaded x.2 e))
     c.gathered.ensures.loaded

@@ -3,6 +3,6 @@ use Rattle.osm_merge.proofs.taking.move_front.Given as goal
 
 abbrev pub invariant-moves : goal.invariant-moves
 invariant-moves l =
-    (l.room.items ≡ l.fn.room.items ++ take l.counter l.fn.held.items)
+    (l.joined.items ≡ l.fn.joined.items ++ take l.counter l.fn.held.items)
     × (l.held.items ≡ drop l.counter l.fn.held.items)
-    × (vec_capacity l.room ≡ vec_capacity l.fn.room)
+    × (vec_capacity l.joined ≡ vec_capacity l.fn.joined)

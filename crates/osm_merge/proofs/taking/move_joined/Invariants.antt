@@ -5,5 +5,5 @@ use Rattle.osm_merge.proofs.taking.move_joined.Given as goal
 
 abbrev pub invariant-more : goal.invariant-more
 invariant-more l =
-    IsTaking (order_of l.fn.order) (l.fn.room.items ++ merge_by (order_of l.fn.order) l.fn.held.items l.fn.more.items) l.room.items
-    l.held.items l.version-iterator.rest.items (vec_capacity l.room)
+    IsTaking (order_of l.fn.order) (l.fn.joined.items ++ merge_by (order_of l.fn.order) l.fn.held.items l.fn.more.items) l.joined.items
+    l.held.items l.version-iterator.rest.items (vec_capacity l.joined)

@@ -8,18 +8,18 @@ use Rattle.osm_merge.proofs.taking.take_in.Goals as goal
 
 pub from_ascending-requires : goal.from_ascending-requires
 from_ascending-requires c =
-    let all : c.move_joined.new.room.items ≡ merge_by (order_of c.args.order) (to_list c.args.held.now) (to_list c.args.more) =
+    let all : c.move_joined.new.joined.items ≡ merge_by (order_of c.args.order) (to_list c.args.held.now) (to_list c.args.more) =
     c.move_joined.ensures
-    ∙ (λ i. c.in_ok-room.ensures.items i ++ merge_by (order_of c.args.order)
+    ∙ (λ i. c.in_ok-joined.ensures.items i ++ merge_by (order_of c.args.order)
     ((c.into_versions-all.ensures ∙ ap to_list c.replace.ensures.value) i) (c.into_versions.ensures i)) in
     subst (IsStrictlySortedBy version_cmp) (sym all)
     (joined_ascends c.args.order c.args.held.now c.args.more c.requires.held_ascends c.requires.more_ascends)
 
 pub returns : goal.returns
 returns c =
-    let all : c.move_joined.new.room.items ≡ merge_by (order_of c.args.order) (to_list c.args.held.now) (to_list c.args.more) =
+    let all : c.move_joined.new.joined.items ≡ merge_by (order_of c.args.order) (to_list c.args.held.now) (to_list c.args.more) =
     c.move_joined.ensures
-    ∙ (λ i. c.in_ok-room.ensures.items i ++ merge_by (order_of c.args.order)
+    ∙ (λ i. c.in_ok-joined.ensures.items i ++ merge_by (order_of c.args.order)
     ((c.into_versions-all.ensures ∙ ap to_list c.replace.ensures.value) i) (c.into_versions.ensures i)) in
     c.from_ascending.ensures
     ∙ ap (from_list {R = version_cmp}) all

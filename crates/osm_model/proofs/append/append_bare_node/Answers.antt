@@ -13,7 +13,7 @@ returns-clause-appended c =
     let rest : (codes " T" ++ list_text tag_text (tags_of node.body)) ++ (32 ∷ join_with 32 (kind_fields node.body)) ≡ codes " T"
     ++ location_text c.args.lon c.args.lat =
     ap (λ body. (codes " T" ++ list_text tag_text (tags_of body)) ++ (32 ∷ join_with 32 (kind_fields body))) c.requires.body in
-    let location : drop c.put_location-start.result c.put_location-start.new.room ≡ location_text c.args.lon c.args.lat = search rules in
-    let written : drop c.put_head-start.result c.put_head-start.new.room ≡ head_text node
+    let location : drop c.put_location-start.result c.put_location-start.new.buffer ≡ location_text c.args.lon c.args.lat = search rules in
+    let written : drop c.put_head-start.result c.put_head-start.new.buffer ≡ head_text node
     ++ (escape node.user ++ (codes " T" ++ location_text c.args.lon c.args.lat)) = search (rules, location) in
     rw (written ∙ sym (line-parts node ∙ ap (λ t. head_text node ++ (escape node.user ++ t)) rest)) at c.append_from.ensures.appended

@@ -6,9 +6,9 @@ use Rattle.osm_model.proofs.append.append_few_references.Given as goal
 abbrev pub invariant-loop-count : goal.invariant-loop-count
 invariant-loop-count l = record {
   within : l.count ≤ length l.ids;
-  written : drop l.start l.room ≡ more_text reference_text (drop l.count l.ids);
+  written : drop l.start l.buffer ≡ more_text reference_text (drop l.count l.ids);
   fits : 23 * l.count ≤ l.start;
-  room : l.start ≤ length l.room;
+  inside : l.start ≤ length l.buffer;
 }
 
 abbrev pub decreases-loop-count : goal.decreases-loop-count

@@ -8,8 +8,8 @@ unfolding date_text
 returns-clause-written c =
     let date = c.from_day-date.result in
     let year = c.from_day-date.ensures.year in
-    let rest = drop c.args.end c.args.room.now in
-    let written : drop c.put.result c.put.new.room ≡ date_text date ++ rest =
+    let rest = drop c.args.end c.args.buffer.now in
+    let written : drop c.put.result c.put.new.buffer ≡ date_text date ++ rest =
     rw (
       padded_pairs date.year,
       padded_pair (date.year / 100) (omega arith),

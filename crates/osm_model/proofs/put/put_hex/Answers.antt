@@ -38,8 +38,8 @@ put_byte-requires-clause-fits c =
 pub returns-clause-written : goal.returns-clause-written
 returns-clause-written c =
     let last = numeral-digit 16 c.loop-rest.rest (omega arith) (omega arith) in
-    c.put_byte.ensures.written ∙ ap (λ d. d ∷ drop c.loop-rest.start c.loop-rest.room) c.hex_digit-2.ensures
-    ∙ sym (c.loop-rest.invariant.written ∙ ap (λ t. t ++ drop c.loop-rest.start c.loop-rest.room) last)
+    c.put_byte.ensures.written ∙ ap (λ d. d ∷ drop c.loop-rest.start c.loop-rest.buffer) c.hex_digit-2.ensures
+    ∙ sym (c.loop-rest.invariant.written ∙ ap (λ t. t ++ drop c.loop-rest.start c.loop-rest.buffer) last)
 
 pub returns-clause-start : goal.returns-clause-start
 returns-clause-start c =

@@ -10,7 +10,7 @@ write_digits-requires c =
 
 pub returns-clause-written : goal.returns-clause-written
 returns-clause-written c =
-    c.write_digits.ensures.written ∙ ap (λ t. t ++ drop c.args.end c.args.room.now)
+    c.write_digits.ensures.written ∙ ap (λ t. t ++ drop c.args.end c.args.buffer.now)
     (sym (number_decimal c.args.number c.ranges.number.fits))
 
 pub returns-clause-start : goal.returns-clause-start

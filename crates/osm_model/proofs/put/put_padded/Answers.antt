@@ -15,9 +15,9 @@ returns-clause-written c =
     let zeros : c.args.width - (c.args.end - c.put_number-digits.result) ≡ c.args.width - length (number_text c.args.number) =
     omega arith in
     c.put_zeros.ensures.written
-    ∙ ap (λ n. replicate n 48 ++ drop c.put_number-digits.result c.put_number-digits.new.room) zeros
+    ∙ ap (λ n. replicate n 48 ++ drop c.put_number-digits.result c.put_number-digits.new.buffer) zeros
     ∙ ap (λ t. replicate (c.args.width - length (number_text c.args.number)) 48 ++ t) c.put_number-digits.ensures.written
-    ∙ sym (append_assoc _ (number_text c.args.number) (drop c.args.end c.args.room.now))
+    ∙ sym (append_assoc _ (number_text c.args.number) (drop c.args.end c.args.buffer.now))
 
 pub returns-clause-start : goal.returns-clause-start
 returns-clause-start c =

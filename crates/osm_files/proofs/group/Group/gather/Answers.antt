@@ -3,7 +3,7 @@ use Rattle.std.proofs.lemmas.Result.{err_from_is_err_and}
 use Rattle.std.specs.Ordering.{is_lt, is_gt}
 use Rattle.osm_model.specs.Order.{key_cmp}
 use Rattle.osm_files.specs.Fault.{fault_at}
-use Rattle.osm_files.specs.Position.{Position, with_coming, Keeps, units_or_failed}
+use Rattle.osm_files.specs.Position.{Position, with_rest, Keeps, units_or_failed}
 use Rattle.osm_files.specs.Groups.{still_with_ready}
 use Rattle.osm_files.specs.Source.{SourceStep}
 use Rattle.osm_files.specs.Stream.{Placed}
@@ -19,7 +19,7 @@ units-init g c = record {
   keeps = (let from = still_with_ready c.args.units.now.input in let group = c.args.self.now.first ∷ c.args.self.now.others.items in
       unread g.R.Input.can_give c.args.units.now c.args.units.now
       (λ p q. Keeps (from (units_or_failed p) group []) (from (units_or_failed q) group [])) refl
-      (λ d. kept (from (units_or_failed (with_coming c.args.units.now d)) group [])));
+      (λ d. kept (from (units_or_failed (with_rest c.args.units.now d)) group [])));
   first = refl;
   group = c.requires.group;
   left = omega arith;
@@ -33,8 +33,8 @@ returns-in_err-unit-clause-refuses g c =
     let x = c.units.invariant.keeps y.0 y.1 in (
       x.0,
       x.1,
-      refuses_read c.args.units.now.input (units_or_failed (with_coming c.args.units.now x.0)) c.args.self.now.others.items
-          (units_or_failed (with_coming c.units.units y.0)) (units_or_failed (with_coming c.next.new.self later)) c.args.self.now.first
+      refuses_read c.args.units.now.input (units_or_failed (with_rest c.args.units.now x.0)) c.args.self.now.others.items
+          (units_or_failed (with_rest c.units.units y.0)) (units_or_failed (with_rest c.next.new.self later)) c.args.self.now.first
           c.units.self.others.items x.2 c.in_err-unit.field-0.0 y.2,
     ))
 
@@ -44,8 +44,8 @@ returns-in_default-clause-gathers g c = λ later k.
     let x = c.units.invariant.keeps y.0 y.1 in (
       x.0,
       x.1,
-      ends_group c.args.units.now.input (units_or_failed (with_coming c.args.units.now x.0)) c.args.self.now.others.items
-          (units_or_failed (with_coming c.units.units y.0)) (units_or_failed (with_coming c.next.new.self later)) c.args.self.now.first
+      ends_group c.args.units.now.input (units_or_failed (with_rest c.args.units.now x.0)) c.args.self.now.others.items
+          (units_or_failed (with_rest c.units.units y.0)) (units_or_failed (with_rest c.next.new.self later)) c.args.self.now.first
           c.units.self.others.items x.2 c.units.invariant.group y.2,
     )
 
@@ -58,8 +58,8 @@ returns-then-is_lt-clause-gathers g c = λ later k.
     let x = c.units.invariant.keeps y.0 y.1 in (
       x.0,
       x.1,
-      begins_next c.args.units.now.input (units_or_failed (with_coming c.args.units.now x.0)) c.args.self.now.others.items
-          (units_or_failed (with_coming c.units.units y.0)) (units_or_failed (with_coming c.next.new.self later)) c.args.self.now.first
+      begins_next c.args.units.now.input (units_or_failed (with_rest c.args.units.now x.0)) c.args.self.now.others.items
+          (units_or_failed (with_rest c.units.units y.0)) (units_or_failed (with_rest c.next.new.self later)) c.args.self.now.first
           c.units.self.others.items x.2 c.units.invariant.group u y.2 less,
     )
 
@@ -70,22 +70,22 @@ returns-then-is_gt-clause-refuses g c = λ later k.
     let greater : is_gt (key_cmp c.args.self.now.first u.version) ≡ true =
     ap (λ v. is_gt (key_cmp v u.version)) (sym c.units.invariant.first) ∙ ap is_gt (sym c.key_cmp-order.ensures) ∙ sym c.is_gt.ensures
     ∙ c.if-is_gt.true in
-    let y = (rw c.in-Some.is at c.in_ok-unit.ensures.step) later (subst (λ r. g.R.Input.can_give r later) (ap (λ v. v.coming) failed) k) in
+    let y = (rw c.in-Some.is at c.in_ok-unit.ensures.step) later (subst (λ r. g.R.Input.can_give r later) (ap (λ v. v.rest) failed) k) in
     let x = c.units.invariant.keeps y.0 y.1 in (
       x.0,
       x.1,
-      refuses_unsorted c.args.units.now.input (units_or_failed (with_coming c.args.units.now x.0)) c.args.self.now.others.items
-          (units_or_failed (with_coming c.units.units y.0)) (units_or_failed (with_coming c.next.new.self later)) c.args.self.now.first
+      refuses_unsorted c.args.units.now.input (units_or_failed (with_rest c.args.units.now x.0)) c.args.self.now.others.items
+          (units_or_failed (with_rest c.units.units y.0)) (units_or_failed (with_rest c.next.new.self later)) c.args.self.now.first
           c.units.self.others.items x.2 u
-          c.refuse.result (units_or_failed (with_coming c.refuse.new.self later)) c.next.new.self.input y.2 greater
+          c.refuse.result (units_or_failed (with_rest c.refuse.new.self later)) c.next.new.self.input y.2 greater
           (c.refuse.ensures.fault ∙ ap (λ n. fault_at n u.place Unsorted) (c.next.ensures.number ∙ c.units.invariant.number))
-          (ap (λ (v : Position _). units_or_failed (with_coming v later)) failed),
+          (ap (λ (v : Position _). units_or_failed (with_rest v later)) failed),
     )
 
 pub returns-in-Err-clause-refuses : goal.returns-in-Err-clause-refuses
 returns-in-Err-clause-refuses g c = λ later k.
     let y = (rw c.in-Some.is at c.in_ok-unit.ensures.step) later
-    (subst (λ r. g.R.Input.can_give r later) (ap (λ v. v.coming) c.refuse-in-Err.ensures.failed) k) in
+    (subst (λ r. g.R.Input.can_give r later) (ap (λ v. v.rest) c.refuse-in-Err.ensures.failed) k) in
     let x = c.units.invariant.keeps y.0 y.1 in (
       x.0,
       x.1,
@@ -93,7 +93,7 @@ returns-in-Err-clause-refuses g c = λ later k.
         inl c.refuse-in-Err.ensures.fault,
         (
           c.next.new.self.input,
-          ap (λ (v : Position _). units_or_failed (with_coming v later)) c.refuse-in-Err.ensures.failed,
+          ap (λ (v : Position _). units_or_failed (with_rest v later)) c.refuse-in-Err.ensures.failed,
         ),
       ),
     )

@@ -5,7 +5,7 @@ use Rattle.osm_files.proofs.ReaderLaws.{unread, has_gone, gone_none, gone_read, 
 use Rattle.osm_files.proofs.ReaderLaws.{unit_further, unit_lessens, unit_refused, fill_refused}
 use Rattle.osm_files.proofs.ReadingLaws.{held_size, none_there, some_found, none_found, none_same, none_still, failed_already}
 use Rattle.osm_files.specs.Fault.{fault_at, failed_fault}
-use Rattle.osm_files.specs.Position.{state_at, with_coming, units_or_failed}
+use Rattle.osm_files.specs.Position.{state_at, with_rest, units_or_failed}
 use Rattle.osm_files.specs.Source.{SourceStep}
 use Rattle.osm_files.specs.Stream.{Placed}
 use Rattle.osm_files.proofs.reading.Reading.next.Goals as goal
@@ -14,7 +14,7 @@ pub returns-then-self-clause-step : goal.returns-then-self-clause-step
 returns-then-self-clause-step g c =
     let p = c.args.self.now in
     unread g.R.Input.can_give p p (λ a b. SourceStep {A = Placed} (units_or_failed a) (Err c.failed.result) (units_or_failed b)) refl
-    (λ d. failed_already (with_coming p d) c.failed.result (sym (ap (λ v. v.failed) c.self.view_is) ∙ c.if-self.true)
+    (λ d. failed_already (with_rest p d) c.failed.result (sym (ap (λ v. v.failed) c.self.view_is) ∙ c.if-self.true)
     (c.failed.ensures ∙ ap (λ v. failed_fault v.input) c.self.view_is))
 
 pub units-init : goal.units-init
@@ -125,7 +125,7 @@ returns-in-Err-clause-step g c =
     let is = c.refuse-in-Err.ensures.fault ∙ (λ i. fault_at (c.read_held.ensures.number i) (place i) c.in-Err.reason) in
     steps_from g.R.Input.can_give c.args.self.now m c.refuse-in-Err.new.self (Err c.refuse-in-Err.result) c.units.invariant.on
     (sym (ap (λ v. v.failed) c.self.view_is) ∙ c.if-self.false)
-    (unit_refused g.R.Input.can_give m q c.refuse-in-Err.new.self c.in-Err.reason c.refuse-in-Err.result (g.R.Input.one m.coming)
-    (g.R.Input.possible m.coming) (c.units.invariant.on.failed ∙ (sym (ap (λ v. v.failed) c.self.view_is) ∙ c.if-self.false))
+    (unit_refused g.R.Input.can_give m q c.refuse-in-Err.new.self c.in-Err.reason c.refuse-in-Err.result (g.R.Input.one m.rest)
+    (g.R.Input.possible m.rest) (c.units.invariant.on.failed ∙ (sym (ap (λ v. v.failed) c.self.view_is) ∙ c.if-self.false))
     (ap (λ v. v.failed) c.refuse-in-Err.ensures.failed) c.read_held.ensures.bound
     c.in-Err.ensures.found is)

@@ -1,7 +1,7 @@
 use Rattle.std.proofs.Common.{List, sym, ◌∙◌, subst, refl, option_to_list, IfSome, Ok, Some}
 use Rattle.std.specs.Vec.Iter.{into_iter_items}
 use Rattle.osm_model.specs.Data.{VersionData}
-use Rattle.osm_files.specs.Position.{with_coming, units_or_failed}
+use Rattle.osm_files.specs.Position.{with_rest, units_or_failed}
 use Rattle.osm_files.specs.Source.{Ascends, SourceStep, SourceSteps}
 use Rattle.osm_files.specs.Groups.{FileSourceData, FileCanGive, FileSteps, still_with_ready, source_data}
 use Rattle.osm_files.proofs.GroupLaws.{gives_ready}
@@ -12,9 +12,9 @@ pub invariant_of-self : goal.invariant_of-self
 invariant_of-self g c = (
   λ d k.
       let s = c.self.inside in
-      ready_rises s.units.input (units_or_failed (with_coming s.units d)) (option_to_list s.pending)
+      ready_rises s.units.input (units_or_failed (with_rest s.units d)) (option_to_list s.pending)
       (into_iter_items c.next.new.self) c.in-Some.version
-      (subst (λ (xs : List VersionData). IfSome (still_with_ready s.units.input (units_or_failed (with_coming s.units d))
+      (subst (λ (xs : List VersionData). IfSome (still_with_ready s.units.input (units_or_failed (with_rest s.units d))
       (option_to_list s.pending) xs)
       Ascends) c.in-Some.ensures.items (c.self.invariant.0 d k)),
   λ failed. let none = sym c.in-Some.ensures.items ∙ c.self.invariant.1 failed in absurd cc,
@@ -30,11 +30,11 @@ returns-in-Some-clause-step g c =
     (λ d k. (
       d,
       k,
-      subst (λ (xs : List VersionData). SourceStep (still_with_ready s.units.input (units_or_failed (with_coming s.units d))
+      subst (λ (xs : List VersionData). SourceStep (still_with_ready s.units.input (units_or_failed (with_rest s.units d))
           (option_to_list s.pending) xs)
-          (Ok (Some c.in-Some.version)) (still_with_ready s.units.input (units_or_failed (with_coming s.units d)) (option_to_list s.pending)
+          (Ok (Some c.in-Some.version)) (still_with_ready s.units.input (units_or_failed (with_rest s.units d)) (option_to_list s.pending)
           (into_iter_items c.next.new.self))) (sym c.in-Some.ensures.items)
-          (gives_ready s.units.input (units_or_failed (with_coming s.units d)) (option_to_list s.pending)
+          (gives_ready s.units.input (units_or_failed (with_rest s.units d)) (option_to_list s.pending)
           (into_iter_items c.next.new.self) c.in-Some.version),
     )))
 
