@@ -32,3 +32,4 @@ pub mod LineLists
 mod LineStarts
 pub mod FirstLaws
 mod WholeLinesLaws
+mod EndMarkLaws

@@ -3,6 +3,7 @@ pub mod Reason
 pub mod Fault
 pub mod Input
 pub mod WholeLines
+pub mod EndMark
 pub mod Output
 pub mod Change
 pub mod Stream

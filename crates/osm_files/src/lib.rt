@@ -2,6 +2,7 @@
 //! read and written.
 #![tactic(auto)]
 
+mod end_mark;
 mod fault;
 mod format;
 mod group;
@@ -23,6 +24,7 @@ mod unit;
 mod whole_lines;
 mod write;
 
+pub use end_mark::EndMarked;
 pub use fault::{Fault, LENGTH_LIMIT};
 pub use format::{FORMAT_NAMES, Format};
 pub use history_source::HistorySource;
