@@ -14,11 +14,11 @@ _osm_hist_files() {
 # The options of a command.
 _osm_hist_options() {
     case $1 in
-    merge) echo --output -o --format -f --shard --fsync --progress --summary --whole --files0-from --hints --help -h ;;
-    apply) echo --output -o --format -f --shard --fsync --progress --summary --whole --files0-from --hints --with-history --sorted --help -h ;;
-    time-filter | sort) echo --output -o --format -f --shard --fsync --progress --summary --whole --files0-from --hints --sorted --help -h ;;
-    check) echo --sorted --whole --files0-from --hints --help -h ;;
-    plan) echo --hints --help -h ;;
+    merge) echo --output -o --format -f --shard --fsync --progress --summary --whole --ended --files0-from --hints --help -h ;;
+    apply) echo --output -o --format -f --shard --fsync --progress --summary --whole --ended --files0-from --hints --with-history --with-deletions --sorted --help -h ;;
+    time-filter | sort) echo --output -o --format -f --shard --fsync --progress --summary --whole --ended --files0-from --hints --sorted --help -h ;;
+    check) echo --sorted --whole --ended --files0-from --hints --help -h ;;
+    plan) echo --strict --hints --help -h ;;
     '') echo --help -h --version -V ;;
     esac
 }
