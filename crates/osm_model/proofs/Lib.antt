@@ -22,3 +22,4 @@ pub mod ExtendsLaws
 pub mod KindLaws
 pub mod PairLaws
 pub mod PairwiseLaws
+mod CompareLaws

@@ -1,5 +1,5 @@
 //! An iterator over the bytes of a canonical line, from left to right. It allocates nothing.
-ghost use Rattle.std.specs.Prelude.{◌≡◌, ◌++◌, ◌∷◌, ◌<◌, [], length, MatchOption};
+ghost use Rattle.std.specs.Prelude.{◌≡◌, ◌++◌, ◌∷◌, ◌<◌, ◌≤◌, [], drop, length, MatchOption};
 ghost use Rattle.std.specs.Bool.{MatchBool};
 ghost use Rattle.std.specs.Str.{chars};
 ghost use Rattle.std.specs.Iterator.{YieldsFirst, item_count};
@@ -364,6 +364,28 @@ impl<'a> LineBytes<'a> {
         match self.chunk {
             Chunk::SmallBuffer => self.small_buffer.as_slice(),
             Chunk::Plain(bytes) => bytes,
+        }
+    }
+
+    /// Takes the next run if no byte of the current one remains. Returns whether a byte remains.
+    #[inline(always)]
+    pub(crate) fn fill(&mut self) -> bool
+        ensures bytes { remaining_bytes self.new ≡ remaining_bytes self.old }
+        ensures more { MatchBool result (0 < length (chunk_of self.new)) (remaining_bytes self.new ≡ []) }
+    {
+        !self.chunk().is_empty() || self.advance()
+    }
+
+    /// Drops the first `count` bytes of the current run.
+    #[inline(always)]
+    pub(crate) fn drop_front(&mut self, count: usize)
+        requires { count ≤ length (chunk_of self.old) }
+        ensures chunk { chunk_of self.new ≡ drop count (chunk_of self.old) }
+        ensures rest { after_chunk self.new ≡ after_chunk self.old }
+    {
+        match self.chunk {
+            Chunk::SmallBuffer => self.small_buffer.drop_front(count),
+            Chunk::Plain(bytes) => self.chunk = Chunk::Plain(&bytes[count..]),
         }
     }
 

@@ -1,6 +1,6 @@
 //! A buffer for a few bytes of a line.
 ghost use Rattle.std.specs.Prelude.{◌≡◌, ◌++◌, ◌∷◌, [], ◌≤◌, ◌<◌, ◌^◌};
-ghost use Rattle.std.specs.Prelude.{length, MatchOption, OnOk};
+ghost use Rattle.std.specs.Prelude.{length, drop, MatchOption, OnOk};
 ghost use Rattle.std.specs.Option.{ForSome};
 ghost use Rattle.osm_model.specs.Decimal.{number_text, integer_text};
 ghost use Rattle.osm_model.specs.Coordinate.{coordinate_text};
@@ -53,6 +53,15 @@ impl SmallBuffer {
     {
         out.extend_from_slice(self.as_slice())?;
         Ok(())
+    }
+
+    /// Drops the first `count` of the remaining bytes.
+    #[inline(always)]
+    pub(crate) fn drop_front(&mut self, count: usize)
+        requires { count ≤ length (bytes_left self.old) }
+        ensures { bytes_left self.new ≡ drop count (bytes_left self.old) }
+    {
+        self.start += count;
     }
 
     /// Takes the first of the remaining bytes.

@@ -370,22 +370,26 @@ impl Version {
     fn line_cmp(&self, other: &Version) -> Ordering
         ensures { result ≡ slice_cmp nat_cmp (line self.now) (line other.now) }
     {
-        let mut others = other.line_bytes();
-        for byte in self.line_bytes() {
-            let Some(other_byte) = others.next() else {
-                return Ordering::Greater;
-            };
-            if byte < other_byte {
-                return Ordering::Less;
+        let (mut line, mut other_line) = (self.line_bytes(), other.line_bytes());
+        'runs: loop {
+            if !line.fill() {
+                return if other_line.fill() {
+                    Ordering::Less
+                } else {
+                    Ordering::Equal
+                };
             }
-            if other_byte < byte {
+            if !other_line.fill() {
                 return Ordering::Greater;
             }
-        }
-        if others.next().is_some() {
-            Ordering::Less
-        } else {
-            Ordering::Equal
+            let (run, other_run) = (line.chunk(), other_line.chunk());
+            let length = run.len().min(other_run.len());
+            match run[..length].cmp(&other_run[..length]) {
+                Ordering::Equal => {}
+                order => return order,
+            }
+            line.drop_front(length);
+            other_line.drop_front(length);
         }
     }
 }
