@@ -7,7 +7,7 @@ use Rattle.osm_model.specs.Data.{VersionData, tags_of}
 use Rattle.osm_model.specs.Line.{list_text, tag_text, kind_fields, line}
 use Rattle.osm_model.specs.Cursor.{more_text}
 use Rattle.osm_model.specs.Append.{head_text}
-use Rattle.osm_model.proofs.CursorLaws.{list_text-cons, line-from_object}
+use Rattle.osm_model.proofs.CursorLaws.{list_text-cons, line-from_head}
 
 -- a list begins with a mark and its first item
 pub list_begins : {X : Type 0} (text : X → List ℕ) (x : X) (all rest : List X) (mark before now : List ℕ) → all ≡ x ∷ rest →
@@ -26,7 +26,7 @@ plain_stretch before all bytes front back now b e n = b ∙ ap (λ t. all ++ t) 
 -- the line is its head, the user name, the tags and the fields of its kind
 pub line-parts : (v : VersionData) → line v ≡ head_text v
     ++ (escape v.user ++ ((codes " T" ++ list_text tag_text (tags_of v.body)) ++ (32 ∷ join_with 32 (kind_fields v.body))))
-line-parts v = line-from_object v ∙ simp append_assoc
+line-parts v = line-from_head v ∙ simp append_assoc
 
 -- items in two parts
 pub more_in_two : {X : Type 0} (text : X → List ℕ) (xs ys : List X) → more_text text (xs ++ ys) ≡ more_text text xs ++ more_text text ys

@@ -17,7 +17,7 @@ use Rattle.osm_model.specs.Escape.{escape, escape_char, is_raw, code_escape}
 use Rattle.osm_model.specs.Joined.{join_with}
 use Rattle.osm_model.specs.Data.{VersionData, tags_of}
 use Rattle.osm_model.specs.Line.{list_text, tag_text, reference_text, member_text, kind_fields, line}
-use Rattle.osm_model.specs.Cursor.{more_text, items_text, bytes_from, from_next, from_object}
+use Rattle.osm_model.specs.Cursor.{more_text, items_text, bytes_from, from_next, from_head}
 
 -- no character has an empty form
 pub escape_char-full : (c : ℕ) → 0 < length (escape_char c)
@@ -88,7 +88,7 @@ joined_kind f (body.Node lon lat tags) = refl
 joined_kind f (body.Way refs tags) = refl
 joined_kind f (body.Relation members tags) = refl
 
--- the line is the line from its first field on
-pub line-from_object : (v : VersionData) → line v ≡ from_object v
+-- the line is the line from its head on
+pub line-from_head : (v : VersionData) → line v ≡ from_head v
 unfolding line
-line-from_object v = rw (joined_kind (codes "T" ++ list_text tag_text (tags_of v.body)) v.body) refl
+line-from_head v = rw (joined_kind (codes "T" ++ list_text tag_text (tags_of v.body)) v.body) (simp append_assoc)

@@ -10,14 +10,11 @@ use Rattle.osm_model.specs.declared.line_bytes.Chunk.{Chunk}
 use Rattle.osm_model.specs.declared.line_bytes.Chunk.TheVariants as chunk
 use Rattle.osm_model.specs.declared.line_bytes.LineBytes.{LineBytes}
 use Rattle.osm_model.specs.declared.small_buffer.SmallBuffer.{SmallBuffer}
-use Rattle.osm_model.specs.Kind.{kind_letter}
-use Rattle.osm_model.specs.Decimal.{number_text, integer_text}
-use Rattle.osm_model.specs.Coordinate.{coordinate_text}
-use Rattle.osm_model.specs.Time.{time_text}
 use Rattle.osm_model.specs.Escape.{escape}
 use Rattle.osm_model.specs.Joined.{join_with}
-use Rattle.osm_model.specs.Data.{VersionData, kind_of, tags_of}
-use Rattle.osm_model.specs.Line.{tag_text, reference_text, member_text, list_text, visible_text, kind_fields}
+use Rattle.osm_model.specs.Data.{VersionData, tags_of}
+use Rattle.osm_model.specs.Append.{head_text}
+use Rattle.osm_model.specs.Line.{tag_text, reference_text, member_text, list_text, kind_fields}
 use Rattle.osm_model.specs.SmallBuffer.{bytes_left}
 
 -- items, each after a comma
@@ -37,35 +34,11 @@ from_kind v = 32 ∷ join_with 32 (kind_fields v.body)
 abbrev pub from_tags : VersionData → List ℕ
 from_tags v = codes " T" ++ (list_text tag_text (tags_of v.body) ++ from_kind v)
 
-abbrev pub from_user : VersionData → List ℕ
-from_user v = codes " u" ++ (escape v.user ++ from_tags v)
-
-abbrev pub from_uid : VersionData → List ℕ
-from_uid v = (codes " i" ++ number_text v.uid) ++ from_user v
-
-abbrev pub from_time : VersionData → List ℕ
-from_time v = (codes " t" ++ time_text v.time) ++ from_uid v
-
-abbrev pub from_changeset : VersionData → List ℕ
-from_changeset v = (codes " c" ++ number_text v.changeset) ++ from_time v
-
-abbrev pub from_visible : VersionData → List ℕ
-from_visible v = (codes " d" ++ visible_text v.body) ++ from_changeset v
-
-abbrev pub from_number : VersionData → List ℕ
-from_number v = (codes " v" ++ number_text v.number) ++ from_visible v
-
-abbrev pub from_object : VersionData → List ℕ
-from_object v = (kind_letter (kind_of v.body) ∷ integer_text v.id) ++ from_number v
+abbrev pub from_head : VersionData → List ℕ
+from_head v = head_text v ++ (escape v.user ++ from_tags v)
 
 abbrev pub from_field : VersionData → Field → List ℕ
-from_field v field.Object = from_object v
-from_field v field.Number = from_number v
-from_field v field.Visible = from_visible v
-from_field v field.Changeset = from_changeset v
-from_field v field.Time = from_time v
-from_field v field.Uid = from_uid v
-from_field v field.User = from_user v
+from_field v field.Head = from_head v
 from_field v field.Tags = from_tags v
 from_field v field.Kind = from_kind v
 
@@ -75,7 +48,6 @@ bytes_from v (position.Field f) = from_field v f
 bytes_from v (position.Equals value tags) = codes "="
     ++ (escape value.now ++ (more_text tag_text tags.now ++ from_kind v))
 bytes_from v (position.MoreTags tags) = more_text tag_text tags.now ++ from_kind v
-bytes_from v (position.Latitude lat) = codes " y" ++ coordinate_text lat
 bytes_from v (position.References is_first ids) = items_text is_first reference_text ids.now
 bytes_from v (position.Members is_first members) = items_text is_first member_text members.now
 bytes_from v (position.At role members) = codes "@" ++ (escape role.now ++ more_text member_text members.now)

@@ -18,8 +18,7 @@ ghost use Rattle.osm_model.specs.declared.body.Body.TheVariants.{Node};
 
 use crate::escape::raw_length;
 use crate::plain::INLINE_TEXT_BYTES;
-use crate::put::{put, put_byte, put_coordinate, put_integer, put_number, put_time};
-use crate::small_buffer::SmallBuffer;
+use crate::put::{ESCAPE_BYTES, put, put_byte, put_escaped, put_head, put_integer, put_location};
 use crate::{Body, Member, Memory, Tag, Text, Version};
 
 /// The size of the buffer of a stretch. The fields before a user name take fewer bytes.
@@ -99,36 +98,6 @@ fn append_head(version: &Version, out: &mut Vec<u8>) -> Result<(), Memory>
     append_from(&buffer, start, out)
 }
 
-/// Writes the fields before the user name, and the mark of the user name, into `buffer` before `end`. Returns the
-/// offset where they begin.
-#[inline(always)]
-fn put_head(buffer: &mut [u8], end: usize, version: &Version) -> usize
-    requires within { end ≤ length buffer.old }
-    requires fits { 128 ≤ end }
-    ensures written { drop result buffer.new ≡ head_text version.now ++ drop end buffer.old }
-    ensures onward { result ≤ end }
-    ensures size { length buffer.new ≡ length buffer.old }
-{
-    let start = put(buffer, end, b" u");
-    let start = put_number(buffer, start, version.uid());
-    let start = put(buffer, start, b" i");
-    let start = put_time(buffer, start, version.time());
-    let start = put(buffer, start, b" t");
-    let start = put_number(buffer, start, version.changeset());
-    let start = put(buffer, start, b" c");
-    let visible = if version.body().is_deleted() {
-        b'D'
-    } else {
-        b'V'
-    };
-    let start = put_byte(buffer, start, visible);
-    let start = put(buffer, start, b" d");
-    let start = put_number(buffer, start, version.number());
-    let start = put(buffer, start, b" v");
-    let start = put_integer(buffer, start, version.id());
-    put_byte(buffer, start, version.kind().letter())
-}
-
 /// Appends the characters of a text, raw or as escapes.
 #[inline(always)]
 fn append_text(text: &Text, out: &mut Vec<u8>) -> Result<(), Memory>
@@ -166,9 +135,9 @@ fn append_escaped(c: char, out: &mut Vec<u8>) -> Result<(), Memory>
     ensures appended { OnOk result (out.new.items ≡ out.old.items ++ escape_char c) }
     ensures kept { Extends out.old.items out.new.items }
 {
-    let mut small_buffer = SmallBuffer::new();
-    small_buffer.set_escaped(c);
-    small_buffer.append_to(out)
+    let mut buffer = [0; ESCAPE_BYTES];
+    let start = put_escaped(&mut buffer, ESCAPE_BYTES, c);
+    append_from(&buffer, start, out)
 }
 
 /// An item of a list in a line.
@@ -301,20 +270,4 @@ fn append_location(lon: i32, lat: i32, out: &mut Vec<u8>) -> Result<(), Memory>
     let mut buffer = [0; STRETCH_BYTES];
     let start = put_location(&mut buffer, STRETCH_BYTES, lon, lat);
     append_from(&buffer, start, out)
-}
-
-/// Writes the fields of a location into `buffer` before `end`. Returns the offset where they begin.
-#[inline(always)]
-fn put_location(buffer: &mut [u8], end: usize, lon: i32, lat: i32) -> usize
-    requires within { end ≤ length buffer.old }
-    requires fits { 62 ≤ end }
-    ensures written { drop result buffer.new ≡ location_text lon lat ++ drop end buffer.old }
-    ensures onward { result ≤ end }
-    ensures short { end ≤ result + 62 }
-    ensures size { length buffer.new ≡ length buffer.old }
-{
-    let start = put_coordinate(buffer, end, lat);
-    let start = put(buffer, start, b" y");
-    let start = put_coordinate(buffer, start, lon);
-    put(buffer, start, b" x")
 }

@@ -2,7 +2,7 @@
 ghost use Rattle.std.specs.Prelude.{◌≡◌, ◌≢◌, ◌++◌, ℕ, List, MatchOption};
 ghost use Rattle.osm_model.specs.Escape.{escape_char};
 
-use crate::small_buffer::SmallBuffer;
+use crate::put::{ESCAPE_BYTES, put_escaped};
 
 /// Returns the bytes after the form of `c`, if `bytes` begins with that form. The form of a character is the one that a
 /// canonical line has for it: the character itself or its escape.
@@ -11,7 +11,7 @@ pub fn strip_escaped(bytes: &[u8], c: char) -> Option<&[u8]>
         ((rest : List ℕ) → bytes.now ≢ escape_char c ++ rest)
         (λ after. bytes.now ≡ escape_char c ++ after.now) }
 {
-    let mut small_buffer = SmallBuffer::new();
-    small_buffer.set_escaped(c);
-    bytes.strip_prefix(small_buffer.as_slice())
+    let mut buffer = [0; ESCAPE_BYTES];
+    let start = put_escaped(&mut buffer, ESCAPE_BYTES, c);
+    bytes.strip_prefix(&buffer[start..])
 }

@@ -7,8 +7,8 @@ ghost use Rattle.osm_model.specs.Data.{VersionData, tags_of};
 ghost use Rattle.osm_model.specs.Escape.{escape};
 ghost use Rattle.osm_model.specs.SmallBuffer.{bytes_left};
 ghost use Rattle.osm_model.specs.Line.{list_text, tag_text, reference_text, member_text, line};
-ghost use Rattle.osm_model.specs.Cursor.{bytes_from, from_field, from_kind, from_next, more_text, items_text};
-ghost use Rattle.osm_model.specs.Cursor.{chunk_text, chunk_of};
+ghost use Rattle.osm_model.specs.Cursor.{bytes_from, from_field, from_kind, from_next, from_tags};
+ghost use Rattle.osm_model.specs.Cursor.{chunk_text, chunk_of, more_text, items_text};
 ghost use Rattle.osm_model.specs.Cursor.{after_chunk, remaining_bytes, Emits, EmitsOrEnds};
 
 use crate::escape::raw_length;
@@ -18,13 +18,8 @@ use crate::{Body, Member, Tag, Text, Version};
 /// A field of a line.
 #[derive(Clone, Copy)]
 enum Field {
-    Object,
-    Number,
-    Visible,
-    Changeset,
-    Time,
-    Uid,
-    User,
+    /// The fields before the user name, and the mark of the user name.
+    Head,
     Tags,
     /// The fields after the tags, which depend on the kind of the object.
     Kind,
@@ -43,10 +38,6 @@ enum LinePosition<'a> {
     /// After a tag.
     MoreTags {
         tags: &'a [Tag],
-    },
-    /// After the longitude.
-    Latitude {
-        lat: i32,
     },
     /// Before a reference, or after the last one.
     References {
@@ -102,40 +93,28 @@ fn emit_field<'a>(
     ensures { Emits version.now (from_field version.now field) small_buffer.new result }
 {
     match field {
-        Field::Object => {
-            small_buffer.set_integer(&[version.kind().letter()], version.id());
-            Continuation::at(LinePosition::Field(Field::Number))
-        }
-        Field::Number => {
-            small_buffer.set_number(b" v", version.number());
-            Continuation::at(LinePosition::Field(Field::Visible))
-        }
-        Field::Visible => {
-            let deleted = version.body().is_deleted();
-            small_buffer.set_bytes(if deleted { b" dD" } else { b" dV" });
-            Continuation::at(LinePosition::Field(Field::Changeset))
-        }
-        Field::Changeset => {
-            small_buffer.set_number(b" c", version.changeset());
-            Continuation::at(LinePosition::Field(Field::Time))
-        }
-        Field::Time => {
-            small_buffer.set_time(b" t", version.time());
-            Continuation::at(LinePosition::Field(Field::Uid))
-        }
-        Field::Uid => {
-            small_buffer.set_number(b" i", version.uid());
-            Continuation::at(LinePosition::Field(Field::User))
-        }
-        Field::User => {
-            small_buffer.set_bytes(b" u");
+        Field::Head => {
+            small_buffer.set_head(version);
             Continuation::with_text(version.user(), LinePosition::Field(Field::Tags))
         }
-        Field::Tags => {
+        Field::Tags => emit_tags(version, small_buffer),
+        Field::Kind => emit_kind_field(version, small_buffer),
+    }
+}
+
+/// Fills `small_buffer` with the mark of the tags, and for a node without tags also with its location.
+fn emit_tags<'a>(version: &'a Version, small_buffer: &mut SmallBuffer) -> Continuation<'a>
+    ensures { Emits version.now (from_tags version.now) small_buffer.new result }
+{
+    match version.body() {
+        Body::Node { lon, lat, tags } if tags.as_slice().is_empty() => {
+            small_buffer.set_location(b" T", *lon, *lat);
+            Continuation::at(LinePosition::End)
+        }
+        _ => {
             small_buffer.set_bytes(b" T");
             first_tag(version)
         }
-        Field::Kind => emit_kind_field(version, small_buffer),
     }
 }
 
@@ -188,8 +167,8 @@ fn emit_kind_field<'a>(version: &'a Version, small_buffer: &mut SmallBuffer) -> 
             Continuation::at(LinePosition::End)
         }
         Body::Node { lon, lat, .. } => {
-            small_buffer.set_coordinate(b" x", *lon);
-            Continuation::at(LinePosition::Latitude { lat: *lat })
+            small_buffer.set_location(b"", *lon, *lat);
+            Continuation::at(LinePosition::End)
         }
         Body::Way { refs, .. } => {
             small_buffer.set_bytes(b" N");
@@ -264,10 +243,6 @@ fn emit<'a>(
             Some(Continuation::with_text(value, LinePosition::MoreTags { tags: more }))
         }
         LinePosition::MoreTags { tags } => Some(emit_next_tag(version, tags, small_buffer)),
-        LinePosition::Latitude { lat } => {
-            small_buffer.set_coordinate(b" y", lat);
-            Some(Continuation::at(LinePosition::End))
-        }
         LinePosition::References { is_first, ids } => emit_reference(is_first, ids, small_buffer),
         LinePosition::Members { is_first, members } => emit_member(is_first, members, small_buffer),
         LinePosition::At { role, more } => {
@@ -312,7 +287,7 @@ fn emit_text<'a>(text: &'a str, small_buffer: &mut SmallBuffer) -> Option<(Chunk
 }
 
 /// The remaining bytes of a version's canonical line: the current run and the bytes after it. A `LineBytes` allocates
-/// nothing: it holds a position in the version, and at most 32 bytes of the current number, time or escape.
+/// nothing: it holds a position in the version, and at most 128 bytes of the current fields, id or escape.
 #[derive(Drop)]
 pub struct LineBytes<'a> {
     version: &'a Version,
@@ -331,7 +306,7 @@ impl Version {
             version: self,
             small_buffer: SmallBuffer::new(),
             chunk: Chunk::SmallBuffer,
-            next: Continuation::at(LinePosition::Field(Field::Object)),
+            next: Continuation::at(LinePosition::Field(Field::Head)),
         }
     }
 }

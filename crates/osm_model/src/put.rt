@@ -8,13 +8,19 @@
 //! Compared by: `both_writers_write_one_line` (opl_line).
 ghost use Rattle.std.specs.Prelude.{◌≡◌, ◌++◌, ◌+◌, ◌/◌, ◌%◌, ◌∷◌, ◌≤◌, ◌<◌, ◌^◌, length, drop, replicate};
 ghost use Rattle.std.specs.Option.{ForSome};
+ghost use Rattle.osm_model.specs.Append.{head_text, location_text};
+ghost use Rattle.osm_model.specs.Escape.{code_escape, escape_char};
 ghost use Rattle.osm_model.specs.Numeral.{numeral, pad_zeros};
 ghost use Rattle.osm_model.specs.Decimal.{number_text, sign_text, integer_text};
 ghost use Rattle.osm_model.specs.Coordinate.{fraction_text, coordinate_text};
 ghost use Rattle.osm_model.specs.Time.{date_of, date_text, clock_text, time_text};
 
+use crate::Version;
 use crate::calendar::Date;
-use crate::escape::hex_digit;
+use crate::escape::{escape_width, hex_digit, is_raw};
+
+/// A buffer of this size holds the form of any character. The longest form is `%10ffff%`.
+pub(crate) const ESCAPE_BYTES: usize = 16;
 
 /// The number of units of a coordinate in one degree.
 const UNITS_IN_DEGREE: u32 = 10_000_000;
@@ -51,7 +57,7 @@ pub(crate) fn put(buffer: &mut [u8], end: usize, bytes: &[u8]) -> usize
 
 /// Writes a number in decimal.
 #[inline(always)]
-pub(crate) fn put_number(buffer: &mut [u8], end: usize, number: u64) -> usize
+fn put_number(buffer: &mut [u8], end: usize, number: u64) -> usize
     requires within { end ≤ length buffer.old }
     requires fits { 20 ≤ end }
     ensures written { drop result buffer.new ≡ number_text number ++ drop end buffer.old }
@@ -93,7 +99,7 @@ pub(crate) fn put_integer(buffer: &mut [u8], end: usize, integer: i64) -> usize
 }
 
 /// Writes a coordinate in units of 10^-7 degree.
-pub(crate) fn put_coordinate(buffer: &mut [u8], end: usize, units: i32) -> usize
+fn put_coordinate(buffer: &mut [u8], end: usize, units: i32) -> usize
     requires within { end ≤ length buffer.old }
     requires fits { 29 ≤ end }
     ensures written { drop result buffer.new ≡ coordinate_text units ++ drop end buffer.old }
@@ -192,7 +198,7 @@ fn put_padded(buffer: &mut [u8], end: usize, number: u64, width: usize) -> usize
 }
 
 /// Writes `count` zeros.
-pub(crate) fn put_zeros(buffer: &mut [u8], end: usize, count: usize) -> usize
+fn put_zeros(buffer: &mut [u8], end: usize, count: usize) -> usize
     requires within { end ≤ length buffer.old }
     requires fits { count ≤ end }
     ensures written { drop result buffer.new ≡ replicate count 48 ++ drop end buffer.old }
@@ -208,7 +214,7 @@ pub(crate) fn put_zeros(buffer: &mut [u8], end: usize, count: usize) -> usize
 
 /// Writes `yyyy-mm-ddThh:mm:ssZ`, or nothing if there is no time.
 #[inline(always)]
-pub(crate) fn put_time(buffer: &mut [u8], end: usize, time: Option<u64>) -> usize
+fn put_time(buffer: &mut [u8], end: usize, time: Option<u64>) -> usize
     requires within { end ≤ length buffer.old }
     requires fits { 20 ≤ end }
     requires in_range { ForSome time (λ seconds. seconds < 2 ^ 32) }
@@ -280,7 +286,7 @@ fn put_clock(buffer: &mut [u8], end: usize, second: u32) -> usize
 }
 
 /// Writes a number in hexadecimal.
-pub(crate) fn put_hex(buffer: &mut [u8], end: usize, number: u32) -> usize
+fn put_hex(buffer: &mut [u8], end: usize, number: u32) -> usize
     requires within { end ≤ length buffer.old }
     requires fits { 8 ≤ end }
     ensures written { drop result buffer.new ≡ numeral 16 number ++ drop end buffer.old }
@@ -295,6 +301,82 @@ pub(crate) fn put_hex(buffer: &mut [u8], end: usize, number: u32) -> usize
         rest /= 16;
     }
     put_byte(buffer, start, hex_digit(rest))
+}
+
+/// Writes a character of a text, raw or as an escape.
+pub(crate) fn put_escaped(buffer: &mut [u8], end: usize, c: char) -> usize
+    requires within { end ≤ length buffer.old }
+    requires fits { 16 ≤ end }
+    ensures written { drop result buffer.new ≡ escape_char c ++ drop end buffer.old }
+    ensures onward { result ≤ end }
+    ensures size { length buffer.new ≡ length buffer.old }
+{
+    if is_raw(c) {
+        let mut bytes = [0; 4];
+        put(buffer, end, c.encode_utf8(&mut bytes).as_bytes())
+    } else {
+        put_code_escape(buffer, end, u32::from(c))
+    }
+}
+
+/// Writes a code point in hexadecimal, between percent signs.
+fn put_code_escape(buffer: &mut [u8], end: usize, code: u32) -> usize
+    requires within { end ≤ length buffer.old }
+    requires fits { 16 ≤ end }
+    ensures written { drop result buffer.new ≡ code_escape code ++ drop end buffer.old }
+    ensures onward { result ≤ end }
+    ensures size { length buffer.new ≡ length buffer.old }
+{
+    let mark = put_byte(buffer, end, b'%');
+    let digits = put_hex(buffer, mark, code);
+    let zeros = escape_width(code).saturating_sub(mark - digits);
+    let padded = put_zeros(buffer, digits, zeros);
+    put_byte(buffer, padded, b'%')
+}
+
+/// Writes the fields before the user name, and the mark of the user name.
+#[inline(always)]
+pub(crate) fn put_head(buffer: &mut [u8], end: usize, version: &Version) -> usize
+    requires within { end ≤ length buffer.old }
+    requires fits { 128 ≤ end }
+    ensures written { drop result buffer.new ≡ head_text version.now ++ drop end buffer.old }
+    ensures onward { result ≤ end }
+    ensures size { length buffer.new ≡ length buffer.old }
+{
+    let start = put(buffer, end, b" u");
+    let start = put_number(buffer, start, version.uid());
+    let start = put(buffer, start, b" i");
+    let start = put_time(buffer, start, version.time());
+    let start = put(buffer, start, b" t");
+    let start = put_number(buffer, start, version.changeset());
+    let start = put(buffer, start, b" c");
+    let visible = if version.body().is_deleted() {
+        b'D'
+    } else {
+        b'V'
+    };
+    let start = put_byte(buffer, start, visible);
+    let start = put(buffer, start, b" d");
+    let start = put_number(buffer, start, version.number());
+    let start = put(buffer, start, b" v");
+    let start = put_integer(buffer, start, version.id());
+    put_byte(buffer, start, version.kind().letter())
+}
+
+/// Writes the fields of a location.
+#[inline(always)]
+pub(crate) fn put_location(buffer: &mut [u8], end: usize, lon: i32, lat: i32) -> usize
+    requires within { end ≤ length buffer.old }
+    requires fits { 62 ≤ end }
+    ensures written { drop result buffer.new ≡ location_text lon lat ++ drop end buffer.old }
+    ensures onward { result ≤ end }
+    ensures short { end ≤ result + 62 }
+    ensures size { length buffer.new ≡ length buffer.old }
+{
+    let start = put_coordinate(buffer, end, lat);
+    let start = put(buffer, start, b" y");
+    let start = put_coordinate(buffer, start, lon);
+    put(buffer, start, b" x")
 }
 
 /// The two digits of each number below 100, in sequence.
@@ -320,3 +402,6 @@ fn ones(number: u8) -> u8
 {
     PAIRS[2 * usize::from(number) + 1]
 }
+
+#[cfg(test)]
+mod tests;

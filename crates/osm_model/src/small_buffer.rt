@@ -1,28 +1,22 @@
 //! A buffer for a few bytes of a line.
-ghost use Rattle.std.specs.Prelude.{◌≡◌, ◌++◌, ◌∷◌, [], ◌≤◌, ◌<◌, ◌^◌};
-ghost use Rattle.std.specs.Prelude.{length, drop, MatchOption, OnOk};
-ghost use Rattle.std.specs.Option.{ForSome};
-ghost use Rattle.osm_model.specs.Decimal.{number_text, integer_text};
-ghost use Rattle.osm_model.specs.Coordinate.{coordinate_text};
-ghost use Rattle.osm_model.specs.Time.{time_text};
-ghost use Rattle.osm_model.specs.Escape.{code_escape, escape_char};
-ghost use Rattle.osm_model.specs.Extends.{Extends};
+ghost use Rattle.std.specs.Prelude.{◌≡◌, ◌++◌, ◌∷◌, [], ◌≤◌};
+ghost use Rattle.std.specs.Prelude.{length, drop, MatchOption};
+ghost use Rattle.osm_model.specs.Append.{head_text, location_text};
+ghost use Rattle.osm_model.specs.Decimal.{integer_text};
+ghost use Rattle.osm_model.specs.Escape.{escape_char};
 
-use crate::Memory;
-use crate::escape::{escape_width, is_raw};
-use crate::put::{
-    put, put_byte, put_coordinate, put_hex, put_integer, put_number, put_time, put_zeros,
-};
+use crate::Version;
+use crate::put::{put, put_escaped, put_head, put_integer, put_location};
 
-/// The size of a buffer in bytes. A mark and a coordinate, the longest content, take at most 31.
-const SMALL_BUFFER_BYTES: usize = 32;
+/// The size of a buffer in bytes. The longest content, the fields before the user name, takes fewer.
+const SMALL_BUFFER_BYTES: usize = 128;
 
-/// A buffer of at most 32 remaining bytes: those from `start` to the end of `bytes`.
+/// A buffer of at most 128 remaining bytes: those from `start` to the end of `bytes`.
 #[derive(Drop)]
 pub(crate) struct SmallBuffer {
     bytes: [u8; SMALL_BUFFER_BYTES],
     start: usize,
-    ghost within: { start ≤ 32 },
+    ghost within: { start ≤ 128 },
 }
 
 impl SmallBuffer {
@@ -44,15 +38,6 @@ impl SmallBuffer {
     {
         let room = &self.bytes[..];
         &room[self.start..]
-    }
-
-    /// Appends the remaining bytes to `out`.
-    pub(crate) fn append_to(&self, out: &mut Vec<u8>) -> Result<(), Memory>
-        ensures appended { OnOk result (out.new.items ≡ out.old.items ++ bytes_left self.now) }
-        ensures kept { Extends out.old.items out.new.items }
-    {
-        out.extend_from_slice(self.as_slice())?;
-        Ok(())
     }
 
     /// Drops the first `count` of the remaining bytes.
@@ -78,21 +63,12 @@ impl SmallBuffer {
         Some(byte)
     }
 
-    /// Fills the buffer with `bytes`, at most 32.
+    /// Fills the buffer with `bytes`, at most 128.
     pub(crate) fn set_bytes(&mut self, bytes: &[u8])
-        requires { length bytes.now ≤ 32 }
+        requires { length bytes.now ≤ 128 }
         ensures { bytes_left self.new ≡ bytes.now }
     {
         self.start = put(&mut self.bytes, SMALL_BUFFER_BYTES, bytes);
-    }
-
-    /// Fills the buffer with `mark`, which has at most 2 bytes, and then a number.
-    pub(crate) fn set_number(&mut self, mark: &[u8], number: u64)
-        requires { length mark.now ≤ 2 }
-        ensures { bytes_left self.new ≡ mark.now ++ number_text number }
-    {
-        let digits = put_number(&mut self.bytes, SMALL_BUFFER_BYTES, number);
-        self.start = put(&mut self.bytes, digits, mark);
     }
 
     /// Fills the buffer with `mark`, which has at most 2 bytes, and then an integer.
@@ -104,47 +80,28 @@ impl SmallBuffer {
         self.start = put(&mut self.bytes, digits, mark);
     }
 
-    /// Fills the buffer with `mark`, which has at most 2 bytes, and then a coordinate in units of 10^-7 degree.
-    pub(crate) fn set_coordinate(&mut self, mark: &[u8], units: i32)
-        requires { length mark.now ≤ 2 }
-        ensures { bytes_left self.new ≡ mark.now ++ coordinate_text units }
-    {
-        let digits = put_coordinate(&mut self.bytes, SMALL_BUFFER_BYTES, units);
-        self.start = put(&mut self.bytes, digits, mark);
-    }
-
-    /// Fills the buffer with `mark`, which has at most 2 bytes, and then a time in seconds since 1970-01-01T00:00:00Z.
-    pub(crate) fn set_time(&mut self, mark: &[u8], time: Option<u64>)
-        requires short { length mark.now ≤ 2 }
-        requires in_range { ForSome time (λ seconds. seconds < 2 ^ 32) }
-        ensures { bytes_left self.new ≡ mark.now ++ time_text time }
-    {
-        let digits = put_time(&mut self.bytes, SMALL_BUFFER_BYTES, time);
-        self.start = put(&mut self.bytes, digits, mark);
-    }
-
     /// Fills the buffer with a character of a text, raw or as an escape.
     pub(crate) fn set_escaped(&mut self, c: char)
         ensures { bytes_left self.new ≡ escape_char c }
     {
-        if is_raw(c) {
-            let mut buffer = [0; 4];
-            self.set_bytes(c.encode_utf8(&mut buffer).as_bytes());
-        } else {
-            self.set_code_escape(u32::from(c));
-        }
+        self.start = put_escaped(&mut self.bytes, SMALL_BUFFER_BYTES, c);
     }
 
-    /// Fills the buffer with a code point in hexadecimal, between percent signs.
-    fn set_code_escape(&mut self, code: u32)
-        requires { code < 0x11_0000 }
-        ensures { bytes_left self.new ≡ code_escape code }
+    /// Fills the buffer with the fields before the user name, and the mark of the user name.
+    pub(crate) fn set_head(&mut self, version: &Version)
+        ensures { bytes_left self.new ≡ head_text version.now }
     {
-        let end = put_byte(&mut self.bytes, SMALL_BUFFER_BYTES, b'%');
-        let digits = put_hex(&mut self.bytes, end, code);
-        let zeros = escape_width(code).saturating_sub(end - digits);
-        let padded = put_zeros(&mut self.bytes, digits, zeros);
-        self.start = put_byte(&mut self.bytes, padded, b'%');
+        self.start = put_head(&mut self.bytes, SMALL_BUFFER_BYTES, version);
+    }
+
+    /// Fills the buffer with `mark`, which has at most 2 bytes, and then the fields of a location, which
+    /// is in units of 10^-7 degree.
+    pub(crate) fn set_location(&mut self, mark: &[u8], lon: i32, lat: i32)
+        requires { length mark.now ≤ 2 }
+        ensures { bytes_left self.new ≡ mark.now ++ location_text lon lat }
+    {
+        let location = put_location(&mut self.bytes, SMALL_BUFFER_BYTES, lon, lat);
+        self.start = put(&mut self.bytes, location, mark);
     }
 }
 

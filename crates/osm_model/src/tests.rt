@@ -416,9 +416,9 @@ fn a_line_is_given_in_runs(rt: HostRuntime) -> Result<(), Fail> {
     let v = deleted(rt.alloc(), Kind::Way, 1)?;
     let mut bytes = v.line_bytes();
     assert!(rt; bytes.advance());
-    assert_eq!(rt; bytes.chunk(), b"w1".as_slice());
+    assert_eq!(rt; bytes.chunk(), b"w1 v1 dD c0 t i0 u".as_slice());
     assert!(rt; bytes.advance());
-    assert_eq!(rt; bytes.chunk(), b" v1".as_slice());
+    assert_eq!(rt; bytes.chunk(), b" T".as_slice());
     Ok(())
 }
 
@@ -507,6 +507,129 @@ fn versions_are_ordered(rt: HostRuntime) -> Result<(), Fail> {
         for (j, right) in versions.iter().enumerate() {
             assert!(rt; compare(left, right, i.cmp(&j)));
         }
+    }
+    Ok(())
+}
+
+/// The fields of a version 1 of the object 1 at the time 1, in the order of its line.
+type Fields = (u64, u64, &'static str, &'static str, Shape);
+
+/// The fields after the tags.
+#[derive(Clone, Copy)]
+enum Shape {
+    /// The location of a node.
+    Location(i32, i32),
+    /// The references of a way.
+    References(&'static [i64]),
+    /// The roles of a relation's members; each member is the node 1.
+    Roles(&'static [&'static str]),
+}
+
+/// The version of some fields. The key of its tag may be empty: then it has no tags.
+fn version_of(alloc: Global, (changeset, uid, user, key, shape): Fields) -> Result<Version, Fail> {
+    let mut list = Vec::new(alloc);
+    if !key.is_empty() {
+        list.push(tag(alloc, key, "1")?)?;
+    }
+    let tags = Tags::from_vec(list);
+    let body = match shape {
+        Shape::Location(lon, lat) => Body::Node { lon, lat, tags },
+        Shape::References(ids) => {
+            let mut refs = Vec::new(alloc);
+            refs.extend_from_slice(ids)?;
+            let refs = References::from_vec(refs);
+            Body::Way { refs, tags }
+        }
+        Shape::Roles(roles) => {
+            let mut members = Vec::new(alloc);
+            for role in roles {
+                members.push(Member {
+                    kind: Kind::Node,
+                    id: 1,
+                    role: text(alloc, role)?,
+                })?;
+            }
+            let members = Members::from_vec(members);
+            Body::Relation { members, tags }
+        }
+    };
+    let author = meta(alloc, 1, Some(1), changeset, uid, user)?;
+    Ok(Version::new(alloc, 1, author, body)?)
+}
+
+/// The order of two versions, as a text.
+fn order_of(alloc: Global, left: Fields, right: Fields) -> Result<&'static str, Fail> {
+    let (left, right) = (version_of(alloc, left)?, version_of(alloc, right)?);
+    let (order, other_order) = (left.cmp(&right), right.cmp(&left));
+    Ok(match (order, other_order) {
+        (Ordering::Less, Ordering::Greater) => "before",
+        (Ordering::Greater, Ordering::Less) => "after",
+        (Ordering::Equal, Ordering::Equal) => "the same",
+        _ => "no order",
+    })
+}
+
+/// A line is compared run by run. A run ends before and after each text, and where an escape begins or ends.
+#[test]
+fn lines_are_compared_run_by_run(rt: HostRuntime) -> Result<(), Fail> {
+    let alloc = rt.alloc();
+    let here = Shape::Location(10_000_000, 10_000_000);
+    for (left, right) in [
+        // each field
+        ((1, 1, "a", "k", here), (2, 1, "a", "k", here)),
+        ((1, 1, "a", "k", here), (1, 2, "a", "k", here)),
+        ((1, 1, "a", "k", here), (1, 1, "b", "k", here)),
+        ((1, 1, "a", "k", here), (1, 1, "a", "l", here)),
+        (
+            (1, 1, "a", "", here),
+            (1, 1, "a", "", Shape::Location(20_000_000, 0)),
+        ),
+        (
+            (1, 1, "a", "k", Shape::Location(10_000_000, 0)),
+            (1, 1, "a", "k", here),
+        ),
+        (
+            (1, 1, "a", "", Shape::References(&[1, 2])),
+            (1, 1, "a", "", Shape::References(&[1, 3])),
+        ),
+        (
+            (1, 1, "a", "", Shape::Roles(&["a", "b"])),
+            (1, 1, "a", "", Shape::Roles(&["a", "c"])),
+        ),
+        // a field that ends before the other: the space, comma or equals sign after it decides
+        ((1, 1, "a", "k", here), (10, 1, "a", "k", here)),
+        ((1, 1, "a", "k", here), (1, 10, "a", "k", here)),
+        ((1, 1, "a", "k", here), (1, 1, "ab", "k", here)),
+        ((1, 1, "", "k", here), (1, 1, "a", "k", here)),
+        ((1, 1, "a", "", here), (1, 1, "a", "k", here)),
+        ((1, 1, "a", "k", here), (1, 1, "a", "kk", here)),
+        // an escape, and what is after it
+        ((1, 1, "a b", "k", here), (1, 1, "ab", "k", here)),
+        ((1, 1, "a b", "k", here), (1, 1, "a c", "k", here)),
+        ((1, 1, "a ", "k", here), (1, 1, "a b", "k", here)),
+        // a line that begins with the whole other line
+        (
+            (1, 1, "a", "", here),
+            (1, 1, "a", "", Shape::Location(10_000_000, 15_000_000)),
+        ),
+        (
+            (1, 1, "a", "", Shape::References(&[])),
+            (1, 1, "a", "", Shape::References(&[1])),
+        ),
+        (
+            (1, 1, "a", "", Shape::References(&[1])),
+            (1, 1, "a", "", Shape::References(&[1, 2])),
+        ),
+        (
+            (1, 1, "a", "", Shape::Roles(&[])),
+            (1, 1, "a", "", Shape::Roles(&[""])),
+        ),
+        (
+            (1, 1, "a", "", Shape::Roles(&["a"])),
+            (1, 1, "a", "", Shape::Roles(&["a b"])),
+        ),
+    ] {
+        assert_eq!(rt; order_of(alloc, left, right)?, "before");
     }
     Ok(())
 }

@@ -1,9 +1,8 @@
-use Rattle.std.proofs.Common.{rules}
-use Rattle.osm_model.proofs.EscapeLaws.{escape_char-raw, escape_char-other}
+use Rattle.std.proofs.Common.{rules, append-nil}
+use Rattle.std.proofs.lemmas.List.{drop_all}
 use Rattle.osm_model.proofs.small_buffer.SmallBuffer.set_escaped.Goals as goal
 
-pub returns-then-is_raw : goal.returns-then-is_raw
-returns-then-is_raw c = rw (escape_char-raw c.args.c (search rules)) (search rules)
-
-pub returns-else-is_raw : goal.returns-else-is_raw
-returns-else-is_raw c = rw (escape_char-other c.args.c (search rules)) (search rules)
+pub returns : goal.returns
+returns c =
+    let nothing = drop_all 128 c.args.self.now.bytes (search rules) in
+    rw (nothing, append-nil) at c.put_escaped-self.ensures.written

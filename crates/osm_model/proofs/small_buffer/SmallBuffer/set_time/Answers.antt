@@ -1,9 +1,0 @@
-use Rattle.std.proofs.Common.{◌++◌, rules, ap, ◌∙◌, append-nil}
-use Rattle.std.proofs.lemmas.List.{drop_all}
-use Rattle.osm_model.proofs.small_buffer.SmallBuffer.set_time.Goals as goal
-
-pub returns : goal.returns
-returns c =
-    let nothing = drop_all 32 c.args.self.now.bytes (search rules) in
-    let digits = rw (nothing, append-nil) at c.put_time-digits.ensures.written in
-    c.put-self.ensures.written ∙ ap (λ t. c.args.mark.now ++ t) digits
