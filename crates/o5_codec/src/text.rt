@@ -107,8 +107,7 @@ pub(crate) fn known_text(alloc: Global, bytes: &[u8]) -> Result<Option<Text>, Me
 {
     match to_str(bytes) {
         Ok(characters) => {
-            let mut text = Text::from_str(alloc, characters)?;
-            text.mark_plain();
+            let text = Text::from_tested_str(alloc, characters)?;
             Ok(Some(text))
         }
         Err(_) => Ok(None),

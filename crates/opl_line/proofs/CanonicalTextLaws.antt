@@ -12,7 +12,7 @@ use Rattle.std.specs.List.{list_all}
 use Rattle.std.specs.Str.{chars, IsUtf8}
 use lib.Utf8.{encode, encodes, scalar, scalars}
 use Rattle.osm_model.specs.Text.{is_text, has_zero}
-use Rattle.osm_model.specs.Escape.{escape, escape_char, is_raw, is_raw_byte}
+use Rattle.osm_model.specs.Escape.{escape, escape_char, is_raw, is_raw_byte, IsPlain}
 use Rattle.osm_model.proofs.EscapeLaws.{escape_char-raw, length-escape_char-some}
 use Rattle.osm_model.proofs.TextLaws.{text_chars}
 use Rattle.opl_line.specs.Straight.{AreRaw}
@@ -137,6 +137,11 @@ read_more bytes text rest more form after now so_far e is valid n = record {
       ∙ ap (λ t. t ++ after) (ap (λ t. escape text ++ t) (sym is) ∙ sym (flat_map-append escape_char text more) ∙ ap escape (sym n));
   valid = ap is_text n ∙ text_append text more so_far.valid valid;
 }
+
+-- raw characters are written as themselves
+pub raw_plain : (bytes : List ℕ) → AreRaw bytes → IsPlain bytes
+raw_plain bytes are =
+    ap escape (text_chars bytes are.characters (raw_utf8 bytes are) are.spelled) ∙ raw_escape are.characters are.raw ∙ sym are.spelled
 
 -- raw characters after the text that was read are read, too
 pub read_raw : (bytes text rest raw after now : List ℕ) → IsReadTo bytes text rest → AreRaw raw → rest ≡ raw ++ after →

@@ -90,8 +90,7 @@ fn both_writers_write_users_that_are_plain(rt: HostRuntime) -> Result<(), Fail> 
         ("as_many_as_lie_within_it", "as_many_as_lie_within_it"),
         ("a b", "a%20%b"),
     ] {
-        let mut user = Text::from_str(alloc, name)?;
-        user.mark_plain();
+        let user = Text::from_tested_str(alloc, name)?;
         let meta = Meta {
             version: 1,
             time: Some(1),

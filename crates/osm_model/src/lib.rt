@@ -37,7 +37,6 @@ pub use line_bytes::LineBytes;
 pub use members::{Member, Members};
 pub use memory::Memory;
 pub use meta::Meta;
-pub use rank::Rank;
 pub use ranked::Ranked;
 pub use references::References;
 pub use spare::Spare;

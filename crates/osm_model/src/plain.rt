@@ -1,14 +1,13 @@
 //! Short texts of which each character is written raw.
 //!
 //! Why: one copy appends such a text to a line. A merge from o5m to OPL then takes 0.94 to 0.96 of the time.
-//! Assumes: the text has at most 24 bytes, and `Text::mark_plain` has tested it.
+//! Assumes: the text has at most 24 bytes, and its characters are raw. The straight OPL reader knows that of the texts
+//! that it reads (`Text::from_raw`), and `Text::from_tested_str` tests it.
 //! Otherwise: the text is escaped character by character.
-//! Compared by: `a_look_changes_no_text` and `both_writers_write_users_that_are_plain`.
-ghost use Rattle.std.specs.Prelude.{◌≡◌, ◌≤◌, ◌↔◌, length, IsSome, IfSome};
-ghost use Rattle.std.specs.Str.{chars};
-ghost use Rattle.osm_model.specs.Escape.{raw_length, IsPlain};
+//! Compared by: `a_test_changes_no_text` and `both_writers_write_users_that_are_plain`.
+ghost use Rattle.std.specs.Prelude.{◌≡◌, ◌≤◌, length};
+ghost use Rattle.osm_model.specs.Escape.{IsPlain};
 
-use crate::escape::raw_length;
 use arrayvec::ArrayString;
 
 /// The greatest number of bytes of a text without memory of its own. Most user names, keys and values have fewer.
@@ -22,16 +21,13 @@ pub(crate) struct PlainString {
 }
 
 impl PlainString {
-    /// The string, if each of its characters is written as itself.
-    pub(crate) fn of(string: &ArrayString<INLINE_TEXT_BYTES>) -> Option<PlainString>
-        ensures variant { IsSome result ↔ (raw_length (chars string.now.bytes) ≡ length string.now.bytes) }
-        ensures bytes { IfSome result (λ p. p.string.bytes ≡ string.now.bytes) }
+    /// A string each of whose characters is written as itself.
+    #[inline(always)]
+    pub(crate) fn new(string: ArrayString<INLINE_TEXT_BYTES>) -> PlainString
+        requires { IsPlain string.bytes }
+        ensures { result.string.bytes ≡ string.bytes }
     {
-        let text = string.as_str();
-        if raw_length(text) != text.len() {
-            return None;
-        }
-        Some(PlainString { string: *string })
+        PlainString { string }
     }
 
     /// The text as a slice.

@@ -13,7 +13,7 @@ const RANKED_NUMBER_LIMIT: u64 = (1 << 16) - 1;
 /// The rank of a version: a number that is made of its key. A version of a lower rank is less, so ranks decide nearly
 /// all comparisons of versions without a look at their data. Different versions can have the same rank.
 #[derive(Clone, Copy, Debug, PartialEq, Eq, PartialOrd, Ord)]
-pub struct Rank {
+pub(crate) struct Rank {
     value: u64,
 }
 
@@ -21,7 +21,7 @@ impl Version {
     /// The rank: the kind, the sign and the absolute value of the id, and the version number, as far as 64 bits hold
     /// them.
     #[inline(always)]
-    pub fn rank(&self) -> Rank
+    pub(crate) fn rank(&self) -> Rank
         ensures { result.value ≡ rank_of self.now }
     {
         let id = self.id();

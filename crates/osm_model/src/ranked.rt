@@ -11,7 +11,8 @@ ghost use Rattle.std.specs.Cmp.{eq_by_cmp_equiv, partial_equiv_from_equiv, parti
 ghost use Rattle.osm_model.specs.Order.{version_cmp, version_cmp_total};
 ghost use Rattle.osm_model.specs.Rank.{rank_of};
 
-use crate::{Memory, Rank, Version};
+use crate::rank::Rank;
+use crate::{Memory, Version};
 use std::cmp::Ordering;
 use std::marker::Model;
 

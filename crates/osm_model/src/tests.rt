@@ -1,8 +1,9 @@
 //! Calls each public function once, and compares its results with values worked out by hand.
+use crate::rank::Rank;
 use crate::version::first_fault;
 use crate::{
-    Body, History, Kind, Member, Members, Memory, Meta, Parts, Rank, Ranked, References, Spare,
-    Tag, Tags, Text, ValueFault, Version, is_id, strip_escaped,
+    Body, History, Kind, Member, Members, Memory, Meta, Parts, Ranked, References, Spare, Tag,
+    Tags, Text, ValueFault, Version, is_id, strip_escaped,
 };
 use std::alloc::{AllocError, Global};
 use std::cmp::Ordering;
@@ -243,6 +244,37 @@ fn memory_of_a_version_is_used_again(rt: HostRuntime) -> Result<(), Fail> {
     let tags = Tags::from_vec(vec![in alloc; tag(alloc, "e", "f")?]?);
     let same = Version::new(alloc, 9, number(alloc, 1), Body::Node { lon, lat, tags })?;
     assert_eq!(rt; node, same);
+    Ok(())
+}
+
+/// What a `Spare` does with a list of `count` references that has memory for `capacity`.
+fn spare_memory(alloc: Global, capacity: usize, count: usize) -> Result<&'static str, Fail> {
+    let mut list = Vec::with_capacity(alloc, capacity)?;
+    for _reference in 0..count {
+        list.push(7)?;
+    }
+    let refs = References::from_vec(list);
+    let tags = no_tags(alloc);
+    let way = Version::new(alloc, 1, number(alloc, 1), Body::Way { refs, tags })?;
+    let mut spare = Spare::new(alloc);
+    spare.put(way);
+    let is_kept = spare.take_references().capacity() >= capacity;
+    Ok(if is_kept { "kept" } else { "freed" })
+}
+
+#[test]
+fn memory_far_above_the_need_is_freed(rt: HostRuntime) -> Result<(), Fail> {
+    let alloc = rt.alloc();
+    for (capacity, count, outcome) in [
+        (1024, 1, "kept"),
+        (1025, 1, "freed"),
+        (4096, 1023, "freed"),
+        (4096, 1024, "kept"),
+        (32_000, 5, "freed"),
+        (32_000, 32_000, "kept"),
+    ] {
+        assert_eq!(rt; spare_memory(alloc, capacity, count)?, outcome);
+    }
     Ok(())
 }
 

@@ -3,11 +3,12 @@ ghost use Rattle.std.specs.Prelude.{◌≡◌, ◌≤◌, ◌++◌, [], IfErr, I
 ghost use Rattle.std.specs.Prelude.{length, encode_utf8_all, string_bytes};
 ghost use Rattle.std.specs.Bool.{OnFalse};
 ghost use Rattle.std.specs.Str.{chars};
-ghost use Rattle.osm_model.specs.Escape.{escape};
+ghost use Rattle.osm_model.specs.Escape.{escape, IsPlain};
 ghost use Rattle.osm_model.specs.Storage.{bytes_of, is_heap};
 ghost use Rattle.osm_model.specs.Text.{is_text, is_empty};
 
 use crate::Memory;
+use crate::escape::raw_length;
 use crate::plain::{INLINE_TEXT_BYTES, PlainString};
 use crate::same::Same;
 use arrayvec::ArrayString;
@@ -139,8 +140,53 @@ impl Text {
             Ok(string) => Ok(Text {
                 storage: Storage::Inline(string),
             }),
-            Err(_) => Ok(Text::from_string(String::from_str(alloc, characters)?)),
+            Err(_) => Text::from_long_str(alloc, characters),
         }
+    }
+
+    /// The text of some characters, as [`Text::from_str`] makes it. Each character has to be one that a line has as
+    /// itself. A text of at most 24 bytes is marked as plain: it, and each copy of it, is written without a test.
+    ///
+    /// # Errors
+    ///
+    /// Only out of memory.
+    #[inline(always)]
+    pub fn from_raw(alloc: Global, characters: &str) -> Result<Text, Memory>
+        requires { IsPlain characters.now }
+        ensures bytes { IfOk result (λ t. encode_utf8_all t ≡ characters.now) }
+        ensures characters { IfOk result (λ t. t ≡ chars characters.now) }
+    {
+        match ArrayString::from(characters) {
+            Ok(string) => Ok(Text {
+                storage: Storage::InlineRaw(PlainString::new(string)),
+            }),
+            Err(_) => Text::from_long_str(alloc, characters),
+        }
+    }
+
+    /// The text of some characters, as [`Text::from_str`] makes it. A text of at most 24 bytes is marked as plain if a
+    /// line has each of its characters as itself.
+    ///
+    /// # Errors
+    ///
+    /// Only out of memory.
+    pub fn from_tested_str(alloc: Global, characters: &str) -> Result<Text, Memory>
+        ensures bytes { IfOk result (λ t. encode_utf8_all t ≡ characters.now) }
+        ensures characters { IfOk result (λ t. t ≡ chars characters.now) }
+    {
+        if characters.len() <= INLINE_TEXT_BYTES && raw_length(characters) == characters.len() {
+            Text::from_raw(alloc, characters)
+        } else {
+            Text::from_str(alloc, characters)
+        }
+    }
+
+    /// The text of some characters, in memory of its own.
+    fn from_long_str(alloc: Global, characters: &str) -> Result<Text, Memory>
+        ensures bytes { IfOk result (λ t. encode_utf8_all t ≡ characters.now) }
+        ensures characters { IfOk result (λ t. t ≡ chars characters.now) }
+    {
+        Ok(Text::from_string(String::from_str(alloc, characters)?))
     }
 
     /// The text of a string. The string is moved, not copied.
@@ -181,19 +227,6 @@ impl Text {
         ensures kept { OnErr result (self.new ≡ self.old) }
     {
         self.storage.push_str(alloc, characters)
-    }
-
-    /// Tests whether the text is plain, and keeps the result. A text is plain if the value itself holds its bytes and
-    /// each of its characters is written as itself in a line. A text that is known to be plain, and each copy of it, is
-    /// written without another test. The call allocates nothing.
-    pub fn mark_plain(&mut self)
-        ensures { self.new ≡ self.old }
-    {
-        if let Storage::Inline(string) = &self.storage {
-            if let Some(plain) = PlainString::of(string) {
-                self.storage = Storage::InlineRaw(plain);
-            }
-        }
     }
 
     /// The bytes of the text in a line, if it is known to be plain.

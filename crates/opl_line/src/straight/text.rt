@@ -29,7 +29,7 @@ pub(crate) fn parse_text(alloc: Global, bytes: &[u8]) -> Option<(Text, &[u8])>
     }
     // SAFETY: these bytes are raw characters of one byte, so they are ASCII.
     let raw = unsafe { str::from_utf8_unchecked(&bytes[..length]) };
-    let Ok(text) = Text::from_str(alloc, raw) else {
+    let Ok(text) = Text::from_raw(alloc, raw) else {
         return None;
     };
     Some((text, &bytes[length..]))

@@ -1,4 +1,4 @@
-//! Texts that `mark_plain` found to be plain or not.
+//! Texts that were tested whether they are plain.
 use crate::same::Same;
 use crate::{Body, Kind, Meta, Tags, Text, Version};
 use std::alloc::Global;
@@ -20,11 +20,9 @@ const TEXTS: [(&str, &str, bool); 8] = [
     ),
 ];
 
-/// A text after `mark_plain`.
-fn looked_at(alloc: Global, characters: &str) -> Result<Text, Fail> {
-    let mut text = Text::from_str(alloc, characters)?;
-    text.mark_plain();
-    Ok(text)
+/// A text that was tested.
+fn tested(alloc: Global, characters: &str) -> Result<Text, Fail> {
+    Ok(Text::from_tested_str(alloc, characters)?)
 }
 
 /// The line of a deletion by `user`.
@@ -48,10 +46,10 @@ fn line_with(alloc: Global, user: Text, body: Body) -> Result<Vec<u8>, Fail> {
 }
 
 #[test]
-fn a_look_changes_no_text(rt: HostRuntime) -> Result<(), Fail> {
+fn a_test_changes_no_text(rt: HostRuntime) -> Result<(), Fail> {
     let alloc = rt.alloc();
     for (characters, escaped, is_plain) in TEXTS {
-        let text = looked_at(alloc, characters)?;
+        let text = tested(alloc, characters)?;
         let other = Text::from_str(alloc, characters)?;
         assert_eq!(rt;
             (text.plain().is_some(), other.plain().is_some()),
@@ -83,7 +81,7 @@ fn a_node_without_tags_has_one_line(rt: HostRuntime) -> Result<(), Fail> {
         let expected = format!(in alloc;
             "n1 v1 dV c1 t1970-01-01T00:00:01Z i1 u{escaped} T x9.5400001 y-0.5"
         )?;
-        let text = looked_at(alloc, characters)?;
+        let text = tested(alloc, characters)?;
         assert_eq!(rt;
             line_with(alloc, text, bare_node(alloc))?.as_slice(),
             expected.as_bytes()
@@ -95,7 +93,7 @@ fn a_node_without_tags_has_one_line(rt: HostRuntime) -> Result<(), Fail> {
 #[test]
 fn copies_of_plain_texts_are_plain(rt: HostRuntime) -> Result<(), Fail> {
     let alloc = rt.alloc();
-    let (plain, other) = (looked_at(alloc, "ä")?, looked_at(alloc, "a b")?);
+    let (plain, other) = (tested(alloc, "ä")?, tested(alloc, "a b")?);
     assert!(rt; plain.copy()?.plain().is_some());
     let mut target = Text::new();
     for (text, is_plain) in [
@@ -123,7 +121,7 @@ fn what_is_after_a_plain_text_may_not_be(rt: HostRuntime) -> Result<(), Fail> {
             "a of which not all lies within",
         ),
     ] {
-        let mut text = looked_at(alloc, "a")?;
+        let mut text = tested(alloc, "a")?;
         text.push_str(alloc, more)?;
         assert_eq!(rt; (text.as_str(), text.plain().is_some()), (whole, false));
     }
@@ -149,7 +147,7 @@ fn texts_give_their_strings_back(rt: HostRuntime) -> Result<(), Fail> {
     ] {
         let text = Text::from_string(String::from_str(alloc, characters)?);
         assert_eq!(rt; given_back(text, characters), "string");
-        let copy = looked_at(alloc, characters)?;
+        let copy = tested(alloc, characters)?;
         assert_eq!(rt; given_back(copy, characters), form_of_a_copy);
     }
     Ok(())
