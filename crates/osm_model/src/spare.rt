@@ -3,7 +3,8 @@
 //! Why: to allocate and free a block costs as much as to read three numbers, and a merge drops one version for each
 //! that it reads.
 //! Assumes: nothing about the memory; a version made in it has the same data as one made in new memory.
-//! Otherwise: if no version was given back, new memory is allocated.
+//! Otherwise: if no version was given back, new memory is allocated. A long list of which less than a quarter was used
+//! is freed.
 //! Compared by: `memory_of_a_version_is_used_again`.
 ghost use Rattle.std.specs.Prelude.{◌≡◌, []};
 
@@ -97,12 +98,22 @@ impl Spare {
     }
 }
 
-/// Replaces `kept` by `list`, if `list` has memory.
+/// A list with memory for at most 1024 items is kept, however few it holds.
+const SMALL_LIST: usize = 1024;
+
+/// Replaces `kept` by `list`, if `list` has memory, but not far more than it needs.
 #[inline(always)]
 fn keep<T: Drop>(kept: &mut Vec<T>, list: Vec<T>) {
-    if list.capacity() > 0 {
+    if list.capacity() > 0 && !is_oversized(list.capacity(), list.len()) {
         *kept = list;
     }
+}
+
+/// Whether less than a quarter of a long list's memory is used. Such a list is dropped: otherwise each reader would
+/// hold the memory of the largest version that it ever read.
+#[inline(always)]
+fn is_oversized(capacity: usize, len: usize) -> bool {
+    capacity > SMALL_LIST && len < capacity / 4
 }
 
 /// Takes the list out of `kept`, and empties it.
