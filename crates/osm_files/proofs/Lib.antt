@@ -33,3 +33,7 @@ mod LineStarts
 pub mod FirstLaws
 mod WholeLinesLaws
 mod EndMarkLaws
+mod ByteLaws
+mod ExtentLaws
+mod OpenLaws
+pub mod RunBytes

@@ -15,6 +15,9 @@ pub mod O5
 pub mod Units
 pub mod Held
 pub mod SortedRun
+pub mod ReadAt
+pub mod Extent
+pub mod ExtentGives
 pub mod Verdict
 pub mod Laws
 pub mod Reading

@@ -1,5 +1,5 @@
 //! Inputs, from which the bytes of a file come.
-ghost use Rattle.std.specs.Prelude.{◌≡◌, ◌<◌, ◌≤◌, Ok, [], length, take, min, IfOk, OnErr, refl};
+ghost use Rattle.std.specs.Prelude.{◌≡◌, ◌↔◌, ◌<◌, ◌≤◌, IsTrue, Ok, [], length, take, min, IfOk, OnErr, refl};
 ghost use Rattle.osm_files.specs.Input.{InputRest, whole_input, broken_input, Gave, CanGive, whole_left, can_give_all};
 
 use std::io::Read;
@@ -57,6 +57,13 @@ impl<'a> SliceIn<'a> {
         ensures { result ≡ bytes.now }
     {
         SliceIn { rest: bytes }
+    }
+
+    /// Whether all bytes were read.
+    pub(crate) fn is_empty(&self) -> bool
+        ensures { IsTrue result ↔ (self.now ≡ []) }
+    {
+        self.rest.is_empty()
     }
 }
 

@@ -3,7 +3,9 @@
 #![tactic(auto)]
 
 mod end_mark;
+mod extent;
 mod fault;
+mod file_runs;
 mod format;
 mod group;
 mod history_source;
@@ -13,6 +15,7 @@ mod lines;
 mod load;
 mod output;
 mod placed;
+mod read_at;
 mod read_buffer;
 mod reading;
 mod reason;
@@ -25,13 +28,16 @@ mod whole_lines;
 mod write;
 
 pub use end_mark::EndMarked;
+pub use extent::{Extent, FramedExtent};
 pub use fault::{Fault, LENGTH_LIMIT};
+pub use file_runs::find_runs;
 pub use format::{FORMAT_NAMES, Format};
 pub use history_source::HistorySource;
 pub use input::{Broken, FromRead, Input, SliceIn};
 pub use lines::{OpenAt, first_version, line_start};
 pub use load::{Loaded, load_any};
 pub use output::{Output, ToWrite, VecOut};
+pub use read_at::{FromFile, ReadAt};
 pub use reason::Reason;
 pub use sink::{Sink, write_history};
 pub use sorted_run::{BytesAtSplit, SortedRun};

@@ -1,5 +1,5 @@
 //! Files split into runs, from the front on.
-ghost use Rattle.std.specs.Prelude.{◌≡◌, ℕ, ◌<◌, ◌^◌, List, length, IfOk, OnErr};
+ghost use Rattle.std.specs.Prelude.{◌≡◌, [], ℕ, ◌<◌, ◌^◌, List, length, IfOk, OnErr};
 ghost use Rattle.osm_files.specs.SortedRun as spec;
 
 use crate::sorted_run::{BytesAtSplit, SortedRun};
@@ -27,7 +27,8 @@ impl Model for SplitFile {
 impl SplitFile {
     /// A file that isn't split yet: its only run is the whole file.
     pub fn new(alloc: Global) -> SplitFile
-        ensures { (file : List ℕ) → length file < 2 ^ 64 → spec.IsSplitIntoRuns file (spec.runs_of result) }
+        ensures runs { (file : List ℕ) → length file < 2 ^ 64 → spec.IsSplitIntoRuns file (spec.runs_of result) }
+        ensures one { result.fronts ≡ [] }
     {
         SplitFile {
             fronts: Vec::new(alloc),

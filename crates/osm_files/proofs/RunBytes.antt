@@ -1,0 +1,44 @@
+-- The bytes that a run of a file gives.
+use Rattle.std.proofs.Common.{◌≡◌, ⊎_elim, ℕ, ◌+◌, ◌-◌, ◌≤◌, min, nat_lt, false, cond, List, [], ◌++◌, length, take, drop, Some, arith}
+use Rattle.std.proofs.Common.{sym, ap, ◌∙◌}
+use Rattle.std.proofs.Math.Seq.{take-append_seam}
+use Rattle.std.proofs.lemmas.Bool.{cases_lt}
+use Rattle.std.proofs.lemmas.Bool.Decides.{nat_tests}
+use Rattle.std.proofs.lemmas.List.{take_all, length-drop}
+use Rattle.osm_files.specs.declared.sorted_run.SortedRun.{SortedRun}
+use Rattle.osm_files.specs.Input.{InputRest}
+use Rattle.osm_files.specs.SortedRun.{bytes_before, bytes_after, run_bytes}
+use Rattle.osm_files.specs.Extent.{GivesExtent, GivesRun}
+
+-- more bytes than there are
+take_capped : (n m : ℕ) (xs : List ℕ) → n ≡ min m (length xs) → take n xs ≡ take m xs
+take_capped n m xs is = ⊎_elim
+    (λ few. ap (λ k. take k xs) (omega (arith, is, few)))
+    (λ many. take_all n xs (omega (arith, is, many)) ∙ sym (take_all m xs (omega (arith, many))))
+    (cases_lt m (length xs))
+
+module _ (Fails : Type 0) (all : List ℕ) (start size : ℕ) (given : InputRest)
+    (gives : GivesExtent Fails (Some all) start (min (start + size) (length all)) given) (unbroken : given.broken ≡ false) where
+  whole_length : length given.bytes ≡ min size (length (drop start all))
+  whole_length =
+      let end : ℕ = min (start + size) (length all) in
+      let tested : nat_lt (length given.bytes) (end - start) ≡ false = sym gives.broken ∙ unbroken in
+      let full : end - start ≤ length given.bytes = grind (arith, nat_tests) in
+      omega (arith, full, gives.within, length-drop start all)
+
+  -- An extent that doesn't fail gives the bytes of the file.
+  pub extent_is : given.bytes ≡ take size (drop start all)
+  extent_is =
+      let bytes = gives.bytes in
+      sym (ap (take (length given.bytes)) bytes.1 ∙ take-append_seam given.bytes bytes.0)
+      ∙ take_capped (length given.bytes) size (drop start all) whole_length
+
+-- A run that doesn't fail gives the run's bytes.
+pub run_given : (Fails : Type 0) (all : List ℕ) (run : SortedRun) (size : ℕ) (c : InputRest) → length all ≡ size
+    → GivesRun Fails (Some all) run size c → c.broken ≡ false → c.bytes ≡ run_bytes run all
+run_given Fails all run size c length_is (given, gives, is) unbroken =
+    let well : given.broken ≡ false = ap (λ d. d.broken) (sym is) ∙ unbroken in
+    let same : GivesExtent Fails (Some all) run.start (min (run.start + run.size) (length all)) given =
+    rw length_is gives in
+    let extent : given.bytes ≡ take run.size (drop run.start all) = extent_is Fails all run.start run.size given same well in
+    ap (λ d. d.bytes) is ∙ (λ i. bytes_before run ++ (extent i ++ cond (well i) [] (bytes_after run)))
