@@ -11,6 +11,9 @@ use std::marker::Model;
 /// The most bytes that one read asks for.
 const MAX_CHUNK: usize = 65536;
 
+/// A buffer of at most this many bytes isn't made smaller.
+const SMALL_BUFFER: usize = 4 * MAX_CHUNK;
+
 /// The bytes held: those that an input gave and that belong to no unit read so far. In contracts the buffer is the list
 /// of these bytes.
 #[derive(Drop)]
@@ -85,6 +88,17 @@ impl ReadBuffer {
         self.buffer.copy_within(self.from..self.end, 0);
         self.end -= self.from;
         self.from = 0;
+        self.shrink();
+    }
+
+    /// Frees the memory after the bytes held, if a large buffer uses less than a quarter of its memory for them.
+    fn shrink(&mut self)
+        ensures { self.new ≡ self.old }
+    {
+        if self.buffer.len() > SMALL_BUFFER && self.end < self.buffer.len() / 4 {
+            self.buffer.truncate(self.end);
+            self.buffer.shrink_to_fit();
+        }
     }
 
     /// Reads at most `most` more bytes into the buffer, and returns the number of bytes read; 0 at the end of input.
