@@ -91,13 +91,18 @@ impl ReadBuffer {
         self.shrink();
     }
 
-    /// Frees the memory after the bytes held, if a large buffer uses less than a quarter of its memory for them.
+    /// Replaces a large buffer that uses less than a quarter of its memory, unless out of memory. The whole block is
+    /// freed: a block that is cut off keeps other blocks apart.
     fn shrink(&mut self)
         ensures { self.new ≡ self.old }
     {
-        if self.buffer.len() > SMALL_BUFFER && self.end < self.buffer.len() / 4 {
-            self.buffer.truncate(self.end);
-            self.buffer.shrink_to_fit();
+        if self.buffer.len() <= SMALL_BUFFER || self.end >= self.buffer.len() / 4 {
+            return;
+        }
+        let alloc = *self.buffer.allocator();
+        let mut smaller = Vec::new(alloc);
+        if smaller.extend_from_slice(&self.buffer[..self.end]).is_ok() {
+            self.buffer = smaller;
         }
     }
 
