@@ -37,3 +37,4 @@ mod ByteLaws
 mod ExtentLaws
 mod OpenLaws
 pub mod RunBytes
+mod FileRunLaws

@@ -18,10 +18,3 @@ module _ {F : Type 0} (fails : F → Type 0) (bytes : F → Option (List ℕ)) (
 pub known_has : (known : Option (List ℕ)) (P : List ℕ → Type 0) → ((all : List ℕ) → P all) → IfSome known P
 known_has None P has = tt
 known_has (Some all) P has = has all
-
--- If the bytes of a file are known, a step from one property of theirs leads to another one. The first one may have a
--- premise.
-pub known_step : (known : Option (List ℕ)) (Premise P Q : List ℕ → Type 0) → IfSome known (λ all. P all → Q all)
-    → IfSome known (λ all. Premise all → P all) → IfSome known (λ all. Premise all → Q all)
-known_step None Premise P Q step has = tt
-known_step (Some all) Premise P Q step has = λ premise. step (has premise)

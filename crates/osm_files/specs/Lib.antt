@@ -18,6 +18,7 @@ pub mod SortedRun
 pub mod ReadAt
 pub mod Extent
 pub mod ExtentGives
+pub mod FileRuns
 pub mod Verdict
 pub mod Laws
 pub mod Reading

@@ -1,6 +1,9 @@
 //! The sorted runs of a file whose versions may have any order. The file is split before each version that is out of
 //! order.
-ghost use Rattle.std.specs.Prelude.{◌≡◌, ◌+◌, ◌<◌, ◌≤◌, ◌^◌, length, slice_get, IfOk, OnOk, IfSome};
+ghost use Rattle.std.specs.Prelude.{◌≡◌, ◌+◌, ◌<◌, ◌≤◌, ◌^◌, Ok, None, length, slice_get, IfOk, OnOk, IfSome};
+ghost use Rattle.osm_files.specs.Extent.{GivesRun};
+ghost use Rattle.osm_files.specs.FileRuns.{EndsWhole, GivesSortedFile, LastIsSorted};
+ghost use Rattle.osm_files.specs.Input.{GivesOne};
 ghost use Rattle.osm_files.specs.SortedRun as spec;
 
 use crate::extent::FramedExtent;
@@ -13,50 +16,42 @@ use crate::source::{FileSource, Source};
 use crate::split_file::SplitFile;
 use std::alloc::Global;
 
-/// The order of the versions of an input.
-#[derive(Clone, Copy, Debug, PartialEq, Eq)]
-enum OrderCheck {
-    /// The input is a sorted file.
-    Sorted,
-    /// The version at this offset is the input's first with a key below that of the version before it.
-    Unsorted(u64),
-    /// The input can't be read as a file.
-    Refused,
-}
-
-/// Finds the sorted runs of `file`, which has `size` bytes. `input` is the file's number.
+/// Finds the sorted runs of `file`, which has `size` bytes. `input` is the file's number. `first` is the offset of the
+/// file's first version that is out of order, if it is known.
 ///
-/// The result is `None` if there are more than `most` runs, if a run can't be read as a file, or if the file can't be
-/// split where its order breaks. A file of o5 can only be split at a reset.
+/// The result is `None` if there are more than `most` runs, or if the file can't be split where its order breaks. A file
+/// of o5 can only be split at a reset.
 ///
 /// The file is split before each version that is out of order. So each byte of it is read once, and each byte of an o5
-/// file twice.
+/// file twice. If `first` is known, the bytes of OPL before it aren't read. The last run is read to its end, so it is a
+/// sorted file. The others are, if they can be read as files; the contract doesn't say so.
 ///
 /// # Errors
 ///
-/// `ReadFault` if the bytes around such a version can't be read; or `Memory`.
+/// The fault of the file if a line or data set can't be read, or if the file can't be read; or `Memory`.
 pub fn find_runs<F: ReadAt>(
     alloc: Global,
     file: &F,
     input: usize,
     size: u64,
+    first: Option<u64>,
     most: usize,
 ) -> Result<Option<Vec<SortedRun>>, Fault>
     ensures runs { IfOk result (λ found. IfSome found (λ runs. IfSome (F.bytes file.now) (λ all.
         length all < 2 ^ 64 → spec.IsSplitIntoRuns all runs.items))) }
+    ensures last { IfOk result (λ found. IfSome found (λ runs. IfSome (F.bytes file.now) (λ all.
+        length all ≡ size → LastIsSorted all runs.items))) }
     ensures few { IfOk result (λ found. IfSome found (λ runs. length runs.items ≤ most)) }
 {
     let mut split = SplitFile::new(alloc);
+    let mut known = first;
     'runs: for done in 0..most {
-        match check_order(alloc, FramedExtent::of_run(file, size, split.rest()))? {
-            OrderCheck::Sorted => return Ok(Some(split.into_runs()?)),
-            OrderCheck::Unsorted(place) => {
-                let offset = split.rest().offset_in_file(place);
-                if !split_before(alloc, file, input, size, &mut split, offset)? {
-                    return Ok(None);
-                }
-            }
-            OrderCheck::Refused => return Ok(None),
+        let unsorted = first_unsorted(alloc, file, input, size, split.rest(), known.take())?;
+        let Some(offset) = unsorted else {
+            return Ok(Some(split.into_runs()?));
+        };
+        if !split_before(alloc, file, input, size, &mut split, offset)? {
+            return Ok(None);
         }
     }
     Ok(None)
@@ -80,10 +75,7 @@ fn split_before<F: ReadAt>(
         return Err(Fault::at(input, offset, Reason::ReadFault));
     };
     match split.split(offset, bytes)? {
-        Some(front) if front.lacks_end => {
-            let order = check_order(alloc, FramedExtent::of_run(file, size, front))?;
-            Ok(order == OrderCheck::Sorted)
-        }
+        Some(front) if front.lacks_end => is_sorted(alloc, file, input, size, front),
         Some(_) => Ok(true),
         None => Ok(false),
     }
@@ -111,35 +103,87 @@ fn byte_at<F: ReadAt>(file: &F, offset: u64) -> Result<Option<u8>, Broken>
     }
 }
 
-/// Reads an input and returns the order of its versions.
+/// Whether a run of a file is a sorted file.
 ///
 /// # Errors
 ///
-/// Only out of memory.
-fn check_order<R: Input + Drop>(alloc: Global, reader: R) -> Result<OrderCheck, Fault> {
-    let mut source = FileSource::new(alloc, 0, reader)?;
-    let order = order_of(&mut source);
-    drop(source);
-    order
+/// `ReadFault` if the file can't be read; or `Memory`.
+fn is_sorted<F: ReadAt>(
+    alloc: Global,
+    file: &F,
+    input: usize,
+    size: u64,
+    run: SortedRun,
+) -> Result<bool, Fault> {
+    match first_unsorted(alloc, file, input, size, run, None) {
+        Ok(first) => Ok(first.is_none()),
+        Err(fault) if fault.reason == Reason::Memory || fault.reason == Reason::ReadFault => {
+            Err(fault)
+        }
+        Err(_) => Ok(false),
+    }
 }
 
-/// Reads a source to its end or its first fault, and returns the order of its versions.
-fn order_of<S: Source>(source: &mut S) -> Result<OrderCheck, Fault> {
-    'versions: loop {
-        match source.next() {
-            Ok(Some(version)) => source.reuse(version),
-            Ok(None) => return Ok(OrderCheck::Sorted),
-            Err(fault) => return order_by(&fault),
+/// Reads a run of a file, and returns the offset in the file of its first version whose key is below that of the version
+/// before it. If that offset is `known`, nothing is read.
+///
+/// # Errors
+///
+/// The fault of the run, at its offset in the file; or `Memory`.
+fn first_unsorted<F: ReadAt>(
+    alloc: Global,
+    file: &F,
+    input: usize,
+    size: u64,
+    run: SortedRun,
+    known: Option<u64>,
+) -> Result<Option<u64>, Fault>
+    ensures { result ≡ Ok None → GivesOne (GivesRun (F.fails file.now) (F.bytes file.now) run size) GivesSortedFile }
+{
+    if let Some(offset) = known {
+        return Ok(Some(offset));
+    }
+    match read_sorted(alloc, input, FramedExtent::of_run(file, size, run)) {
+        Ok(()) => Ok(None),
+        Err(fault) if fault.reason == Reason::Memory => Err(fault),
+        Err(fault) => {
+            let place = run.offset_in_file(fault.place);
+            if fault.reason == Reason::Unsorted {
+                Ok(Some(place))
+            } else {
+                Err(Fault::at(fault.input, place, fault.reason))
+            }
         }
     }
 }
 
-/// The order of versions of which one was refused with `fault`.
-fn order_by(fault: &Fault) -> Result<OrderCheck, Fault> {
-    match fault.reason {
-        Reason::Unsorted => Ok(OrderCheck::Unsorted(fault.place)),
-        Reason::Memory => Err(Fault::memory()),
-        _ => Ok(OrderCheck::Refused),
+/// Reads a sorted file to its end. `input` is its number.
+///
+/// # Errors
+///
+/// The fault of the file, or `Memory`.
+fn read_sorted<R: Input + Drop>(alloc: Global, input: usize, reader: R) -> Result<(), Fault>
+    ensures { OnOk result (GivesOne (R.can_give reader) GivesSortedFile) }
+{
+    let mut source = FileSource::new(alloc, input, reader)?;
+    let outcome = read_to_end(&mut source);
+    drop(source);
+    outcome
+}
+
+/// Reads a source to its end.
+///
+/// # Errors
+///
+/// The first fault of the source.
+fn read_to_end<S: Source>(source: &mut S) -> Result<(), Fault>
+    ensures { OnOk result (EndsWhole S.can_give source.old) }
+{
+    'versions: loop {
+        match source.next()? {
+            Some(version) => source.reuse(version),
+            None => return Ok(()),
+        }
     }
 }
 

@@ -1,6 +1,8 @@
 //! Runs of small files.
 use super::find_runs;
 use crate::extent::FramedExtent;
+use crate::fault::Fault;
+use crate::reason::Reason;
 use crate::texts::{given_text, push_fault};
 use std::alloc::Global;
 
@@ -13,11 +15,11 @@ const WITHOUT_RESET: &[u8] =
     b"\xff\xe0\x04o5m2\x10\x05\x04\x01\x00\x02\x04\x10\x05\x01\x01\x00\x00\x00\xfe";
 
 /// The runs of `file`, at most `most`: the offset of each, whether it lacks a header and the end byte, and the results
-/// of its source.
-fn runs_text(alloc: Global, file: &[u8], most: usize) -> String {
+/// of its source. `first` is the offset of the first version that is out of order, if it is known.
+fn runs_text(alloc: Global, file: &[u8], first: Option<u64>, most: usize) -> String {
     let mut text = String::new(alloc);
     let size = file.len() as u64;
-    match find_runs(alloc, &file, 3, size, most) {
+    match find_runs(alloc, &file, 3, size, first, most) {
         Ok(Some(runs)) => {
             for run in &runs {
                 let given = given_text(alloc, 0, FramedExtent::of_run(&file, size, *run));
@@ -52,8 +54,8 @@ fn runs_are_found(rt: HostRuntime) {
             20 false false\nn1 v1 dD c0 t i0 u T x y\nend\nend\nend\n",
         ),
         (b"n3 v1 dD\n#\nn2 v1 dD\rn1 v1 dD", 2, "none\n"),
-        (b"n2 v1 dD\nn1 v1 dD\nn0\n", 9, "none\n"),
-        (b"n2 v1 dD\nn3 v1\nn1 v1 dD\n", 9, "none\n"),
+        (b"n2 v1 dD\nn1 v1 dD\nn0\n", 9, "3 18 NoVersion\n"),
+        (b"n2 v1 dD\nn3 v1\nn1 v1 dD\n", 9, "3 9 NoLocation\n"),
         (
             DATA_SETS,
             2,
@@ -63,13 +65,31 @@ fn runs_are_found(rt: HostRuntime) {
         (DATA_SETS, 1, "none\n"),
         (WITHOUT_RESET, 9, "none\n"),
     ] {
-        assert_eq!(rt; runs_text(alloc, file, most).as_str(), text);
+        assert_eq!(rt; runs_text(alloc, file, None, most).as_str(), text);
     }
 }
 
 #[test]
-fn a_file_that_became_shorter_has_no_runs(rt: HostRuntime) {
+fn the_first_split_may_be_known(rt: HostRuntime) {
+    let alloc = rt.alloc();
+    for (file, first) in [
+        (b"n3 v1 dD\nn2 v1 dD\nn1 v1 dD\n".as_slice(), 9),
+        (DATA_SETS, 15),
+        (WITHOUT_RESET, 14),
+    ] {
+        let found = runs_text(alloc, file, None, 3);
+        assert_eq!(rt;
+            runs_text(alloc, file, Some(first), 3).as_str(),
+            found.as_str()
+        );
+    }
+}
+
+#[test]
+fn a_file_that_became_shorter_is_refused(rt: HostRuntime) {
     let file = b"n1 v1 dD\n".as_slice();
-    let found = find_runs(rt.alloc(), &file, 3, 12, 9);
-    assert!(rt; found.is_ok_and(|runs| runs.is_none()));
+    match find_runs(rt.alloc(), &file, 3, 12, None, 9) {
+        Err(fault) => assert_eq!(rt; fault, Fault::at(3, 9, Reason::ReadFault)),
+        Ok(_) => assert!(rt; false),
+    }
 }

@@ -1,5 +1,6 @@
-use Rattle.std.proofs.Common.{◌≤◌, ◌<◌, ◌^◌, length, ap, arith}
+use Rattle.std.proofs.Common.{◌≤◌, ◌<◌, ◌^◌, length, ap, arith, rules}
 use Rattle.osm_files.specs.SortedRun.{IsSplitIntoRuns, runs_of}
+use Rattle.osm_files.proofs.FileRunLaws.{last_sorted}
 use Rattle.osm_files.proofs.OpenLaws.{known_has}
 use Rattle.osm_files.proofs.file_runs.find_runs.Goals as goal
 
@@ -10,3 +11,10 @@ runs-init g c =
           c.new-split.ensures.runs,
       few,
     )
+
+pub returns-in_default-clause-last : goal.returns-in_default-clause-last
+returns-in_default-clause-last g c =
+    let file = c.args.file.now in
+    let gives = c.in_ok-unsorted.ensures (search rules) in
+    last_sorted (g.F.ReadAt.fails file) (g.F.ReadAt.bytes file) c.rest.result c.runs.split.rest c.args.size c.runs.split.fronts
+    c.in_ok-into_runs.field-0.items c.in_ok-into_runs.ensures c.rest.ensures gives
