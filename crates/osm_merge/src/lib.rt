@@ -22,7 +22,7 @@ pub use chosen::{at, between, snapshot, visible};
 pub use merge::{Counts, merge_into, merge_selected};
 pub use newest::into_snapshot;
 pub use object::{Object, Span};
-pub use progress::{NoProgress, Progress};
+pub use progress::{NoProgress, Progress, Relation};
 pub use selection::Selection;
 pub use taking::{absorb, absorb_newest};
 pub use within::{Outside, Within};

@@ -87,7 +87,9 @@ pub fn merge_selected<S: Source + Drop, W: Output, P: Progress>(
     let heads = first_versions(alloc, inputs)?;
     let mut tournament = Tournament::new(alloc, heads)?;
     let mut pending = Pending::new(selection);
-    write_union(&mut tournament, &mut pending, inputs, sink, out, progress)
+    let outcome = write_union(&mut tournament, &mut pending, inputs, sink, out, progress);
+    pending.report_end(&outcome, progress);
+    outcome
 }
 
 /// Writes what is selected of the union of the heads and of what the sources give after them, as one file.
@@ -127,8 +129,9 @@ fn write_union<S: Source, W: Output, P: Progress>(
         let Some(version) = tournament.take(winner) else {
             return pending.end(tournament.compared, sink, out);
         };
+        let written = pending.counts.written;
         pending.meet(version, is_repeated, &mut tournament.compared, sink, out)?;
-        progress.observe(pending.counts.read, pending.counts.written);
+        pending.report(written, progress);
         let next = next_of(&mut sources[winner], pending.spare.take())?;
         tournament.put(winner, next);
     }

@@ -10,6 +10,7 @@ ghost use Rattle.osm_merge.specs.Put.{TakesEach, PutsMore, EndsFile, CountsMore}
 
 use crate::compare::compare;
 use crate::merge::Counts;
+use crate::progress::{Progress, Relation};
 use crate::selection::{Selection, keeps_before, passes, puts_at_once};
 use osm_files::{Fault, Output, Sink};
 use osm_model::{Ranked, Version};
@@ -23,6 +24,8 @@ pub(crate) struct Pending {
     held: Option<Ranked>,
     /// A version that isn't needed any more; a source may make its next version in its memory.
     pub(crate) spare: Option<Version>,
+    /// Whether the version that `meet` got last became the pending one.
+    is_new: bool,
     /// The counts so far.
     pub(crate) counts: Counts,
 }
@@ -34,6 +37,7 @@ impl Pending {
           selection = selection;
           held = None;
           spare = None;
+          is_new = false;
           counts = record { read = 0; written = 0; compared = 0 };
         } }
     {
@@ -41,6 +45,7 @@ impl Pending {
             selection,
             held: None,
             spare: None,
+            is_new: false,
             counts: Counts {
                 read: 0,
                 written: 0,
@@ -81,11 +86,51 @@ impl Pending {
         self.counts.read = self.counts.read.saturating_add(1);
         if is_repeated || !self.is_met(&version, compared) {
             self.spare = Some(version.into_version());
+            self.is_new = false;
             return Ok(());
         }
         self.put_decided(Some(version.version()), sink, out)?;
         self.spare = self.held.replace(version).map(Ranked::into_version);
+        self.is_new = true;
         Ok(())
+    }
+
+    /// Reports the version that `meet` got last, and the version that it wrote, if it wrote one. `written` is the number
+    /// of versions written before.
+    #[inline(always)]
+    pub(crate) fn report<P: Progress>(&self, written: u64, progress: &mut P) {
+        let held = version_of(&self.held);
+        let spare = self.spare.as_ref();
+        match (held, spare) {
+            (Some(version), _) if self.is_new => progress.read(version, relation(spare, version)),
+            (_, Some(version)) => progress.read(version, Relation::Dropped),
+            _ => {}
+        }
+        let put = if puts_at_once(self.selection) {
+            held
+        } else {
+            spare
+        };
+        if let Some(version) = put
+            && self.counts.written != written
+        {
+            progress.written(version);
+        }
+    }
+
+    /// Reports the version that `end` wrote, if it wrote one. `outcome` is what `end` returned.
+    pub(crate) fn report_end<P: Progress>(
+        &self,
+        outcome: &Result<Counts, Fault>,
+        progress: &mut P,
+    ) {
+        if let Some(version) = version_of(&self.held)
+            && outcome.is_ok()
+            && !puts_at_once(self.selection)
+            && keeps_before(self.selection, version, None)
+        {
+            progress.written(version);
+        }
     }
 
     /// Whether a version passes and is greater than the pending one.
@@ -160,6 +205,24 @@ impl Pending {
             compared,
             ..self.counts
         })
+    }
+}
+
+/// The version that is pending.
+#[inline(always)]
+fn version_of(held: &Option<Ranked>) -> Option<&Version> {
+    match held {
+        Some(held) => Some(held.version()),
+        None => None,
+    }
+}
+
+/// How `version` relates to `before`, which is less.
+#[inline(always)]
+fn relation(before: Option<&Version>, version: &Version) -> Relation {
+    match before {
+        Some(before) if before.key_cmp(version).is_eq() => Relation::OtherData,
+        _ => Relation::OtherKey,
     }
 }
 

@@ -1,9 +1,25 @@
 //! Observers of a run.
+use osm_model::Version;
 
-/// Observes a run.
+/// How a version that was read relates to the version before it in the order.
+#[derive(Clone, Copy, Debug, PartialEq, Eq)]
+pub enum Relation {
+    /// It has another key, or there is none before it.
+    OtherKey,
+    /// It has the same key and other data.
+    OtherData,
+    /// It repeats the version before it, or the selection passes over it.
+    Dropped,
+}
+
+/// Observes a run, and changes nothing.
 pub trait Progress {
-    /// Is called after each version that is read, with the numbers of versions read and written since the run began.
-    fn observe(&mut self, read: u64, written: u64);
+    /// Is called after each version that is read, in their order. `relation` compares it with the version before it
+    /// that wasn't dropped.
+    fn read(&mut self, version: &Version, relation: Relation);
+
+    /// Is called after each version that is written.
+    fn written(&mut self, version: &Version);
 }
 
 /// No observer.
@@ -12,5 +28,8 @@ pub struct NoProgress;
 
 impl Progress for NoProgress {
     #[inline(always)]
-    fn observe(&mut self, _read: u64, _written: u64) {}
+    fn read(&mut self, _version: &Version, _relation: Relation) {}
+
+    #[inline(always)]
+    fn written(&mut self, _version: &Version) {}
 }
