@@ -15,17 +15,21 @@ mod request;
 mod runs;
 mod shard;
 mod summary;
-mod tally;
 mod target;
 
 use crate::cli::request::Request;
+use escape::Escaped;
+pub(crate) use escape::EscapedOut;
+use hint::Advice;
+use part::FileId;
 pub(crate) use part::PartFile;
 pub(crate) use refusal::Refusal;
+use std::alloc::Global;
 use std::convert::AsStr;
-use std::fmt::Display;
 use std::io::{IsTerminal, Read, Write};
 use std::rt::Files;
 use std::time::Clock;
+use target::Target;
 
 /// Runs one command and returns the exit status.
 ///
@@ -46,64 +50,137 @@ where
     E: Write + IsTerminal + Drop,
 {
     let hints = words.iter().any(|word| word.as_str() == hint::HINTS);
-    let mut input = Some(input);
-    let text = match list_text(rt, words, &mut input) {
-        Ok(text) => text,
-        Err(refusal) => return hint::report(rt, &refusal, &mut err, hints),
-    };
-    match run_request(rt, words, text.as_str(), input, &mut out, &mut err) {
-        Ok(()) => 0,
-        Err(refusal) => hint::report(rt, &refusal, &mut err, hints),
+    match Request::parse(rt.alloc(), words) {
+        Ok(request) => run_request(rt, request, input, &mut out, &mut err, hints),
+        Err(mistake) => report_mistake(rt, words, &mistake, &mut err, hints),
     }
 }
 
-/// The text of the list of files that the arguments name. It is empty if they name no list, or if they have a mistake.
-fn list_text<'a, R: Files + AllocGlobal, S: AsStr, I: Read + Drop>(
+/// Reports a mistake in the arguments `args`. On a terminal the text of `clap` shows their control characters as
+/// escapes.
+fn report_mistake<R, S, E>(
     rt: &R,
-    args: &'a [S],
-    input: &mut Option<I>,
-) -> Result<String, Refusal<'a>> {
-    let no_text = String::new(rt.alloc());
-    if !args
-        .iter()
-        .any(|arg| arg.as_str().starts_with(list::OPTION))
+    args: &[S],
+    mistake: &Refusal<'_>,
+    err: &mut E,
+    hints: bool,
+) -> u8
+where
+    R: Files + AllocGlobal,
+    S: AsStr,
+    E: Write + IsTerminal,
+{
+    if err.is_terminal()
+        && let Refusal::Words(_) = mistake
+        && let Ok(shown) = escaped(rt.alloc(), args)
+        && let Err(mistake) = Request::parse(rt.alloc(), shown.as_slice())
     {
-        return Ok(no_text);
+        return hint::report(rt, &mistake, err, hints);
     }
-    match Request::parse(rt.alloc(), args) {
-        Ok(request) => list::read_list(rt, request.list(), input),
-        Err(_) => Ok(no_text),
-    }
+    hint::report(rt, mistake, err, hints)
 }
 
-/// Parses the arguments and runs the request. `text` is the text of the list of files that they name.
-fn run_request<'a, R, S, I, O, E>(
+/// The arguments with escapes for control characters.
+fn escaped<S: AsStr>(alloc: Global, args: &[S]) -> Result<Vec<String>, Refusal<'static>> {
+    let mut shown = Vec::new(alloc);
+    for arg in args {
+        let text = arg.as_str();
+        shown.push(format!(in alloc; "{}", Escaped { text })?)?;
+    }
+    Ok(shown)
+}
+
+/// Reads the list of files that the request names, if it names one, runs the request, and reports its outcome.
+fn run_request<R, I, O, E>(
     rt: &R,
-    args: &'a [S],
-    text: &'a str,
-    input: Option<I>,
+    request: Request<'_>,
+    input: I,
     out: &mut O,
     err: &mut E,
-) -> Result<(), Refusal<'a>>
+    hints: bool,
+) -> u8
 where
     R: Files + Clock + AllocGlobal,
     R::File: PartFile,
-    S: AsStr,
     I: Read + Drop,
-    O: Write + Drop,
+    O: Write,
     E: Write + IsTerminal,
 {
-    match Request::parse(rt.alloc(), args)?.with_list(rt.alloc(), text)? {
-        Request::Files(run) => file_run::run_files(rt, &run, input, out, err),
-        Request::Check(check) => file_check::check_files(rt, &check, input, out, err),
-        Request::Plan(run) => plan_run::run_plan(rt, &run, out),
-        Request::Help(text) => print(out, &text),
+    let mut input = Some(input);
+    let (text, list) = match read_list(rt, &request, &mut input) {
+        Ok(list) => list,
+        Err(refusal) => return hint::report(rt, &refusal, err, hints),
+    };
+    let outcome = match request.with_list(rt.alloc(), text.as_str()) {
+        Ok(request) => run(rt, &request, list, input, out, err),
+        Err(refusal) => Err(refusal),
+    };
+    match outcome {
+        Ok(advice) => {
+            hint::advise(advice, err, hints);
+            0
+        }
+        Err(refusal) => hint::report(rt, &refusal, err, hints),
     }
 }
 
-/// Prints a text, which has its own line feeds.
-fn print<'a, O: Write, T: Display>(out: &mut O, text: &T) -> Result<(), Refusal<'a>> {
-    match write!(out, "{text}").and_then(|()| out.flush()) {
+/// Reads the list of files that the request names. A list that has the name of OUT.part is refused.
+fn read_list<'a, R: Files + AllocGlobal, I: Read + Drop>(
+    rt: &R,
+    request: &Request<'a>,
+    input: &mut Option<I>,
+) -> Result<(String, Option<FileId>), Refusal<'a>> {
+    let list = request.list();
+    if let (Request::Files(run), Some(list)) = (request, list) {
+        Target::of_arg(rt, run.output).refuse_part(&[list])?;
+    }
+    list::read_list(rt, list, input)
+}
+
+/// Runs a request. `list` is the identity of the list of files that it names.
+fn run<'a, R, I, O, E>(
+    rt: &R,
+    request: &Request<'a>,
+    list: Option<FileId>,
+    input: Option<I>,
+    out: &mut O,
+    err: &mut E,
+) -> Result<Option<Advice<'a>>, Refusal<'a>>
+where
+    R: Files + Clock + AllocGlobal,
+    R::File: PartFile,
+    I: Read + Drop,
+    O: Write,
+    E: Write + IsTerminal,
+{
+    match request {
+        Request::Files(run) => file_run::run_files(rt, run, list, input, out, err)?,
+        Request::Check(check) => file_check::check_files(rt, check, input, out, err)?,
+        Request::Plan(run) => return plan_run::run_plan(rt, run, out),
+        Request::Help(text) => print_help(rt.alloc(), out, text)?,
+    }
+    Ok(match request {
+        Request::Files(run) => Advice::of_output(run.output, run.format),
+        _ => None,
+    })
+}
+
+/// Prints the text of help, line by line.
+fn print_help<'a, O: Write>(
+    alloc: Global,
+    out: &mut O,
+    help: &clap::Error,
+) -> Result<(), Refusal<'a>> {
+    let text = format!(in alloc; "{help}")?;
+    for line in text.as_str().lines() {
+        print(out, &format!(in alloc; "{line}\n")?)?;
+    }
+    Ok(())
+}
+
+/// Prints a line, which has its own line feed, in one write.
+fn print<'a, O: Write>(out: &mut O, line: &String) -> Result<(), Refusal<'a>> {
+    match out.write_all(line.as_bytes()).and_then(|()| out.flush()) {
         Ok(()) => Ok(()),
         Err(_) => Err(Refusal::StandardOutput),
     }

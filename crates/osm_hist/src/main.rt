@@ -1,11 +1,13 @@
 //! `osm_hist`: merges files of OpenStreetMap histories.
 #![tactic(auto)]
 
-use crate::cli::{Refusal, run_words};
+use crate::cli::{EscapedOut, Refusal, run_words};
 use std::env::FillError;
+use std::fs::File;
 use std::io::{IsTerminal, Write};
+use std::os::fd::AsRawFd;
 use std::process::ExitCode;
-use std::rt::Env;
+use std::rt::{Env, Files};
 use std::{env, io, str};
 
 pub mod cli;
@@ -13,17 +15,59 @@ pub mod cli;
 /// The size of the buffer for an argument that isn't UTF-8. The program doesn't show a longer one.
 const ARGUMENT: usize = 4096;
 
+/// The greatest descriptor of a standard stream.
+const STANDARD_ERROR: i32 = 2;
+
+/// The folder that stands for closed standard streams.
+const ROOT: &str = "/";
+
 fn main(rt: HostRuntime) -> ExitCode {
-    let status = match read_args(&rt) {
-        Ok(args) => {
-            if args.is_empty() && rt.stdin().is_terminal() && rt.stderr().is_terminal() {
-                report_waiting(rt.stderr());
-            }
-            run_words(&rt, args.as_slice(), rt.stdin(), rt.stdout(), rt.stderr())
-        }
-        Err(error) => refuse_args(&rt, &error).report(rt.stderr()),
+    let status = match occupy_standard(&rt) {
+        Ok(_handles) => run_args(&rt),
+        Err(_) => Refusal::CannotRead { name: ROOT }.report(&mut rt.stderr()),
     };
     ExitCode::from(status)
+}
+
+/// Opens the folder `/` until it gets a descriptor that is none of a standard stream. If a standard stream is closed,
+/// this folder has its descriptor as long as the handles are kept, so that no file gets it. Each read and write of a
+/// folder fails.
+fn occupy_standard<R: Files>(rt: &R) -> io::Result<[Option<R::File>; 4]>
+where
+    R::File: AsRawFd,
+{
+    let mut handles = [None, None, None, None];
+    for handle in &mut handles {
+        let folder = File::open(rt, ROOT)?;
+        let is_above = folder.as_raw_fd() > STANDARD_ERROR;
+        *handle = Some(folder);
+        if is_above {
+            break;
+        }
+    }
+    Ok(handles)
+}
+
+/// Runs the command of the arguments and returns the exit status.
+fn run_args(rt: &HostRuntime) -> u8 {
+    let args = match read_args(rt) {
+        Ok(args) => args,
+        Err(error) => return refuse_args(rt, &error).report(&mut rt.stderr()),
+    };
+    if args.is_empty() && rt.stdin().is_terminal() && rt.stderr().is_terminal() {
+        report_waiting(rt.stderr());
+    }
+    let mut out = rt.stdout();
+    if out.is_terminal()
+        && args
+            .first()
+            .is_some_and(|command| command.as_str() == "check")
+    {
+        let out = EscapedOut { out: &mut out };
+        run_words(rt, args.as_slice(), rt.stdin(), out, rt.stderr())
+    } else {
+        run_words(rt, args.as_slice(), rt.stdin(), out, rt.stderr())
+    }
 }
 
 /// Reports that the program waits for standard input.

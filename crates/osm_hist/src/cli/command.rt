@@ -9,6 +9,37 @@ const VERSION: &str = "0.1.0";
 /// The option for a list of files.
 pub(super) const LIST: &str = "files0-from";
 
+/// The options without a value: the name and the help of each.
+const FLAGS: [(&str, &str); 9] = [
+    ("with-history", "Writes all versions, deletions included"),
+    (
+        "sorted",
+        "Refuses a file that isn't sorted, so that none is held in memory",
+    ),
+    (
+        "whole",
+        "Refuses an OPL file whose last line has no line feed, since it may be cut",
+    ),
+    (
+        "ended",
+        "Refuses OPL from a pipe that doesn't end with the line \"# end\"",
+    ),
+    ("fsync", "Puts the file on the disk before it gets its name"),
+    (
+        "progress",
+        "Reports on standard error, while it runs, how much was read and written",
+    ),
+    (
+        "summary",
+        "Reports on standard error, in one line after success, what was read and written",
+    ),
+    ("strict", "Writes nothing if an event is refused"),
+    ("hints", "Says after a refusal what to do, as on a terminal"),
+];
+
+/// The options of a command that writes a file, except those with a value.
+const WRITING: [&str; 6] = ["whole", "ended", "fsync", "progress", "summary", "hints"];
+
 /// The usage of `time-filter`.
 const TIME_FILTER_USAGE: &str =
     "osm_hist time-filter [OPTIONS] --output <OUT> <FILE> <TIME> [TIME]\n       \
@@ -56,12 +87,12 @@ type Made<'a> = Result<Command<'a>, AllocError>;
 /// The command that parses the arguments.
 pub(super) fn command<'a>(alloc: Global) -> Made<'a> {
     let commands = [
-        with_arg(merge_command(alloc), hints_arg(alloc)),
-        with_arg(apply_command(alloc), hints_arg(alloc)),
-        with_arg(time_filter_command(alloc), hints_arg(alloc)),
-        with_arg(sort_command(alloc), hints_arg(alloc)),
-        with_arg(check_command(alloc), hints_arg(alloc)),
-        with_arg(plan_command(alloc), hints_arg(alloc)),
+        merge_command(alloc),
+        apply_command(alloc),
+        time_filter_command(alloc),
+        sort_command(alloc),
+        check_command(alloc),
+        plan_command(alloc),
     ];
     let program = Command::new(alloc, "osm_hist")
         .about("Merges, cuts and checks files of OpenStreetMap histories")
@@ -81,20 +112,23 @@ fn with_command<'a>(program: Made<'a>, command: Made<'a>) -> Made<'a> {
     }
 }
 
-/// Adds an argument to a command.
-fn with_arg<'a>(command: Made<'a>, arg: Arg<'a>) -> Made<'a> {
-    match command {
-        Ok(command) => command.arg(arg),
-        Err(error) => Err(error),
+/// Adds an argument to a command, unless making one of the two ran out of memory.
+fn with_arg<'a>(command: Made<'a>, arg: Result<Arg<'a>, AllocError>) -> Made<'a> {
+    match (command, arg) {
+        (Ok(command), Ok(arg)) => command.arg(arg),
+        _ => Err(AllocError),
     }
 }
 
-/// Adds an argument to a command, unless making the argument ran out of memory.
-fn with_made_arg<'a>(command: Made<'a>, arg: Result<Arg<'a>, AllocError>) -> Made<'a> {
-    match arg {
-        Ok(arg) => with_arg(command, arg),
-        Err(error) => Err(error),
+/// Adds the options without a value that `names` names.
+fn with_flags<'a>(alloc: Global, command: Made<'a>, names: &[&str]) -> Made<'a> {
+    let mut command = command;
+    for (name, help) in FLAGS {
+        if names.iter().any(|wanted| *wanted == name) {
+            command = with_arg(command, Ok(flag_arg(alloc, name, help)));
+        }
     }
+    command
 }
 
 fn merge_command<'a>(alloc: Global) -> Made<'a> {
@@ -111,17 +145,21 @@ fn apply_command<'a>(alloc: Global) -> Made<'a> {
         .after_help(any_order_help!(
             "apply --output today.o5m --format o5m yesterday.o5m changes.o5c"
         ));
-    let history = flag_arg(
+    let deletions = flag_arg(
         alloc,
-        "with-history",
-        "Writes all versions, deletions included",
+        "with-deletions",
+        "Writes the newest version of each object, deletions included",
+    );
+    let command = with_arg(
+        writing(alloc, command),
+        deletions.conflicts_with("with-history"),
     );
     let help = "The files and changes, in OPL, o5m or o5c; - is standard input";
-    let command = with_arg(
-        with_arg(writing(alloc, command), history),
-        sorted_arg(alloc),
-    );
-    with_files(alloc, command, help)
+    with_files(
+        alloc,
+        with_flags(alloc, command, &["with-history", "sorted"]),
+        help,
+    )
 }
 
 fn time_filter_command<'a>(alloc: Global) -> Made<'a> {
@@ -133,12 +171,9 @@ fn time_filter_command<'a>(alloc: Global) -> Made<'a> {
         ));
     let help = "The file of a history, in OPL, o5m or o5c; - is standard input";
     let file = required_arg(alloc, "files", "FILE", help);
-    let command = with_arg(
-        with_arg(writing(alloc, command), sorted_arg(alloc)),
-        list_arg(alloc),
-    );
-    let command = with_made_arg(with_arg(command, file), time_arg(alloc));
-    with_made_arg(command, end_arg(alloc))
+    let command = with_flags(alloc, writing(alloc, command), &["sorted"]);
+    let command = with_arg(with_arg(command, Ok(list_arg(alloc))), Ok(file));
+    with_arg(with_arg(command, time_arg(alloc)), end_arg(alloc))
 }
 
 fn sort_command<'a>(alloc: Global) -> Made<'a> {
@@ -146,51 +181,36 @@ fn sort_command<'a>(alloc: Global) -> Made<'a> {
         .about("Sorts files in any order into one")
         .after_help(any_order_help!("sort --output sorted.opl unsorted.opl"));
     let help = "The files to be sorted, in OPL, o5m or o5c; - is standard input";
-    let command = with_arg(writing(alloc, command), sorted_arg(alloc));
-    with_files(alloc, command, help)
+    with_files(
+        alloc,
+        with_flags(alloc, writing(alloc, command), &["sorted"]),
+        help,
+    )
 }
 
 fn check_command<'a>(alloc: Global) -> Made<'a> {
     let help = "The files to be checked, in OPL, o5m or o5c; - is standard input";
     let command = Command::new(alloc, "check")
         .about("Prints a file's format, its versions and objects, and whether it is sorted")
-        .after_help(CHECK)
-        .arg(sorted_arg(alloc));
-    with_files(alloc, with_arg(command, whole_arg(alloc)), help)
+        .after_help(CHECK);
+    let flags = ["sorted", "whole", "ended", "hints"];
+    with_files(alloc, with_flags(alloc, Ok(command), &flags), help)
 }
 
 fn plan_command<'a>(alloc: Global) -> Made<'a> {
-    Command::new(alloc, "plan")
+    let command = Command::new(alloc, "plan")
         .about(
             "Runs a plan: mirrors take files and pass them on, and what they hold in the end is written",
         )
         .after_help(PLAN)
-        .arg(required_arg(alloc, "plan", "PLAN", "The file of the plan"))
+        .arg(required_arg(alloc, "plan", "PLAN", "The file of the plan"));
+    with_flags(alloc, command, &["strict", "hints"])
 }
 
 /// Adds the options of a command that writes a file.
 fn writing<'a>(alloc: Global, command: Command<'a>) -> Made<'a> {
-    let sync = flag_arg(
-        alloc,
-        "fsync",
-        "Puts the file on the disk before it gets its name",
-    );
-    let progress = flag_arg(
-        alloc,
-        "progress",
-        "Reports on standard error, while it runs, how much was read and written",
-    );
-    let summary = flag_arg(
-        alloc,
-        "summary",
-        "Reports on standard error, in one line after success, what was read and written",
-    );
-    let command = with_arg(command.arg(output_arg(alloc)), format_arg(alloc));
-    let command = with_arg(command, shard_arg(alloc));
-    with_arg(
-        with_arg(with_arg(with_arg(command, sync), progress), summary),
-        whole_arg(alloc),
-    )
+    let command = with_arg(command.arg(output_arg(alloc)), Ok(format_arg(alloc)));
+    with_flags(alloc, with_arg(command, Ok(shard_arg(alloc))), &WRITING)
 }
 
 fn output_arg<'a>(alloc: Global) -> Arg<'a> {
@@ -230,7 +250,10 @@ fn end_arg<'a>(alloc: Global) -> Result<Arg<'a>, AllocError> {
 
 /// Adds the arguments for the input files, or for a list of them.
 fn with_files<'a>(alloc: Global, command: Made<'a>, help: &'a str) -> Made<'a> {
-    with_made_arg(with_arg(command, list_arg(alloc)), files_arg(alloc, help))
+    with_arg(
+        with_arg(command, Ok(list_arg(alloc))),
+        files_arg(alloc, help),
+    )
 }
 
 fn files_arg<'a>(alloc: Global, help: &'a str) -> Result<Arg<'a>, AllocError> {
@@ -259,30 +282,6 @@ fn shard_arg<'a>(alloc: Global) -> Arg<'a> {
         .help(
             "Writes part K of N; all parts as OPL, in sequence, are the output; the files are sorted",
         )
-}
-
-fn sorted_arg<'a>(alloc: Global) -> Arg<'a> {
-    flag_arg(
-        alloc,
-        "sorted",
-        "Refuses a file that isn't sorted, so that none is held in memory",
-    )
-}
-
-fn hints_arg<'a>(alloc: Global) -> Arg<'a> {
-    flag_arg(
-        alloc,
-        "hints",
-        "Says after a refusal what to do, as on a terminal",
-    )
-}
-
-fn whole_arg<'a>(alloc: Global) -> Arg<'a> {
-    flag_arg(
-        alloc,
-        "whole",
-        "Refuses an OPL file whose last line has no line feed, since it may be cut",
-    )
 }
 
 /// A required argument.

@@ -1,6 +1,7 @@
-//! Names, as they are printed within other text.
-use std::fmt;
-use std::fmt::{Display, Formatter, Write};
+//! Names, as they are printed within other text or on a terminal.
+use std::fmt::{Display, Formatter};
+use std::io::Write as _;
+use std::{fmt, io, str};
 
 /// A text whose control characters are printed as escapes.
 #[derive(Clone, Copy, Debug)]
@@ -12,12 +13,85 @@ pub(super) struct Escaped<'a> {
 impl Display for Escaped<'_> {
     fn fmt<W: fmt::Write>(&self, f: &mut Formatter<W>) -> fmt::Result {
         for c in self.text.chars() {
-            if c.is_control() {
-                write!(f, "\\x{:02x}", c as u32)?;
-            } else {
-                f.write_char(c)?;
-            }
+            write_escaped(f, c)?;
         }
         Ok(())
+    }
+}
+
+/// Whether a terminal acts on `c`: a control character, or one that changes the direction of the text.
+fn is_control(c: char) -> bool {
+    c.is_control()
+        || matches!(c, '\u{61c}' | '\u{200e}' | '\u{200f}' | '\u{202a}'..='\u{202e}' | '\u{2066}'..='\u{2069}')
+}
+
+/// Writes `c`, or its escape if it is a control character.
+fn write_escaped<W: fmt::Write>(f: &mut Formatter<W>, c: char) -> fmt::Result {
+    match c as u32 {
+        _ if !is_control(c) => f.write_char(c),
+        code if code < 0x100 => write!(f, "\\x{code:02x}"),
+        code => write!(f, "\\u{{{code:x}}}"),
+    }
+}
+
+/// A name as an argument for a shell, quoted if it has to be. A name that begins with `-` is no option.
+#[derive(Clone, Copy, Debug)]
+pub(super) struct Quoted<'a> {
+    /// The name.
+    pub(super) name: &'a str,
+}
+
+impl Display for Quoted<'_> {
+    fn fmt<W: fmt::Write>(&self, f: &mut Formatter<W>) -> fmt::Result {
+        let folder = if self.name.starts_with('-') { "./" } else { "" };
+        if !self.name.is_empty() && self.name.chars().all(is_plain) {
+            return write!(f, "{folder}{}", self.name);
+        }
+        let has_controls = self.name.chars().any(is_control);
+        let (open, quote) = if has_controls {
+            ("$'", "\\'")
+        } else {
+            ("'", "'\\''")
+        };
+        write!(f, "{open}{folder}")?;
+        for c in self.name.chars() {
+            match c {
+                '\'' => write!(f, "{quote}")?,
+                '\\' if has_controls => write!(f, "\\\\")?,
+                c if is_control(c) && c as u32 >= 0x80 => write!(f, "\\u{:04x}", c as u32)?,
+                c => write_escaped(f, c)?,
+            }
+        }
+        write!(f, "'")
+    }
+}
+
+/// Whether a shell takes `c` as it is, wherever it is in an argument.
+fn is_plain(c: char) -> bool {
+    c.is_alphanumeric() || matches!(c, '_' | '.' | '/' | ':' | '@' | '%' | '+' | ',' | '=' | '-')
+}
+
+/// A writer to a terminal that escapes the control characters of the text that it is given. A line feed that ends a
+/// write is a line's end.
+#[derive(Drop)]
+pub(crate) struct EscapedOut<'o, O> {
+    /// The terminal.
+    pub(crate) out: &'o mut O,
+}
+
+impl<O: io::Write> io::Write for EscapedOut<'_, O> {
+    fn write(&mut self, bytes: &[u8]) -> io::Result<usize> {
+        let Ok(text) = str::from_utf8(bytes) else {
+            return self.out.write(bytes);
+        };
+        match text.strip_suffix('\n') {
+            Some(line) => writeln!(self.out, "{}", Escaped { text: line })?,
+            None => write!(self.out, "{}", Escaped { text })?,
+        }
+        Ok(bytes.len())
+    }
+
+    fn flush(&mut self) -> io::Result<()> {
+        self.out.flush()
     }
 }

@@ -1,12 +1,13 @@
 //! Checks of files.
 use super::files::{Stream, input_name, open, open_arg};
-use super::input::{Failure, LastLine, Noted, fault_by_failures, file_input, no_failures};
+use super::input::{Failure, Noted, fault_by_failures, file_input};
 use super::refusal::Refusal;
 use super::request::FileCheck;
 use super::{hint, print};
 use osm_files::{Fault, Reason};
 use osm_mirror::{CheckReport, run_check, run_check_sorted};
 use std::alloc::Global;
+use std::cell::Cell;
 use std::io::{IsTerminal, Read, Write};
 use std::rt::Files;
 
@@ -27,7 +28,7 @@ pub(super) fn check_files<
     err: &mut E,
 ) -> Result<(), Refusal<'a>> {
     let mut last = None;
-    for arg in &check.files {
+    for arg in &check.inputs.names {
         let outcome = match report_of(rt, check, *arg, &mut input) {
             Ok(report) => print_report(rt.alloc(), check, *arg, &report, out),
             Err(refusal) => Err(refusal),
@@ -47,7 +48,7 @@ pub(super) fn check_files<
 }
 
 /// Reports a refusal, if there is one.
-fn report_refusal<'a, R: Files, E: Write + IsTerminal>(
+fn report_refusal<'a, R: Files + AllocGlobal, E: Write + IsTerminal>(
     rt: &R,
     refusal: Option<Refusal<'a>>,
     err: &mut E,
@@ -69,7 +70,7 @@ fn print_report<'a, O: Write>(
     let order = if report.sorted { "sorted" } else { "unsorted" };
     let format = report.format.name();
     let (versions, objects) = (report.versions, report.objects);
-    let (name, mark) = if check.files.len() > 1 {
+    let (name, mark) = if check.inputs.names.len() > 1 {
         (input_name(arg), ": ")
     } else {
         ("", "")
@@ -87,17 +88,14 @@ fn report_of<'a, R: Files + AllocGlobal, I: Read + Drop>(
     arg: &'a str,
     input: &mut Option<I>,
 ) -> Result<CheckReport, Refusal<'a>> {
-    let failures = no_failures(rt.alloc(), 1)?;
-    let outcome = match failures.first() {
-        Some(failure) => report_noting(rt, check, arg, input, failure)?,
-        None => return Err(Refusal::Memory),
-    };
-    match outcome {
-        Ok(report) => Ok(report),
-        Err(fault) => {
-            let fault = fault_by_failures(&fault, failures.as_slice());
-            Err(refused(rt.alloc(), arg, &fault))
+    let failures: [Failure; 1] = [Cell::new(None)];
+    match report_noting(rt, check, arg, input, &failures[0]) {
+        Err(Refusal::Fault(fault)) => {
+            let fault = fault_by_failures(&fault, &failures);
+            let name = input_name(arg);
+            Err(Refusal::of_fault(rt.alloc(), &fault, &[name], name, None))
         }
+        outcome => outcome,
     }
 }
 
@@ -109,29 +107,24 @@ fn report_noting<'a, R: Files + AllocGlobal, I: Read + Drop>(
     arg: &'a str,
     input: &mut Option<I>,
     failure: &Failure,
-) -> Result<Result<CheckReport, Fault>, Refusal<'a>> {
+) -> Result<CheckReport, Refusal<'a>> {
     let alloc = rt.alloc();
-    let last_line = LastLine::wanted(check.whole);
     let file = open_arg(rt, arg, input)?;
-    if !check.sorted && !file.can_be_read_again() {
-        return Ok(run_check(alloc, file_input(Noted::new(file, failure), last_line)));
+    let is_regular = file.can_be_read_again();
+    let end = check.inputs.end.of_file(is_regular);
+    if !check.inputs.sorted && !is_regular {
+        return Ok(run_check(alloc, file_input(Noted::new(file, failure), end))?);
     }
-    match run_check_sorted(alloc, file_input(Noted::new(file, failure), last_line)) {
-        Err(fault) if is_unsorted(&fault) && !check.sorted => {
+    match run_check_sorted(alloc, file_input(Noted::new(file, failure), end)) {
+        Err(fault) if is_unsorted(&fault) && !check.inputs.sorted => {
             let again: Stream<R::File, I> = Stream::File(open(rt, arg)?);
-            Ok(run_check(alloc, file_input(Noted::new(again, failure), last_line)))
+            Ok(run_check(alloc, file_input(Noted::new(again, failure), end))?)
         }
-        outcome => Ok(outcome),
+        outcome => Ok(outcome?),
     }
 }
 
 /// Whether a file is refused only because it isn't sorted.
 pub(super) fn is_unsorted(fault: &Fault) -> bool {
     fault.reason == Reason::Unsorted
-}
-
-/// The refusal of a file.
-fn refused<'a>(alloc: Global, arg: &'a str, fault: &Fault) -> Refusal<'a> {
-    let name = input_name(arg);
-    Refusal::of_fault(alloc, fault, &[name], name, None)
 }

@@ -1,26 +1,24 @@
 //! Runs that make one file from files.
 use super::file_check::is_unsorted;
-use super::files::{Stream, buffered_out, input_names, open_all};
+use super::files::{Stream, buffered_out, input_ids, input_names, open_all};
 use super::input::{
-    FileInput, LastLine, RunFile, fault_by_failures, file_input, no_failures, note_errors,
+    Failure, FileInput, Noted, RunFile, fault_by_failures, file_input, no_failures,
 };
-use super::part::PartFile;
+use super::part::{FileId, PartFile};
 use super::progress::{Meter, Metered};
 use super::refusal::Refusal;
-use super::request::FileRun;
-use super::runs::{
-    MOST_RUNS, OrderCheck, RunReader, check_order, open_at, run_reader, split_into_runs,
-};
+use super::request::{FileEnd, FileRun};
+use super::runs::{MOST_RUNS, RunReader, first_unsorted, open_at, run_reader, runs_of_file};
 use super::shard::{Shard, ShardPlan, check_shardable, plan_shard};
 use super::summary::Summary;
-use super::tally::{Tallied, Tally};
 use super::target::{Destination, Target};
-use osm_files::{Fault, Format, SortedRun};
+use osm_files::{Fault, SortedRun};
 use osm_mirror::{
     Counts, InputFile, Order, Outside, Selection, Slice, SliceFile, Span, run_merge, run_selected,
     run_slice,
 };
 use std::alloc::{AllocError, Global};
+use std::cell::Cell;
 use std::io::{Empty, IsTerminal, Read, Write};
 use std::rt::Files;
 use std::time::Clock;
@@ -29,9 +27,11 @@ use std::time::Clock;
 type OpenFiles<F, I> = Vec<Option<Stream<F, I>>>;
 
 /// Makes OUT from files. A file is written as OUT.part, which becomes OUT at the end and is removed after a refusal.
+/// `list` is the identity of the list that has the names of the files.
 pub(super) fn run_files<'a, R, I, O, E>(
     rt: &R,
     asked: &FileRun<'a>,
+    list: Option<FileId>,
     mut input: Option<I>,
     out: &mut O,
     err: &mut E,
@@ -47,9 +47,10 @@ where
     let run = Runner {
         rt,
         asked,
+        list,
         target: Target::of_arg(rt, asked.output),
         meter: Meter::new(rt, err, asked.progress),
-        tally: Tally::new(asked.format, asked.summary),
+        write_failure: Cell::new(None),
     };
     run.run(&mut files, &mut input, out)
 }
@@ -61,12 +62,14 @@ struct Runner<'a, 'q, 'r, 'm, R, E> {
     rt: &'r R,
     /// The request.
     asked: &'q FileRun<'a>,
+    /// The identity of the list that has the names of the files.
+    list: Option<FileId>,
     /// The target that OUT names.
     target: Target<'a>,
     /// The meter that reports on the run.
     meter: Meter<'m, R, E>,
-    /// The tally that counts the versions written.
-    tally: Tally,
+    /// The error of the output.
+    write_failure: Failure,
 }
 
 impl<'a, 'q, 'r, 'm, R, E> Runner<'a, 'q, 'r, 'm, R, E>
@@ -82,14 +85,14 @@ where
         input: &mut Option<I>,
         out: &mut O,
     ) -> Result<(), Refusal<'a>> {
-        let args = self.asked.files.as_slice();
+        let args = self.asked.inputs.names.as_slice();
         self.target.refuse_part(args)?;
         if self.asked.shard.is_some() {
             check_shardable(self.rt, args)?;
         }
         open_all(self.rt, args, input, files)?;
-        let inputs: &[Option<Stream<R::File, I>>] = files;
-        match self.target.open(self.rt, self.rt.alloc(), inputs, out) {
+        let inputs = input_ids(self.rt, files.as_slice(), self.list)?;
+        match self.target.open(self.rt, inputs.as_slice(), out) {
             Ok(mut destination) => self.finish(files, &mut destination),
             Err(refusal) => Err(refusal),
         }
@@ -106,10 +109,7 @@ where
             Some(shard) => self.write_shard(files, shard, destination),
             None => self.write_with_retries(files, &mut modes, destination),
         };
-        let outcome = match written {
-            Ok(outcome) => self.complete(destination, outcome),
-            Err(refusal) => Err(refusal),
-        };
+        let outcome = self.complete(destination, written);
         if outcome.is_err() {
             destination.discard(self.rt);
         }
@@ -120,29 +120,23 @@ where
     fn complete<O: Write>(
         &self,
         destination: &Destination<R::File, O>,
-        outcome: Result<Counts, Fault>,
+        written: Result<Counts, Refusal<'a>>,
     ) -> Result<(), Refusal<'a>> {
-        self.meter.end(&outcome);
-        match outcome {
+        self.meter.end(written.as_ref().ok());
+        match written {
             Ok(counts) => {
                 self.target
                     .complete(self.rt, destination, self.asked.fsync)?;
                 self.summarize(counts);
                 Ok(())
             }
-            Err(fault) => {
+            Err(Refusal::Fault(fault)) => {
                 let alloc = self.rt.alloc();
-                match input_names(alloc, self.asked.files.as_slice()) {
-                    Ok(names) => Err(Refusal::of_fault(
-                        alloc,
-                        &fault,
-                        names.as_slice(),
-                        self.target.name(),
-                        self.tally.failure(),
-                    )),
-                    Err(AllocError) => Err(Refusal::Memory),
-                }
+                let names = input_names(alloc, self.asked.inputs.names.as_slice())?;
+                let error = self.write_failure.get();
+                Err(Refusal::of_fault(alloc, &fault, names.as_slice(), self.target.name(), error))
             }
+            Err(refusal) => Err(refusal),
         }
     }
 
@@ -150,66 +144,100 @@ where
     fn summarize(&self, counts: Counts) {
         if self.asked.summary {
             self.meter.print(&Summary {
-                command: self.asked.command,
-                inputs: self.asked.files.len(),
+                asked: self.asked,
                 counts,
-                written: self.tally.written(),
+                done: self.meter.done(),
                 time: self.meter.elapsed(),
                 output: self.target.name(),
             });
         }
     }
 
-    /// Writes a shard of the selected versions. Each file is opened again at the part that is read.
+    /// Writes a shard of the selected versions. Each file is opened again at the part that is read. The place of a fault
+    /// `Unsorted` is the offset of the file's first version that is out of order.
     fn write_shard<I: Read + Drop, O: Write>(
         &self,
         files: &mut OpenFiles<R::File, I>,
         shard: Shard,
         destination: &mut Destination<R::File, O>,
-    ) -> Result<Result<Counts, Fault>, Refusal<'a>> {
+    ) -> Result<Counts, Refusal<'a>> {
         files.clear();
-        let plan = match plan_shard(self.rt, self.asked.files.as_slice(), shard)? {
-            Ok(plan) => plan,
-            Err(fault) => return self.fault_of_shard(&fault),
+        let written = match plan_shard(self.rt, self.asked.inputs.names.as_slice(), shard) {
+            Ok(plan) => self.write_parts(&plan, destination),
+            Err(refusal) => Err(refusal),
         };
-        match self.write_parts(&plan, destination)? {
-            Ok(counts) => Ok(Ok(counts)),
-            Err(fault) => match plan.parts.get(fault.input) {
-                Some(part) => {
-                    let place = part.run.offset_in_file(fault.place);
-                    self.fault_of_shard(&Fault::at(fault.input, place, fault.reason))
-                }
-                None => Ok(Err(Fault::at(self.asked.files.len(), fault.place, fault.reason))),
-            },
+        match written {
+            Err(Refusal::Fault(fault)) if is_unsorted(&fault) => {
+                let first = match self.asked.inputs.names.get(fault.input) {
+                    Some(name) => first_unsorted(self.rt, *name)?,
+                    None => None,
+                };
+                let place = first.unwrap_or(fault.place);
+                Err(Fault::at(fault.input, place, fault.reason).into())
+            }
+            written => written,
         }
     }
 
-    /// Writes the selected versions of the parts of the files in `plan`.
+    /// Writes the selected versions of the parts of the files in `plan`. The place of a fault is an offset in its file.
     fn write_parts<O: Write>(
         &self,
         plan: &ShardPlan,
         destination: &mut Destination<R::File, O>,
-    ) -> Result<Result<Counts, Fault>, Refusal<'a>> {
-        self.tally.clear();
+    ) -> Result<Counts, Refusal<'a>> {
+        self.meter.begin();
+        let failures = no_failures(self.rt.alloc(), plan.parts.len())?;
         let parts = self.open_parts(plan)?;
-        let failures = no_failures(self.rt.alloc(), parts.len())?;
-        let parts = note_errors(self.rt.alloc(), parts, failures.as_slice())?;
-        let outcome = self.write_slice(plan.span, parts, destination);
-        Ok(outcome.map_err(|fault| fault_by_failures(&fault, failures.as_slice())))
+        match self.write_slice(plan.span, parts, failures.as_slice(), destination) {
+            Ok(counts) => Ok(counts),
+            Err(fault) => {
+                let Fault {
+                    input,
+                    place,
+                    reason,
+                } = fault_by_failures(&fault, failures.as_slice());
+                let fault = match plan.parts.get(input) {
+                    Some(part) => Fault::at(input, part.run.offset_in_file(place), reason),
+                    None => Fault::at(self.asked.inputs.names.len(), place, reason),
+                };
+                Err(fault.into())
+            }
+        }
     }
 
     /// Opens the part of each file that `plan` names.
     fn open_parts(&self, plan: &ShardPlan) -> Result<Vec<OpenPart<R::File>>, Refusal<'a>> {
         let mut parts = Vec::new(self.rt.alloc());
-        for (part, name) in plan.parts.iter().zip(&self.asked.files) {
+        for (part, name) in plan.parts.iter().zip(&self.asked.inputs.names) {
             let file = Stream::File(open_at(self.rt, *name, part.run.start)?);
             parts.push(RunFile {
                 reader: run_reader(part.run, file),
                 mode: part.outside,
-                last_line: LastLine::wanted(self.asked.whole && part.is_last),
+                end: self.end(part.is_last, true),
             })?;
         }
         Ok(parts)
+    }
+
+    /// The files with readers whose bytes the meter counts. The errors of a file go to the `Failure` at its index.
+    fn metered<'n, F: Read + Drop, M: Drop>(
+        &'n self,
+        files: Vec<RunFile<F, M>>,
+        failures: &'n [Failure],
+    ) -> Result<Vec<RunFile<Metered<'n, 'm, F, R, E>, M>>, Fault> {
+        let mut metered = Vec::new(self.rt.alloc());
+        for (file, failure) in files.into_iter().zip(failures) {
+            metered.push(RunFile {
+                reader: Metered {
+                    reader: file.reader,
+                    failure,
+                    meter: &self.meter,
+                },
+                mode: file.mode,
+                end: file.end,
+            })?;
+        }
+        Ok(metered)
     }
 
     /// Writes the selected versions of the objects within `span`, from parts of files.
@@ -217,21 +245,13 @@ where
         &self,
         span: Span,
         parts: Vec<RunFile<F, Outside>>,
+        failures: &[Failure],
         writer: W,
     ) -> Result<Counts, Fault> {
         let alloc = self.rt.alloc();
-        let writer = Tallied::new(writer, &self.tally);
-        let mut metered = Vec::new(alloc);
-        for part in parts {
-            metered.push(RunFile {
-                reader: Metered::new(part.reader, &self.meter),
-                mode: part.mode,
-                last_line: part.last_line,
-            })?;
-        }
-        let inputs = slice_inputs(alloc, metered)?;
-        let mut output = buffered_out(alloc, writer)?;
         let selection = self.asked.selection;
+        let mut output = buffered_out(alloc, Noted::new(writer, &self.write_failure))?;
+        let inputs = slice_inputs(alloc, self.metered(parts, failures)?)?;
         run_slice(
             alloc,
             Slice { span, selection },
@@ -240,21 +260,6 @@ where
             &mut output,
             &mut &self.meter,
         )
-    }
-
-    /// The fault of a file of a shard. The place of a fault `Unsorted` is the offset of the file's first version that
-    /// is out of order.
-    fn fault_of_shard(&self, fault: &Fault) -> Result<Result<Counts, Fault>, Refusal<'a>> {
-        let place = match self.asked.files.get(fault.input) {
-            Some(name) if is_unsorted(fault) => {
-                match check_order(self.rt, *name, SortedRun::whole())? {
-                    OrderCheck::Unsorted(offset) => offset,
-                    _ => fault.place,
-                }
-            }
-            _ => fault.place,
-        };
-        Ok(Err(Fault::at(fault.input, place, fault.reason)))
     }
 
     /// Writes the selected versions, in a few turns. The first turn reads all files that can be read again as sorted
@@ -269,28 +274,36 @@ where
         files: &mut OpenFiles<R::File, I>,
         modes: &mut Vec<InputMode>,
         destination: &mut Destination<R::File, O>,
-    ) -> Result<Result<Counts, Fault>, Refusal<'a>> {
+    ) -> Result<Counts, Refusal<'a>> {
         self.set_initial_modes(files.as_slice(), modes)?;
         let has_one_turn = !destination.can_be_emptied() || modes.iter().any(|mode| mode.is_held());
-        if has_one_turn && !self.asked.sorted {
-            self.split_unsorted(modes.as_mut_slice())?;
+        if has_one_turn && !self.asked.inputs.sorted {
+            self.split_all(modes.as_mut_slice())?;
         }
-        let mut outcome = self.write(files.as_mut_slice(), modes.as_slice(), destination)?;
-        if has_one_turn || self.asked.sorted {
-            return Ok(outcome);
+        let mut outcome = self.write(files.as_mut_slice(), modes.as_slice(), destination);
+        if has_one_turn || self.asked.inputs.sorted {
+            return outcome;
         }
-        for turn in 0..=self.asked.files.len() {
-            if !self.split_refused(modes.as_mut_slice(), &outcome)? {
-                break;
+        for turn in 0..=self.asked.inputs.names.len() {
+            match outcome {
+                Err(Refusal::Fault(fault)) if fault.input < modes.len() && is_unsorted(&fault) => {
+                    self.split(modes.as_mut_slice(), fault.input, Some(fault.place))?;
+                }
+                outcome => return outcome,
             }
             if turn > 0 {
-                self.split_unsorted(modes.as_mut_slice())?;
+                self.split_all(modes.as_mut_slice())?;
             }
-            open_all(self.rt, self.asked.files.as_slice(), &mut None, files)?;
+            open_all(
+                self.rt,
+                self.asked.inputs.names.as_slice(),
+                &mut None,
+                files,
+            )?;
             self.target.empty(destination)?;
-            outcome = self.write(files.as_mut_slice(), modes.as_slice(), destination)?;
+            outcome = self.write(files.as_mut_slice(), modes.as_slice(), destination);
         }
-        Ok(outcome)
+        outcome
     }
 
     /// Sets how the first turn reads each file. A file that can't be read again is held in memory, unless all files
@@ -301,7 +314,7 @@ where
         modes: &mut Vec<InputMode>,
     ) -> Result<(), AllocError> {
         for file in files.iter().flatten() {
-            let order = if self.asked.sorted || file.can_be_read_again() {
+            let order = if self.asked.inputs.sorted || file.can_be_read_again() {
                 Order::Sorted
             } else {
                 Order::Any
@@ -311,44 +324,32 @@ where
         Ok(())
     }
 
-    /// Checks the order of each file that is read as a sorted file. An unsorted file is split, or held in memory.
-    fn split_unsorted(&self, modes: &mut [InputMode]) -> Result<(), Refusal<'a>> {
-        let whole = SortedRun::whole();
-        for (file, name) in self.asked.files.iter().enumerate() {
-            if modes.get(file).is_some_and(InputMode::is_streamed_whole)
-                && let OrderCheck::Unsorted(offset) = check_order(self.rt, *name, whole)?
-            {
-                self.split(modes, file, offset)?;
+    /// Splits each file that is read as a whole sorted file.
+    fn split_all(&self, modes: &mut [InputMode]) -> Result<(), Refusal<'a>> {
+        for file in 0..modes.len() {
+            if modes.get(file).is_some_and(InputMode::is_streamed_whole) {
+                self.split(modes, file, None)?;
             }
         }
         Ok(())
     }
 
-    /// Splits the file that was refused as unsorted, or holds it in memory, and returns whether there is such a file.
-    fn split_refused(
+    /// Splits a file: from now on its sorted runs are read. The version at `first` is the file's first that is out of
+    /// order, if it is known. The file is held in memory if it can't be split, if it has too many runs, or if it was
+    /// split before and has changed since.
+    fn split(
         &self,
         modes: &mut [InputMode],
-        outcome: &Result<Counts, Fault>,
-    ) -> Result<bool, Refusal<'a>> {
-        match outcome {
-            Err(fault) if fault.input < modes.len() && is_unsorted(fault) => {
-                self.split(modes, fault.input, fault.place)?;
-                Ok(true)
-            }
-            _ => Ok(false),
-        }
-    }
-
-    /// Splits a file: from now on its sorted runs are read. The version at `offset` is the file's first that is out of
-    /// order. The file is held in memory if it can't be split, if it has too many runs, or if it was split before and
-    /// has changed since.
-    fn split(&self, modes: &mut [InputMode], file: usize, offset: u64) -> Result<(), Refusal<'a>> {
+        file: usize,
+        first: Option<u64>,
+    ) -> Result<(), Refusal<'a>> {
         let most = MOST_RUNS.saturating_sub(runs_of_others(modes, file));
-        let (Some(mode), Some(name)) = (modes.get_mut(file), self.asked.files.get(file)) else {
+        let (Some(mode), Some(name)) = (modes.get_mut(file), self.asked.inputs.names.get(file))
+        else {
             return Ok(());
         };
         if mode.is_streamed_whole()
-            && let Some(sorted_runs) = split_into_runs(self.rt, *name, offset, most)?
+            && let Some(sorted_runs) = runs_of_file(self.rt, *name, file, first, most)?
         {
             mode.sorted_runs = sorted_runs;
         } else {
@@ -364,16 +365,18 @@ where
         files: &mut [Option<Stream<R::File, I>>],
         modes: &[InputMode],
         destination: &mut Destination<R::File, O>,
-    ) -> Result<Result<Counts, Fault>, Refusal<'a>> {
+    ) -> Result<Counts, Refusal<'a>> {
         self.meter.read_files(files);
-        self.tally.clear();
-        let inputs = self.open_runs(files, modes)?;
-        let failures = no_failures(self.rt.alloc(), inputs.len())?;
-        let inputs = note_errors(self.rt.alloc(), inputs, failures.as_slice())?;
-        let outcome = self.write_inputs(inputs, destination);
-        Ok(outcome.map_err(|fault| {
-            fault_of_file(modes, &fault_by_failures(&fault, failures.as_slice()))
-        }))
+        let count = runs_of_others(modes, modes.len());
+        let failures = no_failures(self.rt.alloc(), count)?;
+        let runs = self.open_runs(files, modes)?;
+        match self.write_runs(runs, failures.as_slice(), destination) {
+            Ok(counts) => Ok(counts),
+            Err(fault) => {
+                let fault = fault_by_failures(&fault, failures.as_slice());
+                Err(fault_of_file(modes, &fault).into())
+            }
+        }
     }
 
     /// Makes readers of the runs of the files. The first run of a file gets the open file, and each other run opens it
@@ -383,71 +386,74 @@ where
         files: &mut [Option<Stream<R::File, I>>],
         modes: &[InputMode],
     ) -> Result<Vec<RunFile<RunReader<Stream<R::File, I>>, Order>>, Refusal<'a>> {
-        let mut inputs = Vec::new(self.rt.alloc());
-        for ((file, mode), name) in files.iter_mut().zip(modes).zip(&self.asked.files) {
+        let mut runs = Vec::new(self.rt.alloc());
+        for ((file, mode), name) in files.iter_mut().zip(modes).zip(&self.asked.inputs.names) {
             let last = mode.sorted_runs.len().saturating_sub(1);
             for (number, run) in mode.sorted_runs.iter().enumerate() {
                 let file = match file.take() {
                     Some(file) => file,
                     None => Stream::File(open_at(self.rt, *name, run.start)?),
                 };
-                inputs.push(RunFile {
+                let end = self.end(number == last, file.can_be_read_again());
+                runs.push(RunFile {
                     reader: run_reader(*run, file),
                     mode: mode.order,
-                    last_line: LastLine::wanted(self.asked.whole && number == last),
+                    end,
                 })?;
             }
         }
-        Ok(inputs)
+        Ok(runs)
     }
 
-    /// Writes the selected versions of the files, each read in its order.
-    fn write_inputs<F: Read + Drop, W: Write + Drop>(
+    /// How a run of a file must end. The file ends with it if `is_last` is true.
+    fn end(&self, is_last: bool, is_regular: bool) -> FileEnd {
+        if is_last {
+            self.asked.inputs.end.of_file(is_regular)
+        } else {
+            FileEnd::Any
+        }
+    }
+
+    /// Writes the selected versions of the runs, each read in its order. A plain merge goes through `run_merge`.
+    fn write_runs<F: Read + Drop, W: Write + Drop>(
         &self,
-        files: Vec<RunFile<F, Order>>,
+        runs: Vec<RunFile<F, Order>>,
+        failures: &[Failure],
         writer: W,
     ) -> Result<Counts, Fault> {
         let alloc = self.rt.alloc();
-        let writer = Tallied::new(writer, &self.tally);
-        let is_whole = self.asked.selection == Selection::All;
-        let is_streamed = files.iter().all(|file| file.mode == Order::Sorted);
-        if is_whole && is_streamed && !self.asked.progress {
-            return merge(alloc, self.asked.format, files, writer);
+        let (selection, format) = (self.asked.selection, self.asked.format);
+        let is_plain = selection == Selection::All
+            && !self.asked.progress
+            && !self.asked.summary
+            && runs.iter().all(|run| run.mode == Order::Sorted);
+        let mut output = buffered_out(alloc, Noted::new(writer, &self.write_failure))?;
+        let runs = self.metered(runs, failures)?;
+        if is_plain {
+            return run_merge(alloc, readers(alloc, runs)?, format, &mut output);
         }
-        let mut metered = Vec::new(alloc);
-        for file in files {
-            metered.push(RunFile {
-                reader: Metered::new(file.reader, &self.meter),
-                mode: file.mode,
-                last_line: file.last_line,
-            })?;
-        }
-        let inputs = run_inputs(alloc, metered)?;
-        let mut output = buffered_out(alloc, writer)?;
+        let inputs = run_inputs(alloc, runs)?;
         run_selected(
             alloc,
-            self.asked.selection,
+            selection,
             inputs,
-            self.asked.format,
+            format,
             &mut output,
             &mut &self.meter,
         )
     }
 }
 
-/// The part of a file that is read for a shard.
-type OpenPart<F> = RunFile<RunReader<Stream<F, Empty>>, Outside>;
-
-/// The files as inputs of a run.
+/// The runs as inputs of a run.
 fn run_inputs<F: Read + Drop>(
     alloc: Global,
-    files: Vec<RunFile<F, Order>>,
+    runs: Vec<RunFile<F, Order>>,
 ) -> Result<Vec<InputFile<FileInput<F>>>, Fault> {
     let mut inputs = Vec::new(alloc);
-    for file in files {
+    for run in runs {
         inputs.push(InputFile {
-            reader: file_input(file.reader, file.last_line),
-            order: file.mode,
+            reader: file_input(run.reader, run.end),
+            order: run.mode,
         })?;
     }
     Ok(inputs)
@@ -461,27 +467,27 @@ fn slice_inputs<F: Read + Drop>(
     let mut inputs = Vec::new(alloc);
     for part in parts {
         inputs.push(SliceFile {
-            reader: file_input(part.reader, part.last_line),
+            reader: file_input(part.reader, part.end),
             outside: part.mode,
         })?;
     }
     Ok(inputs)
 }
 
-/// Merges files that are all read as sorted files.
-fn merge<F: Read + Drop, W: Write + Drop>(
+/// The runs as inputs of a merge.
+fn readers<F: Read + Drop>(
     alloc: Global,
-    format: Format,
-    files: Vec<RunFile<F, Order>>,
-    writer: W,
-) -> Result<Counts, Fault> {
+    runs: Vec<RunFile<F, Order>>,
+) -> Result<Vec<FileInput<F>>, Fault> {
     let mut inputs = Vec::new(alloc);
-    for file in files {
-        inputs.push(file_input(file.reader, file.last_line))?;
+    for run in runs {
+        inputs.push(file_input(run.reader, run.end))?;
     }
-    let mut output = buffered_out(alloc, writer)?;
-    run_merge(alloc, inputs, format, &mut output)
+    Ok(inputs)
 }
+
+/// The part of a file that is read for a shard.
+type OpenPart<F> = RunFile<RunReader<Stream<F, Empty>>, Outside>;
 
 /// How a run reads a file.
 #[derive(Drop)]

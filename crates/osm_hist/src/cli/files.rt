@@ -93,12 +93,22 @@ impl<F: OpenFile, S> Stream<F, S> {
     }
 }
 
-/// Appends an item to a list. Unlike that of `Vec::push`, the error doesn't hold the item.
-pub(super) fn push<T: Drop>(items: &mut Vec<T>, item: T) -> Result<(), AllocError> {
-    match items.push(item) {
-        Ok(()) => Ok(()),
-        Err(_) => Err(AllocError),
+/// The identities of the open files and of the `list` that has their names, as far as they are known.
+pub(super) fn input_ids<R: Files + AllocGlobal, S>(
+    rt: &R,
+    streams: &[Option<Stream<R::File, S>>],
+    list: Option<FileId>,
+) -> Result<Vec<FileId>, AllocError> {
+    let mut ids = Vec::new(rt.alloc());
+    for stream in streams.iter().flatten() {
+        if let Some(id) = stream.id(rt) {
+            ids.push(id)?;
+        }
     }
+    if let Some(id) = list {
+        ids.push(id)?;
+    }
+    Ok(ids)
 }
 
 /// The name of an input file in the line of its fault. The argument `arg` names the file.

@@ -1,28 +1,28 @@
 //! Lists of files. `--files0-from` names a file that holds names, each ended by NUL.
 use super::files::{input_name, open_arg};
+use super::part::FileId;
 use super::refusal::Refusal;
 use super::target::STANDARD;
 use std::alloc::Global;
 use std::io::{ErrorKind, Read};
 use std::rt::Files;
 
-/// The beginning of an argument that names a list.
-pub(super) const OPTION: &str = "--files0-from";
-
-/// Reads the text of `list`, where `-` is standard input. Without a list the text is empty.
+/// Reads `list`, where `-` is standard input. Returns its text, and the identity of its file if that is known. Without a
+/// list the text is empty.
 pub(super) fn read_list<'a, R: Files + AllocGlobal, I: Read + Drop>(
     rt: &R,
     list: Option<&'a str>,
     input: &mut Option<I>,
-) -> Result<String, Refusal<'a>> {
+) -> Result<(String, Option<FileId>), Refusal<'a>> {
     let mut text = String::new(rt.alloc());
     let Some(arg) = list else {
-        return Ok(text);
+        return Ok((text, None));
     };
     let name = input_name(arg);
     let mut file = open_arg(rt, arg, input)?;
+    let id = file.id(rt);
     match file.read_to_string(&mut text) {
-        Ok(_) => Ok(text),
+        Ok(_) => Ok((text, id)),
         Err(error) => match error.kind() {
             ErrorKind::OutOfMemory => Err(Refusal::Memory),
             ErrorKind::InvalidData => Err(Refusal::ListNotUtf8 { name }),

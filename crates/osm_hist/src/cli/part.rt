@@ -2,12 +2,11 @@
 //!
 //! A run holds a lock on its OUT.part. The lock ends with the process, so the next run can remove the file that a
 //! killed run left and make its own.
-use super::files::Stream;
 use super::refusal::Refusal;
-use std::alloc::Global;
+use std::alloc::{AllocError, Global};
 use std::fs::{File, Metadata, OpenFile, Permissions, TryLockError};
 use std::io::{ErrorKind, Seek, SeekFrom, Write};
-use std::os::unix::fs::{MetadataExt, PermissionsExt, fchown};
+use std::os::unix::fs::{FileExt, MetadataExt, OpenOptionsExt, PermissionsExt, fchown};
 use std::rt::Files;
 use std::{fs, io};
 
@@ -20,8 +19,17 @@ const ATTEMPTS: usize = 16;
 /// The bits of a file's mode that permit reading, writing and running it.
 const PERMISSION_BITS: u32 = 0o777;
 
+/// Those of these bits that are for the file's group.
+const GROUP_BITS: u32 = 0o070;
+
+/// The mode of a new file, before the process's mask.
+const NEW_MODE: u32 = 0o666;
+
+/// The mode of OUT.part until it has the owner of an existing OUT.
+const PRIVATE_MODE: u32 = 0o600;
+
 /// The operations that OUT.part needs of an open file in addition to `OpenFile`.
-pub(crate) trait PartFile: OpenFile {
+pub(crate) trait PartFile: OpenFile + FileExt {
     /// Locks the file for this handle until the handle is closed.
     fn try_lock(&self) -> Result<(), TryLockError>;
 
@@ -56,18 +64,6 @@ impl FileId {
     }
 }
 
-/// The outcome of one attempt to get OUT.part.
-enum Attempt<F> {
-    /// The file is made and locked.
-    Made(F, FileId),
-    /// Another run made or renamed a file of that name in the meantime.
-    Again,
-    /// The run can't make a file of that name.
-    CannotCreate,
-    /// The file of that name is an input.
-    IsInput,
-}
-
 /// OUT.part, open and locked.
 #[derive(Drop)]
 pub(super) struct OutPart<F> {
@@ -84,20 +80,38 @@ pub(super) fn is_part(name: &str, output: &str) -> bool {
     name.strip_suffix(ENDING) == Some(output)
 }
 
+/// The name of the OUT.part of `output`.
+pub(super) fn part_name(alloc: Global, output: &str) -> Result<String, AllocError> {
+    format!(in alloc; "{output}{ENDING}")
+}
+
+/// The folder of the file `name`.
+pub(super) fn folder_of(name: &str) -> &str {
+    match name.rsplit_once('/') {
+        Some(("", _)) => "/",
+        Some((folder, _)) => folder,
+        None => ".",
+    }
+}
+
+/// The identity of the regular file `name`, or of the one that a link of that name leads to.
+pub(super) fn id_of_regular<R: Files>(rt: &R, name: &str) -> Option<FileId> {
+    match fs::metadata(rt, name) {
+        Ok(metadata) if metadata.is_file() => Some(FileId::of(&metadata)),
+        _ => None,
+    }
+}
+
 impl<F: PartFile + Seek + Write> OutPart<F> {
     /// Makes OUT.part, which must not be one of `inputs`. It gets the mode and the owner of an existing OUT.
-    pub(super) fn make<'a, R: Files<File = F>, I>(
+    pub(super) fn make<'a, R: Files<File = F> + AllocGlobal>(
         rt: &R,
-        alloc: Global,
         output: &'a str,
-        inputs: &[Option<Stream<F, I>>],
+        inputs: &[FileId],
     ) -> Result<OutPart<F>, Refusal<'a>> {
-        let name = format!(in alloc; "{output}{ENDING}")?;
-        match attempts(rt, name.as_str(), output, inputs) {
-            Attempt::Made(file, id) => Ok(OutPart { name, file, id }),
-            Attempt::IsInput => Err(Refusal::InputIsOutput { output }),
-            Attempt::Again | Attempt::CannotCreate => Err(Refusal::CannotCreate { output }),
-        }
+        let name = part_name(rt.alloc(), output)?;
+        let made = attempts(rt, name.as_str(), output, inputs);
+        made.map(|(file, id)| OutPart { name, file, id })
     }
 
     /// The file.
@@ -121,17 +135,31 @@ impl<F: PartFile + Seek + Write> OutPart<F> {
         output: &'a str,
         fsync: bool,
     ) -> Result<(), Refusal<'a>> {
+        if !fsync {
+            return self.rename(rt, output);
+        }
+        // The folder is opened first, so that OUT isn't replaced if the folder can't be synced.
+        let Ok(folder) = File::open(rt, folder_of(output)) else {
+            return Err(Refusal::CannotSync { output });
+        };
+        if self.file.sync_all().is_err() {
+            return Err(Refusal::CannotSync { output });
+        }
+        self.rename(rt, output)?;
+        match folder.sync_all() {
+            Ok(()) => Ok(()),
+            Err(_) => Err(Refusal::CannotSync { output }),
+        }
+    }
+
+    /// Renames the file to OUT.
+    fn rename<'a, R: Files<File = F>>(&self, rt: &R, output: &'a str) -> Result<(), Refusal<'a>> {
         let name = self.name.as_str();
-        if fsync && self.file.sync_all().is_err() {
-            return Err(Refusal::CannotSync { output });
+        if is_named(rt, name, self.id) && fs::rename(rt, name, output).is_ok() {
+            Ok(())
+        } else {
+            Err(Refusal::CannotRename { output })
         }
-        if !is_named(rt, name, self.id) || fs::rename(rt, name, output).is_err() {
-            return Err(Refusal::CannotRename { output });
-        }
-        if fsync && sync_folder(rt, output).is_err() {
-            return Err(Refusal::CannotSync { output });
-        }
-        Ok(())
     }
 
     /// Removes the file if its name still belongs to it. If the removal fails, the file stays.
@@ -142,63 +170,102 @@ impl<F: PartFile + Seek + Write> OutPart<F> {
     }
 }
 
+/// The refusal if OUT.part can't be made: because of the system's `error`, or because of another file of that name.
+fn refused<'a>(output: &'a str, error: Option<i32>) -> Refusal<'a> {
+    Refusal::CannotCreate { output, error }
+}
+
 /// Makes OUT.part, in at most `ATTEMPTS` attempts.
-fn attempts<R: Files, I>(
+fn attempts<'a, R: Files>(
     rt: &R,
     name: &str,
-    output: &str,
-    inputs: &[Option<Stream<R::File, I>>],
-) -> Attempt<R::File>
+    output: &'a str,
+    inputs: &[FileId],
+) -> Result<(R::File, FileId), Refusal<'a>>
 where
     R::File: PartFile,
 {
     for _ in 0..ATTEMPTS {
-        match create(rt, name, output) {
-            Attempt::Again => {}
-            outcome => return outcome,
+        if let Some(made) = create(rt, name, output)? {
+            return Ok(made);
         }
-        match remove_leftover(rt, name, inputs) {
-            Attempt::Again => {}
-            outcome => return outcome,
-        }
+        remove_leftover(rt, name, output, inputs)?;
     }
-    Attempt::CannotCreate
+    Err(refused(output, None))
 }
 
-/// Makes the file, unless one of that name exists, and locks it.
-fn create<R: Files>(rt: &R, name: &str, output: &str) -> Attempt<R::File>
+/// Makes the file and locks it, or returns none if there is a file of that name. Only its owner may open it if OUT
+/// exists, since OUT may be private.
+fn create<'a, R: Files>(
+    rt: &R,
+    name: &str,
+    output: &'a str,
+) -> Result<Option<(R::File, FileId)>, Refusal<'a>>
 where
     R::File: PartFile,
 {
-    match File::options().write(true).create_new(true).open(rt, name) {
-        Ok(file) => own(rt, name, output, file),
-        Err(error) if error.kind() == ErrorKind::AlreadyExists => Attempt::Again,
-        Err(_) => Attempt::CannotCreate,
-    }
-}
-
-/// Locks a file that was just made, and gives it the mode and the owner of OUT.
-fn own<R: Files>(rt: &R, name: &str, output: &str, file: R::File) -> Attempt<R::File>
-where
-    R::File: PartFile,
-{
-    let Ok(metadata) = file.metadata() else {
-        return Attempt::CannotCreate;
+    let old = match existing(rt, output) {
+        Ok(old) => old,
+        Err(error) => return Err(refused(output, error.raw_os_error())),
     };
+    let mode = if old.is_some() {
+        PRIVATE_MODE
+    } else {
+        NEW_MODE
+    };
+    let mut options = File::options();
+    match options
+        .write(true)
+        .create_new(true)
+        .mode(mode)
+        .open(rt, name)
+    {
+        Ok(file) => match own(rt, name, old, &file) {
+            Ok(Some(id)) => Ok(Some((file, id))),
+            Ok(None) => Ok(None),
+            Err(error) => Err(refused(output, error.raw_os_error())),
+        },
+        Err(error) if error.kind() == ErrorKind::AlreadyExists => Ok(None),
+        Err(error) => Err(refused(output, error.raw_os_error())),
+    }
+}
+
+/// The metadata of OUT, or of the file that it leads to, if that is a regular file.
+fn existing<R: Files>(rt: &R, output: &str) -> io::Result<Option<Metadata>> {
+    match fs::metadata(rt, output) {
+        Ok(old) if old.is_file() => Ok(Some(old)),
+        Ok(_) => Ok(None),
+        Err(error) => match error.kind() {
+            ErrorKind::NotFound | ErrorKind::FilesystemLoop => Ok(None),
+            _ => Err(error),
+        },
+    }
+}
+
+/// Locks a file that was just made, and gives it the mode and the owner of `old`, which is OUT. The result is none if
+/// the file lost its name to another run.
+fn own<R: Files>(
+    rt: &R,
+    name: &str,
+    old: Option<Metadata>,
+    file: &R::File,
+) -> io::Result<Option<FileId>>
+where
+    R::File: PartFile,
+{
+    let metadata = file.metadata()?;
     let id = FileId::of(&metadata);
-    let outcome = match take_lock(&file) {
-        Lock::Held if !is_named(rt, name, id) => return Attempt::Again,
-        Lock::Held => copy_mode_and_owner(rt, output, &file, &metadata),
-        Lock::Failed => Err(io::Error::from(ErrorKind::Other)),
-        Lock::OfAnother => return Attempt::CannotCreate,
+    let outcome = match (take_lock(file), old) {
+        (Lock::OfAnother, _) => return Err(io::Error::from(ErrorKind::WouldBlock)),
+        _ if !is_named(rt, name, id) => return Ok(None),
+        (Lock::Failed, _) => Err(io::Error::from(ErrorKind::Other)),
+        (Lock::Held, Some(old)) => copy_mode_and_owner(file, &metadata, &old),
+        (Lock::Held, None) => Ok(()),
     };
-    if outcome.is_ok() {
-        return Attempt::Made(file, id);
-    }
-    if is_named(rt, name, id) {
+    if outcome.is_err() && is_named(rt, name, id) {
         let _ = fs::remove_file(rt, name);
     }
-    Attempt::CannotCreate
+    outcome.map(|()| Some(id))
 }
 
 /// The outcome of locking a file.
@@ -222,50 +289,48 @@ pub(super) fn take_lock<F: PartFile>(file: &F) -> Lock {
     }
 }
 
-/// Gives OUT.part the mode of OUT, and its owner if that is permitted. If OUT isn't an existing regular file, nothing
-/// changes.
-fn copy_mode_and_owner<R: Files>(
-    rt: &R,
-    output: &str,
-    file: &R::File,
+/// Gives OUT.part, which has this metadata, the owner of `old` if that is permitted, and then its mode. The permissions
+/// of the group are given only if the group was set.
+fn copy_mode_and_owner<F: PartFile>(
+    file: &F,
     metadata: &Metadata,
-) -> io::Result<()>
-where
-    R::File: PartFile,
-{
-    let old = match fs::symlink_metadata(rt, output) {
-        Ok(old) if old.is_file() => old,
-        Ok(_) => return Ok(()),
-        Err(error) if error.kind() == ErrorKind::NotFound => return Ok(()),
-        Err(error) => return Err(error),
-    };
-    let (uid, gid) = (old.uid(), old.gid());
-    if (uid, gid) != (metadata.uid(), metadata.gid()) && file.set_owner(Some(uid), gid).is_err() {
-        // Setting the group is often permitted when setting the owner isn't.
-        let _ = file.set_owner(None, gid);
+    old: &Metadata,
+) -> io::Result<()> {
+    let mut mode = old.mode() & PERMISSION_BITS;
+    if !copy_owner(file, metadata, old) {
+        mode &= !GROUP_BITS;
     }
-    let mode = old.mode() & PERMISSION_BITS;
     if mode == metadata.mode() & PERMISSION_BITS {
         return Ok(());
     }
     file.set_permissions(Permissions::from_mode(mode))
 }
 
-/// Removes the regular file that a killed run left. It doesn't remove a link, a folder, a device, an input, or a file
-/// that another run has locked.
-fn remove_leftover<R: Files, I>(
+/// Gives OUT.part the owner and the group of `old`, or only the group, as far as that is permitted. Returns whether it
+/// has the group.
+fn copy_owner<F: PartFile>(file: &F, metadata: &Metadata, old: &Metadata) -> bool {
+    let (uid, gid) = (old.uid(), old.gid());
+    (uid, gid) == (metadata.uid(), metadata.gid())
+        || file.set_owner(Some(uid), gid).is_ok()
+        || file.set_owner(None, gid).is_ok()
+}
+
+/// Removes the regular file that a killed run left, so that OUT.part may be made. It doesn't remove a link, a folder, a
+/// device, an input, or a file that another run has locked.
+fn remove_leftover<'a, R: Files>(
     rt: &R,
     name: &str,
-    inputs: &[Option<Stream<R::File, I>>],
-) -> Attempt<R::File>
+    output: &'a str,
+    inputs: &[FileId],
+) -> Result<(), Refusal<'a>>
 where
     R::File: PartFile,
 {
     match fs::symlink_metadata(rt, name) {
         Ok(metadata) if metadata.is_file() => {}
-        Ok(_) => return Attempt::CannotCreate,
-        Err(error) if error.kind() == ErrorKind::NotFound => return Attempt::Again,
-        Err(_) => return Attempt::CannotCreate,
+        Ok(_) => return Err(refused(output, None)),
+        Err(error) if error.kind() == ErrorKind::NotFound => return Ok(()),
+        Err(error) => return Err(refused(output, error.raw_os_error())),
     }
     // A killed run may have left a file that nobody is permitted to write.
     let opened = match File::options().write(true).open(rt, name) {
@@ -273,39 +338,36 @@ where
         opened => opened,
     };
     match opened {
-        Ok(file) => remove_locked(rt, name, inputs, &file),
-        Err(error) if error.kind() == ErrorKind::NotFound => Attempt::Again,
-        Err(_) => Attempt::CannotCreate,
+        Ok(file) => remove_locked(rt, name, output, inputs, &file),
+        Err(error) if error.kind() == ErrorKind::NotFound => Ok(()),
+        Err(error) => Err(refused(output, error.raw_os_error())),
     }
 }
 
 /// Removes the open `file` if no other run has locked it, it still has the name `name`, and it isn't an input.
-fn remove_locked<R: Files, I>(
+fn remove_locked<'a, R: Files>(
     rt: &R,
     name: &str,
-    inputs: &[Option<Stream<R::File, I>>],
+    output: &'a str,
+    inputs: &[FileId],
     file: &R::File,
-) -> Attempt<R::File>
+) -> Result<(), Refusal<'a>>
 where
     R::File: PartFile,
 {
     let id = match file.metadata() {
         Ok(metadata) if file.try_lock().is_ok() => FileId::of(&metadata),
-        _ => return Attempt::CannotCreate,
+        _ => return Err(refused(output, None)),
     };
     if !is_named(rt, name, id) {
-        return Attempt::Again;
+        return Ok(());
     }
-    if inputs
-        .iter()
-        .flatten()
-        .any(|input| input.id(rt) == Some(id))
-    {
-        return Attempt::IsInput;
+    if inputs.iter().any(|input| *input == id) {
+        return Err(Refusal::InputIsOutput { output });
     }
     match fs::remove_file(rt, name) {
-        Ok(()) => Attempt::Again,
-        Err(_) => Attempt::CannotCreate,
+        Ok(()) => Ok(()),
+        Err(error) => Err(refused(output, error.raw_os_error())),
     }
 }
 
@@ -314,18 +376,5 @@ fn is_named<R: Files>(rt: &R, name: &str, id: FileId) -> bool {
     match fs::symlink_metadata(rt, name) {
         Ok(metadata) => metadata.is_file() && FileId::of(&metadata) == id,
         Err(_) => false,
-    }
-}
-
-/// Syncs the names in the folder of a file to the disk.
-fn sync_folder<R: Files>(rt: &R, name: &str) -> io::Result<()> {
-    let folder = match name.rsplit_once('/') {
-        Some(("", _)) => "/",
-        Some((folder, _)) => folder,
-        None => ".",
-    };
-    match File::open(rt, folder) {
-        Ok(folder) => folder.sync_all(),
-        Err(error) => Err(error),
     }
 }

@@ -4,8 +4,9 @@ ghost use Rattle.std.specs.List.{All};
 ghost use Rattle.osm_mirror.specs.Event.{IsWithin};
 ghost use Rattle.osm_mirror.specs.Plan.{NamesItsMirrors};
 
-use super::files::{Stream, read};
-use super::part::PartFile;
+use super::files::read;
+use super::hint::Advice;
+use super::part::{PartFile, id_of_regular, part_name};
 use super::print;
 use super::refusal::Refusal;
 use super::request::PlanRun;
@@ -16,35 +17,44 @@ use std::alloc::{AllocError, Global};
 use std::io::Write;
 use std::rt::Files;
 
-/// Runs a plan. It prints the reply to each step, and then makes the files of the write lines.
+/// Runs a plan. It prints the reply to each step, and then makes the files of the write lines. If events
+/// were refused, the result says so; if the plan is strict, no file is made then.
 pub(super) fn run_plan<'a, R: Files + AllocGlobal, O: Write>(
     rt: &R,
     run: &PlanRun<'a>,
     out: &mut O,
-) -> Result<(), Refusal<'a>>
+) -> Result<Option<Advice<'a>>, Refusal<'a>>
 where
     R::File: PartFile,
 {
     let text = read(rt, run.plan)?;
     match read_plan(rt.alloc(), text.as_slice()) {
-        Ok(plan) => match run_lines(rt, &plan, out) {
-            Ok(()) => Ok(()),
+        Ok(plan) => match run_lines(rt, run, &plan, out) {
+            Ok(0) => Ok(None),
+            Ok(count) if run.strict => Err(Refusal::EventsRefused {
+                name: run.plan,
+                count,
+            }),
+            Ok(count) => Ok(Some(Advice::EventsRefused { count })),
             Err(refusal) => Err(refusal.in_plan(rt.alloc())),
         },
         Err(fault) => Err(Refusal::of_plan(fault, run.plan)),
     }
 }
 
-/// Runs the lines of a plan. All files that the plan takes are read before the first step.
+/// Runs the lines of a plan, and returns the number of refused events. All files that the plan takes are read before the
+/// first step.
 fn run_lines<'p, R: Files + AllocGlobal, O: Write>(
     rt: &R,
+    run: &PlanRun<'_>,
     plan: &'p Plan,
     out: &mut O,
-) -> Result<(), Refusal<'p>>
+) -> Result<usize, Refusal<'p>>
 where
     R::File: PartFile,
     requires { NamesItsMirrors plan.now }
 {
+    refuse_overwriting(rt, run.plan, plan.writes.as_slice())?;
     let files = read_taken(rt, plan.steps.as_slice())?;
     let mut fleet = Fleet::new(rt.alloc(), plan.mirrors.as_slice())?;
     let events = events_of(
@@ -55,7 +65,38 @@ where
     )?;
     let replies = fleet.run(events.as_slice())?;
     print(out, &lines_of(rt.alloc(), replies.as_slice())?)?;
-    write_files(rt, &fleet, plan.writes.as_slice(), out)
+    let refused = replies
+        .iter()
+        .filter(|reply| matches!(reply, Reply::Refused(_)))
+        .count();
+    if refused == 0 || !run.strict {
+        write_files(rt, &fleet, plan.writes.as_slice(), out)?;
+    }
+    Ok(refused)
+}
+
+/// Refuses a write line that would replace the plan `name`, or the file of another write line by its OUT.part.
+fn refuse_overwriting<'p, R: Files + AllocGlobal>(
+    rt: &R,
+    name: &str,
+    writes: &'p [PlanWrite],
+) -> Result<(), Refusal<'p>> {
+    let plan = id_of_regular(rt, name);
+    for write in writes {
+        let output = write.file.as_str();
+        let part = part_name(rt.alloc(), output)?;
+        let is_plan = |file: &str| file == name
+            || plan.is_some() && id_of_regular(rt, file) == plan;
+        if is_plan(output)
+            || is_plan(part.as_str())
+            || writes
+                .iter()
+                .any(|other| other.file.as_str() == part.as_str())
+        {
+            return Err(Refusal::InputIsOutput { output });
+        }
+    }
+    Ok(())
 }
 
 /// The bytes that each step takes: those of its file, or none if the step takes no file.
@@ -159,9 +200,8 @@ fn make_file<'p, R: Files + AllocGlobal, O: Write>(
 where
     R::File: PartFile,
 {
-    let inputs: [Option<Stream<R::File, &[u8]>>; 0] = [];
     let target = Target::of_name(rt, name);
-    let mut destination = target.open(rt, rt.alloc(), &inputs, out)?;
+    let mut destination = target.open(rt, &[], out)?;
     let outcome = match write_bytes(bytes, &mut destination) {
         Ok(()) => target.complete(rt, &destination, false),
         Err(fault) => Err(Refusal::of_fault(rt.alloc(), &fault, &[], target.name(), None)),

@@ -1,7 +1,7 @@
 //! Reports on standard error during a run.
 use super::files::Stream;
-use osm_files::Fault;
-use osm_mirror::{Counts, Progress};
+use super::input::{Failure, note_error};
+use osm_mirror::{Counts, Kind, Progress, Relation, Version};
 use std::cell::{Cell, RefCell};
 use std::fmt::{Display, Formatter};
 use std::fs::OpenFile;
@@ -25,14 +25,54 @@ const CUT_LINES: &str = "\x1b[?7l";
 const WRAP_LINES: &str = "\x1b[?7h";
 
 /// The work that a run has done up to a moment.
-#[derive(Clone, Copy, Debug)]
-struct Done {
+#[derive(Clone, Copy, Debug, Default)]
+pub(super) struct Done {
     /// The number of bytes that the run read.
     bytes: u64,
     /// The number of versions that the run read.
     read: u64,
+    /// The number of nodes that the run wrote.
+    pub(super) nodes: u64,
+    /// The number of ways that the run wrote.
+    pub(super) ways: u64,
+    /// The number of relations that the run wrote.
+    pub(super) relations: u64,
+    /// The number of keys for which the run read several versions with different data.
+    pub(super) shared_keys: u64,
+    /// Whether the key read last is one of these.
+    is_shared: bool,
+}
+
+impl Done {
     /// The number of versions that the run wrote.
-    written: u64,
+    fn written(&self) -> u64 {
+        self.nodes
+            .saturating_add(self.ways)
+            .saturating_add(self.relations)
+    }
+
+    /// Counts a version that was read.
+    fn count_read(&mut self, relation: Relation) {
+        self.read = self.read.saturating_add(1);
+        match relation {
+            Relation::OtherKey => self.is_shared = false,
+            Relation::OtherData if !self.is_shared => {
+                self.is_shared = true;
+                self.shared_keys = self.shared_keys.saturating_add(1);
+            }
+            Relation::OtherData | Relation::Dropped => {}
+        }
+    }
+
+    /// Counts a version that was written.
+    fn count_written(&mut self, kind: Kind) {
+        let count = match kind {
+            Kind::Node => &mut self.nodes,
+            Kind::Way => &mut self.ways,
+            Kind::Relation => &mut self.relations,
+        };
+        *count = count.saturating_add(1);
+    }
 }
 
 /// The content of a report.
@@ -48,11 +88,8 @@ struct Report {
 
 impl Display for Report {
     fn fmt<W: fmt::Write>(&self, f: &mut Formatter<W>) -> fmt::Result {
-        let Done {
-            bytes,
-            read,
-            written,
-        } = self.done;
+        let Done { bytes, read, .. } = self.done;
+        let written = self.done.written();
         if let Some(size) = self.size {
             self.fmt_rest(f, size)?;
         }
@@ -119,11 +156,7 @@ impl<'a, C: Clock, E: Write + IsTerminal> Meter<'a, C, E> {
             start,
             interval,
             last: Cell::new(start),
-            done: Cell::new(Done {
-                bytes: 0,
-                read: 0,
-                written: 0,
-            }),
+            done: Cell::new(Done::default()),
             size: Cell::new(None),
         }
     }
@@ -138,11 +171,17 @@ impl<'a, C: Clock, E: Write + IsTerminal> Meter<'a, C, E> {
             };
         }
         self.size.set(size);
-        self.done.set(Done {
-            bytes: 0,
-            read: 0,
-            written: 0,
-        });
+        self.begin();
+    }
+
+    /// Sets the work done to zero.
+    pub(super) fn begin(&self) {
+        self.done.set(Done::default());
+    }
+
+    /// The work done.
+    pub(super) fn done(&self) -> Done {
+        self.done.get()
     }
 
     /// Adds `count` to the bytes that the run read, and reports if the interval has passed.
@@ -195,7 +234,7 @@ impl<'a, C: Clock, E: Write + IsTerminal> Meter<'a, C, E> {
     }
 
     /// Ends the reports. If the run wasn't refused, a last report has its counts.
-    pub(super) fn end(&self, outcome: &Result<Counts, Fault>) {
+    pub(super) fn end(&self, counts: Option<&Counts>) {
         if !self.is_wanted {
             return;
         }
@@ -206,7 +245,7 @@ impl<'a, C: Clock, E: Write + IsTerminal> Meter<'a, C, E> {
         if err.is_terminal() {
             let _ = write!(err, "{CLEAR_LINE}");
         }
-        if let Ok(counts) = outcome {
+        if let Some(counts) = counts {
             let Counts {
                 read,
                 written,
@@ -223,37 +262,40 @@ impl<'a, C: Clock, E: Write + IsTerminal> Meter<'a, C, E> {
 
 impl<'m, 'a, C, E> Progress for &'m Meter<'a, C, E> {
     #[inline(always)]
-    fn observe(&mut self, read: u64, written: u64) {
-        let done = self.done.get();
-        self.done.set(Done {
-            read,
-            written,
-            ..done
-        });
+    fn read(&mut self, _version: &Version, relation: Relation) {
+        let mut done = self.done.get();
+        done.count_read(relation);
+        self.done.set(done);
+    }
+
+    #[inline(always)]
+    fn written(&mut self, version: &Version) {
+        let mut done = self.done.get();
+        done.count_written(version.kind());
+        self.done.set(done);
     }
 }
 
-/// A reader whose bytes a meter counts.
+/// A reader whose bytes a meter counts, and whose errors are noted.
 #[derive(Drop)]
-pub(super) struct Metered<'m, 'a, F, C, E> {
+pub(super) struct Metered<'n, 'm, F, C, E> {
     /// The reader.
-    reader: F,
+    pub(super) reader: F,
+    /// Its last error.
+    pub(super) failure: &'n Failure,
     /// The meter that counts the bytes.
-    meter: &'m Meter<'a, C, E>,
+    pub(super) meter: &'n Meter<'m, C, E>,
 }
 
-impl<'m, 'a, F, C, E> Metered<'m, 'a, F, C, E> {
-    /// A reader whose bytes `meter` counts.
-    pub(super) fn new(reader: F, meter: &'m Meter<'a, C, E>) -> Metered<'m, 'a, F, C, E> {
-        Metered { reader, meter }
-    }
-}
-
-impl<'m, 'a, F: Read, C: Clock, E: Write + IsTerminal> Read for Metered<'m, 'a, F, C, E> {
+impl<'n, 'm, F: Read, C: Clock, E: Write + IsTerminal> Read for Metered<'n, 'm, F, C, E> {
     fn read(&mut self, buffer: &mut [u8]) -> io::Result<usize> {
-        let count = self.reader.read(buffer)?;
-        self.meter.take_note(count);
-        Ok(count)
+        match self.reader.read(buffer) {
+            Ok(count) => {
+                self.meter.take_note(count);
+                Ok(count)
+            }
+            Err(error) => Err(note_error(self.failure, error)),
+        }
     }
 }
 

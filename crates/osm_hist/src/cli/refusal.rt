@@ -1,9 +1,10 @@
 //! Refusals of a command, with their lines and exit statuses.
+use super::escape::EscapedOut;
 use clap::error::ErrorKind;
 use osm_files::{Fault, Reason};
 use osm_mirror::{Memory, PlanFault, PlanReason, fault_text};
 use std::alloc::{AllocError, AllocFailed, Global};
-use std::io::Write;
+use std::io::{IsTerminal, Write};
 use thiserror::Error;
 
 /// The reason for which a command is refused. Its text is the line for standard error, without its line feed.
@@ -73,6 +74,8 @@ pub(crate) enum Refusal<'a> {
     #[error("{output}.part: cannot create")]
     CannotCreate {
         output: &'a str,
+        /// The system's number of the error, if the system refused to make the file.
+        error: Option<i32>,
     },
     /// A pipe or a device can't be opened to be written.
     #[error("{name}: cannot write")]
@@ -89,10 +92,14 @@ pub(crate) enum Refusal<'a> {
     CannotRename {
         output: &'a str,
     },
+    /// A file is refused, and its name isn't known yet.
+    #[error("{}", .0.reason.name())]
+    Fault(Fault),
     /// A file is refused, and `line` reports it.
     #[error("{line}")]
     File {
         line: String,
+        status: u8,
         /// The fault, if a hint may follow.
         fault: Option<NamedFault<'a>>,
     },
@@ -102,6 +109,12 @@ pub(crate) enum Refusal<'a> {
         name: &'a str,
         line: u64,
         reason: PlanReason,
+    },
+    /// Events of a plan were refused, and the plan is strict.
+    #[error("{name}: {count} events refused")]
+    EventsRefused {
+        name: &'a str,
+        count: usize,
     },
     /// The program is out of memory.
     #[error("out of memory")]
@@ -143,11 +156,12 @@ impl<'a> Refusal<'a> {
             name: *inputs.get(fault.input).unwrap_or(&output),
             place: fault.place,
             reason: fault.reason,
-            error,
+            error: error.filter(|code| *code != 0),
         };
         match fault_text(alloc, fault, inputs, output) {
             Ok(line) => Refusal::File {
                 line,
+                status: 1,
                 fault: Some(named),
             },
             Err(Memory) => Refusal::Memory,
@@ -168,17 +182,25 @@ impl<'a> Refusal<'a> {
 
     /// This refusal as a line. The line borrows no name from the plan, so the plan can be dropped.
     pub(crate) fn in_plan<'b>(self, alloc: Global) -> Refusal<'b> {
+        let status = self.status();
         match format!(in alloc; "{self}") {
-            Ok(line) => Refusal::File { line, fault: None },
+            Ok(line) => Refusal::File {
+                line,
+                status,
+                fault: None,
+            },
             Err(_) => Refusal::Memory,
         }
     }
 
-    /// Writes the line and returns the exit status.
-    pub(crate) fn report<E: Write + Drop>(&self, mut err: E) -> u8 {
+    /// Writes the line and returns the exit status. On a terminal the control characters of names are escaped.
+    pub(crate) fn report<E: Write + IsTerminal>(&self, err: &mut E) -> u8 {
         // If standard error fails, nothing can report it.
         let _ = match self {
             Refusal::Words(error) => write!(err, "{error}"),
+            refusal if err.is_terminal() => {
+                write!(EscapedOut { out: err }, "{refusal}").and_then(|()| writeln!(err))
+            }
             refusal => writeln!(err, "{refusal}"),
         };
         let _ = err.flush();
@@ -187,6 +209,7 @@ impl<'a> Refusal<'a> {
 
     fn status(&self) -> u8 {
         match self {
+            Refusal::File { status, .. } => *status,
             Refusal::Words(_)
             | Refusal::WordsNotUtf8 { .. }
             | Refusal::NotMoment { .. }
@@ -202,6 +225,12 @@ impl<'a> Refusal<'a> {
             | Refusal::Plan { .. } => 2,
             _ => 1,
         }
+    }
+}
+
+impl<'a> From<Fault> for Refusal<'a> {
+    fn from(fault: Fault) -> Refusal<'a> {
+        Refusal::Fault(fault)
     }
 }
 

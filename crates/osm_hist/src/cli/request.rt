@@ -24,59 +24,37 @@ pub(super) enum Request<'a> {
     Help(Error),
 }
 
-/// A command that makes one file from files.
-#[derive(Clone, Copy, Debug, PartialEq, Eq)]
-pub(super) enum FileCommand {
-    Merge,
-    Apply,
-    TimeFilter,
-    Sort,
-}
+/// The command that merges sorted files.
+const MERGE: &str = "merge";
 
-impl FileCommand {
-    /// The command with the name `name`.
-    fn named(name: &str) -> FileCommand {
-        match name {
-            "apply" => FileCommand::Apply,
-            "time-filter" => FileCommand::TimeFilter,
-            "sort" => FileCommand::Sort,
-            _ => FileCommand::Merge,
-        }
-    }
-
-    /// The name of the command.
-    pub(super) fn name(self) -> &'static str {
-        match self {
-            FileCommand::Merge => "merge",
-            FileCommand::Apply => "apply",
-            FileCommand::TimeFilter => "time-filter",
-            FileCommand::Sort => "sort",
-        }
-    }
+/// The input files of a request.
+#[derive(Drop)]
+pub(super) struct InputFiles<'a> {
+    /// Their names.
+    pub(super) names: Vec<&'a str>,
+    /// The name of a list that has their names, if there is one. Then `names` is empty until the list is read.
+    pub(super) list: Option<&'a str>,
+    /// Whether each file has to be sorted.
+    pub(super) sorted: bool,
+    /// How OPL files must end.
+    pub(super) end: FileEnd,
 }
 
 /// A run that makes one file from files.
 #[derive(Drop)]
 pub(super) struct FileRun<'a> {
     /// The command.
-    pub(super) command: FileCommand,
+    pub(super) command: &'a str,
     /// The name of the output.
     pub(super) output: &'a str,
     /// The format of the output.
     pub(super) format: Format,
-    /// The names of the input files.
-    pub(super) files: Vec<&'a str>,
-    /// The name of a list that has the names of the input files, if there is one. Then `files` is empty until the list
-    /// is read.
-    pub(super) list: Option<&'a str>,
+    /// The input files.
+    pub(super) inputs: InputFiles<'a>,
     /// The versions of the input files that are written.
     pub(super) selection: Selection,
     /// The shard of the output that is written, or none if all of it is written.
     pub(super) shard: Option<Shard>,
-    /// Whether each input file has to be sorted.
-    pub(super) sorted: bool,
-    /// Whether the last line of each OPL file must have a line feed.
-    pub(super) whole: bool,
     /// Whether the output is synced to the disk before it is renamed.
     pub(super) fsync: bool,
     /// Whether the run reports its progress.
@@ -88,33 +66,60 @@ pub(super) struct FileRun<'a> {
 /// A check of files, one after the other.
 #[derive(Drop)]
 pub(super) struct FileCheck<'a> {
-    /// The names of the files.
-    pub(super) files: Vec<&'a str>,
-    /// The name of a list that has the names of the files, if there is one. Then `files` is empty until the list is
-    /// read.
-    pub(super) list: Option<&'a str>,
-    /// Whether each file has to be sorted.
-    pub(super) sorted: bool,
-    /// Whether the last line of each OPL file must have a line feed.
-    pub(super) whole: bool,
+    /// The files.
+    pub(super) inputs: InputFiles<'a>,
     /// Whether the arguments ask for hints.
     pub(super) hints: bool,
 }
 
+/// How an OPL file must end.
+#[derive(Clone, Copy, Debug, PartialEq, Eq)]
+pub(super) enum FileEnd {
+    /// The last line may lack its line feed.
+    Any,
+    /// The last line must have a line feed, as `--whole` requires.
+    LineFeed,
+    /// The last line must be the end mark, as `--ended` requires of a file that isn't regular.
+    Mark,
+}
+
+impl FileEnd {
+    /// The end for which the arguments ask.
+    fn of_matches(args: &ArgMatches<'_>) -> FileEnd {
+        if args.get_flag("ended") {
+            FileEnd::Mark
+        } else if args.get_flag("whole") {
+            FileEnd::LineFeed
+        } else {
+            FileEnd::Any
+        }
+    }
+
+    /// The end of a file. A regular file needs no mark.
+    pub(super) fn of_file(self, is_regular: bool) -> FileEnd {
+        match self {
+            FileEnd::Mark if is_regular => FileEnd::LineFeed,
+            end => end,
+        }
+    }
+}
+
 /// A run of a plan.
-#[derive(Drop)]
+#[derive(Clone, Copy, Debug)]
 pub(super) struct PlanRun<'a> {
     /// The name of the plan's file.
     pub(super) plan: &'a str,
+    /// Whether nothing is written after a refused event.
+    pub(super) strict: bool,
 }
 
 impl<'a> Request<'a> {
     /// The list of files that the arguments name, if they name one.
     pub(super) fn list(&self) -> Option<&'a str> {
         match self {
-            Request::Files(run) => run.list,
-            Request::Check(check) => check.list,
-            _ => None,
+            Request::Files(run) => run.inputs.list,
+            Request::Check(check) => check.inputs.list,
+            Request::Plan(_) | Request::Help(_) => None,
         }
     }
 
@@ -132,13 +137,11 @@ impl<'a> Request<'a> {
             return Ok(self);
         };
         let names = names_of(alloc, list, text)?;
-        if names_standard_input_twice(names.as_slice()) {
-            return Err(Refusal::StandardInputTwice);
-        }
+        refuse_twice(names.as_slice())?;
         match &mut self {
-            Request::Files(run) => run.files = names,
-            Request::Check(check) => check.files = names,
-            _ => {}
+            Request::Files(run) => run.inputs.names = names,
+            Request::Check(check) => check.inputs.names = names,
+            Request::Plan(_) | Request::Help(_) => {}
         }
         Ok(self)
     }
@@ -189,11 +192,17 @@ impl<'a> Request<'a> {
     ) -> Result<Option<Request<'a>>, Refusal<'a>> {
         match matches.subcommand() {
             Some(("check", args)) => {
-                Ok(Some(Request::Check(FileCheck::of_matches(alloc, args)?)))
+                let inputs = InputFiles::of_matches(alloc, args)?;
+                let hints = args.get_flag("hints");
+                Ok(Some(Request::Check(FileCheck { inputs, hints })))
             }
             Some(("plan", args)) => Ok(
-                args.get_str("plan")
-                    .map(|plan| Request::Plan(PlanRun { plan })),
+                args.get_str("plan").map(|plan| {
+                    Request::Plan(PlanRun {
+                        plan,
+                        strict: args.get_flag("strict"),
+                    })
+                }),
             ),
             Some((name, args)) => {
                 Ok(FileRun::of_matches(alloc, name, args)?.map(|run| Request::Files(run)))
@@ -217,15 +226,17 @@ impl<'a> FileRun<'a> {
         let mut files = Vec::new(alloc);
         files.push(STANDARD)?;
         Ok(FileRun {
-            command: FileCommand::Merge,
+            command: MERGE,
             output: STANDARD,
             format: Format::Opl,
-            files,
-            list: None,
+            inputs: InputFiles {
+                names: files,
+                list: None,
+                sorted: true,
+                end: FileEnd::Any,
+            },
             selection: Selection::All,
             shard: None,
-            sorted: true,
-            whole: false,
             fsync: false,
             progress: false,
             summary: false,
@@ -240,18 +251,16 @@ impl<'a> FileRun<'a> {
     ) -> Result<Option<FileRun<'a>>, Refusal<'a>> {
         let output = args.get_str("output");
         let format = args.get_str("format").and_then(|name| Format::named(name));
-        let files = files_given(alloc, args)?;
+        let mut inputs = InputFiles::of_matches(alloc, args)?;
+        inputs.sorted |= name == MERGE;
         match (output, format, selection(name, args)?) {
             (Some(output), Some(format), Some(selection)) => Ok(Some(FileRun {
-                command: FileCommand::named(name),
+                command: command_named(name),
                 output,
                 format,
-                files,
-                list: args.get_str(LIST),
+                inputs,
                 selection,
                 shard: shard(args)?,
-                sorted: name == "merge" || args.get_flag("sorted"),
-                whole: args.get_flag("whole"),
                 fsync: args.get_flag("fsync"),
                 progress: args.get_flag("progress"),
                 summary: args.get_flag("summary"),
@@ -261,31 +270,41 @@ impl<'a> FileRun<'a> {
     }
 }
 
-impl<'a> FileCheck<'a> {
-    /// The check for which the arguments of `check` ask.
-    fn of_matches(alloc: Global, args: &ArgMatches<'a>) -> Result<FileCheck<'a>, Refusal<'a>> {
-        Ok(FileCheck {
-            files: files_given(alloc, args)?,
-            list: args.get_str(LIST),
+impl<'a> InputFiles<'a> {
+    /// The files for which the arguments ask. With a list of files there are no names yet.
+    fn of_matches(alloc: Global, args: &ArgMatches<'a>) -> Result<InputFiles<'a>, Refusal<'a>> {
+        let list = args.get_str(LIST);
+        let names = match args.get_strs("files") {
+            Some(names) if list.is_none() => Vec::from_slice(alloc, names)?,
+            _ => Vec::new(alloc),
+        };
+        refuse_twice(names.as_slice())?;
+        Ok(InputFiles {
+            names,
+            list,
             sorted: args.get_flag("sorted"),
-            whole: args.get_flag("whole"),
-            hints: args.get_flag("hints"),
+            end: FileEnd::of_matches(args),
         })
     }
 }
 
-/// The names of the files among the arguments. With a list of files there are none.
-fn files_given<'a>(alloc: Global, args: &ArgMatches<'a>) -> Result<Vec<&'a str>, Refusal<'a>> {
-    match args.get_strs("files") {
-        Some(files) if names_standard_input_twice(files) => Err(Refusal::StandardInputTwice),
-        Some(files) if args.get_str(LIST).is_none() => Ok(Vec::from_slice(alloc, files)?),
-        _ => Ok(Vec::new(alloc)),
+/// Refuses standard input in `names` more than once.
+fn refuse_twice<'a>(names: &[&str]) -> Result<(), Refusal<'a>> {
+    if names.iter().filter(|name| **name == STANDARD).count() > 1 {
+        Err(Refusal::StandardInputTwice)
+    } else {
+        Ok(())
     }
 }
 
-/// Whether standard input is in `files` more than once.
-fn names_standard_input_twice(files: &[&str]) -> bool {
-    files.iter().filter(|file| **file == STANDARD).count() > 1
+/// The name of the command `name`, which makes a file.
+fn command_named(name: &str) -> &'static str {
+    match name {
+        "apply" => "apply",
+        "time-filter" => "time-filter",
+        "sort" => "sort",
+        _ => MERGE,
+    }
 }
 
 /// The versions that the command `name` writes, or none if the command doesn't write a file.
@@ -293,6 +312,7 @@ fn selection<'a>(name: &str, args: &ArgMatches<'a>) -> Result<Option<Selection>,
     match name {
         "merge" | "sort" => Ok(Some(Selection::All)),
         "apply" if args.get_flag("with-history") => Ok(Some(Selection::All)),
+        "apply" if args.get_flag("with-deletions") => Ok(Some(Selection::Newest)),
         "apply" => Ok(Some(Selection::NewestVisible)),
         "time-filter" => match times(args) {
             (Some(time), None) => Ok(Some(Selection::StateVisible(moment(time)?))),

@@ -145,32 +145,26 @@ fn regular_size<'a, R: Files>(rt: &R, name: &'a str) -> Result<u64, Refusal<'a>>
     }
 }
 
-/// The plan of `shard`, or the fault of a file that was searched for a bound. The place of a fault `Unsorted` is 0.
+/// The plan of `shard`. The place of a fault `Unsorted` is 0.
 pub(super) fn plan_shard<'a, R: Files + AllocGlobal>(
     rt: &R,
     names: &[&'a str],
     shard: Shard,
-) -> Result<Result<ShardPlan, Fault>, Refusal<'a>> {
+) -> Result<ShardPlan, Refusal<'a>> {
     let sizes = opl_sizes(rt, names)?;
     let Some(largest) = largest_file(sizes.as_slice()) else {
         return Err(Refusal::ShardWithoutOpl);
     };
+    let span = span_of_shard(rt, names, sizes.as_slice(), largest, shard)?;
     let mut parts = Vec::new(rt.alloc());
-    Ok(
-        match span_of_shard(rt, names, sizes.as_slice(), largest, shard) {
-            Ok(Some(span)) => push_parts(rt, names, sizes.as_slice(), span, &mut parts).map(
-                |()| ShardPlan { span, parts },
-            ),
-            Ok(None) => Ok(ShardPlan {
-                span: Span {
-                    from: None,
-                    to: None,
-                },
-                parts,
-            }),
-            Err(fault) => Err(fault),
-        },
-    )
+    if let Some(span) = span {
+        push_parts(rt, names, sizes.as_slice(), span, &mut parts)?;
+    }
+    let span = span.unwrap_or(Span {
+        from: None,
+        to: None,
+    });
+    Ok(ShardPlan { span, parts })
 }
 
 /// The span of `shard`, or none if no object is left for it. The bounds are objects of the largest OPL file.

@@ -1,8 +1,7 @@
 //! Targets of a run: a file that the run makes, an existing pipe or device, or standard output.
-use super::files::{Stream, write_retried};
-use super::part::{OutPart, PartFile, is_part};
+use super::files::write_retried;
+use super::part::{FileId, OutPart, PartFile, folder_of, is_part};
 use super::refusal::Refusal;
-use std::alloc::Global;
 use std::fs::{File, OpenFile};
 use std::io::{Seek, Write};
 use std::rt::Files;
@@ -18,13 +17,15 @@ pub(super) enum Target<'a> {
     File(&'a str),
     /// The existing pipe or device of this name. The run writes it as it is.
     Device(&'a str),
+    /// The regular file to which this name in `/dev` or `/proc` leads. The run appends to it.
+    Linked(&'a str),
     /// Standard output.
     StandardOutput,
 }
 
 impl<'a> Target<'a> {
     /// The target that the argument of `--output` names.
-    pub(super) fn of_arg<R: Files>(rt: &R, arg: &'a str) -> Target<'a> {
+    pub(super) fn of_arg<R: Files + AllocGlobal>(rt: &R, arg: &'a str) -> Target<'a> {
         if arg == STANDARD {
             Target::StandardOutput
         } else {
@@ -32,15 +33,34 @@ impl<'a> Target<'a> {
         }
     }
 
-    /// The target with the name `name`. `/dev/stdout` is standard output even if that is a file, since no file must be
-    /// renamed over the device.
-    pub(super) fn of_name<R: Files>(rt: &R, name: &'a str) -> Target<'a> {
-        if name == "/dev/stdout" {
-            return Target::StandardOutput;
+    /// The target with the name `name`. A name of standard output is standard output even if that is a file. Nothing is
+    /// made or renamed in `/dev`, nor in `/proc` or a folder below it.
+    pub(super) fn of_name<R: Files + AllocGlobal>(rt: &R, name: &'a str) -> Target<'a> {
+        if can_be_made(rt, name)
+            && let Some(target) = Target::of_system(rt, name)
+        {
+            return target;
         }
         match fs::metadata(rt, name) {
             Ok(metadata) if !metadata.is_file() && !metadata.is_dir() => Target::Device(name),
             _ => Target::File(name),
+        }
+    }
+
+    /// The target with a name in `/dev`, in `/proc` or in a folder below it. Links of the folder are followed.
+    fn of_system<R: Files + AllocGlobal>(rt: &R, name: &'a str) -> Option<Target<'a>> {
+        let folder = fs::canonicalize(rt, folder_of(name)).ok()?;
+        let folder = folder.as_str();
+        let last = name.rsplit_once('/').map_or(name, |(_, last)| last);
+        if folder == "/dev" && last == "stdout" || last == "1" && has_descriptors(rt, folder) {
+            return Some(Target::StandardOutput);
+        }
+        if folder != "/dev" && folder != "/proc" && !folder.starts_with("/proc/") {
+            return None;
+        }
+        match fs::metadata(rt, name) {
+            Ok(metadata) if metadata.is_file() => Some(Target::Linked(name)),
+            _ => Some(Target::Device(name)),
         }
     }
 
@@ -57,32 +77,35 @@ impl<'a> Target<'a> {
     /// The name of the target in the line of a fault.
     pub(super) fn name(self) -> &'a str {
         match self {
-            Target::File(name) | Target::Device(name) => name,
+            Target::File(name) | Target::Device(name) | Target::Linked(name) => name,
             Target::StandardOutput => "standard output",
         }
     }
 
     /// Opens the target: an OUT.part that is made for this run, an existing pipe or device, or standard output.
-    pub(super) fn open<R: Files, I, O: Drop>(
+    pub(super) fn open<R: Files + AllocGlobal, O: Drop>(
         self,
         rt: &R,
-        alloc: Global,
-        inputs: &[Option<Stream<R::File, I>>],
+        inputs: &[FileId],
         out: O,
     ) -> Result<Destination<R::File, O>, Refusal<'a>>
     where
         R::File: PartFile,
     {
-        match self {
-            Target::File(output) => match OutPart::make(rt, alloc, output, inputs) {
-                Ok(part) => Ok(Destination::OutPart(part)),
-                Err(refusal) => Err(refusal),
-            },
-            Target::Device(name) => match File::options().write(true).open(rt, name) {
-                Ok(file) => Ok(Destination::Device(file)),
-                Err(_) => Err(Refusal::CannotWrite { name }),
-            },
-            Target::StandardOutput => Ok(Destination::Standard(out)),
+        let (name, opened) = match self {
+            Target::File(output) if !can_be_made(rt, output) => {
+                return Err(Refusal::CannotRename { output });
+            }
+            Target::File(output) => {
+                return OutPart::make(rt, output, inputs).map(|part| Destination::OutPart(part));
+            }
+            Target::StandardOutput => return Ok(Destination::Standard(out)),
+            Target::Device(name) => (name, File::options().write(true).open(rt, name)),
+            Target::Linked(name) => (name, File::options().append(true).open(rt, name)),
+        };
+        match opened {
+            Ok(file) => Ok(Destination::Device(file)),
+            Err(_) => Err(Refusal::CannotWrite { name }),
         }
     }
 
@@ -94,7 +117,10 @@ impl<'a> Target<'a> {
         match (self, destination) {
             (Target::File(output), Destination::OutPart(part)) => match part.empty() {
                 Ok(()) => Ok(()),
-                Err(_) => Err(Refusal::CannotCreate { output }),
+                Err(error) => Err(Refusal::CannotCreate {
+                    output,
+                    error: error.raw_os_error(),
+                }),
             },
             _ => Ok(()),
         }
@@ -114,6 +140,24 @@ impl<'a> Target<'a> {
             (Target::File(output), Destination::OutPart(part)) => part.complete(rt, output, fsync),
             _ => Ok(()),
         }
+    }
+}
+
+/// Whether a file of the name `name` can be made, as far as the name shows. A folder can't be replaced.
+fn can_be_made<R: Files>(rt: &R, name: &str) -> bool {
+    let is_folder = match fs::symlink_metadata(rt, name) {
+        Ok(metadata) => metadata.is_dir(),
+        Err(_) => false,
+    };
+    !is_folder && !name.is_empty() && !name.ends_with('/')
+}
+
+/// Whether `folder` has the descriptors of this process.
+fn has_descriptors<R: Files + AllocGlobal>(rt: &R, folder: &str) -> bool {
+    match fs::canonicalize(rt, "/proc/self") {
+        Ok(own) => folder.strip_prefix(own.as_str()).is_some_and(|rest| rest == "/fd"
+            || rest.starts_with("/task/") && rest.ends_with("/fd")),
+        Err(_) => false,
     }
 }
 

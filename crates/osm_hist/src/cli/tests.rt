@@ -5,6 +5,7 @@ use super::run_words;
 use std::alloc::Global;
 use std::fs::{File, Metadata, OpenFile, TryLockError};
 use std::io::{ErrorKind, IsTerminal, Read, Write};
+use std::os::unix::fs::FileExt;
 use std::rt::Files;
 use std::test::Fail;
 use std::time::Clock;
@@ -304,6 +305,16 @@ impl OpenFile for Locking {
 
     fn sync_data(&self) -> io::Result<()> {
         Ok(())
+    }
+}
+
+impl FileExt for Locking {
+    fn read_at(&self, _buffer: &mut [u8], _offset: u64) -> io::Result<usize> {
+        Ok(0)
+    }
+
+    fn write_at(&self, bytes: &[u8], _offset: u64) -> io::Result<usize> {
+        Ok(bytes.len())
     }
 }
 

@@ -75,7 +75,12 @@ fn read_at(clock: &TestClock, screen: &mut Screen, times: &[u64]) {
     let meter = Meter::new(clock, screen, true);
     meter.read_files(&files);
     let bytes = [0u8; 1000];
-    let mut reader = Metered::new(bytes.as_slice(), &meter);
+    let failure = Cell::new(None);
+    let mut reader = Metered {
+        reader: bytes.as_slice(),
+        failure: &failure,
+        meter: &meter,
+    };
     for time in times {
         clock.milliseconds.set(*time);
         let _ = reader.read(&mut [0u8; 100]);
