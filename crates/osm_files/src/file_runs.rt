@@ -19,8 +19,8 @@ use std::alloc::Global;
 /// Finds the sorted runs of `file`, which has `size` bytes. `input` is the file's number. `first` is the offset of the
 /// file's first version that is out of order, if it is known.
 ///
-/// The result is `None` if there are more than `most` runs, or if the file can't be split where its order breaks. A file
-/// of o5 can only be split at a reset.
+/// The result is `None` if there are more than `most` runs, or if the file can't be split where its order breaks. An o5
+/// file can only be split at a reset.
 ///
 /// The file is split before each version that is out of order. So each byte of it is read once, and each byte of an o5
 /// file twice. If `first` is known, the bytes of OPL before it aren't read. The last run is read to its end, so it is a
@@ -124,8 +124,8 @@ fn is_sorted<F: ReadAt>(
     }
 }
 
-/// Reads a run of a file, and returns the offset in the file of its first version whose key is below that of the version
-/// before it. If that offset is `known`, nothing is read.
+/// Reads a run of a file, and returns the offset in the file of the first version whose key is below that of the
+/// version before it. If that offset is `known`, nothing is read.
 ///
 /// # Errors
 ///

@@ -18,7 +18,7 @@ const ARGUMENT: usize = 4096;
 /// The greatest descriptor of a standard stream.
 const STANDARD_ERROR: i32 = 2;
 
-/// The folder that stands for closed standard streams.
+/// The folder that takes the descriptors of closed standard streams.
 const ROOT: &str = "/";
 
 fn main(rt: HostRuntime) -> ExitCode {

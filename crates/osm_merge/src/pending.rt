@@ -95,8 +95,8 @@ impl Pending {
         Ok(())
     }
 
-    /// Reports the version that `meet` got last, and the version that it wrote, if it wrote one. `written` is the number
-    /// of versions written before.
+    /// Reports the version that `meet` got last, and the version that it wrote, if it wrote one. `written` is the
+    /// number of versions written before.
     #[inline(always)]
     pub(crate) fn report<P: Progress>(&self, written: u64, progress: &mut P) {
         let held = version_of(&self.held);

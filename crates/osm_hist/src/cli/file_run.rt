@@ -153,8 +153,8 @@ where
         }
     }
 
-    /// Writes a shard of the selected versions. Each file is opened again at the part that is read. The place of a fault
-    /// `Unsorted` is the offset of the file's first version that is out of order.
+    /// Writes a shard of the selected versions. Each file is opened again at the part that is read. The place of a
+    /// fault `Unsorted` is the offset of the file's first version that is out of order.
     fn write_shard<I: Read + Drop, O: Write>(
         &self,
         files: &mut OpenFiles<R::File, I>,

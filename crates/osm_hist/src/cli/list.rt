@@ -7,8 +7,8 @@ use std::alloc::Global;
 use std::io::{ErrorKind, Read};
 use std::rt::Files;
 
-/// Reads `list`, where `-` is standard input. Returns its text, and the identity of its file if that is known. Without a
-/// list the text is empty.
+/// Reads `list`, where `-` is standard input. Returns its text, and the identity of its file if that is known. Without
+/// a list the text is empty.
 pub(super) fn read_list<'a, R: Files + AllocGlobal, I: Read + Drop>(
     rt: &R,
     list: Option<&'a str>,

@@ -42,8 +42,8 @@ where
     }
 }
 
-/// Runs the lines of a plan, and returns the number of refused events. All files that the plan takes are read before the
-/// first step.
+/// Runs the lines of a plan, and returns the number of refused events. All files that the plan takes are read before
+/// the first step.
 fn run_lines<'p, R: Files + AllocGlobal, O: Write>(
     rt: &R,
     run: &PlanRun<'_>,
