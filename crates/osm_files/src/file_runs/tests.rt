@@ -54,8 +54,16 @@ fn runs_are_found(rt: HostRuntime) {
             20 false false\nn1 v1 dD c0 t i0 u T x y\nend\nend\nend\n",
         ),
         (b"n3 v1 dD\n#\nn2 v1 dD\rn1 v1 dD", 2, "none\n"),
-        (b"n2 v1 dD\nn1 v1 dD\nn0\n", 9, "3 18 NoVersion\n"),
-        (b"n2 v1 dD\nn3 v1\nn1 v1 dD\n", 9, "3 9 NoLocation\n"),
+        (
+            b"n2 v1 dD\nn1 v1 dD\nn0\n",
+            9,
+            "file 3, byte 18: NoVersion\n",
+        ),
+        (
+            b"n2 v1 dD\nn3 v1\nn1 v1 dD\n",
+            9,
+            "file 3, byte 9: NoLocation\n",
+        ),
         (
             DATA_SETS,
             2,
