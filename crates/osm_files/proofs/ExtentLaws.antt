@@ -11,7 +11,7 @@ use Rattle.osm_files.specs.Extent.{GivesExtent, framed}
 
 -- ---- bytes at offsets
 -- the bytes after some bytes of a file
-after_front : (all front rest : List ℕ) (next : ℕ) → drop next all ≡ front ++ rest → drop (next + length front) all ≡ rest
+pub after_front : (all front rest : List ℕ) (next : ℕ) → drop next all ≡ front ++ rest → drop (next + length front) all ≡ rest
 after_front all front rest next is =
     sym (drop-drop (length front) next all) ∙ ap (drop (length front)) is ∙ drop-append_seam front rest
 

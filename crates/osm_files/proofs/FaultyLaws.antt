@@ -17,27 +17,28 @@ use Rattle.osm_files.proofs.HoldLaws.{whole_source_is_held, broken_source_ends, 
 use Rattle.osm_files.proofs.StepLaws.{unit_sized, units_step, units_stop}
 use Rattle.osm_files.proofs.StayLaws.{unit_stays}
 
-abbrev Units : Type 0
+abbrev pub Units : Type 0
 Units = SourceRest Placed Verdict
 
 -- these versions, and then others
-abbrev after : List Placed → Units → Units
+abbrev pub after : List Placed → Units → Units
 after us still = record { list = us ++ still.list; refusal = still.refusal }
 
 -- none of the whole units in these bytes is faulty
-record Closes (stage : FileStateData) (place : ℕ) (bytes : List ℕ) : Type 0 where
-  list : List Placed
-  closes : (close : Verdict) → units (Some close) stage place bytes ≡ record { list = list; refusal = Some close }
-  longer : (more : List ℕ) (close : Option Verdict) → (still : Units) × (units close stage place (bytes ++ more) ≡ after list still)
+pub record Closes (stage : FileStateData) (place : ℕ) (bytes : List ℕ) : Type 0 where
+  pub list : List Placed
+  pub closes : (close : Verdict) → units (Some close) stage place bytes ≡ record { list = list; refusal = Some close }
+  pub longer : (more : List ℕ) (close : Option Verdict) → (still : Units) × (units close stage place (bytes ++ more) ≡ after list still)
 
 -- one of the whole units in these bytes is faulty
-record RefusesUnit (stage : FileStateData) (place : ℕ) (bytes : List ℕ) : Type 0 where
-  list : List Placed
-  fault : Verdict
-  faulty : (close : Verdict) → units (Some close) stage place bytes ≡ record { list = list; refusal = Some fault }
-  stays : (more : List ℕ) (close : Option Verdict) → units close stage place (bytes ++ more) ≡ record { list = list; refusal = Some fault }
+pub record RefusesUnit (stage : FileStateData) (place : ℕ) (bytes : List ℕ) : Type 0 where
+  pub list : List Placed
+  pub fault : Verdict
+  pub faulty : (close : Verdict) → units (Some close) stage place bytes ≡ record { list = list; refusal = Some fault }
+  pub stays : (more : List ℕ) (close : Option Verdict)
+      → units close stage place (bytes ++ more) ≡ record { list = list; refusal = Some fault }
 
-abbrev Splits : FileStateData → ℕ → List ℕ → Type 0
+abbrev pub Splits : FileStateData → ℕ → List ℕ → Type 0
 Splits stage place bytes = Closes stage place bytes ⊎ RefusesUnit stage place bytes
 
 none_whole : (stage : FileStateData) (place : ℕ) (bytes : List ℕ) → unit_at stage bytes ≡ None → Splits stage place bytes
@@ -115,7 +116,8 @@ by_unit : (stage : FileStateData) (place : ℕ) (bytes : List ℕ) (found : Opti
 by_unit stage place bytes None e on = none_whole stage place bytes e
 by_unit stage place bytes (Some u) e on = by_found stage place bytes u e u.found refl (on u e)
 
-splits : (n : ℕ) (stage : FileStateData) (place : ℕ) (bytes : List ℕ) → length bytes ≤ n → Splits stage place bytes
+-- The whole units in some bytes are the same, whatever follows the bytes.
+pub splits : (n : ℕ) (stage : FileStateData) (place : ℕ) (bytes : List ℕ) → length bytes ≤ n → Splits stage place bytes
 splits zero stage place bytes few = by_unit stage place bytes (unit_at stage bytes) refl
     (λ u e. let sized = unit_sized stage bytes u e in absurd (omega (arith, sized.some, sized.within, few)))
 splits (suc n) stage place bytes few =

@@ -1,20 +1,26 @@
 -- The first version of lines from an offset on.
-use Rattle.std.proofs.Common.{◌≡◌, ⊎_elim, inl, inr, ℕ, ◌+◌, ◌<◌, ◌^◌, false, List, [], ◌∷◌, length, drop, refl, sym, ap, ◌∙◌}
-use Rattle.std.proofs.Common.{subst}
-use Rattle.std.proofs.Common.{arith, Option, Some, None, Result, Ok, Err, option_map, length-drop}
-use Rattle.std.proofs.lemmas.Bool.{lt-ltb}
+use Rattle.std.proofs.Common.{◌≡◌, ⊎_elim, inl, inr, ℕ, ◌+◌, ◌-◌, ◌≤◌, ◌<◌, ◌^◌, Bool, true, false, List, [], ◌∷◌, ◌++◌, length, drop}
+use Rattle.std.proofs.Common.{refl, sym, ap, ◌∙◌, subst, arith, Option, Some, None, Result, Ok, Err, option_map, length-drop, length-append}
+use Rattle.std.specs.Prelude.{IfSome, if◌then◌else◌}
+use Rattle.std.proofs.lemmas.Bool.{lt-ltb, ltb-false}
+use Rattle.std.proofs.lemmas.List.{append-nil, nil_from_length}
 use Rattle.osm_model.specs.Data.{VersionData}
 use Rattle.osm_files.specs.declared.fault.Fault.{Fault}
+use Rattle.osm_files.specs.declared.reason.Reason.TheVariants.{ReadFault}
+use Rattle.osm_files.specs.declared.extent.Extent.{Extent}
+use Rattle.osm_files.specs.Extent.{GivesExtent, extent_rest}
+use Rattle.osm_files.specs.ExtentGives.{extent_given}
 use Rattle.osm_files.specs.Fault.{IsOfFile}
-use Rattle.osm_files.specs.Input.{InputRest, whole_input}
-use Rattle.osm_files.specs.Lines.{ReadsFrom, IsLineStart, IsFirstOf, IsFirstIn, IsFirstFrom, IsDeviceFault}
+use Rattle.osm_files.specs.Input.{InputRest, CanGive}
+use Rattle.osm_files.specs.Lines.{IsLineStart, IsFirstOf, IsFirstIn, IsFirstFrom, IsDeviceFault}
 use Rattle.osm_files.specs.Opl.{OplFile}
-use Rattle.osm_files.specs.Position.{fault_of}
-use Rattle.osm_files.specs.Position.{Position, with_rest, with_input, units_from, units_or_failed, closing_verdict, window}
+use Rattle.osm_files.specs.Position.{Position, fault_of, with_rest, with_input, units_from, units_or_failed, closing_verdict, window}
+use Rattle.osm_files.specs.ReadAt.{known_bytes}
 use Rattle.osm_files.specs.Source.{SourceStep, StepsOn}
-use Rattle.osm_files.specs.Stream.{Verdict, Placed, SourceRest}
+use Rattle.osm_files.specs.Stream.{Verdict, verdict_at, Placed, SourceRest}
 use Rattle.osm_files.specs.Units.{InOpl, units}
 use Rattle.osm_files.specs.Verdict.{length_limit, versions_of}
+use Rattle.osm_files.proofs.FaultyLaws.{Units, Splits, splits}
 use Rattle.osm_files.proofs.PositionLaws.{from_is}
 use Rattle.osm_files.proofs.UnitLaws.{ReadsAs, some_is_not_none, opl_reads}
 
@@ -35,20 +41,22 @@ abbrev pub version_read : Result (Option Placed) Fault → Result (Option Versio
 version_read (Ok line) = Ok (option_map (λ l. l.version) line)
 version_read (Err fault) = Err fault
 
--- no verdict closes an input that ends below the limit
-open_ended : (place : ℕ) (bytes : List ℕ) → place + length bytes < 2 ^ 62 → closing_verdict place (whole_input bytes) ≡ None
-unfolding length_limit
-open_ended place bytes short = rw (lt-ltb (place + length bytes) (2 ^ 62) short) refl
+-- the verdict that closes an input that ends below the limit, or fails there
+abbrev closing : ℕ → InputRest → Option Verdict
+closing place c = if c.broken then Some (verdict_at (place + length c.bytes) ReadFault) else None
 
-all_count : (place : ℕ) (bytes : List ℕ) → place + length bytes < 2 ^ 62 → window place (whole_input bytes) ≡ bytes
+closing_is : (place : ℕ) (c : InputRest) → place + length c.bytes < 2 ^ 62 → closing_verdict place c ≡ closing place c
 unfolding length_limit
-all_count place bytes short = rw (lt-ltb (place + length bytes) (2 ^ 62) short) refl
+closing_is place c short = rw (lt-ltb (place + length c.bytes) (2 ^ 62) short) refl
 
-units_of_lines : (place : ℕ) (bytes : List ℕ) → place + length bytes < 2 ^ 62 →
-    units_from (Some InOpl) place (whole_input bytes) ≡ units None InOpl place bytes
-units_of_lines place bytes short =
-    from_is (Some InOpl) place (whole_input bytes)
-    ∙ (λ i. units (open_ended place bytes short i) InOpl place (all_count place bytes short i))
+all_count : (place : ℕ) (c : InputRest) → place + length c.bytes < 2 ^ 62 → window place c ≡ c.bytes
+unfolding length_limit
+all_count place c short = rw (lt-ltb (place + length c.bytes) (2 ^ 62) short) refl
+
+units_of_lines : (place : ℕ) (c : InputRest) → place + length c.bytes < 2 ^ 62 →
+    units_from (Some InOpl) place c ≡ units (closing place c) InOpl place c.bytes
+units_of_lines place c short =
+    from_is (Some InOpl) place c ∙ (λ i. units (closing_is place c short i) InOpl place (all_count place c short i))
 
 reads_lines : (place : ℕ) (bytes : List ℕ) → ReadsAs (units None InOpl place bytes) (OplFile bytes)
 unfolding units
@@ -78,6 +86,58 @@ first_in input place bytes (Err fault) after (why, next) =
     (λ refused. inr (λ versions file. not_refused (λ (v : Verdict). record { input = input; place = v.place; reason = v.reason })
     (units None InOpl place bytes).refusal fault (ap (λ s. s.refusal) refused) ((reads_lines place bytes).read versions file).0)) why
 
+-- The result of the first call on lines that an error follows is a result for the first version of these lines and of
+-- whatever lines follow them.
+first_of_front : (input place : ℕ) (bytes more : List ℕ) (close : Verdict) → close.reason ≡ ReadFault → Splits InOpl place bytes →
+    (result : Result (Option Placed) Fault) (later : Option (SourceRest Placed Fault)) →
+    SourceStep (Some (with_input input (units (Some close) InOpl place bytes))) result later →
+    IsFirstIn (bytes ++ more) (version_read result)
+first_of_front input place bytes more close fails (inr h) result later step =
+    first_in input place (bytes ++ more) result later
+    (subst (λ (us : Units). SourceStep (Some (with_input input us)) result later) (h.faulty close ∙ sym (h.stays more None)) step)
+first_of_front input place bytes more close fails (inl h) (Ok None) later step =
+    absurd (some_is_not_none (fault_of input close)
+    (sym (ap (λ us. option_map (fault_of input) us.refusal) (h.closes close)) ∙ ap (λ s. s.refusal) step.0))
+first_of_front input place bytes more close fails (inl h) (Ok (Some line)) later (t, is, rest) = λ versions file.
+    let read = (reads_lines place (bytes ++ more)).read versions file in
+    let whole = h.longer more None in
+    let listed : h.list ≡ line ∷ t.list = sym (ap (λ us. us.list) (h.closes close)) ∙ ap (λ s. s.list) is in
+    first_listed (units None InOpl place (bytes ++ more)).list line (t.list ++ whole.0.list) versions
+    (ap (λ us. us.list) whole.1 ∙ ap (λ us. us ++ whole.0.list) listed) read.1
+first_of_front input place bytes more close fails (inl h) (Err fault) later (why, next) =
+    inl (⊎_elim (λ memory. inl memory)
+    (λ refused.
+    let found : Some (fault_of input close) ≡ Some fault =
+    sym (ap (λ us. option_map (fault_of input) us.refusal) (h.closes close)) ∙ ap (λ s. s.refusal) refused in
+    let same : fault_of input close ≡ fault = cc in
+    inr (inl (sym (ap (λ f. f.reason) same) ∙ fails))) why)
+
+-- the result of the first call on an input that gives all of the lines, or a front of them and then an error
+first_of : (input place : ℕ) (lines bytes : List ℕ) (broken : Bool) → CanGive (Some lines) (record { bytes = bytes; broken = broken }) →
+    (result : Result (Option Placed) Fault) (later : Option (SourceRest Placed Fault)) →
+    SourceStep (Some (with_input input (units (closing place (record { bytes = bytes; broken = broken })) InOpl place bytes))) result later
+    →
+    IsFirstIn lines (version_read result)
+first_of input place lines bytes true (rest, is, whole) result later step =
+    subst (λ (xs : List ℕ). IsFirstIn xs (version_read result)) (sym is)
+    (first_of_front input place bytes rest (verdict_at (place + length bytes) ReadFault) refl
+    (splits (length bytes) InOpl place bytes (omega arith)) result later step)
+first_of input place lines bytes false (rest, is, whole) result later step =
+    subst (λ (xs : List ℕ). IsFirstIn xs (version_read result)) (sym (is ∙ ap (λ r. bytes ++ r) (whole refl) ∙ append-nil bytes))
+    (first_in input place bytes result later step)
+
+-- an extent up to the end of a file gives all of its bytes from the offset on, or a front of them and then an error
+extent_can : (Fails : Type 0) (all : List ℕ) (start : ℕ) (c : InputRest) → GivesExtent Fails (Some all) start (length all) c →
+    CanGive (Some (drop start all)) c
+extent_can Fails all start c gives = (
+  gives.bytes.0,
+  gives.bytes.1,
+  λ whole. (
+      let long : length all - start ≤ length c.bytes = ltb-false (length c.bytes) (length all - start) (sym gives.broken ∙ whole) in
+      nil_from_length gives.bytes.0
+      (omega (arith, long, length-drop start all, ap length gives.bytes.1, length-append c.bytes gives.bytes.0))),
+)
+
 refusal_input : (input : ℕ) (refusal : Option Verdict) (fault : Fault) → option_map (fault_of input) refusal ≡ Some fault →
     fault.input ≡ input
 refusal_input input None fault is = absurd (let e : None ≡ Some fault = is in cc)
@@ -85,29 +145,59 @@ refusal_input input (Some v) fault is = let e : fault_of input v ≡ fault = cc 
 
 module _ {R : Type 0} (can : R → InputRest → Type 0) (one : R → InputRest) (possible : (r : R) → can r (one r)) (input : ℕ) where
   -- The result of the first call on the lines from `start` on is a result for the first version of the lines from `offset` on.
-  pub first_is : (bytes : Option (List ℕ)) (offset start : ℕ) (reader : R) → IsLineStart bytes offset start → start < 2 ^ 62 →
-      ReadsFrom can bytes start reader → (result : Result (Option Placed) Fault) (q : Position R) →
-      StepsOn can (of_lines input start reader) result q → IsFirstFrom bytes offset (version_read result)
-  first_is None offset start reader begins bound reads result q steps = tt
-  first_is (Some all) offset start reader begins bound reads result q steps = λ short.
+  first_given : (Fails : Type 0) (bytes : Option (List ℕ)) (offset start size : ℕ) (reader : R) → IsLineStart bytes offset start →
+      start < 2 ^ 62 → IfSome bytes (λ all. size ≡ length all) →
+      ((c : InputRest) → can reader c → GivesExtent Fails bytes start size c) → (result : Result (Option Placed) Fault)
+      (q : Position R) → StepsOn can (of_lines input start reader) result q → IsFirstFrom bytes offset (version_read result)
+  first_given Fails None offset start size reader begins bound sized gives result q steps = tt
+  first_given Fails (Some all) offset start size reader begins bound sized gives result q steps = λ short.
       let y = steps (one q.rest) (possible q.rest) in
-      let given : y.0 ≡ whole_input (drop start all) = reads y.0 y.1 in
-      let fits : start + length (drop start all) < 2 ^ 62 = omega (arith, bound, short, length-drop start all) in
-      let known : units_or_failed (with_rest (of_lines input start reader) y.0) ≡ Some
-      (with_input input (units None InOpl start (drop start all))) =
-      ap (λ c. Some (with_input input (units_from (Some InOpl) start c))) given
-      ∙ ap (λ s. Some (with_input input s)) (units_of_lines start (drop start all) fits) in
+      let later : Option (SourceRest Placed Fault) = units_or_failed (with_rest q (one q.rest)) in
+      let given : CanGive (Some (drop start all)) y.0 =
+      extent_can Fails all start y.0 (subst (λ n. GivesExtent Fails (Some all) start n y.0) sized (gives y.0 y.1)) in
+      let few : start + length y.0.bytes < 2 ^ 62 =
+      omega (arith, bound, short, length-drop start all, ap length given.1, length-append y.0.bytes given.0) in
       subst (λ (lines : List ℕ). IsFirstIn lines (version_read result)) begins
-      (first_in input start (drop start all) result (units_or_failed (with_rest q (one q.rest)))
-      (subst (λ before. SourceStep before result (units_or_failed (with_rest q (one q.rest)))) known y.2))
+      (first_of input start (drop start all) y.0.bytes y.0.broken given result later
+      (subst (λ us. SourceStep (Some (with_input input us)) result later) (units_of_lines start y.0 few) y.2))
 
   -- a fault of the first call on the lines has the number of the file
-  pub first_number : (start : ℕ) (reader : R) (fault : Fault) (q : Position R) →
+  number_given : (start : ℕ) (reader : R) (fault : Fault) (q : Position R) →
       StepsOn can (of_lines input start reader) (Err fault) q → IsOfFile input fault
-  first_number start reader fault q steps =
+  number_given start reader fault q steps =
       let y = steps (one q.rest) (possible q.rest) in
       ⊎_elim (λ memory. inl memory)
       (λ refused. inr (refusal_input input (units_from (Some InOpl) start y.0).refusal fault (ap (λ s. s.refusal) refused))) y.2.0
+
+module _ {F : Type 0} (fails : F → Type 0) (bytes : F → Option (List ℕ)) where
+  abbrev Given : Extent F → InputRest → Type 0
+  Given e = GivesExtent (fails e.file.now) (bytes e.file.now) e.next e.end
+
+  abbrev one : Extent F → InputRest
+  one e = extent_rest e.next e.end (known_bytes (bytes e.file.now))
+
+  possible : (e : Extent F) → Given e (one e)
+  possible e = extent_given (fails e.file.now) (bytes e.file.now) e.next e.end
+
+  module _ (input start : ℕ) (reader : Extent F) (result : Result (Option Placed) Fault) (p q : Position (Extent F))
+      (begins : p ≡ of_lines input start reader) (step : StepsOn Given p result q) where
+    steps : StepsOn Given (of_lines input start reader) result q
+    steps = subst (λ (r : Position (Extent F)). StepsOn Given r result q) begins step
+
+    -- The result of the first call on the lines of a file from `start` on, up to the file's end, is a result for the first version of
+    -- the lines from `offset` on.
+    pub first_is : (file : F) (offset size : ℕ) → reader.file.now ≡ file → reader.next ≡ start → reader.end ≡ size
+        → IsLineStart (bytes file) offset start → start < 2 ^ 62 → IfSome (bytes file) (λ all. size ≡ length all)
+        → IsFirstFrom (bytes file) offset (version_read result)
+    first_is file offset size same from upto lines bound sized =
+        first_given Given one possible input (fails file) (bytes file) offset start size reader lines bound sized
+        (λ c. subst (λ (t : F × ℕ × ℕ). GivesExtent (fails t.0) (bytes t.0) t.1 t.2 c) (λ i. (same i, from i, upto i))) result q steps
+
+    -- A fault of the first call has the number of the file.
+    pub first_number : (fault : Fault) → result ≡ Err fault → IsOfFile input fault
+    first_number fault is =
+        number_given Given one possible input start reader fault q
+        (subst (λ r. StepsOn Given (of_lines input start reader) r q) is steps)
 
 -- a device fault is a result for the first version
 pub device_fault : (bytes : Option (List ℕ)) (offset : ℕ) (fault : Fault) → IsDeviceFault fault → IsFirstFrom bytes offset (Err fault)

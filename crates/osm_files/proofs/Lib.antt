@@ -37,4 +37,8 @@ mod ByteLaws
 mod ExtentLaws
 mod OpenLaws
 pub mod RunBytes
+mod UnsortedLaws
+mod RunOrderLaws
+pub mod JoinLaws
+mod RestLaws
 mod FileRunLaws

@@ -244,11 +244,11 @@ of_data_set_fine o5.Truncated h = refl
 of_data_set_fine o5.Memory h = absurd (false≢true h)
 of_data_set_fine o5.Failed h = absurd (false≢true h)
 
-abbrev FineFound : UnitResult → Type 0
+abbrev pub FineFound : UnitResult → Type 0
 FineFound (Ok found) = Unit {0}
 FineFound (Err reason) = is_verdict_reason reason ≡ true
 
-abbrev FineUnit : Option FileUnit → Type 0
+abbrev pub FineUnit : Option FileUnit → Type 0
 FineUnit u = IfSome u (λ x. FineFound x.found)
 
 -- if a reading is refused, the reason is one of the steps
@@ -323,7 +323,7 @@ by_type s false true lone sized h = tt
 by_type s false false true sized h = tt
 by_type s false false false sized h = h
 
-unit_fine : (stage : FileStateData) (bytes : List ℕ) → FineUnit (unit_at stage bytes)
+pub unit_fine : (stage : FileStateData) (bytes : List ℕ) → FineUnit (unit_at stage bytes)
 unfolding unit_at
 unit_fine InOpl bytes = line_unit_fine (split_first is_line_end bytes)
 unit_fine BeforeHeader bytes = header_fine (nat_lt (length bytes) 7) (is_header (take 7 bytes))
@@ -333,7 +333,7 @@ unit_fine (InSegment s) (b ∷ bytes) = by_type s (b == end_byte) (b == reset_by
 unit_fine PastEnd [] = tt
 unit_fine PastEnd (b ∷ bytes) = refl
 
-last_fine : (stage : FileStateData) (bytes : List ℕ) → FineFound (last_at stage bytes)
+pub last_fine : (stage : FileStateData) (bytes : List ℕ) → FineFound (last_at stage bytes)
 unfolding last_at
 last_fine InOpl bytes = line_found_fine bytes
 last_fine BeforeHeader bytes = refl

@@ -62,7 +62,7 @@ abbrev pub FirstPart : Segment → ℕ → List ℕ → List VersionData → Typ
 FirstPart s b bytes versions = EndFirst b bytes versions ⊎ ResetFirst b bytes versions ⊎ LoneFirst s b bytes versions
     ⊎ SkippedFirst s b bytes versions ⊎ ObjectFirst s b bytes versions
 
-lone_is_no_end : (b : ℕ) → is_lone b ≡ true → ((b == end_byte) ≡ false) × ((b == reset_byte) ≡ false)
+pub lone_is_no_end : (b : ℕ) → is_lone b ≡ true → ((b == end_byte) ≡ false) × ((b == reset_byte) ≡ false)
 lone_is_no_end b e = (grind (arith, nat_tests, e), grind (arith, nat_tests, e))
 
 -- the first part of parts and the end byte
@@ -257,10 +257,10 @@ clash : (t : Bool) → t ≡ true → t ≡ false → ⊥
 clash t is not_so = false≢true (sym not_so ∙ is)
 
 -- the type byte of an object's data set
-abbrev IsObjectType : Kind → ℕ → Type 0
+abbrev pub IsObjectType : Kind → ℕ → Type 0
 IsObjectType k b = ((b == end_byte) ≡ false) × ((b == reset_byte) ≡ false) × (is_lone b ≡ false) × (kind_of_type b ≡ Some k)
 
-object_type : (k : Kind) → IsObjectType k (type_byte k)
+pub object_type : (k : Kind) → IsObjectType k (type_byte k)
 object_type kind.Node = (refl, refl, refl, refl)
 object_type kind.Way = (refl, refl, refl, refl)
 object_type kind.Relation = (refl, refl, refl, refl)
@@ -276,14 +276,14 @@ module _ (s : Segment) (b : ℕ) (bytes : List ℕ) (versions : List VersionData
   end_only (inr (inr (inr (inl h)))) e = absurd (clash _ e h.0.0)
   end_only (inr (inr (inr (inr h)))) e = absurd (clash _ e (type_at h.0 b h.1).0)
 
-  reset_only : FirstPart s b bytes versions → (b == end_byte) ≡ false → (b == reset_byte) ≡ true → PartsFile new_segment bytes versions
+  pub reset_only : FirstPart s b bytes versions → (b == end_byte) ≡ false → (b == reset_byte) ≡ true → PartsFile new_segment bytes versions
   reset_only (inl h) n e = absurd (clash _ h.0 n)
   reset_only (inr (inl h)) n e = h.2
   reset_only (inr (inr (inl h))) n e = absurd (clash _ e h.1)
   reset_only (inr (inr (inr (inl h)))) n e = absurd (clash _ e h.0.1)
   reset_only (inr (inr (inr (inr h)))) n e = absurd (clash _ e (type_at h.0 b h.1).1)
 
-  lone_only : FirstPart s b bytes versions → (b == end_byte) ≡ false → (b == reset_byte) ≡ false → is_lone b ≡ true →
+  pub lone_only : FirstPart s b bytes versions → (b == end_byte) ≡ false → (b == reset_byte) ≡ false → is_lone b ≡ true →
       PartsFile s bytes versions
   lone_only (inl h) n m e = absurd (clash _ h.0 n)
   lone_only (inr (inl h)) n m e = absurd (clash _ h.1 m)
@@ -291,7 +291,7 @@ module _ (s : Segment) (b : ℕ) (bytes : List ℕ) (versions : List VersionData
   lone_only (inr (inr (inr (inl h)))) n m e = absurd (clash _ e h.0.2)
   lone_only (inr (inr (inr (inr h)))) n m e = absurd (clash _ e (type_at h.0 b h.1).2)
 
-  sized_only : FirstPart s b bytes versions → (b == end_byte) ≡ false → (b == reset_byte) ≡ false → is_lone b ≡ false →
+  pub sized_only : FirstPart s b bytes versions → (b == end_byte) ≡ false → (b == reset_byte) ≡ false → is_lone b ≡ false →
       SkippedFirst s b bytes versions ⊎ ObjectFirst s b bytes versions
   sized_only (inl h) n m e = absurd (clash _ h.0 n)
   sized_only (inr (inl h)) n m e = absurd (clash _ h.1 m)
@@ -303,11 +303,12 @@ module _ (s : Segment) (b : ℕ) (bytes : List ℕ) (versions : List VersionData
   sized_by (inl h) = (h.1.0, h.1.1, h.1.2)
   sized_by (inr h) = (h.2.0, h.2.1, h.2.2)
 
-  skipped_only : SkippedFirst s b bytes versions ⊎ ObjectFirst s b bytes versions → kind_of_type b ≡ None → SkippedFirst s b bytes versions
+  pub skipped_only : SkippedFirst s b bytes versions ⊎ ObjectFirst s b bytes versions → kind_of_type b ≡ None
+      → SkippedFirst s b bytes versions
   skipped_only (inl h) e = h
   skipped_only (inr h) e = absurd (some_is_not_none h.0 (sym (type_at h.0 b h.1).3 ∙ e))
 
-  object_only : (k : Kind) → SkippedFirst s b bytes versions ⊎ ObjectFirst s b bytes versions → kind_of_type b ≡ Some k →
+  pub object_only : (k : Kind) → SkippedFirst s b bytes versions ⊎ ObjectFirst s b bytes versions → kind_of_type b ≡ Some k →
       (content rest : List ℕ) × Sized bytes content rest × RestAfter k s content rest versions
   object_only k (inl h) e = absurd (some_is_not_none k (sym e ∙ h.0.3))
   object_only k (inr h) e =
@@ -315,7 +316,7 @@ module _ (s : Segment) (b : ℕ) (bytes : List ℕ) (versions : List VersionData
       let same : h.0 ≡ k = cc in
       (h.2.0, h.2.1, h.2.2, subst (λ (j : Kind). RestAfter j s h.2.0 h.2.1 versions) same h.2.3)
 
-same_read : (v w : VersionData) (s t : Segment) → (let x : Result (VersionData × Segment) O5Reason = Ok (v, s) in x)
+pub same_read : (v w : VersionData) (s t : Segment) → (let x : Result (VersionData × Segment) O5Reason = Ok (v, s) in x)
     ≡ (let y : Result (VersionData × Segment) O5Reason = Ok (w, t) in y) → (v ≡ w) × (s ≡ t)
 same_read v w s t e =
     let here : VersionData × Segment = (v, s) in

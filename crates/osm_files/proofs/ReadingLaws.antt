@@ -28,8 +28,8 @@ use Rattle.osm_files.proofs.StepLaws.{unit_sized}
 use Rattle.osm_files.proofs.PositionLaws.{from_is, rest_after, same_state, with_each, gone_over, gone_passed, gone_gave, gone_refused}
 use Rattle.osm_files.proofs.PositionLaws.{none_in_nothing, at_the_end, goes_on}
 
--- the fault of a reason at an offset
-fault_is : (input place : ℕ) (reason : Reason)
+-- The fault of a reason at an offset.
+pub fault_is : (input place : ℕ) (reason : Reason)
     → (fault_at input place reason ≡ memory_fault) ⊎ (fault_at input place reason ≡ fault_of input (verdict_at place reason))
 fault_is input place Memory = inl refl
 fault_is input place (Opl inner) = inr refl

@@ -41,7 +41,7 @@ some_reset : (o : Option ℕ) → is_reset o ≡ true → o ≡ Some reset_byte
 some_reset None e = absurd (false≢true e)
 some_reset (Some b) e = ap Some (eqb-true b reset_byte e)
 
-neither : (x y : Bool) → x || y ≡ false → (x ≡ false) × (y ≡ false)
+pub neither : (x y : Bool) → x || y ≡ false → (x ≡ false) × (y ≡ false)
 neither true y e = absurd (true≢false e)
 neither false y e = (refl, e)
 
@@ -104,6 +104,11 @@ module _ (part : List ℕ) (i m b : ℕ) (after : List ℕ) (at : slice_get part
   }
 
 -- ---- a run that can be split is
+-- bytes that are split at a reset, or after a line
+abbrev pub SplitBy : Bool → List ℕ → List ℕ → List ℕ → Type 0
+SplitBy true = SplitAtReset
+SplitBy false = SplitAfterLine
+
 -- the offset has `i` bytes of the run before the byte that decides, and `m` after the byte at it
 module _ (run : SortedRun) (offset : ℕ) (bytes : BytesAtSplit) (file : List ℕ) (has : HasBytes file run.start offset bytes)
     (i m : ℕ) (offset_is : offset ≡ run.start + (i + 1)) (size_is : run.size ≡ suc i + suc m) where
@@ -153,16 +158,15 @@ module _ (run : SortedRun) (offset : ℕ) (bytes : BytesAtSplit) (file : List �
       rw (sets_size, rest_size, rest_is, size_is) split
 
   either : is_some bytes.at ≡ true → (t : Bool) → is_o5_run run bytes ≡ t → cond t (splits_o5 run offset bytes) (splits_opl bytes) ≡ true
-      → IsSplit (run_bytes (front_run t run offset) file) (run_bytes (rest_run t run offset) file) (run_bytes run file)
-  either some true is can = inr (o5 is can)
-  either some false is can = inl (opl some is can)
+      → SplitBy t (run_bytes (front_run t run offset) file) (run_bytes (rest_run t run offset) file) (run_bytes run file)
+  either some true is can = o5 is can
+  either some false is can = opl some is can
 
--- A run that can be split is split into two.
-pub splits : (run : SortedRun) (offset : ℕ) (bytes : BytesAtSplit) (file : List ℕ)
-    → HasBytes file run.start offset bytes → can_split run offset bytes ≡ true
-    → IsSplit (run_bytes (front_run (is_o5_run run bytes) run offset) file) (run_bytes (rest_run (is_o5_run run bytes) run offset) file)
-    (run_bytes run file)
-splits run offset bytes file has can =
+-- A run that can be split is split into two: at a reset if it is o5, else after a line.
+pub splits_by : (run : SortedRun) (offset : ℕ) (bytes : BytesAtSplit) (file : List ℕ)
+    → HasBytes file run.start offset bytes → can_split run offset bytes ≡ true → (t : Bool) → is_o5_run run bytes ≡ t
+    → SplitBy t (run_bytes (front_run t run offset) file) (run_bytes (rest_run t run offset) file) (run_bytes run file)
+splits_by run offset bytes file has can t is =
     let by_grammar = cond (is_o5_run run bytes) (splits_o5 run offset bytes) (splits_opl bytes) in
     let parts = and_parts (is_within run offset bytes) by_grammar can in
     let within = and_parts (nat_lt run.start offset) (nat_lt (offset - run.start) run.size && is_some bytes.at) parts.0 in
@@ -170,7 +174,20 @@ splits run offset bytes file has can =
     let above = ltb-true run.start offset within.0 in
     let below = ltb-true (offset - run.start) run.size inner.0 in
     either run offset bytes file has (offset - run.start - 1) (run.size - (offset - run.start) - 1)
-    (omega (arith, above)) (omega (arith, above, below)) inner.1 (is_o5_run run bytes) refl parts.1
+    (omega (arith, above)) (omega (arith, above, below)) inner.1 t is
+    (ap (λ x. cond x (splits_o5 run offset bytes) (splits_opl bytes)) (sym is) ∙ parts.1)
+
+split_of : (t : Bool) (front others bytes : List ℕ) → SplitBy t front others bytes → IsSplit front others bytes
+split_of true front others bytes split = inr split
+split_of false front others bytes split = inl split
+
+-- A run that can be split is split into two.
+pub splits : (run : SortedRun) (offset : ℕ) (bytes : BytesAtSplit) (file : List ℕ)
+    → HasBytes file run.start offset bytes → can_split run offset bytes ≡ true
+    → IsSplit (run_bytes (front_run (is_o5_run run bytes) run offset) file) (run_bytes (rest_run (is_o5_run run bytes) run offset) file)
+    (run_bytes run file)
+splits run offset bytes file has can = split_of (is_o5_run run bytes) _ _ _
+    (splits_by run offset bytes file has can (is_o5_run run bytes) refl)
 
 -- ---- the last of several files, split once more
 split_last : (bytes : List ℕ) (files : List (List ℕ)) (last file rest : List ℕ)

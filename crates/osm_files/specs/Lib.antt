@@ -5,6 +5,7 @@ pub mod Input
 pub mod WholeLines
 pub mod EndMark
 pub mod Output
+pub mod Clear
 pub mod Change
 pub mod Stream
 pub mod Source
@@ -18,6 +19,7 @@ pub mod SortedRun
 pub mod ReadAt
 pub mod Extent
 pub mod ExtentGives
+pub mod FileInput
 pub mod FileRuns
 pub mod Verdict
 pub mod Laws

@@ -6,13 +6,7 @@ use Rattle.opl_line.specs.Delimiter.{is_line_end}
 use Rattle.osm_files.specs.declared.fault.Fault.{Fault}
 use Rattle.osm_files.specs.declared.reason.Reason.TheVariants.{ReadFault, TooLong}
 use Rattle.osm_files.specs.Fault.{memory_fault}
-use Rattle.osm_files.specs.Input.{InputRest, whole_input}
 use Rattle.osm_files.specs.Opl.{OplFile}
-
--- a reader that can give only the bytes of a file from an offset on, if the file's bytes are known
-abbrev pub ReadsFrom : {R : Type 0} → (R → InputRest → Type 0) → Option (List ℕ) → ℕ → R → Type 0
-ReadsFrom can bytes offset reader = IfSome bytes
-    (λ all. (c : InputRest) → can reader c → c ≡ whole_input (drop offset all))
 
 -- the bytes after the first end of a line; none if there is no end
 abbrev pub after_line : List ℕ → List ℕ
@@ -32,13 +26,6 @@ IsLineStart bytes offset start = IfSome bytes (λ all. drop start all ≡ lines_
 abbrev pub IsFirstOf : Option VersionData → List VersionData → Type 0
 IsFirstOf first [] = first ≡ None
 IsFirstOf first (v ∷ versions) = first ≡ Some v
-
--- `start` is the offset after the first end of a line at `offset` or after it, in a file that a reader gives from
--- `offset` on
-abbrev pub LeadsTo : {R : Type 0} → (R → InputRest → Type 0) → R → ℕ → ℕ → Type 0
-LeadsTo can reader offset start = (all : List ℕ) →
-    ((c : InputRest) → can reader c → c ≡ whole_input (drop offset all)) →
-    drop start all ≡ after_line (drop offset all)
 
 -- the fault is out of memory, a fault of the device, or that the file is too long
 abbrev pub IsDeviceFault : Fault → Type 0

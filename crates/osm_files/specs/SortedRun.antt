@@ -1,6 +1,7 @@
 -- A file that is several files in sequence, and its parts that are files: an own rule of this project.
-use Rattle.std.specs.Prelude.{◌≡◌, ◌⊎◌, ℕ, ◌+◌, ◌-◌, ◌==◌, ◌&&◌, ◌||◌, not, nat_lt, Bool, true, false, List, [], ◌∷◌}
-use Rattle.std.specs.Prelude.{◌++◌, map, take, drop, slice_get, Option, Some, None, is_some, if◌then◌else◌}
+use Rattle.std.specs.Prelude.{◌≡◌, ◌⊎◌, ℕ, ◌+◌, ◌-◌, ◌^◌, ◌==◌, ◌&&◌, ◌||◌, not, min, nat_lt, Bool, true, false, List}
+use Rattle.std.specs.Prelude.{[], ◌∷◌, ◌++◌, length, map, take, drop, slice_get, Option, Some, None, is_some}
+use Rattle.std.specs.Prelude.{if◌then◌else◌}
 use Rattle.opl_line.specs.Delimiter.{is_line_end}
 use Rattle.osm_files.specs.declared.sorted_run.BytesAtSplit.{BytesAtSplit}
 use Rattle.osm_files.specs.declared.sorted_run.SortedRun.{SortedRun}
@@ -51,6 +52,15 @@ bytes_after run = if run.lacks_end then end_byte ∷ [] else []
 -- the bytes of a run of a file
 abbrev pub run_bytes : SortedRun → List ℕ → List ℕ
 run_bytes run file = bytes_before run ++ (take run.size (drop run.start file) ++ bytes_after run)
+
+-- the run that is the whole file
+abbrev pub whole_run : SortedRun
+whole_run = record { start = 0; size = 2 ^ 64 - 1; lacks_header = false; lacks_end = false }
+
+-- The offset in the file of the byte at this offset in the run, at most the greatest offset. For a byte of the header
+-- before the part it is the part's start.
+abbrev pub offset_in_file : SortedRun → ℕ → ℕ
+offset_in_file run offset = min (run.start + (offset - length (bytes_before run))) (2 ^ 64 - 1)
 
 -- the file is split into these runs
 abbrev pub IsSplitIntoRuns : List ℕ → List SortedRun → Type 0

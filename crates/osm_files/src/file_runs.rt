@@ -1,9 +1,15 @@
 //! The sorted runs of a file whose versions may have any order. The file is split before each version that is out of
 //! order.
-ghost use Rattle.std.specs.Prelude.{◌≡◌, ◌+◌, ◌<◌, ◌≤◌, ◌^◌, Ok, None, length, slice_get, IfOk, OnOk, IfSome};
-ghost use Rattle.osm_files.specs.Extent.{GivesRun};
-ghost use Rattle.osm_files.specs.FileRuns.{EndsWhole, GivesSortedFile, LastIsSorted};
+ghost use Rattle.std.specs.Prelude.{◌≡◌, ◌↔◌, ◌+◌, ◌<◌, ◌≤◌, ◌^◌, IsTrue, true, Ok, Some, None, length, slice_get};
+ghost use Rattle.std.specs.Prelude.{IfOk, IfErr, OnOk, IfSome};
+ghost use Rattle.std.specs.List.{All};
+ghost use Rattle.osm_files.specs.declared.reason.Reason.TheVariants.{Unsorted};
+ghost use Rattle.osm_files.specs.Fault.{IsOfFile};
+ghost use Rattle.osm_files.specs.FileRuns.{EndsWhole, StopsSource, GivesSortedFile, IfWhole, LastIsSorted};
+ghost use Rattle.osm_files.specs.FileRuns.{IsSortedRun, IsAccepted, IsFirstUnsorted, IsFirstUnsortedIn};
+ghost use Rattle.osm_files.specs.FileRuns.{IsReadFailure, IsRefusalOf, IsOrderOf};
 ghost use Rattle.osm_files.specs.Input.{GivesOne};
+ghost use Rattle.osm_files.specs.Load.{StopsOpening};
 ghost use Rattle.osm_files.specs.SortedRun as spec;
 
 use crate::extent::FramedExtent;
@@ -23,12 +29,15 @@ use std::alloc::Global;
 /// file can only be split at a reset.
 ///
 /// The file is split before each version that is out of order. So each byte of it is read once, and each byte of an o5
-/// file twice. If `first` is known, the bytes of OPL before it aren't read. The last run is read to its end, so it is a
-/// sorted file. The others are, if they can be read as files; the contract doesn't say so.
+/// file twice. If `first` is known, the bytes of OPL before it aren't read.
+///
+/// Each run is a sorted file, if the file has the bytes that its reads return, it has `size` bytes, and `first` is
+/// right. The last run is read to its end, so it is a sorted file whether `first` is right or not.
 ///
 /// # Errors
 ///
-/// The fault of the file if a line or data set can't be read, or if the file can't be read; or `Memory`.
+/// The fault of the file if a line or data set can't be read, or if the file can't be read; or `Memory`. A file that is
+/// accepted in some order of its versions is refused only if a read fails or memory runs out.
 pub fn find_runs<F: ReadAt>(
     alloc: Global,
     file: &F,
@@ -39,9 +48,13 @@ pub fn find_runs<F: ReadAt>(
 ) -> Result<Option<Vec<SortedRun>>, Fault>
     ensures runs { IfOk result (λ found. IfSome found (λ runs. IfSome (F.bytes file.now) (λ all.
         length all < 2 ^ 64 → spec.IsSplitIntoRuns all runs.items))) }
-    ensures last { IfOk result (λ found. IfSome found (λ runs. IfSome (F.bytes file.now) (λ all.
-        length all ≡ size → LastIsSorted all runs.items))) }
+    ensures last { IfOk result (λ found. IfSome found (λ runs.
+        IfWhole (F.bytes file.now) size (λ all. LastIsSorted all runs.items))) }
+    ensures sorted { IfOk result (λ found. IfSome found (λ runs. IfWhole (F.bytes file.now) size (λ all.
+        IfSome first (IsFirstUnsorted all) → All (IsSortedRun all) runs.items))) }
     ensures few { IfOk result (λ found. IfSome found (λ runs. length runs.items ≤ most)) }
+    ensures input { IfErr result (IsOfFile input) }
+    ensures refused { IfErr result (λ fault. IfWhole (F.bytes file.now) size (λ all. IsRefusalOf all fault)) }
 {
     let mut split = SplitFile::new(alloc);
     let mut known = first;
@@ -70,6 +83,14 @@ fn split_before<F: ReadAt>(
     ensures split { OnOk result (IfSome (F.bytes file.now) (λ all.
         spec.IsSplitIntoRuns all (spec.runs_of split.old) → spec.IsSplitIntoRuns all (spec.runs_of split.new))) }
     ensures one { OnOk result (length split.new.fronts ≤ length split.old.fronts + 1) }
+    ensures fits { offset < 2 ^ 64 }
+    ensures fronts { result ≡ Ok true → IfWhole (F.bytes file.now) size (λ all.
+        IsFirstUnsortedIn all split.old.rest offset → All (IsSortedRun all) split.old.fronts
+        → All (IsSortedRun all) split.new.fronts) }
+    ensures rest { result ≡ Ok true → IfWhole (F.bytes file.now) size (λ all.
+        IsAccepted (spec.run_bytes split.old.rest all) → IsAccepted (spec.run_bytes split.new.rest all)) }
+    ensures input { IfErr result (IsOfFile input) }
+    ensures failure { IfErr result IsReadFailure }
 {
     let Ok(bytes) = bytes_at(file, split.rest().start, offset) else {
         return Err(Fault::at(input, offset, Reason::ReadFault));
@@ -92,7 +113,7 @@ fn bytes_at<F: ReadAt>(file: &F, start: u64, offset: u64) -> Result<BytesAtSplit
 }
 
 /// The byte at `offset` of a file; `None` if there is none.
-fn byte_at<F: ReadAt>(file: &F, offset: u64) -> Result<Option<u8>, Broken>
+pub(crate) fn byte_at<F: ReadAt>(file: &F, offset: u64) -> Result<Option<u8>, Broken>
     ensures { IfOk result (λ byte. IfSome (F.bytes file.now) (λ all. slice_get all offset ≡ byte)) }
 {
     let mut byte = [0u8; 1];
@@ -114,18 +135,21 @@ fn is_sorted<F: ReadAt>(
     input: usize,
     size: u64,
     run: SortedRun,
-) -> Result<bool, Fault> {
-    match first_unsorted(alloc, file, input, size, run, None) {
+) -> Result<bool, Fault>
+    ensures sorted { result ≡ Ok true → IfWhole (F.bytes file.now) size (λ all. IsSortedRun all run) }
+    ensures input { IfErr result (IsOfFile input) }
+    ensures failure { IfErr result IsReadFailure }
+{
+    match read_run(alloc, file, input, size, run) {
         Ok(first) => Ok(first.is_none()),
-        Err(fault) if fault.reason == Reason::Memory || fault.reason == Reason::ReadFault => {
-            Err(fault)
-        }
+        Err(fault) if fault.reason == Reason::ReadFault => Err(fault),
+        Err(fault) if fault.reason == Reason::Memory => Err(Fault::memory()),
         Err(_) => Ok(false),
     }
 }
 
-/// Reads a run of a file, and returns the offset in the file of the first version whose key is below that of the
-/// version before it. If that offset is `known`, nothing is read.
+/// The offset in the file of the first version of a run whose key is below that of the version before it. If that
+/// offset is `known`, nothing is read.
 ///
 /// # Errors
 ///
@@ -138,23 +162,50 @@ fn first_unsorted<F: ReadAt>(
     run: SortedRun,
     known: Option<u64>,
 ) -> Result<Option<u64>, Fault>
-    ensures { result ≡ Ok None → GivesOne (GivesRun (F.fails file.now) (F.bytes file.now) run size) GivesSortedFile }
+    ensures known { IfSome known (λ offset. result ≡ Ok (Some offset)) }
+    ensures order { known ≡ None → IfWhole (F.bytes file.now) size (λ all. IsOrderOf all run result) }
+    ensures input { IfErr result (IsOfFile input) }
 {
-    if let Some(offset) = known {
-        return Ok(Some(offset));
+    match known {
+        Some(offset) => Ok(Some(offset)),
+        None => read_run(alloc, file, input, size, run),
     }
+}
+
+/// Reads a run of a file, and returns the offset in the file of the first version whose key is below that of the
+/// version before it.
+///
+/// # Errors
+///
+/// The fault of the run, at its offset in the file; or `Memory`.
+fn read_run<F: ReadAt>(
+    alloc: Global,
+    file: &F,
+    input: usize,
+    size: u64,
+    run: SortedRun,
+) -> Result<Option<u64>, Fault>
+    ensures order { IfWhole (F.bytes file.now) size (λ all. IsOrderOf all run result) }
+    ensures input { IfErr result (IsOfFile input) }
+{
     match read_sorted(alloc, input, FramedExtent::of_run(file, size, run)) {
         Ok(()) => Ok(None),
-        Err(fault) if fault.reason == Reason::Memory => Err(fault),
         Err(fault) => {
             let place = run.offset_in_file(fault.place);
-            if fault.reason == Reason::Unsorted {
+            if is_unsorted(fault.reason) {
                 Ok(Some(place))
             } else {
-                Err(Fault::at(fault.input, place, fault.reason))
+                Err(Fault::at(input, place, fault.reason))
             }
         }
     }
+}
+
+/// Whether the reason is that a version is out of order.
+fn is_unsorted(reason: Reason) -> bool
+    ensures { IsTrue result ↔ (reason ≡ Unsorted) }
+{
+    reason == Reason::Unsorted
 }
 
 /// Reads a sorted file to its end. `input` is its number.
@@ -163,7 +214,8 @@ fn first_unsorted<F: ReadAt>(
 ///
 /// The fault of the file, or `Memory`.
 fn read_sorted<R: Input + Drop>(alloc: Global, input: usize, reader: R) -> Result<(), Fault>
-    ensures { OnOk result (GivesOne (R.can_give reader) GivesSortedFile) }
+    ensures sorted { OnOk result (GivesOne (R.can_give reader) GivesSortedFile) }
+    ensures refused { IfErr result (λ fault. GivesOne (R.can_give reader) (λ c. StopsOpening input c fault)) }
 {
     let mut source = FileSource::new(alloc, input, reader)?;
     let outcome = read_to_end(&mut source);
@@ -177,7 +229,8 @@ fn read_sorted<R: Input + Drop>(alloc: Global, input: usize, reader: R) -> Resul
 ///
 /// The first fault of the source.
 fn read_to_end<S: Source>(source: &mut S) -> Result<(), Fault>
-    ensures { OnOk result (EndsWhole S.can_give source.old) }
+    ensures whole { OnOk result (EndsWhole S.can_give source.old) }
+    ensures refused { IfErr result (StopsSource S.can_give source.old) }
 {
     'versions: loop {
         match source.next()? {

@@ -2,9 +2,11 @@
 //! read and written.
 #![tactic(auto)]
 
+mod clear;
 mod end_mark;
 mod extent;
 mod fault;
+mod file_input;
 mod file_runs;
 mod format;
 mod group;
@@ -24,17 +26,20 @@ mod sorted_run;
 mod source;
 mod split_file;
 mod unit;
+mod whole_file;
 mod whole_lines;
 mod write;
 
+pub use clear::{Clear, ClearOutput};
 pub use end_mark::EndMarked;
 pub use extent::{Extent, FramedExtent};
 pub use fault::{Fault, LENGTH_LIMIT};
+pub use file_input::FileInput;
 pub use file_runs::find_runs;
 pub use format::{FORMAT_NAMES, Format};
 pub use history_source::HistorySource;
 pub use input::{Broken, FromRead, Input, SliceIn};
-pub use lines::{OpenAt, first_version, line_start};
+pub use lines::{first_version, line_start};
 pub use load::{Loaded, load_any};
 pub use output::{Output, ToWrite, VecOut};
 pub use read_at::{FromFile, ReadAt};
@@ -43,6 +48,7 @@ pub use sink::{Sink, write_history};
 pub use sorted_run::{BytesAtSplit, SortedRun};
 pub use source::{FileSource, Source};
 pub use split_file::SplitFile;
+pub use whole_file::WholeFile;
 pub use whole_lines::WholeLines;
 pub use write::write_all;
 

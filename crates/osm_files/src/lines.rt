@@ -1,10 +1,12 @@
 //! The lines of an OPL file from an offset on.
-ghost use Rattle.std.specs.Prelude.{◌≡◌, ◌<◌, ◌^◌, Option, List, ℕ, length, IfSome, IfOk, IfErr};
+ghost use Rattle.std.specs.Prelude.{◌≡◌, ◌<◌, ◌^◌, IfOk, IfErr};
 ghost use Rattle.osm_files.specs.Fault.{IsOfFile};
-ghost use Rattle.osm_files.specs.Lines.{ReadsFrom, IsLineStart, LeadsTo, IsDeviceFault, IsFirstFrom};
+ghost use Rattle.osm_files.specs.Lines.{IsLineStart, IsDeviceFault, IsFirstFrom};
 
+use crate::extent::Extent;
 use crate::fault::{Fault, LENGTH_LIMIT};
-use crate::input::{Broken, Input, SliceIn};
+use crate::input::Broken;
+use crate::read_at::ReadAt;
 use crate::reading::Reading;
 use crate::reason::Reason;
 use opl_line::find_line_end;
@@ -14,54 +16,13 @@ use std::alloc::Global;
 /// The number of bytes that one read asks for in the search for the end of a line.
 const LINE_CHUNK: usize = 1024;
 
-/// A file that can be opened at any offset, by readers of one type.
-pub trait OpenAt<R: Input> {
-    /// The file's bytes, if they are known.
-    ghost bytes: { Self → Option (List ℕ) };
-
-    /// The file's length in bytes.
-    ///
-    /// # Errors
-    ///
-    /// `Broken` if the length isn't known.
-    fn size(&self) -> Result<u64, Broken>
-        ensures { IfOk result (λ size. IfSome (bytes self.now) (λ all. size ≡ length all)) };
-
-    /// A reader of the bytes from `offset` on.
-    ///
-    /// # Errors
-    ///
-    /// `Broken` if the file can't be opened.
-    fn open_at(&self, offset: u64) -> Result<R, Broken>
-        ensures { IfOk result (ReadsFrom R.can_give (bytes self.now) offset) };
-}
-
-impl<'a> OpenAt<SliceIn<'a>> for &'a [u8] {
-    ghost use Rattle.std.specs.Prelude.{Some};
-
-    ghost bytes = { λ s. Some s.now };
-
-    fn size(&self) -> Result<u64, Broken> {
-        Ok(self.len() as u64)
-    }
-
-    fn open_at(&self, offset: u64) -> Result<SliceIn<'a>, Broken> {
-        let start = offset.min(self.len() as u64) as usize;
-        Ok(SliceIn::new(&self[start..]))
-    }
-}
-
 /// The offset of the first line that begins at `offset` or after it. A line begins at 0 and after each end of a line.
-/// If no line begins there, the result is the file's length.
+/// If no line begins there, the result is the file's length, or `offset - 1` if that is more.
 ///
 /// # Errors
 ///
 /// `ReadFault` if the file can't be read. `TooLong` if the result would be 2^62 or more. `input` is the file's number.
-pub fn line_start<R: Input + Drop, F: OpenAt<R>>(
-    file: &F,
-    input: usize,
-    offset: u64,
-) -> Result<u64, Fault>
+pub fn line_start<F: ReadAt>(file: &F, input: usize, offset: u64) -> Result<u64, Fault>
     ensures start { IfOk result (IsLineStart (F.bytes file.now) offset) }
     ensures bound { IfOk result (λ start. start < 2 ^ 62) }
     ensures refused { IfErr result (λ fault. IsDeviceFault fault) }
@@ -70,39 +31,14 @@ pub fn line_start<R: Input + Drop, F: OpenAt<R>>(
     if offset == 0 {
         return Ok(0);
     }
-    let mut reader = open(file, input, offset - 1)?;
-    let start = next_line_start(&mut reader, input, offset - 1);
-    drop(reader);
-    start
-}
-
-/// A reader of a file from an offset on.
-fn open<R: Input, F: OpenAt<R>>(file: &F, input: usize, offset: u64) -> Result<R, Fault>
-    ensures opened { IfOk result (ReadsFrom R.can_give (F.bytes file.now) offset) }
-    ensures refused { IfErr result (λ fault. IsDeviceFault fault) }
-    ensures number { IfErr result (IsOfFile input) }
-{
-    match file.open_at(offset) {
-        Ok(reader) => Ok(reader),
-        Err(Broken) => Err(Fault::at(input, offset, Reason::ReadFault)),
-    }
-}
-
-/// The offset after the first end of a line at `offset` or after it; the file's length if there is none. `reader` gives
-/// the file's bytes from `offset` on.
-fn next_line_start<R: Input>(reader: &mut R, input: usize, offset: u64) -> Result<u64, Fault>
-    ensures start { IfOk result (LeadsTo R.can_give reader.old offset) }
-    ensures bound { IfOk result (λ start. start < 2 ^ 62) }
-    ensures refused { IfErr result (λ fault. IsDeviceFault fault) }
-    ensures number { IfErr result (IsOfFile input) }
-{
     let mut buffer = [0u8; LINE_CHUNK];
-    let mut place = offset;
+    // No line ends in the bytes from `offset - 1` up to `place`.
+    let mut place = offset - 1;
     'reads: loop {
         if place >= LENGTH_LIMIT {
             return Err(Fault::too_long(input));
         }
-        let count = match reader.read(&mut buffer) {
+        let count = match file.read_at(&mut buffer, place) {
             Ok(0) => return Ok(place),
             Ok(count) => count,
             Err(Broken) => return Err(Fault::at(input, place, Reason::ReadFault)),
@@ -134,7 +70,7 @@ fn start_below_limit(input: usize, start: u64) -> Result<u64, Fault>
 ///
 /// The reason why the first line that isn't skipped can't be read, at the line's offset in the file. `ReadFault` if the
 /// file can't be read; `TooLong`; or `Memory`. `input` is the file's number.
-pub fn first_version<R: Input + Drop, F: OpenAt<R>>(
+pub fn first_version<F: ReadAt>(
     alloc: Global,
     file: &F,
     input: usize,
@@ -144,8 +80,11 @@ pub fn first_version<R: Input + Drop, F: OpenAt<R>>(
     ensures number { IfErr result (IsOfFile input) }
 {
     let start = line_start(file, input, offset)?;
-    let reader = open(file, input, start)?;
-    let mut lines = Reading::of_lines(alloc, input, start, reader);
+    let size = match file.size() {
+        Ok(size) => size,
+        Err(Broken) => return Err(Fault::at(input, offset, Reason::ReadFault)),
+    };
+    let mut lines = Reading::of_lines(alloc, input, start, Extent::new(file, start, size));
     lines.set_chunk_size(LINE_CHUNK);
     let first = lines.next();
     drop(lines);

@@ -3,6 +3,7 @@ ghost use Rattle.std.specs.Prelude.{◌≡◌, ◌+◌, ◌<◌, ◌≤◌, ◌�
 ghost use Rattle.std.specs.Prelude.{length, take, IfOk, IsOk, OnErr};
 ghost use Rattle.osm_files.specs.Output.{Content, IsAppended, WriteFails, FlushFails, Collected};
 
+use crate::clear::{Clear, ClearOutput};
 use crate::input::Broken;
 use std::alloc::Global;
 use std::io::Write;
@@ -96,6 +97,19 @@ impl<W: Write + Drop> Output for ToWrite<W> {
     }
 }
 
+impl<W: Clear + Drop> ClearOutput for ToWrite<W> {
+    ghost can_clear = { λ s. W.can_clear s.writer };
+
+    fn can_be_cleared(&self) -> bool {
+        self.writer.can_be_cleared()
+    }
+
+    fn clear(&mut self) -> Result<(), Broken> {
+        self.failed = self.writer.clear().is_err();
+        if self.failed { Err(Broken) } else { Ok(()) }
+    }
+}
+
 /// An output that keeps its bytes in memory. It fails if its vector can't grow.
 #[derive(Drop)]
 pub struct VecOut {
@@ -164,6 +178,22 @@ impl Output for VecOut {
         ensures only_failed { IsOk result ↔ (self.old.failed ≡ false) }
     {
         if self.failed { Err(Broken) } else { Ok(()) }
+    }
+}
+
+impl ClearOutput for VecOut {
+    ghost use Rattle.std.specs.Prelude.{true};
+
+    ghost can_clear = { λ _. true };
+
+    fn can_be_cleared(&self) -> bool {
+        true
+    }
+
+    fn clear(&mut self) -> Result<(), Broken> {
+        self.bytes.clear();
+        self.failed = false;
+        Ok(())
     }
 }
 

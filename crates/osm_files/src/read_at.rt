@@ -3,7 +3,6 @@ ghost use Rattle.std.specs.Prelude.{◌≡◌, ◌<◌, ◌≤◌, Ok, List, ℕ
 ghost use Rattle.osm_files.specs.ReadAt.{AreAt, AreLast};
 
 use crate::input::Broken;
-use std::fs::OpenFile;
 use std::io::ErrorKind;
 use std::os::unix::fs::FileExt;
 
@@ -57,21 +56,35 @@ impl<'a> ReadAt for &'a [u8] {
     }
 }
 
-/// An open file of the standard library. Its bytes aren't known, and each read may fail. A read that a signal
-/// interrupts is tried again. Only a regular file has a length.
+/// An open regular file of the standard library. Its bytes aren't known, and each read may fail. A read that a signal
+/// interrupts is tried again.
+///
+/// The file's length is that of an earlier moment, when the file was opened. If the file has grown since, the bytes
+/// after this length aren't part of it.
 #[derive(Drop)]
-pub struct FromFile<F: FileExt + OpenFile> {
+pub struct FromFile<F: FileExt> {
     file: F,
+    size: u64,
 }
 
-impl<F: FileExt + OpenFile> FromFile<F> {
-    /// The file `file`, to be read at offsets.
-    pub fn new(file: F) -> FromFile<F> {
-        FromFile { file }
+impl<F: FileExt> FromFile<F> {
+    /// The file `file`, to be read at offsets. It has `size` bytes.
+    pub fn new(file: F, size: u64) -> FromFile<F> {
+        FromFile { file, size }
+    }
+
+    /// The file of the standard library.
+    pub fn get_ref(&self) -> &F {
+        &self.file
+    }
+
+    /// The file of the standard library.
+    pub fn into_inner(self) -> F {
+        self.file
     }
 }
 
-impl<F: FileExt + OpenFile> ReadAt for FromFile<F> {
+impl<F: FileExt> ReadAt for FromFile<F> {
     ghost use Rattle.std.specs.Prelude.{None};
 
     ghost bytes = { λ _. None };
@@ -79,10 +92,7 @@ impl<F: FileExt + OpenFile> ReadAt for FromFile<F> {
     ghost fails = { λ _. Unit {0} };
 
     fn size(&self) -> Result<u64, Broken> {
-        match self.file.metadata() {
-            Ok(metadata) if metadata.is_file() => Ok(metadata.len()),
-            _ => Err(Broken),
-        }
+        Ok(self.size)
     }
 
     fn read_at(&self, buffer: &mut [u8], offset: u64) -> Result<usize, Broken> {

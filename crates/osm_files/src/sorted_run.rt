@@ -1,5 +1,5 @@
 //! Sorted runs: parts of a file that are files of their own, and the offsets at which a file may be split into them.
-ghost use Rattle.std.specs.Prelude.{◌≡◌, ◌+◌, ◌-◌, ◌^◌, ◌<◌, ℕ, List, length, IfSome, if◌then◌else◌};
+ghost use Rattle.std.specs.Prelude.{◌≡◌, ◌^◌, ◌<◌, ℕ, List, length, IfSome, if◌then◌else◌};
 ghost use Rattle.osm_files.specs.SortedRun as spec;
 
 use crate::unit::{FILE_END, O5M_HEADER, SEGMENT_RESET};
@@ -42,7 +42,8 @@ pub struct BytesAtSplit {
 impl SortedRun {
     /// The whole file.
     pub fn whole() -> SortedRun
-        ensures { (file : List ℕ) → length file < 2 ^ 64 → spec.run_bytes result file ≡ file }
+        ensures whole { result ≡ spec.whole_run }
+        ensures bytes { (file : List ℕ) → length file < 2 ^ 64 → spec.run_bytes result file ≡ file }
     {
         SortedRun {
             start: 0,
@@ -71,10 +72,10 @@ impl SortedRun {
         if self.lacks_end { END_BYTES } else { NOTHING }
     }
 
-    /// The offset in the file of the byte at `offset` in the run. For a byte of the header that is read before the
-    /// part, it is the part's start.
+    /// The offset in the file of the byte at `offset` in the run, at most `u64::MAX`. For a byte of the header that is
+    /// read before the part, it is the part's start.
     pub fn offset_in_file(self, offset: u64) -> u64
-        ensures { self.start + offset < 2 ^ 64 → result ≡ self.start + (offset - length (spec.bytes_before self)) }
+        ensures { result ≡ spec.offset_in_file self offset }
     {
         let read = offset.saturating_sub(self.bytes_before().len() as u64);
         self.start.saturating_add(read)

@@ -28,7 +28,7 @@ impl SplitFile {
     /// A file that isn't split yet: its only run is the whole file.
     pub fn new(alloc: Global) -> SplitFile
         ensures runs { (file : List ℕ) → length file < 2 ^ 64 → spec.IsSplitIntoRuns file (spec.runs_of result) }
-        ensures one { result.fronts ≡ [] }
+        ensures one { result ≡ record { fronts = []; rest = spec.whole_run } }
     {
         SplitFile {
             fronts: Vec::new(alloc),

@@ -38,7 +38,7 @@ impl Ending {
     }
 
     /// The ending after the input gave bytes of which the first is `first` and the last is `last`.
-    fn after_bytes(self, first: u8, last: u8) -> Ending
+    pub(crate) fn after_bytes(self, first: u8, last: u8) -> Ending
         ensures { result ≡ spec.ending_by self first last }
     {
         match self {
@@ -60,7 +60,7 @@ impl Ending {
     }
 
     /// Whether the bytes are OPL and their last line has no end.
-    fn is_in_line(self) -> bool
+    pub(crate) fn is_in_line(self) -> bool
         ensures { result ≡ spec.is_in_line self }
     {
         self == Ending::InLine

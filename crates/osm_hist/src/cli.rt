@@ -12,7 +12,6 @@ mod plan_run;
 mod progress;
 mod refusal;
 mod request;
-mod runs;
 mod shard;
 mod summary;
 mod target;
@@ -129,7 +128,10 @@ fn read_list<'a, R: Files + AllocGlobal, I: Read + Drop>(
     rt: &R,
     request: &Request<'a>,
     input: &mut Option<I>,
-) -> Result<(String, Option<FileId>), Refusal<'a>> {
+) -> Result<(String, Option<FileId>), Refusal<'a>>
+where
+    R::File: PartFile,
+{
     let list = request.list();
     if let (Request::Files(run), Some(list)) = (request, list) {
         Target::of_arg(rt, run.output).refuse_part(&[list])?;

@@ -14,6 +14,10 @@ pub enum Relation {
 
 /// Observes a run, and changes nothing.
 pub trait Progress {
+    /// Is called before a run reads its inputs, and again if the run begins anew. What was read and written before
+    /// doesn't count then. A merge doesn't call it.
+    fn begin(&mut self);
+
     /// Is called after each version that is read, in their order. `relation` compares it with the version before it
     /// that wasn't dropped.
     fn read(&mut self, version: &Version, relation: Relation);
@@ -27,6 +31,9 @@ pub trait Progress {
 pub struct NoProgress;
 
 impl Progress for NoProgress {
+    #[inline(always)]
+    fn begin(&mut self) {}
+
     #[inline(always)]
     fn read(&mut self, _version: &Version, _relation: Relation) {}
 

@@ -21,7 +21,7 @@ use Rattle.osm_mirror.specs.declared.check.Sizes.{Sizes}
 use Rattle.osm_mirror.specs.declared.check.CheckReport.{CheckReport}
 use Rattle.osm_mirror.specs.Check.{new_objects, objects_after, IsCounted, object_count, Reports}
 use Rattle.osm_mirror.specs.Merge.{GivesSorted}
-use Rattle.osm_mirror.proofs.MergeLaws.{gives}
+use Rattle.osm_mirror.proofs.SourceLaws.{gives}
 use Rattle.osm_mirror.proofs.ObjectLaws.{objects_begun}
 
 -- adding to a number that stays at the limit

@@ -17,28 +17,21 @@ use Rattle.opl_line.specs.Delimiter.{is_line_end, split_first, pieces_of, with_b
 use Rattle.opl_line.specs.Spells.{Spells}
 use Rattle.opl_line.proofs.CutLaws.{cut_split}
 use Rattle.osm_files.specs.declared.fault.Fault.{Fault}
-use Rattle.osm_files.specs.Input.{InputRest, whole_input, Gave}
-use Rattle.osm_files.specs.Lines.{after_line, lines_from, IsLineStart, IsFirstOf, IsFirstFrom, IsDeviceFault, ReadsFrom}
+use Rattle.osm_files.specs.ReadAt.{AreAt, AreLast}
+use Rattle.osm_files.specs.Lines.{after_line, lines_from, IsLineStart, IsFirstOf, IsFirstFrom, IsDeviceFault}
 use Rattle.osm_files.specs.Opl.{is_read, OplFile}
 use Rattle.osm_files.specs.Units.{InOpl, BeforeHeader, start_of}
 use Rattle.osm_files.proofs.FileLaws.{Rises, sorted_all}
 use Rattle.osm_files.proofs.FirstLaws.{one_opl}
+use Rattle.osm_files.proofs.JoinLaws.{Ended, SplitVersions, split_ended}
 use Rattle.osm_files.proofs.StartLaws.{opl_starts}
 use Rattle.osm_merge.specs.declared.object.Object.{Object}
 use Rattle.osm_merge.specs.Slice.{object_of, reaches, is_under}
 use Rattle.osm_merge.proofs.SliceLaws.{not_below}
-use Rattle.osm_mirror.specs.CutOffset.{IsCutOf, IsCutRefusal, BeginsLinesOf, BeginsAs, ReadsAs}
+use Rattle.osm_mirror.specs.CutOffset.{IsCutOf, IsCutRefusal, BeginsLinesOf, BeginsAs}
 use Rattle.osm_mirror.specs.CutOffset.{first_is_under, IsFirstUnder}
-use Rattle.osm_mirror.proofs.SortedRunLaws.{lines_of, lines_after}
 
 -- ---- bytes that are split before the beginning of a line
--- the bytes up to the end of a line
-pub record Ended (front : List ℕ) : Type 0 where
-  pub text : List ℕ
-  pub last : ℕ
-  pub ends : is_line_end last ≡ true
-  pub is : front ≡ text ++ last ∷ []
-
 -- the rest has the lines that begin after the front
 pub record SplitLines (bytes rest : List ℕ) : Type 0 where
   pub front : List ℕ
@@ -86,51 +79,6 @@ split_lines (suc offset) bytes = let more = split_after (drop offset bytes) in r
 }
 
 -- ---- versions of split lines
--- versions in two parts: `front` spells the first part, and `rest` the second
-pub record SplitVersions (front rest : List ℕ) (versions : List VersionData) : Type 0 where
-  pub earlier : List VersionData
-  pub later : List VersionData
-  pub are : versions ≡ earlier ++ later
-  pub first : OplFile front earlier
-  pub second : OplFile rest later
-
-record SplitPairs (xs more : List (List ℕ)) (versions : List VersionData) : Type 0 where
-  earlier : List VersionData
-  later : List VersionData
-  are : versions ≡ earlier ++ later
-  first : Pairwise Spells xs earlier
-  second : Pairwise Spells more later
-
-split_pairs : (xs more : List (List ℕ)) (versions : List VersionData) → Pairwise Spells (xs ++ more) versions →
-    SplitPairs xs more versions
-split_pairs [] more versions h = record { earlier = []; later = versions; are = refl; first = tt; second = h }
-split_pairs (x ∷ xs) more [] h = absurd h
-split_pairs (x ∷ xs) more (v ∷ versions) (one, h) = let others = split_pairs xs more versions h in record {
-  earlier = v ∷ others.earlier;
-  later = others.later;
-  are = ap (λ vs. v ∷ vs) others.are;
-  first = (one, others.first);
-  second = others.second;
-}
-
-split_ended : (bytes front rest : List ℕ) (versions : List VersionData) → bytes ≡ front ++ rest → Ended front → OplFile bytes versions →
-    SplitVersions front rest versions
-split_ended bytes front rest versions whole_input e file =
-    let is : bytes ≡ e.text ++ e.last ∷ rest = whole_input ∙ ap (λ f. f ++ rest) e.is ∙ append_assoc e.text (e.last ∷ []) rest in
-    let all : OplFile (e.text ++ e.last ∷ rest) versions = subst (λ (b : List ℕ). OplFile b versions) is file in
-    let pairs = split_pairs (lines_of e.text) (lines_of rest) versions
-    (subst (λ (ls : List (List ℕ)). Pairwise Spells ls versions) (lines_after e.last e.ends e.text rest) all) in
-    let last_one : lines_of (e.text ++ e.last ∷ []) ≡ lines_of e.text =
-    lines_after e.last e.ends e.text [] ∙ append-nil (lines_of e.text) in
-    record {
-      earlier = pairs.earlier;
-      later = pairs.later;
-      are = pairs.are;
-      first = subst (λ (b : List ℕ). OplFile b pairs.earlier) (sym e.is)
-          (subst (λ (ls : List (List ℕ)). Pairwise Spells ls pairs.earlier) (sym last_one) pairs.first);
-      second = pairs.second;
-    }
-
 pub split_versions : (bytes rest : List ℕ) (s : SplitLines bytes rest) (versions : List VersionData) → OplFile bytes versions →
     SplitVersions s.front rest versions
 split_versions bytes rest s versions file =
@@ -505,27 +453,16 @@ o5_refusal (Some all) from start fault lines o5 = λ short. inr (λ versions fil
     let e : BeforeHeader ≡ InOpl = sym o5 ∙ opl in cc)
 
 -- ---- the first byte
-module _ {R : Type 0} (can : R → InputRest → Type 0) where
-  pub ends_as : (reader : R) → can reader (whole_input []) → ReadsAs can reader false
-  ends_as reader ended bytes only = ap (λ (c : InputRest). start_of c.bytes) (sym (only (whole_input []) ended))
+-- a file that ends at an offset doesn't begin there as an o5 file does
+pub ends_as : (bytes : Option (List ℕ)) (offset : ℕ) → AreLast bytes offset [] → BeginsAs bytes offset false
+ends_as None offset last = tt
+ends_as (Some all) offset last = ap start_of last
 
-  begins_as : (one : R → InputRest) → ((r : R) → can r (one r)) → (reader next : R) (byte : ℕ) → Gave can reader next (byte ∷ []) →
-      ReadsAs can reader (byte == 255)
-  begins_as one possible reader next byte gave bytes only =
-      let y = gave (one next) (possible next) in
-      let is : byte ∷ (one next).bytes ≡ bytes = ap (λ c. c.bytes) (sym y.2 ∙ only y.0 y.1) in
-      ap start_of (sym is)
-
-  pub starts_as : (bytes : Option (List ℕ)) (offset : ℕ) (reader : R) (is_o5 : Bool) → ReadsFrom can bytes offset reader →
-      ReadsAs can reader is_o5 → BeginsAs bytes offset is_o5
-  starts_as None offset reader is_o5 reads is = tt
-  starts_as (Some all) offset reader is_o5 reads is = is (drop offset all) reads
-
-  -- a reader of which one byte was read gives o5 if that is the first byte of o5 files
-  pub reads_as : (one : R → InputRest) → ((r : R) → can r (one r)) → (reader next : R) (count : ℕ) (buffer : List ℕ) → count ≤ 1 →
-      length buffer ≡ 1 → Gave can reader next (take count buffer) → (count == 0) ≡ false →
-      ReadsAs can reader (get_or buffer 0 0 == 255)
-  reads_as one possible reader next zero buffer few size gave some = cc
-  reads_as one possible reader next (suc (suc n)) buffer few size gave some = absurd (omega (arith, few))
-  reads_as one possible reader next (suc zero) [] few size gave some = absurd (omega (arith, size))
-  reads_as one possible reader next (suc zero) (b ∷ buffer) few size gave some = begins_as one possible reader next b gave
+-- a file begins as an o5 file does if the byte that was read is the first byte of o5 files
+pub begins_as : (bytes : Option (List ℕ)) (offset count : ℕ) (buffer : List ℕ) → count ≤ 1 → length buffer ≡ 1 →
+    AreAt bytes offset (take count buffer) → 0 < count → BeginsAs bytes offset (get_or buffer 0 0 == 255)
+begins_as None offset count buffer few size at some = tt
+begins_as (Some all) offset zero buffer few size at some = absurd (omega (arith, some))
+begins_as (Some all) offset (suc (suc n)) buffer few size at some = absurd (omega (arith, few))
+begins_as (Some all) offset (suc zero) [] few size at some = absurd (omega (arith, size))
+begins_as (Some all) offset (suc zero) (b ∷ buffer) few size (rest, at) some = ap start_of at

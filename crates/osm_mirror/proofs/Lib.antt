@@ -1,8 +1,6 @@
-mod MergeLaws
 mod SourceLaws
 mod RunLaws
 mod KnownLaws
-mod CommandLaws
 mod ObjectLaws
 mod CheckLaws
 mod FleetLaws
@@ -11,9 +9,11 @@ mod MirrorLaws
 mod PlanLineLaws
 mod PlanTextLaws
 mod MergesLaws
+mod UnionOfLaws
 mod SortedRunLaws
+mod FilesRunLaws
+mod TurnLaws
 mod SlicedFileLaws
 mod CutLaws
-mod SliceRunLaws
 mod ShardLaws
 mod LargestLaws

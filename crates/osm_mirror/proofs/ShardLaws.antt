@@ -9,6 +9,7 @@ use Rattle.osm_files.specs.Lines.{lines_from}
 use Rattle.osm_files.specs.Held.{IsFile, HoldsSorted}
 use Rattle.osm_files.specs.Units.{InOpl, start_of}
 use Rattle.osm_files.proofs.FileLaws.{one_list}
+use Rattle.osm_files.proofs.JoinLaws.{Ended}
 use Rattle.osm_merge.specs.declared.object.Object.{Object}
 use Rattle.osm_merge.specs.declared.object.Span.{Span}
 use Rattle.osm_merge.specs.Slice.{slice_of, spans, spans_from, IsWithin}
@@ -18,7 +19,7 @@ use Rattle.osm_mirror.specs.CutOffset.{BeginsLines}
 use Rattle.osm_mirror.specs.Shards.{parts_from, AreCutsFrom, PartsHoldTheFile, first_set, other_sets, by_span}
 use Rattle.osm_mirror.specs.Shards.{ShardsWriteTheRun}
 use Rattle.osm_mirror.specs.Slices.{AreSlicesWithin}
-use Rattle.osm_mirror.proofs.CutLaws.{Ended, split_lines}
+use Rattle.osm_mirror.proofs.CutLaws.{split_lines}
 use Rattle.osm_mirror.proofs.SlicedFileLaws.{SpelledFrom, no_spans, spelled_more, spelled_last, slices_of_all, slices_write_the_run}
 use Rattle.osm_mirror.proofs.SortedRunLaws.{after_line}
 

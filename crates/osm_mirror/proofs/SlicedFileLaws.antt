@@ -28,7 +28,7 @@ use Rattle.osm_merge.specs.Union as merged
 use Rattle.osm_merge.proofs.PieceLaws.{has_within, sets_within_are_slices}
 use Rattle.osm_merge.proofs.SliceLaws.{Rise, rise, IsAtMost, reaches_lower, below_is, not_below, slices_write_the_whole}
 use Rattle.osm_merge.proofs.UnionAllLaws.{in_union_all}
-use Rattle.osm_mirror.specs.Merge.{union_of}
+use Rattle.osm_mirror.specs.Run.{union_of}
 use Rattle.osm_files.specs.declared.format.Format.TheVariants.{Opl}
 use Rattle.osm_files.specs.SortedRun.{IsSplitInto}
 use Rattle.osm_files.specs.Spell.{spell}
@@ -36,7 +36,7 @@ use Rattle.osm_merge.specs.declared.object.Span.{Span}
 use Rattle.osm_merge.specs.declared.selection.Selection.{Selection}
 use Rattle.osm_merge.specs.Selected.{selection_of}
 use Rattle.osm_mirror.specs.Slices.{SlicesHoldTheFile, AreSlicesWithin, SlicesWriteTheRun}
-use Rattle.osm_mirror.proofs.MergeLaws.{set_given, union_given_is}
+use Rattle.osm_mirror.proofs.SourceLaws.{members, union_given_is}
 use Rattle.osm_mirror.proofs.MergesLaws.{in_union_of}
 use Rattle.osm_mirror.proofs.SortedRunLaws.{after_line, at_reset}
 
@@ -112,7 +112,7 @@ all_within from to s vs is within =
 pub record SpelledFrom (from : Option Object) (bytes : List ℕ) (held : List VersionSet) : Type 0 where
   pub given : List VersionsToCome
   pub file : IsFile bytes (merged.versions_of given)
-  pub sets : held ≡ map set_given given
+  pub sets : held ≡ map members given
   pub rises : Rises None (merged.versions_of given)
   pub reach : AllByRecursion (λ v. reaches from v ≡ true) (merged.versions_of given)
 

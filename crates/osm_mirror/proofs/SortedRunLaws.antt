@@ -1,32 +1,30 @@
 -- A file that is split into files in sequence holds the union of their sets.
-use Rattle.std.proofs.Common.{◌≡◌, ◌⊎◌, ⊎_elim, ℕ, Bool, true, false, cond, List, [], ◌∷◌, ◌++◌, drop, map, filter, refl, sym, ap, ◌∙◌}
+use Rattle.std.proofs.Common.{◌≡◌, ⊎_elim, ℕ, true, List, [], ◌∷◌, ◌++◌, map, sym, ap, ◌∙◌}
 use Rattle.std.proofs.Common.{append_assoc, append-nil, None}
-use Rattle.std.specs.List.{flat_map}
 use Rattle.std.proofs.lemmas.Grind.{flat_map-append}
-use Rattle.std.proofs.lemmas.List.{append_cancel_right}
-use Rattle.std.proofs.lemmas.List.Elements.{filter-append}
 use Rattle.osm_model.specs.Data.{VersionData}
 use Rattle.osm_model.specs.VersionSet.{VersionSet}
 use Rattle.osm_model.specs.Pairwise.{Pairwise}
-use Rattle.opl_line.specs.Delimiter.{with_first_byte, split_all, is_line_end}
+use Rattle.opl_line.specs.Delimiter.{is_line_end}
 use Rattle.opl_line.specs.Spells.{Spells}
-use Rattle.opl_line.proofs.CutLaws.{cut_split}
 use Rattle.o5_codec.specs.declared.segment.Segment.{Segment}
 use Rattle.o5_codec.specs.Decoder.{new_segment}
-use Rattle.osm_files.specs.Opl.{is_read, OplFile}
-use Rattle.osm_files.specs.O5.{o5m_header, o5c_header, end_byte, reset_byte, FilePart, Reset, Lone, Skipped, Object, part_bytes, PartsSpell}
-use Rattle.osm_files.specs.O5.{O5File}
+use Rattle.osm_files.specs.Opl.{OplFile}
+use Rattle.osm_files.specs.O5.{end_byte, reset_byte, FilePart, Reset, Lone, Skipped, Object, part_bytes, PartsSpell, O5File}
 use Rattle.osm_files.specs.Units.{InOpl, BeforeHeader, start_of}
 use Rattle.osm_files.specs.Held.{IsFile, Holds}
 use Rattle.osm_files.specs.SortedRun.{SplitAfterLine, SplitAtReset, IsSplitInto}
 use Rattle.osm_files.specs.Spell.{spell}
+use Rattle.osm_files.proofs.FileLaws.{Header}
+use Rattle.osm_files.proofs.JoinLaws.{lines_of, lines_after, header_starts, bytes_of, before_end, after_header, starts_as}
+use Rattle.osm_files.proofs.JoinLaws.{starts_with_reset}
 use Rattle.osm_files.proofs.SpellLaws.{held_is_one_set}
 use Rattle.osm_merge.specs.Selected.{selection_of}
 use Rattle.osm_merge.specs.ToCome.{VersionsToCome}
 use Rattle.osm_merge.specs.Union as merged
-use Rattle.osm_mirror.specs.Merge.{union_of}
+use Rattle.osm_mirror.specs.Run.{union_of}
 use Rattle.osm_mirror.specs.SortedRuns.{SortedRunsHoldTheFile, SortedRunsWriteTheFile}
-use Rattle.osm_mirror.proofs.MergeLaws.{set_given, union_given_is}
+use Rattle.osm_mirror.proofs.SourceLaws.{members, union_given_is}
 
 -- ---- lines
 module _ {X Y : Type 0} (R : X → Y → Type 0) where
@@ -37,32 +35,12 @@ module _ {X Y : Type 0} (R : X → Y → Type 0) where
   pairwise_append (x ∷ xs) more [] others h g = absurd h
   pairwise_append (x ∷ xs) more (y ∷ ys) others h g = (h.0, pairwise_append xs more ys others h.1 g)
 
-module _ (p : ℕ → Bool) (last : ℕ) (ends : p last ≡ true) (rest : List ℕ) where
-  cut_after : (front : List ℕ) → split_all p (front ++ last ∷ rest) ≡ split_all p front ++ split_all p rest
-  cut_after [] = rw ends refl
-  cut_after (b ∷ front) =
-      let all : List (List ℕ) = split_all p (front ++ last ∷ rest) in
-      elim (p b) as (λ t. cond t ([] ∷ all) (with_first_byte b all) ≡ cond t ([] ∷ split_all p front)
-      (with_first_byte b (split_all p front)) ++ split_all p rest) [
-        | true ↦ ap (λ pieces. [] ∷ pieces) (cut_after front)
-        | false ↦ ap (with_first_byte b) (cut_after front) ∙ rw (cut_split p front) refl
-      ]
-
--- the lines that aren't skipped
-abbrev pub lines_of : List ℕ → List (List ℕ)
-lines_of bytes = filter is_read (split_all is_line_end bytes)
-
 module _ (last : ℕ) (ends : is_line_end last ≡ true) (front : List ℕ) where
-  -- The lines of bytes that are joined at an end of a line are the lines of both parts.
-  pub lines_after : (rest : List ℕ) → lines_of (front ++ last ∷ rest) ≡ lines_of front ++ lines_of rest
-  lines_after rest = ap (filter is_read) (cut_after is_line_end last ends rest front)
-      ∙ filter-append is_read (split_all is_line_end front) (split_all is_line_end rest)
-
   opl_joined : (rest : List ℕ) (earlier later : List VersionData) → OplFile (front ++ last ∷ []) earlier → OplFile rest later
       → OplFile (front ++ last ∷ rest) (earlier ++ later)
   opl_joined rest earlier later one other =
-      let first : lines_of (front ++ last ∷ []) ≡ lines_of front = lines_after [] ∙ append-nil (lines_of front) in
-      rw (lines_after rest) (pairwise_append Spells (lines_of front) (lines_of rest) earlier later (rw first at one) other)
+      let first : lines_of (front ++ last ∷ []) ≡ lines_of front = lines_after last ends front [] ∙ append-nil (lines_of front) in
+      rw (lines_after last ends front rest) (pairwise_append Spells (lines_of front) (lines_of rest) earlier later (rw first at one) other)
 
 -- ---- data sets
 module _ (more : List FilePart) (later : List VersionData) (spelled : PartsSpell new_segment more later) where
@@ -74,30 +52,6 @@ module _ (more : List FilePart) (later : List VersionData) (spelled : PartsSpell
   parts_joined s (Skipped b size content ∷ parts) earlier h = (h.0, h.1, parts_joined s parts earlier h.2)
   parts_joined s (Object k size content ∷ parts) earlier (sized, (v, next, others, is, spells, h)) =
       (sized, (v, next, others ++ later, ap (λ vs. vs ++ later) is, spells, parts_joined next parts others h))
-
-abbrev Header : List ℕ → Type 0
-Header header = (header ≡ o5m_header) ⊎ (header ≡ o5c_header)
-
-module _ (header rest : List ℕ) (is : Header header) where
-  drop_header : drop 7 (header ++ rest) ≡ rest
-  drop_header = ⊎_elim (λ e. ap (λ h. drop 7 (h ++ rest)) e) (λ e. ap (λ h. drop 7 (h ++ rest)) e) is
-
-  header_starts : start_of (header ++ rest) ≡ BeforeHeader
-  header_starts = ⊎_elim (λ e. ap (λ h. start_of (h ++ rest)) e) (λ e. ap (λ h. start_of (h ++ rest)) e) is
-
-abbrev bytes_of : List FilePart → List ℕ
-bytes_of parts = flat_map part_bytes parts
-
-before_end : (front : List ℕ) (versions : List VersionData) (file : O5File (front ++ end_byte ∷ []) versions) →
-    front ≡ file.header ++ bytes_of file.parts
-before_end front versions file =
-    append_cancel_right front (file.header ++ bytes_of file.parts) (end_byte ∷ [])
-    (file.whole ∙ sym (append_assoc file.header (bytes_of file.parts) (end_byte ∷ [])))
-
-after_header : (header more : List ℕ) (versions : List VersionData) → Header header → (file : O5File (header ++ more) versions)
-    → more ≡ bytes_of file.parts ++ end_byte ∷ []
-after_header header more versions is file =
-    sym (drop_header header more is) ∙ ap (drop 7) file.whole ∙ drop_header file.header (bytes_of file.parts ++ end_byte ∷ []) file.begins
 
 o5_joined : (front header more : List ℕ) (earlier later : List VersionData) → Header header
     → O5File (front ++ end_byte ∷ []) earlier → O5File (header ++ more) later → O5File (front ++ reset_byte ∷ more) (earlier ++ later)
@@ -117,16 +71,6 @@ o5_joined front header more earlier later is one other =
     }
 
 -- ---- files
--- the first byte determines the grammar, whatever comes after it
-starts_as : (front rest : List ℕ) (last : ℕ) → start_of (front ++ last ∷ rest) ≡ start_of (front ++ last ∷ [])
-starts_as [] rest last = refl
-starts_as (b ∷ front) rest last = refl
-
-starts_with_reset : (front rest : List ℕ) → start_of (front ++ end_byte ∷ []) ≡ BeforeHeader →
-    start_of (front ++ reset_byte ∷ rest) ≡ BeforeHeader
-starts_with_reset [] rest at = refl
-starts_with_reset (b ∷ front) rest at = at
-
 module _ (file rest bytes : List ℕ) (earlier later : List VersionData) (one : IsFile file earlier) (other : IsFile rest later) where
   -- A file that is split after a line has the versions of both parts.
   pub after_line : SplitAfterLine file rest bytes → IsFile bytes (earlier ++ later)
@@ -150,7 +94,7 @@ module _ (file rest bytes : List ℕ) (earlier later : List VersionData) (one : 
 record Spelled (bytes : List ℕ) (held : List VersionSet) : Type 0 where
   given : List VersionsToCome
   file : IsFile bytes (merged.versions_of given)
-  sets : held ≡ map set_given given
+  sets : held ≡ map members given
 
 spelled : (bytes : List ℕ) (files : List (List ℕ)) (held : List VersionSet) → IsSplitInto bytes files → Pairwise Holds files held →
     Spelled bytes held

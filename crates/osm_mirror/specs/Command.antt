@@ -1,45 +1,27 @@
 -- The output of the commands that read all of their inputs first, and the reasons why the commands are refused: an own
 -- rule of this project.
-use Rattle.std.specs.Prelude.{◌≡◌, ◌⊎◌, Bool, true, false, List, length, map, sum_by}
+use Rattle.std.specs.Prelude.{◌≡◌, ◌⊎◌, Bool, true, false, List, length, map}
 use Rattle.osm_model.specs.VersionSet.{VersionSet}
-use Rattle.osm_model.specs.Sets.{size}
 use Rattle.osm_model.specs.Pairwise.{Pairwise}
 use Rattle.osm_files.specs.declared.fault.Fault.{Fault}
 use Rattle.osm_files.specs.declared.format.Format.{Format}
 use Rattle.osm_files.specs.Fault.{memory_fault}
 use Rattle.osm_files.specs.Input.{InputRest}
 use Rattle.osm_files.specs.declared.output.Output.{Ghosts}
-use Rattle.osm_files.specs.Output.{Change, Appends}
+use Rattle.osm_files.specs.Output.{Change}
 use Rattle.osm_files.specs.Change.{change_of}
 use Rattle.osm_files.specs.Spell.{spell}
 use Rattle.osm_files.specs.Sink.{CutShort}
 use Rattle.osm_merge.specs.declared.merge.Counts.{Counts}
 use Rattle.osm_merge.specs.Selected.{snapshot, visible}
-use Rattle.osm_merge.specs.Union.{capped_count}
-use Rattle.osm_mirror.specs.declared.input.InputFile.{InputFile}
-use Rattle.osm_mirror.specs.declared.input.Order.{Order}
-use Rattle.osm_mirror.specs.declared.input.Order.TheVariants.{Any}
-use Rattle.osm_mirror.specs.Merge.{union_of}
+use Rattle.osm_mirror.specs.declared.input.ReadAs.TheVariants.{Any}
+use Rattle.osm_mirror.specs.Run.{union_of, IsRunBy}
 use Rattle.osm_mirror.specs.Given.{GivesFile, IsUnread}
 
 -- A command over these inputs, with this change of the output: each input gave a file, and the one spelling of the
--- choice from the union of their sets was appended.
-pub record IsWritten (choice : VersionSet → VersionSet) (inputs : List InputRest) (format : Format) (change : Change)
-    (counts : Counts) : Type 0 where
-  pub held : List VersionSet
-  pub files : Pairwise GivesFile inputs held
-  pub written : Appends change (spell format (choice (union_of held)))
-  pub read_count : counts.read ≡ capped_count (sum_by size held)
-  pub written_count : counts.written ≡ capped_count (size (choice (union_of held)))
-  pub compared_count : counts.compared ≡ 0
-
--- a file whose versions may have any order, with this reader
-abbrev pub any_order_file : {X : Type 0} → X → InputFile X
-any_order_file reader = record { reader = reader; order = Any }
-
--- an input whose versions may have any order
-abbrev pub any_order : InputRest → Order × InputRest
-any_order c = (Any, c)
+-- choice from the union of their sets was appended. No comparison is counted.
+abbrev pub IsWritten : (VersionSet → VersionSet) → List InputRest → Format → Change → Counts → Type 0
+IsWritten choice = IsRunBy GivesFile choice (λ inputs given compared. compared ≡ 0)
 
 -- Why a command was refused: memory ran out before anything was written; or an input can't be read, and nothing was
 -- written; or all inputs are files, and a front of the one spelling of the choice from the union of their sets was
@@ -48,7 +30,7 @@ abbrev pub IsNotWritten : {O : Type 0} → Ghosts O → (VersionSet → VersionS
     → Type 0
 IsNotWritten output choice inputs format before after fault =
     ((fault ≡ memory_fault) × (after ≡ before))
-    ⊎ (IsUnread 0 (map any_order inputs) fault × (after ≡ before))
+    ⊎ (IsUnread 0 (map (λ c. (Any, c)) inputs) fault × (after ≡ before))
     ⊎ ((held : List VersionSet) × Pairwise GivesFile inputs held
     × CutShort (length inputs) (change_of output before after) (spell format (choice (union_of held))) fault)
 

@@ -7,7 +7,6 @@ use Rattle.std.specs.List.Sorted.{IsSorted}
 use Rattle.osm_model.specs.Data.{VersionData}
 use Rattle.osm_model.specs.Order.{key_cmp}
 use Rattle.osm_files.specs.declared.fault.Fault.{Fault}
-use Rattle.osm_files.specs.Input.{InputRest, whole_input}
 use Rattle.osm_files.specs.Lines.{lines_from, IsDeviceFault}
 use Rattle.osm_files.specs.Opl.{OplFile}
 use Rattle.osm_files.specs.Units.{FileStateData, InOpl, BeforeHeader, start_of}
@@ -44,11 +43,6 @@ start_if is_o5 = if is_o5 then BeforeHeader else InOpl
 -- `is_o5` is whether the bytes from the offset on begin as an o5 file does, if the file's bytes are known
 abbrev pub BeginsAs : Option (List ℕ) → ℕ → Bool → Type 0
 BeginsAs bytes offset is_o5 = IfSome bytes (λ all. start_of (drop offset all) ≡ start_if is_o5)
-
--- `is_o5` is whether the bytes begin as an o5 file does, if the reader can give only these bytes
-abbrev pub ReadsAs : {R : Type 0} → (R → InputRest → Type 0) → R → Bool → Type 0
-ReadsAs can reader is_o5 =
-    (bytes : List ℕ) → ((c : InputRest) → can reader c → c ≡ whole_input bytes) → start_of bytes ≡ start_if is_o5
 
 -- lines of OPL begin at the offset, if the file's bytes are known
 abbrev pub BeginsLinesOf : Option (List ℕ) → ℕ → Type 0

@@ -1,7 +1,9 @@
+pub mod Run
 pub mod Merge
+pub mod SliceRun
 pub mod SourceRest
 pub mod Given
-pub mod Run
+pub mod SelectedRun
 pub mod Command
 pub mod KnownInputs
 pub mod Check
@@ -18,6 +20,6 @@ pub mod FaultLine
 pub mod SortedRuns
 pub mod Slices
 pub mod CutOffset
-pub mod SliceRun
 pub mod Shards
 pub mod Largest
+pub mod FilesRun

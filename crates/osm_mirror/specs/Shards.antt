@@ -15,7 +15,7 @@ use Rattle.osm_merge.specs.declared.selection.Selection.{Selection}
 use Rattle.osm_merge.specs.Selected.{selection_of}
 use Rattle.osm_merge.specs.Slice.{object_order, slices, spans, IsWithin}
 use Rattle.osm_mirror.specs.CutOffset.{BeginsLines}
-use Rattle.osm_mirror.specs.Merge.{union_of}
+use Rattle.osm_mirror.specs.Run.{union_of}
 
 -- the parts of some bytes between offsets, in sequence, from the offset `start` on
 abbrev pub parts_from : ℕ → List ℕ → List ℕ → List (List ℕ)

@@ -13,7 +13,7 @@ use Rattle.osm_merge.specs.declared.object.Span.{Span}
 use Rattle.osm_merge.specs.declared.selection.Selection.{Selection}
 use Rattle.osm_merge.specs.Selected.{selection_of}
 use Rattle.osm_merge.specs.Slice.{object_order, slice_of, spans, slices, IsWithin}
-use Rattle.osm_mirror.specs.Merge.{union_of}
+use Rattle.osm_mirror.specs.Run.{union_of}
 
 -- A file that is split into sorted files, each within its span, is sorted. It holds the union of their sets, and each
 -- of them holds its slice of the union.

@@ -2,10 +2,10 @@
 ghost use Rattle.std.specs.Prelude.{IfOk, IfErr};
 ghost use Rattle.osm_files.specs.Fault.{IsOfFile};
 ghost use Rattle.osm_files.specs.Lines.{IsDeviceFault};
-ghost use Rattle.osm_mirror.specs.CutOffset.{IsCutOf, BeginsLinesOf, IsCutRefusal, IsFirstUnder, BeginsAs, ReadsAs};
+ghost use Rattle.osm_mirror.specs.CutOffset.{IsCutOf, BeginsLinesOf, IsCutRefusal, IsFirstUnder, BeginsAs};
 
 use opl_line::OplReason;
-use osm_files::{Broken, Fault, Input, OpenAt, Reason, first_version, line_start};
+use osm_files::{Broken, Fault, ReadAt, Reason, first_version, line_start};
 use osm_merge::Object;
 use std::alloc::Global;
 
@@ -19,7 +19,7 @@ use std::alloc::Global;
 ///
 /// The reason why a line that the search reads can't be read, at the line's offset. `ReadFault` if the file can't be
 /// read; `TooLong`; or `Memory`. `input` is the file's number.
-pub fn cut_offset<R: Input + Drop, F: OpenAt<R>>(
+pub fn cut_offset<F: ReadAt>(
     alloc: Global,
     file: &F,
     input: usize,
@@ -53,7 +53,7 @@ pub fn cut_offset<R: Input + Drop, F: OpenAt<R>>(
 
 /// Whether the object of the first version in the lines at `offset` or after it is below `bound`; `false` without such
 /// a version.
-fn is_first_below<R: Input + Drop, F: OpenAt<R>>(
+fn is_first_below<F: ReadAt>(
     alloc: Global,
     file: &F,
     input: usize,
@@ -71,36 +71,17 @@ fn is_first_below<R: Input + Drop, F: OpenAt<R>>(
 }
 
 /// Whether the bytes of a file from `offset` on begin as an o5 file does. No line of an OPL file begins so.
-fn begins_as_o5<R: Input + Drop, F: OpenAt<R>>(
-    file: &F,
-    input: usize,
-    offset: u64,
-) -> Result<bool, Fault>
+fn begins_as_o5<F: ReadAt>(file: &F, input: usize, offset: u64) -> Result<bool, Fault>
     ensures begins { IfOk result (BeginsAs (F.bytes file.now) offset) }
     ensures refused { IfErr result IsDeviceFault }
     ensures number { IfErr result (IsOfFile input) }
 {
-    let broken = Fault::at(input, offset, Reason::ReadFault);
-    let Ok(mut reader) = file.open_at(offset) else {
-        return Err(broken);
-    };
-    let is_o5 = reads_o5_start(&mut reader);
-    drop(reader);
-    match is_o5 {
-        Ok(is_o5) => Ok(is_o5),
-        Err(Broken) => Err(broken),
-    }
-}
-
-/// Whether the first byte of an input is that of o5 files.
-fn reads_o5_start<R: Input>(reader: &mut R) -> Result<bool, Broken>
-    ensures { IfOk result (ReadsAs R.can_give reader.old) }
-{
     let mut byte = [0u8; 1];
-    if reader.read(&mut byte)? == 0 {
-        return Ok(false);
+    match file.read_at(&mut byte, offset) {
+        Ok(0) => Ok(false),
+        Ok(_) => Ok(byte[0] == 0xff),
+        Err(Broken) => Err(Fault::at(input, offset, Reason::ReadFault)),
     }
-    Ok(byte[0] == 0xff)
 }
 
 #[cfg(test)]

@@ -1,15 +1,14 @@
 //! The commands that read all of their inputs before they write.
-ghost use Rattle.std.specs.Prelude.{◌≡◌, [], ◌∷◌, map, IfOk, IfErr, OnOk};
-ghost use Rattle.osm_files.specs.Fault.{memory_fault};
+ghost use Rattle.std.specs.Prelude.{[], ◌∷◌, IfOk, IfErr, OnOk};
 ghost use Rattle.osm_files.specs.Input.{GivesOne};
 ghost use Rattle.osm_files.specs.Output.{IsGoodThroughout};
 ghost use Rattle.osm_files.specs.Change.{change_of};
 ghost use Rattle.osm_merge.specs.Giving.{SomeInputsGive};
 ghost use Rattle.osm_merge.specs.Selected.{selection_of, visible, at, between};
 ghost use Rattle.osm_merge.specs.Merged.{Grows};
-ghost use Rattle.osm_mirror.specs.Command.{IsWritten, IsNotWritten, apply_result, any_order_file};
+ghost use Rattle.osm_mirror.specs.Command.{IsWritten, IsNotWritten, apply_result};
 
-use crate::input::{InputFile, Order};
+use crate::input::{ReadAs, files_as};
 use crate::run::run_selected;
 use osm_files::{Fault, Format, Input, Output};
 use osm_merge::{Counts, NoProgress, Selection};
@@ -169,25 +168,10 @@ fn run_held<R: Input + Drop, W: Output>(
     ensures kept { Grows (change_of W.Output out.old out.new) }
     ensures good { OnOk result (IsGoodThroughout (change_of W.Output out.old out.new)) }
 {
-    let files = of_any_order(alloc, inputs)?;
+    let files = files_as(alloc, ReadAs::Any, inputs)?;
     let counts = run_selected(alloc, selection, files, format, out, &mut NoProgress)?;
     Ok(Counts {
         compared: 0,
         ..counts
     })
-}
-
-/// The readers as files whose versions may have any order.
-fn of_any_order<R: Drop>(alloc: Global, inputs: Vec<R>) -> Result<Vec<InputFile<R>>, Fault>
-    ensures files { IfOk result (λ files. files.items ≡ map any_order_file inputs.items) }
-    ensures memory { IfErr result (λ fault. fault ≡ memory_fault) }
-{
-    let mut files = Vec::new(alloc);
-    'inputs: for reader in inputs {
-        files.push(InputFile {
-            reader,
-            order: Order::Any,
-        })?;
-    }
-    Ok(files)
 }

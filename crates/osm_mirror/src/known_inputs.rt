@@ -1,24 +1,11 @@
-//! Runs over inputs that report their bytes beforehand. Each only calls the run of its name; its contract has the
-//! consequences for inputs that report their bytes.
-ghost use Rattle.std.specs.Prelude.{List, IfOk, IfErr, OnOk, OnErr};
-ghost use Rattle.std.specs.List.{All};
-ghost use Rattle.osm_files.specs.Input.{InputRest};
-ghost use Rattle.osm_files.specs.Output.{IsGoodThroughout};
-ghost use Rattle.osm_files.specs.Change.{change_of};
-ghost use Rattle.osm_merge.specs.Merged.{WritesSet, HasBegun, HasBegunIn};
-ghost use Rattle.osm_merge.specs.Selected.{selection_of};
-ghost use Rattle.osm_merge.specs.Union.{union_given};
-ghost use Rattle.osm_mirror.specs.Given.{FileGives, GivesAs, sources};
-ghost use Rattle.osm_mirror.specs.Merge as merge;
-ghost use Rattle.osm_mirror.specs.Run.{IsRun, RefusesRun};
-ghost use Rattle.osm_mirror.specs.KnownInputs.{AllKnownToGive, IsFileIfKnown, KnownIsGiven};
+//! Laws about runs over inputs that report their bytes beforehand. Each is the `ensures` clause of a function with an
+//! empty body, which runs no code. The contracts of the runs are about some bytes that the inputs can give. By these
+//! laws they are about the bytes that the inputs report.
+ghost use Rattle.osm_mirror.specs.KnownInputs.{KnownIsGiven, MergesOfKnown, RunsOfKnown};
+ghost use Rattle.osm_mirror.specs.KnownInputs.{MergesWriteASet, RunsWriteASet};
+ghost use Rattle.osm_mirror.specs.KnownInputs.{RefusedMergesHaveBegun, RefusedRunsHaveBegun};
 
-use crate::input::{InputFile, Order};
-use crate::merge::run_merge;
-use crate::run::run_selected;
-use osm_files::{Fault, Format, Input, Output};
-use osm_merge::{Counts, Progress, Selection};
-use std::alloc::Global;
+use osm_files::{Input, Output};
 
 /// Inputs that report their bytes can give nothing else. So a property of some bytes that they can give is a property
 /// of the bytes that they report.
@@ -26,60 +13,26 @@ pub fn known_is_given<R: Input>(inputs: &[R])
     ensures { KnownIsGiven R.can_give inputs.now }
 {}
 
-/// [`run_merge`] over inputs that may report their bytes.
-///
-/// # Errors
-///
-/// Those of [`run_merge`].
-pub fn run_merge_known<R: Input + Drop, W: Output>(
-    alloc: Global,
-    inputs: Vec<R>,
-    format: Format,
-    out: &mut W,
-) -> Result<Counts, Fault>
-    // Three clauses for a merge in which all inputs report their bytes.
-    ensures merged { IfOk result (λ counts. (all : List InputRest) → AllKnownToGive R.can_give inputs.items all
-        → merge.IsMerged all format (change_of W.Output out.old out.new) counts) }
-    ensures refused { IfErr result (λ fault. (all : List InputRest) → AllKnownToGive R.can_give inputs.items all
-        → merge.Refuses all format (change_of W.Output out.old out.new) fault) }
-    ensures begun { OnErr result ((all : List InputRest) → AllKnownToGive R.can_give inputs.items all
-        → HasBegun (merge.sources 0 all) format (change_of W.Output out.old out.new)) }
-    // A clause about each input that reports its bytes, and two about the output.
-    ensures sorted { OnOk result (All (IsFileIfKnown R.can_give merge.GivesSorted) inputs.items) }
-    ensures file { IfOk result (WritesSet format (change_of W.Output out.old out.new)) }
-    ensures good { OnOk result (IsGoodThroughout (change_of W.Output out.old out.new)) }
-{
-    run_merge(alloc, inputs, format, out)
-}
+/// The clauses `merged` and `refused` of [`run_merge`](crate::run_merge) hold of the bytes that the inputs report. If
+/// the merge succeeds, each input that reports its bytes is a sorted file.
+pub fn merges_of_known<R: Input, W: Output>(_inputs: &[R], _out: &W)
+    ensures { MergesOfKnown R.can_give W.Output }
+{}
 
-/// [`run_selected`] over inputs that may report their bytes.
-///
-/// # Errors
-///
-/// Those of [`run_selected`].
-pub fn run_selected_known<R: Input + Drop, W: Output, P: Progress>(
-    alloc: Global,
-    selection: Selection,
-    inputs: Vec<InputFile<R>>,
-    format: Format,
-    out: &mut W,
-    progress: &mut P,
-) -> Result<Counts, Fault>
-    // Three clauses for a run in which all inputs report their bytes.
-    ensures written { IfOk result (λ counts.
-        (all : List (Order × InputRest)) → AllKnownToGive (FileGives R.can_give) inputs.items all
-        → IsRun selection all format (change_of W.Output out.old out.new) counts) }
-    ensures refused { IfErr result (λ fault.
-        (all : List (Order × InputRest)) → AllKnownToGive (FileGives R.can_give) inputs.items all
-        → RefusesRun W.Output selection all format out.old out.new fault) }
-    ensures begun { OnErr result ((all : List (Order × InputRest)) →
-        AllKnownToGive (FileGives R.can_give) inputs.items all
-        → HasBegunIn (selection_of selection (union_given (sources 0 all))) format
-        (change_of W.Output out.old out.new)) }
-    // A clause about each input that reports its bytes, and two about the output.
-    ensures accepted { OnOk result (All (IsFileIfKnown (FileGives R.can_give) GivesAs) inputs.items) }
-    ensures file { IfOk result (WritesSet format (change_of W.Output out.old out.new)) }
-    ensures good { OnOk result (IsGoodThroughout (change_of W.Output out.old out.new)) }
-{
-    run_selected(alloc, selection, inputs, format, out, progress)
-}
+/// The clauses `written` and `refused` of [`run_selected`](crate::run_selected) hold of the bytes that the inputs
+/// report. If the run succeeds, each input that reports its bytes is a file, and sorted if it is read as `Sorted`.
+pub fn runs_of_known<R: Input, W: Output>(_inputs: &[R], _out: &W)
+    ensures { RunsOfKnown R.can_give W.Output }
+{}
+
+/// A merge that succeeds, or a run, wrote the file of a set, whatever its inputs report.
+pub fn runs_write_a_set<W: Output>(_out: &W)
+    ensures merges { MergesWriteASet W.Output }
+    ensures runs { RunsWriteASet W.Output }
+{}
+
+/// A merge that is refused, or a run, wrote a front of the file that it would have written.
+pub fn refused_runs_have_begun<W: Output>(_out: &W)
+    ensures merges { RefusedMergesHaveBegun W.Output }
+    ensures runs { RefusedRunsHaveBegun W.Output }
+{}

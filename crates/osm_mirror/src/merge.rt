@@ -1,15 +1,15 @@
 //! The merge of files.
-ghost use Rattle.std.specs.Prelude.{◌≡◌, [], ◌∷◌, ◌++◌, length, IfOk, IfErr, OnOk};
-ghost use Rattle.osm_files.specs.Fault.{memory_fault};
-ghost use Rattle.osm_files.specs.Groups.{new_source};
+ghost use Rattle.std.specs.Prelude.{IfOk, IfErr, OnOk};
 ghost use Rattle.osm_files.specs.Output.{IsGoodThroughout};
 ghost use Rattle.osm_files.specs.Change.{change_of};
 ghost use Rattle.osm_merge.specs.Giving.{SomeInputsGive};
 ghost use Rattle.osm_merge.specs.Merged.{Grows};
-ghost use Rattle.osm_mirror.specs.Merge.{IsMerged, Refuses, new_sources};
+ghost use Rattle.osm_mirror.specs.Merge.{IsMerged, Refuses};
 
-use osm_files::{Fault, FileSource, Format, Input, Output, Sink};
-use osm_merge::{Counts, merge_into};
+use crate::input::{ReadAs, files_as};
+use crate::run::run_selected;
+use osm_files::{Fault, Format, Input, Output};
+use osm_merge::{Counts, NoProgress, Selection};
 use std::alloc::Global;
 
 /// Merges sorted files: appends the one file of the format `format` that holds the versions of all inputs, each once.
@@ -37,37 +37,8 @@ pub fn run_merge<R: Input + Drop, W: Output>(
     ensures kept { Grows (change_of W.Output out.old out.new) }
     ensures good { OnOk result (IsGoodThroughout (change_of W.Output out.old out.new)) }
 {
-    let output = inputs.len();
-    let sources = open_sources(alloc, inputs)?;
-    let mut sink = Sink::new(alloc, format, output)?;
-    merge_into(alloc, sources, &mut sink, out)
-}
-
-/// The inputs as sources, numbered from 0.
-fn open_sources<R: Input + Drop>(alloc: Global, inputs: Vec<R>) -> Result<Vec<FileSource<R>>, Fault>
-    ensures opened { IfOk result (λ sources. sources.items ≡ new_sources 0 inputs.items) }
-    ensures memory { IfErr result (λ fault. fault ≡ memory_fault) }
-{
-    let count = inputs.len();
-    let mut sources = Vec::new(alloc);
-    for reader in inputs {
-        push_source(alloc, count, reader, &mut sources)?;
-    }
-    Ok(sources)
-}
-
-/// Appends the source of `reader`, which is one of `count` readers, with the next number.
-fn push_source<R: Input + Drop>(
-    alloc: Global,
-    count: usize,
-    reader: R,
-    sources: &mut Vec<FileSource<R>>,
-) -> Result<(), Fault>
-    ensures pushed { OnOk result (sources.new.items ≡ sources.old.items
-        ++ new_source (length sources.old.items) reader ∷ []) }
-    ensures memory { IfErr result (λ fault. fault ≡ memory_fault) }
-{
-    Ok(sources.push(FileSource::with_peers(alloc, sources.len(), reader, count)?)?)
+    let files = files_as(alloc, ReadAs::Sorted, inputs)?;
+    run_selected(alloc, Selection::All, files, format, out, &mut NoProgress)
 }
 
 #[cfg(test)]

@@ -1,13 +1,13 @@
 //! The one run over files, which writes the selection of the union of their sets as one file.
-ghost use Rattle.std.specs.Prelude.{◌≡◌, IfOk, IfErr, OnOk};
+ghost use Rattle.std.specs.Prelude.{IfOk, IfErr, OnOk};
 ghost use Rattle.osm_files.specs.Output.{IsGoodThroughout};
 ghost use Rattle.osm_files.specs.Change.{change_of};
 ghost use Rattle.osm_merge.specs.Giving.{SomeInputsGive};
 ghost use Rattle.osm_merge.specs.Merged.{Grows};
 ghost use Rattle.osm_mirror.specs.Given.{FileGives};
-ghost use Rattle.osm_mirror.specs.Run.{IsRun, RefusesRun};
+ghost use Rattle.osm_mirror.specs.SelectedRun.{IsRun, RefusesRun};
 
-use crate::input::{InputFile, Order};
+use crate::input::InputFile;
 use crate::source::open_inputs;
 use osm_files::{Fault, Format, Input, Output, Sink};
 use osm_merge::{Counts, Progress, Selection, merge_selected};
@@ -15,19 +15,21 @@ use std::alloc::Global;
 
 /// Appends the one file of the format `format` that holds the selection of the versions of all inputs, each once.
 ///
-/// If it returns `Ok`, every input is a file of its grammar, and sorted if its order is `Sorted`. The bytes written are
-/// the one spelling of the selection of the union of the inputs' versions.
+/// If it returns `Ok`, every input is a file of its grammar, and sorted if it is read as `Sorted`. The bytes written
+/// are the one spelling of the selection of the union of the inputs' versions. Of an input that is read as `Within`
+/// only the versions within its span count; a whole file is read only up to the span's upper bound.
 ///
-/// Each input of any order is read to its end before anything is written. The sorted inputs are read in parallel, one
-/// key at a time. `progress` observes the run, and changes nothing.
+/// Each input of any order is read to its end before anything is written. The others are read in parallel, one key at a
+/// time. `progress` observes the run, and changes nothing.
 ///
 /// # Errors
 ///
 /// The inputs are numbered from 0, and the number of the output is the number of inputs. If an input can't be read, or
-/// isn't sorted though its order is `Sorted`, the fault has its number, the reason and the offset. If several inputs
-/// are faulty, it is the fault of one of them. `WriteFault` if the output failed, `TooLong` if a file has 2^62 bytes or
-/// more, `Memory` if memory ran out. If an input of any order is refused, nothing was written. Otherwise the bytes that
-/// were written are a front of the file.
+/// isn't sorted though it isn't read as `Any`, the fault has its number, the reason and the offset. A version outside
+/// of a span whose rule is `Refused` is `Unsorted`, at the offset 0. If several inputs are faulty, it is the fault of
+/// one of them. `WriteFault` if the output failed, `TooLong` if a file has 2^62 bytes or more, `Memory` if memory ran
+/// out. If an input of any order is refused, nothing was written. Otherwise the bytes that were written are a front of
+/// the file.
 pub fn run_selected<R: Input + Drop, W: Output, P: Progress>(
     alloc: Global,
     selection: Selection,

@@ -1,16 +1,17 @@
 //! The run over files for a slice of their objects.
-ghost use Rattle.std.specs.Prelude.{◌≡◌, [], ◌∷◌, ◌++◌, length, IfOk, IfErr, OnOk};
+ghost use Rattle.std.specs.Prelude.{◌≡◌, map, IfOk, IfErr, OnOk};
 ghost use Rattle.osm_files.specs.Fault.{memory_fault};
-ghost use Rattle.osm_files.specs.Groups.{new_source};
 ghost use Rattle.osm_files.specs.Output.{IsGoodThroughout};
 ghost use Rattle.osm_files.specs.Change.{change_of};
 ghost use Rattle.osm_merge.specs.Giving.{SomeInputsGive};
 ghost use Rattle.osm_merge.specs.Merged.{Grows};
-ghost use Rattle.osm_merge.specs.Within.{within_span};
-ghost use Rattle.osm_mirror.specs.SliceRun.{SliceGives, IsSliceRun, RefusesSlice, opened_slices};
+ghost use Rattle.osm_mirror.specs.Given.{file_within};
+ghost use Rattle.osm_mirror.specs.SliceRun.{SliceGives, IsSliceRun, RefusesSlice};
 
-use osm_files::{Fault, FileSource, Format, Input, Output, Sink};
-use osm_merge::{Counts, Outside, Progress, Selection, Span, Within, merge_selected};
+use crate::input::{InputFile, ReadAs};
+use crate::run::run_selected;
+use osm_files::{Fault, Format, Input, Output};
+use osm_merge::{Counts, Outside, Progress, Selection, Span};
 use std::alloc::Global;
 
 /// The slice that a run writes: the selected versions of the objects within a span.
@@ -56,45 +57,27 @@ pub fn run_slice<R: Input + Drop, W: Output, P: Progress>(
     ensures kept { Grows (change_of W.Output out.old out.new) }
     ensures good { OnOk result (IsGoodThroughout (change_of W.Output out.old out.new)) }
 {
-    let output = inputs.len();
-    let sources = open_slices(alloc, slice.span, inputs)?;
-    let mut sink = Sink::new(alloc, format, output)?;
-    merge_selected(alloc, slice.selection, sources, &mut sink, out, progress)
+    let files = files_within(alloc, slice.span, inputs)?;
+    run_selected(alloc, slice.selection, files, format, out, progress)
 }
 
-/// The inputs as sources within a span, numbered from 0.
-fn open_slices<R: Input + Drop>(
+/// The files as inputs of which the versions within `span` are read.
+fn files_within<R: Drop>(
     alloc: Global,
     span: Span,
     inputs: Vec<SliceFile<R>>,
-) -> Result<Vec<Within<FileSource<R>>>, Fault>
-    ensures opened { IfOk result (λ sources. sources.items ≡ opened_slices 0 span inputs.items) }
+) -> Result<Vec<InputFile<R>>, Fault>
+    ensures files { IfOk result (λ files. files.items ≡ map (file_within span) inputs.items) }
     ensures memory { IfErr result (λ fault. fault ≡ memory_fault) }
 {
-    let count = inputs.len();
-    let mut sources = Vec::new(alloc);
-    for file in inputs {
-        push_slice(alloc, count, span, file, &mut sources)?;
+    let mut files = Vec::new(alloc);
+    'inputs: for file in inputs {
+        files.push(InputFile {
+            reader: file.reader,
+            read_as: ReadAs::Within(span, file.outside),
+        })?;
     }
-    Ok(sources)
-}
-
-/// Appends the source of `file` within `span`, with the next number. `file` is one of `count` inputs.
-fn push_slice<R: Input + Drop>(
-    alloc: Global,
-    count: usize,
-    span: Span,
-    file: SliceFile<R>,
-    sources: &mut Vec<Within<FileSource<R>>>,
-) -> Result<(), Fault>
-    ensures pushed { OnOk result (sources.new.items ≡ sources.old.items
-        ++ within_span file.outside span (length sources.old.items)
-        (new_source (length sources.old.items) file.reader) ∷ []) }
-    ensures memory { IfErr result (λ fault. fault ≡ memory_fault) }
-{
-    let number = sources.len();
-    let source = FileSource::with_peers(alloc, number, file.reader, count)?;
-    Ok(sources.push(Within::new(file.outside, span, number, source))?)
+    Ok(files)
 }
 
 #[cfg(test)]

@@ -1,11 +1,14 @@
-//! The sources of files: a stream for each sorted file, and a history for each of the others.
+//! The sources of files: a stream for each sorted file, and a history for each of the others. Each run opens its
+//! sources here.
 ghost use Rattle.std.specs.Prelude.{◌≡◌, [], ◌∷◌, ◌++◌, length, IfOk, IfErr, OnOk};
 ghost use Rattle.osm_files.specs.Fault.{memory_fault};
 ghost use Rattle.osm_merge.specs.Giving.{SomeInputsGive};
-ghost use Rattle.osm_mirror.specs.Given.{FileGives, FileGivesOne, file_in_order, IsOpened, AreOpened, IsUnopened};
+ghost use Rattle.osm_mirror.specs.Given.{FileGives, FileGivesOne, file_as, IsOpened, AreOpened, IsUnopened};
+ghost use Rattle.osm_mirror.specs.declared.input.ReadAs.TheVariants as read_as;
 
-use crate::input::{InputFile, Order};
+use crate::input::{InputFile, ReadAs};
 use osm_files::{Fault, FileSource, HistorySource, Input, Source, load_any};
+use osm_merge::{Outside, Span, Within};
 use osm_model::Version;
 use std::alloc::Global;
 
@@ -16,6 +19,8 @@ pub enum RunSource<R: Input> {
     Streamed(FileSource<R>),
     /// The versions of a file that was read to its end.
     Held(HistorySource),
+    /// The versions of a sorted file within a span.
+    Sliced(Within<FileSource<R>>),
 }
 
 impl<R: Input> Source for RunSource<R> {
@@ -41,6 +46,7 @@ impl<R: Input> Source for RunSource<R> {
         match self {
             RunSource::Streamed(source) => source.next(),
             RunSource::Held(source) => source.next(),
+            RunSource::Sliced(source) => source.next(),
         }
     }
 
@@ -49,12 +55,12 @@ impl<R: Input> Source for RunSource<R> {
         match self {
             RunSource::Streamed(source) => source.reuse(version),
             RunSource::Held(source) => source.reuse(version),
+            RunSource::Sliced(source) => source.reuse(version),
         }
     }
 }
 
-/// The files as sources, numbered from 0. The call reads each file of any order to its end, and nothing of a sorted
-/// file.
+/// The files as sources, numbered from 0. The call reads each file of any order to its end, and nothing of the others.
 ///
 /// # Errors
 ///
@@ -101,9 +107,10 @@ fn open_input<R: Input + Drop>(
     ensures refused { IfErr result (λ fault. FileGivesOne R.can_give file (λ input.
         IsUnopened number (input ∷ []) fault)) }
 {
-    match file.order {
-        Order::Sorted => stream(alloc, number, count, file.reader),
-        Order::Any => load(alloc, number, file.reader),
+    match file.read_as {
+        ReadAs::Sorted => stream(alloc, number, count, file.reader),
+        ReadAs::Any => load(alloc, number, file.reader),
+        ReadAs::Within(span, outside) => slice(alloc, number, count, span, outside, file.reader),
     }
 }
 
@@ -114,17 +121,35 @@ fn stream<R: Input + Drop>(
     count: usize,
     reader: R,
 ) -> Result<RunSource<R>, Fault>
-    ensures opened { IfOk result (λ source. IsOpened R.can_give number (file_in_order Order.Sorted reader) source) }
+    ensures opened { IfOk result (λ source. IsOpened R.can_give number (file_as read_as.Sorted reader) source) }
     ensures memory { IfErr result (λ fault. fault ≡ memory_fault) }
 {
     let source = FileSource::with_peers(alloc, number, reader, count)?;
     Ok(RunSource::Streamed(source))
 }
 
+/// A sorted file within a span as the source of the input `number`, which is one of `count` inputs. The call reads
+/// nothing.
+fn slice<R: Input + Drop>(
+    alloc: Global,
+    number: usize,
+    count: usize,
+    span: Span,
+    outside: Outside,
+    reader: R,
+) -> Result<RunSource<R>, Fault>
+    ensures opened { IfOk result (λ source.
+        IsOpened R.can_give number (file_as (read_as.Within span outside) reader) source) }
+    ensures memory { IfErr result (λ fault. fault ≡ memory_fault) }
+{
+    let within = FileSource::with_peers(alloc, number, reader, count)?;
+    Ok(RunSource::Sliced(Within::new(outside, span, number, within)))
+}
+
 /// A file of any order as the source of the input `number`. The call reads the file to its end.
 fn load<R: Input + Drop>(alloc: Global, number: usize, reader: R) -> Result<RunSource<R>, Fault>
-    ensures opened { IfOk result (λ source. IsOpened R.can_give number (file_in_order Order.Any reader) source) }
-    ensures refused { IfErr result (λ fault. FileGivesOne R.can_give (file_in_order Order.Any reader) (λ input.
+    ensures opened { IfOk result (λ source. IsOpened R.can_give number (file_as read_as.Any reader) source) }
+    ensures refused { IfErr result (λ fault. FileGivesOne R.can_give (file_as read_as.Any reader) (λ input.
         IsUnopened number (input ∷ []) fault)) }
 {
     let loaded = load_any(alloc, number, reader)?;

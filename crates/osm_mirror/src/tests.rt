@@ -1,8 +1,7 @@
 //! The commands over small files of each format, with their output worked out by hand.
-use crate::known_inputs::{run_merge_known, run_selected_known};
 use crate::{
-    CheckReport, InputFile, Order, read_moment, run_apply, run_check, run_check_sorted, run_merge,
-    run_period_filter, run_selected, run_sort, run_time_filter,
+    CheckReport, InputFile, Kind, Object, Outside, ReadAs, Span, read_moment, run_apply, run_check,
+    run_check_sorted, run_merge, run_period_filter, run_selected, run_sort, run_time_filter,
 };
 use osm_files::{Broken, Fault, Format, Input, SliceIn, VecOut};
 use osm_merge::{Counts, NoProgress, Selection};
@@ -44,8 +43,8 @@ impl Command {
 }
 
 /// Any order if `is_any` is set, else sorted.
-fn any_if(is_any: bool) -> Order {
-    if is_any { Order::Any } else { Order::Sorted }
+fn any_if(is_any: bool) -> ReadAs {
+    if is_any { ReadAs::Any } else { ReadAs::Sorted }
 }
 
 /// The choice of the files that are read as sorted ones; the others are read as files of any order.
@@ -58,10 +57,10 @@ enum Mix {
 }
 
 impl Mix {
-    fn order(self, index: usize) -> Order {
+    fn read_as(self, index: usize) -> ReadAs {
         match self {
-            Mix::AllSorted => Order::Sorted,
-            Mix::NoneSorted => Order::Any,
+            Mix::AllSorted => ReadAs::Sorted,
+            Mix::NoneSorted => ReadAs::Any,
             Mix::EverySecond => any_if(index % 2 == 0),
             Mix::OddAny => any_if(index % 2 == 1),
         }
@@ -90,7 +89,7 @@ fn mixed<'a>(alloc: Global, files: &'a [&'a [u8]], mix: Mix) -> Vec<InputFile<Sl
     for (index, file) in files.iter().enumerate() {
         let _ = inputs.push(InputFile {
             reader: SliceIn::new(*file),
-            order: mix.order(index),
+            read_as: mix.read_as(index),
         });
     }
     inputs
@@ -639,32 +638,49 @@ fn an_input_that_fails_is_named(rt: HostRuntime) {
     );
 }
 
-/// The merge of `files`, which report their bytes, or the run with the selection over them.
-fn merge_known(alloc: Global, files: &[&[u8]], selection: Option<Selection>) -> Vec<u8> {
-    let mut out = VecOut::new(alloc);
-    let outcome = match selection {
-        None => run_merge_known(alloc, readers(alloc, files), Format::Opl, &mut out),
-        Some(selection) => run_selected_known(
-            alloc,
-            selection,
-            mixed(alloc, files, Mix::NoneSorted),
-            Format::Opl,
-            &mut out,
-            &mut NoProgress,
-        ),
+/// The versions of the nodes from id 2 up to below id 4 in a whole file, joined with a file in any order.
+fn joined_slice(alloc: Global, whole: &[u8], unsorted: &[u8]) -> Vec<u8> {
+    let node = |id| {
+        Some(Object {
+            kind: Kind::Node,
+            id,
+        })
     };
+    let span = Span {
+        from: node(2),
+        to: node(4),
+    };
+    let mut inputs = Vec::new(alloc);
+    for (file, read_as) in [
+        (whole, ReadAs::Within(span, Outside::Dropped)),
+        (unsorted, ReadAs::Any),
+    ] {
+        let _ = inputs.push(InputFile {
+            reader: SliceIn::new(file),
+            read_as,
+        });
+    }
+    let mut out = VecOut::new(alloc);
+    let outcome = run_selected(
+        alloc,
+        Selection::All,
+        inputs,
+        Format::Opl,
+        &mut out,
+        &mut NoProgress,
+    );
     bytes_of(out, outcome)
 }
 
 #[test]
-fn inputs_that_report_what_they_give_are_merged(rt: HostRuntime) {
+fn a_file_within_a_span_is_joined_with_others(rt: HostRuntime) {
+    let whole = b"n1 v1 x1 y1\nn2 v1 x1 y1\nn3 v1 x1 y1\nn4 v1 x1 y1\n";
+    let unsorted = b"n5 v1 x1 y1\nn1 v2 x1 y1\n";
     assert_eq!(rt;
-        merge_known(rt.alloc(), &[CREATED, DELETED], None).as_slice(),
-        CREATED_THEN_DELETED
-    );
-    assert_eq!(rt;
-        merge_known(rt.alloc(), &[CREATED_THEN_DELETED], Some(Selection::Newest)).as_slice(),
-        DELETION
+        joined_slice(rt.alloc(), whole, unsorted).as_slice(),
+        b"n1 v2 dV c0 t i0 u T x1 y1\nn2 v1 dV c0 t i0 u T x1 y1\nn3 v1 dV c0 t i0 u T x1 y1\n\
+        n5 v1 dV c0 t i0 u T x1 y1\n"
+            .as_slice()
     );
 }
 

@@ -5,7 +5,7 @@ use crate::printed::{line_of, printed};
 use crate::streams::outcome_text;
 use anyhow::{Result, bail};
 use osm_files::{
-    Broken, Fault, Format, FromRead, OpenAt, Output, ToWrite, first_version, line_start,
+    Broken, Fault, Format, FromRead, Input, Output, ReadAt, ToWrite, first_version, line_start,
 };
 use osm_merge::{Counts, NoProgress, Object, Outside, Selection, Span};
 use osm_mirror::{Slice, SliceFile, cut_offset, run_slice};
@@ -21,7 +21,7 @@ pub const CALLS: &[&str] = &[
     "run_slice_of_parts",
 ];
 
-/// A file that is opened at offsets, at a pace.
+/// A file that is read at offsets, at a pace.
 #[derive(Clone, Copy)]
 pub struct PacedFile<'a> {
     bytes: &'a [u8],
@@ -35,19 +35,23 @@ impl<'a> PacedFile<'a> {
     }
 }
 
-impl<'a> OpenAt<FromRead<Pieces<'a>>> for PacedFile<'a> {
+impl ReadAt for PacedFile<'_> {
     ghost use Rattle.std.specs.Prelude.{None};
 
     ghost bytes = { λ _. None };
+
+    ghost fails = { λ _. Unit {0} };
 
     fn size(&self) -> Result<u64, Broken> {
         Ok(self.bytes.len() as u64)
     }
 
-    fn open_at(&self, offset: u64) -> Result<FromRead<Pieces<'a>>, Broken> {
+    fn read_at(&self, buffer: &mut [u8], offset: u64) -> Result<usize, Broken> {
         let start = offset.min(self.bytes.len() as u64) as usize;
-        let rest = Pieces::new(&self.bytes[start..], self.pace.after(start));
-        Ok(FromRead::new(rest))
+        let mut rest = FromRead::new(Pieces::new(&self.bytes[start..], self.pace.after(start)));
+        let count = rest.read(buffer);
+        drop(rest);
+        count
     }
 }
 

@@ -2,7 +2,7 @@
 use super::{FromFile, ReadAt};
 use std::alloc::Global;
 use std::cell::Cell;
-use std::fs::{File, Metadata, OpenFile};
+use std::fs::File;
 use std::io;
 use std::io::ErrorKind;
 use std::os::unix::fs::FileExt;
@@ -10,7 +10,7 @@ use std::os::unix::fs::FileExt;
 /// The bytes of the tests.
 const BYTES: &[u8] = b"abcdef";
 
-/// A file whose length isn't known. Its first read fails with `first`, and each later one gives a byte.
+/// A file of one byte. Its first read fails with `first`, and each later one gives a byte.
 #[derive(Drop)]
 struct FailsOnce {
     first: Cell<Option<ErrorKind>>,
@@ -29,24 +29,6 @@ impl FileExt for FailsOnce {
     }
 
     fn write_at(&self, _buffer: &[u8], _offset: u64) -> io::Result<usize> {
-        Err(io::Error::from(ErrorKind::Unsupported))
-    }
-}
-
-impl OpenFile for FailsOnce {
-    fn metadata(&self) -> io::Result<Metadata> {
-        Err(io::Error::from(ErrorKind::Unsupported))
-    }
-
-    fn set_len(&self, _size: u64) -> io::Result<()> {
-        Err(io::Error::from(ErrorKind::Unsupported))
-    }
-
-    fn sync_all(&self) -> io::Result<()> {
-        Err(io::Error::from(ErrorKind::Unsupported))
-    }
-
-    fn sync_data(&self) -> io::Result<()> {
         Err(io::Error::from(ErrorKind::Unsupported))
     }
 }
@@ -91,28 +73,28 @@ fn an_interrupted_read_is_tried_again(rt: HostRuntime) {
     for (first, text) in [
         (
             ErrorKind::Interrupted,
-            "unknown: 1 a-- 1 a-- 1 a-- 1 a-- 1 a-- 1 a-- 1 a--",
+            "1: 1 a-- 1 a-- 1 a-- 1 a-- 1 a-- 1 a-- 1 a--",
         ),
         (
             ErrorKind::Other,
-            "unknown: broken 1 a-- 1 a-- 1 a-- 1 a-- 1 a-- 1 a--",
+            "1: broken 1 a-- 1 a-- 1 a-- 1 a-- 1 a-- 1 a--",
         ),
     ] {
-        let file = FromFile::new(FailsOnce {
+        let file = FailsOnce {
             first: Cell::new(Some(first)),
-        });
-        assert_eq!(rt; reads(rt.alloc(), &file).as_str(), text);
+        };
+        assert_eq!(rt; reads(rt.alloc(), &FromFile::new(file, 1)).as_str(), text);
     }
 }
 
 #[test]
-fn a_device_has_no_length(rt: HostRuntime) {
+fn a_device_is_read_at_offsets(rt: HostRuntime) {
     let text = match File::open(&rt, "/dev/null") {
-        Ok(file) => reads(rt.alloc(), &FromFile::new(file)),
+        Ok(file) => reads(rt.alloc(), &FromFile::new(file, 9)),
         Err(_) => String::new(rt.alloc()),
     };
     assert_eq!(rt;
         text.as_str(),
-        "unknown: 0 --- 0 --- 0 --- 0 --- 0 --- 0 --- broken"
+        "9: 0 --- 0 --- 0 --- 0 --- 0 --- 0 --- broken"
     );
 }

@@ -1,10 +1,13 @@
 //! Checks of files.
-use super::files::{Stream, input_name, open, open_arg};
-use super::input::{Failure, Noted, fault_by_failures, file_input};
+use super::files::{Opened, Stamp, input_name, open_arg};
+use super::input::{
+    Failure, NoCount, RegularInput, fault_at_end, refuse_changed, regular_input, stream_input,
+};
+use super::part::PartFile;
 use super::refusal::Refusal;
 use super::request::FileCheck;
 use super::{hint, print};
-use osm_files::{Fault, Reason};
+use osm_files::{Broken, Fault, FramedExtent, Input, ReadAt, Reason, SortedRun};
 use osm_mirror::{CheckReport, run_check, run_check_sorted};
 use std::alloc::Global;
 use std::cell::Cell;
@@ -26,7 +29,10 @@ pub(super) fn check_files<
     mut input: Option<I>,
     out: &mut O,
     err: &mut E,
-) -> Result<(), Refusal<'a>> {
+) -> Result<(), Refusal<'a>>
+where
+    R::File: PartFile,
+{
     let mut last = None;
     for arg in &check.inputs.names {
         let outcome = match report_of(rt, check, *arg, &mut input) {
@@ -87,44 +93,82 @@ fn report_of<'a, R: Files + AllocGlobal, I: Read + Drop>(
     check: &FileCheck<'a>,
     arg: &'a str,
     input: &mut Option<I>,
-) -> Result<CheckReport, Refusal<'a>> {
-    let failures: [Failure; 1] = [Cell::new(None)];
-    match report_noting(rt, check, arg, input, &failures[0]) {
+) -> Result<CheckReport, Refusal<'a>>
+where
+    R::File: PartFile,
+{
+    let failure: Failure = Cell::new(None);
+    let meter = NoCount;
+    let file = open_arg(rt, arg, false, input)?;
+    let end = check.inputs.end.of_file(file.is_regular());
+    let name = input_name(arg);
+    let sorted = check.inputs.sorted;
+    let checked = match file {
+        Opened::Regular(file, stamp) => match regular_input(file, end, &failure, &meter) {
+            Ok(file) => check_regular(rt.alloc(), sorted, name, file, stamp, &failure),
+            Err(Broken) => Err(Fault::at(0, 0, Reason::ReadFault).into()),
+        },
+        Opened::Stream(stream) => {
+            let stream = stream_input(stream, end, &failure, &meter);
+            match check_stream(rt.alloc(), sorted, stream) {
+                Ok(report) => Ok(report),
+                Err(fault) => Err(fault_at_end(&fault, fault.place, &failure).into()),
+            }
+        }
+    };
+    match checked {
         Err(Refusal::Fault(fault)) => {
-            let fault = fault_by_failures(&fault, &failures);
-            let name = input_name(arg);
             Err(Refusal::of_fault(rt.alloc(), &fault, &[name], name, None))
+        }
+        checked => checked,
+    }
+}
+
+/// Checks a regular file with this stamp. `failure` has its reader's error.
+fn check_regular<'a, F: PartFile + Drop>(
+    alloc: Global,
+    sorted: bool,
+    name: &'a str,
+    file: RegularInput<'_, F, NoCount>,
+    stamp: Stamp,
+    failure: &Failure,
+) -> Result<CheckReport, Refusal<'a>> {
+    let checked = check_file(alloc, &file, stamp.size, sorted);
+    match (refuse_changed(&file, stamp, name), checked) {
+        (Err(refusal), _) => Err(refusal),
+        (Ok(()), Ok(report)) => Ok(report),
+        (Ok(()), Err(fault)) if file.lacks_end() => {
+            Err(fault_at_end(&fault, stamp.size, failure).into())
+        }
+        (Ok(()), Err(fault)) => Err(fault.into()),
+    }
+}
+
+/// Checks a stream. It is held in memory unless `sorted` is set.
+fn check_stream<R: Input + Drop>(
+    alloc: Global,
+    sorted: bool,
+    stream: R,
+) -> Result<CheckReport, Fault> {
+    if sorted {
+        run_check_sorted(alloc, stream)
+    } else {
+        run_check(alloc, stream)
+    }
+}
+
+/// Checks a file of `size` bytes. It is held in memory only if it isn't sorted.
+fn check_file<F: ReadAt>(
+    alloc: Global,
+    file: &F,
+    size: u64,
+    sorted: bool,
+) -> Result<CheckReport, Fault> {
+    let whole = SortedRun::whole();
+    match run_check_sorted(alloc, FramedExtent::of_run(file, size, whole)) {
+        Err(fault) if fault.reason == Reason::Unsorted && !sorted => {
+            run_check(alloc, FramedExtent::of_run(file, size, whole))
         }
         outcome => outcome,
     }
-}
-
-/// Checks the file that `arg` names, and notes its reader's error in `failure`. The file is held in memory only if
-/// unsorted files aren't refused, and it is unsorted or can't be read again.
-fn report_noting<'a, R: Files + AllocGlobal, I: Read + Drop>(
-    rt: &R,
-    check: &FileCheck<'a>,
-    arg: &'a str,
-    input: &mut Option<I>,
-    failure: &Failure,
-) -> Result<CheckReport, Refusal<'a>> {
-    let alloc = rt.alloc();
-    let file = open_arg(rt, arg, input)?;
-    let is_regular = file.can_be_read_again();
-    let end = check.inputs.end.of_file(is_regular);
-    if !check.inputs.sorted && !is_regular {
-        return Ok(run_check(alloc, file_input(Noted::new(file, failure), end))?);
-    }
-    match run_check_sorted(alloc, file_input(Noted::new(file, failure), end)) {
-        Err(fault) if is_unsorted(&fault) && !check.inputs.sorted => {
-            let again: Stream<R::File, I> = Stream::File(open(rt, arg)?);
-            Ok(run_check(alloc, file_input(Noted::new(again, failure), end))?)
-        }
-        outcome => Ok(outcome?),
-    }
-}
-
-/// Whether a file is refused only because it isn't sorted.
-pub(super) fn is_unsorted(fault: &Fault) -> bool {
-    fault.reason == Reason::Unsorted
 }

@@ -1,6 +1,6 @@
 //! Lists of files. `--files0-from` names a file that holds names, each ended by NUL.
 use super::files::{input_name, open_arg};
-use super::part::FileId;
+use super::part::{FileId, PartFile};
 use super::refusal::Refusal;
 use super::target::STANDARD;
 use std::alloc::Global;
@@ -13,16 +13,23 @@ pub(super) fn read_list<'a, R: Files + AllocGlobal, I: Read + Drop>(
     rt: &R,
     list: Option<&'a str>,
     input: &mut Option<I>,
-) -> Result<(String, Option<FileId>), Refusal<'a>> {
+) -> Result<(String, Option<FileId>), Refusal<'a>>
+where
+    R::File: PartFile,
+{
     let mut text = String::new(rt.alloc());
     let Some(arg) = list else {
         return Ok((text, None));
     };
     let name = input_name(arg);
-    let mut file = open_arg(rt, arg, input)?;
-    let id = file.id(rt);
-    match file.read_to_string(&mut text) {
-        Ok(_) => Ok((text, id)),
+    let file = open_arg(rt, arg, false, input)?;
+    let (id, stamp) = (file.id(rt), file.stamp());
+    let mut stream = file.into_stream();
+    match stream.read_to_string(&mut text) {
+        Ok(_) => {
+            stream.refuse_changed(stamp, name)?;
+            Ok((text, id))
+        }
         Err(error) => match error.kind() {
             ErrorKind::OutOfMemory => Err(Refusal::Memory),
             ErrorKind::InvalidData => Err(Refusal::ListNotUtf8 { name }),

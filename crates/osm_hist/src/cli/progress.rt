@@ -1,13 +1,11 @@
 //! Reports on standard error during a run.
-use super::files::Stream;
-use super::input::{Failure, note_error};
+use super::input::CountBytes;
 use osm_mirror::{Counts, Kind, Progress, Relation, Version};
 use std::cell::{Cell, RefCell};
+use std::fmt;
 use std::fmt::{Display, Formatter};
-use std::fs::OpenFile;
-use std::io::{IsTerminal, Read, Write};
+use std::io::{IsTerminal, Write};
 use std::time::{Clock, Duration};
-use std::{fmt, io};
 
 /// The least time between two reports on a terminal, in milliseconds.
 const INTERVAL: u128 = 500;
@@ -161,42 +159,14 @@ impl<'a, C: Clock, E: Write + IsTerminal> Meter<'a, C, E> {
         }
     }
 
-    /// Sets the work done to zero, and the size to that of `files`.
-    pub(super) fn read_files<F: OpenFile, S>(&self, files: &[Option<Stream<F, S>>]) {
-        let mut size = Some(0_u64);
-        for file in files.iter().flatten() {
-            size = match (size, file.size()) {
-                (Some(all), Some(one)) => all.checked_add(one),
-                _ => None,
-            };
-        }
+    /// Sets the size of all input files, in bytes, if it is known.
+    pub(super) fn set_size(&self, size: Option<u64>) {
         self.size.set(size);
-        self.begin();
-    }
-
-    /// Sets the work done to zero.
-    pub(super) fn begin(&self) {
-        self.done.set(Done::default());
     }
 
     /// The work done.
     pub(super) fn done(&self) -> Done {
         self.done.get()
-    }
-
-    /// Adds `count` to the bytes that the run read, and reports if the interval has passed.
-    fn take_note(&self, count: usize) {
-        if !self.is_wanted {
-            return;
-        }
-        let done = self.done.get();
-        let bytes = done.bytes.saturating_add(count as u64);
-        self.done.set(Done { bytes, ..done });
-        let now = now(self.clock);
-        if now.saturating_sub(self.last.get()).as_millis() >= self.interval {
-            self.last.set(now);
-            self.report(now);
-        }
     }
 
     /// Writes a report on the run at the time `now`.
@@ -261,6 +231,10 @@ impl<'a, C: Clock, E: Write + IsTerminal> Meter<'a, C, E> {
 }
 
 impl<'m, 'a, C, E> Progress for &'m Meter<'a, C, E> {
+    fn begin(&mut self) {
+        self.done.set(Done::default());
+    }
+
     #[inline(always)]
     fn read(&mut self, _version: &Version, relation: Relation) {
         let mut done = self.done.get();
@@ -276,25 +250,19 @@ impl<'m, 'a, C, E> Progress for &'m Meter<'a, C, E> {
     }
 }
 
-/// A reader whose bytes a meter counts, and whose errors are noted.
-#[derive(Drop)]
-pub(super) struct Metered<'n, 'm, F, C, E> {
-    /// The reader.
-    pub(super) reader: F,
-    /// Its last error.
-    pub(super) failure: &'n Failure,
-    /// The meter that counts the bytes.
-    pub(super) meter: &'n Meter<'m, C, E>,
-}
-
-impl<'n, 'm, F: Read, C: Clock, E: Write + IsTerminal> Read for Metered<'n, 'm, F, C, E> {
-    fn read(&mut self, buffer: &mut [u8]) -> io::Result<usize> {
-        match self.reader.read(buffer) {
-            Ok(count) => {
-                self.meter.take_note(count);
-                Ok(count)
-            }
-            Err(error) => Err(note_error(self.failure, error)),
+impl<'a, C: Clock, E: Write + IsTerminal> CountBytes for Meter<'a, C, E> {
+    /// Adds `count` to the bytes that the run read, and reports if the interval has passed.
+    fn count(&self, count: usize) {
+        if !self.is_wanted {
+            return;
+        }
+        let done = self.done.get();
+        let bytes = done.bytes.saturating_add(count as u64);
+        self.done.set(Done { bytes, ..done });
+        let now = now(self.clock);
+        if now.saturating_sub(self.last.get()).as_millis() >= self.interval {
+            self.last.set(now);
+            self.report(now);
         }
     }
 }

@@ -70,6 +70,11 @@ pub(crate) enum Refusal<'a> {
     CannotRead {
         name: &'a str,
     },
+    /// A file has changed since it was opened.
+    #[error("{name}: changed during the run")]
+    Changed {
+        name: &'a str,
+    },
     /// OUT.part can't be made.
     #[error("{output}.part: cannot create")]
     CannotCreate {

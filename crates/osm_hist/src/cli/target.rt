@@ -2,8 +2,9 @@
 use super::files::write_retried;
 use super::part::{FileId, OutPart, PartFile, folder_of, is_part};
 use super::refusal::Refusal;
+use osm_files::Clear;
 use std::fs::{File, OpenFile};
-use std::io::{Seek, Write};
+use std::io::{ErrorKind, Seek, Write};
 use std::rt::Files;
 use std::{fs, io};
 
@@ -109,23 +110,6 @@ impl<'a> Target<'a> {
         }
     }
 
-    /// Empties OUT.part, so that the run can write it again.
-    pub(super) fn empty<F: PartFile + Seek + Write, O>(
-        self,
-        destination: &mut Destination<F, O>,
-    ) -> Result<(), Refusal<'a>> {
-        match (self, destination) {
-            (Target::File(output), Destination::OutPart(part)) => match part.empty() {
-                Ok(()) => Ok(()),
-                Err(error) => Err(Refusal::CannotCreate {
-                    output,
-                    error: error.raw_os_error(),
-                }),
-            },
-            _ => Ok(()),
-        }
-    }
-
     /// Completes a run whose bytes were written: OUT.part becomes OUT.
     pub(super) fn complete<R: Files, O>(
         self,
@@ -173,18 +157,28 @@ pub(super) enum Destination<F, O> {
 }
 
 impl<F: PartFile + Seek + Write, O> Destination<F, O> {
-    /// Whether the target can be emptied and written again.
-    pub(super) fn can_be_emptied(&self) -> bool {
-        match self {
-            Destination::OutPart(_) => true,
-            _ => false,
-        }
-    }
-
     /// Removes OUT.part after a refusal.
     pub(super) fn discard<R: Files>(&self, rt: &R) {
         if let Destination::OutPart(part) = self {
             part.discard(rt);
+        }
+    }
+}
+
+/// OUT.part can be cleared and written again.
+impl<F: PartFile + Seek + Write, O: Write> Clear for Destination<F, O> {
+    ghost use Rattle.osm_hist.specs.Stream.{is_out_part};
+
+    ghost can_clear = { is_out_part };
+
+    fn can_be_cleared(&self) -> bool {
+        matches!(self, Destination::OutPart(_))
+    }
+
+    fn clear(&mut self) -> io::Result<()> {
+        match self {
+            Destination::OutPart(part) => part.empty(),
+            _ => Err(io::Error::from(ErrorKind::Unsupported)),
         }
     }
 }

@@ -26,4 +26,4 @@ returns c =
     let merged = c.in_ok-run_merge.ensures.merged in
     let is = merged.2 in
     let gives = subst (λ items. AllGive GivesBytes items merged.0) c.in_ok-inputs.ensures merged.1 in
-    (is.held, all_hold _ merged.0 is.held gives is.sorted_files, c.into_vec.ensures ∙ is.written [] c.new-output.ensures.bytes)
+    (is.held, all_hold _ merged.0 is.held gives is.files, c.into_vec.ensures ∙ is.written [] c.new-output.ensures.bytes)

@@ -1,10 +1,9 @@
 //! Reports of a run on a terminal and elsewhere.
-use super::{Meter, Metered};
-use crate::cli::files::Stream;
+use super::Meter;
+use crate::cli::input::CountBytes;
 use std::alloc::Global;
 use std::cell::Cell;
-use std::fs::{Metadata, OpenFile};
-use std::io::{Empty, IsTerminal, Read, Write};
+use std::io::{IsTerminal, Write};
 use std::time::{Clock, Duration};
 use std::{io, str};
 
@@ -47,43 +46,13 @@ impl IsTerminal for Screen {
     }
 }
 
-/// A file of 1000 bytes.
-#[derive(Drop)]
-struct Thousand;
-
-impl OpenFile for Thousand {
-    fn metadata(&self) -> io::Result<Metadata> {
-        Ok(Metadata::of_file(1000))
-    }
-
-    fn set_len(&self, _size: u64) -> io::Result<()> {
-        Ok(())
-    }
-
-    fn sync_all(&self) -> io::Result<()> {
-        Ok(())
-    }
-
-    fn sync_data(&self) -> io::Result<()> {
-        Ok(())
-    }
-}
-
-/// Reads 100 bytes at each of `times`.
+/// Reads 100 of 1000 bytes at each of `times`.
 fn read_at(clock: &TestClock, screen: &mut Screen, times: &[u64]) {
-    let files: [Option<Stream<Thousand, Empty>>; 1] = [Some(Stream::File(Thousand))];
     let meter = Meter::new(clock, screen, true);
-    meter.read_files(&files);
-    let bytes = [0u8; 1000];
-    let failure = Cell::new(None);
-    let mut reader = Metered {
-        reader: bytes.as_slice(),
-        failure: &failure,
-        meter: &meter,
-    };
+    meter.set_size(Some(1000));
     for time in times {
         clock.milliseconds.set(*time);
-        let _ = reader.read(&mut [0u8; 100]);
+        meter.count(100);
     }
 }
 

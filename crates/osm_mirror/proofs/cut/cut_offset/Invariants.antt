@@ -3,7 +3,7 @@ use Rattle.osm_mirror.proofs.CutLaws.{Halving}
 use Rattle.osm_mirror.proofs.cut.cut_offset.Given as goal
 
 abbrev pub invariant-halves : goal.invariant-halves
-invariant-halves g l = Halving l.bound (g.F.OpenAt.bytes l.file) l.low l.high
+invariant-halves g l = Halving l.bound (g.F.ReadAt.bytes l.file) l.low l.high
 
 abbrev pub decreases-halves : goal.decreases-halves
 decreases-halves g l = l.high - l.low

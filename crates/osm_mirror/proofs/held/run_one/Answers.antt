@@ -3,7 +3,7 @@ use Rattle.std.proofs.lemmas.Result.{err_from_is_err_and}
 use Rattle.osm_files.specs.Change.{change_of}
 use Rattle.osm_merge.specs.Selected.{selection_of}
 use Rattle.osm_mirror.specs.Command.{IsWritten, IsNotWritten}
-use Rattle.osm_mirror.proofs.CommandLaws.{one_written, one_refused}
+use Rattle.osm_mirror.proofs.RunLaws.{one_written, one_refused}
 use Rattle.osm_mirror.proofs.held.run_one.Goals as goal
 
 pub returns-clause-written : goal.returns-clause-written

@@ -7,7 +7,7 @@ pub returns-in_err-push-clause-refused : goal.returns-in_err-push-clause-refused
 returns-in_err-push-clause-refused g c =
     let file = c.args.file in
     let p = err_from_is_err_and c.from_residual-in_err-push.result c.from_residual-in_err-push.ensures.1 in
-    rw (p.1) ((file.order, g.R.Input.one file.reader), (refl, g.R.Input.possible file.reader), inl p.2)
+    rw (p.1) ((file.read_as, g.R.Input.one file.reader), (refl, g.R.Input.possible file.reader), inl p.2)
 
 pub returns-clause-pushed : goal.returns-clause-pushed
 returns-clause-pushed g c =

@@ -1,7 +1,7 @@
 use Rattle.std.proofs.Common.{sym, subst}
 use Rattle.osm_files.specs.Source.{SourceSteps}
 use Rattle.osm_mirror.specs.declared.source.RunSource.{RunSource}
-use Rattle.osm_mirror.specs.declared.source.RunSource.TheVariants.{Streamed, Held}
+use Rattle.osm_mirror.specs.declared.source.RunSource.TheVariants.{Streamed, Held, Sliced}
 use Rattle.osm_mirror.specs.SourceRest.{SourceCanGive}
 use Rattle.osm_mirror.proofs.source.RunSourceSource.next.Goals as goal
 
@@ -14,3 +14,8 @@ pub returns-in-Held-clause-step : goal.returns-in-Held-clause-step
 returns-in-Held-clause-step g c =
     subst (λ (s : RunSource _). SourceSteps (SourceCanGive g.R.Input.can_give) s c.next-in-Held.result (Held c.next-in-Held.new.self))
     (sym c.in-Held.is) c.next-in-Held.ensures.step
+
+pub returns-in-Sliced-clause-step : goal.returns-in-Sliced-clause-step
+returns-in-Sliced-clause-step g c =
+    subst (λ (s : RunSource _). SourceSteps (SourceCanGive g.R.Input.can_give) s c.next-in-Sliced.result (Sliced c.next-in-Sliced.new.self))
+    (sym c.in-Sliced.is) c.next-in-Sliced.ensures.step

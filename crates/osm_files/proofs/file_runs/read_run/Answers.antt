@@ -1,0 +1,28 @@
+use Rattle.std.proofs.Common.{◌∙◌, sym}
+use Rattle.std.proofs.lemmas.Bool.{false≢true}
+use Rattle.osm_files.proofs.RunOrderLaws.{read_whole, read_unsorted, read_refused}
+use Rattle.osm_files.proofs.file_runs.read_run.Goals as goal
+
+pub returns-in-Ok-clause-order : goal.returns-in-Ok-clause-order
+returns-in-Ok-clause-order g c =
+    let file = c.args.file.now in
+    let gives = c.in-Ok.ensures.sorted in
+    read_whole (g.F.ReadAt.fails file) c.args.run c.args.size (g.F.ReadAt.bytes file)
+    (gives.0, (c.of_run.ensures gives.0).0 gives.1, gives.2)
+
+pub returns-then-is_unsorted-clause-order : goal.returns-then-is_unsorted-clause-order
+returns-then-is_unsorted-clause-order g c =
+    let file = c.args.file.now in
+    let stops = c.in-Err.ensures.refused in
+    read_unsorted (g.F.ReadAt.fails file) c.args.run c.args.size c.args.input c.offset_in_file-place.result c.in-Err.fault
+    (g.F.ReadAt.bytes file) (stops.0, (c.of_run.ensures stops.0).0 stops.1, stops.2) (c.is_unsorted.ensures.0 c.if-is_unsorted.true)
+    c.offset_in_file-place.ensures
+
+pub returns-else-is_unsorted-clause-order : goal.returns-else-is_unsorted-clause-order
+returns-else-is_unsorted-clause-order g c =
+    let file = c.args.file.now in
+    let stops = c.in-Err.ensures.refused in
+    rw c.at.ensures
+    (read_refused (g.F.ReadAt.fails file) c.args.run c.args.size c.args.input c.offset_in_file-place.result c.in-Err.fault
+    (g.F.ReadAt.bytes file) (stops.0, (c.of_run.ensures stops.0).0 stops.1, stops.2)
+    (λ unsorted. false≢true (sym c.if-is_unsorted.false ∙ c.is_unsorted.ensures.1 unsorted)))

@@ -1,0 +1,17 @@
+use Rattle.std.proofs.Common.{◌+◌, take, arith, rules, sym, ◌∙◌}
+use Rattle.std.proofs.lemmas.Result.{IfOk-weaker}
+use Rattle.osm_files.proofs.LineStarts.{scans_on, scan_finds}
+use Rattle.osm_files.proofs.lines.line_start.Goals as goal
+
+pub returns-in-Some-clause-start : goal.returns-in-Some-clause-start
+returns-in-Some-clause-start g c =
+    IfOk-weaker c.start_below_limit.result _ _
+    (λ start same. scan_finds (g.F.ReadAt.bytes c.args.file.now) c.args.offset c.reads.place start
+    (take c.in-Ok.count c.read_at.new.buffer) c.in-Some.end c.reads.invariant c.in-Ok.ensures.bytes
+    (sym c.find_line_end.ensures ∙ c.in-Some.is) (omega (arith, same)))
+    c.start_below_limit.ensures.same
+
+pub reads-preserved : goal.reads-preserved
+reads-preserved g c =
+    scans_on (g.F.ReadAt.bytes c.args.file.now) c.args.offset c.reads.place (c.reads.place + c.in-Ok.count)
+    (take c.in-Ok.count c.read_at.new.buffer) c.reads.invariant c.in-Ok.ensures.bytes (search rules) (search (rules, arith))

@@ -1,0 +1,168 @@
+//! The one run over open files and streams.
+ghost use Rattle.std.specs.Prelude.{◌≡◌, ◌↔◌, true, false, IsTrue, IfOk, OnOk, IfSome};
+ghost use Rattle.osm_files.specs.Change.{change_of};
+ghost use Rattle.osm_files.specs.Clear.{IsCleared};
+ghost use Rattle.osm_merge.specs.Merged.{Grows};
+ghost use Rattle.osm_mirror.specs.FilesRun.{read_as_of, IsFilesRun, WroteTo};
+ghost use Rattle.osm_mirror.specs.declared.files_run.Order.TheVariants as order;
+
+use crate::file_way::{FileWay, FirstUnsorted, first_ways, split_files};
+use crate::files_turn::run_turn;
+use crate::input::ReadAs;
+use osm_files::{Broken, ClearOutput, Fault, Format, Input, ReadAt, Reason};
+use osm_merge::{Counts, Progress, Selection};
+use std::alloc::{AllocError, Global};
+
+/// The most turns of a run.
+const TURNS: usize = 3;
+
+/// An open file of a run.
+#[derive(Drop)]
+pub enum RunFile<'f, F, R> {
+    /// A file that can be read at any offset, and more than once.
+    File(&'f F),
+    /// A stream, which can be read once.
+    Stream(R),
+}
+
+/// The order that the versions of a file must have.
+#[derive(Clone, Copy, Debug, PartialEq, Eq)]
+pub enum Order {
+    /// Ascending by key.
+    Sorted,
+    /// Any order.
+    Any,
+}
+
+impl Order {
+    /// The way in which a file of this order is read as one input.
+    pub(crate) fn read_as(self) -> ReadAs
+        ensures { result ≡ read_as_of self }
+    {
+        match self {
+            Order::Sorted => ReadAs::Sorted,
+            Order::Any => ReadAs::Any,
+        }
+    }
+
+    /// Whether the versions may have any order.
+    fn is_any(self) -> bool
+        ensures { IsTrue result ↔ (self ≡ order.Any) }
+    {
+        self == Order::Any
+    }
+}
+
+/// What a run over files writes.
+#[derive(Clone, Copy, Debug, PartialEq, Eq)]
+pub struct FilesRun {
+    /// The versions that are selected from the union of the files' sets.
+    pub selection: Selection,
+    /// The order that the versions of each file must have.
+    pub order: Order,
+    /// The format of the output.
+    pub format: Format,
+}
+
+/// Appends the one file that holds the selection of the versions of all files, each once.
+///
+/// If it returns `Ok`, each file is a file of its grammar, and sorted if the order of the run is `Sorted`. The bytes
+/// written are the one spelling of the selection of the union of the files' sets.
+///
+/// If the order is `Any`, a file is first read as a sorted one. If it is refused as `Unsorted`, it is split into sorted
+/// runs, or read to its end, and the run begins anew: the output is cleared, and `progress.begin` is called. If that
+/// happens a second time, all files are split, so there are at most three turns. If the output can't be cleared, or if
+/// there is a stream, there is one turn: all files are split before anything is written, and each stream is read to its
+/// end.
+///
+/// # Errors
+///
+/// The files are numbered from 0, and the number of the output is the number of files. If a file can't be read, or
+/// isn't sorted though the order is `Sorted`, the fault has its number, the reason and the offset in the file. If
+/// several files are faulty, it is the fault of one of them. `WriteFault` if the output failed or can't be cleared,
+/// `TooLong` if a file has 2^62 bytes or more, `Memory` if memory ran out.
+pub fn run_files<'f, F: ReadAt, R: Input + Drop, W: ClearOutput, P: Progress>(
+    alloc: Global,
+    run: FilesRun,
+    files: Vec<RunFile<'f, F, R>>,
+    out: &mut W,
+    progress: &mut P,
+) -> Result<Counts, Fault>
+    ensures written { IfOk result (λ counts. WroteTo W.Output (W.can_clear out.old) out.old out.new (λ change.
+        IsFilesRun F.bytes R.can_give run files.entry.items change counts)) }
+    ensures kept { W.can_clear out.old ≡ false → Grows (change_of W.Output out.old out.new) }
+    ensures good { OnOk result (W.failed out.new ≡ false) }
+{
+    let mut ways = first_ways(alloc, run.order, files.as_slice())?;
+    let can_begin_anew = run.order.is_any() && out.can_be_cleared();
+    'turns: for turn in 1..TURNS {
+        let Some(again) = copies(alloc, can_begin_anew, files.as_slice())? else {
+            break;
+        };
+        let outcome = run_turn(alloc, run, again, ways.as_slice(), out, progress);
+        let Some(first) = first_unsorted(&outcome, ways.as_slice()) else {
+            return outcome;
+        };
+        split_files(
+            alloc,
+            files.as_slice(),
+            ways.as_mut_slice(),
+            Some(first),
+            turn > 1,
+        )?;
+        clear(out, files.len())?;
+    }
+    if run.order.is_any() {
+        split_files(alloc, files.as_slice(), ways.as_mut_slice(), None, true)?;
+    }
+    run_turn(alloc, run, files, ways.as_slice(), out, progress)
+}
+
+/// The files once more, unless one is a stream; none if they aren't `wanted`.
+fn copies<'f, F: ReadAt, R: Drop>(
+    alloc: Global,
+    wanted: bool,
+    files: &[RunFile<'f, F, R>],
+) -> Result<Option<Vec<RunFile<'f, F, R>>>, AllocError>
+    ensures same { IfOk result (λ copied. IfSome copied (λ copies. copies.items ≡ files.now)) }
+    ensures wanted { IfOk result (λ copied. IfSome copied (λ _. wanted ≡ true)) }
+{
+    if !wanted {
+        return Ok(None);
+    }
+    let mut copies = Vec::new(alloc);
+    'files: for file in files {
+        match file {
+            RunFile::File(file) => copies.push(RunFile::File(*file))?,
+            RunFile::Stream(_) => return Ok(None),
+        }
+    }
+    Ok(Some(copies))
+}
+
+/// The first version out of order, if a turn was refused because a file that may be split isn't sorted.
+fn first_unsorted(outcome: &Result<Counts, Fault>, ways: &[FileWay]) -> Option<FirstUnsorted> {
+    match outcome {
+        Err(fault) if fault.reason == Reason::Unsorted => match ways.get(fault.input) {
+            Some(way) if way.may_be_split => Some(FirstUnsorted {
+                file: fault.input,
+                place: fault.place,
+            }),
+            _ => None,
+        },
+        _ => None,
+    }
+}
+
+/// Clears the output, whose number is `number`.
+fn clear<W: ClearOutput>(out: &mut W, number: usize) -> Result<(), Fault>
+    ensures cleared { OnOk result (IsCleared (W.holds out.old) (W.holds out.new)) }
+{
+    match out.clear() {
+        Ok(()) => Ok(()),
+        Err(Broken) => Err(Fault::at(number, 0, Reason::WriteFault)),
+    }
+}
+
+#[cfg(test)]
+mod tests;
