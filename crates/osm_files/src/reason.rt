@@ -5,31 +5,43 @@ ghost use Rattle.osm_files.specs.Reason.{reason_name};
 use o5_codec::O5Reason;
 use opl_line::OplReason;
 use osm_model::Memory;
+use thiserror::Error;
 
 /// Why a file, or a call that reads or writes one, is refused.
-#[derive(Clone, Copy, Debug, PartialEq, Eq)]
+#[derive(Clone, Copy, Debug, PartialEq, Eq, Error)]
 pub enum Reason {
     /// A line of an OPL file can't be read. The inner reason is never `Memory`.
+    #[error("{0}")]
     Opl(OplReason),
     /// A data set of an o5m or o5c file can't be read. The inner reason is never `Memory` or `Failed`.
+    #[error("{0}")]
     O5(O5Reason),
     /// The file doesn't begin as its format requires.
+    #[error("bad header")]
     BadHeader,
     /// The file isn't sorted: a version's key is below the key of the version before it.
+    #[error("unsorted")]
     Unsorted,
     /// The file ends without the mark of its end.
+    #[error("no end mark")]
     NoEnd,
     /// Bytes follow the mark of the file's end.
+    #[error("bytes after the end mark")]
     AfterEnd,
     /// The file has 2^62 bytes or more.
+    #[error("too long")]
     TooLong,
     /// The reader returned an error.
+    #[error("read failed")]
     ReadFault,
     /// The writer returned an error, or took no byte of a slice that isn't empty.
+    #[error("write failed")]
     WriteFault,
     /// Memory ran out.
+    #[error("out of memory")]
     Memory,
     /// An earlier call was refused.
+    #[error("failed before")]
     Failed,
 }
 
