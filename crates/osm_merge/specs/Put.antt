@@ -1,5 +1,5 @@
 -- The effect of calls of a sink on the versions put so far.
-use Rattle.std.specs.Prelude.{◌≡◌, ℕ, List, ◌++◌, length, Result}
+use Rattle.std.specs.Prelude.{◌≡◌, ℕ, List, ◌++◌, length, Result, Ok, Err}
 use Rattle.std.specs.List.{AllByRecursion}
 use Rattle.osm_model.specs.Data.{VersionData}
 use Rattle.osm_files.specs.declared.fault.Fault.{Fault}
@@ -22,6 +22,11 @@ PutsMore {O} output more old new mid now result =
     (format : Format) (number : ℕ) (put : List VersionData) (before : O)
     → HasPut format number put (change_of output before mid) old
     → Puts format number (put ++ more) (change_of output before now) new result
+
+-- the result of a call without its value
+abbrev pub outcome_of : {A : Type 0} → Result A Fault → Result (Unit {0}) Fault
+outcome_of (Ok value) = Ok tt
+outcome_of (Err fault) = Err fault
 
 -- a count of the versions that were put also counts the versions `more`
 abbrev pub CountsMore : List VersionData → ℕ → ℕ → Type 0

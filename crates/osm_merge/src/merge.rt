@@ -130,9 +130,9 @@ fn write_union<S: Source, W: Output, P: Progress>(
             return pending.end(tournament.compared, sink, out);
         };
         let written = pending.counts.written;
-        pending.meet(version, is_repeated, &mut tournament.compared, sink, out)?;
-        pending.report(written, progress);
-        let next = next_of(&mut sources[winner], pending.spare.take())?;
+        let spare = pending.meet(version, is_repeated, &mut tournament.compared, sink, out)?;
+        pending.report(written, spare.as_ref(), progress);
+        let next = next_of(&mut sources[winner], spare)?;
         tournament.put(winner, next);
     }
 }

@@ -6,7 +6,7 @@ ghost use Rattle.osm_files.specs.Sink.{IsOpen};
 ghost use Rattle.osm_merge.specs.Union.{capped_count};
 ghost use Rattle.osm_merge.specs.Pass.{is_new, is_met, pending_next, versions_put, put_at, put_at_end, put_with};
 ghost use Rattle.osm_merge.specs.Pass.{singleton_if};
-ghost use Rattle.osm_merge.specs.Put.{TakesEach, PutsMore, EndsFile, CountsMore};
+ghost use Rattle.osm_merge.specs.Put.{TakesEach, PutsMore, EndsFile, CountsMore, outcome_of};
 
 use crate::compare::compare;
 use crate::merge::Counts;
@@ -22,8 +22,6 @@ pub(crate) struct Pending {
     pub(crate) selection: Selection,
     /// The version met last.
     held: Option<Ranked>,
-    /// A version that isn't needed any more; a source may make its next version in its memory.
-    pub(crate) spare: Option<Version>,
     /// Whether the version that `meet` got last became the pending one.
     is_new: bool,
     /// The counts so far.
@@ -36,7 +34,6 @@ impl Pending {
         ensures { result ≡ record {
           selection = selection;
           held = None;
-          spare = None;
           is_new = false;
           counts = record { read = 0; written = 0; compared = 0 };
         } }
@@ -44,7 +41,6 @@ impl Pending {
         Pending {
             selection,
             held: None,
-            spare: None,
             is_new: false,
             counts: Counts {
                 read: 0,
@@ -55,8 +51,9 @@ impl Pending {
     }
 
     /// Meets the next version. If it passes and is greater than the pending one, it decides which version is written,
-    /// and becomes the pending one. Otherwise it becomes the spare one. If `is_repeated`, the version is known to
-    /// repeat one that was taken before, and isn't compared.
+    /// and becomes the pending one. If `is_repeated`, the version is known to repeat one that was taken before, and
+    /// isn't compared. Returns a version that isn't needed any more: the one that was pending before, if there was one,
+    /// or the version itself. A source may make its next version in its memory.
     #[inline(always)]
     pub(crate) fn meet<W: Output>(
         &mut self,
@@ -65,13 +62,13 @@ impl Pending {
         compared: &mut u64,
         sink: &mut Sink,
         out: &mut W,
-    ) -> Result<(), Fault>
+    ) -> Result<Option<Version>, Fault>
         requires open { IsOpen sink.old }
         requires takes { is_met self.old.selection self.old.held version ≡ true
             → TakesEach (put_at self.old.selection self.old.held version) sink.old }
         requires repeated { is_repeated ≡ true → is_met self.old.selection self.old.held version ≡ false }
         ensures puts { PutsMore W.Output (versions_put self.old.selection self.old.held version)
-            sink.old sink.new out.old out.new result }
+            sink.old sink.new out.old out.new (outcome_of result) }
         ensures lasts { FailingLasts (change_of W.Output out.old out.new) }
         ensures selection { self.new.selection ≡ self.old.selection }
         ensures held { OnOk result (self.new.held ≡ pending_next self.old.selection self.old.held version) }
@@ -85,22 +82,24 @@ impl Pending {
     {
         self.counts.read = self.counts.read.saturating_add(1);
         if is_repeated || !self.is_met(&version, compared) {
-            self.spare = Some(version.into_version());
             self.is_new = false;
-            return Ok(());
+            return Ok(Some(version.into_version()));
         }
         self.put_decided(Some(version.version()), sink, out)?;
-        self.spare = self.held.replace(version).map(Ranked::into_version);
         self.is_new = true;
-        Ok(())
+        Ok(self.held.replace(version).map(Ranked::into_version))
     }
 
     /// Reports the version that `meet` got last, and the version that it wrote, if it wrote one. `written` is the
-    /// number of versions written before.
+    /// number of versions written before, and `spare` what `meet` returned.
     #[inline(always)]
-    pub(crate) fn report<P: Progress>(&self, written: u64, progress: &mut P) {
+    pub(crate) fn report<P: Progress>(
+        &self,
+        written: u64,
+        spare: Option<&Version>,
+        progress: &mut P,
+    ) {
         let held = version_of(&self.held);
-        let spare = self.spare.as_ref();
         match (held, spare) {
             (Some(version), _) if self.is_new => progress.read(version, relation(spare, version)),
             (_, Some(version)) => progress.read(version, Relation::Dropped),
