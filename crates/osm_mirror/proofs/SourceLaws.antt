@@ -1,11 +1,11 @@
 -- The sources of files give the members of the files' sets, and the union of what sources give is the union of the sets.
-use Rattle.std.proofs.Common.{◌≡◌, inl, inr, ⊎_elim, ℕ, zero, suc, ◌+◌, ◌<◌, Bool, true, false, ◌||◌, List, [], ◌∷◌, ◌++◌, length, map}
-use Rattle.std.proofs.Common.{fold}
+use Rattle.std.proofs.Common.{◌≡◌, ◌⊎◌, inl, inr, ⊎_elim, ℕ, zero, suc, ◌+◌, ◌<◌, Bool, true, false, not, ◌&&◌, ◌||◌, List, [], ◌∷◌, ◌++◌}
+use Rattle.std.proofs.Common.{fold, length, map, if◌then◌else◌}
 use Rattle.std.proofs.Common.{take, drop, get_or, refl, sym, ap, ◌∙◌, subst, arith, append-nil, Option, Some, None, is_some, option_map}
 use Rattle.std.proofs.Common.{sum_by}
 use Rattle.std.specs.Ordering.{eq_by_cmp}
 use Rattle.std.specs.FinMap.{get-empty}
-use Rattle.std.specs.List.{All, list_any}
+use Rattle.std.specs.List.{All, filter, list_any}
 use Rattle.std.specs.List.Sorted.{IsStrictlySortedBy}
 use Rattle.std.proofs.lemmas.List.{take-append-drop}
 use Rattle.std.proofs.lemmas.List.Elements.{All-cons, All-nil, All-head, All-tail}
@@ -33,6 +33,7 @@ use Rattle.osm_files.specs.Output.{Content, IsAppended}
 use Rattle.osm_files.specs.Position.{units_from, fault_of, with_rest}
 use Rattle.osm_files.specs.Sink.{CutShort}
 use Rattle.osm_files.specs.Source.{Ascends}
+use Rattle.osm_files.specs.Stream.{end_whole, front}
 use Rattle.osm_files.specs.Verdict.{file_units, versions_of}
 use Rattle.osm_files.proofs.FaultyLaws.{broken_is_refused}
 use Rattle.osm_files.proofs.FileLaws.{files_are_read}
@@ -46,11 +47,12 @@ use Rattle.osm_merge.specs.declared.within.Outside.TheVariants.{Dropped, Refused
 use Rattle.osm_merge.specs.declared.within.State.TheVariants as state
 use Rattle.osm_merge.specs.declared.within.Within as within
 use Rattle.osm_merge.specs.Giving.{AllGive, SomeInputsGive}
-use Rattle.osm_merge.specs.Slice.{slice_of, IsWithin}
+use Rattle.osm_merge.specs.Slice.{reaches, is_under, is_within, slice_of, IsWithin}
 use Rattle.osm_merge.specs.ToCome as source
 use Rattle.osm_merge.specs.Union as union
-use Rattle.osm_merge.specs.Within.{given_within, within_span, WithinCanGive, ascends_in}
+use Rattle.osm_merge.specs.Within.{given_within, within_span, up_to, from_bound, dropped_outside, WithinCanGive, ascends_in}
 use Rattle.osm_merge.proofs.GiveLaws.{give_one}
+use Rattle.osm_merge.proofs.SliceLaws.{kept_in, equal}
 use Rattle.osm_merge.proofs.SliceSources.{dropped_is_slice, dropped_of_whole, dropped_to_the_end, refused_is_inside, inside_is_given}
 use Rattle.osm_mirror.specs.declared.input.InputFile.{InputFile}
 use Rattle.osm_mirror.specs.declared.input.ReadAs.{ReadAs}
@@ -59,7 +61,7 @@ use Rattle.osm_mirror.specs.declared.source.RunSource.{RunSource}
 use Rattle.osm_mirror.specs.declared.source.RunSource.TheVariants.{Streamed, Held, Sliced}
 use Rattle.osm_mirror.specs.Run.{union_of}
 use Rattle.osm_mirror.specs.Merge.{GivesSorted}
-use Rattle.osm_mirror.specs.SliceRun.{HasSlice, given_slice}
+use Rattle.osm_mirror.specs.SliceRun.{HasSlice, IsPartRead, given_slice}
 use Rattle.osm_mirror.specs.SourceRest.{SourceCanGive, source_one, source_possible}
 use Rattle.osm_mirror.specs.Given.{GivesFile, GivesAs, IsFileAs, refusal, whole_or_refused, held_source, source_of, sources, FileGives}
 use Rattle.osm_mirror.specs.Given.{FileGivesOne, file_as, one_of_file, IsRead, IsOpened, AreOpened, CannotBeRead, IsUnread, IsUnopened}
@@ -189,6 +191,60 @@ slice_of_file number span c held file =
     ∙ ap (λ (s : source.VersionsToCome). slice_of span.from span.to (members s)) (source_sorted number c held file.unbroken file.file)
     ∙ ap (slice_of span.from span.to) (sym (listed_members held))
 
+both : (a b : Bool) → ((a && b) && b) ≡ (a && b)
+both true true = refl
+both true false = refl
+both false b = refl
+
+-- a slice of a set is within its span
+slices_are_within : (span : Span) (s : VersionSet) → IsWithin span (slice_of span.from span.to s)
+slices_are_within span s =
+    let p : VersionData → Bool = is_within span.from span.to in
+    let part : VersionSet = slice_of span.from span.to s in
+    equal _ _ (λ v. kept_in part p v ∙ ap (λ b. b && p v) (kept_in s p v) ∙ both (contains s v) (p v) ∙ sym (kept_in s p v))
+
+or_more : (a b : Bool) → b ≡ true → (a || b) ≡ true
+or_more true b h = refl
+or_more false b h = h
+
+or_same : (a b c : Bool) → (b ≡ true → c ≡ true) → (a || b) ≡ true → (a || c) ≡ true
+or_same true b c f h = refl
+or_same false b c f h = f h
+
+-- a member of a filtered list is a member of the list
+any_of_filtered : (p q : VersionData → Bool) (vs : List VersionData) → list_any q (filter p vs) ≡ true → list_any q vs ≡ true
+any_of_filtered p q [] h = h
+any_of_filtered p q (v ∷ vs) h =
+    elim (p v) as (λ b. list_any q (if b then v ∷ filter p vs else filter p vs) ≡ true → (q v || list_any q vs) ≡ true) [
+      | true ↦ or_same (q v) (list_any q (filter p vs)) (list_any q vs) (any_of_filtered p q vs)
+      | false ↦ λ k. or_more (q v) (list_any q vs) (any_of_filtered p q vs k)
+    ] h
+
+-- a rest that isn't refused before the first version that fails the test has no refusal, or a version that fails it
+ends_or_fails : (p : VersionData → Bool) (r : Option Fault) (vs : List VersionData) → (up_to p end_whole r vs).refusal ≡ None →
+    (r ≡ None) ⊎ (list_any (λ v. not (p v)) vs ≡ true)
+ends_or_fails p r [] h = inl h
+ends_or_fails p r (v ∷ vs) h =
+    elim (p v) as (λ b. (if b then front v (up_to p end_whole r vs) else end_whole).refusal ≡ None →
+    (r ≡ None) ⊎ ((not b || list_any (λ w. not (p w)) vs) ≡ true)) [
+      | true ↦ λ k. ends_or_fails p r vs k
+      | false ↦ λ k. inr refl
+    ] h
+
+-- what a source gives within a span, if it isn't refused
+part_read : (span : Span) (given : source.VersionsToCome) → Ascends given → (dropped_outside span given).refusal ≡ None →
+    IsPartRead span given (members (dropped_outside span given))
+part_read span given up none =
+    let is = dropped_is_slice span given up in
+    let from : source.VersionsToCome = from_bound span given in
+    record {
+      slice = is;
+      within = subst (IsWithin span) (sym is) (slices_are_within span (members given));
+      complete = ⊎_elim (λ e. inl e)
+          (λ e. inr (any_of_filtered (reaches span.from) (λ v. not (is_under span.to v)) given.list e))
+          (ends_or_fails (is_under span.to) from.refusal from.list none);
+    }
+
 has_slice : (number : ℕ) (span : Span) (outside : Outside) (c : InputRest) → (given_slice span number (outside, c)).refusal ≡ None →
     HasSlice span (outside, c) (members (given_slice span number (outside, c)))
 has_slice number span Refused c none =
@@ -201,6 +257,8 @@ has_slice number span Dropped c none = (
     members (sorted_source number c),
     gives number c (sym (dropped_to_the_end span (sorted_source number c) no_bound) ∙ none),
   ),
+  number,
+  part_read span (sorted_source number c) (source_rises number c) none,
 )
 
 -- ---- one input

@@ -1,5 +1,8 @@
 -- The output of a run for a slice, and the reasons why the run is refused: an own rule of this project.
-use Rattle.std.specs.Prelude.{◌≡◌, ℕ, List, length, None}
+use Rattle.std.specs.Prelude.{◌≡◌, ◌⊎◌, ℕ, true, not, List, length, None}
+use Rattle.std.specs.List.{list_any}
+use Rattle.osm_model.specs.Order.{version_cmp}
+use Rattle.osm_model.specs.Sets.{from_list}
 use Rattle.osm_model.specs.VersionSet.{VersionSet}
 use Rattle.osm_files.specs.declared.fault.Fault.{Fault}
 use Rattle.osm_files.specs.declared.format.Format.{Format}
@@ -12,7 +15,7 @@ use Rattle.osm_merge.specs.declared.within.Outside.{Outside}
 use Rattle.osm_merge.specs.declared.within.Outside.TheVariants.{Dropped, Refused}
 use Rattle.osm_merge.specs.Merged as merged
 use Rattle.osm_merge.specs.Selected.{selection_of}
-use Rattle.osm_merge.specs.Slice.{slice_of, IsWithin}
+use Rattle.osm_merge.specs.Slice.{is_under, slice_of, IsWithin}
 use Rattle.osm_merge.specs.ToCome as source
 use Rattle.osm_merge.specs.Within.{given_within}
 use Rattle.osm_mirror.specs.declared.slice.Slice.{Slice}
@@ -32,13 +35,22 @@ given_slice span number input = given_within input.0 number span (sorted_source 
 abbrev pub given_slices : ℕ → Span → List (Outside × InputRest) → List source.VersionsToCome
 given_slices number span = sources_by (given_slice span) number
 
--- The versions that an input has within a span. A part of a file is sorted, and all its objects are within the span. A
--- whole file that is sorted has the slice of its set. If the span has no upper bound, the whole file is sorted.
+-- The part that a run reads of a whole file: the versions within the span of those that the file's source gives. The
+-- source ends without a fault, or gives a version that isn't below the upper bound.
+pub record IsPartRead (span : Span) (given : source.VersionsToCome) (part : VersionSet) : Type 0 where
+  pub slice : part ≡ slice_of span.from span.to (from_list {R = version_cmp} given.list)
+  pub within : IsWithin span part
+  pub complete : (given.refusal ≡ None) ⊎ (list_any (λ v. not (is_under span.to v)) given.list ≡ true)
+
+-- The versions that an input has within a span. A part of a file is sorted, and all its objects are within the span. Of
+-- a whole file it is the part that the run reads. If the file is sorted, this is the slice of its set. If the span has
+-- no upper bound, the whole file is sorted. The number of the input makes no difference: only a fault has it.
 abbrev pub HasSlice : Span → Outside × InputRest → VersionSet → Type 0
 HasSlice span (Refused, c) part = GivesSorted c part × IsWithin span part
 HasSlice span (Dropped, c) part =
     ((held : VersionSet) → GivesSorted c held → part ≡ slice_of span.from span.to held)
     × (span.to ≡ None → (held : VersionSet) × GivesSorted c held)
+    × (number : ℕ) × IsPartRead span (sorted_source number c) part
 
 -- A run for a slice of these inputs, with this change of the output: the run appended the one spelling of the selection
 -- of the union of the versions that the inputs have within the span.

@@ -1,7 +1,8 @@
-//! Laws of merges, fleets and files that are split. Each is the `ensures` clause of a function with an empty body,
-//! which runs no code.
+//! Laws of merges, fleets, plans and files that are split. Each is the `ensures` clause of a function with an empty
+//! body, which runs no code.
 ghost use Rattle.osm_mirror.specs.FleetLaws.{LatestMirrorsAgree, FullMirrorsAgree};
 ghost use Rattle.osm_mirror.specs.Merges.{MergesOfTheSameFiles};
+ghost use Rattle.osm_mirror.specs.PlanLaws.{OnePlan, FaultySpellsNothing};
 ghost use Rattle.osm_mirror.specs.Shards.{PartsHoldTheFile, ShardsWriteTheRun};
 ghost use Rattle.osm_mirror.specs.Slices.{SlicesHoldTheFile, SlicesWriteTheRun};
 ghost use Rattle.osm_mirror.specs.SortedRuns.{SortedRunsHoldTheFile, SortedRunsWriteTheFile};
@@ -55,4 +56,14 @@ pub fn parts_hold_the_file()
 /// The runs over the slices of several files, one run for each span, write the same bytes as one run over the files.
 pub fn shards_write_the_run()
     ensures { ShardsWriteTheRun }
+{}
+
+/// A text spells at most one plan.
+pub fn one_plan()
+    ensures { OnePlan }
+{}
+
+/// A text that has a fault spells no plan.
+pub fn faulty_spells_nothing()
+    ensures { FaultySpellsNothing }
 {}

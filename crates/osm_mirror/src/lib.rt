@@ -20,7 +20,6 @@ mod mirror;
 mod moment;
 mod plan;
 mod plan_fault;
-pub mod plan_laws;
 mod plan_line;
 mod run;
 mod slice;

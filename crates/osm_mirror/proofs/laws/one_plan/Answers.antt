@@ -1,5 +1,5 @@
 use Rattle.osm_mirror.proofs.PlanTextLaws.{one_plan}
-use Rattle.osm_mirror.proofs.plan_laws.one_plan.Goals as goal
+use Rattle.osm_mirror.proofs.laws.one_plan.Goals as goal
 
 pub returns : goal.returns
 returns c = one_plan

@@ -1,5 +1,5 @@
 use Rattle.osm_mirror.proofs.PlanTextLaws.{faulty_spells_nothing}
-use Rattle.osm_mirror.proofs.plan_laws.faulty_spells_nothing.Goals as goal
+use Rattle.osm_mirror.proofs.laws.faulty_spells_nothing.Goals as goal
 
 pub returns : goal.returns
 returns c = faulty_spells_nothing
