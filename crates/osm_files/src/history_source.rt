@@ -35,8 +35,9 @@ impl HistorySource {
     pub fn new(history: History) -> HistorySource
         ensures { result ≡ history }
     {
+        let versions = history.into_versions();
         HistorySource {
-            versions: history.into_versions().into_iter(),
+            versions: versions.into_iter(),
         }
     }
 }

@@ -10,10 +10,10 @@ use Rattle.osm_files.proofs.history_source.HistorySource.new.Goals as goal
 
 pub invariant_of-result : goal.invariant_of-result
 invariant_of-result c =
-    let items : into_iter_items c.into_iter.result ≡ to_list c.args.history = c.into_iter.ensures.rest ∙ c.into_versions.ensures in
+    let items : into_iter_items c.into_iter.result ≡ to_list c.args.history = c.into_iter.ensures.rest ∙ c.into_versions-versions.ensures in
     subst (λ (xs : List VersionData). IsStrictlySortedBy version_cmp xs) (sym items) (strict-listed c.args.history)
 
 pub returns : goal.returns
 returns c =
-    let items : into_iter_items c.into_iter.result ≡ to_list c.args.history = c.into_iter.ensures.rest ∙ c.into_versions.ensures in
+    let items : into_iter_items c.into_iter.result ≡ to_list c.args.history = c.into_iter.ensures.rest ∙ c.into_versions-versions.ensures in
     ap from_list items ∙ sym (listed_members c.args.history)
