@@ -23,3 +23,4 @@ pub mod CutOffset
 pub mod Shards
 pub mod Largest
 pub mod FilesRun
+pub mod Request

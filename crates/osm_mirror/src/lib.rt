@@ -21,6 +21,7 @@ mod moment;
 mod plan;
 mod plan_fault;
 mod plan_line;
+mod request;
 mod run;
 mod slice;
 mod source;
@@ -43,6 +44,7 @@ pub use osm_model::{Kind, Memory, Version};
 pub use plan::{Plan, read_plan};
 pub use plan_fault::{PlanFault, PlanReason};
 pub use plan_line::PlanWrite;
+pub use request::{Command, FileRequest, RequestFault};
 pub use run::run_selected;
 pub use slice::{Slice, SliceFile, run_slice};
 
