@@ -18,8 +18,7 @@ mod target;
 
 use crate::cli::request::Request;
 use escape::Escaped;
-pub(crate) use escape::EscapedOut;
-use hint::Advice;
+use hint::Hint;
 use part::FileId;
 pub(crate) use part::PartFile;
 pub(crate) use refusal::Refusal;
@@ -28,7 +27,6 @@ use std::convert::AsStr;
 use std::io::{IsTerminal, Read, Write};
 use std::rt::Files;
 use std::time::Clock;
-use target::Target;
 
 /// Runs one command and returns the exit status.
 ///
@@ -45,11 +43,11 @@ where
     R::File: PartFile,
     S: AsStr,
     I: Read + Drop,
-    O: Write + Drop,
+    O: Write + IsTerminal + Drop,
     E: Write + IsTerminal + Drop,
 {
-    let hints = words.iter().any(|word| word.as_str() == hint::HINTS);
-    match Request::parse(rt.alloc(), words) {
+    let mut hints = false;
+    match Request::parse(rt.alloc(), words, &mut hints) {
         Ok(request) => run_request(rt, request, input, &mut out, &mut err, hints),
         Err(mistake) => report_mistake(rt, words, &mistake, &mut err, hints),
     }
@@ -57,22 +55,17 @@ where
 
 /// Reports a mistake in the arguments `args`. On a terminal the text of `clap` shows their control characters as
 /// escapes.
-fn report_mistake<R, S, E>(
+fn report_mistake<R: Files + AllocGlobal, S: AsStr, E: Write + IsTerminal>(
     rt: &R,
     args: &[S],
     mistake: &Refusal<'_>,
     err: &mut E,
     hints: bool,
-) -> u8
-where
-    R: Files + AllocGlobal,
-    S: AsStr,
-    E: Write + IsTerminal,
-{
+) -> u8 {
     if err.is_terminal()
         && let Refusal::Words(_) = mistake
         && let Ok(shown) = escaped(rt.alloc(), args)
-        && let Err(mistake) = Request::parse(rt.alloc(), shown.as_slice())
+        && let Err(mistake) = Request::parse(rt.alloc(), shown.as_slice(), &mut false)
     {
         return hint::report(rt, &mistake, err, hints);
     }
@@ -102,11 +95,11 @@ where
     R: Files + Clock + AllocGlobal,
     R::File: PartFile,
     I: Read + Drop,
-    O: Write,
+    O: Write + IsTerminal,
     E: Write + IsTerminal,
 {
     let mut input = Some(input);
-    let (text, list) = match read_list(rt, &request, &mut input) {
+    let (text, list) = match list::read_list(rt, &request, &mut input) {
         Ok(list) => list,
         Err(refusal) => return hint::report(rt, &refusal, err, hints),
     };
@@ -123,22 +116,6 @@ where
     }
 }
 
-/// Reads the list of files that the request names. A list that has the name of OUT.part is refused.
-fn read_list<'a, R: Files + AllocGlobal, I: Read + Drop>(
-    rt: &R,
-    request: &Request<'a>,
-    input: &mut Option<I>,
-) -> Result<(String, Option<FileId>), Refusal<'a>>
-where
-    R::File: PartFile,
-{
-    let list = request.list();
-    if let (Request::Files(run), Some(list)) = (request, list) {
-        Target::of_arg(rt, run.output).refuse_part(&[list])?;
-    }
-    list::read_list(rt, list, input)
-}
-
 /// Runs a request. `list` is the identity of the list of files that it names.
 fn run<'a, R, I, O, E>(
     rt: &R,
@@ -147,42 +124,29 @@ fn run<'a, R, I, O, E>(
     input: Option<I>,
     out: &mut O,
     err: &mut E,
-) -> Result<Option<Advice<'a>>, Refusal<'a>>
+) -> Result<Option<Hint<'a>>, Refusal<'a>>
 where
     R: Files + Clock + AllocGlobal,
     R::File: PartFile,
     I: Read + Drop,
-    O: Write,
+    O: Write + IsTerminal,
     E: Write + IsTerminal,
 {
     match request {
-        Request::Files(run) => file_run::run_files(rt, run, list, input, out, err)?,
+        Request::Files(run) => {
+            file_run::run_files(rt, run, list, input, out, err)?;
+            return Ok(Hint::of_output(run.output, run.run.format));
+        }
         Request::Check(check) => file_check::check_files(rt, check, input, out, err)?,
         Request::Plan(run) => return plan_run::run_plan(rt, run, out),
-        Request::Help(text) => print_help(rt.alloc(), out, text)?,
+        Request::Help(text) => print(out, &format!(in rt.alloc(); "{text}")?)?,
     }
-    Ok(match request {
-        Request::Files(run) => Advice::of_output(run.output, run.format),
-        _ => None,
-    })
+    Ok(None)
 }
 
-/// Prints the text of help, line by line.
-fn print_help<'a, O: Write>(
-    alloc: Global,
-    out: &mut O,
-    help: &clap::Error,
-) -> Result<(), Refusal<'a>> {
-    let text = format!(in alloc; "{help}")?;
-    for line in text.as_str().lines() {
-        print(out, &format!(in alloc; "{line}\n")?)?;
-    }
-    Ok(())
-}
-
-/// Prints a line, which has its own line feed, in one write.
-fn print<'a, O: Write>(out: &mut O, line: &String) -> Result<(), Refusal<'a>> {
-    match out.write_all(line.as_bytes()).and_then(|()| out.flush()) {
+/// Prints a text, which has its own line feeds, in one write.
+fn print<'a, O: Write>(out: &mut O, text: &String) -> Result<(), Refusal<'a>> {
+    match out.write_all(text.as_bytes()).and_then(|()| out.flush()) {
         Ok(()) => Ok(()),
         Err(_) => Err(Refusal::StandardOutput),
     }

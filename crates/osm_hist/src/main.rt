@@ -1,7 +1,7 @@
 //! `osm_hist`: merges files of OpenStreetMap histories.
 #![tactic(auto)]
 
-use crate::cli::{EscapedOut, Refusal, run_words};
+use crate::cli::{Refusal, run_words};
 use std::env::FillError;
 use std::fs::File;
 use std::io::{IsTerminal, Write};
@@ -57,17 +57,7 @@ fn run_args(rt: &HostRuntime) -> u8 {
     if args.is_empty() && rt.stdin().is_terminal() && rt.stderr().is_terminal() {
         report_waiting(rt.stderr());
     }
-    let mut out = rt.stdout();
-    if out.is_terminal()
-        && args
-            .first()
-            .is_some_and(|command| command.as_str() == "check")
-    {
-        let out = EscapedOut { out: &mut out };
-        run_words(rt, args.as_slice(), rt.stdin(), out, rt.stderr())
-    } else {
-        run_words(rt, args.as_slice(), rt.stdin(), out, rt.stderr())
-    }
+    run_words(rt, args.as_slice(), rt.stdin(), rt.stdout(), rt.stderr())
 }
 
 /// Reports that the program waits for standard input.
@@ -90,7 +80,7 @@ fn refuse_args<R: Env + AllocGlobal>(rt: &R, error: &io::Error) -> Refusal<'stat
     match error.kind() {
         io::ErrorKind::OutOfMemory => Refusal::Memory,
         _ => match faulty_argument(rt) {
-            Ok(argument) => Refusal::WordsNotUtf8 { argument },
+            Ok(argument) => Refusal::WordsNotUtf8(argument),
             Err(_) => Refusal::Memory,
         },
     }
@@ -118,7 +108,7 @@ fn faulty_argument<R: Env + AllocGlobal>(rt: &R) -> io::Result<String> {
 /// Appends `bytes`. A byte that isn't printable ASCII is shown as an escape.
 fn push_escaped(text: &mut String, bytes: &[u8]) -> io::Result<()> {
     for byte in bytes {
-        if *byte >= b' ' && *byte < 0x7f {
+        if *byte == b' ' || byte.is_ascii_graphic() {
             text.push(*byte as char)?;
         } else {
             write!(text, "\\x{:02x}", *byte)?;

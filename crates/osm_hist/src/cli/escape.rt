@@ -74,9 +74,9 @@ fn is_plain(c: char) -> bool {
 /// A writer to a terminal that escapes the control characters of the text that it is given. A line feed that ends a
 /// write is a line's end.
 #[derive(Drop)]
-pub(crate) struct EscapedOut<'o, O> {
+pub(super) struct EscapedOut<'o, O> {
     /// The terminal.
-    pub(crate) out: &'o mut O,
+    pub(super) out: &'o mut O,
 }
 
 impl<O: io::Write> io::Write for EscapedOut<'_, O> {

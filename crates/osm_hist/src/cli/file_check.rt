@@ -1,4 +1,5 @@
 //! Checks of files.
+use super::escape::EscapedOut;
 use super::files::{Opened, Stamp, input_name, open_arg};
 use super::input::{
     Failure, NoCount, RegularInput, fault_at_end, refuse_changed, regular_input, stream_input,
@@ -21,7 +22,7 @@ pub(super) fn check_files<
     'a,
     R: Files + AllocGlobal,
     I: Read + Drop,
-    O: Write,
+    O: Write + IsTerminal,
     E: Write + IsTerminal,
 >(
     rt: &R,
@@ -41,7 +42,9 @@ where
         };
         if let Err(refusal) = outcome {
             let cannot_print = matches!(refusal, Refusal::StandardOutput);
-            report_refusal(rt, last.replace(refusal), err, check.hints);
+            if let Some(refusal) = last.replace(refusal) {
+                hint::report(rt, &refusal, err, check.hints);
+            }
             if cannot_print {
                 break;
             }
@@ -53,20 +56,9 @@ where
     }
 }
 
-/// Reports a refusal, if there is one.
-fn report_refusal<'a, R: Files + AllocGlobal, E: Write + IsTerminal>(
-    rt: &R,
-    refusal: Option<Refusal<'a>>,
-    err: &mut E,
-    hints: bool,
-) {
-    if let Some(refusal) = refusal {
-        hint::report(rt, &refusal, err, hints);
-    }
-}
-
-/// Prints the report on a file. With several files the line begins with the file's name.
-fn print_report<'a, O: Write>(
+/// Prints the report on a file. With several files the line begins with the file's name, whose control characters are
+/// escaped on a terminal.
+fn print_report<'a, O: Write + IsTerminal>(
     alloc: Global,
     check: &FileCheck<'a>,
     arg: &'a str,
@@ -84,7 +76,11 @@ fn print_report<'a, O: Write>(
     let line = format!(in alloc;
         "{name}{mark}{format}: {versions} versions, {objects} objects, {order}\n"
     )?;
-    print(out, &line)
+    if out.is_terminal() {
+        print(&mut EscapedOut { out }, &line)
+    } else {
+        print(out, &line)
+    }
 }
 
 /// Checks the file that `arg` names.
@@ -102,7 +98,7 @@ where
     let file = open_arg(rt, arg, false, input)?;
     let end = check.inputs.end.of_file(file.is_regular());
     let name = input_name(arg);
-    let sorted = check.inputs.sorted;
+    let sorted = check.sorted;
     let checked = match file {
         Opened::Regular(file, stamp) => match regular_input(file, end, &failure, &meter) {
             Ok(file) => check_regular(rt.alloc(), sorted, name, file, stamp, &failure),

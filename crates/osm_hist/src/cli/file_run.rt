@@ -11,7 +11,7 @@ use super::shard::{Shard, ShardRun, check_shardable, refuse_irregular, run_shard
 use super::summary::Summary;
 use super::target::{Destination, Target};
 use osm_files::{Broken, Clear, ClearOutput, Fault, Input, Output, ReadAt, Reason, WholeFile};
-use osm_mirror::{Counts, FilesRun, NoProgress, Order, RunFile, run_files as run_open_files};
+use osm_mirror::{Counts, NoProgress, RunFile, run_files as run_open_files};
 use std::cell::Cell;
 use std::io::{IsTerminal, Read, Write};
 use std::rt::Files;
@@ -169,8 +169,8 @@ where
     ) -> Result<Counts, Fault> {
         let run = ShardRun {
             shard,
-            selection: self.asked.selection,
-            format: self.asked.format,
+            selection: self.asked.run.selection,
+            format: self.asked.run.format,
         };
         run_shard(
             self.rt.alloc(),
@@ -187,17 +187,7 @@ where
         files: Vec<RunFile<'_, G, S>>,
         output: &mut W,
     ) -> Result<Counts, Fault> {
-        let order = if self.asked.inputs.sorted {
-            Order::Sorted
-        } else {
-            Order::Any
-        };
-        let run = FilesRun {
-            selection: self.asked.selection,
-            order,
-            format: self.asked.format,
-        };
-        let alloc = self.rt.alloc();
+        let (alloc, run) = (self.rt.alloc(), self.asked.run);
         if self.asked.progress || self.asked.summary {
             run_open_files(alloc, run, files, output, &mut &self.meter)
         } else {

@@ -2,25 +2,29 @@
 use super::files::{input_name, open_arg};
 use super::part::{FileId, PartFile};
 use super::refusal::Refusal;
-use super::target::STANDARD;
+use super::request::Request;
+use super::target::{STANDARD, Target};
 use std::alloc::Global;
 use std::io::{ErrorKind, Read};
 use std::rt::Files;
 
-/// Reads `list`, where `-` is standard input. Returns its text, and the identity of its file if that is known. Without
-/// a list the text is empty.
+/// Reads the list that the request names, where `-` is standard input. Returns its text, and the identity of its file
+/// if that is known. Without a list the text is empty. A list that has the name of OUT.part is refused.
 pub(super) fn read_list<'a, R: Files + AllocGlobal, I: Read + Drop>(
     rt: &R,
-    list: Option<&'a str>,
+    request: &Request<'a>,
     input: &mut Option<I>,
 ) -> Result<(String, Option<FileId>), Refusal<'a>>
 where
     R::File: PartFile,
 {
     let mut text = String::new(rt.alloc());
-    let Some(arg) = list else {
+    let Some(arg) = request.list() else {
         return Ok((text, None));
     };
+    if let Request::Files(run) = request {
+        Target::of_arg(rt, run.output).refuse_part(&[arg])?;
+    }
     let name = input_name(arg);
     let file = open_arg(rt, arg, false, input)?;
     let (id, stamp) = (file.id(rt), file.stamp());

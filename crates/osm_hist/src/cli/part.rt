@@ -110,8 +110,11 @@ impl<F: PartFile + Seek + Write> OutPart<F> {
         inputs: &[FileId],
     ) -> Result<OutPart<F>, Refusal<'a>> {
         let name = part_name(rt.alloc(), output)?;
-        let made = attempts(rt, name.as_str(), output, inputs);
-        made.map(|(file, id)| OutPart { name, file, id })
+        match attempts(rt, name.as_str(), output, inputs) {
+            Ok((file, id)) => Ok(OutPart { name, file, id }),
+            Err(PartFault::System(error)) => Err(Refusal::CannotCreate { output, error }),
+            Err(PartFault::IsInput) => Err(Refusal::InputIsOutput { output }),
+        }
     }
 
     /// The file.
@@ -121,10 +124,8 @@ impl<F: PartFile + Seek + Write> OutPart<F> {
 
     /// Empties the file, so that the run can write it again.
     pub(super) fn empty(&mut self) -> io::Result<()> {
-        match self.file.seek(SeekFrom::Start(0)) {
-            Ok(_) => self.file.set_len(0),
-            Err(error) => Err(error),
-        }
+        self.file.seek(SeekFrom::Start(0))?;
+        self.file.set_len(0)
     }
 
     /// Renames the file to OUT. With `fsync`, the bytes of the file are synced before the rename, and its new name
@@ -139,17 +140,14 @@ impl<F: PartFile + Seek + Write> OutPart<F> {
             return self.rename(rt, output);
         }
         // The folder is opened first, so that OUT isn't replaced if the folder can't be synced.
-        let Ok(folder) = File::open(rt, folder_of(output)) else {
-            return Err(Refusal::CannotSync { output });
+        let folder = match File::open(rt, folder_of(output)) {
+            Ok(folder) if self.file.sync_all().is_ok() => folder,
+            _ => return Err(Refusal::CannotSync { output }),
         };
-        if self.file.sync_all().is_err() {
-            return Err(Refusal::CannotSync { output });
-        }
         self.rename(rt, output)?;
-        match folder.sync_all() {
-            Ok(()) => Ok(()),
-            Err(_) => Err(Refusal::CannotSync { output }),
-        }
+        folder
+            .sync_all()
+            .map_err(|_| Refusal::CannotSync { output })
     }
 
     /// Renames the file to OUT.
@@ -170,44 +168,45 @@ impl<F: PartFile + Seek + Write> OutPart<F> {
     }
 }
 
-/// The refusal if OUT.part can't be made: because of the system's `error`, or because of another file of that name.
-fn refused<'a>(output: &'a str, error: Option<i32>) -> Refusal<'a> {
-    Refusal::CannotCreate { output, error }
+/// Why OUT.part can't be made.
+#[derive(Debug, Drop)]
+enum PartFault {
+    /// The system refused it with the error of this number, or another file has the name.
+    System(Option<i32>),
+    /// The file of that name is an input.
+    IsInput,
+}
+
+impl From<io::Error> for PartFault {
+    fn from(error: io::Error) -> PartFault {
+        PartFault::System(error.raw_os_error())
+    }
 }
 
 /// Makes OUT.part, in at most `ATTEMPTS` attempts.
-fn attempts<'a, R: Files>(
+fn attempts<F: PartFile, R: Files<File = F>>(
     rt: &R,
     name: &str,
-    output: &'a str,
+    output: &str,
     inputs: &[FileId],
-) -> Result<(R::File, FileId), Refusal<'a>>
-where
-    R::File: PartFile,
-{
+) -> Result<(F, FileId), PartFault> {
     for _ in 0..ATTEMPTS {
         if let Some(made) = create(rt, name, output)? {
             return Ok(made);
         }
-        remove_leftover(rt, name, output, inputs)?;
+        remove_leftover(rt, name, inputs)?;
     }
-    Err(refused(output, None))
+    Err(PartFault::System(None))
 }
 
 /// Makes the file and locks it, or returns none if there is a file of that name. Only its owner may open it if OUT
 /// exists, since OUT may be private.
-fn create<'a, R: Files>(
+fn create<F: PartFile, R: Files<File = F>>(
     rt: &R,
     name: &str,
-    output: &'a str,
-) -> Result<Option<(R::File, FileId)>, Refusal<'a>>
-where
-    R::File: PartFile,
-{
-    let old = match existing(rt, output) {
-        Ok(old) => old,
-        Err(error) => return Err(refused(output, error.raw_os_error())),
-    };
+    output: &str,
+) -> io::Result<Option<(F, FileId)>> {
+    let old = existing(rt, output)?;
     let mode = if old.is_some() {
         PRIVATE_MODE
     } else {
@@ -223,10 +222,10 @@ where
         Ok(file) => match own(rt, name, old, &file) {
             Ok(Some(id)) => Ok(Some((file, id))),
             Ok(None) => Ok(None),
-            Err(error) => Err(refused(output, error.raw_os_error())),
+            Err(error) => Err(error),
         },
         Err(error) if error.kind() == ErrorKind::AlreadyExists => Ok(None),
-        Err(error) => Err(refused(output, error.raw_os_error())),
+        Err(error) => Err(error),
     }
 }
 
@@ -244,15 +243,12 @@ fn existing<R: Files>(rt: &R, output: &str) -> io::Result<Option<Metadata>> {
 
 /// Locks a file that was just made, and gives it the mode and the owner of `old`, which is OUT. The result is none if
 /// the file lost its name to another run.
-fn own<R: Files>(
+fn own<F: PartFile, R: Files<File = F>>(
     rt: &R,
     name: &str,
     old: Option<Metadata>,
-    file: &R::File,
-) -> io::Result<Option<FileId>>
-where
-    R::File: PartFile,
-{
+    file: &F,
+) -> io::Result<Option<FileId>> {
     let metadata = file.metadata()?;
     let id = FileId::of(&metadata);
     let outcome = match (take_lock(file), old) {
@@ -317,20 +313,16 @@ fn copy_owner<F: PartFile>(file: &F, metadata: &Metadata, old: &Metadata) -> boo
 
 /// Removes the regular file that a killed run left, so that OUT.part may be made. It doesn't remove a link, a folder, a
 /// device, an input, or a file that another run has locked.
-fn remove_leftover<'a, R: Files>(
+fn remove_leftover<F: PartFile, R: Files<File = F>>(
     rt: &R,
     name: &str,
-    output: &'a str,
     inputs: &[FileId],
-) -> Result<(), Refusal<'a>>
-where
-    R::File: PartFile,
-{
+) -> Result<(), PartFault> {
     match fs::symlink_metadata(rt, name) {
         Ok(metadata) if metadata.is_file() => {}
-        Ok(_) => return Err(refused(output, None)),
+        Ok(_) => return Err(PartFault::System(None)),
         Err(error) if error.kind() == ErrorKind::NotFound => return Ok(()),
-        Err(error) => return Err(refused(output, error.raw_os_error())),
+        Err(error) => return Err(error.into()),
     }
     // A killed run may have left a file that nobody is permitted to write.
     let opened = match File::options().write(true).open(rt, name) {
@@ -338,43 +330,34 @@ where
         opened => opened,
     };
     match opened {
-        Ok(file) => remove_locked(rt, name, output, inputs, &file),
+        Ok(file) => remove_locked(rt, name, inputs, &file),
         Err(error) if error.kind() == ErrorKind::NotFound => Ok(()),
-        Err(error) => Err(refused(output, error.raw_os_error())),
+        Err(error) => Err(error.into()),
     }
 }
 
 /// Removes the open `file` if no other run has locked it, it still has the name `name`, and it isn't an input.
-fn remove_locked<'a, R: Files>(
+fn remove_locked<F: PartFile, R: Files<File = F>>(
     rt: &R,
     name: &str,
-    output: &'a str,
     inputs: &[FileId],
-    file: &R::File,
-) -> Result<(), Refusal<'a>>
-where
-    R::File: PartFile,
-{
+    file: &F,
+) -> Result<(), PartFault> {
     let id = match file.metadata() {
         Ok(metadata) if file.try_lock().is_ok() => FileId::of(&metadata),
-        _ => return Err(refused(output, None)),
+        _ => return Err(PartFault::System(None)),
     };
     if !is_named(rt, name, id) {
         return Ok(());
     }
-    if inputs.iter().any(|input| *input == id) {
-        return Err(Refusal::InputIsOutput { output });
+    if inputs.contains(&id) {
+        return Err(PartFault::IsInput);
     }
-    match fs::remove_file(rt, name) {
-        Ok(()) => Ok(()),
-        Err(error) => Err(refused(output, error.raw_os_error())),
-    }
+    Ok(fs::remove_file(rt, name)?)
 }
 
 /// Whether `name` is the name of the file `id` itself, and not of a link to it.
 fn is_named<R: Files>(rt: &R, name: &str, id: FileId) -> bool {
-    match fs::symlink_metadata(rt, name) {
-        Ok(metadata) => metadata.is_file() && FileId::of(&metadata) == id,
-        Err(_) => false,
-    }
+    fs::symlink_metadata(rt, name).is_ok_and(|metadata| metadata.is_file()
+        && FileId::of(&metadata) == id)
 }

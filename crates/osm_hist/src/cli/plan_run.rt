@@ -5,7 +5,7 @@ ghost use Rattle.osm_mirror.specs.Event.{IsWithin};
 ghost use Rattle.osm_mirror.specs.Plan.{NamesItsMirrors};
 
 use super::files::read;
-use super::hint::Advice;
+use super::hint::Hint;
 use super::part::{PartFile, id_of_regular, part_name};
 use super::print;
 use super::refusal::Refusal;
@@ -23,7 +23,7 @@ pub(super) fn run_plan<'a, R: Files + AllocGlobal, O: Write>(
     rt: &R,
     run: &PlanRun<'a>,
     out: &mut O,
-) -> Result<Option<Advice<'a>>, Refusal<'a>>
+) -> Result<Option<Hint<'a>>, Refusal<'a>>
 where
     R::File: PartFile,
 {
@@ -35,7 +35,7 @@ where
                 name: run.plan,
                 count,
             }),
-            Ok(count) => Ok(Some(Advice::EventsRefused { count })),
+            Ok(count) => Ok(Some(Hint::EventsRefused { count })),
             Err(refusal) => Err(refusal.in_plan(rt.alloc())),
         },
         Err(fault) => Err(Refusal::of_plan(fault, run.plan)),
@@ -136,20 +136,10 @@ fn events_of<'f>(
 fn event_of<'f>(step: &Step, file: &'f [u8]) -> Event<'f>
     ensures { (mirrors : ℕ) → IsWithin mirrors step.now → IsWithin mirrors result }
 {
-    match step {
-        Step::Take { mirror, .. } => Event::Take {
-            mirror: *mirror,
-            file,
-        },
-        Step::Pass { from, to, format } => Event::Pass {
-            from: *from,
-            to: *to,
-            format: *format,
-        },
-        Step::Restart { mirror, format } => Event::Restart {
-            mirror: *mirror,
-            format: *format,
-        },
+    match *step {
+        Step::Take { mirror, .. } => Event::Take { mirror, file },
+        Step::Pass { from, to, format } => Event::Pass { from, to, format },
+        Step::Restart { mirror, format } => Event::Restart { mirror, format },
     }
 }
 

@@ -6,6 +6,7 @@ use std::fmt;
 use std::fmt::{Display, Formatter};
 use std::io::{IsTerminal, Write};
 use std::time::{Clock, Duration};
+use thiserror::Error;
 
 /// The least time between two reports on a terminal, in milliseconds.
 const INTERVAL: u128 = 500;
@@ -16,8 +17,8 @@ const LINE_INTERVAL: u128 = 60_000;
 /// Moves a terminal to the start of its line, and clears the line.
 const CLEAR_LINE: &str = "\r\x1b[K";
 
-/// Makes a terminal cut a line at its width instead of wrapping it.
-const CUT_LINES: &str = "\x1b[?7l";
+/// Does the same, and makes a terminal cut a line at its width instead of wrapping it.
+const CUT_LINE: &str = "\r\x1b[K\x1b[?7l";
 
 /// Makes a terminal wrap lines again.
 const WRAP_LINES: &str = "\x1b[?7h";
@@ -90,10 +91,9 @@ impl Display for Report {
         let written = self.done.written();
         if let Some(size) = self.size {
             self.fmt_rest(f, size)?;
-        }
-        write!(f, "{bytes}")?;
-        if let Some(size) = self.size {
-            write!(f, " of {size}")?;
+            write!(f, "{bytes} of {size}")?;
+        } else {
+            write!(f, "{bytes}")?;
         }
         // Bytes per millisecond, divided by 1000, are megabytes per second.
         let rate = u128::from(bytes) / self.time.max(1) / 1000;
@@ -116,6 +116,11 @@ impl Report {
     }
 }
 
+/// The counts of a run, for its last report.
+#[derive(Clone, Copy, Debug, Error)]
+#[error("{} versions read, {} written, {} comparisons", .0.read, .0.written, .0.compared)]
+struct Total(Counts);
+
 /// Reports during a run. On a terminal a report overwrites the one before, at most once in half a second. Elsewhere
 /// each report is a line, at most once a minute.
 #[derive(Drop)]
@@ -126,10 +131,10 @@ pub(super) struct Meter<'a, C, E> {
     err: RefCell<&'a mut E>,
     /// Whether reports are wanted during the run.
     is_wanted: bool,
+    /// Whether the writer is a terminal.
+    is_terminal: bool,
     /// The time when the run began.
     start: Duration,
-    /// The least time between two reports, in milliseconds.
-    interval: u128,
     /// The time of the last report.
     last: Cell<Duration>,
     /// The work done.
@@ -142,17 +147,13 @@ impl<'a, C: Clock, E: Write + IsTerminal> Meter<'a, C, E> {
     /// A meter of a run that begins now.
     pub(super) fn new(clock: &'a C, err: &'a mut E, is_wanted: bool) -> Meter<'a, C, E> {
         let start = now(clock);
-        let interval = if err.is_terminal() {
-            INTERVAL
-        } else {
-            LINE_INTERVAL
-        };
+        let is_terminal = err.is_terminal();
         Meter {
             clock,
             err: RefCell::new(err),
             is_wanted,
+            is_terminal,
             start,
-            interval,
             last: Cell::new(start),
             done: Cell::new(Done::default()),
             size: Cell::new(None),
@@ -169,23 +170,18 @@ impl<'a, C: Clock, E: Write + IsTerminal> Meter<'a, C, E> {
         self.done.get()
     }
 
-    /// Writes a report on the run at the time `now`.
-    fn report(&self, now: Duration) {
+    /// Writes a report on the run up to now.
+    fn report(&self) {
         let report = Report {
             done: self.done.get(),
             size: self.size.get(),
-            time: now.saturating_sub(self.start).as_millis(),
+            time: self.elapsed(),
         };
-        let Ok(mut err) = self.err.try_borrow_mut() else {
-            return;
-        };
-        // If standard error fails, nothing can report it.
-        let _ = if err.is_terminal() {
-            write!(err, "{CLEAR_LINE}{CUT_LINES}{report}{WRAP_LINES}")
+        if self.is_terminal {
+            self.write(CUT_LINE, &report, WRAP_LINES);
         } else {
-            writeln!(err, "{report}")
-        };
-        let _ = err.flush();
+            self.print(&report);
+        }
     }
 
     /// The milliseconds since the run began.
@@ -195,12 +191,16 @@ impl<'a, C: Clock, E: Write + IsTerminal> Meter<'a, C, E> {
 
     /// Prints a line on standard error.
     pub(super) fn print<T: Display>(&self, line: &T) {
-        let Ok(mut err) = self.err.try_borrow_mut() else {
-            return;
-        };
-        // If standard error fails, nothing can report it.
-        let _ = writeln!(err, "{line}");
-        let _ = err.flush();
+        self.write("", line, "\n");
+    }
+
+    /// Writes `text` between `before` and `after` to standard error.
+    fn write<T: Display>(&self, before: &str, text: &T, after: &str) {
+        if let Ok(mut err) = self.err.try_borrow_mut() {
+            // If standard error fails, nothing can report it.
+            let _ = write!(err, "{before}{text}{after}");
+            let _ = err.flush();
+        }
     }
 
     /// Ends the reports. If the run wasn't refused, a last report has its counts.
@@ -208,25 +208,12 @@ impl<'a, C: Clock, E: Write + IsTerminal> Meter<'a, C, E> {
         if !self.is_wanted {
             return;
         }
-        let Ok(mut err) = self.err.try_borrow_mut() else {
-            return;
-        };
-        // If standard error fails, nothing can report it.
-        if err.is_terminal() {
-            let _ = write!(err, "{CLEAR_LINE}");
+        if self.is_terminal {
+            self.write(CLEAR_LINE, &"", "");
         }
         if let Some(counts) = counts {
-            let Counts {
-                read,
-                written,
-                compared,
-            } = counts;
-            let _ = writeln!(
-                err,
-                "{read} versions read, {written} written, {compared} comparisons"
-            );
+            self.print(&Total(*counts));
         }
-        let _ = err.flush();
     }
 }
 
@@ -259,10 +246,15 @@ impl<'a, C: Clock, E: Write + IsTerminal> CountBytes for Meter<'a, C, E> {
         let done = self.done.get();
         let bytes = done.bytes.saturating_add(count as u64);
         self.done.set(Done { bytes, ..done });
+        let interval = if self.is_terminal {
+            INTERVAL
+        } else {
+            LINE_INTERVAL
+        };
         let now = now(self.clock);
-        if now.saturating_sub(self.last.get()).as_millis() >= self.interval {
+        if now.saturating_sub(self.last.get()).as_millis() >= interval {
             self.last.set(now);
-            self.report(now);
+            self.report();
         }
     }
 }

@@ -2,7 +2,7 @@
 use super::escape::EscapedOut;
 use clap::error::ErrorKind;
 use osm_files::{Fault, Reason};
-use osm_mirror::{Memory, PlanFault, PlanReason, fault_text};
+use osm_mirror::{Memory, PlanFault, PlanReason, RequestFault, fault_text};
 use std::alloc::{AllocError, AllocFailed, Global};
 use std::io::{IsTerminal, Write};
 use thiserror::Error;
@@ -14,30 +14,20 @@ pub(crate) enum Refusal<'a> {
     #[error("{0}")]
     Words(clap::Error),
     /// An argument isn't UTF-8.
-    #[error("the words are not UTF-8: {argument}")]
-    WordsNotUtf8 {
-        argument: String,
-    },
-    /// A time isn't an OPL time within the range of times.
-    #[error("{time}: not a moment")]
-    NotMoment {
-        time: &'a str,
-    },
-    /// The end of a period isn't after its beginning.
-    #[error("{time}: not after the first")]
-    NotAfterFirst {
-        time: &'a str,
-    },
+    #[error("the words are not UTF-8: {0}")]
+    WordsNotUtf8(String),
+    /// The arguments name no command.
+    #[error("a command is missing")]
+    NoCommand,
+    /// The times of `time-filter` are no moment or no period.
+    #[error("{0}")]
+    Request(#[from] RequestFault<'a>),
     /// A shard isn't K/N with K from 1 to N and N up to 9999.
     #[error("{shard}: not a shard")]
-    NotShard {
-        shard: &'a str,
-    },
+    NotShard { shard: &'a str },
     /// A file of a run for a shard isn't a regular file.
     #[error("{name}: not a regular file")]
-    NotRegular {
-        name: &'a str,
-    },
+    NotRegular { name: &'a str },
     /// No file of a run for a shard is OPL.
     #[error("--shard: no file is OPL")]
     ShardWithoutOpl,
@@ -46,81 +36,49 @@ pub(crate) enum Refusal<'a> {
     StandardInputTwice,
     /// A list of files has no names.
     #[error("{name}: no names")]
-    ListEmpty {
-        name: &'a str,
-    },
+    ListEmpty { name: &'a str },
     /// A list of files has an empty name, which is name `number`.
     #[error("{name}: name {number}: empty")]
-    ListNameEmpty {
-        name: &'a str,
-        number: usize,
-    },
+    ListNameEmpty { name: &'a str, number: usize },
     /// A list of files isn't UTF-8.
     #[error("{name}: not UTF-8")]
-    ListNotUtf8 {
-        name: &'a str,
-    },
+    ListNotUtf8 { name: &'a str },
     /// An input is OUT.part.
     #[error("{output}.part: input is the output")]
-    InputIsOutput {
-        output: &'a str,
-    },
+    InputIsOutput { output: &'a str },
     /// A file can't be opened or read.
     #[error("{name}: cannot read")]
-    CannotRead {
-        name: &'a str,
-    },
+    CannotRead { name: &'a str },
     /// A file has changed since it was opened.
     #[error("{name}: changed during the run")]
-    Changed {
-        name: &'a str,
-    },
-    /// OUT.part can't be made.
+    Changed { name: &'a str },
+    /// OUT.part can't be made. `error` is the system's number of the error, if the system refused to make the file.
     #[error("{output}.part: cannot create")]
-    CannotCreate {
-        output: &'a str,
-        /// The system's number of the error, if the system refused to make the file.
-        error: Option<i32>,
-    },
+    CannotCreate { output: &'a str, error: Option<i32> },
     /// A pipe or a device can't be opened to be written.
     #[error("{name}: cannot write")]
-    CannotWrite {
-        name: &'a str,
-    },
+    CannotWrite { name: &'a str },
     /// The output can't be synced to the disk.
     #[error("{output}.part: cannot sync")]
-    CannotSync {
-        output: &'a str,
-    },
+    CannotSync { output: &'a str },
     /// OUT.part can't be renamed to OUT.
     #[error("{output}: cannot rename")]
-    CannotRename {
-        output: &'a str,
-    },
+    CannotRename { output: &'a str },
     /// A file is refused, and its name isn't known yet.
     #[error("{}", .0.reason.name())]
-    Fault(Fault),
-    /// A file is refused, and `line` reports it.
+    Fault(#[from] Fault),
+    /// A file is refused, and `line` reports its fault.
     #[error("{line}")]
-    File {
-        line: String,
-        status: u8,
-        /// The fault, if a hint may follow.
-        fault: Option<NamedFault<'a>>,
-    },
-    /// A plan is refused at line `line`.
-    #[error("{name}: line {line}: {}", .reason.name())]
-    Plan {
-        name: &'a str,
-        line: u64,
-        reason: PlanReason,
-    },
+    File { line: String, fault: NamedFault<'a> },
+    /// A file of a plan is refused, and `line` reports it.
+    #[error("{line}")]
+    FileOfPlan { line: String, status: u8 },
+    /// A plan is refused.
+    #[error("{name}: line {}: {}", .fault.line, .fault.reason.name())]
+    Plan { name: &'a str, fault: PlanFault },
     /// Events of a plan were refused, and the plan is strict.
     #[error("{name}: {count} events refused")]
-    EventsRefused {
-        name: &'a str,
-        count: usize,
-    },
+    EventsRefused { name: &'a str, count: usize },
     /// The program is out of memory.
     #[error("out of memory")]
     Memory,
@@ -157,31 +115,23 @@ impl<'a> Refusal<'a> {
         output: &'a str,
         error: Option<i32>,
     ) -> Refusal<'a> {
-        let named = NamedFault {
+        let Ok(line) = fault_text(alloc, fault, inputs, output) else {
+            return Refusal::Memory;
+        };
+        let fault = NamedFault {
             name: *inputs.get(fault.input).unwrap_or(&output),
             place: fault.place,
             reason: fault.reason,
             error: error.filter(|code| *code != 0),
         };
-        match fault_text(alloc, fault, inputs, output) {
-            Ok(line) => Refusal::File {
-                line,
-                status: 1,
-                fault: Some(named),
-            },
-            Err(Memory) => Refusal::Memory,
-        }
+        Refusal::File { line, fault }
     }
 
     /// The refusal of the plan in the file `name`.
     pub(crate) fn of_plan(fault: PlanFault, name: &'a str) -> Refusal<'a> {
         match fault.reason {
             PlanReason::Memory => Refusal::Memory,
-            reason => Refusal::Plan {
-                name,
-                line: fault.line,
-                reason,
-            },
+            _ => Refusal::Plan { name, fault },
         }
     }
 
@@ -189,11 +139,7 @@ impl<'a> Refusal<'a> {
     pub(crate) fn in_plan<'b>(self, alloc: Global) -> Refusal<'b> {
         let status = self.status();
         match format!(in alloc; "{self}") {
-            Ok(line) => Refusal::File {
-                line,
-                status,
-                fault: None,
-            },
+            Ok(line) => Refusal::FileOfPlan { line, status },
             Err(_) => Refusal::Memory,
         }
     }
@@ -212,13 +158,14 @@ impl<'a> Refusal<'a> {
         self.status()
     }
 
+    /// The exit status: 2 for a mistake of the user, 1 for all else.
     fn status(&self) -> u8 {
         match self {
-            Refusal::File { status, .. } => *status,
+            Refusal::FileOfPlan { status, .. } => *status,
             Refusal::Words(_)
-            | Refusal::WordsNotUtf8 { .. }
-            | Refusal::NotMoment { .. }
-            | Refusal::NotAfterFirst { .. }
+            | Refusal::WordsNotUtf8(_)
+            | Refusal::NoCommand
+            | Refusal::Request(_)
             | Refusal::NotShard { .. }
             | Refusal::NotRegular { .. }
             | Refusal::ShardWithoutOpl
@@ -230,12 +177,6 @@ impl<'a> Refusal<'a> {
             | Refusal::Plan { .. } => 2,
             _ => 1,
         }
-    }
-}
-
-impl<'a> From<Fault> for Refusal<'a> {
-    fn from(fault: Fault) -> Refusal<'a> {
-        Refusal::Fault(fault)
     }
 }
 

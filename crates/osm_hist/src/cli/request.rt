@@ -4,11 +4,10 @@ use super::list::names_of;
 use super::refusal::Refusal;
 use super::shard::Shard;
 use super::target::STANDARD;
-use clap::error::ErrorKind;
-use clap::{ArgMatches, Command, Error};
+use clap::{ArgMatches, Error};
 use osm_files::Format;
-use osm_mirror::{Selection, read_moment};
-use std::alloc::{AllocError, Global};
+use osm_mirror::{Command, FileRequest, FilesRun};
+use std::alloc::Global;
 use std::convert::AsStr;
 
 /// The request that the arguments make.
@@ -24,8 +23,8 @@ pub(super) enum Request<'a> {
     Help(Error),
 }
 
-/// The command that merges sorted files.
-const MERGE: &str = "merge";
+/// The arguments of a run without arguments: standard input is merged to standard output.
+const NO_ARGS: [&str; 4] = ["merge", "--output", STANDARD, STANDARD];
 
 /// The input files of a request.
 #[derive(Drop)]
@@ -34,8 +33,6 @@ pub(super) struct InputFiles<'a> {
     pub(super) names: Vec<&'a str>,
     /// The name of a list that has their names, if there is one. Then `names` is empty until the list is read.
     pub(super) list: Option<&'a str>,
-    /// Whether each file has to be sorted.
-    pub(super) sorted: bool,
     /// How OPL files must end.
     pub(super) end: FileEnd,
 }
@@ -44,15 +41,13 @@ pub(super) struct InputFiles<'a> {
 #[derive(Drop)]
 pub(super) struct FileRun<'a> {
     /// The command.
-    pub(super) command: &'a str,
+    pub(super) command: Command,
     /// The name of the output.
     pub(super) output: &'a str,
-    /// The format of the output.
-    pub(super) format: Format,
     /// The input files.
     pub(super) inputs: InputFiles<'a>,
-    /// The versions of the input files that are written.
-    pub(super) selection: Selection,
+    /// The run: the versions that are written, the order of the files and the format of the output.
+    pub(super) run: FilesRun,
     /// The shard of the output that is written, or none if all of it is written.
     pub(super) shard: Option<Shard>,
     /// Whether the output is synced to the disk before it is renamed.
@@ -68,6 +63,8 @@ pub(super) struct FileRun<'a> {
 pub(super) struct FileCheck<'a> {
     /// The files.
     pub(super) inputs: InputFiles<'a>,
+    /// Whether each file has to be sorted.
+    pub(super) sorted: bool,
     /// Whether the arguments ask for hints.
     pub(super) hints: bool,
 }
@@ -146,7 +143,8 @@ impl<'a> Request<'a> {
         Ok(self)
     }
 
-    /// The request that the arguments make. `args` are the arguments after the program's name.
+    /// The request that the arguments make. `args` are the arguments after the program's name. `hints` becomes whether
+    /// they ask for hints.
     ///
     /// # Errors
     ///
@@ -154,119 +152,75 @@ impl<'a> Request<'a> {
     pub(super) fn parse<S: AsStr>(
         alloc: Global,
         args: &'a [S],
+        hints: &mut bool,
     ) -> Result<Request<'a>, Refusal<'a>> {
         if args.is_empty() {
-            return match FileRun::of_no_args(alloc) {
-                Ok(run) => Ok(Request::Files(run)),
-                Err(refusal) => Err(refusal),
-            };
-        }
-        match command(alloc) {
-            Ok(mut command) => Request::of_args(alloc, &mut command, args),
-            Err(AllocError) => Err(Refusal::Memory),
+            Request::of_args(alloc, NO_ARGS.as_slice(), hints)
+        } else {
+            Request::of_args(alloc, args, hints)
         }
     }
 
-    /// The request that the arguments make. `command` parses them.
+    /// The request that some arguments make.
     fn of_args<S: AsStr>(
         alloc: Global,
-        command: &mut Command<'a>,
         args: &'a [S],
+        hints: &mut bool,
     ) -> Result<Request<'a>, Refusal<'a>> {
-        match command.try_get_matches_from_mut(args) {
-            Ok(matches) => match Request::of_matches(alloc, &matches) {
-                Ok(Some(request)) => Ok(request),
-                Ok(None) => Err(missing_command(command)),
-                Err(refusal) => Err(refusal),
+        match command(alloc)?.try_get_matches_from(args) {
+            Ok(matches) => match matches.subcommand() {
+                Some((name, args)) => {
+                    *hints = args.get_flag("hints");
+                    Request::of_command(alloc, name, args)
+                }
+                None => Err(Refusal::NoCommand),
             },
             Err(error) if error.use_stderr() => Err(Refusal::of_args(error)),
             Err(help) => Ok(Request::Help(help)),
         }
     }
 
-    /// The request that `matches` make. It is never none, since `clap` has checked that all required arguments are
-    /// given.
-    fn of_matches(
+    /// The request that the command `name` makes. `clap` has checked that all required arguments are given.
+    fn of_command(
         alloc: Global,
-        matches: &ArgMatches<'a>,
-    ) -> Result<Option<Request<'a>>, Refusal<'a>> {
-        match matches.subcommand() {
-            Some(("check", args)) => {
-                let inputs = InputFiles::of_matches(alloc, args)?;
-                let hints = args.get_flag("hints");
-                Ok(Some(Request::Check(FileCheck { inputs, hints })))
-            }
-            Some(("plan", args)) => Ok(
-                args.get_str("plan").map(|plan| {
-                    Request::Plan(PlanRun {
-                        plan,
-                        strict: args.get_flag("strict"),
-                    })
-                }),
-            ),
-            Some((name, args)) => {
-                Ok(FileRun::of_matches(alloc, name, args)?.map(|run| Request::Files(run)))
-            }
-            None => Ok(None),
+        name: &str,
+        args: &ArgMatches<'a>,
+    ) -> Result<Request<'a>, Refusal<'a>> {
+        if let Some(command) = Command::named(name) {
+            return Ok(Request::Files(FileRun::of_matches(alloc, command, args)?));
         }
-    }
-}
-
-/// The refusal of arguments that have no command.
-fn missing_command<'a>(command: &mut Command<'a>) -> Refusal<'a> {
-    match command.error(ErrorKind::MissingSubcommand, "a command is missing") {
-        Ok(error) => Refusal::of_args(error),
-        Err(AllocError) => Refusal::Memory,
+        if name == "plan" {
+            return Ok(Request::Plan(PlanRun {
+                plan: args.get_str("plan").unwrap_or(STANDARD),
+                strict: args.get_flag("strict"),
+            }));
+        }
+        Ok(Request::Check(FileCheck {
+            inputs: InputFiles::of_matches(alloc, args)?,
+            sorted: args.get_flag("sorted"),
+            hints: args.get_flag("hints"),
+        }))
     }
 }
 
 impl<'a> FileRun<'a> {
-    /// The run without arguments, which merges standard input to standard output.
-    fn of_no_args(alloc: Global) -> Result<FileRun<'a>, Refusal<'a>> {
-        let mut files = Vec::new(alloc);
-        files.push(STANDARD)?;
-        Ok(FileRun {
-            command: MERGE,
-            output: STANDARD,
-            format: Format::Opl,
-            inputs: InputFiles {
-                names: files,
-                list: None,
-                sorted: true,
-                end: FileEnd::Any,
-            },
-            selection: Selection::All,
-            shard: None,
-            fsync: false,
-            progress: false,
-            summary: false,
-        })
-    }
-
-    /// The run for which the arguments of the command `name` ask.
+    /// The run for which the arguments of the command `command` ask.
     fn of_matches(
         alloc: Global,
-        name: &str,
+        command: Command,
         args: &ArgMatches<'a>,
-    ) -> Result<Option<FileRun<'a>>, Refusal<'a>> {
-        let output = args.get_str("output");
-        let format = args.get_str("format").and_then(|name| Format::named(name));
-        let mut inputs = InputFiles::of_matches(alloc, args)?;
-        inputs.sorted |= name == MERGE;
-        match (output, format, selection(name, args)?) {
-            (Some(output), Some(format), Some(selection)) => Ok(Some(FileRun {
-                command: command_named(name),
-                output,
-                format,
-                inputs,
-                selection,
-                shard: shard(args)?,
-                fsync: args.get_flag("fsync"),
-                progress: args.get_flag("progress"),
-                summary: args.get_flag("summary"),
-            })),
-            _ => Ok(None),
-        }
+    ) -> Result<FileRun<'a>, Refusal<'a>> {
+        let inputs = InputFiles::of_matches(alloc, args)?;
+        Ok(FileRun {
+            command,
+            output: args.get_str("output").unwrap_or(STANDARD),
+            inputs,
+            run: file_request(command, args).run()?,
+            shard: shard(args)?,
+            fsync: args.get_flag("fsync"),
+            progress: args.get_flag("progress"),
+            summary: args.get_flag("summary"),
+        })
     }
 }
 
@@ -282,7 +236,6 @@ impl<'a> InputFiles<'a> {
         Ok(InputFiles {
             names,
             list,
-            sorted: args.get_flag("sorted"),
             end: FileEnd::of_matches(args),
         })
     }
@@ -297,64 +250,33 @@ fn refuse_twice<'a>(names: &[&str]) -> Result<(), Refusal<'a>> {
     }
 }
 
-/// The name of the command `name`, which makes a file.
-fn command_named(name: &str) -> &'static str {
-    match name {
-        "apply" => "apply",
-        "time-filter" => "time-filter",
-        "sort" => "sort",
-        _ => MERGE,
-    }
-}
-
-/// The versions that the command `name` writes, or none if the command doesn't write a file.
-fn selection<'a>(name: &str, args: &ArgMatches<'a>) -> Result<Option<Selection>, Refusal<'a>> {
-    match name {
-        "merge" | "sort" => Ok(Some(Selection::All)),
-        "apply" if args.get_flag("with-history") => Ok(Some(Selection::All)),
-        "apply" if args.get_flag("with-deletions") => Ok(Some(Selection::Newest)),
-        "apply" => Ok(Some(Selection::NewestVisible)),
-        "time-filter" => match times(args) {
-            (Some(time), None) => Ok(Some(Selection::StateVisible(moment(time)?))),
-            (Some(from), Some(to)) => Ok(Some(period(from, to)?)),
-            (None, _) => Ok(None),
-        },
-        _ => Ok(None),
-    }
-}
-
-/// The times of `time-filter`. With a list of files, the first time is in the argument `files` and the second in
-/// `time`.
-fn times<'a>(args: &ArgMatches<'a>) -> (Option<&'a str>, Option<&'a str>) {
-    if args.get_str(LIST).is_some() {
-        (args.get_str("files"), args.get_str("time"))
+/// The arguments of `command` that determine what it writes. With a list of files, the first time of `time-filter` is
+/// in the argument `files` and the second in `time`.
+fn file_request<'a>(command: Command, args: &ArgMatches<'a>) -> FileRequest<'a> {
+    let (time, end) = if args.get_str(LIST).is_some() {
+        ("files", "time")
     } else {
-        (args.get_str("time"), args.get_str("end"))
+        ("time", "end")
+    };
+    let format = args.get_str("format").and_then(|name| Format::named(name));
+    FileRequest {
+        command,
+        with_history: args.get_flag("with-history"),
+        with_deletions: args.get_flag("with-deletions"),
+        sorted: args.get_flag("sorted"),
+        time: args.get_str(time),
+        end: args.get_str(end),
+        format: format.unwrap_or(Format::Opl),
     }
 }
 
 /// The shard for which the arguments ask.
 fn shard<'a>(args: &ArgMatches<'a>) -> Result<Option<Shard>, Refusal<'a>> {
-    match args.get_str("shard") {
-        None => Ok(None),
-        Some(text) => match Shard::parse(text) {
-            Some(shard) => Ok(Some(shard)),
-            None => Err(Refusal::NotShard { shard: text }),
-        },
+    let Some(shard) = args.get_str("shard") else {
+        return Ok(None);
+    };
+    match Shard::parse(shard) {
+        Some(shard) => Ok(Some(shard)),
+        None => Err(Refusal::NotShard { shard }),
     }
-}
-
-/// The versions that are valid in the period from `first` up to, but not at, `second`.
-fn period<'a>(first: &'a str, second: &'a str) -> Result<Selection, Refusal<'a>> {
-    let from = moment(first)?;
-    let to = moment(second)?;
-    if to <= from {
-        return Err(Refusal::NotAfterFirst { time: second });
-    }
-    Ok(Selection::Between { from, to })
-}
-
-/// The moment that `time` spells.
-fn moment<'a>(time: &'a str) -> Result<u32, Refusal<'a>> {
-    read_moment(time.as_bytes()).ok_or(Refusal::NotMoment { time })
 }

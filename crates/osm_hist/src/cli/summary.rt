@@ -31,7 +31,7 @@ impl Display for Summary<'_, '_> {
             shared_keys,
             ..
         } = self.done;
-        let (command, inputs) = (self.asked.command, self.asked.inputs.names.len());
+        let (command, inputs) = (self.asked.command.name(), self.asked.inputs.names.len());
         write!(f, "osm_hist: {command}: {inputs} inputs, ")?;
         write!(f, "{read} versions read, {written} written ")?;
         write!(f, "({nodes} nodes, {ways} ways, {relations} relations), ")?;

@@ -129,10 +129,7 @@ impl<'a> Target<'a> {
 
 /// Whether a file of the name `name` can be made, as far as the name shows. A folder can't be replaced.
 fn can_be_made<R: Files>(rt: &R, name: &str) -> bool {
-    let is_folder = match fs::symlink_metadata(rt, name) {
-        Ok(metadata) => metadata.is_dir(),
-        Err(_) => false,
-    };
+    let is_folder = fs::symlink_metadata(rt, name).is_ok_and(|metadata| metadata.is_dir());
     !is_folder && !name.is_empty() && !name.ends_with('/')
 }
 

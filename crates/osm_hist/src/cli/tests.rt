@@ -58,7 +58,7 @@ impl Write for Broken {
     }
 }
 
-/// A standard error that keeps the bytes written.
+/// A standard output or error that keeps the bytes written.
 #[derive(Drop)]
 struct Log {
     bytes: Vec<u8>,
@@ -82,6 +82,12 @@ impl Write for Log {
     }
 }
 
+impl IsTerminal for Broken {
+    fn is_terminal(&self) -> bool {
+        false
+    }
+}
+
 impl IsTerminal for &mut Log {
     fn is_terminal(&self) -> bool {
         false
@@ -97,10 +103,10 @@ fn outcome<R: Files + Clock + AllocGlobal, I: Read + Drop>(
 where
     R::File: PartFile,
 {
-    let mut out = Vec::new(rt.alloc());
+    let mut out = Log::new(rt.alloc());
     let mut err = Log::new(rt.alloc());
     let status = run_words(rt, args, input, &mut out, &mut err);
-    let outcome = format!(in rt.alloc(); "{status} {}{}", text(&out), text(&err.bytes));
+    let outcome = format!(in rt.alloc(); "{status} {}{}", text(&out.bytes), text(&err.bytes));
     outcome.unwrap_or(String::new(rt.alloc()))
 }
 
